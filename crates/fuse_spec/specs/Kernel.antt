@@ -1,0 +1,186 @@
+-- The kernel: its state, and how calls, mounts and signals move it.
+use Rattle.std.specs.Prelude.{ℕ, Bool, true, false, ◌||◌, cond, List, [], ◌∷◌, Option, Some, None, nat_eq, find, option_map}
+use Rattle.std.specs.List.{list_any}
+use Rattle.fuse_spec.specs.declared.Phase.{Phase}
+use Rattle.fuse_spec.specs.declared.Phase.TheVariants.{Down, Starting, Ready, Aborted}
+use Rattle.fuse_spec.specs.declared.Counted.{Counted}
+use Rattle.fuse_spec.specs.declared.Binding.{Binding}
+use Rattle.fuse_spec.specs.declared.Opened.{Opened}
+use Rattle.fuse_spec.specs.declared.Purpose.{Purpose}
+use Rattle.fuse_spec.specs.declared.Purpose.TheVariants as purpose
+use Rattle.fuse_spec.specs.declared.IntrEffect.{IntrEffect}
+use Rattle.fuse_spec.specs.declared.IntrEffect.TheVariants.{Dequeued, Flagged, Queued, None as NoEffect}
+use Rattle.fuse_spec.specs.Maps.{Map, get, put, remove, values}
+use Rattle.fuse_spec.specs.Numbers.{eintr}
+use Rattle.fuse_spec.specs.Operations.{Operation, files_in}
+use Rattle.fuse_spec.specs.Walks.{files_of_plan}
+use Rattle.fuse_spec.specs.Calls.{Call}
+use Rattle.fuse_spec.specs.Calls as call
+use Rattle.fuse_spec.specs.Answers.{failed}
+use Rattle.fuse_spec.specs.Vfs.{CallState, walking, doing, using, asked, Vfs, Advance, answered, begun, given_up}
+use Rattle.fuse_spec.specs.Messages.{RequestBody, init, asks, release}
+use Rattle.fuse_spec.specs.Queues.{QueueState, empty_queues}
+use Rattle.fuse_spec.specs.QueueCalls.{after_enqueue, after_forget, interrupt_effect, after_interrupt}
+
+-- closing: the files that are closed while a read or write of them is unanswered.
+pub record Kernel : Type 0 where
+  pub phase : Phase
+  pub vfs : Vfs Opened
+  pub queues : QueueState Purpose
+  pub nodes : Map Counted
+  pub closing : Map Opened
+
+abbrev pub is_live : Phase → Bool
+is_live Down = false
+is_live Starting = true
+is_live Ready = true
+is_live Aborted = false
+
+abbrev pub is_aborted : Phase → Bool
+is_aborted Down = false
+is_aborted Starting = false
+is_aborted Ready = false
+is_aborted Aborted = true
+
+-- ---- requests
+
+-- What the request of a call asks: the operation for which the call waits.
+abbrev pub asked_by : Option (CallState Opened) → Option RequestBody
+asked_by None = None
+asked_by (Some state) = Some (asks (asked state))
+
+-- What a request asks of the server.
+abbrev pub body_of : Kernel → Purpose → Option RequestBody
+body_of k purpose.Init = Some init
+body_of k (purpose.Release opened) = Some (release opened)
+body_of k (purpose.Call call) = asked_by (get k.vfs.calls call)
+
+abbrev pub is_for : ℕ → Purpose → Bool
+is_for call purpose.Init = false
+is_for call (purpose.Release opened) = false
+is_for call (purpose.Call other) = nat_eq other call
+
+-- The unique of the call's current request, read or not.
+abbrev pub request_of : Kernel → ℕ → Option ℕ
+request_of k call = option_map (λ e. e.0) (find (λ e. is_for call e.1.kept) k.queues.requests)
+
+-- A request for the call is queued, where it asks an operation.
+abbrev pub asking_for : Kernel → ℕ → Option (Operation ℕ Opened) → Kernel
+asking_for k call None = k
+asking_for k call (Some operation) = record k { queues = after_enqueue k.queues (purpose.Call call) }
+
+-- The kernel after a step of a call.
+abbrev pub advanced : Kernel → ℕ → Advance Opened → Kernel
+advanced k call next = asking_for (record k { vfs = next.vfs }) call next.operation
+
+-- ---- open files
+
+abbrev pub is_using : ℕ → CallState Opened → Bool
+is_using handle (walking directory word words plan) = false
+is_using handle (doing operation) = false
+is_using handle (using other operation) = nat_eq other handle
+
+-- Whether a read or write of the open file is unanswered.
+abbrev pub is_used : Kernel → ℕ → Bool
+is_used k handle = list_any (is_using handle) (values k.vfs.calls)
+
+-- A closed file is released once no read or write of it is unanswered.
+abbrev pub released : Kernel → ℕ → Option Opened → Kernel
+released k handle None = k
+released k handle (Some opened) =
+    record k {
+      closing = cond (is_used k handle) k.closing (remove k.closing handle);
+      queues = cond (is_used k handle) k.queues (after_enqueue k.queues (purpose.Release opened));
+    }
+
+abbrev pub released_if_idle : Kernel → ℕ → Kernel
+released_if_idle k handle = released k handle (get k.closing handle)
+
+-- After the call that stood here is answered.
+abbrev pub after_use : Kernel → CallState Opened → Kernel
+after_use k (walking directory word words plan) = k
+after_use k (doing operation) = k
+after_use k (using handle operation) = released_if_idle k handle
+
+abbrev pub closed : Kernel → ℕ → Option Opened → Kernel
+closed k handle None = k
+closed k handle (Some opened) = released_if_idle (record k { closing = put k.closing handle opened }) handle
+
+-- Which open file a call closes.
+abbrev pub closed_by : Map Opened → Call → Option (ℕ × Opened)
+closed_by opens (call.close handle) = option_map (λ opened. (handle, opened)) (get opens handle)
+closed_by opens other = None
+
+abbrev pub closing_of : Kernel → Option (ℕ × Opened) → Kernel
+closing_of k None = k
+closing_of k (Some file) = closed k file.0 (Some file.1)
+
+-- ---- calls, mounts and aborts
+
+-- A call begins, and the open file that it closes is released.
+abbrev pub call_begun : Kernel → Call → Kernel
+call_begun k call =
+    closing_of (advanced k k.vfs.next_call (begun (is_aborted k.phase) k.vfs call)) (cond (is_aborted k.phase) None (closed_by k.vfs.opens call))
+
+-- Everything is given up: calls, names, nodes, open files and the four lists.
+abbrev pub all_given_up : Kernel → Phase → Kernel
+all_given_up k phase = record { phase = phase; vfs = given_up k.vfs; queues = empty_queues; nodes = []; closing = [] }
+
+abbrev pub kernel_aborted : Kernel → Kernel
+kernel_aborted k = all_given_up k Aborted
+
+-- A mount gives up everything, and queues INIT.
+abbrev pub kernel_mounted : Kernel → Kernel
+kernel_mounted k = record { phase = Starting; vfs = given_up k.vfs; queues = after_enqueue empty_queues purpose.Init; nodes = []; closing = [] }
+
+-- ---- signals
+
+-- The signalled call is answered EINTR if its request left the list unread.
+abbrev pub after_signal : Kernel → ℕ → CallState Opened → IntrEffect → Kernel
+after_signal k call state Dequeued = after_use (record k { vfs = answered k.vfs call (failed eintr) }) state
+after_signal k call state Flagged = k
+after_signal k call state Queued = k
+after_signal k call state NoEffect = k
+
+abbrev pub signalled_at : Kernel → ℕ → CallState Opened → Bool → Option ℕ → IntrEffect × Kernel
+signalled_at k call state fatal None = (NoEffect, k)
+signalled_at k call state fatal (Some unique) =
+    (interrupt_effect k.queues unique fatal, after_signal (record k { queues = after_interrupt k.queues unique fatal }) call state (interrupt_effect k.queues unique fatal))
+
+-- A signal to an unanswered call, which stands here.
+abbrev pub call_signalled : Kernel → ℕ → CallState Opened → Bool → IntrEffect × Kernel
+call_signalled k call state fatal = signalled_at k call state fatal (request_of k call)
+
+-- ---- nodes in use
+
+abbrev pub opened_nodes : Opened → List ℕ
+opened_nodes opened = opened.nodeid ∷ []
+
+-- The nodes that a call stands on or names.
+abbrev pub nodes_of_state : CallState Opened → List ℕ
+nodes_of_state (walking directory word words plan) = directory ∷ files_of_plan plan
+nodes_of_state (doing operation) = files_in opened_nodes operation
+nodes_of_state (using handle operation) = files_in opened_nodes operation
+
+abbrev pub is_released_by : ℕ → Purpose → Bool
+is_released_by node purpose.Init = false
+is_released_by node (purpose.Release opened) = nat_eq opened.nodeid node
+is_released_by node (purpose.Call call) = false
+
+-- Whether an unanswered call, an open file or an unanswered RELEASE names the node.
+abbrev pub is_pinned : Kernel → ℕ → Bool
+is_pinned k node =
+    list_any (λ state. list_any (nat_eq node) (nodes_of_state state)) (values k.vfs.calls)
+    || (list_any (λ (opened : Opened). nat_eq opened.nodeid node) (values k.vfs.opens) || list_any (λ e. is_released_by node e.1.kept) k.queues.requests)
+
+abbrev pub leads_to : ℕ → Option ℕ → Bool
+leads_to node None = false
+leads_to node (Some target) = nat_eq target node
+
+-- Whether a name in force stands in the node or leads to it, valid or not.
+abbrev pub is_bound : Kernel → ℕ → Bool
+is_bound k node = list_any (λ (e : (ℕ × List ℕ) × Binding). nat_eq e.0.0 node || leads_to node e.1.target) k.vfs.names
+
+-- The node is given up, and its whole count is to be forgotten.
+abbrev pub evicted : Kernel → ℕ → Counted → Kernel
+evicted k node counted = record k { nodes = remove k.nodes node; queues = after_forget k.queues node counted.count }

@@ -1,0 +1,55 @@
+-- The headline, over whole lists of events.
+use Rattle.std.specs.Prelude.{◌≡◌, List, [], ◌∷◌, ◌++◌, AllPairs, ◌≢◌, ◌⊎◌}
+use Rattle.fuse_spec.specs.declared.Refusal.{Refusal}
+use Rattle.fuse_spec.specs.Worlds.{World}
+use Rattle.fuse_spec.specs.Events.{Event, Outcome}
+use Rattle.fuse_spec.specs.Steps.{Happens}
+use Rattle.fuse_spec.specs.Records.{Record, outcome, refused, answered, answers_of, collected}
+use Rattle.fuse_spec.specs.Plain.{Plain}
+use Rattle.fuse_spec.specs.PlainSteps.{Takes}
+use Rattle.fuse_spec.specs.Counts.{Keeps}
+use Rattle.fuse_spec.specs.Alike.{Alike}
+
+-- The plain world once its answers are collected.
+abbrev pub plain_collected : Plain → Plain
+plain_collected p = record p { vfs = record p.vfs { answers = [] } }
+
+-- An accepted event: the world moves as it may, the plain world takes the steps of the event and its outcome, the two are alike
+-- again, and the records are the outcome and then the answers that the plain world gave.
+pub record Accepts (w : World) (p : Plain) (event : Event) (records : List Record) (w' : World) (p' : Plain) : Type 0 where
+  pub outcome_of : Outcome
+  pub mid : World
+  pub plain : Plain
+  pub happens : Happens w event outcome_of mid
+  pub takes : Takes p event outcome_of plain
+  pub alike : Alike mid plain
+  pub keeps : Keeps mid
+  pub recorded : records ≡ outcome outcome_of ∷ answers_of plain.vfs.answers
+  pub after : w' ≡ collected mid
+  pub plain_after : p' ≡ plain_collected plain
+
+-- A refused event changes nothing, and its refusal is what is recorded.
+pub record Refuses (w : World) (p : Plain) (records : List Record) (w' : World) (p' : Plain) : Type 0 where
+  pub refusal : Refusal
+  pub recorded : records ≡ refused refusal ∷ []
+  pub after : w' ≡ w
+  pub plain_after : p' ≡ p
+
+-- One event with these records leads from the one pair of worlds to the other.
+abbrev pub Moves : World → Plain → Event → List Record → World → Plain → Type 0
+Moves w p event records w' p' = Accepts w p event records w' p' ⊎ Refuses w p records w' p'
+
+-- A list of events does, one event after another.
+abbrev pub Run : World → Plain → List Event → List Record → World → Plain → Type 0
+Run w p [] records w' p' = (records ≡ []) × (w' ≡ w) × (p' ≡ p)
+Run w p (event ∷ events) records w' p' =
+    (first : List Record) × (rest : List Record) × (mid : World) × (plain : Plain) × (records ≡ first ++ rest) × Moves w p event first mid plain × Run mid plain events rest w' p'
+
+-- Two records that don't answer the same call.
+abbrev pub AnswersApart : Record → Record → Type 0
+AnswersApart (answered a x) (answered b y) = a ≢ b
+AnswersApart x y = Unit {0}
+
+-- Each call is answered at most once.
+abbrev pub AnswersOnce : List Record → Type 0
+AnswersOnce records = AllPairs AnswersApart records

@@ -1,0 +1,34 @@
+-- The table of signals to a request, and the table of replies to its INTERRUPT.
+use Rattle.std.specs.Prelude.{Bool, true, false}
+use Rattle.fuse_spec.specs.declared.Mark.{Mark}
+use Rattle.fuse_spec.specs.declared.Mark.TheVariants.{Unread, Flagged, Read, Interrupted}
+use Rattle.fuse_spec.specs.declared.IntrEffect.{IntrEffect}
+use Rattle.fuse_spec.specs.declared.IntrEffect.TheVariants.{Dequeued, Flagged as IsFlagged, Queued, None as NoEffect}
+use Rattle.fuse_spec.specs.declared.InterruptReply.{InterruptReply}
+use Rattle.fuse_spec.specs.declared.InterruptReply.TheVariants.{Again, NotSupported, Other}
+use Rattle.fuse_spec.specs.declared.InterruptReplyEffect.{InterruptReplyEffect}
+use Rattle.fuse_spec.specs.declared.InterruptReplyEffect.TheVariants.{QueuedAgain, TurnedOff, None as NoReplyEffect}
+
+-- The effect of a signal, fatal or not, on a request with this mark. `off`: an INTERRUPT of this mount was answered ENOSYS.
+--            mark        fatal off
+abbrev pub signal_effect : Mark → Bool → Bool → IntrEffect
+signal_effect Unread      true  off   = Dequeued
+signal_effect Flagged     true  off   = Dequeued
+signal_effect Unread      false false = IsFlagged
+signal_effect Unread      false true  = NoEffect
+signal_effect Read        fatal false = Queued
+signal_effect Read        fatal true  = NoEffect
+signal_effect Flagged     false off   = NoEffect
+signal_effect Interrupted fatal off   = NoEffect
+
+-- The effect of a reply to the INTERRUPT of a request with this mark. `queued`: that INTERRUPT stands on the list.
+--           reply        mark        queued off
+abbrev pub reply_effect : InterruptReply → Mark → Bool → Bool → InterruptReplyEffect
+reply_effect Again        Interrupted false  false = QueuedAgain
+reply_effect Again        Interrupted false  true  = NoReplyEffect
+reply_effect Again        Interrupted true   off   = NoReplyEffect
+reply_effect Again        Read        queued off   = NoReplyEffect
+reply_effect Again        Unread      queued off   = NoReplyEffect
+reply_effect Again        Flagged     queued off   = NoReplyEffect
+reply_effect NotSupported mark        queued off   = TurnedOff
+reply_effect Other        mark        queued off   = NoReplyEffect

@@ -1,0 +1,11 @@
+pub mod Tables
+pub mod Walking
+pub mod Beginning
+pub mod Cases
+pub mod Hearing
+pub mod Telling
+pub mod Starting
+pub mod HeldOperations
+pub mod Trees
+pub mod Ticking
+pub mod First
