@@ -1,7 +1,8 @@
 -- Operations that are alike, and tellings that are, case by case.
 use Rattle.std.proofs.Common.{◌≡◌, ℕ, List}
 use Rattle.fuse_spec.specs.Paths.{Name}
-use Rattle.fuse_spec.specs.Operations.{Operation, lookup, getattr, mkdir, create, unlink, rmdir, rename, link, opening, readdir, read, write, Reply, found, missing, created, opened, attributes, listed, content, written, agreed, done, failed, Attributes, Dirent}
+use Rattle.fuse_spec.specs.declared.Attributes.{Attributes}
+use Rattle.fuse_spec.specs.Operations.{Operation, lookup, getattr, mkdir, create, unlink, rmdir, rename, link, opening, readdir, read, write, Reply, found, missing, created, opened, attributes, listed, content, written, agreed, done, failed, Dirent}
 use Rattle.fuse_spec.specs.Denotes.{OperationAlike, ReplyAlike}
 
 pub data SameOperation {F O G P : Type 0} (R : F → G → Type 0) (S : O → P → Type 0) : Operation F O → Operation G P → Type 0 where

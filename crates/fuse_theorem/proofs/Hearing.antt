@@ -4,7 +4,8 @@ use Rattle.std.specs.Ordering.{eq_by_cmp}
 use Rattle.std.proofs.lemmas.Bool.{cases_eq}
 use Rattle.fuse_spec.specs.Maps.{Map, put, place_cmp, get_name, put_name, remove_name}
 use Rattle.fuse_spec.specs.Answers.{Answer}
-use Rattle.fuse_spec.specs.Vfs.{Binding, Vfs, answered, bound, unbound, opened_by}
+use Rattle.fuse_spec.specs.declared.Binding.{Binding}
+use Rattle.fuse_spec.specs.Vfs.{Vfs, answered, bound, unbound, opened_by}
 use Rattle.fuse_spec.specs.Denotes.{OptionAlike, StateAlike, BindingAlike}
 use Rattle.fuse_spec.specs.Alike.{VfsAlike}
 use Rattle.fuse_theorem.proofs.Tables.{put_alike, gone_alike, name_put, name_put_there, name_gone, tie_alike}

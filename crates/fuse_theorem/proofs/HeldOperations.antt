@@ -1,7 +1,7 @@
 -- The server performs the very operation of the ask: its operation, with each node replaced by the file that it denotes.
 use Rattle.std.proofs.Common.{◌≡◌, ℕ, List, ap, ◌∙◌}
 use Rattle.fuse_spec.specs.Operations.{Operation, lookup, getattr, mkdir, create, unlink, rmdir, rename, link, opening, readdir, read, write, operation_with}
-use Rattle.fuse_spec.specs.Messages.{Opened}
+use Rattle.fuse_spec.specs.declared.Opened.{Opened}
 use Rattle.fuse_spec.specs.Nodes.{NodeTable, HandleTable, file_of, file_in}
 use Rattle.fuse_spec.specs.Performs.{file_operation_of}
 use Rattle.fuse_spec.specs.Denotes.{OperationAlike, Denotes}
@@ -32,5 +32,5 @@ denoted t id generation file h = ap file_in h.there ∙ h.same_file
 -- a held request's operation, on the files that its nodes were taken for
 pub held_operation : (t : NodeTable) (h : HandleTable) (generations : List (ℕ × ℕ)) (a : Operation ℕ Opened) (b : Operation ℕ ℕ) → OperationAlike (Meant t generations) (MeantOpen t h generations) a b → file_operation_of t a ≡ b
 held_operation t h generations a b same =
-    deed_is (Meant t generations) (MeantOpen t h generations) (file_of t) (λ (o : Opened). file_of t o.node)
-    (λ id file m. denoted t id m.generation file m.denotes) (λ o file m. denoted t o.node m.node_meant.generation file m.node_meant.denotes) a b same
+    deed_is (Meant t generations) (MeantOpen t h generations) (file_of t) (λ (o : Opened). file_of t o.nodeid)
+    (λ id file m. denoted t id m.generation file m.denotes) (λ o file m. denoted t o.nodeid m.node_meant.generation file m.node_meant.denotes) a b same

@@ -6,7 +6,8 @@ use Rattle.fuse_spec.specs.Paths.{Name}
 use Rattle.fuse_spec.specs.Operations.{Operation, Reply}
 use Rattle.fuse_spec.specs.Walks.{WalkPlan, Walked, looks_up, finds_none, asks, walk}
 use Rattle.fuse_spec.specs.Answers as answer
-use Rattle.fuse_spec.specs.Vfs.{Binding, CallState, walking, doing, using, Vfs, Advance, answered, bound, unbound, opened_by, asking, no_more, valid_at, look, after_walk, walks_on, asked}
+use Rattle.fuse_spec.specs.declared.Binding.{Binding}
+use Rattle.fuse_spec.specs.Vfs.{CallState, walking, doing, using, Vfs, Advance, answered, bound, unbound, opened_by, asking, no_more, valid_at, look, after_walk, walks_on, asked}
 use Rattle.fuse_spec.specs.CallReplies.{operation_replied, call_replied}
 use Rattle.fuse_spec.specs.Denotes.{OptionAlike, OperationAlike, ReplyAlike, StateAlike, BindingAlike, WalkPlanAlike}
 use Rattle.fuse_spec.specs.Alike.{VfsAlike}

@@ -5,7 +5,8 @@ use Rattle.fuse_spec.specs.Maps.{Map, get}
 use Rattle.fuse_spec.specs.Paths.{Name}
 use Rattle.fuse_spec.specs.Operations.{lookup, getattr, mkdir, create, unlink, rmdir, rename, link, opening, readdir, read, write, attributes, listed, content, Dirent}
 use Rattle.fuse_spec.specs.Trees.{Tree, Named, Content, file_at, kind_of, bytes_of, is_kind_directory, is_directory, is_below, is_nameless, record_of, fitting, is_at, links}
-use Rattle.fuse_spec.specs.FileOperations.{FileOperation, Validity, making, first_refusal, refusal, reply_by, reply_or, reply_unrefused, tree_after, tree_or, tree_unrefused, renamed, is_same, is_file, is_dir, is_filled, is_moved_below, replaces}
+use Rattle.fuse_spec.specs.declared.Validity.{Validity}
+use Rattle.fuse_spec.specs.FileOperations.{FileOperation, making, first_refusal, refusal, reply_by, reply_or, reply_unrefused, tree_after, tree_or, tree_unrefused, renamed, is_same, is_file, is_dir, is_filled, is_moved_below, replaces}
 use Rattle.fuse_spec.specs.Numbers as number
 
 -- the tree with other files
