@@ -1,0 +1,16 @@
+pub mod Fields
+pub mod Pairs
+pub mod Opcodes
+pub mod WireFaults
+pub mod Requests
+pub mod Faults
+pub mod RecordEnds
+pub mod Props
+pub mod Entries
+pub mod Dirents
+pub mod Records
+pub mod Puts
+pub mod Replies
+pub mod ReplyFaults
+pub mod Results
+pub mod Decoded

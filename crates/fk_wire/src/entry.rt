@@ -1,0 +1,132 @@
+//! Entries and attributes.
+
+ghost use Rattle.std.specs.Prelude.{◌≡◌, ◌≤◌, ◌+◌, ◌++◌, ◌↔◌, [], length, IsTrue, vec_len, vec_capacity};
+ghost use Rattle.fk_wire.specs.Fields.{InRange, number_at, spellings};
+ghost use Rattle.fk_wire.specs.Entries.{attr_fields, entry_fields, entry_content, IsEntry};
+ghost use Rattle.fk_wire.specs.Entries.{attr_at as attributes_at, entry_at as entry_content_at};
+
+use crate::fields::{u32_at, u64_at};
+use crate::room::{put_u32, put_u64, put_zeros88};
+use std::alloc::Allocator;
+
+/// The attributes of a file: `struct fuse_attr`.
+#[derive(Clone, Copy, Debug)]
+pub struct Attr {
+    pub ino: u64,
+    /// In bytes.
+    pub size: u64,
+    /// Its type bits are those of the file's kind.
+    pub mode: u32,
+    pub nlink: u32,
+}
+
+/// The file of a name: `struct fuse_entry_out`.
+///
+/// With node id 0 no file has the name, and the generation and the attributes say nothing.
+#[derive(Clone, Copy, Debug)]
+pub struct Entry {
+    pub nodeid: u64,
+    pub generation: u64,
+    /// For how many seconds the name is valid.
+    pub entry_valid: u64,
+    /// And for how many nanoseconds, at most 999,999,999.
+    pub entry_valid_nsec: u32,
+    pub attr: Attr,
+}
+
+/// The attributes at a place.
+pub(crate) fn attr_at(bytes: &[u8], place: usize) -> Attr
+    requires { place + 88 ≤ length bytes.now }
+    ensures { result ≡ attributes_at place bytes.now }
+{
+    Attr {
+        ino: u64_at(bytes, place),
+        size: u64_at(bytes, place + 8),
+        mode: u32_at(bytes, place + 60),
+        nlink: u32_at(bytes, place + 64),
+    }
+}
+
+/// The nanoseconds of the entry at a place.
+pub(crate) fn time_at(bytes: &[u8], place: usize) -> u32
+    requires { place + 128 ≤ length bytes.now }
+    ensures { result ≡ number_at (place + 32) 4 bytes.now }
+{
+    u32_at(bytes, place + 32)
+}
+
+/// The entry at a place, whatever its nanoseconds.
+pub(crate) fn entry_at(bytes: &[u8], place: usize) -> Entry
+    requires { place + 128 ≤ length bytes.now }
+    ensures content { entry_content result ≡ entry_content_at place bytes.now }
+    ensures time { result.entry_valid_nsec ≡ number_at (place + 32) 4 bytes.now }
+{
+    Entry {
+        nodeid: u64_at(bytes, place),
+        generation: u64_at(bytes, place + 8),
+        entry_valid: u64_at(bytes, place + 16),
+        entry_valid_nsec: time_at(bytes, place),
+        attr: attr_at(bytes, place + 40),
+    }
+}
+
+/// Whether the nanoseconds are less than a second.
+#[tactic(auto, using(crate::proofs::EntryFields::timed))]
+pub(crate) fn is_timed(entry: &Entry) -> bool
+    ensures { IsTrue result ↔ IsEntry (entry_content entry.now) }
+{
+    entry.entry_valid_nsec <= 999_999_999
+}
+
+#[tactic(auto, using(std::proofs::Common::append_assoc))]
+pub(crate) fn put_attr<A: Allocator>(out: &mut Vec<u8, A>, attr: &Attr)
+    requires { vec_len out.old + 88 ≤ vec_capacity out.old }
+    ensures items { out.new.items ≡ out.old.items ++ spellings (attr_fields attr.now []) }
+    ensures len { vec_len out.new ≡ vec_len out.old + 88 }
+    ensures capacity { vec_capacity out.old ≤ vec_capacity out.new }
+    ensures fits { InRange (attr_fields attr.now []) }
+{
+    put_u64(out, attr.ino);
+    put_u64(out, attr.size);
+    put_u64(out, 0);
+    put_u64(out, 0);
+    put_u64(out, 0);
+    put_u64(out, 0);
+    put_u32(out, 0);
+    put_u32(out, 0);
+    put_u32(out, 0);
+    put_u32(out, attr.mode);
+    put_u32(out, attr.nlink);
+    put_u32(out, 0);
+    put_u32(out, 0);
+    put_u32(out, 0);
+    put_u32(out, 4096);
+    put_u32(out, 0);
+}
+
+#[tactic(auto, using(std::proofs::Common::append_assoc))]
+pub(crate) fn put_entry<A: Allocator>(out: &mut Vec<u8, A>, entry: &Entry)
+    requires { vec_len out.old + 128 ≤ vec_capacity out.old }
+    ensures items { out.new.items ≡ out.old.items ++ spellings (entry_fields (entry_content entry.now) []) }
+    ensures len { vec_len out.new ≡ vec_len out.old + 128 }
+    ensures capacity { vec_capacity out.old ≤ vec_capacity out.new }
+    ensures fits { InRange (entry_fields (entry_content entry.now) []) }
+{
+    if entry.nodeid == 0 {
+        put_u64(out, 0);
+        put_u64(out, 0);
+        put_u64(out, entry.entry_valid);
+        put_u64(out, 0);
+        put_u32(out, entry.entry_valid_nsec);
+        put_u32(out, 0);
+        put_zeros88(out);
+    } else {
+        put_u64(out, entry.nodeid);
+        put_u64(out, entry.generation);
+        put_u64(out, entry.entry_valid);
+        put_u64(out, 0);
+        put_u32(out, entry.entry_valid_nsec);
+        put_u32(out, 0);
+        put_attr(out, &entry.attr);
+    }
+}

@@ -1,0 +1,179 @@
+//! What a request asks for, by its number.
+
+ghost use Rattle.std.specs.Prelude.{◌≡◌, ◌≢◌, ◌↔◌, IsTrue, MatchOption};
+ghost use Rattle.fk_wire.specs.Opcodes.{code_of, has_node, is_later, knows, name_of, served};
+ghost use Rattle.fk_wire.specs.Requests.{IsNodeOf};
+ghost use Rattle.fk_wire.specs.declared.opcode.Opcode.{Opcode};
+
+/// The operations: `enum fuse_opcode`, without its prefix.
+#[derive(Clone, Copy, Debug, PartialEq, Eq)]
+pub enum Opcode {
+    Lookup,
+    Forget,
+    Getattr,
+    Mkdir,
+    Unlink,
+    Rmdir,
+    Rename,
+    Link,
+    Open,
+    Read,
+    Write,
+    Release,
+    Init,
+    Readdir,
+    Create,
+    Interrupt,
+    BatchForget,
+    Readdirplus,
+}
+
+/// The minor version of protocol 7 that the two sides speak.
+///
+/// The calls that take no minor version speak `M31WithoutReaddirplus`, until READDIRPLUS is served.
+#[derive(Clone, Copy, Debug, PartialEq, Eq)]
+pub enum Minor {
+    /// 7.15, which has no BATCH_FORGET and no READDIRPLUS.
+    M15,
+    /// 7.31 as far as it is served: READDIRPLUS is not known.
+    M31WithoutReaddirplus,
+    /// 7.31 whole.
+    M31,
+}
+
+/// The minor version that the calls speak which take none.
+pub(crate) fn served_minor() -> Minor
+    ensures { result ≡ served }
+{
+    Minor::M31WithoutReaddirplus
+}
+
+/// Whether an opcode came after 7.15.
+fn came_later(opcode: Opcode) -> bool
+    ensures { result ≡ is_later opcode }
+{
+    matches!(opcode, Opcode::BatchForget | Opcode::Readdirplus)
+}
+
+/// Whether the minor version knows an opcode.
+pub(crate) fn is_known(minor: Minor, opcode: Opcode) -> bool
+    ensures { IsTrue result ↔ IsTrue (knows minor opcode) }
+{
+    match minor {
+        Minor::M31 => true,
+        Minor::M31WithoutReaddirplus => opcode != Opcode::Readdirplus,
+        Minor::M15 => !came_later(opcode),
+    }
+}
+
+/// The opcode of a number, if there is one.
+fn opcode_of_code(code: u32) -> Option<Opcode>
+    ensures { MatchOption result ((o : Opcode) → code_of o ≢ code) (λ o. code_of o ≡ code) }
+{
+    match code {
+        1 => Some(Opcode::Lookup),
+        2 => Some(Opcode::Forget),
+        3 => Some(Opcode::Getattr),
+        9 => Some(Opcode::Mkdir),
+        10 => Some(Opcode::Unlink),
+        11 => Some(Opcode::Rmdir),
+        12 => Some(Opcode::Rename),
+        13 => Some(Opcode::Link),
+        14 => Some(Opcode::Open),
+        15 => Some(Opcode::Read),
+        16 => Some(Opcode::Write),
+        18 => Some(Opcode::Release),
+        26 => Some(Opcode::Init),
+        28 => Some(Opcode::Readdir),
+        35 => Some(Opcode::Create),
+        36 => Some(Opcode::Interrupt),
+        42 => Some(Opcode::BatchForget),
+        44 => Some(Opcode::Readdirplus),
+        _ => None,
+    }
+}
+
+/// The opcode of a number, if the minor version knows it.
+pub(crate) fn opcode_at(minor: Minor, code: u32) -> Option<Opcode>
+    ensures { MatchOption result ((o : Opcode) → IsTrue (knows minor o) → code_of o ≢ code) (λ o. IsTrue (knows minor o) × (code_of o ≡ code)) }
+{
+    let Some(opcode) = opcode_of_code(code) else {
+        return None;
+    };
+    if is_known(minor, opcode) {
+        Some(opcode)
+    } else {
+        None
+    }
+}
+
+/// Whether a request of this opcode is about a node.
+pub(crate) fn is_about_node(opcode: Opcode) -> bool
+    ensures { result ≡ has_node opcode }
+{
+    !matches!(
+        opcode,
+        Opcode::Init | Opcode::Interrupt | Opcode::BatchForget
+    )
+}
+
+/// Whether a request of this opcode can have this node id: 0 where it is about none.
+pub(crate) fn is_node_of(opcode: Opcode, nodeid: u64) -> bool
+    ensures { IsTrue result ↔ IsNodeOf (has_node opcode) nodeid }
+{
+    is_about_node(opcode) || nodeid == 0
+}
+
+/// The number of an opcode.
+pub(crate) fn code(opcode: Opcode) -> u32
+    ensures { result ≡ code_of opcode }
+{
+    match opcode {
+        Opcode::Lookup => 1,
+        Opcode::Forget => 2,
+        Opcode::Getattr => 3,
+        Opcode::Mkdir => 9,
+        Opcode::Unlink => 10,
+        Opcode::Rmdir => 11,
+        Opcode::Rename => 12,
+        Opcode::Link => 13,
+        Opcode::Open => 14,
+        Opcode::Read => 15,
+        Opcode::Write => 16,
+        Opcode::Release => 18,
+        Opcode::Init => 26,
+        Opcode::Readdir => 28,
+        Opcode::Create => 35,
+        Opcode::Interrupt => 36,
+        Opcode::BatchForget => 42,
+        Opcode::Readdirplus => 44,
+    }
+}
+
+impl Opcode {
+    /// The opcode's name in capitals, as `BATCH_FORGET`.
+    pub fn name(self) -> &'static str
+        ensures { result.now ≡ name_of self }
+    {
+        match self {
+            Opcode::Lookup => "LOOKUP",
+            Opcode::Forget => "FORGET",
+            Opcode::Getattr => "GETATTR",
+            Opcode::Mkdir => "MKDIR",
+            Opcode::Unlink => "UNLINK",
+            Opcode::Rmdir => "RMDIR",
+            Opcode::Rename => "RENAME",
+            Opcode::Link => "LINK",
+            Opcode::Open => "OPEN",
+            Opcode::Read => "READ",
+            Opcode::Write => "WRITE",
+            Opcode::Release => "RELEASE",
+            Opcode::Init => "INIT",
+            Opcode::Readdir => "READDIR",
+            Opcode::Create => "CREATE",
+            Opcode::Interrupt => "INTERRUPT",
+            Opcode::BatchForget => "BATCH_FORGET",
+            Opcode::Readdirplus => "READDIRPLUS",
+        }
+    }
+}

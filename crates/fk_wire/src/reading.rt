@@ -1,0 +1,209 @@
+//! Frames as requests.
+
+ghost use Rattle.std.specs.Prelude.{◌≡◌, ◌≢◌, ◌≤◌, ◌+◌, length, IfOk, IfErr, IsOkAnd, List, ℕ};
+ghost use Rattle.fk_wire.specs.Fields.{ReadsAs, number_at};
+ghost use Rattle.fk_wire.specs.Requests.{RequestMessage, Spells, SpellsAt, request_content, request_message, opcode_of, request_body};
+ghost use Rattle.fk_wire.specs.Opcodes.{has_node};
+ghost use Rattle.fk_wire.specs.declared.opcode.Minor.{Minor};
+ghost use Rattle.fk_wire.specs.Decoded.{decoded};
+ghost use Rattle.fk_wire.specs.Faults.{NodeReads};
+ghost use Rattle.fk_wire.specs.Faults.{shape_of, BodyFaultIs, FaultIs, FaultIsAt, HasLength, IsHeadFault};
+
+use crate::fault::WireFault;
+use crate::fields::{u32_at, u64_at};
+use crate::flags::offered;
+use crate::opcode::{Minor, Opcode, is_about_node, opcode_at, served_minor};
+use crate::request::{Request, RequestBody};
+use crate::shapes::{fixed, one_name, two_names, with_bytes, with_pairs};
+
+/// The body of a frame under this opcode.
+fn body_of(opcode: Opcode, bytes: &[u8]) -> Result<RequestBody<'_>, WireFault>
+    requires { 40 ≤ length bytes.now }
+    ensures ok { IfOk result (λ b. (opcode_of (request_content b) ≡ opcode) × ReadsAs 40 (request_body (request_content b)) bytes.now) }
+    ensures err { IfErr result (BodyFaultIs (shape_of opcode) bytes.now) }
+{
+    match opcode {
+        Opcode::Lookup => {
+            let name = one_name(bytes, 40)?;
+            Ok(RequestBody::Lookup { name })
+        }
+        Opcode::Forget => {
+            fixed(bytes, 48)?;
+            let nlookup = u64_at(bytes, 40);
+            Ok(RequestBody::Forget { nlookup })
+        }
+        Opcode::Getattr => {
+            fixed(bytes, 56)?;
+            Ok(RequestBody::Getattr)
+        }
+        Opcode::Mkdir => {
+            let name = one_name(bytes, 48)?;
+            Ok(RequestBody::Mkdir { name })
+        }
+        Opcode::Unlink => {
+            let name = one_name(bytes, 40)?;
+            Ok(RequestBody::Unlink { name })
+        }
+        Opcode::Rmdir => {
+            let name = one_name(bytes, 40)?;
+            Ok(RequestBody::Rmdir { name })
+        }
+        Opcode::Rename => {
+            let (old, new) = two_names(bytes, 48)?;
+            let newdir = u64_at(bytes, 40);
+            Ok(RequestBody::Rename { newdir, old, new })
+        }
+        Opcode::Link => {
+            let name = one_name(bytes, 48)?;
+            let oldnodeid = u64_at(bytes, 40);
+            Ok(RequestBody::Link { oldnodeid, name })
+        }
+        Opcode::Open => {
+            fixed(bytes, 48)?;
+            Ok(RequestBody::Open)
+        }
+        Opcode::Read => {
+            fixed(bytes, 80)?;
+            let fh = u64_at(bytes, 40);
+            let offset = u64_at(bytes, 48);
+            let size = u32_at(bytes, 56);
+            Ok(RequestBody::Read { fh, offset, size })
+        }
+        Opcode::Write => {
+            let data = with_bytes(bytes)?;
+            let fh = u64_at(bytes, 40);
+            let offset = u64_at(bytes, 48);
+            Ok(RequestBody::Write {
+                fh,
+                offset,
+                bytes: data,
+            })
+        }
+        Opcode::Release => {
+            fixed(bytes, 64)?;
+            let fh = u64_at(bytes, 40);
+            Ok(RequestBody::Release { fh })
+        }
+        Opcode::Init => {
+            fixed(bytes, 56)?;
+            let major = u32_at(bytes, 40);
+            let minor = u32_at(bytes, 44);
+            let flags = offered(u32_at(bytes, 52));
+            Ok(RequestBody::Init {
+                major,
+                minor,
+                flags,
+            })
+        }
+        Opcode::Readdir => {
+            fixed(bytes, 80)?;
+            let offset = u64_at(bytes, 48);
+            let size = u32_at(bytes, 56);
+            Ok(RequestBody::Readdir { offset, size })
+        }
+        Opcode::Readdirplus => {
+            fixed(bytes, 80)?;
+            let offset = u64_at(bytes, 48);
+            let size = u32_at(bytes, 56);
+            Ok(RequestBody::Readdirplus { offset, size })
+        }
+        Opcode::Create => {
+            let name = one_name(bytes, 56)?;
+            Ok(RequestBody::Create { name })
+        }
+        Opcode::Interrupt => {
+            fixed(bytes, 48)?;
+            let unique = u64_at(bytes, 40);
+            Ok(RequestBody::Interrupt { unique })
+        }
+        Opcode::BatchForget => {
+            let pairs = with_pairs(bytes)?;
+            Ok(RequestBody::BatchForget { pairs })
+        }
+    }
+}
+
+/// The node in the header of a frame under this opcode. It is 0 where the field is free.
+fn nodeid_at(opcode: Opcode, bytes: &[u8]) -> u64
+    requires { 40 ≤ length bytes.now }
+    ensures { NodeReads (has_node opcode) bytes.now result }
+{
+    if is_about_node(opcode) {
+        u64_at(bytes, 16)
+    } else {
+        0
+    }
+}
+
+/// The request that a frame spells, without its contract's clause on what else it may spell.
+fn request_of(minor: Minor, bytes: &[u8]) -> Result<Request<'_>, WireFault>
+    ensures ok { IfOk result (λ r. SpellsAt minor bytes.now (request_message r)) }
+    ensures fault { IfErr result (FaultIsAt minor bytes.now) }
+{
+    if bytes.len() < 40 {
+        return Err(WireFault::Short);
+    }
+    if u32_at(bytes, 0) as usize != bytes.len() {
+        return Err(WireFault::Length);
+    }
+    let Some(opcode) = opcode_at(minor, u32_at(bytes, 4)) else {
+        return Err(WireFault::Opcode);
+    };
+    if bytes.len() > 4176 {
+        return Err(WireFault::Body);
+    }
+    let unique = u64_at(bytes, 8);
+    let nodeid = nodeid_at(opcode, bytes);
+    match body_of(opcode, bytes) {
+        Ok(body) => Ok(Request {
+            unique,
+            nodeid,
+            body,
+        }),
+        Err(fault) => Err(fault),
+    }
+}
+
+/// Reads a request frame, of 7.31 without READDIRPLUS.
+///
+/// The fault is the first of `Short`, `Length`, `Opcode`, `Body` and `Name` that applies.
+pub fn read_request(bytes: &[u8]) -> Result<Request<'_>, WireFault>
+    // What is read is spelled so.
+    ensures ok { IfOk result (λ r. Spells bytes.now (request_message r)) }
+    // What is spelled so is read.
+    ensures only { (m : RequestMessage) → Spells bytes.now m → IsOkAnd result (λ r. request_message r ≡ m) }
+    // Else the fault is the first that applies.
+    ensures fault { IfErr result (FaultIs bytes.now) }
+{
+    read_request_at(served_minor(), bytes)
+}
+
+/// Reads a request frame of a minor version, as `read_request` does.
+pub fn read_request_at(minor: Minor, bytes: &[u8]) -> Result<Request<'_>, WireFault>
+    ensures ok { IfOk result (λ r. SpellsAt minor bytes.now (request_message r)) }
+    ensures only { (m : RequestMessage) → SpellsAt minor bytes.now m → IsOkAnd result (λ r. request_message r ≡ m) }
+    ensures fault { IfErr result (FaultIsAt minor bytes.now) }
+{
+    request_of(minor, bytes)
+}
+
+/// Reads the opcode, known or not, and the unique number of a request frame.
+///
+/// The fault is `Short` or `Length`.
+pub fn read_request_head(bytes: &[u8]) -> Result<(u32, u64), WireFault>
+    ensures ok { IfOk result (λ head. HasLength bytes.now × (head.0 ≡ number_at 4 4 bytes.now) × (head.1 ≡ number_at 8 8 bytes.now)) }
+    ensures fault { (minor : Minor) → IfErr result (λ f. FaultIsAt minor bytes.now f × IsHeadFault f) }
+{
+    if bytes.len() < 40 {
+        return Err(WireFault::Short);
+    }
+    if u32_at(bytes, 0) as usize != bytes.len() {
+        return Err(WireFault::Length);
+    }
+    Ok((u32_at(bytes, 4), u64_at(bytes, 8)))
+}
+
+/// Every frame that spells a request spells one alone: the one that it decodes to.
+pub fn spelled_is_decoded()
+    ensures { (minor : Minor) (bytes : List ℕ) (m : RequestMessage) → SpellsAt minor bytes m → decoded bytes ≡ m }
+{}

@@ -1,0 +1,235 @@
+//! Frames as replies.
+
+ghost use Rattle.std.specs.Prelude.{◌≡◌, ◌≢◌, ◌≤◌, ◌<◌, ◌+◌, ℕ, List, Option, Some, None, length, OnOk, IfOk, IfErr, IsOkAnd, if◌then◌else◌};
+ghost use Rattle.std.specs.Int.{cast_unsigned, w32};
+ghost use Rattle.fk_wire.specs.Fields.{ReadsAs, number_at};
+ghost use Rattle.fk_wire.specs.Replies.{ReplyMessage, SpellsReply, SpellsReplyAt, IsReplyContent, HasReplyNames, reply_body, reply_content, kind_of as the_kind_of, reply_kind as the_reply_kind, kind_of_content, reply_message, states_15, IsErrorNumber};
+ghost use Rattle.fk_wire.specs.Decoded.{decoded_reply};
+ghost use Rattle.fk_wire.specs.ReplyFaults.{FillsReply, ReplyBodyFaultIs, ReplyFaultIs, ReplyFaultIsAt, HasReplyLength, IsReplyHeadFault};
+ghost use Rattle.fk_wire.specs.declared.opcode.Opcode.{Opcode};
+ghost use Rattle.fk_wire.specs.declared.opcode.Minor.{Minor};
+ghost use Rattle.fk_wire.specs.declared.fault.WireFault.TheVariants.{Body as BodyFault};
+
+use crate::entry::{attr_at, entry_at, is_timed};
+use crate::fault::WireFault;
+use crate::fields::{i32_at, u32_at, u64_at};
+use crate::flags::offered;
+use crate::opcode::{Minor, Opcode, is_known, served_minor};
+use crate::records::Records;
+use crate::records_plus::RecordsPlus;
+use crate::reply::{Reply, ReplyBody, ReplyKind};
+
+/// The kind of body in the replies to an opcode.
+fn kind_of(opcode: Opcode) -> Option<ReplyKind>
+    ensures { result ≡ the_kind_of opcode }
+{
+    match opcode {
+        Opcode::Lookup | Opcode::Mkdir | Opcode::Link => Some(ReplyKind::Entry),
+        Opcode::Getattr => Some(ReplyKind::Attr),
+        Opcode::Unlink | Opcode::Rmdir | Opcode::Rename | Opcode::Release | Opcode::Interrupt =>
+            Some(ReplyKind::Empty),
+        Opcode::Open => Some(ReplyKind::Open),
+        Opcode::Read => Some(ReplyKind::Bytes),
+        Opcode::Write => Some(ReplyKind::Write),
+        Opcode::Init => Some(ReplyKind::Init),
+        Opcode::Readdir => Some(ReplyKind::Records),
+        Opcode::Readdirplus => Some(ReplyKind::RecordsPlus),
+        Opcode::Create => Some(ReplyKind::Create),
+        Opcode::Forget | Opcode::BatchForget => None,
+    }
+}
+
+/// The kind of body in the replies to an opcode that the minor version knows.
+fn reply_kind(minor: Minor, opcode: Opcode) -> Option<ReplyKind>
+    ensures { result ≡ the_reply_kind minor opcode }
+{
+    if is_known(minor, opcode) {
+        kind_of(opcode)
+    } else {
+        None
+    }
+}
+
+/// How long an INIT reply is that states this version.
+pub(crate) fn init_size(major: u32, minor: u32) -> usize
+    ensures { result ≡ (if states_15 major minor then 40 else 80) }
+{
+    if major == 7 && minor == 15 { 40 } else { 80 }
+}
+
+/// A frame of so many bytes.
+fn reply_of_size(bytes: &[u8], size: usize) -> Result<(), WireFault>
+    ensures ok { OnOk result (length bytes.now ≡ size) }
+    ensures err { IfErr result (λ f. (f ≡ BodyFault) × (length bytes.now ≢ size)) }
+{
+    if bytes.len() == size {
+        Ok(())
+    } else {
+        Err(WireFault::Body)
+    }
+}
+
+/// The body of an INIT reply.
+fn init_of(bytes: &[u8]) -> Result<ReplyBody<'_>, WireFault>
+    ensures ok { IfOk result (λ b. (kind_of_content (reply_content b) ≡ ReplyKind.Init) × IsReplyContent (reply_content b) × HasReplyNames (reply_content b) × ReadsAs 16 (reply_body (reply_content b)) bytes.now) }
+    ensures err { IfErr result (ReplyBodyFaultIs ReplyKind.Init bytes.now) }
+{
+    if bytes.len() != 40 && bytes.len() != 80 {
+        return Err(WireFault::Body);
+    }
+    let major = u32_at(bytes, 16);
+    let minor = u32_at(bytes, 20);
+    if bytes.len() != init_size(major, minor) {
+        return Err(WireFault::Body);
+    }
+    let flags = offered(u32_at(bytes, 28));
+    Ok(ReplyBody::Init {
+        major,
+        minor,
+        flags,
+    })
+}
+
+/// The body of this kind.
+fn body_of(kind: ReplyKind, bytes: &[u8]) -> Result<ReplyBody<'_>, WireFault>
+    requires { 16 ≤ length bytes.now }
+    ensures ok { IfOk result (λ b. (kind_of_content (reply_content b) ≡ kind) × IsReplyContent (reply_content b) × HasReplyNames (reply_content b) × ReadsAs 16 (reply_body (reply_content b)) bytes.now) }
+    ensures err { IfErr result (ReplyBodyFaultIs kind bytes.now) }
+{
+    match kind {
+        ReplyKind::Empty => {
+            reply_of_size(bytes, 16)?;
+            Ok(ReplyBody::Empty)
+        }
+        ReplyKind::Entry => {
+            reply_of_size(bytes, 144)?;
+            let entry = entry_at(bytes, 16);
+            if !is_timed(&entry) {
+                return Err(WireFault::Body);
+            }
+            Ok(ReplyBody::Entry { entry })
+        }
+        ReplyKind::Attr => {
+            reply_of_size(bytes, 120)?;
+            let attr = attr_at(bytes, 32);
+            Ok(ReplyBody::Attr { attr })
+        }
+        ReplyKind::Open => {
+            reply_of_size(bytes, 32)?;
+            let fh = u64_at(bytes, 16);
+            Ok(ReplyBody::Open { fh })
+        }
+        ReplyKind::Bytes => Ok(ReplyBody::Bytes {
+            bytes: &bytes[16..],
+        }),
+        ReplyKind::Write => {
+            reply_of_size(bytes, 24)?;
+            let size = u32_at(bytes, 16);
+            Ok(ReplyBody::Write { size })
+        }
+        ReplyKind::Init => init_of(bytes),
+        ReplyKind::Create => {
+            reply_of_size(bytes, 160)?;
+            let entry = entry_at(bytes, 16);
+            if !is_timed(&entry) {
+                return Err(WireFault::Body);
+            }
+            let fh = u64_at(bytes, 144);
+            Ok(ReplyBody::Create { entry, fh })
+        }
+        ReplyKind::Records => match Records::from_place(bytes, 16) {
+            Ok(records) => Ok(ReplyBody::Records { records }),
+            Err(fault) => Err(fault),
+        },
+        ReplyKind::RecordsPlus => match RecordsPlus::from_place(bytes, 16) {
+            Ok(records) => Ok(ReplyBody::RecordsPlus { records }),
+            Err(fault) => Err(fault),
+        },
+    }
+}
+
+/// The reply that a frame spells, without its contract's clause on what else it may spell.
+fn reply_of(minor: Minor, opcode: Opcode, bytes: &[u8]) -> Result<Reply<'_>, WireFault>
+    ensures ok { IfOk result (λ r. SpellsReplyAt minor opcode bytes.now (reply_message r)) }
+    ensures fault { IfErr result (ReplyFaultIsAt minor opcode bytes.now) }
+{
+    if bytes.len() < 16 {
+        return Err(WireFault::Short);
+    }
+    if u32_at(bytes, 0) as usize != bytes.len() {
+        return Err(WireFault::Length);
+    }
+    let error = i32_at(bytes, 4);
+    if error > 0 || error < -511 {
+        return Err(WireFault::ErrorRange);
+    }
+    let Some(kind) = reply_kind(minor, opcode) else {
+        return Err(WireFault::Opcode);
+    };
+    if bytes.len() > 4176 {
+        return Err(WireFault::Body);
+    }
+    let kind = if u32_at(bytes, 4) == 0 {
+        kind
+    } else {
+        ReplyKind::Empty
+    };
+    let unique = u64_at(bytes, 8);
+    match body_of(kind, bytes) {
+        Ok(body) => Ok(Reply {
+            unique,
+            error,
+            body,
+        }),
+        Err(fault) => Err(fault),
+    }
+}
+
+/// Reads the frame of a reply to a request of this opcode, of 7.31 without READDIRPLUS.
+///
+/// The fault is the first of `Short`, `Length`, `ErrorRange`, `Opcode`, `Body` and `Name` that
+/// applies. `Opcode` stands for an opcode that has no replies.
+pub fn read_reply(opcode: Opcode, bytes: &[u8]) -> Result<Reply<'_>, WireFault>
+    // What is read is spelled so.
+    ensures ok { IfOk result (λ r. SpellsReply opcode bytes.now (reply_message r)) }
+    // What is spelled so is read.
+    ensures only { (t : ReplyMessage) → SpellsReply opcode bytes.now t → IsOkAnd result (λ r. reply_message r ≡ t) }
+    // Else the fault is the first that applies.
+    ensures fault { IfErr result (ReplyFaultIs opcode bytes.now) }
+{
+    read_reply_at(served_minor(), opcode, bytes)
+}
+
+/// Reads a reply frame of a minor version, as `read_reply` does.
+pub fn read_reply_at(minor: Minor, opcode: Opcode, bytes: &[u8]) -> Result<Reply<'_>, WireFault>
+    ensures ok { IfOk result (λ r. SpellsReplyAt minor opcode bytes.now (reply_message r)) }
+    ensures only { (t : ReplyMessage) → SpellsReplyAt minor opcode bytes.now t → IsOkAnd result (λ r. reply_message r ≡ t) }
+    ensures fault { IfErr result (ReplyFaultIsAt minor opcode bytes.now) }
+{
+    reply_of(minor, opcode, bytes)
+}
+
+/// Reads the error and the unique number of a reply frame.
+///
+/// The fault is the first of `Short`, `Length` and `ErrorRange` that applies.
+pub fn read_reply_head(bytes: &[u8]) -> Result<(i32, u64), WireFault>
+    ensures ok { IfOk result (λ head. HasReplyLength bytes.now × IsErrorNumber head.0 × (cast_unsigned w32 head.0 ≡ number_at 4 4 bytes.now) × (head.1 ≡ number_at 8 8 bytes.now)) }
+    ensures fault { (minor : Minor) (o : Opcode) → IfErr result (λ f. ReplyFaultIsAt minor o bytes.now f × IsReplyHeadFault f) }
+{
+    if bytes.len() < 16 {
+        return Err(WireFault::Short);
+    }
+    if u32_at(bytes, 0) as usize != bytes.len() {
+        return Err(WireFault::Length);
+    }
+    let error = i32_at(bytes, 4);
+    if error > 0 || error < -511 {
+        return Err(WireFault::ErrorRange);
+    }
+    Ok((error, u64_at(bytes, 8)))
+}
+
+/// Every frame that spells a reply to an opcode spells one alone: the one that it decodes to.
+pub fn spelled_reply_is_decoded()
+    ensures { (minor : Minor) (o : Opcode) (bytes : List ℕ) (t : ReplyMessage) → SpellsReplyAt minor o bytes t → decoded_reply o bytes ≡ t }
+{}

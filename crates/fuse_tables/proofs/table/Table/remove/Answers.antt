@@ -1,0 +1,28 @@
+use Rattle.std.proofs.Common.{◌≡◌, ap, sym, subst, ◌∙◌, List, ℕ, Some, T}
+use Rattle.std.specs.Prelude.{slice_index_or}
+use Rattle.std.specs.Ordering.{nat_cmp}
+use Rattle.std.specs.FinMap.{is_sorted}
+use Rattle.std.proofs.lemmas.Option.{get_or_from_slice_get}
+use Rattle.fuse_spec.specs.Maps.{get, remove}
+use Rattle.fuse_tables.specs.TableState.{IsRowOf}
+use Rattle.fuse_tables.proofs.Rows.{value_there, absent_is, without_there, sorted_without, read_there}
+use Rattle.fuse_tables.proofs.table.Table.remove.Goals as goal
+
+pub returns-in_default-clause-entries : goal.returns-in_default-clause-entries
+returns-in_default-clause-entries g c =
+    rw (← c.self.view_is) (sym (absent_is c.self.inside.rows.items c.args.key (rw c.deref.ensures.value at c.in_default.ensures)))
+
+pub invariant_of-self : goal.invariant_of-self
+invariant_of-self g c =
+    let rows = c.remove.ensures.items ∙ without_there c.self.inside.rows.items c.args.key c.in-Some.place c.self.invariant (rw c.deref.ensures.value at c.in-Some.ensures) in
+    subst (λ es. T (is_sorted nat_cmp es)) (sym rows) (sorted_without c.self.inside.rows.items c.args.key c.self.invariant)
+
+pub returns-clause-value : goal.returns-clause-value
+returns-clause-value g c =
+    rw (← c.self.view_is)
+    (read_there c.self.inside.rows.items c.deref.result.now c.args.key c.in-Some.place c.remove.result c.self.invariant c.deref.ensures.value c.in-Some.ensures c.remove.ensures.value)
+
+pub returns-clause-entries : goal.returns-clause-entries
+returns-clause-entries g c =
+    let rows = c.remove.ensures.items ∙ without_there c.self.inside.rows.items c.args.key c.in-Some.place c.self.invariant (rw c.deref.ensures.value at c.in-Some.ensures) in
+    rw (← c.self.view_is) rows

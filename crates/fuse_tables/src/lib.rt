@@ -1,0 +1,9 @@
+//! Tables kept in the order of their keys, with room that is made before it is used.
+#![tactic(auto)]
+
+mod table;
+
+pub use table::Table;
+
+#[cfg(test)]
+mod tests;

@@ -1,0 +1,126 @@
+//! A table from numbers to values.
+
+ghost use Rattle.std.specs.Prelude.{◌≡◌, ◌+◌, ◌<◌, ◌≤◌, ◌-◌, [], OnOk, OnErr, IsOk, None, length, option_map, is_some, slice_get, if◌then◌else◌, MatchOption};
+ghost use Rattle.std.specs.Option.{option_copied};
+ghost use Rattle.std.specs.Prelude.{T};
+ghost use Rattle.std.specs.Ordering.{nat_cmp};
+ghost use Rattle.std.specs.FinMap.{is_sorted};
+ghost use Rattle.fuse_spec.specs.Maps.{get as value_at, put as with_value, remove as without_key};
+ghost use Rattle.fuse_tables.specs.TableState.{place_of, IsRowOf};
+
+use std::alloc::{AllocError, Allocator, Global};
+use std::marker::Model;
+
+/// A map from numbers to values, seen as its entries in rising key and its room: how many more it takes with no memory.
+#[derive(Drop)]
+pub struct Table<V, A: Allocator = Global> {
+    rows: Vec<(u64, V), A>,
+}
+
+impl<V, A: Allocator> Model for Table<V, A> {
+    ghost use Rattle.std.specs.Prelude.{T, ◌-◌, vec_len, vec_capacity};
+    ghost use Rattle.std.specs.Ordering.{nat_cmp};
+    ghost use Rattle.std.specs.FinMap.{is_sorted};
+    ghost use Rattle.fuse_tables.specs.TableState.{TableState, table_code};
+
+    ghost Value = { TableState V };
+
+    ghost coded = { table_code V.code };
+
+    ghost view = { λ t. record { entries = t.rows.items; room = vec_capacity t.rows - vec_len t.rows } };
+
+    ghost invariant = { λ t. T (is_sorted nat_cmp t.rows.items) };
+}
+
+/// How many of the rows, from the first on, have a lower key.
+fn place_in<V>(rows: &[(u64, V)], key: u64) -> usize
+    requires { T (is_sorted nat_cmp rows.now) }
+    ensures place { result ≡ place_of key rows.now }
+    ensures bound { result ≤ length rows.now }
+{
+    rows.partition_point(|row| row.0 < key)
+}
+
+/// Where the row of a key stands.
+fn find_in<V>(rows: &[(u64, V)], key: u64) -> Option<usize>
+    requires { T (is_sorted nat_cmp rows.now) }
+    ensures { MatchOption result (value_at rows.now key ≡ None) (IsRowOf rows.now key) }
+{
+    let place = place_in(rows, key);
+    if place == rows.len() {
+        return None;
+    }
+    let row = &rows[place];
+    if row.0 == key {
+        Some(place)
+    } else {
+        None
+    }
+}
+
+impl<V: Drop, A: Allocator + Copy> Table<V, A> {
+    pub fn new(alloc: A) -> Self
+        ensures { result.entries ≡ [] }
+    {
+        Table {
+            rows: Vec::new(alloc),
+        }
+    }
+
+    /// How many entries there are.
+    pub fn len(&self) -> usize
+        ensures { result ≡ length self.now.entries }
+    {
+        self.rows.len()
+    }
+
+    /// The value at a key.
+    pub fn get(&self, key: u64) -> Option<&V>
+        ensures { option_copied result ≡ value_at self.now.entries key }
+    {
+        let place = find_in(&self.rows, key)?;
+        Some(&self.rows[place].1)
+    }
+
+    /// Makes room for so many more entries. Where memory is refused nothing changes.
+    pub fn reserve(&mut self, more: usize) -> Result<(), AllocError>
+        ensures entries { self.new.entries ≡ self.old.entries }
+        ensures room { OnOk result (more ≤ self.new.room) }
+        ensures kept { self.old.room ≤ self.new.room }
+        ensures refused { OnErr result (self.old.room < more) }
+    {
+        self.rows.reserve(more)
+    }
+
+    /// Puts a value at a key that has none, into room that was made.
+    pub fn put(&mut self, key: u64, value: V)
+        requires room { 0 < self.old.room }
+        requires absent { value_at self.old.entries key ≡ None }
+        ensures entries { self.new.entries ≡ with_value self.old.entries key value }
+        ensures room { self.old.room ≤ self.new.room + 1 }
+    {
+        let place = place_in(&self.rows, key);
+        let inserted: Result<(), _> = self.rows.insert(place, (key, value));
+        inserted.unwrap();
+    }
+
+    /// Takes out the value at a key. Its room stays.
+    pub fn remove(&mut self, key: u64) -> Option<V>
+        ensures value { result ≡ value_at self.old.entries key }
+        ensures entries { self.new.entries ≡ without_key self.old.entries key }
+        ensures room { (if is_some result then self.old.room + 1 else self.old.room) ≤ self.new.room }
+    {
+        let Some(place) = find_in(&self.rows, key) else {
+            return None;
+        };
+        Some(self.rows.remove(place).1)
+    }
+
+    /// Takes out all entries. Their room stays.
+    pub fn clear(&mut self)
+        ensures entries { self.new.entries ≡ [] }
+        ensures room { self.old.room ≤ self.new.room }
+    {
+        self.rows.clear();
+    }
+}
