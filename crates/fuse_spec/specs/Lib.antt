@@ -14,6 +14,7 @@ pub mod Uniques
 pub mod Queues
 pub mod Signals
 pub mod QueueCalls
+pub mod QueueLaws
 pub mod Messages
 pub mod Kernel
 pub mod Replies

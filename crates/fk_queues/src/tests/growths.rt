@@ -1,0 +1,115 @@
+//! Refused growths: `reserve` alone takes memory, and where it is refused nothing changes.
+use crate::{IntrEffect, ListQueues, NoMemory, QueueTable, Queues};
+use fail_at::FailAt;
+use std::alloc::{Allocator, Global};
+use std::process::Abort;
+use std::test::Fail;
+
+/// One request in processing, one pending, and a forget.
+fn fill<Q: QueueTable<u64>>(queues: &mut Q) -> Result<(), NoMemory> {
+    queues.reserve(2, 1)?;
+    queues.forget(9, 3);
+    for kept in 70..72 {
+        queues.reserve(1, 0)?;
+        if queues.numbers_left() == 0 {
+            return Err(NoMemory);
+        }
+        let _unique = queues.enqueue(kept);
+    }
+    let _read = queues.read_pending(0);
+    let _queued = queues.interrupt(2, false);
+    Ok(())
+}
+
+/// Asks for room with the `n`th growth refused. Says whether that growth came.
+fn refused_at<Q: QueueTable<u64> + Drop>(
+    rt: &impl Abort,
+    mut queues: Q,
+    heap: &FailAt<Global>,
+    n: u64,
+) -> Result<bool, NoMemory> {
+    fill(&mut queues)?;
+    heap.refuse(n);
+    let outcome = queues.reserve(1000, 1000);
+    let refused = heap.left() == 0;
+    heap.refuse(0);
+    assert_eq!(rt; outcome.is_err(), refused, "{n}");
+    assert!(rt; matches!(queues.pending(0), Some((4, 71))) && queues.pending(1).is_none());
+    assert!(rt; matches!(queues.waiting(2), Some(70)) && queues.waiting(4).is_none());
+    assert_eq!(rt; queues.first_interrupt(), Some(2));
+    assert!(rt; queues.first_forgets(1).is_some() && queues.first_forgets(2).is_none());
+    assert_eq!(rt; queues.numbers_left(), 0x1fff_ffff_ffff_fffd);
+    queues.reserve(1000, 1000)?;
+    heap.refuse(1);
+    queues.reserve(1000, 1000)?;
+    assert_eq!(rt; heap.left(), 1, "the room of {n} was there");
+    heap.refuse(0);
+    Ok(refused)
+}
+
+/// After `reserve` no call takes memory.
+fn takes_none<Q: QueueTable<u64> + Drop>(
+    rt: &impl Abort,
+    mut queues: Q,
+    heap: &FailAt<Global>,
+) -> Result<(), NoMemory> {
+    fill(&mut queues)?;
+    queues.reserve(1, 1)?;
+    if queues.numbers_left() < 2 {
+        return Err(NoMemory);
+    }
+    heap.refuse(1);
+    assert_eq!(rt; queues.enqueue(72), 6);
+    queues.forget(8, 1);
+    assert_eq!(rt; queues.interrupt(6, false), IntrEffect::Flagged);
+    assert_eq!(rt; queues.read_pending(1), Some(6));
+    assert_eq!(rt; queues.read_pending(0), Some(4));
+    assert_eq!(rt; queues.interrupt(4, true), IntrEffect::Queued);
+    assert_eq!(rt; queues.read_interrupt(), Some(2));
+    queues.again(2);
+    if queues.numbers_left() == 0 {
+        return Err(NoMemory);
+    }
+    assert!(rt; matches!(queues.read_forgets(2), Some((8, _))));
+    assert_eq!(rt; queues.answer(4), Some(71));
+    assert_eq!(rt; queues.read_interrupt(), Some(6));
+    assert_eq!(rt; queues.read_interrupt(), Some(2));
+    queues.no_interrupts();
+    queues.abort();
+    assert_eq!(rt; heap.left(), 1);
+    heap.refuse(0);
+    Ok(())
+}
+
+/// Each growth of each representation refused in turn, until none is left to refuse.
+fn each_refused<A: Allocator + Copy>(
+    rt: &impl Abort,
+    alloc: A,
+    heap: &FailAt<Global>,
+) -> Result<(), NoMemory> {
+    let mut map_growths = 0u64;
+    let mut list_growths = 0u64;
+    for n in 1..9u64 {
+        let map: Queues<u64, A> = QueueTable::new(alloc);
+        if refused_at(rt, map, heap, n)? {
+            map_growths = n;
+        }
+        let lists: ListQueues<u64, A> = QueueTable::new(alloc);
+        if refused_at(rt, lists, heap, n)? {
+            list_growths = n;
+        }
+    }
+    assert!(rt; 3 <= map_growths && map_growths < 8);
+    assert!(rt; 3 <= list_growths && list_growths < 8);
+    let map: Queues<u64, A> = QueueTable::new(alloc);
+    takes_none(rt, map, heap)?;
+    let lists: ListQueues<u64, A> = QueueTable::new(alloc);
+    takes_none(rt, lists, heap)
+}
+
+#[test]
+fn refused_growths_change_nothing(rt: HostRuntime) -> Result<(), Fail> {
+    let heap = FailAt::new(rt.alloc());
+    each_refused(&rt, &heap, &heap)?;
+    Ok(())
+}

@@ -1,0 +1,131 @@
+//! Request numbers of a mount, named uniques: even, rising by 2 from 2, below 2^62.
+//!
+//! An INTERRUPT draws no number: it carries that of the request it interrupts, with the lowest bit set (the kernel's `fuse.rst`).
+#![tactic(auto)]
+
+ghost use Rattle.std.specs.Prelude.{◌≡◌, ◌+◌, ◌%◌, ◌<◌, ◌≤◌, IfSome, IsSome, ◌↔◌};
+ghost use Rattle.fuse_spec.specs.Uniques.{first_number, number_limit, numbers_left_from, interrupt_number, original_number, IsNextNumber};
+
+use std::marker::Model;
+
+/// No number reaches this.
+pub const LIMIT: u64 = 0x4000_0000_0000_0000;
+
+/// The numbers that a mount has not drawn yet (this project's rule: they start at 2 and end below 2^62). Contracts see the
+/// coming one; at 2^62 none is left.
+#[derive(Drop)]
+pub struct Uniques {
+    next: u64,
+}
+
+impl Model for Uniques {
+    ghost use Rattle.std.specs.Prelude.{ℕ};
+
+    ghost Value = { ℕ };
+
+    ghost use Rattle.fuse_spec.specs.Uniques.{IsNextNumber};
+
+    ghost view = { λ u. u.next };
+
+    ghost invariant = { λ u. IsNextNumber u.next };
+}
+
+impl Uniques {
+    /// The numbers of a new mount: all of them.
+    pub fn new() -> Self
+        ensures first { result ≡ first_number }
+        ensures next { IsNextNumber result }
+    {
+        Uniques { next: 2 }
+    }
+
+    /// Draws the coming number, or `None` where none is left. No number is drawn twice.
+    pub fn next(&mut self) -> Option<u64>
+        ensures drawn { IfSome result (λ unique. unique ≡ self.old) }
+        ensures rises { IfSome result (λ unique. self.new ≡ unique + 2) }
+        ensures even { IfSome result (λ unique. unique % 2 ≡ 0) }
+        ensures low { IfSome result (λ unique. first_number ≤ unique) }
+        ensures high { IfSome result (λ unique. unique < number_limit) }
+        ensures some_left { IsSome result ↔ (self.old < number_limit) }
+        ensures none_left { number_limit ≤ self.old → self.new ≡ self.old }
+        ensures next { IsNextNumber self.new }
+    {
+        let unique = self.next;
+        if unique >= LIMIT {
+            return None;
+        }
+        self.next = unique + 2;
+        Some(unique)
+    }
+
+    /// The coming number: what `next` draws, or 2^62 where none is left.
+    pub fn coming(&self) -> u64
+        ensures coming { result ≡ self.now }
+        ensures next { IsNextNumber self.now }
+    {
+        self.next
+    }
+
+    /// How many numbers can still be drawn.
+    pub fn numbers_left(&self) -> u64
+        ensures left { result ≡ numbers_left_from self.now }
+        ensures next { IsNextNumber self.now }
+    {
+        (LIMIT - self.next) / 2
+    }
+}
+
+/// The number of the INTERRUPT of a request: the request's, with the lowest bit set.
+pub fn interrupt_of(unique: u64) -> u64
+    ensures number { result ≡ interrupt_number unique }
+    ensures odd { result % 2 ≡ 1 }
+    ensures original { unique % 2 ≡ 0 → original_number result ≡ unique }
+{
+    original_of(unique) + 1
+}
+
+/// The number of the request that an INTERRUPT names: its own, with the lowest bit cleared.
+pub fn original_of(unique: u64) -> u64
+    ensures number { result ≡ original_number unique }
+    ensures even { result % 2 ≡ 0 }
+    ensures interrupt { unique % 2 ≡ 1 → interrupt_number result ≡ unique }
+    ensures itself { unique % 2 ≡ 0 → result ≡ unique }
+{
+    unique - unique % 2
+}
+
+#[cfg(test)]
+mod tests {
+    use super::*;
+    use std::test::Fail;
+
+    #[test]
+    fn numbers_rise_from_2(rt: HostRuntime) -> Result<(), Fail> {
+        let mut uniques = Uniques::new();
+        assert_eq!(rt; uniques.numbers_left(), 0x1fff_ffff_ffff_ffff);
+        assert_eq!(rt; uniques.next(), Some(2));
+        assert_eq!(rt; uniques.next(), Some(4));
+        assert_eq!(rt; uniques.next(), Some(6));
+        assert_eq!(rt; uniques.numbers_left(), 0x1fff_ffff_ffff_fffc);
+        Ok(())
+    }
+
+    #[test]
+    fn none_is_left_at_the_limit(rt: HostRuntime) -> Result<(), Fail> {
+        let mut uniques = Uniques { next: LIMIT - 2 };
+        assert_eq!(rt; uniques.numbers_left(), 1);
+        assert_eq!(rt; uniques.next(), Some(LIMIT - 2));
+        assert_eq!(rt; uniques.numbers_left(), 0);
+        assert_eq!(rt; uniques.next(), None);
+        assert_eq!(rt; uniques.next(), None);
+        Ok(())
+    }
+
+    #[test]
+    fn interrupts_carry_their_originals_number(rt: HostRuntime) -> Result<(), Fail> {
+        assert_eq!(rt; interrupt_of(4), 5);
+        assert_eq!(rt; original_of(5), 4);
+        assert_eq!(rt; original_of(4), 4);
+        Ok(())
+    }
+}

@@ -1,0 +1,2 @@
+pub mod RequestTies
+pub mod ReplyTies

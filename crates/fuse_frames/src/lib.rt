@@ -1,0 +1,6 @@
+//! The machine's messages as frames: the one place where the grammar of frames and the machine of kernel and server meet.
+#![tactic(auto)]
+
+mod request_frame;
+
+pub use request_frame::RequestFrame;
