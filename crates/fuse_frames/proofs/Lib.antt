@@ -1,0 +1,2 @@
+pub mod RequestLemmas
+pub mod ReplyLemmas

@@ -5,7 +5,8 @@ use Rattle.fk_wire.specs.declared.opcode.Opcode.{Opcode}
 use Rattle.fk_wire.specs.declared.entry.Attr.{Attr}
 use Rattle.fk_wire.specs.Entries.{EntryContent, missing, found}
 use Rattle.fk_wire.specs.Dirents.{DirentContent}
-use Rattle.fk_wire.specs.Replies.{ReplyContent, empty_reply, entry_reply, attr_reply, open_reply, bytes_reply, write_reply, init_reply, create_reply, records_reply, plus_reply, ReplyMessage, SpellsReply, WrittenReply}
+use Rattle.fk_wire.specs.Replies.{ReplyContent, empty_reply, entry_reply, attr_reply, open_reply, bytes_reply, write_reply, init_reply, create_reply, records_reply, plus_reply, ReplyMessage, GoesWith, SpellsReply, WrittenReply}
+use Rattle.fk_wire.specs.Opcodes.{served}
 use Rattle.fk_wire.specs.Decoded.{decoded_reply}
 use Rattle.fuse_spec.specs.Numbers.{max_validity}
 use Rattle.fuse_spec.specs.Operations as reply
@@ -68,3 +69,16 @@ pub record SaysReply (o : Opcode) (bytes : List ℕ) (unique : ℕ) (wire : Wire
   pub spells : SpellsReply o bytes message
   pub unique_is : message.unique ≡ unique
   pub says : wire_said message.error message.content ≡ wire
+
+-- The bytes are the one frame in which a reply to a request of this opcode is written.
+pub record IsReplyFrame (o : Opcode) (bytes : List ℕ) : Type 0 where
+  pub message : ReplyMessage
+  pub written : WrittenReply message bytes
+  pub goes : GoesWith served o message
+
+-- What the bytes of a reply say, where they say anything, and under which unique.
+unfoldable pub wire_in : Opcode → List ℕ → WireReply
+wire_in o bytes = wire_said (decoded_reply o bytes).error (decoded_reply o bytes).content
+
+unfoldable pub unique_in : Opcode → List ℕ → ℕ
+unique_in o bytes = (decoded_reply o bytes).unique

@@ -1,6 +1,8 @@
 //! The machine's messages as frames: the one place where the grammar of frames and the machine of kernel and server meet.
 #![tactic(auto)]
 
+mod reply_copy;
 mod request_frame;
 
+pub use reply_copy::ReplyCopy;
 pub use request_frame::RequestFrame;

@@ -1,10 +1,14 @@
 //! Requests in their frames.
 
-ghost use Rattle.std.specs.Prelude.{◌≡◌};
-ghost use Rattle.fuse_spec.specs.Messages.{Request};
-ghost use Rattle.fuse_frames.specs.RequestTies.{IsRequestFrame};
+ghost use Rattle.std.specs.Prelude.{◌≡◌, IfOk, Some};
+ghost use Rattle.fk_wire.specs.Requests.{request_content};
+ghost use Rattle.fuse_spec.specs.Messages.{RequestBody as Asked, init, asks};
+ghost use Rattle.fuse_spec.specs.Operations.{lookup, getattr};
+ghost use Rattle.fuse_frames.specs.RequestTies.{IsRequestFrame, body_in};
 
-use std::alloc::{Allocator, Global};
+use bitflags::Flags;
+use fk_wire::{InitFlags, RequestBody, write_request};
+use std::alloc::{AllocError, Allocator, Global};
 use std::marker::Model;
 
 /// A frame of the request link, seen as the request that it spells.
@@ -27,11 +31,81 @@ impl<A: Allocator> Model for RequestFrame<A> {
     ghost invariant = { λ f. IsRequestFrame f.bytes.items (request_in f.bytes.items) };
 }
 
+/// The frame of a request that the machine has.
+fn framed<A: Allocator>(
+    alloc: A,
+    request: &fk_wire::Request<'_>,
+) -> Result<RequestFrame<A>, AllocError>
+    requires { (body : Asked) × (body_in request.now.nodeid (request_content request.now.body) ≡ Some body) }
+    ensures { (body : Asked) → body_in request.now.nodeid (request_content request.now.body) ≡ Some body → IfOk result (λ frame. frame ≡ record { unique = request.now.unique; body = body }) }
+{
+    let mut bytes = Vec::new(alloc);
+    match write_request(&mut bytes, request) {
+        Ok(()) => Ok(RequestFrame { bytes }),
+        Err(_) => Err(AllocError),
+    }
+}
+
 impl<A: Allocator> RequestFrame<A> {
     /// The frame's bytes.
     pub fn bytes(&self) -> &[u8]
         ensures { IsRequestFrame result.now self.now }
     {
         &self.bytes
+    }
+
+    /// INIT of the version that the kernel speaks, 7.31, with the flags that it offers.
+    pub fn init(alloc: A, unique: u64) -> Result<RequestFrame<A>, AllocError>
+        ensures { IfOk result (λ frame. frame ≡ record { unique = unique; body = init }) }
+    {
+        let flags = InitFlags::ASYNC_READ.union(InitFlags::PARALLEL_DIROPS);
+        let body = RequestBody::Init {
+            major: 7,
+            minor: 31,
+            flags,
+        };
+        framed(
+            alloc,
+            &fk_wire::Request {
+                unique,
+                nodeid: 0,
+                body,
+            },
+        )
+    }
+
+    /// LOOKUP of a name in a directory.
+    pub fn lookup(
+        alloc: A,
+        unique: u64,
+        directory: u64,
+        name: &[u8],
+    ) -> Result<RequestFrame<A>, AllocError>
+        ensures { IfOk result (λ frame. frame ≡ record { unique = unique; body = asks (lookup directory name.now) }) }
+    {
+        let body = RequestBody::Lookup { name };
+        framed(
+            alloc,
+            &fk_wire::Request {
+                unique,
+                nodeid: directory,
+                body,
+            },
+        )
+    }
+
+    /// GETATTR of a node.
+    pub fn getattr(alloc: A, unique: u64, node: u64) -> Result<RequestFrame<A>, AllocError>
+        ensures { IfOk result (λ frame. frame ≡ record { unique = unique; body = asks (getattr node) }) }
+    {
+        let body = RequestBody::Getattr;
+        framed(
+            alloc,
+            &fk_wire::Request {
+                unique,
+                nodeid: node,
+                body,
+            },
+        )
     }
 }
