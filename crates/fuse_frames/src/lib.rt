@@ -1,8 +1,10 @@
 //! The machine's messages as frames: the one place where the grammar of frames and the machine of kernel and server meet.
 #![tactic(auto)]
 
+mod reply_body;
 mod reply_copy;
 mod request_frame;
 
+pub use reply_body::{attributes_of, milliseconds};
 pub use reply_copy::ReplyCopy;
 pub use request_frame::RequestFrame;

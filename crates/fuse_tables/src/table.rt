@@ -82,6 +82,16 @@ impl<V: Drop, A: Allocator + Copy> Table<V, A> {
         Some(&self.rows[place].1)
     }
 
+    /// The lowest key.
+    pub fn first_key(&self) -> Option<u64>
+        ensures { result ≡ option_map (λ e. e.0) (slice_get self.now.entries 0) }
+    {
+        match self.rows.first() {
+            Some(row) => Some(row.0),
+            None => None,
+        }
+    }
+
     /// Makes room for so many more entries. Where memory is refused nothing changes.
     pub fn reserve(&mut self, more: usize) -> Result<(), AllocError>
         ensures entries { self.new.entries ≡ self.old.entries }

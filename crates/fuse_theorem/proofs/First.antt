@@ -8,7 +8,7 @@ use Rattle.fuse_spec.specs.Worlds.{first_world}
 use Rattle.fuse_spec.specs.Plain.{first_plain}
 use Rattle.fuse_spec.specs.Denotes.{MeansIn}
 use Rattle.fuse_spec.specs.Alike.{Alike}
-use Rattle.fuse_theorem.proofs.Tables.{tie_no}
+use Rattle.fuse_spec.proofs.Tables.{tie_no}
 
 other_files : (file : ℕ) → file ≢ 0 → get first_plain.tree.files file ≡ None
 other_files file ne = ap (λ (b : Bool). cond b (Some a_directory) None) (tie_no file 0 ne)

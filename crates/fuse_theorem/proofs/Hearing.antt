@@ -8,7 +8,7 @@ use Rattle.fuse_spec.specs.declared.Binding.{Binding}
 use Rattle.fuse_spec.specs.Vfs.{Vfs, answered, bound, unbound, opened_by}
 use Rattle.fuse_spec.specs.Denotes.{OptionAlike, StateAlike, BindingAlike}
 use Rattle.fuse_spec.specs.Alike.{VfsAlike}
-use Rattle.fuse_theorem.proofs.Tables.{put_alike, gone_alike, name_put, name_put_there, name_gone, tie_alike}
+use Rattle.fuse_spec.proofs.Tables.{put_alike, gone_alike, name_put, name_put_there, name_gone, tie_alike}
 
 -- a file has one name on each side
 abbrev pub IsOneToOne : (ℕ → ℕ → Type 0) → Type 0

@@ -1,4 +1,3 @@
-pub mod Tables
 pub mod Walking
 pub mod Beginning
 pub mod Cases

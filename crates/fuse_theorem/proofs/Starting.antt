@@ -8,7 +8,7 @@ use Rattle.fuse_spec.specs.Begins.{Beginning, faulty, sets_out, uses, closes, be
 use Rattle.fuse_spec.specs.Vfs.{using, Vfs, numbered, begun, after_beginning, later}
 use Rattle.fuse_spec.specs.Denotes.{OptionAlike}
 use Rattle.fuse_spec.specs.Alike.{VfsAlike}
-use Rattle.fuse_theorem.proofs.Tables.{gone_alike}
+use Rattle.fuse_spec.proofs.Tables.{gone_alike}
 use Rattle.fuse_theorem.proofs.Beginning.{BeginningAlike, beginning_alike}
 use Rattle.fuse_theorem.proofs.Hearing.{IsOneToOne, answered_alike}
 use Rattle.fuse_theorem.proofs.Telling.{AdvanceAlike, asking_alike, walks_on_alike}

@@ -11,7 +11,7 @@ use Rattle.fuse_spec.specs.Vfs.{CallState, walking, doing, using, Vfs, Advance, 
 use Rattle.fuse_spec.specs.CallReplies.{operation_replied, call_replied}
 use Rattle.fuse_spec.specs.Denotes.{OptionAlike, OperationAlike, ReplyAlike, StateAlike, BindingAlike, WalkPlanAlike}
 use Rattle.fuse_spec.specs.Alike.{VfsAlike}
-use Rattle.fuse_theorem.proofs.Tables.{put_alike}
+use Rattle.fuse_spec.proofs.Tables.{put_alike}
 use Rattle.fuse_theorem.proofs.Cases.{SameOperation, both_getattr, both_mkdir, both_create, both_unlink, both_rmdir, both_rename, both_link, both_opening, both_readdir, both_read, both_write, same_operation, SameReply, same_found, same_missing, same_created, same_opened, same_attributes, same_listed, same_content, same_written, same_done, same_failed, same_reply}
 use Rattle.fuse_theorem.proofs.Walking.{WalkedAlike, LookAlike, walk_alike}
 use Rattle.fuse_theorem.proofs.Hearing.{IsOneToOne, answered_alike, opened_alike, bound_alike, unbound_alike}

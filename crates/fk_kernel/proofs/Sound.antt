@@ -1,0 +1,111 @@
+-- The kernel's calls stay sound as calls begin, are answered and collected.
+use Rattle.std.proofs.Common.{◌≡◌, ◌≢◌, ℕ, suc, ◌+◌, ◌≤◌, ◌<◌, ◌^◌, Bool, true, false, not, cond, List, [], ◌∷◌, length, filter, Option, Some, None, refl, sym, ap, subst, ◌∙◌, arith, inl, inr, true≢false, if◌then◌else◌}
+use Rattle.std.specs.Prelude.{nat_eq, is_some}
+use Rattle.std.specs.declared.cmp.Ordering.{Ordering}
+use Rattle.std.specs.declared.cmp.Ordering.TheVariants.{Less, Equal, Greater}
+use Rattle.std.specs.Ordering.{nat_cmp, is_eq}
+use Rattle.std.specs.FinMap.Entries.{by_order}
+use Rattle.std.proofs.lemmas.Bool.{cases_eq}
+use Rattle.std.proofs.lemmas.Bool.Decides.{eqb_tells}
+use Rattle.fuse_spec.specs.Maps.{Map, get, put, remove}
+use Rattle.fuse_spec.proofs.Tables.{tie_no, get_put_there, get_gone_here, get_gone_there}
+use Rattle.fk_kernel.specs.Soundness.{IsSound}
+
+module _ {V : Type 0} where
+  length_put : (m : Map V) (k : ℕ) (v : V) → length (put m k v) ≤ length m + 1
+  length_put [] k v = omega arith
+  length_put (e ∷ m) k v =
+      let rest = length_put m k v in
+      elim (nat_cmp k e.0) as (λ r. length (by_order r ((k, v) ∷ e ∷ m) ((e.0, v) ∷ m) (e ∷ put m k v)) ≤ length (e ∷ m) + 1) [ Less ↦ omega arith | Equal ↦ omega arith | Greater ↦ omega arith ]
+
+  length_kept : (m : Map V) (k : ℕ) → length (remove m k) ≤ length m
+  length_kept [] k = omega arith
+  length_kept (e ∷ m) k =
+      let rest = length_kept m k in
+      elim (nat_eq e.0 k) as (λ b. length (cond (not b) (e ∷ remove m k) (remove m k)) ≤ length (e ∷ m)) [ true ↦ omega arith | false ↦ omega arith ]
+
+  gone_none : (m : Map V) (k q : ℕ) → get m q ≡ None → get (remove m k) q ≡ None
+  gone_none m k q none =
+      elim (cases_eq q k) [ inl e ↦ subst (λ (n : ℕ). get (remove m k) n ≡ None) (sym e) (get_gone_here m k) | inr ne ↦ get_gone_there m k q ne ∙ none ]
+
+  length_gone : (m : Map V) (k : ℕ) → get m k ≢ None → length (remove m k) + 1 ≤ length m
+  length_gone [] k there = absurd (there refl)
+  length_gone (e ∷ m) k there =
+      let kept = length_kept m k in
+      elim (eqb_tells e.0 k) [
+        | inl h ↦ rw h.0 (omega arith)
+        | inr h ↦
+            let rest = length_gone m k (λ none. there (ap (λ (b : Bool). cond b (Some e.1) (get m k)) (tie_no k e.0 (λ q. h.1 (sym q))) ∙ none)) in
+            rw h.0 (omega arith)
+      ]
+
+  -- a look-up that finds something does not find nothing
+  pub there_is : (o : Option V) → is_some o ≡ true → o ≢ None
+  there_is None e = absurd (true≢false (sym e))
+  there_is (Some v) e = λ h. true≢false (ap is_some h)
+
+  none_is : (o : Option V) → is_some o ≡ false → o ≡ None
+  none_is None e = refl
+  none_is (Some v) e = absurd (true≢false e)
+
+module _ {V W : Type 0} (calls : Map V) (answers : Map W) (free coming : ℕ) (old : IsSound calls answers free coming) where
+  pub sound_begun_answered : (w : W) (free' : ℕ) → coming < 2 ^ 62 → length calls ≤ free' → IsSound calls (put answers coming w) free' (coming + 1)
+  sound_begun_answered w free' low room =
+      record {
+        calls_below = λ n le. old.calls_below n (omega arith);
+        answers_below = λ n le. get_put_there answers coming w n (λ e. absurd (omega arith)) ∙ old.answers_below n (omega arith);
+        apart = λ n there. get_put_there answers coming w n (λ e. there (old.calls_below n (omega arith))) ∙ old.apart n there;
+        room = room;
+        next = omega arith;
+      }
+
+  pub sound_begun_asking : (v : V) (free' : ℕ) → coming < 2 ^ 62 → length calls + 1 ≤ free' → IsSound (put calls coming v) answers free' (coming + 1)
+  sound_begun_asking v free' low room =
+      let long = length_put calls coming v in
+      record {
+        calls_below = λ n le. get_put_there calls coming v n (λ e. absurd (omega arith)) ∙ old.calls_below n (omega arith);
+        answers_below = λ n le. old.answers_below n (omega arith);
+        apart = λ n there. elim (cases_eq n coming) [ inl e ↦ old.answers_below n (omega arith) | inr ne ↦ old.apart n (λ none. there (get_put_there calls coming v n ne ∙ none)) ];
+        room = omega arith;
+        next = omega arith;
+      }
+
+  pub sound_answered : (call : ℕ) (w : W) (free' : ℕ) → get calls call ≢ None → free ≤ free' + 1 → IsSound (remove calls call) (put answers call w) free' coming
+  sound_answered call w free' there room =
+      let short = length_gone calls call there in
+      let fits = old.room in
+      record {
+        calls_below = λ n le. gone_none calls call n (old.calls_below n le);
+        answers_below = λ n le. get_put_there answers call w n (λ e. there (old.calls_below call (omega arith))) ∙ old.answers_below n le;
+        apart = λ n still. elim (cases_eq n call) [ inl e ↦ absurd (still (subst (λ (m : ℕ). get (remove calls call) m ≡ None) (sym e) (get_gone_here calls call))) | inr ne ↦ get_put_there answers call w n ne ∙ old.apart n (λ none. still (gone_none calls call n none)) ];
+        room = omega arith;
+        next = old.next;
+      }
+
+  pub sound_same : (call : ℕ) → is_some (get calls call) ≡ false → IsSound (remove calls call) answers free coming
+  sound_same call none =
+      let short = length_kept calls call in
+      let fits = old.room in
+      record {
+        calls_below = λ n le. gone_none calls call n (old.calls_below n le);
+        answers_below = old.answers_below;
+        apart = λ n there. old.apart n (λ gone. there (gone_none calls call n gone));
+        room = omega arith;
+        next = old.next;
+      }
+
+  pub sound_collected : (call : ℕ) (free' : ℕ) → free ≤ free' → IsSound calls (remove answers call) free' coming
+  sound_collected call free' room =
+      let fits = old.room in
+      record {
+        calls_below = old.calls_below;
+        answers_below = λ n le. gone_none answers call n (old.answers_below n le);
+        apart = λ n there. gone_none answers call n (old.apart n there);
+        room = omega arith;
+        next = old.next;
+      }
+
+-- room that grows by one where something was taken out grows
+pub more_room : (old new : ℕ) (taken : Bool) → (if taken then old + 1 else old) ≤ new → old ≤ new
+more_room old new true h = omega arith
+more_room old new false h = h

@@ -1,0 +1,112 @@
+//! Names in force, as a plain list.
+
+ghost use Rattle.std.specs.Prelude.{◌≡◌, ◌<◌, [], length, IfSome};
+
+use fuse_spec::Binding;
+use std::alloc::{AllocError, Allocator};
+use std::marker::Model;
+
+/// A name of a directory, and what it leads to.
+#[derive(Drop)]
+struct BoundName<A: Allocator> {
+    directory: u64,
+    name: Vec<u8, A>,
+    binding: Binding,
+}
+
+/// What a name that is valid leads to.
+#[derive(Clone, Copy, Debug, PartialEq, Eq)]
+pub(crate) enum Found {
+    Node(u64),
+    Missing,
+    Unknown,
+}
+
+/// The names in force, each once.
+#[derive(Drop)]
+pub(crate) struct Bindings<A: Allocator> {
+    names: Vec<BoundName<A>, A>,
+}
+
+impl<A: Allocator> Model for Bindings<A> {
+    ghost use Rattle.std.specs.Coded.{codes};
+    ghost use Rattle.fuse_spec.specs.Maps.{NameMap};
+    ghost use Rattle.fuse_spec.specs.declared.Binding.{Binding};
+    ghost use Rattle.fk_kernel.specs.Bound.{names_in};
+
+    ghost Value = { NameMap Binding };
+
+    ghost coded = { Prim.hlevel (codes) };
+
+    ghost view = { λ b. names_in b.names.items };
+}
+
+impl<A: Allocator + Copy> Bindings<A> {
+    pub(crate) fn new(alloc: A) -> Self
+        ensures { result ≡ [] }
+    {
+        Bindings {
+            names: Vec::new(alloc),
+        }
+    }
+
+    /// What the name leads to while it is valid: before its end.
+    pub(crate) fn find(&self, directory: u64, name: &[u8], now: u64) -> Found {
+        let Some(place) = place_of(&self.names, directory, name) else {
+            return Found::Unknown;
+        };
+        let binding = self.names[place].binding;
+        if now >= binding.until {
+            return Found::Unknown;
+        }
+        match binding.target {
+            Some(node) => Found::Node(node),
+            None => Found::Missing,
+        }
+    }
+
+    /// The name leads there from now on. Where memory is refused nothing changes.
+    pub(crate) fn put(
+        &mut self,
+        alloc: A,
+        directory: u64,
+        name: &[u8],
+        binding: Binding,
+    ) -> Result<(), AllocError> {
+        match place_of(&self.names, directory, name) {
+            Some(place) => {
+                self.names[place].binding = binding;
+                Ok(())
+            }
+            None => {
+                self.names.reserve(1)?;
+                let name = name.to_vec(alloc)?;
+                self.names.push_reserved(BoundName {
+                    directory,
+                    name,
+                    binding,
+                });
+                Ok(())
+            }
+        }
+    }
+
+    pub(crate) fn clear(&mut self)
+        ensures { self.new ≡ [] }
+    {
+        self.names.clear();
+    }
+}
+
+/// Where a name stands in the list.
+fn place_of<A: Allocator>(names: &[BoundName<A>], directory: u64, name: &[u8]) -> Option<usize>
+    ensures { IfSome result (λ place. place < length names.now) }
+{
+    for place in 0..names.len() {
+        let bound = &names[place];
+        if bound.directory == directory && bound.name.as_slice() == name {
+            return Some(place);
+        }
+    }
+    None
+}

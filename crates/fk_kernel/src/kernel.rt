@@ -1,0 +1,373 @@
+//! The kernel.
+
+ghost use Rattle.std.specs.Prelude.{length, ◌≡◌, ◌<◌, ◌^◌, OnErr, IfOk, IfErr};
+ghost use Rattle.fuse_spec.specs.Worlds.{first_kernel};
+
+use crate::bindings::{Bindings, Found};
+use crate::call::{Answer, Call};
+use crate::path::{path_fault, word_len};
+use crate::waiting::{StoredAnswer, WaitingCall};
+use fk_queues::{QueueTable, Queues};
+use fk_wire::{Opcode, ReplyBody, read_reply, read_reply_head};
+use fuse_frames::{RequestFrame, attributes_of, milliseconds};
+use fuse_spec::{Binding, Phase, Purpose, Refusal, WriteResult};
+use fuse_tables::Table;
+use std::alloc::Global;
+use std::marker::Model;
+
+/// The root's node.
+const ROOT: u64 = 1;
+
+/// At most so many calls are unanswered.
+const MAX_CALLS: usize = 64;
+
+/// No counter gives a number from here on.
+const COUNTER_END: u64 = 0x4000_0000_0000_0000;
+
+const ENOENT: u32 = 2;
+
+const EIO: u32 = 5;
+
+const ENOTCONN: u32 = 107;
+
+/// The kernel's half of the protocol, over any queues. It is told of system calls, hands out requests and takes any
+/// bytes as replies.
+#[derive(Drop)]
+pub struct KernelOf<Q: QueueTable<Purpose>> {
+    alloc: Q::Heap,
+    phase: Phase,
+    queues: Q,
+    calls: Table<WaitingCall<Q::Heap>, Q::Heap>,
+    answers: Table<StoredAnswer, Q::Heap>,
+    names: Bindings<Q::Heap>,
+    next_call: u64,
+    clock: u64,
+}
+
+/// The kernel of the program.
+pub type Kernel<A = Global> = KernelOf<Queues<Purpose, A>>;
+
+impl<Q: QueueTable<Purpose>> Model for KernelOf<Q> {
+    ghost use Rattle.std.specs.Prelude.{[]};
+    ghost use Rattle.std.specs.Coded.{codes};
+    ghost use Rattle.fuse_spec.specs.Kernel.{Kernel as KernelState};
+    ghost use Rattle.fk_kernel.specs.Soundness.{IsSound};
+
+    ghost Value = { KernelState };
+
+    ghost coded = { Prim.hlevel (codes) };
+
+    ghost view = { λ k. record { phase = k.phase; vfs = record { calls = k.calls.entries; names = k.names; opens = []; answers = k.answers.entries; next_call = k.next_call; clock = k.clock; root = 1 }; queues = Q.state k.queues; nodes = []; closing = [] } };
+
+    ghost invariant = { λ k. IsSound k.calls.entries k.answers.entries k.answers.room k.next_call };
+}
+
+impl<Q: QueueTable<Purpose> + Drop> KernelOf<Q> {
+    /// A kernel before its first mount.
+    pub fn new(alloc: Q::Heap) -> Self
+        ensures { result ≡ first_kernel }
+    {
+        KernelOf {
+            alloc,
+            phase: Phase::Down,
+            queues: Q::new(alloc),
+            calls: Table::new(alloc),
+            answers: Table::new(alloc),
+            names: Bindings::new(alloc),
+            next_call: 1,
+            clock: 0,
+        }
+    }
+
+    fn is_live(&self) -> bool {
+        matches!(self.phase, Phase::Starting | Phase::Ready)
+    }
+
+    /// Mounts anew: everything of the old mount is given up, and INIT is queued.
+    ///
+    /// # Errors
+    ///
+    /// `Busy` where a live mount has unanswered calls; then `NoMemory`. The kernel is as before.
+    pub fn mount(&mut self) -> Result<(), Refusal> {
+        if self.is_live() && self.calls.len() != 0 {
+            return Err(Refusal::Busy);
+        }
+        let mut queues = Q::new(self.alloc);
+        if queues.reserve(1, 0).is_err() {
+            return Err(Refusal::NoMemory);
+        }
+        let _init = queues.enqueue(Purpose::Init);
+        self.queues = queues;
+        self.calls.clear();
+        self.names.clear();
+        self.phase = Phase::Starting;
+        Ok(())
+    }
+
+    /// Begins a call and gives its number. It is answered at once, or its first request is queued.
+    ///
+    /// # Errors
+    ///
+    /// `NotReady` before INIT is answered, `Full` with 64 unanswered calls, `Exhausted` where no number is left; then
+    /// `NoMemory`. The kernel is as before.
+    pub fn begin(&mut self, call: &Call<'_>) -> Result<u64, Refusal> {
+        if !matches!(self.phase, Phase::Ready | Phase::Aborted) {
+            return Err(Refusal::NotReady);
+        }
+        if self.calls.len() >= MAX_CALLS {
+            return Err(Refusal::Full);
+        }
+        if self.next_call >= COUNTER_END {
+            return Err(Refusal::Exhausted);
+        }
+        let Call::Stat { path } = call;
+        match self.answer_at_once(path) {
+            Some(errno) => self.begin_answered(Answer::Failed { errno }),
+            None => self.begin_asking(path),
+        }
+    }
+
+    /// The error that answers a `stat` of a path at once, if one does.
+    fn answer_at_once(&self, path: &[u8]) -> Option<u32> {
+        if matches!(self.phase, Phase::Aborted) {
+            return Some(ENOTCONN);
+        }
+        if let Some(fault) = path_fault(path) {
+            return Some(fault);
+        }
+        if path.len() > 1 {
+            let rest = &path[1..];
+            let len = word_len(rest);
+            if self.names.find(ROOT, &rest[..len], self.clock) == Found::Missing {
+                return Some(ENOENT);
+            }
+        }
+        None
+    }
+
+    /// A call of the next number begins and is answered at once.
+    fn begin_answered(&mut self, answer: Answer) -> Result<u64, Refusal>
+        requires number { self.old.vfs.next_call < 2 ^ 62 }
+        requires few { length self.old.vfs.calls < 64 }
+        ensures { OnErr result (self.new ≡ self.old) }
+    {
+        let Ok(()) = self.answers.reserve(MAX_CALLS) else {
+            return Err(Refusal::NoMemory);
+        };
+        let call = self.next_call;
+        self.answers.put(call, StoredAnswer::new(answer));
+        self.next_call = call + 1;
+        Ok(call)
+    }
+
+    /// A call of the next number begins, and its first request is queued.
+    fn begin_asking(&mut self, path: &[u8]) -> Result<u64, Refusal>
+        requires number { self.old.vfs.next_call < 2 ^ 62 }
+        requires few { length self.old.vfs.calls < 64 }
+        ensures { OnErr result (self.new ≡ self.old) }
+    {
+        if self.queues.numbers_left() == 0 {
+            return Err(Refusal::Exhausted);
+        }
+        let Ok(()) = self.answers.reserve(MAX_CALLS) else {
+            return Err(Refusal::NoMemory);
+        };
+        let Ok(()) = self.calls.reserve(1) else {
+            return Err(Refusal::NoMemory);
+        };
+        let Ok(()) = self.queues.reserve(1, 0) else {
+            return Err(Refusal::NoMemory);
+        };
+        let words = match path {
+            [_, rest @ ..] => rest.to_vec(self.alloc),
+            [] => path.to_vec(self.alloc),
+        };
+        let Ok(words) = words else {
+            return Err(Refusal::NoMemory);
+        };
+        let call = self.next_call;
+        let _unique = self.queues.enqueue(Purpose::Call(call));
+        self.calls.put(call, WaitingCall::new(words));
+        self.next_call = call + 1;
+        Ok(call)
+    }
+
+    /// Reads the pending request at a place, counted from 0 in order of queuing. It is in processing from then on.
+    ///
+    /// # Errors
+    ///
+    /// `NotReady` where the mount is not live, `InterruptFirst` while an INTERRUPT is queued, `NoSuch` where no request
+    /// is pending there; then `NoMemory`. The kernel is as before.
+    pub fn read_pending(&mut self, place: u64) -> Result<RequestFrame<Q::Heap>, Refusal> {
+        if !self.is_live() {
+            return Err(Refusal::NotReady);
+        }
+        if self.queues.first_interrupt().is_some() {
+            return Err(Refusal::InterruptFirst);
+        }
+        let place = place as usize;
+        let Some((unique, purpose)) = self.queues.pending(place) else {
+            return Err(Refusal::NoSuch);
+        };
+        let frame = self.request_frame(unique, *purpose)?;
+        let _unique = self.queues.read_pending(place);
+        Ok(frame)
+    }
+
+    fn request_frame(
+        &self,
+        unique: u64,
+        purpose: Purpose,
+    ) -> Result<RequestFrame<Q::Heap>, Refusal> {
+        let frame = match purpose {
+            Purpose::Init => RequestFrame::init(self.alloc, unique),
+            Purpose::Release(_) => return Err(Refusal::NoSuch),
+            Purpose::Call(call) => {
+                let Some(waiting) = self.calls.get(call) else {
+                    return Err(Refusal::NoSuch);
+                };
+                match waiting.word() {
+                    Some(word) => RequestFrame::lookup(self.alloc, unique, ROOT, word),
+                    None => RequestFrame::getattr(self.alloc, unique, ROOT),
+                }
+            }
+        };
+        match frame {
+            Ok(frame) => Ok(frame),
+            Err(_) => Err(Refusal::NoMemory),
+        }
+    }
+
+    /// Takes any bytes as a reply.
+    ///
+    /// # Errors
+    ///
+    /// `NoMemory`; the kernel is as before.
+    pub fn write(&mut self, bytes: &[u8]) -> Result<WriteResult, Refusal> {
+        let Ok((error, unique)) = read_reply_head(bytes) else {
+            return Ok(WriteResult::Invalid);
+        };
+        if unique % 2 == 1 {
+            return Ok(self.write_to_interrupt(unique - 1, error, bytes));
+        }
+        let Some(purpose) = self.queues.waiting(unique) else {
+            return Ok(WriteResult::NoEntry);
+        };
+        match *purpose {
+            Purpose::Init => Ok(self.write_to_init(unique, bytes)),
+            Purpose::Release(_) => Ok(WriteResult::Invalid),
+            Purpose::Call(call) => self.write_to_call(unique, call, bytes),
+        }
+    }
+
+    /// A reply to the INTERRUPT of a request: it counts while that request is read and unanswered.
+    fn write_to_interrupt(&mut self, original: u64, error: i32, bytes: &[u8]) -> WriteResult {
+        if self.queues.waiting(original).is_none() {
+            return WriteResult::NoEntry;
+        }
+        if bytes.len() != 16 {
+            return WriteResult::Invalid;
+        }
+        match error {
+            -11 => self.queues.again(original),
+            -38 => self.queues.no_interrupts(),
+            _ => {}
+        }
+        WriteResult::Accepted
+    }
+
+    /// A well-formed answer of 7.31 or later makes the mount ready. For now any other is refused and changes nothing.
+    fn write_to_init(&mut self, unique: u64, bytes: &[u8]) -> WriteResult {
+        match read_reply(Opcode::Init, bytes) {
+            Ok(reply) => match reply.body {
+                ReplyBody::Init {
+                    major: 7,
+                    minor,
+                    ..
+                } if minor >= 31 => {
+                    let _kept = self.queues.answer(unique);
+                    self.phase = Phase::Ready;
+                    WriteResult::Accepted
+                }
+                _ => WriteResult::Invalid,
+            },
+            Err(_) => WriteResult::Invalid,
+        }
+    }
+
+    fn write_to_call(
+        &mut self,
+        unique: u64,
+        call: u64,
+        bytes: &[u8],
+    ) -> Result<WriteResult, Refusal> {
+        let Some(waiting) = self.calls.get(call) else {
+            return Ok(WriteResult::NoEntry);
+        };
+        let opcode = match waiting.word() {
+            Some(_) => Opcode::Lookup,
+            None => Opcode::Getattr,
+        };
+        let Ok(reply) = read_reply(opcode, bytes) else {
+            self.answer_call(unique, call, Answer::Failed { errno: EIO });
+            return Ok(WriteResult::Invalid);
+        };
+        if reply.error != 0 {
+            let errno = reply.error.unsigned_abs();
+            self.answer_call(unique, call, Answer::Failed { errno });
+            return Ok(WriteResult::Accepted);
+        }
+        match reply.body {
+            ReplyBody::Attr { attr } => {
+                self.answer_call(unique, call, Answer::Attributes(attributes_of(&attr)));
+                Ok(WriteResult::Accepted)
+            }
+            ReplyBody::Entry { entry } if entry.nodeid == 0 => {
+                let valid_ms = milliseconds(entry.entry_valid, entry.entry_valid_nsec);
+                self.name_is_missing(call, valid_ms)?;
+                self.answer_call(unique, call, Answer::Failed { errno: ENOENT });
+                Ok(WriteResult::Accepted)
+            }
+            // For now a reply that names a node is refused and changes nothing.
+            _ => Ok(WriteResult::Invalid),
+        }
+    }
+
+    /// The word that a call looks up is missing for so many milliseconds from now on.
+    fn name_is_missing(&mut self, call: u64, valid_ms: u64) -> Result<(), Refusal> {
+        let Some(waiting) = self.calls.get(call) else {
+            return Ok(());
+        };
+        let Some(word) = waiting.word() else {
+            return Ok(());
+        };
+        let binding = Binding {
+            target: None,
+            until: self.clock.saturating_add(valid_ms),
+        };
+        match self.names.put(self.alloc, ROOT, word, binding) {
+            Ok(()) => Ok(()),
+            Err(_) => Err(Refusal::NoMemory),
+        }
+    }
+
+    /// The call's request ends, and the call is answered.
+    fn answer_call(&mut self, unique: u64, call: u64, answer: Answer) {
+        let _kept = self.queues.answer(unique);
+        if self.calls.remove(call).is_none() {
+            return;
+        }
+        self.answers.put(call, StoredAnswer::new(answer));
+    }
+
+    /// Hands out, once, the answer of the lowest answered call.
+    pub fn collect(&mut self) -> Option<(u64, Answer)> {
+        let Some(call) = self.answers.first_key() else {
+            return None;
+        };
+        match self.answers.remove(call) {
+            Some(answer) => Some((call, answer.into_answer())),
+            None => None,
+        }
+    }
+}

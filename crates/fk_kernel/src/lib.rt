@@ -1,0 +1,11 @@
+//! The kernel's half of the protocol: calls, names in force and requests, against any bytes that are written as replies.
+#![tactic(auto)]
+
+mod bindings;
+mod call;
+mod kernel;
+mod path;
+mod waiting;
+
+pub use call::{Answer, Call};
+pub use kernel::Kernel;
