@@ -1,6 +1,6 @@
 //! Names in force, as a plain list.
 
-ghost use Rattle.std.specs.Prelude.{◌≡◌, ◌<◌, [], length, IfSome};
+ghost use Rattle.std.specs.Prelude.{◌≡◌, ◌<◌, [], length, IfSome, OnErr};
 
 use fuse_spec::Binding;
 use std::alloc::{AllocError, Allocator};
@@ -72,7 +72,9 @@ impl<A: Allocator + Copy> Bindings<A> {
         directory: u64,
         name: &[u8],
         binding: Binding,
-    ) -> Result<(), AllocError> {
+    ) -> Result<(), AllocError>
+        ensures { OnErr result (self.new ≡ self.old) }
+    {
         match place_of(&self.names, directory, name) {
             Some(place) => {
                 self.names[place].binding = binding;

@@ -1,7 +1,9 @@
 //! The kernel.
 
-ghost use Rattle.std.specs.Prelude.{length, ◌≡◌, ◌<◌, ◌^◌, OnErr, IfOk, IfErr};
+ghost use Rattle.std.specs.Prelude.{length, ◌≡◌, ◌<◌, ◌^◌, ◌+◌, [], OnOk, OnErr, IfOk};
 ghost use Rattle.fuse_spec.specs.Worlds.{first_kernel};
+ghost use Rattle.fuse_spec.specs.Queues.{empty_queues};
+ghost use Rattle.fuse_spec.specs.QueueCalls.{after_enqueue, after_read_pending};
 
 use crate::bindings::{Bindings, Found};
 use crate::call::{Answer, Call};
@@ -88,7 +90,14 @@ impl<Q: QueueTable<Purpose> + Drop> KernelOf<Q> {
     /// # Errors
     ///
     /// `Busy` where a live mount has unanswered calls; then `NoMemory`. The kernel is as before.
-    pub fn mount(&mut self) -> Result<(), Refusal> {
+    pub fn mount(&mut self) -> Result<(), Refusal>
+        ensures err { OnErr result (self.new ≡ self.old) }
+        ensures phase { OnOk result (self.new.phase ≡ Phase.Starting) }
+        ensures queues { OnOk result (self.new.queues ≡ after_enqueue empty_queues Purpose.Init) }
+        ensures calls { OnOk result (self.new.vfs.calls ≡ []) }
+        ensures names { OnOk result (self.new.vfs.names ≡ []) }
+        ensures answers { OnOk result (self.new.vfs.answers ≡ self.old.vfs.answers) }
+    {
         if self.is_live() && self.calls.len() != 0 {
             return Err(Refusal::Busy);
         }
@@ -110,7 +119,11 @@ impl<Q: QueueTable<Purpose> + Drop> KernelOf<Q> {
     ///
     /// `NotReady` before INIT is answered, `Full` with 64 unanswered calls, `Exhausted` where no number is left; then
     /// `NoMemory`. The kernel is as before.
-    pub fn begin(&mut self, call: &Call<'_>) -> Result<u64, Refusal> {
+    pub fn begin(&mut self, call: &Call<'_>) -> Result<u64, Refusal>
+        ensures err { OnErr result (self.new ≡ self.old) }
+        ensures number { IfOk result (λ call. call ≡ self.old.vfs.next_call) }
+        ensures next { IfOk result (λ call. self.new.vfs.next_call ≡ call + 1) }
+    {
         if !matches!(self.phase, Phase::Ready | Phase::Aborted) {
             return Err(Refusal::NotReady);
         }
@@ -149,7 +162,9 @@ impl<Q: QueueTable<Purpose> + Drop> KernelOf<Q> {
     fn begin_answered(&mut self, answer: Answer) -> Result<u64, Refusal>
         requires number { self.old.vfs.next_call < 2 ^ 62 }
         requires few { length self.old.vfs.calls < 64 }
-        ensures { OnErr result (self.new ≡ self.old) }
+        ensures err { OnErr result (self.new ≡ self.old) }
+        ensures number { IfOk result (λ call. call ≡ self.old.vfs.next_call) }
+        ensures next { IfOk result (λ call. self.new.vfs.next_call ≡ call + 1) }
     {
         let Ok(()) = self.answers.reserve(MAX_CALLS) else {
             return Err(Refusal::NoMemory);
@@ -164,7 +179,9 @@ impl<Q: QueueTable<Purpose> + Drop> KernelOf<Q> {
     fn begin_asking(&mut self, path: &[u8]) -> Result<u64, Refusal>
         requires number { self.old.vfs.next_call < 2 ^ 62 }
         requires few { length self.old.vfs.calls < 64 }
-        ensures { OnErr result (self.new ≡ self.old) }
+        ensures err { OnErr result (self.new ≡ self.old) }
+        ensures number { IfOk result (λ call. call ≡ self.old.vfs.next_call) }
+        ensures next { IfOk result (λ call. self.new.vfs.next_call ≡ call + 1) }
     {
         if self.queues.numbers_left() == 0 {
             return Err(Refusal::Exhausted);
@@ -198,7 +215,11 @@ impl<Q: QueueTable<Purpose> + Drop> KernelOf<Q> {
     ///
     /// `NotReady` where the mount is not live, `InterruptFirst` while an INTERRUPT is queued, `NoSuch` where no request
     /// is pending there; then `NoMemory`. The kernel is as before.
-    pub fn read_pending(&mut self, place: u64) -> Result<RequestFrame<Q::Heap>, Refusal> {
+    pub fn read_pending(&mut self, place: u64) -> Result<RequestFrame<Q::Heap>, Refusal>
+        ensures err { OnErr result (self.new ≡ self.old) }
+        ensures queues { OnOk result (self.new.queues ≡ after_read_pending self.old.queues place) }
+        ensures vfs { OnOk result (self.new.vfs ≡ self.old.vfs) }
+    {
         if !self.is_live() {
             return Err(Refusal::NotReady);
         }
@@ -243,7 +264,9 @@ impl<Q: QueueTable<Purpose> + Drop> KernelOf<Q> {
     /// # Errors
     ///
     /// `NoMemory`; the kernel is as before.
-    pub fn write(&mut self, bytes: &[u8]) -> Result<WriteResult, Refusal> {
+    pub fn write(&mut self, bytes: &[u8]) -> Result<WriteResult, Refusal>
+        ensures { OnErr result (self.new ≡ self.old) }
+    {
         let Ok((error, unique)) = read_reply_head(bytes) else {
             return Ok(WriteResult::Invalid);
         };
@@ -300,7 +323,9 @@ impl<Q: QueueTable<Purpose> + Drop> KernelOf<Q> {
         unique: u64,
         call: u64,
         bytes: &[u8],
-    ) -> Result<WriteResult, Refusal> {
+    ) -> Result<WriteResult, Refusal>
+        ensures { OnErr result (self.new ≡ self.old) }
+    {
         let Some(waiting) = self.calls.get(call) else {
             return Ok(WriteResult::NoEntry);
         };
@@ -334,7 +359,9 @@ impl<Q: QueueTable<Purpose> + Drop> KernelOf<Q> {
     }
 
     /// The word that a call looks up is missing for so many milliseconds from now on.
-    fn name_is_missing(&mut self, call: u64, valid_ms: u64) -> Result<(), Refusal> {
+    fn name_is_missing(&mut self, call: u64, valid_ms: u64) -> Result<(), Refusal>
+        ensures { OnErr result (self.new ≡ self.old) }
+    {
         let Some(waiting) = self.calls.get(call) else {
             return Ok(());
         };

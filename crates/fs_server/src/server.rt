@@ -1,0 +1,213 @@
+//! The server.
+
+use crate::held::{HeldRequest, KeptReply, SentCopy};
+use fk_wire::{Request, RequestBody, WireFault, read_request};
+use fuse_frames::ReplyCopy;
+use fuse_spec::{Attributes, Kind, Refusal, ReplyResult, Taken, Validity};
+use fuse_tables::Table;
+use std::alloc::{Allocator, Global};
+use thiserror::Error;
+
+/// The root's node.
+const ROOT: u64 = 1;
+
+/// No counter gives a number from here on.
+const COUNTER_END: u64 = 0x4000_0000_0000_0000;
+
+/// The longest validity of a name, a day in milliseconds (this project's rule).
+const MAX_VALIDITY: u64 = 86_400_000;
+
+/// What is wrong with a request frame: the first that applies.
+#[derive(Clone, Copy, Debug, PartialEq, Eq, Error)]
+pub enum ServerFault {
+    #[error("the frame is no request that is served")]
+    Wire = 1,
+    #[error("the request names a node that is not held")]
+    UnknownNode = 2,
+    #[error("more lookups are forgotten than the node has")]
+    TooManyForgets = 3,
+    #[error("a request under this unique is held, or its reply is kept")]
+    RepeatedUnique = 4,
+    #[error("a counter is at its end")]
+    Exhausted = 5,
+    #[error("out of memory")]
+    Memory = 6,
+}
+
+/// What performing a request came to: the reply's error, and its first copy.
+#[derive(Drop)]
+pub struct Done<A: Allocator = Global> {
+    pub errno: u32,
+    pub copy: ReplyCopy<A>,
+}
+
+/// The server's half of the protocol. For now its tree is the root alone.
+#[derive(Drop)]
+pub struct Server<A: Allocator + Copy = Global> {
+    alloc: A,
+    held: Table<HeldRequest<A>, A>,
+    kept: Table<KeptReply, A>,
+    copies: Table<SentCopy, A>,
+    next_copy: u64,
+    validity: Validity,
+}
+
+impl<A: Allocator + Copy> Server<A> {
+    /// A server before its first mount.
+    pub fn new(alloc: A) -> Self {
+        Server {
+            alloc,
+            held: Table::new(alloc),
+            kept: Table::new(alloc),
+            copies: Table::new(alloc),
+            next_copy: 1,
+            validity: Validity {
+                found_ms: 0,
+                missing_ms: 0,
+            },
+        }
+    }
+
+    /// A new mount: held requests, kept replies and copies go; copy numbers go on. Validities are in milliseconds.
+    pub fn remount(&mut self, found_ms: u64, missing_ms: u64) {
+        self.held.clear();
+        self.kept.clear();
+        self.copies.clear();
+        self.validity = Validity {
+            found_ms,
+            missing_ms: missing_ms.min(MAX_VALIDITY),
+        };
+    }
+
+    /// Takes a request frame: it is held until it is performed.
+    ///
+    /// # Errors
+    ///
+    /// The first of `Wire`, `UnknownNode`, `RepeatedUnique` and `Memory` that applies; the server is as before.
+    /// For now INIT, LOOKUP and GETATTR alone are served.
+    pub fn take(&mut self, bytes: &[u8]) -> Result<(u64, Taken), ServerFault> {
+        let Ok(request) = read_request(bytes) else {
+            return Err(ServerFault::Wire);
+        };
+        if !is_served(&request) {
+            return Err(ServerFault::Wire);
+        }
+        if request.nodeid != ROOT && !matches!(request.body, RequestBody::Init { .. }) {
+            return Err(ServerFault::UnknownNode);
+        }
+        let unique = request.unique;
+        if self.held.get(unique).is_some() || self.kept.get(unique).is_some() {
+            return Err(ServerFault::RepeatedUnique);
+        }
+        let Ok(()) = self.held.reserve(1) else {
+            return Err(ServerFault::Memory);
+        };
+        let held = self.held_request(&request)?;
+        self.held.put(unique, held);
+        Ok((unique, Taken::Held))
+    }
+
+    fn held_request(&self, request: &Request<'_>) -> Result<HeldRequest<A>, ServerFault> {
+        match request.body {
+            RequestBody::Init { flags, .. } => Ok(HeldRequest::Init { flags }),
+            RequestBody::Lookup { name } => match name.to_vec(self.alloc) {
+                Ok(name) => Ok(HeldRequest::Lookup { name }),
+                Err(_) => Err(ServerFault::Memory),
+            },
+            _ => Ok(HeldRequest::Getattr),
+        }
+    }
+
+    /// Performs a held request, and gives the first copy of its reply.
+    ///
+    /// # Errors
+    ///
+    /// `NoSuch` where no request is held under the unique, `Exhausted` where no copy number is left; then `NoMemory`.
+    /// The server is as before.
+    pub fn perform(&mut self, unique: u64) -> Result<Done<A>, Refusal> {
+        if self.held.get(unique).is_none() {
+            return Err(Refusal::NoSuch);
+        }
+        if self.next_copy >= COUNTER_END {
+            return Err(Refusal::Exhausted);
+        }
+        let number = self.next_copy;
+        if self.kept.get(unique).is_some() || self.copies.get(number).is_some() {
+            return Err(Refusal::NoSuch);
+        }
+        let Ok(()) = self.kept.reserve(1) else {
+            return Err(Refusal::NoMemory);
+        };
+        let Ok(()) = self.copies.reserve(1) else {
+            return Err(Refusal::NoMemory);
+        };
+        let copy = self.reply(unique, number)?;
+        let _held = self.held.remove(unique);
+        self.kept.put(unique, KeptReply { first: number });
+        self.copies.put(
+            number,
+            SentCopy {
+                unique,
+                first: number,
+            },
+        );
+        self.next_copy = number + 1;
+        Ok(Done { errno: 0, copy })
+    }
+
+    /// The reply to a held request. In a tree that is the root alone each name is missing.
+    fn reply(&self, unique: u64, number: u64) -> Result<ReplyCopy<A>, Refusal> {
+        let Some(held) = self.held.get(unique) else {
+            return Err(Refusal::NoSuch);
+        };
+        let copy = match held {
+            HeldRequest::Init { flags } => ReplyCopy::agreed(self.alloc, number, unique, *flags),
+            HeldRequest::Lookup { .. } => {
+                let missing_ms = self.validity.missing_ms.min(MAX_VALIDITY);
+                ReplyCopy::missing(self.alloc, number, unique, missing_ms)
+            }
+            HeldRequest::Getattr => {
+                ReplyCopy::attributes(self.alloc, number, unique, &root_attributes())
+            }
+        };
+        match copy {
+            Ok(copy) => Ok(copy),
+            Err(_) => Err(Refusal::NoMemory),
+        }
+    }
+
+    /// Hands the server the result of one copy. Its reply is not kept any longer.
+    ///
+    /// # Errors
+    ///
+    /// `NoSuch` where no copy of this number was sent, or it is settled already; the server is as before.
+    pub fn settle(&mut self, result: ReplyResult) -> Result<(), Refusal> {
+        let Some(copy) = self.copies.remove(result.number) else {
+            return Err(Refusal::NoSuch);
+        };
+        if let Some(kept) = self.kept.get(copy.unique)
+            && kept.first == copy.first
+        {
+            let _kept = self.kept.remove(copy.unique);
+        }
+        Ok(())
+    }
+}
+
+/// Whether a request is one of those that are served so far.
+fn is_served(request: &Request<'_>) -> bool {
+    matches!(
+        request.body,
+        RequestBody::Init { .. } | RequestBody::Lookup { .. } | RequestBody::Getattr
+    )
+}
+
+/// The root's attributes: born first, with one name.
+fn root_attributes() -> Attributes {
+    Attributes {
+        kind: Kind::Directory,
+        ino: 1,
+        size: 0,
+        nlink: 1,
+    }
+}
