@@ -181,8 +181,8 @@ impl<A: Allocator + Copy> Server<A> {
     /// # Errors
     ///
     /// `NoSuch` where no copy of this number was sent, or it is settled already; the server is as before.
-    pub fn settle(&mut self, result: ReplyResult) -> Result<(), Refusal> {
-        let Some(copy) = self.copies.remove(result.number) else {
+    pub fn settle(&mut self, settled: ReplyResult) -> Result<(), Refusal> {
+        let Some(copy) = self.copies.remove(settled.number) else {
             return Err(Refusal::NoSuch);
         };
         if let Some(kept) = self.kept.get(copy.unique)
