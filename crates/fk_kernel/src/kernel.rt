@@ -209,6 +209,20 @@ impl<Q: QueueTable<Purpose> + Drop> KernelOf<Q> {
         Ok(call)
     }
 
+    /// Why the pending request at a place cannot be read, want of memory aside.
+    pub fn read_refusal(&self, place: u64) -> Option<Refusal> {
+        if !self.is_live() {
+            return Some(Refusal::NotReady);
+        }
+        if self.queues.first_interrupt().is_some() {
+            return Some(Refusal::InterruptFirst);
+        }
+        if self.queues.pending(place as usize).is_none() {
+            return Some(Refusal::NoSuch);
+        }
+        None
+    }
+
     /// Reads the pending request at a place, counted from 0 in order of queuing. It is in processing from then on.
     ///
     /// # Errors
@@ -220,11 +234,8 @@ impl<Q: QueueTable<Purpose> + Drop> KernelOf<Q> {
         ensures queues { OnOk result (self.new.queues ≡ after_read_pending self.old.queues place) }
         ensures vfs { OnOk result (self.new.vfs ≡ self.old.vfs) }
     {
-        if !self.is_live() {
-            return Err(Refusal::NotReady);
-        }
-        if self.queues.first_interrupt().is_some() {
-            return Err(Refusal::InterruptFirst);
+        if let Some(refusal) = self.read_refusal(place) {
+            return Err(refusal);
         }
         let place = place as usize;
         let Some((unique, purpose)) = self.queues.pending(place) else {

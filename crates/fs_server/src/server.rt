@@ -1,5 +1,7 @@
 //! The server.
 
+ghost use Rattle.std.specs.Prelude.{◌≡◌, ◌<◌, ◌^◌};
+
 use crate::held::{HeldRequest, KeptReply, SentCopy};
 use fk_wire::{Request, RequestBody, WireFault, read_request};
 use fuse_frames::ReplyCopy;
@@ -118,6 +120,19 @@ impl<A: Allocator + Copy> Server<A> {
         }
     }
 
+    /// Why a request cannot be performed, want of memory aside.
+    pub fn perform_refusal(&self, unique: u64) -> Option<Refusal>
+        ensures { result ≡ None → self.now.next_copy < 2 ^ 62 }
+    {
+        if self.held.get(unique).is_none() {
+            return Some(Refusal::NoSuch);
+        }
+        if self.next_copy >= COUNTER_END {
+            return Some(Refusal::Exhausted);
+        }
+        None
+    }
+
     /// Performs a held request, and gives the first copy of its reply.
     ///
     /// # Errors
@@ -125,11 +140,8 @@ impl<A: Allocator + Copy> Server<A> {
     /// `NoSuch` where no request is held under the unique, `Exhausted` where no copy number is left; then `NoMemory`.
     /// The server is as before.
     pub fn perform(&mut self, unique: u64) -> Result<Done<A>, Refusal> {
-        if self.held.get(unique).is_none() {
-            return Err(Refusal::NoSuch);
-        }
-        if self.next_copy >= COUNTER_END {
-            return Err(Refusal::Exhausted);
+        if let Some(refusal) = self.perform_refusal(unique) {
+            return Err(refusal);
         }
         let number = self.next_copy;
         if self.kept.get(unique).is_some() || self.copies.get(number).is_some() {

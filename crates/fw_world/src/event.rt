@@ -1,0 +1,55 @@
+//! Events, and what they come to.
+
+use fk_kernel::Call;
+use fk_wire::Opcode;
+use fuse_spec::Taken;
+
+/// One event: an atomic step of the world. Paths are lent.
+#[derive(Clone, Copy, Debug)]
+pub enum Event<'a> {
+    /// The kernel mounts, and the server with these validities of found and of missing names, in milliseconds.
+    Mount { found_ms: u64, missing_ms: u64 },
+    /// A system call begins.
+    Call(Call<'a>),
+    /// The pending request at a place, counted from 0, is read and goes into the request link.
+    ReadPending(u64),
+    /// The server takes the request at a place of the request link.
+    Take(u64),
+    /// The server performs the request that it holds under a unique, and a copy of its reply goes into the reply link.
+    Do(u64),
+    /// The kernel takes the copy at a place of the reply link, and its result goes into the result link.
+    Write(u64),
+    /// The server takes the result at a place of the result link.
+    Settle(u64),
+}
+
+/// What an accepted event came to. Lengths are those of the frames, in bytes; error numbers are 0 or positive.
+#[derive(Clone, Copy, Debug, PartialEq, Eq)]
+pub enum Outcome {
+    Mounted,
+    Begun {
+        call: u64,
+    },
+    Read {
+        unique: u64,
+        opcode: Opcode,
+        len: usize,
+    },
+    Taken {
+        unique: u64,
+        word: Taken,
+    },
+    Done {
+        unique: u64,
+        errno: u32,
+        len: usize,
+    },
+    Written {
+        unique: u64,
+        errno: u32,
+    },
+    Settled {
+        unique: u64,
+        errno: u32,
+    },
+}

@@ -1,0 +1,17 @@
+//! One kernel, one server and the links between them, moved by events.
+#![tactic(auto)]
+
+mod event;
+mod record;
+mod runs;
+mod world;
+
+pub use event::{Event, Outcome};
+pub use fk_kernel::{Answer, Call};
+pub use fuse_spec::{Attributes, Kind, Refusal, Taken};
+pub use record::Record;
+pub use runs::run;
+pub use world::{World, WorldIn};
+
+#[cfg(test)]
+mod tests;
