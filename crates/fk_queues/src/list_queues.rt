@@ -7,7 +7,7 @@ ghost use Rattle.fuse_spec.specs.Queues.{QueueState, is_unread, IsSound};
 ghost use Rattle.fuse_spec.specs.QueueCalls.{set_mark};
 ghost use Rattle.fk_queues.specs.Room.{Room};
 
-use crate::forgets::{ForgetList, Forgets, MOST};
+use crate::forgets::{ForgetList, Forgets, MOST_FORGETS};
 use crate::interrupts::InterruptList;
 use crate::marks::is_unread;
 use crate::no_memory::NoMemory;
@@ -23,16 +23,31 @@ pub struct ListQueues<W, A: Allocator = Global> {
     interrupts: InterruptList<A>,
     forgets: ForgetList<A>,
     uniques: Uniques,
-    ghost sound: { IsSound (record { requests = requests.items; interrupts = interrupts.numbers.items; forgets = forgets.items.items; next = uniques; interrupts_off = interrupts.off }) },
+    ghost sound: { IsSound (record {
+      requests = requests.items;
+      interrupts = interrupts.numbers.items;
+      forgets = forgets.items.items;
+      next = uniques;
+      interrupts_off = interrupts.off;
+    }) },
     ghost fits: { length requests.items ≤ vec_capacity interrupts.numbers },
 }
 
 impl<W: Drop, A: Allocator + Copy> QueueTable<W> for ListQueues<W, A> {
     type Heap = A;
 
-    ghost state = { λ q. record { requests = q.requests.items; interrupts = q.interrupts.numbers.items; forgets = q.forgets.items.items; next = q.uniques; interrupts_off = q.interrupts.off } };
+    ghost state = { λ q. record {
+      requests = q.requests.items;
+      interrupts = q.interrupts.numbers.items;
+      forgets = q.forgets.items.items;
+      next = q.uniques;
+      interrupts_off = q.interrupts.off;
+    } };
 
-    ghost room = { λ q. record { requests = min (vec_capacity q.requests - vec_len q.requests) (vec_capacity q.interrupts.numbers - length q.requests.items); forgets = deque_capacity q.forgets.items - deque_len q.forgets.items } };
+    ghost room = { λ q. record {
+      requests = min (vec_capacity q.requests - vec_len q.requests) (vec_capacity q.interrupts.numbers - length q.requests.items);
+      forgets = deque_capacity q.forgets.items - deque_len q.forgets.items;
+    } };
 
     fn new(alloc: A) -> Self {
         ListQueues {
@@ -100,7 +115,7 @@ impl<W: Drop, A: Allocator + Copy> QueueTable<W> for ListQueues<W, A> {
     }
 
     fn first_forgets(&self, count: usize) -> Option<(u64, Forgets)> {
-        if count == 0 || count > MOST || count > self.forgets.items.len() {
+        if count == 0 || count > MOST_FORGETS || count > self.forgets.items.len() {
             return None;
         }
         Some((self.uniques.coming(), self.forgets.first(count)))

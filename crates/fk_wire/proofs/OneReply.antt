@@ -14,9 +14,8 @@ use Rattle.fk_wire.specs.declared.reply.Reply.{Reply}
 use Rattle.fk_wire.specs.Fields.{number_at, ReadsAs}
 use Rattle.fk_wire.specs.Opcodes.{knows, served}
 use Rattle.fk_wire.specs.RecordEnds.{record_end, end_from}
-use Rattle.fk_wire.specs.Requests.{max_frame}
 use Rattle.fk_wire.specs.Replies.{ReplyContent, empty_reply, entry_reply, attr_reply, open_reply, bytes_reply, write_reply, init_reply, create_reply, records_reply, plus_reply, ReplyMessage, reply_message, reply_kind, kind_of_content, states_15, init_end, open_fields, reply_body, IsReplyContent, HasReplyNames, IsErrorNumber, SpellsReply, SpellsReplyAt, kind_of}
-use Rattle.fk_wire.specs.ReplyFaults.{FillsReply, HasNamesOf, ReplyBodyFaultIs, HasReplyLength, HasError, kind_in, ReplyFaultIsAt}
+use Rattle.fk_wire.specs.ReplyFaults.{FillsReply, HasNamesOf, ReplyBodyFaultIs, ReplyFaultIsAt}
 use Rattle.fk_wire.specs.Results.{SpellsResult}
 use Rattle.fk_wire.specs.Decoded.{count_from, record_count, reply_content_at, decoded_kind, decoded_reply}
 use Rattle.fk_wire.proofs.EntryFields.{attr_is, entry_is}
@@ -204,16 +203,6 @@ no_reply_fault minor o bytes t faults.Opcode h x = absurd (let e : Some h.2.0 �
 no_reply_fault minor o bytes t faults.Body h x = x.4 (h.0, rw (← same_kind minor o bytes t x.2 h x.3) (fills t.content bytes h.3 (body_reads minor o bytes t h)))
 no_reply_fault minor o bytes t faults.Name h x = x.6 (rw (← same_kind minor o bytes t x.2 h x.3) (has_names t.content bytes h.3 h.4 (body_reads minor o bytes t h)))
 no_reply_fault minor o bytes t faults.Memory h x = x
-
--- the fault of a body is that of the reply
-pub reply_body_fault : (minor : Minor) (o : Opcode) (k : ReplyKind) (bytes : List ℕ) (f : WireFault) → HasReplyLength bytes → HasError bytes → reply_kind minor o ≡ Some k → length bytes ≤ max_frame → ReplyBodyFaultIs (kind_in bytes k) bytes f → ReplyFaultIsAt minor o bytes f
-reply_body_fault minor o k bytes faults.Body len error kind small x = (len, error, k, kind, λ h. x h.1)
-reply_body_fault minor o k bytes faults.Name len error kind small x = (len, error, k, kind, small, x.0, x.1)
-reply_body_fault minor o k bytes faults.Short len error kind small x = absurd x
-reply_body_fault minor o k bytes faults.Length len error kind small x = absurd x
-reply_body_fault minor o k bytes faults.Opcode len error kind small x = absurd x
-reply_body_fault minor o k bytes faults.ErrorRange len error kind small x = absurd x
-reply_body_fault minor o k bytes faults.Memory len error kind small x = absurd x
 
 pub reply_only : (minor : Minor) (o : Opcode) (bytes : List ℕ) (r : Result Reply WireFault) → IfOk r (λ v. SpellsReplyAt minor o bytes (reply_message v)) → IfErr r (ReplyFaultIsAt minor o bytes) → (t : ReplyMessage) → SpellsReplyAt minor o bytes t → IsOkAnd r (λ v. reply_message v ≡ t)
 reply_only minor o bytes (Ok v) ok err t h = one_reply minor o bytes (reply_message v) t ok h

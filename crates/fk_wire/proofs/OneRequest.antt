@@ -6,7 +6,7 @@ use Rattle.fk_wire.specs.declared.fault.WireFault.TheVariants as faults
 use Rattle.fk_wire.specs.declared.opcode.Opcode.{Opcode}
 use Rattle.fk_wire.specs.declared.opcode.Opcode.TheVariants as op
 use Rattle.fk_wire.specs.declared.request.Request.{Request}
-use Rattle.fk_wire.specs.Fields.{Field, free32, holds, free, bits, named, raw, number_at, ReadsAs}
+use Rattle.fk_wire.specs.Fields.{Field, holds, free, bits, named, raw, number_at, ReadsAs}
 use Rattle.fk_wire.proofs.PairLists.{one_list, list_ends}
 use Rattle.fk_wire.specs.Requests.{RequestContent, lookup, forget, getattr, mkdir, unlink, rmdir, rename, link, opening, read, write, release, init, readdir, readdirplus, create, interrupt, batch_forget, RequestMessage, opcode_of, nodeid_field, IsNodeOf, request_body, max_frame, Spells, SpellsAt, request_message}
 use Rattle.fk_wire.specs.declared.opcode.Minor.{Minor}
@@ -86,19 +86,9 @@ nodeid_reads : (about : Bool) (node : ℕ) (after : List Field) (bytes : List �
 nodeid_reads true node after bytes good h = h
 nodeid_reads false node after bytes good h = (good, h)
 
-nodeid_is : (about : Bool) (node : ℕ) (after : List Field) (bytes : List ℕ) → NodeReads about bytes node → ReadsAs 24 after bytes → IsNodeOf about node × ReadsAs 16 (nodeid_field about node ∷ after) bytes
-nodeid_is true node after bytes good h = (tt, (good, h))
-nodeid_is false node after bytes good h = (good, h)
-
 one_node : (about : Bool) (a b : ℕ) (bytes : List ℕ) → NodeReads about bytes a → NodeReads about bytes b → a ≡ b
 one_node true a b bytes h k = sym h ∙ k
 one_node false a b bytes h k = h ∙ sym k
-
--- a header and a body that read make a request
-pub spells_of : (minor : Minor) (bytes : List ℕ) (m : RequestMessage) → length bytes ≤ max_frame → IsTrue (knows minor (opcode_of m.content)) → number_at 0 4 bytes ≡ length bytes → code_of (opcode_of m.content) ≡ number_at 4 4 bytes → number_at 8 8 bytes ≡ m.unique → NodeReads (has_node (opcode_of m.content)) bytes m.nodeid → ReadsAs 40 (request_body m.content) bytes → SpellsAt minor bytes m
-spells_of minor bytes m small known len code unique node rest =
-    let k = nodeid_is (has_node (opcode_of m.content)) m.nodeid (free32 0 ∷ free32 0 ∷ free32 0 ∷ free32 0 ∷ request_body m.content) bytes node rest in
-    (small, known, k.0, (len, (sym code, (unique, k.1))))
 
 body_at : (minor : Minor) (bytes : List ℕ) (m : RequestMessage) → SpellsAt minor bytes m → ReadsAs 40 (request_body m.content) bytes
 body_at minor bytes m h = (nodeid_reads (has_node (opcode_of m.content)) m.nodeid _ bytes h.2 h.3.1.1.1).1

@@ -101,7 +101,7 @@ request_body (lookup name) = named name ∷ []
 request_body (forget nlookup) = u64 nlookup ∷ []
 -- struct fuse_getattr_in: getattr_flags, dummy, fh
 request_body getattr = free32 0 ∷ free32 0 ∷ free64 0 ∷ []
--- struct fuse_mkdir_in: mode, umask; and the name
+-- struct fuse_mkdir_in: mode (octal 0755), umask; and the name
 request_body (mkdir name) = free32 493 ∷ free32 0 ∷ named name ∷ []
 -- the name alone
 request_body (unlink name) = named name ∷ []
@@ -123,7 +123,7 @@ request_body (init major minor flags) = u32 major ∷ u32 minor ∷ free32 0 ∷
 -- struct fuse_read_in, whose fh is free
 request_body (readdir offset size) = list_range offset size
 request_body (readdirplus offset size) = list_range offset size
--- struct fuse_create_in: flags, mode, umask, padding; and the name
+-- struct fuse_create_in: flags, mode (octal 0100644), umask, padding; and the name
 request_body (create name) = free32 0 ∷ free32 33188 ∷ free32 0 ∷ free32 0 ∷ named name ∷ []
 -- struct fuse_interrupt_in: unique
 request_body (interrupt unique) = u64 unique ∷ []

@@ -9,23 +9,27 @@ use crate::fields::{u32_at, u64_at};
 use crate::room::{put_u32, put_u64, put_zeros88};
 use std::alloc::Allocator;
 
-/// The attributes of a file: `struct fuse_attr`.
+/// The attributes of a file: the fields of `struct fuse_attr` that are not free. `blksize` is written
+/// as 4096, the others as 0.
 #[derive(Clone, Copy, Debug)]
 pub struct Attr {
     pub ino: u64,
-    /// In bytes.
+    /// The file's size in bytes.
     pub size: u64,
-    /// Its type bits are those of the file's kind.
+    /// The file's kind in the type bits, octal 0170000: 040000 is a directory and 0100000 a file.
     pub mode: u32,
+    /// How many names the file has.
     pub nlink: u32,
 }
 
-/// The file of a name: `struct fuse_entry_out`.
+/// The file of a name: the fields of `struct fuse_entry_out` that are not free.
 ///
-/// With node id 0 no file has the name, and the generation and the attributes say nothing.
+/// With node id 0 no file has the name; then the generation and the attributes are free too, and
+/// written as zeros.
 #[derive(Clone, Copy, Debug)]
 pub struct Entry {
     pub nodeid: u64,
+    /// Which of the files it is that had this node id in turn.
     pub generation: u64,
     /// For how many seconds the name is valid.
     pub entry_valid: u64,

@@ -1,4 +1,15 @@
-//! Frames of the FUSE protocol, read and written.
+//! Frames of the FUSE protocol, read and written, exact to the byte.
+//!
+//! `read_request` and `read_reply` answer `Ok` exactly where the bytes spell a message, and else the
+//! first fault. They take no memory: names, data, pairs and records are slices of the frame.
+//! `write_request` and `write_reply` append the one written spelling of a message, or refuse it and
+//! leave the vector as it was.
+//!
+//! The grammar stands in `specs/Requests.antt` and `specs/Replies.antt`, a line for each struct of
+//! linux/fuse.h, and in docs/PROTOCOL.md in tables. The contracts speak of it by `Spells`, `Written`,
+//! `FaultIs` and `RefusalIs`, and of replies by `SpellsReply`, `WrittenReply`, `ReplyFaultIs` and
+//! `ReplyRefusalIs`; each has a form by minor version, as `SpellsAt`. `specs/Decoded.antt` has the
+//! message of a frame as a function of its bytes.
 #![tactic(auto)]
 
 mod directory;
@@ -6,6 +17,7 @@ mod entry;
 mod fault;
 mod fields;
 mod flags;
+mod limits;
 mod opcode;
 mod pairs;
 mod reading;
@@ -25,6 +37,7 @@ pub use directory::{put_record, put_record_plus};
 pub use entry::{Attr, Entry};
 pub use fault::WireFault;
 pub use flags::InitFlags;
+pub use limits::MAX_FRAME;
 pub use opcode::{Minor, Opcode};
 pub use pairs::Pairs;
 pub use reading::{read_request, read_request_at, read_request_head, spelled_is_decoded};

@@ -5,7 +5,7 @@ ghost use Rattle.fk_wire.specs.Opcodes.{code_of, has_node, is_later, knows, name
 ghost use Rattle.fk_wire.specs.Requests.{IsNodeOf};
 ghost use Rattle.fk_wire.specs.declared.opcode.Opcode.{Opcode};
 
-/// The operations: `enum fuse_opcode`, without its prefix.
+/// The operations: those of `enum fuse_opcode` that are known here.
 #[derive(Clone, Copy, Debug, PartialEq, Eq)]
 pub enum Opcode {
     Lookup,

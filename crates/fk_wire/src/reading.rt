@@ -12,11 +12,16 @@ ghost use Rattle.fk_wire.specs.Faults.{shape_of, BodyFaultIs, FaultIs, FaultIsAt
 use crate::fault::WireFault;
 use crate::fields::{u32_at, u64_at};
 use crate::flags::offered;
+use crate::limits::MAX_FRAME;
 use crate::opcode::{Minor, Opcode, is_about_node, opcode_at, served_minor};
 use crate::request::{Request, RequestBody};
 use crate::shapes::{fixed, one_name, two_names, with_bytes, with_pairs};
 
+// The reader is inlined into its callers: a request that is taken apart at once is then never laid out
+// in memory.
+
 /// The body of a frame under this opcode.
+#[inline(always)]
 fn body_of(opcode: Opcode, bytes: &[u8]) -> Result<RequestBody<'_>, WireFault>
     requires { 40 ≤ length bytes.now }
     ensures ok { IfOk result (λ b. (opcode_of (request_content b) ≡ opcode) × ReadsAs 40 (request_body (request_content b)) bytes.now) }
@@ -136,6 +141,7 @@ fn nodeid_at(opcode: Opcode, bytes: &[u8]) -> u64
 }
 
 /// The request that a frame spells, without its contract's clause on what else it may spell.
+#[inline(always)]
 fn request_of(minor: Minor, bytes: &[u8]) -> Result<Request<'_>, WireFault>
     ensures ok { IfOk result (λ r. SpellsAt minor bytes.now (request_message r)) }
     ensures fault { IfErr result (FaultIsAt minor bytes.now) }
@@ -149,7 +155,7 @@ fn request_of(minor: Minor, bytes: &[u8]) -> Result<Request<'_>, WireFault>
     let Some(opcode) = opcode_at(minor, u32_at(bytes, 4)) else {
         return Err(WireFault::Opcode);
     };
-    if bytes.len() > 4176 {
+    if bytes.len() > MAX_FRAME {
         return Err(WireFault::Body);
     }
     let unique = u64_at(bytes, 8);
@@ -166,7 +172,9 @@ fn request_of(minor: Minor, bytes: &[u8]) -> Result<Request<'_>, WireFault>
 
 /// Reads a request frame, of 7.31 without READDIRPLUS.
 ///
-/// The fault is the first of `Short`, `Length`, `Opcode`, `Body` and `Name` that applies.
+/// A frame has up to 4,176 bytes. The fault is the first of `Short`, `Length`, `Opcode`, `Body` and
+/// `Name` that applies. Reading copies no name and no data, and takes no memory.
+#[inline(always)]
 pub fn read_request(bytes: &[u8]) -> Result<Request<'_>, WireFault>
     // What is read is spelled so.
     ensures ok { IfOk result (λ r. Spells bytes.now (request_message r)) }
@@ -179,6 +187,7 @@ pub fn read_request(bytes: &[u8]) -> Result<Request<'_>, WireFault>
 }
 
 /// Reads a request frame of a minor version, as `read_request` does.
+#[inline(always)]
 pub fn read_request_at(minor: Minor, bytes: &[u8]) -> Result<Request<'_>, WireFault>
     ensures ok { IfOk result (λ r. SpellsAt minor bytes.now (request_message r)) }
     ensures only { (m : RequestMessage) → SpellsAt minor bytes.now m → IsOkAnd result (λ r. request_message r ≡ m) }
@@ -187,7 +196,7 @@ pub fn read_request_at(minor: Minor, bytes: &[u8]) -> Result<Request<'_>, WireFa
     request_of(minor, bytes)
 }
 
-/// Reads the opcode, known or not, and the unique number of a request frame.
+/// Reads the opcode, known or not, and the unique number of a request frame: `struct fuse_in_header`.
 ///
 /// The fault is `Short` or `Length`.
 pub fn read_request_head(bytes: &[u8]) -> Result<(u32, u64), WireFault>

@@ -14,6 +14,7 @@ use crate::entry::{attr_at, entry_at, is_timed};
 use crate::fault::WireFault;
 use crate::fields::{i32_at, u32_at, u64_at};
 use crate::flags::offered;
+use crate::limits::{MAX_FRAME, is_error_number};
 use crate::opcode::{Minor, Opcode, is_known, served_minor};
 use crate::records::Records;
 use crate::records_plus::RecordsPlus;
@@ -160,13 +161,13 @@ fn reply_of(minor: Minor, opcode: Opcode, bytes: &[u8]) -> Result<Reply<'_>, Wir
         return Err(WireFault::Length);
     }
     let error = i32_at(bytes, 4);
-    if error > 0 || error < -511 {
+    if !is_error_number(error) {
         return Err(WireFault::ErrorRange);
     }
     let Some(kind) = reply_kind(minor, opcode) else {
         return Err(WireFault::Opcode);
     };
-    if bytes.len() > 4176 {
+    if bytes.len() > MAX_FRAME {
         return Err(WireFault::Body);
     }
     let kind = if u32_at(bytes, 4) == 0 {
@@ -187,8 +188,10 @@ fn reply_of(minor: Minor, opcode: Opcode, bytes: &[u8]) -> Result<Reply<'_>, Wir
 
 /// Reads the frame of a reply to a request of this opcode, of 7.31 without READDIRPLUS.
 ///
-/// The fault is the first of `Short`, `Length`, `ErrorRange`, `Opcode`, `Body` and `Name` that
-/// applies. `Opcode` stands for an opcode that has no replies.
+/// A frame has up to 4,176 bytes. The fault is the first of `Short`, `Length`, `ErrorRange`, `Opcode`,
+/// `Body` and `Name` that applies. `Opcode` stands for an opcode that is not known or has no replies.
+/// Of a list of records all faults `Body` come before a fault `Name`. Reading copies nothing and takes
+/// no memory.
 pub fn read_reply(opcode: Opcode, bytes: &[u8]) -> Result<Reply<'_>, WireFault>
     // What is read is spelled so.
     ensures ok { IfOk result (λ r. SpellsReply opcode bytes.now (reply_message r)) }
@@ -209,7 +212,7 @@ pub fn read_reply_at(minor: Minor, opcode: Opcode, bytes: &[u8]) -> Result<Reply
     reply_of(minor, opcode, bytes)
 }
 
-/// Reads the error and the unique number of a reply frame.
+/// Reads the error and the unique number of a reply frame: `struct fuse_out_header`.
 ///
 /// The fault is the first of `Short`, `Length` and `ErrorRange` that applies.
 pub fn read_reply_head(bytes: &[u8]) -> Result<(i32, u64), WireFault>
@@ -223,7 +226,7 @@ pub fn read_reply_head(bytes: &[u8]) -> Result<(i32, u64), WireFault>
         return Err(WireFault::Length);
     }
     let error = i32_at(bytes, 4);
-    if error > 0 || error < -511 {
+    if !is_error_number(error) {
         return Err(WireFault::ErrorRange);
     }
     Ok((error, u64_at(bytes, 8)))

@@ -9,14 +9,15 @@ use crate::fault::WireFault;
 use crate::records::Dirent;
 use crate::walk::{count_records, first_record, have_names, have_times};
 
-/// A name in a directory with its file: `struct fuse_direntplus`.
+/// A name in a directory and its file: `struct fuse_direntplus`.
 #[derive(Clone, Copy, Debug)]
 pub struct DirentPlus<'a> {
     pub entry_out: Entry,
     pub dirent: Dirent<'a>,
 }
 
-/// The pairs of an entry and a record, in the order of the frame.
+/// The pairs of an entry and a record, in the order of the frame: an iterator over a slice of it, which
+/// takes no memory.
 #[derive(Clone, Copy, Debug)]
 pub struct RecordsPlus<'a> {
     bytes: &'a [u8],
@@ -50,7 +51,8 @@ impl<'a> RecordsPlus<'a> {
         Ok(RecordsPlus { bytes, place, left })
     }
 
-    /// The pairs that the bytes are, or `None` where they are no list of pairs.
+    /// The pairs that the bytes are, or `None` where they are no whole number of pairs, each with less
+    /// than a second of nanoseconds and with a record's name. No bytes are the empty list.
     pub fn over(bytes: &'a [u8]) -> Option<RecordsPlus<'a>>
         ensures { MatchOption result ((ps : List DirentPlusContent) → AreRecordsPlus 0 bytes.now ps → ⊥) (λ r. AreRecordsPlus 0 bytes.now (pluses_in r)) }
     {

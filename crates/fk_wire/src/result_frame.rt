@@ -1,4 +1,4 @@
-//! The frames that tell what became of a reply.
+//! The frames that tell what became of a reply. This project's own: FUSE has none.
 
 ghost use Rattle.std.specs.Prelude.{◌≡◌, ◌≢◌, ◌≤◌, ◌+◌, ◌++◌, ℕ, ℤ, length, OnOk, OnErr, IfOk, IfErr, IsOkAnd, vec_len, vec_capacity};
 ghost use Rattle.fk_wire.specs.Fields.{spellings};
@@ -8,12 +8,13 @@ ghost use Rattle.fk_wire.specs.declared.fault.WireFault.TheVariants.{Memory as M
 
 use crate::fault::WireFault;
 use crate::fields::{i32_at, u32_at, u64_at};
+use crate::limits::is_error_number;
 use crate::room::{put_u32, put_u64};
 use crate::writing_reply::error_word;
 use std::alloc::Allocator;
 
-/// Reads the frame of a result: the result, 0 or a negated error number, and the unique number of
-/// the reply.
+/// Reads the frame of a result, 16 bytes like a `struct fuse_out_header`: the result, 0 or a negated
+/// error number down to -511, and the unique number of the reply that it is about.
 ///
 /// The fault is the first of `Short`, `Length`, `ErrorRange` and `Body` that applies.
 #[tactic(auto, using(crate::proofs::OneReply::one_result))]
@@ -29,7 +30,7 @@ pub fn read_result(bytes: &[u8]) -> Result<(i32, u64), WireFault>
         return Err(WireFault::Length);
     }
     let error = i32_at(bytes, 4);
-    if error > 0 || error < -511 {
+    if !is_error_number(error) {
         return Err(WireFault::ErrorRange);
     }
     if bytes.len() != 16 {
@@ -52,7 +53,7 @@ pub fn write_result<A: Allocator>(
     ensures fault { IfErr result (ResultRefusalIs error) }
     ensures room { vec_len out.old + 16 ≤ vec_capacity out.old → result ≢ Err MemoryFault }
 {
-    if error > 0 || error < -511 {
+    if !is_error_number(error) {
         return Err(WireFault::ErrorRange);
     }
     out.reserve(16).map_err(|_| WireFault::Memory)?;

@@ -11,6 +11,7 @@ ghost use Rattle.fk_wire.specs.declared.opcode.Minor.{Minor};
 
 use crate::fault::WireFault;
 use crate::fields::is_name;
+use crate::limits::MAX_FRAME;
 use crate::opcode::{Minor, code, is_known, is_node_of, served_minor};
 use crate::pairs::Pairs;
 use crate::request::{Request, RequestBody};
@@ -243,7 +244,7 @@ pub fn write_request_at<A: Allocator>(
         return Err(WireFault::Body);
     }
     let size = body_size(&request.body);
-    if size > 4136 {
+    if size > MAX_FRAME - 40 {
         return Err(WireFault::Body);
     }
     if !has_names(&request.body) {

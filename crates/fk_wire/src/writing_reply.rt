@@ -16,6 +16,7 @@ use crate::directory::{put_direntpluses, put_dirents};
 use crate::entry::{is_timed, put_attr, put_entry};
 use crate::fault::WireFault;
 use crate::flags::InitFlags;
+use crate::limits::{MAX_FRAME, is_error_number};
 use crate::opcode::{Minor, Opcode, served_minor};
 use crate::reading_reply::init_size;
 use crate::reply::{Reply, ReplyBody};
@@ -185,7 +186,7 @@ pub fn write_reply_at<A: Allocator>(
     ensures fault { IfErr result (ReplyRefusalIsAt minor (reply_message reply.now)) }
     ensures room { vec_len out.old + (16 + sizes (reply_body (reply_content reply.now.body))) ≤ vec_capacity out.old → result ≢ Err MemoryFault }
 {
-    if reply.error > 0 || reply.error < -511 {
+    if !is_error_number(reply.error) {
         return Err(WireFault::ErrorRange);
     }
     if !is_known_body(minor, &reply.body) {
@@ -199,7 +200,7 @@ pub fn write_reply_at<A: Allocator>(
         return Err(WireFault::Body);
     }
     let size = reply_size(&reply.body);
-    if size > 4160 {
+    if size > MAX_FRAME - 16 {
         return Err(WireFault::Body);
     }
     out.reserve(16 + size).map_err(|_| WireFault::Memory)?;

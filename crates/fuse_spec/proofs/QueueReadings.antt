@@ -7,12 +7,12 @@ use Rattle.std.specs.Option.{option_map_or}
 use Rattle.fuse_spec.specs.declared.Mark.{Mark}
 use Rattle.fuse_spec.specs.declared.Mark.TheVariants.{Unread, Flagged, Read, Interrupted}
 use Rattle.fuse_spec.specs.declared.IntrEffect.TheVariants.{Dequeued, None as NoEffect}
-use Rattle.fuse_spec.specs.declared.InterruptReply.TheVariants.{Again}
+use Rattle.fuse_spec.specs.declared.InterruptReply.TheVariants.{Again, NotSupported, Other}
 use Rattle.fuse_spec.specs.Signals.{signal_effect, reply_effect}
 use Rattle.fuse_spec.specs.declared.QueuedRequest.{QueuedRequest}
 use Rattle.fuse_spec.specs.QueueLaws.{AddsOne, mark_read, kept_entries}
 use Rattle.fuse_spec.specs.Queues.{QueueState, request_under, pending, processing, is_unread, IsSound, was_drawn, is_interrupted, mark_under, has_interrupt}
-use Rattle.fuse_spec.specs.QueueCalls.{after_enqueue, set_mark, with_mark, after_read_pending, without, waiting, after_answer, interrupt_effect, after_interrupt, after_dequeue, after_effect, after_interrupt_reply, after_reply_effect, with_interrupt}
+use Rattle.fuse_spec.specs.QueueCalls.{after_enqueue, set_mark, with_mark, after_read_pending, without, waiting, after_answer, interrupt_effect, after_interrupt, after_effect, after_interrupt_reply, after_reply_effect, after_no_interrupts, with_interrupt}
 use Rattle.fuse_spec.proofs.QueueCounts.{key_count, key_count-found, lookup-found, count_by-cons, lookup-no_key, lookup-remove_entry_other, lookup-set_mark_other}
 use Rattle.fuse_spec.proofs.QueueSoundness.{lookup-next}
 
@@ -78,7 +78,7 @@ module _ {W : Type 0} where
       by true le = le
       by false le = omega arith
 
-  -- ---- queuing a request
+  -- queuing a request
 
   pub request_under-enqueue : (s : QueueState W) (w : W) → IsSound s → request_under (after_enqueue s w) s.next ≡ Some (record { mark = Unread; kept = w })
   request_under-enqueue s w sound = lookup-push_new s.next s.requests (record { mark = Unread; kept = w }) (lookup-next s sound)
@@ -92,7 +92,7 @@ module _ {W : Type 0} where
   pub processing-enqueue : (s : QueueState W) (w : W) → processing (after_enqueue s w) ≡ processing s
   processing-enqueue s w = filter-push (λ e. not (is_unread e.1.mark)) s.requests (s.next, record { mark = Unread; kept = w }) ∙ append-nil (processing s)
 
-  -- ---- marking a request, as reading it does
+  -- marking a request, as reading it does
 
   -- what the kernel keeps of each request stays
   kept-set_mark : (v u : ℕ) (es : List (ℕ × QueuedRequest W)) (m : Mark) → option_map (λ r. r.kept) (lookup (nat_eq v) (set_mark u es m)) ≡ option_map (λ r. r.kept) (lookup (nat_eq v) es)
@@ -138,7 +138,7 @@ module _ {W : Type 0} where
   pub pending-mark : (s : QueueState W) (place : ℕ) (e : ℕ × QueuedRequest W) (m : Mark) → IsSound s → slice_get (pending s) place ≡ Some e → is_unread m ≡ false → pending (with_mark s e.0 m) ≡ remove (pending s) place
   pending-mark s place e m sound found read = filter-set_mark s.requests place e m found (key_count-le-one s e.0 sound) read
 
-  -- ---- ending a request
+  -- ending a request
 
   pub request_under-without : (s : QueueState W) (u : ℕ) → IsSound s → request_under (without s u) u ≡ None
   request_under-without s u sound = lookup-removed u s.requests (key_count-le-one s u sound)
@@ -146,7 +146,7 @@ module _ {W : Type 0} where
   pub request_under-without_other : (s : QueueState W) (v u : ℕ) → nat_eq v u ≡ false → request_under (without s u) v ≡ request_under s v
   request_under-without_other s v u apart = lookup-remove_entry_other v u s.requests apart
 
-  -- ---- the pending requests and those in processing, as lists
+  -- the pending requests and those in processing, as lists
 
   -- a request that is marked as read stands among those in processing, at its place in order of queuing
   processing-set_mark : (u : ℕ) (es : List (ℕ × QueuedRequest W)) (r : QueuedRequest W) (m : Mark) → lookup (nat_eq u) es ≡ Some r → is_unread r.mark ≡ true → is_unread m ≡ false → AddsOne (u, record { mark = m; kept = r.kept }) (filter (λ d. not (is_unread d.1.mark)) es) (filter (λ d. not (is_unread d.1.mark)) (set_mark u es m))
@@ -269,7 +269,7 @@ module _ {W : Type 0} where
       ap (λ e. processing (after_effect s u e)) dequeued
       ∙ filter-remove_entry_out (λ (r : QueuedRequest W). not (is_unread r.mark)) u s.requests (read_if_not_unread (request_under s u) (unread_if_dequeued s u fatal dequeued))
 
-  -- ---- signals that dequeue nothing
+  -- signals that dequeue nothing
 
   -- a mark that a test does not tell from the old one moves nothing
   kept_entries-set_mark : (q : Mark → Bool) (u : ℕ) (es : List (ℕ × QueuedRequest W)) (r : QueuedRequest W) (m : Mark) → lookup (nat_eq u) es ≡ Some r → q m ≡ q r.mark → kept_entries (filter (λ e. q e.1.mark) (set_mark u es m)) ≡ kept_entries (filter (λ e. q e.1.mark) es)
@@ -317,7 +317,7 @@ module _ {W : Type 0} where
   pub kept_entries-processing_interrupt : (s : QueueState W) (u : ℕ) (fatal : Bool) → interrupt_effect s u fatal ≢ Dequeued → kept_entries (processing (after_interrupt s u fatal)) ≡ kept_entries (processing s)
   kept_entries-processing_interrupt s u fatal stays = kept_entries-interrupt (λ m. not (is_unread m)) s u fatal refl refl stays
 
-  -- ---- replies to an INTERRUPT
+  -- replies to an INTERRUPT
 
   -- EAGAIN queues an INTERRUPT exactly where its request is interrupted and it is not queued yet
   pub after_interrupt_reply-again : (s : QueueState W) (u : ℕ) → after_interrupt_reply s u Again ≡ cond (is_interrupted s u && not (list_any (nat_eq u) s.interrupts)) (with_interrupt s u) s
@@ -338,3 +338,19 @@ module _ {W : Type 0} where
       by (Some Interrupted) true off is = refl
       by (Some Interrupted) false true is = still is
       by (Some Interrupted) false false is = refl
+
+  -- ENOSYS does the same whatever the mark of a request that waits
+  pub after_interrupt_reply-not_supported : (s : QueueState W) (u : ℕ) (w : W) → waiting s u ≡ Some w → after_interrupt_reply s u NotSupported ≡ after_no_interrupts s
+  after_interrupt_reply-not_supported s u w waits = by (request_under s u) waits
+    where
+      by : (o : Option (QueuedRequest W)) → option_map_or (λ r. cond (is_unread r.mark) None (Some r.kept)) o None ≡ Some w → option_map_or (λ m. after_reply_effect s u (reply_effect NotSupported m (list_any (nat_eq u) s.interrupts) s.interrupts_off)) (option_map (λ r. r.mark) o) s ≡ after_no_interrupts s
+      by None e = cc
+      by (Some r) e = refl
+
+  -- any other reply does nothing
+  pub after_interrupt_reply-other : (s : QueueState W) (u : ℕ) → after_interrupt_reply s u Other ≡ s
+  after_interrupt_reply-other s u = by (mark_under s u)
+    where
+      by : (o : Option Mark) → option_map_or (λ m. after_reply_effect s u (reply_effect Other m (list_any (nat_eq u) s.interrupts) s.interrupts_off)) o s ≡ s
+      by None = refl
+      by (Some m) = refl

@@ -13,7 +13,7 @@ use Rattle.fuse_spec.specs.declared.Mark.TheVariants.{Unread, Flagged, Read, Int
 use Rattle.fuse_spec.specs.declared.QueuedRequest.{QueuedRequest}
 use Rattle.fuse_spec.proofs.QueueCounts.{key_count, key_count-set_mark, lookup-set_mark_other, lookup-set_mark_same, key_count-remove_entry, count_by-push, count_by-cons, count_by-drop_first, count_by-without, lookup-no_key, lookup-found, lookup-push, lookup-remove_entry_other, length-le-keys}
 
--- ---- numbers
+-- numbers
 
 was_drawn-later : (n u : ℕ) → was_drawn n u ≡ true → was_drawn (n + 2) u ≡ true
 was_drawn-later n u drawn = grind (arith, nat_tests, drawn)
@@ -24,7 +24,7 @@ was_drawn-self n = grind (arith, nat_tests)
 was_drawn-here : (n : ℕ) → IsNextNumber n → was_drawn (n + 2) n ≡ true
 was_drawn-here n is = grind (arith, nat_tests, is.even, is.low)
 
--- ---- bounds by a test
+-- bounds by a test
 
 -- a count that does not rise stays below a test that does not fall
 below_later : (m n : ℕ) (a b : Bool) → n ≤ m → m ≤ cond a 1 0 → (a ≡ true → b ≡ true) → n ≤ cond b 1 0
@@ -46,7 +46,7 @@ has_interrupt-unread Read unread = refl
 has_interrupt-unread Interrupted unread = cc
 
 module _ {W : Type 0} where
-  -- ---- marks
+  -- marks
 
   -- the mark decides whether a request is interrupted
   pub is_interrupted-marked : (s : QueueState W) (u : ℕ) (m : Mark) → mark_under s u ≡ Some m → is_interrupted s u ≡ has_interrupt m
@@ -62,7 +62,7 @@ module _ {W : Type 0} where
       let is = is_interrupted-marked s u old marked in
       grind (arith, bound, is, quiet)
 
-  -- ---- room
+  -- room
 
   -- while the INTERRUPT of a request is not queued, fewer are queued than there are requests
   pub interrupts-lt-requests : (s : QueueState W) (u : ℕ) (m : Mark) → IsSound s → mark_under s u ≡ Some m → count_by (nat_eq u) s.interrupts ≡ 0 → length s.interrupts < length s.requests
@@ -88,7 +88,7 @@ module _ {W : Type 0} where
           let fewer : count_by (nat_eq v) (u ∷ s.interrupts) ≤ count_by (nat_eq v) s.interrupts = rw (counted, e) (omega arith) in
           below_later _ _ (is_interrupted s v) (is_some (lookup (nat_eq v) s.requests)) fewer (sound.interrupts v) (is_some-interrupted (lookup (nat_eq v) s.requests))
 
-  -- ---- the calls
+  -- the calls
 
   pub IsSound-enqueue : (s : QueueState W) (w : W) → IsSound s → IsNextNumber (s.next + 2) → IsSound (after_enqueue s w)
   IsSound-enqueue s w sound next = record {

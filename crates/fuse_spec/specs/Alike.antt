@@ -63,7 +63,7 @@ RequestBodyAsked all unique signalled marked R S (interrupt original) = get all 
 abbrev pub PurposeAsked : World → Plain → ℕ × QueuedRequest Purpose → Type 0
 PurposeAsked w p e = MatchOption (body_of w.kernel e.1.kept) ⊥ (RequestBodyAsked p.asks e.0 (is_signalled e.1.mark) false (MeansIn w) (MeansOpenIn w))
 
--- What an ask came to is what the reply says: what it was reply, or EINTR where it was declined.
+-- What an ask came to is what the reply says: what it came to, or EINTR where it was declined.
 abbrev pub StageTold : NodeTable → HandleTable → Stage → WireReply → Type 0
 StageTold t h waiting wire = ⊥
 StageTold t h (performed reply) wire = ReplyAlike (Names t) (Opens h) wire reply
@@ -95,7 +95,7 @@ pub record IsPaired (w : World) (p : Plain) (call : ℕ) (state : CallState Open
   pub by : ask.call ≡ call
   pub same : OperationAlike (MeansIn w) (MeansOpenIn w) (asked state) ask.operation
 
--- In a live mount: each unanswered call has its ask, there is no other ask, and each copy and kept reply says what its ask was reply.
+-- In a live mount: each unanswered call has its ask, there is no other ask, and each copy and kept reply says what its ask came to.
 pub record AsksAlike (w : World) (p : Plain) : Type 0 where
   pub of_calls : (call : ℕ) (state : CallState Opened) → get w.kernel.vfs.calls call ≡ Some state → IsPaired w p call state
   pub no_other : (unique : ℕ) (ask : Ask) → get p.asks unique ≡ Some ask → request_of w.kernel ask.call ≡ Some unique

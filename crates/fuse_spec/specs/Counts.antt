@@ -25,7 +25,7 @@ abbrev pub counted : Option Counted → ℕ
 counted None = 0
 counted (Some node) = node.count
 
--- How often what is wire names a node, and an open number.
+-- How often a reply names a node, and an open number.
 abbrev pub names_in : ℕ → WireReply → ℕ
 names_in id wire = count_by (λ (g : Entry). nat_eq g.nodeid id) (files_in_reply wire)
 
@@ -64,7 +64,7 @@ releases_in fh (forget f) = 0
 releases_in fh (batch_forget fs) = 0
 releases_in fh (interrupt original) = 0
 
--- What the purpose of a request releases.
+-- How often a request of this purpose releases an open number.
 abbrev pub releases_for : ℕ → Purpose → ℕ
 releases_for fh purpose.Init = 0
 releases_for fh (purpose.Release o) = cond (nat_eq o.fh fh) 1 0

@@ -83,7 +83,7 @@ abbrev pub looked_up : Validity → Option ℕ → Reply ℕ ℕ
 looked_up valid None = missing valid.missing_ms
 looked_up valid (Some file) = found file valid.found_ms
 
--- What is reply of an operation that nothing refuses.
+-- The reply to an operation that nothing refuses.
 abbrev pub reply_unrefused : Validity → Tree → FileOperation → Reply ℕ ℕ
 reply_unrefused valid tree (lookup d name) = looked_up valid (file_at tree d name)
 reply_unrefused valid tree (getattr file) = attributes (attributes_of tree file)
@@ -127,7 +127,7 @@ abbrev pub tree_or : Tree → Tree → Option ℕ → Tree
 tree_or old new None = new
 tree_or old new (Some errno) = old
 
--- What the tree tells to an operation, and the tree after it. A refusal changes nothing.
+-- The reply of the tree to an operation, and the tree after it. A refusal changes nothing.
 abbrev pub reply_by : Validity → Tree → FileOperation → Reply ℕ ℕ
 reply_by valid tree operation = reply_or (reply_unrefused valid tree operation) (refusal tree operation)
 

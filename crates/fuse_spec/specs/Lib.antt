@@ -33,3 +33,5 @@ pub mod Denotes
 pub mod Counts
 pub mod Alike
 pub mod Runs
+pub mod LockStep
+pub mod Worked

@@ -26,7 +26,7 @@ pub record Dirent : Type 0 where
   pub kind : Kind
   pub name : Name
 
--- What is reply to an operation. A name is reply to lead to a file, or to none, for so many milliseconds.
+-- The reply to an operation. A name leads to a file, or to none, for so many milliseconds.
 pub data Reply (F O : Type 0) : Type 0 where
   found : (file : F) (valid : ℕ) → Reply F O
   missing : (valid : ℕ) → Reply F O
@@ -83,7 +83,7 @@ files_in h (readdir d after size) = d ∷ []
 files_in h (read o offset size) = h o
 files_in h (write o offset bytes) = h o
 
--- The files that are reply of, as often as they are: each is one lookup more of its node.
+-- The files that a reply names, as often as it does: each is one lookup more of its node.
 abbrev pub files_in_reply : {F O : Type 0} → Reply F O → List F
 files_in_reply (found x valid) = x ∷ []
 files_in_reply (created x valid o) = x ∷ []
@@ -97,7 +97,7 @@ files_in_reply (agreed major minor) = []
 files_in_reply done = []
 files_in_reply (failed errno) = []
 
--- The open files that are reply of.
+-- The open files that a reply names.
 abbrev pub opens_in_reply : {F O : Type 0} → Reply F O → List O
 opens_in_reply (created x valid o) = o ∷ []
 opens_in_reply (opened o) = o ∷ []

@@ -31,12 +31,12 @@ is_open_for s operation = true
 abbrev pub entry_for : (ℕ → ℕ) → NodeTable → Tree → ℕ → Entry
 entry_for choice t tree file = record { nodeid = choice file; generation = generation_in (row_of t (choice file)); attributes = attributes_of tree file }
 
--- What is reply of the operation, as a reply says it: files by the ids that are chosen, an open file by the next number.
+-- The reply of the tree, as it is sent: files by the ids that are chosen, an open file by the next number.
 abbrev pub wire_of : (ℕ → ℕ) → NodeTable → Tree → (fh : ℕ) → Reply ℕ ℕ → WireReply
 wire_of choice nodes tree fh reply = reply_with (entry_for choice nodes tree) (λ file. fh) reply
 
--- The operation is done, and nodes and open numbers are given for what is reply of it. After an abort it is done, but nothing
--- is given, and only whether it failed is reply.
+-- The operation is done, and nodes and open numbers are given for what the reply names. After an abort it is done, but nothing
+-- is given, and the reply says only whether it failed.
 abbrev pub doing : (ℕ → ℕ) → Server → FileOperation → PerformResult
 doing choice s operation =
     let tree = tree_after s.tree operation in

@@ -1,4 +1,4 @@
--- The plain world: a tree, the vfs' side and what was asked, over the files themselves. It has no node id, generation,
+-- The plain world: a tree, the system calls' side and what was asked, over the files themselves. It has no node id, generation,
 -- count, unique, queue, message or table.
 use Rattle.std.specs.Prelude.{ℕ, Bool, true, false, [], ◌∷◌, Option, Some, None, nat_eq, find}
 use Rattle.fuse_spec.specs.declared.Validity.{Validity}
@@ -40,7 +40,7 @@ abbrev pub asking : Plain → (label call : ℕ) → Option FileOperation → Pl
 asking p label call None = p
 asking p label call (Some operation) = record p { asks = put p.asks label (record { call = call; operation = operation; stage = waiting; noted = false; marked = false }) }
 
--- The vfs' side as a step of the call left it.
+-- The system calls' side as a step of the call left it.
 abbrev pub going_on : Plain → (label call : ℕ) → Advance ℕ → Plain
 going_on p label call went = asking (record p { vfs = went.vfs }) label call went.operation
 
@@ -60,7 +60,7 @@ ask_performed p label ask =
 abbrev pub ask_declined : Plain → (label : ℕ) → Ask → Plain
 ask_declined p label ask = record p { asks = put p.asks label (record ask { stage = declined }) }
 
--- A performed ask goes, and what was reply reaches its call, which stands here. What the call asks next bears the label `next`.
+-- A performed ask goes, and its reply reaches its call, which stands here. What the call asks next bears the label `next`.
 abbrev pub ask_told : Plain → (label next : ℕ) → Ask → Reply ℕ ℕ → CallState ℕ → Plain
 ask_told p label next ask reply state = going_on (record p { asks = remove p.asks label }) next ask.call (call_replied p.vfs ask.call state reply)
 

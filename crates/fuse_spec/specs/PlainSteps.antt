@@ -31,7 +31,7 @@ abbrev pub telling_call : Plain → (label next : ℕ) → Ask → Reply ℕ ℕ
 telling_call p label next ask reply None = None
 telling_call p label next ask reply (Some state) = where_so (not (is_some (get p.asks next))) (ask_told p label next ask reply state)
 
--- A performed ask is reply, and a declined one answers its call EINTR.
+-- The reply to a performed ask reaches its call, and a declined one answers its call EINTR.
 abbrev pub telling_ask : Plain → (label next : ℕ) → Ask → Stage → Option Plain
 telling_ask p label next ask waiting = None
 telling_ask p label next ask (performed reply) = telling_call p label next ask reply (get p.vfs.calls ask.call)

@@ -1,5 +1,5 @@
 -- What each call on the queues gives, and what it makes of them.
-use Rattle.std.specs.Prelude.{ℕ, ◌+◌, Bool, true, false, not, if◌then◌else◌, ◌&&◌, nat_lt, nat_le, List, [], ◌∷◌, ◌++◌, length, take, drop, filter, slice_get, Option, None, Some, nat_eq, is_some, option_map}
+use Rattle.std.specs.Prelude.{ℕ, ◌+◌, Bool, true, not, if◌then◌else◌, ◌&&◌, nat_lt, nat_le, List, [], ◌∷◌, ◌++◌, length, take, drop, filter, slice_get, Option, None, Some, nat_eq, is_some, option_map}
 use Rattle.std.specs.List.{list_any}
 use Rattle.std.specs.Option.{option_map_or}
 use Rattle.std.specs.Map.{remove_entry}
@@ -15,7 +15,7 @@ use Rattle.fuse_spec.specs.declared.InterruptReplyEffect.{InterruptReplyEffect}
 use Rattle.fuse_spec.specs.declared.InterruptReplyEffect.TheVariants.{QueuedAgain, TurnedOff, None as NoReplyEffect}
 
 module _ {W : Type 0} where
-  -- ---- queuing
+  -- queuing
 
   -- a request goes last among the pending ones, under the coming number
   abbrev pub after_enqueue : QueueState W → W → QueueState W
@@ -25,7 +25,7 @@ module _ {W : Type 0} where
   abbrev pub after_forget : QueueState W → ℕ → ℕ → QueueState W
   after_forget s node count = record s { forgets = s.forgets ++ (node, count) ∷ [] }
 
-  -- ---- reading a request
+  -- reading a request
 
   -- the request at a place among the pending ones, under its number
   abbrev pub pending_at : QueueState W → ℕ → Option (ℕ × W)
@@ -54,7 +54,7 @@ module _ {W : Type 0} where
   abbrev pub after_read_pending : QueueState W → ℕ → QueueState W
   after_read_pending s place = option_map_or (λ e. after_reading s e.0 e.1.mark) (slice_get (pending s) place) s
 
-  -- ---- reading INTERRUPTs and forgets
+  -- reading INTERRUPTs and forgets
 
   abbrev pub after_read_interrupt : QueueState W → QueueState W
   after_read_interrupt s = record s { interrupts = drop 1 s.interrupts }
@@ -70,7 +70,7 @@ module _ {W : Type 0} where
   abbrev pub after_read_forgets : QueueState W → ℕ → QueueState W
   after_read_forgets s count = if can_read_forgets s count then record s { forgets = drop count s.forgets; next = s.next + 2 } else s
 
-  -- ---- ending a request
+  -- ending a request
 
   -- the request under a number is gone, and its INTERRUPT with it
   abbrev pub without : QueueState W → ℕ → QueueState W
@@ -83,7 +83,7 @@ module _ {W : Type 0} where
   abbrev pub after_answer : QueueState W → ℕ → QueueState W
   after_answer s unique = if is_some (waiting s unique) then without s unique else s
 
-  -- ---- signals
+  -- signals
 
   -- the effect of a signal on the request under a number
   abbrev pub interrupt_effect : QueueState W → ℕ → Bool → IntrEffect
@@ -103,7 +103,7 @@ module _ {W : Type 0} where
   abbrev pub after_interrupt : QueueState W → ℕ → Bool → QueueState W
   after_interrupt s unique fatal = after_effect s unique (interrupt_effect s unique fatal)
 
-  -- ---- replies to an INTERRUPT
+  -- replies to an INTERRUPT
 
   -- "not supported": the list of INTERRUPTs is emptied, and none is queued again
   abbrev pub after_no_interrupts : QueueState W → QueueState W

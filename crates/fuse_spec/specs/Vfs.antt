@@ -1,4 +1,4 @@
--- The vfs' side, which the kernel and the plain world keep alike: the calls, the names in force and the open files.
+-- The side of the system calls, which the kernel and the plain world keep alike: the calls, the names in force and the open files.
 -- A file is known by a number (the kernel's node id, the plain world's birth), an open file as O says.
 use Rattle.std.specs.Prelude.{ℕ, ◌+◌, Bool, cond, List, [], ◌∷◌, Option, Some, None, nat_lt}
 use Rattle.fuse_spec.specs.declared.Binding.{Binding}
@@ -34,7 +34,7 @@ pub record Vfs (O : Type 0) : Type 0 where
   pub clock : ℕ
   pub root : ℕ
 
--- Where a step leaves the vfs, and the operation that it asks, if it does.
+-- Where a step leaves this side, and the operation that it asks, if it does.
 pub record Advance (O : Type 0) : Type 0 where
   pub vfs : Vfs O
   pub operation : Option (Operation ℕ O)

@@ -1,5 +1,8 @@
-//! Plain values that the definitions of the protocol and the code share.
+//! The definitions of the project, in `specs/`; the plain values that definitions and code share; and worked runs, computed
+//! over the definitions.
 #![tactic(auto)]
+
+pub mod worked_runs;
 
 /// How far a request has come. The mark belongs to the request: the next request of the same call starts unread.
 #[derive(Clone, Copy, Debug, PartialEq, Eq)]

@@ -1,6 +1,7 @@
 //! Both representations give the same answers.
 use super::{queue, queue_forget};
 use crate::{Forgets, IntrEffect, ListQueues, NoMemory, QueueTable, Queues};
+use std::process::Abort;
 use std::test::Fail;
 
 /// What a call gave.
@@ -23,44 +24,66 @@ fn frame(read: Option<(u64, Forgets)>) -> Answer {
     }
 }
 
-/// The call that a number picks, with an argument.
-fn call<Q: QueueTable<u64>>(queues: &mut Q, pick: u64, argument: u64) -> Result<Answer, NoMemory> {
-    let unique = argument % 80 * 2;
+/// Reads a request, an INTERRUPT or forgets, or ends a request.
+fn read_or_answer<Q: QueueTable<u64>>(
+    queues: &mut Q,
+    pick: u64,
+    argument: u64,
+) -> Result<Answer, NoMemory> {
     let place = (argument % 5) as usize;
-    let answer = match pick % 64 {
-        0..16 => Answer::Number(Some(queue(queues, argument)?)),
-        16..26 => Answer::Number(queues.read_pending(place)),
-        26..36 => Answer::Number(queues.answer(unique)),
-        36..48 => Answer::Effect(queues.interrupt(unique, argument % 3 == 0)),
-        48..52 => Answer::Number(queues.read_interrupt()),
-        52..56 => {
-            queues.again(unique);
-            Answer::Nothing
-        }
-        56..60 => {
-            queue_forget(queues, argument, pick)?;
-            Answer::Nothing
-        }
-        60..62 => {
-            if queues.numbers_left() == 0 {
-                return Err(NoMemory);
-            }
-            frame(queues.read_forgets(place))
-        }
-        62 => {
-            if argument % 8 == 0 {
-                queues.no_interrupts();
-            }
-            Answer::Nothing
-        }
-        _ => {
-            if argument % 8 == 0 {
-                queues.abort();
-            }
-            Answer::Nothing
-        }
-    };
-    Ok(answer)
+    if pick < 12 {
+        Ok(Answer::Number(queues.read_pending(place)))
+    } else if pick < 18 {
+        Ok(Answer::Number(queues.read_interrupt()))
+    } else if pick < 28 {
+        Ok(Answer::Number(queues.answer(argument % 80 * 2)))
+    } else if queues.numbers_left() == 0 {
+        Err(NoMemory)
+    } else {
+        Ok(frame(queues.read_forgets(place)))
+    }
+}
+
+/// Signals a request, or does what a reply to an INTERRUPT asks.
+fn signal_or_reply<Q: QueueTable<u64>>(queues: &mut Q, pick: u64, argument: u64) -> Answer {
+    let unique = argument % 80 * 2;
+    if pick < 12 {
+        return Answer::Effect(queues.interrupt(unique, argument % 3 == 0));
+    }
+    if pick < 15 {
+        queues.again(unique);
+    } else if argument % 16 == 0 {
+        queues.no_interrupts();
+    }
+    Answer::Nothing
+}
+
+/// Queues a request or a forget, or aborts.
+fn queue_or_abort<Q: QueueTable<u64>>(
+    queues: &mut Q,
+    pick: u64,
+    argument: u64,
+) -> Result<Answer, NoMemory> {
+    if pick < 11 {
+        return Ok(Answer::Number(Some(queue(queues, argument)?)));
+    }
+    if pick < 15 {
+        queue_forget(queues, argument, pick)?;
+    } else if argument % 16 == 0 {
+        queues.abort();
+    }
+    Ok(Answer::Nothing)
+}
+
+/// The call that a number below 64 picks, with an argument.
+fn call<Q: QueueTable<u64>>(queues: &mut Q, pick: u64, argument: u64) -> Result<Answer, NoMemory> {
+    if pick < 16 {
+        queue_or_abort(queues, pick, argument)
+    } else if pick < 48 {
+        read_or_answer(queues, pick - 16, argument)
+    } else {
+        Ok(signal_or_reply(queues, pick - 48, argument))
+    }
 }
 
 /// What the looks say at a place and under a number.
@@ -78,32 +101,43 @@ fn looks<Q: QueueTable<u64>>(queues: &Q, argument: u64) -> [Option<u64>; 5] {
     ]
 }
 
+/// The next of a fixed row of numbers (xorshift).
+fn next_number(number: u64) -> u64 {
+    let mut next = number ^ number << 13;
+    next ^= next >> 7;
+    next ^ next << 17
+}
+
+/// One call on both. Says whether it was a signal that took a request out or queued an INTERRUPT.
+fn same_step(
+    rt: &impl Abort,
+    map: &mut Queues<u64>,
+    lists: &mut ListQueues<u64>,
+    number: u64,
+) -> Result<bool, NoMemory> {
+    let pick = number % 64;
+    let argument = number / 64 % 0x1_0000;
+    let answer = call(map, pick, argument)?;
+    assert_eq!(rt; answer, call(lists, pick, argument)?);
+    assert_eq!(rt; looks(map, argument), looks(lists, argument));
+    Ok(matches!(
+        answer,
+        Answer::Effect(IntrEffect::Queued | IntrEffect::Dequeued)
+    ))
+}
+
 #[test]
 fn both_answer_alike(rt: HostRuntime) -> Result<(), Fail> {
     let mut map: Queues<u64> = QueueTable::new(rt.alloc());
     let mut lists: ListQueues<u64> = QueueTable::new(rt.alloc());
-    let mut random = 0x2545_f491_4f6c_dd1du64;
-    let mut signalled = 0u64;
-    for step in 0..600u64 {
-        random ^= random << 13;
-        random ^= random >> 7;
-        random ^= random << 17;
-        let pick = random % 64;
-        let argument = random / 64 % 0x1_0000;
-        let answer = call(&mut map, pick, argument)?;
-        if matches!(
-            answer,
-            Answer::Effect(IntrEffect::Queued | IntrEffect::Dequeued)
-        ) {
-            signalled = signalled.saturating_add(1);
+    let mut number = 0x2545_f491_4f6c_dd1du64;
+    let mut signals = 0u64;
+    for _step in 0..600u64 {
+        number = next_number(number);
+        if same_step(&rt, &mut map, &mut lists, number)? {
+            signals = signals.saturating_add(1);
         }
-        assert_eq!(rt; answer, call(&mut lists, pick, argument)?, "step {step}");
-        assert_eq!(rt;
-            looks(&map, argument),
-            looks(&lists, argument),
-            "step {step}"
-        );
     }
-    assert!(rt; signalled > 10);
+    assert!(rt; signals > 10);
     Ok(())
 }

@@ -1,6 +1,6 @@
 //! Each call once, and what an abort leaves.
 use super::{queue, queue_forget};
-use crate::{IntrEffect, ListQueues, NoMemory, QueueTable, Queues};
+use crate::{Forgets, IntrEffect, ListQueues, NoMemory, QueueTable, Queues};
 use std::alloc::Global;
 use std::process::Abort;
 use std::test::Fail;
@@ -17,6 +17,12 @@ fn requests_by_number_and_place<Q: QueueTable<u64, Heap = Global> + Drop>(
     assert_eq!(rt; queues.read_pending(1), Some(4));
     assert!(rt; matches!(queues.pending(1), Some((6, 72))));
     assert_eq!(rt; queues.read_pending(2), None);
+    answers_by_number(rt, queues);
+    Ok(())
+}
+
+/// Requests 2, 4 and 6 were queued, and 4 was read.
+fn answers_by_number<Q: QueueTable<u64, Heap = Global> + Drop>(rt: &impl Abort, mut queues: Q) {
     assert!(rt; matches!(queues.waiting(4), Some(71)));
     assert!(rt; queues.waiting(2).is_none());
     assert_eq!(rt; queues.answer(2), None);
@@ -25,7 +31,6 @@ fn requests_by_number_and_place<Q: QueueTable<u64, Heap = Global> + Drop>(
     assert_eq!(rt; queues.answer(4), None);
     assert_eq!(rt; queues.interrupt(4, true), IntrEffect::None);
     assert_eq!(rt; queues.numbers_left(), 0x1fff_ffff_ffff_fffc);
-    Ok(())
 }
 
 fn forgets_in_frames<Q: QueueTable<u64, Heap = Global> + Drop>(
@@ -41,20 +46,28 @@ fn forgets_in_frames<Q: QueueTable<u64, Heap = Global> + Drop>(
     if queues.numbers_left() == 0 {
         return Err(NoMemory);
     }
-    let Some((unique, forgets)) = queues.read_forgets(64) else {
-        return Err(NoMemory);
-    };
-    assert_eq!(rt; unique, 2);
-    assert_eq!(rt; forgets.as_slice().len(), 64);
-    assert_eq!(rt; forgets.as_slice().first().copied(), Some((2, 98)));
-    assert_eq!(rt; forgets.as_slice().last().copied(), Some((65, 35)));
+    assert!(rt; is_frame(queues.read_forgets(64), 2, 64, (2, 98), (65, 35)));
     assert!(rt; queues.first_forgets(7).is_none());
-    let Some((unique, forgets)) = queues.first_forgets(6) else {
-        return Err(NoMemory);
-    };
-    assert_eq!(rt; unique, 4);
-    assert_eq!(rt; forgets.as_slice().last().copied(), Some((71, 29)));
+    assert!(rt; is_frame(queues.first_forgets(6), 4, 6, (66, 34), (71, 29)));
     Ok(())
+}
+
+/// Whether a read gave this number and so many forgets, from the first to the last.
+fn is_frame(
+    read: Option<(u64, Forgets)>,
+    unique: u64,
+    count: usize,
+    first: (u64, u64),
+    last: (u64, u64),
+) -> bool {
+    let Some((number, forgets)) = read else {
+        return false;
+    };
+    let pairs = forgets.as_slice();
+    number == unique
+        && pairs.len() == count
+        && pairs.first().copied() == Some(first)
+        && pairs.last().copied() == Some(last)
 }
 
 fn abort_empties_all<Q: QueueTable<u64, Heap = Global> + Drop>(
@@ -70,14 +83,19 @@ fn abort_empties_all<Q: QueueTable<u64, Heap = Global> + Drop>(
     assert_eq!(rt; queues.interrupt(2, true), IntrEffect::Queued);
     queues.no_interrupts();
     queues.abort();
+    is_empty(rt, &queues);
+    assert_eq!(rt; queue(&mut queues, 73)?, 2);
+    assert_eq!(rt; queues.interrupt(2, false), IntrEffect::Flagged);
+    Ok(())
+}
+
+/// The queues are those of a new mount.
+fn is_empty<Q: QueueTable<u64>>(rt: &impl Abort, queues: &Q) {
     assert!(rt; queues.pending(0).is_none());
     assert!(rt; queues.waiting(2).is_none() && queues.waiting(4).is_none());
     assert_eq!(rt; queues.first_interrupt(), None);
     assert!(rt; queues.first_forgets(1).is_none());
     assert_eq!(rt; queues.numbers_left(), 0x1fff_ffff_ffff_ffff);
-    assert_eq!(rt; queue(&mut queues, 73)?, 2);
-    assert_eq!(rt; queues.interrupt(2, false), IntrEffect::Flagged);
-    Ok(())
 }
 
 fn all<Q: QueueTable<u64, Heap = Global> + Drop>(

@@ -73,6 +73,27 @@ fn reply_to<Q: QueueTable<u64>>(queues: &mut Q, unique: u64, reply: InterruptRep
     }
 }
 
+/// What signals to requests 6 to 10 do once INTERRUPTs are off, or not.
+fn signals_after<Q: QueueTable<u64>>(rt: &impl Abort, queues: &mut Q, off: bool) {
+    let flagged = if off {
+        IntrEffect::None
+    } else {
+        IntrEffect::Flagged
+    };
+    let queued = if off {
+        IntrEffect::None
+    } else {
+        IntrEffect::Queued
+    };
+    assert_eq!(rt; queues.interrupt(6, false), flagged);
+    assert_eq!(rt; queues.interrupt(8, true), IntrEffect::Dequeued);
+    assert_eq!(rt; queues.read_pending(1), Some(10));
+    assert_eq!(rt; queues.interrupt(10, true), queued);
+    queues.again(4);
+    assert_eq!(rt; queues.read_interrupt().is_some(), !off);
+    assert_eq!(rt; queues.read_interrupt().is_some(), !off);
+}
+
 fn table_holds<Q: QueueTable<u64, Heap = Global> + Drop>(
     rt: &impl Abort,
     alloc: Global,
@@ -89,40 +110,7 @@ fn table_holds<Q: QueueTable<u64, Heap = Global> + Drop>(
             );
         }
         assert_eq!(rt; queues.read_interrupt(), None, "{reply:?} {original:?}");
-        let off = reply == InterruptReply::NotSupported;
-        let soft = if off {
-            IntrEffect::None
-        } else {
-            IntrEffect::Flagged
-        };
-        assert_eq!(rt; queues.interrupt(6, false), soft, "{reply:?} {original:?}");
-        assert_eq!(rt;
-            queues.interrupt(8, true),
-            IntrEffect::Dequeued,
-            "{reply:?} {original:?}"
-        );
-        assert_eq!(rt; queues.read_pending(1), Some(10), "{reply:?} {original:?}");
-        let queued = if off {
-            IntrEffect::None
-        } else {
-            IntrEffect::Queued
-        };
-        assert_eq!(rt;
-            queues.interrupt(10, true),
-            queued,
-            "{reply:?} {original:?}"
-        );
-        queues.again(4);
-        assert_eq!(rt;
-            queues.read_interrupt().is_some(),
-            !off,
-            "{reply:?} {original:?}"
-        );
-        assert_eq!(rt;
-            queues.read_interrupt().is_some(),
-            !off,
-            "{reply:?} {original:?}"
-        );
+        signals_after(rt, &mut queues, reply == InterruptReply::NotSupported);
     }
     Ok(())
 }

@@ -48,6 +48,28 @@ fn request_at<Q: QueueTable<u64>>(queues: &mut Q, mark: Mark) -> Result<u64, NoM
     Ok(unique)
 }
 
+/// Where a request is after a signal.
+#[derive(Clone, Copy, Debug, PartialEq, Eq)]
+struct Place {
+    pending: bool,
+    processing: bool,
+    /// Once the request is read, if it still can be.
+    interrupt: bool,
+}
+
+/// The place of the one request, which is read if it still can be. An INTERRUPT is queued once at most.
+fn place_of<Q: QueueTable<u64>>(rt: &impl Abort, queues: &mut Q, unique: u64) -> Place {
+    let processing = queues.waiting(unique).is_some();
+    let pending = queues.read_pending(0).is_some();
+    let interrupt = queues.read_interrupt().is_some();
+    assert_eq!(rt; queues.read_interrupt(), None);
+    Place {
+        pending,
+        processing,
+        interrupt,
+    }
+}
+
 fn table_holds<Q: QueueTable<u64, Heap = Global> + Drop>(
     rt: &impl Abort,
     alloc: Global,
@@ -63,27 +85,15 @@ fn table_holds<Q: QueueTable<u64, Heap = Global> + Drop>(
             effect,
             "{mark:?} {fatal} {off}"
         );
-        let dequeued = effect == IntrEffect::Dequeued;
-        let pending = matches!(mark, Mark::Unread | Mark::Flagged) && !dequeued;
-        assert_eq!(rt;
-            queues.waiting(unique).is_some(),
-            !pending && !dequeued,
-            "{mark:?} {fatal} {off}"
-        );
-        assert_eq!(rt;
-            queues.read_pending(0).is_some(),
-            pending,
-            "{mark:?} {fatal} {off}"
-        );
-        assert_eq!(rt;
-            queues.read_interrupt().is_some(),
+        let unread = matches!(mark, Mark::Unread | Mark::Flagged);
+        let place = Place {
+            pending: unread && effect != IntrEffect::Dequeued,
+            processing: !unread,
             interrupt,
-            "{mark:?} {fatal} {off}"
-        );
-        assert_eq!(rt; queues.read_interrupt(), None, "{mark:?} {fatal} {off}");
+        };
         assert_eq!(rt;
-            queues.answer(unique).is_some(),
-            !dequeued,
+            place_of(rt, &mut queues, unique),
+            place,
             "{mark:?} {fatal} {off}"
         );
     }

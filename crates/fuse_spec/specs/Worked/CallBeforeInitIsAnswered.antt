@@ -1,0 +1,27 @@
+-- A worked run: call before init is answered.
+use Rattle.std.specs.Prelude.{List, [], ◌∷◌, codes}
+use Rattle.fuse_spec.specs.Events.{Event}
+use Rattle.fuse_spec.specs.Events as event
+use Rattle.fuse_spec.specs.Records.{Record, outcome, refused}
+use Rattle.fuse_spec.specs.LockStep.{Both, IsRecorded, after_all, start}
+use Rattle.fuse_spec.specs.Calls as call
+use Rattle.fuse_spec.specs.declared.Refusal.TheVariants as refusal
+
+abbrev pub events_0 : List Event
+events_0 =
+    event.mount 1000 0 ∷
+    event.call (call.stat (codes "/a")) ∷
+    []
+
+abbrev pub records_0 : List Record
+records_0 =
+    outcome event.mounted ∷
+    refused refusal.NotReady ∷
+    []
+
+abbrev pub worlds_0 : Both
+worlds_0 = after_all start events_0
+
+-- Both worlds record this, and the kernel and the server hold these nodes.
+abbrev pub IsComputed : Type 0
+IsComputed = IsRecorded worlds_0 records_0

@@ -1,0 +1,67 @@
+//! What the words of the command line ask for.
+
+use clap::error::ErrorKind;
+use clap::{Arg, ArgAction, Command, Error};
+use std::alloc::{AllocError, Global};
+
+/// One run of the program.
+#[derive(Clone, Copy)]
+pub enum Task<'a> {
+    /// The script on standard input.
+    Input,
+    /// The script in a file, with the frames that are put under `hex`.
+    Run { file: &'a str, hex: bool },
+    /// One request frame.
+    Frame { hex: &'a str },
+}
+
+/// Whether memory was wanting, and the words may be good.
+pub fn is_memory(error: &Error) -> bool {
+    error.kind() == ErrorKind::OutOfMemory
+}
+
+fn run_command<'a>(alloc: Global) -> Result<Command<'a>, AllocError> {
+    let hex = Arg::new(alloc, "hex")
+        .long("hex")
+        .action(ArgAction::SetTrue)
+        .help("Print each frame that is put, as a line of hex");
+    let file = Arg::new(alloc, "FILE")
+        .required(true)
+        .help("The script: one event a line");
+    Command::new(alloc, "run")
+        .about("Run a script of events and print what each comes to")
+        .arg(hex)?
+        .arg(file)
+}
+
+fn frame_command<'a>(alloc: Global) -> Result<Command<'a>, AllocError> {
+    let hex = Arg::new(alloc, "HEX")
+        .required(true)
+        .help("The frame's bytes, two lower-case hex digits each");
+    Command::new(alloc, "frame")
+        .about("Read one request frame and print its opcode, unique, node and length")
+        .arg(hex)
+}
+
+fn program<'a>(alloc: Global) -> Result<Command<'a>, AllocError> {
+    Command::new(alloc, "fuseworld")
+        .about("A FUSE 7.31 kernel and its server, run by a script")
+        .after_help("Without a command, the script is read from standard input.")
+        .subcommand(run_command(alloc)?)?
+        .subcommand(frame_command(alloc)?)
+}
+
+/// What the words ask for: the program's name, and then a command or nothing.
+pub fn read_task<'a>(alloc: Global, words: &'a [String]) -> Result<Task<'a>, Error> {
+    let matches = program(alloc)?.try_get_matches_from(words)?;
+    let Some((name, inner)) = matches.subcommand() else {
+        return Ok(Task::Input);
+    };
+    if name == "run" {
+        let file = inner.get_str("FILE").unwrap_or("");
+        let hex = inner.get_flag("hex");
+        return Ok(Task::Run { file, hex });
+    }
+    let hex = inner.get_str("HEX").unwrap_or("");
+    Ok(Task::Frame { hex })
+}

@@ -1,0 +1,61 @@
+//! Runs scripts of events on a FUSE kernel and its server, and reads request frames.
+#![tactic(auto)]
+
+mod command;
+
+use command::{Task, is_memory, read_task};
+use fw_script::{cannot_read, no_memory, run_frame, run_script};
+use std::fs::File;
+use std::io;
+use std::io::{BufWriter, ErrorKind};
+use std::process::ExitCode;
+
+/// Runs the script on standard input, or in a file, and gives the exit status.
+fn run_file(rt: &HostRuntime, file: Option<&str>, hex: bool) -> u8 {
+    let alloc = rt.alloc();
+    let mut faults = rt.stderr();
+    let Ok(mut out) = BufWriter::new(alloc, io::writer(rt)) else {
+        return no_memory(&mut faults);
+    };
+    let Some(path) = file else {
+        return run_script(alloc, "-", hex, &mut rt.reader(), &mut out, &mut faults);
+    };
+    match File::open(rt, path) {
+        Ok(mut input) => run_script(alloc, path, hex, &mut input, &mut out, &mut faults),
+        Err(error) if error.kind() == ErrorKind::OutOfMemory => no_memory(&mut faults),
+        Err(_) => cannot_read(path, &mut faults),
+    }
+}
+
+/// Does what the words of the command line ask for, and gives the exit status.
+fn run_words(rt: &HostRuntime, words: &[String]) -> u8 {
+    match read_task(rt.alloc(), words) {
+        Ok(Task::Input) => run_file(rt, None, false),
+        Ok(Task::Run { file, hex }) => run_file(rt, Some(file), hex),
+        Ok(Task::Frame { hex }) => {
+            run_frame(rt.alloc(), hex, &mut io::writer(rt), &mut rt.stderr())
+        }
+        Err(error) if is_memory(&error) => no_memory(&mut rt.stderr()),
+        Err(error) => {
+            let _ = eprint!(rt; "{error}");
+            2
+        }
+    }
+}
+
+fn main(rt: HostRuntime) -> ExitCode {
+    let words = match std::env::args(&rt) {
+        Ok(words) => words.collect::<Vec<String>>(rt.alloc()),
+        Err(error) if error.kind() == ErrorKind::OutOfMemory => {
+            return ExitCode::from(no_memory(&mut rt.stderr()));
+        }
+        Err(_) => {
+            let _ = eprintln!(rt; "error: a word of the command line is not UTF-8");
+            return ExitCode::from(2);
+        }
+    };
+    match words {
+        Ok(words) => ExitCode::from(run_words(&rt, words.as_slice())),
+        Err(_) => ExitCode::from(no_memory(&mut rt.stderr())),
+    }
+}

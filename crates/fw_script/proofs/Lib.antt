@@ -1,0 +1,6 @@
+pub mod Hexes
+pub mod Decimals
+pub mod Numbering
+pub mod Splitting
+pub mod Statuses
+pub mod Writes

@@ -1,0 +1,45 @@
+-- The first part of a text, by the place of its first separator.
+use Rattle.std.proofs.Common.{◌≡◌, ◌+◌, ◌<◌, ◌==◌, ◌≤◌, ℕ, Bool, true, false, cond, nat_lt, List, [], ◌∷◌, length, take, drop, Option, Some, None, arith, refl}
+use Rattle.std.specs.Prelude.{position, MatchOption}
+use Rattle.std.specs.List.{position_or_len, slice_split}
+use Rattle.std.proofs.lemmas.List.Splits.{slice_split_first, slice_split_none, length-slice_split}
+use Rattle.std.proofs.lemmas.List.Sums.{fails_before_first}
+use Rattle.std.proofs.lemmas.Bool.{ltb-true, ltb-false}
+use Rattle.fw_script.specs.Words.{words_of, HasWords}
+
+abbrev is_byte : ℕ → ℕ → Bool
+is_byte separator byte = byte == separator
+
+abbrev parts_of : ℕ → List ℕ → List (List ℕ)
+parts_of separator text = slice_split (is_byte separator) text
+
+-- the text is split at its first separator, and is one part where it has none
+abbrev IsSplitAt : ℕ → List ℕ → Option ℕ → Type 0
+IsSplitAt separator text o =
+    MatchOption o (parts_of separator text ≡ text ∷ [])
+    (λ end. (end < length text) × (parts_of separator text ≡ take end text ∷ parts_of separator (drop (end + 1) text)))
+
+split_by_test : (separator : ℕ) (text : List ℕ) (found : Bool)
+    → nat_lt (position_or_len (is_byte separator) text) (length text) ≡ found
+    → IsSplitAt separator text (cond found (Some (position_or_len (is_byte separator) text)) None)
+split_by_test separator text true h =
+    let within : position_or_len (is_byte separator) text < length text = ltb-true _ _ h in
+    (within, slice_split_first (is_byte separator) text 0 within)
+split_by_test separator text false h =
+    slice_split_none (is_byte separator) text
+    (λ k d below. fails_before_first (is_byte separator) text k d (let past = ltb-false _ _ h in omega (arith, past)))
+
+pub split_at_position : (separator : ℕ) (text : List ℕ) (o : Option ℕ) → o ≡ position (λ byte. byte == separator) text
+    → MatchOption o (slice_split (λ byte. byte == separator) text ≡ text ∷ [])
+    (λ end. (end < length text)
+    × (slice_split (λ byte. byte == separator) text ≡ take end text ∷ slice_split (λ byte. byte == separator) (drop (end + 1) text)))
+split_at_position separator text o e =
+    rw e (split_by_test separator text (nat_lt (position_or_len (is_byte separator) text) (length text)) refl)
+
+-- a text is one word at least
+pub words_of_some : (text : List ℕ) → 1 ≤ length (words_of text)
+words_of_some text = let counted = length-slice_split (is_byte 32) text in omega (arith, counted)
+
+-- a text after a space is one more word
+pub one_more_word : (word text : List ℕ) → HasWords 1 (word ∷ words_of text) → ⊥
+one_more_word word text h = let more = words_of_some text in omega (arith, h.0, more)

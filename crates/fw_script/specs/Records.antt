@@ -1,0 +1,126 @@
+-- The lines that are printed, without their line feeds.
+use Rattle.std.specs.Prelude.{ℕ, List, [], ◌∷◌, ◌++◌, Option, Some, None, codes, decimal, flat_map}
+use Rattle.hex.specs.Hex.{encode_lower}
+use Rattle.fk_wire.specs.Opcodes.{name_of}
+use Rattle.fk_wire.specs.declared.fault.WireFault.{WireFault}
+use Rattle.fk_wire.specs.declared.fault.WireFault.TheVariants as wire
+use Rattle.fw_world.specs.declared.event.Outcome.{Outcome}
+use Rattle.fw_world.specs.declared.event.Outcome.TheVariants as outcome
+use Rattle.fuse_spec.specs.declared.Taken.{Taken}
+use Rattle.fuse_spec.specs.declared.Taken.TheVariants as taken
+use Rattle.fuse_spec.specs.declared.Refusal.{Refusal}
+use Rattle.fuse_spec.specs.declared.Refusal.TheVariants as refusal
+use Rattle.fuse_spec.specs.declared.Kind.{Kind}
+use Rattle.fuse_spec.specs.declared.Kind.TheVariants as kind
+use Rattle.fk_kernel.specs.declared.call.Answer.{Answer}
+use Rattle.fk_kernel.specs.declared.call.Answer.TheVariants as answer
+use Rattle.fw_world.specs.declared.record.Record.{Record}
+use Rattle.fw_world.specs.declared.record.Record.TheVariants as records
+use Rattle.fw_script.specs.declared.line.LineFault.{LineFault}
+use Rattle.fw_script.specs.declared.line.LineFault.TheVariants as faults
+
+-- what became of a taken request
+abbrev pub taken_word : Taken → List ℕ
+taken_word taken.Held = codes "held"
+taken_word taken.Forgot = codes "forgot"
+taken_word taken.Marked = codes "marked"
+taken_word taken.Ignored = codes "ignored"
+taken_word taken.Again = codes "again"
+
+-- the kind of a file
+abbrev pub kind_word : Kind → List ℕ
+kind_word kind.Directory = codes "dir"
+kind_word kind.Regular = codes "file"
+kind_word kind.Other = codes "other"
+
+-- the number of a refusal, and its name
+abbrev pub refusal_number : Refusal → ℕ
+refusal_number refusal.NoMemory = 1
+refusal_number refusal.NoSuch = 2
+refusal_number refusal.InterruptFirst = 3
+refusal_number refusal.NotReady = 4
+refusal_number refusal.Busy = 5
+refusal_number refusal.NoCopy = 6
+refusal_number refusal.Full = 7
+refusal_number refusal.Exhausted = 8
+refusal_number refusal.BadTime = 9
+refusal_number refusal.LinkLost = 10
+
+abbrev pub refusal_name : Refusal → List ℕ
+refusal_name refusal.NoMemory = codes "NoMemory"
+refusal_name refusal.NoSuch = codes "NoSuch"
+refusal_name refusal.InterruptFirst = codes "InterruptFirst"
+refusal_name refusal.NotReady = codes "NotReady"
+refusal_name refusal.Busy = codes "Busy"
+refusal_name refusal.NoCopy = codes "NoCopy"
+refusal_name refusal.Full = codes "Full"
+refusal_name refusal.Exhausted = codes "Exhausted"
+refusal_name refusal.BadTime = codes "BadTime"
+refusal_name refusal.LinkLost = codes "LinkLost"
+
+-- the number of a frame's fault, and its name
+abbrev pub wire_number : WireFault → ℕ
+wire_number wire.Short = 1
+wire_number wire.Length = 2
+wire_number wire.Opcode = 3
+wire_number wire.Name = 4
+wire_number wire.Body = 5
+wire_number wire.ErrorRange = 6
+wire_number wire.Memory = 7
+
+abbrev pub wire_name : WireFault → List ℕ
+wire_name wire.Short = codes "Short"
+wire_name wire.Length = codes "Length"
+wire_name wire.Opcode = codes "Opcode"
+wire_name wire.Name = codes "Name"
+wire_name wire.Body = codes "Body"
+wire_name wire.ErrorRange = codes "ErrorRange"
+wire_name wire.Memory = codes "Memory"
+
+-- a line's fault
+abbrev pub fault_words : LineFault → List ℕ
+fault_words faults.UnknownEvent = codes "unknown event"
+fault_words faults.WrongWords = codes "wrong words"
+fault_words faults.BadNumber = codes "bad number"
+fault_words faults.BadText = codes "bad text"
+
+-- an outcome's line
+abbrev pub outcome_line : Outcome → List ℕ
+outcome_line outcome.Mounted = codes "mounted"
+outcome_line (outcome.Begun call) = codes "call " ++ decimal call
+outcome_line (outcome.Read unique opcode len) =
+    codes "read " ++ decimal unique ++ codes " " ++ name_of opcode ++ codes " " ++ decimal len
+outcome_line (outcome.Taken unique word) = codes "taken " ++ decimal unique ++ codes " " ++ taken_word word
+outcome_line (outcome.Done unique errno len) =
+    codes "done " ++ decimal unique ++ codes " " ++ decimal errno ++ codes " " ++ decimal len
+outcome_line (outcome.Written unique errno) = codes "written " ++ decimal unique ++ codes " " ++ decimal errno
+outcome_line (outcome.Settled unique errno) = codes "settled " ++ decimal unique ++ codes " " ++ decimal errno
+
+-- the rest of an answer's line, after the call's number
+abbrev pub answer_words : Answer → List ℕ
+answer_words (answer.Attributes a) =
+    codes "0 " ++ kind_word a.kind ++ codes " " ++ decimal a.ino ++ codes " " ++ decimal a.size ++ codes " " ++ decimal a.nlink
+answer_words (answer.Failed errno) = decimal errno
+
+-- a record's line
+abbrev pub record_line : Record → List ℕ
+record_line (records.Outcome o) = outcome_line o
+record_line (records.Refused r) = codes "refused " ++ decimal (refusal_number r) ++ codes " " ++ refusal_name r
+record_line (records.Answered call a) = codes "answer " ++ decimal call ++ codes " " ++ answer_words a
+
+-- the same with its line feed
+abbrev pub record_text : Record → List ℕ
+record_text r = record_line r ++ codes "\n"
+
+-- the line of a frame that was put
+abbrev pub frame_text : List ℕ → List ℕ
+frame_text frame = codes "frame " ++ encode_lower frame ++ codes "\n"
+
+abbrev pub put_text : Option (List ℕ) → List ℕ
+put_text None = []
+put_text (Some frame) = frame_text frame
+
+-- the lines of an event: its own, that of the frame that was put, those of the answers
+abbrev pub event_text : List Record → Option (List ℕ) → List ℕ
+event_text [] frame = []
+event_text (first ∷ answers) frame = record_text first ++ put_text frame ++ flat_map record_text answers

@@ -1,0 +1,24 @@
+//! Script lines as events, records as lines, and the runs of the program `fuseworld`.
+#![tactic(auto)]
+
+mod frame;
+mod hex_text;
+mod line;
+mod lines;
+mod number;
+mod print;
+mod script;
+mod split;
+mod stop;
+mod word;
+
+pub use frame::run_frame;
+pub use hex_text::{HexFault, read_hex, write_hex};
+pub use line::{LineFault, read_event};
+pub use number::read_number;
+pub use print::{AnswerLine, OutcomeLine, RecordLine};
+pub use script::run_script;
+pub use stop::{cannot_read, no_memory};
+
+#[cfg(test)]
+mod tests;

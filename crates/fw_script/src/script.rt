@@ -1,0 +1,169 @@
+//! The run of a script.
+
+ghost use Rattle.std.specs.Prelude.{◌≡◌, ◌≢◌, ◌⊎◌, ◌∷◌, [], Contains, IfErr, IfOk, IfSome, OnOk, flat_map, option_copied};
+ghost use Rattle.std.specs.Io.KnownBytes.{Appends};
+ghost use Rattle.fw_script.specs.Records.{event_text, frame_text, record_text};
+ghost use Rattle.fw_script.specs.Scripts.{IsGoodScript};
+ghost use Rattle.fw_script.specs.Stops.{status_of};
+
+use crate::hex_text::write_hex;
+use crate::line::read_event;
+use crate::lines::{Lines, first_fault, is_passed_over};
+use crate::print::RecordLine;
+use crate::stop::Stop;
+use fw_world::{Event, Record, WorldIn, run};
+use std::alloc::Allocator;
+use std::io;
+use std::io::{ErrorKind, Read, Write};
+
+/// The most records that one event comes to: its own, one of a lost link, and an answer for each
+/// of 64 calls.
+const MAX_RECORDS: usize = 66;
+
+/// Writes a record's line.
+fn write_record<W: Write>(out: &mut W, record: Record) -> io::Result<()>
+    ensures { OnOk result (Appends (W.contents out.old) (W.contents out.new) (record_text «record»)) }
+{
+    writeln!(out, "{}", RecordLine(record))
+}
+
+/// Writes the line of a frame that was put.
+fn write_frame<W: Write>(out: &mut W, frame: &[u8]) -> io::Result<()>
+    ensures { OnOk result (Appends (W.contents out.old) (W.contents out.new) (frame_text frame.now)) }
+{
+    out.write_all(b"frame ")?;
+    write_hex(out, frame)?;
+    out.write_all(b"\n")
+}
+
+/// Writes the lines of answers.
+fn write_answers<W: Write>(out: &mut W, answers: &[Record]) -> io::Result<()>
+    ensures { OnOk result (Appends (W.contents out.old) (W.contents out.new)
+        (flat_map record_text answers.now)) }
+{
+    for answer in answers {
+        write_record(out, *answer)?;
+    }
+    Ok(())
+}
+
+/// Writes the lines of an event's records, and after the first that of the frame that was put.
+fn write_records<W: Write>(out: &mut W, records: &[Record], frame: Option<&[u8]>) -> io::Result<()>
+    ensures { OnOk result (Appends (W.contents out.old) (W.contents out.new)
+        (event_text records.now (option_copied frame.entry))) }
+{
+    let Some((first, answers)) = records.split_first() else {
+        return Ok(());
+    };
+    write_record(out, *first)?;
+    if let Some(frame) = frame {
+        write_frame(out, frame)?;
+    }
+    write_answers(out, answers)
+}
+
+/// Runs one event, and writes what it came to.
+fn run_event<A: Allocator + Copy, W: Write>(
+    world: &mut WorldIn<A>,
+    event: Event<'_>,
+    records: &mut Vec<Record, A>,
+    hex: bool,
+    out: &mut W,
+) -> Result<(), Stop<'static>>
+    ensures { IfErr result (λ stop. status_of stop ≢ 1) }
+{
+    records.clear();
+    if run(world, &[event], records).is_err() {
+        return Err(Stop::NoMemory);
+    }
+    let frame = world.last_put().filter(|_| hex);
+    write_records(out, records.as_slice(), frame).map_err(|_| Stop::OutputRefused)
+}
+
+/// Runs the events of a script whose lines are good.
+fn run_events<A: Allocator + Copy, W: Write>(
+    alloc: A,
+    script: &[u8],
+    hex: bool,
+    out: &mut W,
+) -> Result<(), Stop<'static>>
+    ensures { IfErr result (λ stop. status_of stop ≢ 1) }
+{
+    let Ok(mut world) = WorldIn::new(alloc) else {
+        return Err(Stop::NoMemory);
+    };
+    let Ok(mut records) = Vec::with_capacity(alloc, MAX_RECORDS) else {
+        return Err(Stop::NoMemory);
+    };
+    for line in Lines::of(script) {
+        if is_passed_over(line) {
+            continue;
+        }
+        if let Ok(event) = read_event(line) {
+            run_event(&mut world, event, &mut records, hex, out)?;
+        }
+    }
+    out.flush().map_err(|_| Stop::OutputRefused)
+}
+
+/// The bytes of a script.
+fn read_script<'a, A: Allocator, R: Read>(
+    alloc: A,
+    name: &'a str,
+    input: &mut R,
+) -> Result<Vec<u8, A>, Stop<'a>>
+    ensures ok { IfOk result (λ script. IfSome (R.remaining input.old) (λ bytes. script.items ≡ bytes)) }
+    ensures err { IfErr result (λ stop. status_of stop ≢ 5) }
+{
+    let mut script = Vec::new(alloc);
+    match input.read_to_end(&mut script) {
+        Ok(_) => Ok(script),
+        Err(error) if error.kind() == ErrorKind::OutOfMemory => Err(Stop::NoMemory),
+        Err(_) => Err(Stop::CannotRead { name }),
+    }
+}
+
+/// Reads a script, judges its lines, and runs it.
+fn run_input<'a, A: Allocator + Copy, R: Read, W: Write>(
+    alloc: A,
+    name: &'a str,
+    hex: bool,
+    input: &mut R,
+    out: &mut W,
+) -> Result<(), Stop<'a>>
+    ensures judged { OnOk result (IfSome (R.remaining input.old) IsGoodScript) }
+    ensures refused { IfErr result (λ stop. status_of stop ≡ 5 →
+        IfSome (R.remaining input.old) IsGoodScript) }
+    ensures silent { IfErr result (λ stop. status_of stop ≡ 1 → out.new ≡ out.old) }
+{
+    let script = read_script(alloc, name, input)?;
+    if let Some((number, fault)) = first_fault(script.as_slice()) {
+        return Err(Stop::BadLine { number, fault });
+    }
+    run_events(alloc, script.as_slice(), hex, out)
+}
+
+/// Runs a script on a new world, and prints the lines of its records, under `hex` also the frames
+/// that were put.
+///
+/// All lines are judged before the first is run. Gives the exit status: 0; 1 after `cannot read`
+/// with the script's name, or `line N:` and the fault of the first bad line, on `faults`; 3 after
+/// `no memory`; or 5 where `out` refuses.
+pub fn run_script<A: Allocator + Copy, R: Read, W: Write, F: Write>(
+    alloc: A,
+    name: &str,
+    hex: bool,
+    input: &mut R,
+    out: &mut W,
+    faults: &mut F,
+) -> u8
+    ensures statuses { Contains (0 ∷ 1 ∷ 3 ∷ 5 ∷ []) result }
+    // Nothing is run of a script with a bad line.
+    ensures judged { (result ≡ 0) ⊎ (result ≡ 5) → IfSome (R.remaining input.old) IsGoodScript }
+    ensures silent { result ≡ 1 → out.new ≡ out.old }
+{
+    match run_input(alloc, name, hex, input, out) {
+        Ok(()) => 0,
+        Err(stop) => stop.report(faults),
+    }
+}

@@ -1,0 +1,40 @@
+//! The words of a line. One space separates two.
+
+ghost use Rattle.std.specs.Prelude.{◌≡◌, ◌∷◌, [], MatchOption, option_copied};
+ghost use Rattle.fw_script.specs.Words.{words_of, words_left, HasWords};
+
+use crate::split::split_once;
+
+/// The first word of a text, and the text after the space that ends it, if a space does.
+pub(crate) fn split_word(text: &[u8]) -> (&[u8], Option<&[u8]>)
+    ensures { words_of text.now ≡ result.0.now ∷ words_left (option_copied result.1) }
+{
+    split_once(text, b' ')
+}
+
+/// The one word of the rest of a line, if it is one and not empty.
+pub(crate) fn one_word(rest: Option<&[u8]>) -> Option<&[u8]>
+    ensures { let words = words_left (option_copied rest.entry) in MatchOption result
+        (¬ (HasWords 1 words))
+        (λ word. HasWords 1 (word.now ∷ []) × (words ≡ word.now ∷ [])) }
+{
+    match split_word(rest?) {
+        (_, Some(_)) => None,
+        (word, None) if word.is_empty() => None,
+        (word, None) => Some(word),
+    }
+}
+
+/// The two words of the rest of a line, if they are two and neither is empty.
+pub(crate) fn two_words(rest: Option<&[u8]>) -> Option<(&[u8], &[u8])>
+    ensures { let words = words_left (option_copied rest.entry) in MatchOption result
+        (¬ (HasWords 2 words))
+        (λ two. HasWords 2 (two.0.now ∷ two.1.now ∷ []) × (words ≡ two.0.now ∷ two.1.now ∷ [])) }
+{
+    let (first, rest) = split_word(rest?);
+    if first.is_empty() {
+        return None;
+    }
+    let second = one_word(rest)?;
+    Some((first, second))
+}
