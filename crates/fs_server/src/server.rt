@@ -1,13 +1,18 @@
 //! The server.
 
-ghost use Rattle.std.specs.Prelude.{◌≡◌, ◌<◌, ◌^◌};
+ghost use Rattle.std.specs.Prelude.{◌≡◌, ◌≢◌, ◌<◌, ◌≤◌, ◌^◌, OnErr};
+ghost use Rattle.fuse_spec.specs.Maps.{get};
+ghost use Rattle.fuse_spec.specs.Numbers.{max_validity};
+ghost use Rattle.fuse_spec.specs.Worlds.{first_server};
+ghost use Rattle.fuse_spec.specs.Copies.{remounted};
 
-use crate::held::{HeldRequest, KeptReply, SentCopy};
-use fk_wire::{Request, RequestBody, WireFault, read_request};
+use crate::held::{HeldBody, HeldRequest, KeptReply, SentCopy, SentReply};
+use fk_wire::{Request, RequestBody, read_request};
 use fuse_frames::ReplyCopy;
 use fuse_spec::{Attributes, Kind, Refusal, ReplyResult, Taken, Validity};
 use fuse_tables::Table;
 use std::alloc::{Allocator, Global};
+use std::marker::Model;
 use thiserror::Error;
 
 /// The root's node.
@@ -15,9 +20,6 @@ const ROOT: u64 = 1;
 
 /// No counter gives a number from here on.
 const COUNTER_END: u64 = 0x4000_0000_0000_0000;
-
-/// The longest validity of a name, a day in milliseconds (this project's rule).
-const MAX_VALIDITY: u64 = 86_400_000;
 
 /// What is wrong with a request frame: the first that applies.
 #[derive(Clone, Copy, Debug, PartialEq, Eq, Error)]
@@ -54,9 +56,27 @@ pub struct Server<A: Allocator + Copy = Global> {
     validity: Validity,
 }
 
+impl<A: Allocator + Copy> Model for Server<A> {
+    ghost use Rattle.std.specs.Prelude.{false};
+    ghost use Rattle.std.specs.Coded.{codes};
+    ghost use Rattle.fuse_spec.specs.Server.{Server as ServerState};
+    ghost use Rattle.fs_server.specs.Values.{root_alone, no_nodes, no_handles};
+    ghost use Rattle.fs_server.specs.Effects.{IsSound};
+
+    ghost Value = { ServerState };
+
+    ghost coded = { Prim.hlevel (codes) };
+
+    ghost view = { λ s. record { tree = root_alone; nodes = no_nodes; handles = no_handles; held = s.held.entries; kept = s.kept.entries; copies = s.copies.entries; next_copy = s.next_copy; validity = s.validity; aborted = false } };
+
+    ghost invariant = { λ s. IsSound s.held.entries s.kept.entries s.copies.entries s.next_copy s.validity.missing_ms };
+}
+
 impl<A: Allocator + Copy> Server<A> {
     /// A server before its first mount.
-    pub fn new(alloc: A) -> Self {
+    pub fn new(alloc: A) -> Self
+        ensures { result ≡ first_server }
+    {
         Server {
             alloc,
             held: Table::new(alloc),
@@ -71,13 +91,16 @@ impl<A: Allocator + Copy> Server<A> {
     }
 
     /// A new mount: held requests, kept replies and copies go; copy numbers go on. Validities are in milliseconds.
-    pub fn remount(&mut self, found_ms: u64, missing_ms: u64) {
+    pub fn remount(&mut self, found_ms: u64, missing_ms: u64)
+        requires { missing_ms ≤ max_validity }
+        ensures { self.new ≡ remounted self.old (record { found_ms = found_ms; missing_ms = missing_ms }) }
+    {
         self.held.clear();
         self.kept.clear();
         self.copies.clear();
         self.validity = Validity {
             found_ms,
-            missing_ms: missing_ms.min(MAX_VALIDITY),
+            missing_ms,
         };
     }
 
@@ -87,7 +110,9 @@ impl<A: Allocator + Copy> Server<A> {
     ///
     /// The first of `Wire`, `UnknownNode`, `RepeatedUnique` and `Memory` that applies; the server is as before.
     /// For now INIT, LOOKUP and GETATTR alone are served.
-    pub fn take(&mut self, bytes: &[u8]) -> Result<(u64, Taken), ServerFault> {
+    pub fn take(&mut self, bytes: &[u8]) -> Result<(u64, Taken), ServerFault>
+        ensures { OnErr result (self.new ≡ self.old) }
+    {
         let Ok(request) = read_request(bytes) else {
             return Err(ServerFault::Wire);
         };
@@ -110,19 +135,20 @@ impl<A: Allocator + Copy> Server<A> {
     }
 
     fn held_request(&self, request: &Request<'_>) -> Result<HeldRequest<A>, ServerFault> {
-        match request.body {
-            RequestBody::Init { flags, .. } => Ok(HeldRequest::Init { flags }),
+        let body = match request.body {
+            RequestBody::Init { flags, .. } => HeldBody::Init { flags },
             RequestBody::Lookup { name } => match name.to_vec(self.alloc) {
-                Ok(name) => Ok(HeldRequest::Lookup { name }),
-                Err(_) => Err(ServerFault::Memory),
+                Ok(name) => HeldBody::Lookup { name },
+                Err(_) => return Err(ServerFault::Memory),
             },
-            _ => Ok(HeldRequest::Getattr),
-        }
+            _ => HeldBody::Getattr,
+        };
+        Ok(HeldRequest::new(body))
     }
 
     /// Why a request cannot be performed, want of memory aside.
     pub fn perform_refusal(&self, unique: u64) -> Option<Refusal>
-        ensures { result ≡ None → self.now.next_copy < 2 ^ 62 }
+        ensures { result ≡ None → (self.now.next_copy < 2 ^ 62) × (get self.now.held unique ≢ None) }
     {
         if self.held.get(unique).is_none() {
             return Some(Refusal::NoSuch);
@@ -139,51 +165,55 @@ impl<A: Allocator + Copy> Server<A> {
     ///
     /// `NoSuch` where no request is held under the unique, `Exhausted` where no copy number is left; then `NoMemory`.
     /// The server is as before.
-    pub fn perform(&mut self, unique: u64) -> Result<Done<A>, Refusal> {
+    pub fn perform(&mut self, unique: u64) -> Result<Done<A>, Refusal>
+        ensures { OnErr result (self.new ≡ self.old) }
+    {
         if let Some(refusal) = self.perform_refusal(unique) {
             return Err(refusal);
         }
         let number = self.next_copy;
-        if self.kept.get(unique).is_some() || self.copies.get(number).is_some() {
-            return Err(Refusal::NoSuch);
-        }
         let Ok(()) = self.kept.reserve(1) else {
             return Err(Refusal::NoMemory);
         };
         let Ok(()) = self.copies.reserve(1) else {
             return Err(Refusal::NoMemory);
         };
-        let copy = self.reply(unique, number)?;
+        let (reply, copy) = self.reply(unique, number)?;
         let _held = self.held.remove(unique);
-        self.kept.put(unique, KeptReply { first: number });
-        self.copies.put(
-            number,
-            SentCopy {
-                unique,
-                first: number,
-            },
-        );
+        self.kept.put(unique, KeptReply::new(reply, number));
+        self.copies
+            .put(number, SentCopy::new(unique, reply, number));
         self.next_copy = number + 1;
         Ok(Done { errno: 0, copy })
     }
 
     /// The reply to a held request. In a tree that is the root alone each name is missing.
-    fn reply(&self, unique: u64, number: u64) -> Result<ReplyCopy<A>, Refusal> {
+    fn reply(&self, unique: u64, number: u64) -> Result<(SentReply, ReplyCopy<A>), Refusal> {
         let Some(held) = self.held.get(unique) else {
             return Err(Refusal::NoSuch);
         };
-        let copy = match held {
-            HeldRequest::Init { flags } => ReplyCopy::agreed(self.alloc, number, unique, *flags),
-            HeldRequest::Lookup { .. } => {
-                let missing_ms = self.validity.missing_ms.min(MAX_VALIDITY);
-                ReplyCopy::missing(self.alloc, number, unique, missing_ms)
+        let (reply, copy) = match held.body() {
+            HeldBody::Init { flags } => (
+                SentReply::Agreed,
+                ReplyCopy::agreed(self.alloc, number, unique, *flags),
+            ),
+            HeldBody::Lookup { .. } => {
+                let missing_ms = self.validity.missing_ms;
+                (
+                    SentReply::Missing { missing_ms },
+                    ReplyCopy::missing(self.alloc, number, unique, missing_ms),
+                )
             }
-            HeldRequest::Getattr => {
-                ReplyCopy::attributes(self.alloc, number, unique, &root_attributes())
+            HeldBody::Getattr => {
+                let attributes = root_attributes();
+                (
+                    SentReply::Attributes(attributes),
+                    ReplyCopy::attributes(self.alloc, number, unique, &attributes),
+                )
             }
         };
         match copy {
-            Ok(copy) => Ok(copy),
+            Ok(copy) => Ok((reply, copy)),
             Err(_) => Err(Refusal::NoMemory),
         }
     }
@@ -193,16 +223,24 @@ impl<A: Allocator + Copy> Server<A> {
     /// # Errors
     ///
     /// `NoSuch` where no copy of this number was sent, or it is settled already; the server is as before.
-    pub fn settle(&mut self, settled: ReplyResult) -> Result<(), Refusal> {
+    pub fn settle(&mut self, settled: ReplyResult) -> Result<(), Refusal>
+        ensures { OnErr result (self.new ≡ self.old) }
+    {
         let Some(copy) = self.copies.remove(settled.number) else {
             return Err(Refusal::NoSuch);
         };
-        if let Some(kept) = self.kept.get(copy.unique)
-            && kept.first == copy.first
-        {
-            let _kept = self.kept.remove(copy.unique);
+        if self.keeps_first(copy.unique(), copy.first()) {
+            let _kept = self.kept.remove(copy.unique());
         }
         Ok(())
+    }
+
+    /// Whether the reply under a unique is kept, and its first copy has this number.
+    fn keeps_first(&self, unique: u64, first: u64) -> bool {
+        match self.kept.get(unique) {
+            Some(kept) => kept.first() == first,
+            None => false,
+        }
     }
 }
 
