@@ -6,7 +6,7 @@ use Rattle.std.proofs.lemmas.Bool.Decides.{nat_tests}
 use Rattle.std.specs.Prelude.{nat_le}
 use Rattle.std.specs.List.{position_or_len}
 use Rattle.fuse_spec.specs.Paths.{Name, split, word_fault, first_fault}
-use Rattle.fk_kernel.specs.Values.{words_in, state_of, word_of}
+use Rattle.fk_kernel.specs.Values.{words_in}
 
 -- how many bytes stand before the first slash
 abbrev pub first_len : List ℕ → ℕ
@@ -51,9 +51,9 @@ module _ (place : ℕ) (bytes : List ℕ) (n : ℕ) (len : n ≡ first_len bytes
   pub no_fault : word_fault place (take n bytes) ≡ None → n ≡ length bytes → first_fault place (split [] bytes) ≡ None
   no_fault none end = rw (split_at, none, first_fault) (ap (λ (bs : List ℕ). first_fault (place + 1) (words_behind bs)) (drop_all n bytes (omega arith)))
 
-  -- the word that a call looks up is the first one
-  pub looked_up : 0 < length bytes → word_of (state_of (words_in bytes)) ≡ Some (take n bytes)
-  looked_up more = rw (words_there bytes more) (ap (λ (ws : List Name). word_of (state_of ws)) split_at)
+  -- where the first word is looked up, the others are still to come
+  pub looked_up : 0 < length bytes → words_in bytes ≡ take n bytes ∷ words_behind (drop n bytes)
+  looked_up more = words_there bytes more ∙ split_at
 
 -- only the first 32 words have no fault
 pub few_words : (place : ℕ) (word : Name) → word_fault place word ≡ None → place < 32

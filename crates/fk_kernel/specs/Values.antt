@@ -1,9 +1,9 @@
 -- What contracts see of the kernel's parts.
-use Rattle.std.specs.Prelude.{ℕ, List, [], ◌∷◌, Option, Some, None}
+use Rattle.std.specs.Prelude.{ℕ, List, [], ◌∷◌}
 use Rattle.fuse_spec.specs.Paths.{Name, split}
 use Rattle.fuse_spec.specs.Operations.{getattr}
 use Rattle.fuse_spec.specs.Walks.{last, stat}
-use Rattle.fuse_spec.specs.Vfs.{CallState, walking, doing, using}
+use Rattle.fuse_spec.specs.Vfs.{CallState, walking, doing}
 use Rattle.fuse_spec.specs.Answers as answer
 use Rattle.fuse_spec.specs.Calls as call
 use Rattle.fuse_spec.specs.declared.Opened.{Opened}
@@ -21,12 +21,6 @@ words_in (b ∷ bytes) = split [] (b ∷ bytes)
 abbrev pub state_of : List Name → CallState Opened
 state_of [] = doing (getattr 1)
 state_of (word ∷ words) = walking 1 word words (last stat)
-
--- the word that a call looks up, if it looks one up
-abbrev pub word_of : CallState Opened → Option Name
-word_of (walking directory word words plan) = Some word
-word_of (doing operation) = None
-word_of (using handle operation) = None
 
 abbrev pub answer_of : Answer → answer.Answer
 answer_of (Attributes attributes) = answer.attributes attributes

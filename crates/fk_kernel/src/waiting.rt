@@ -1,7 +1,8 @@
 //! Unanswered calls, and answers that wait to be collected.
 
-ghost use Rattle.std.specs.Prelude.{◌≡◌, MatchOption};
-ghost use Rattle.fk_kernel.specs.Values.{words_in, state_of, word_of, answer_of};
+ghost use Rattle.std.specs.Prelude.{◌≡◌, List, [], ◌∷◌, MatchOption};
+ghost use Rattle.fuse_spec.specs.Paths.{Name};
+ghost use Rattle.fk_kernel.specs.Values.{words_in, state_of, answer_of};
 
 use crate::call::Answer;
 use crate::path::word_len;
@@ -37,7 +38,7 @@ impl<A: Allocator> WaitingCall<A> {
 
     /// The word that is looked up, if one is.
     pub(crate) fn word(&self) -> Option<&[u8]>
-        ensures { MatchOption result (word_of self.now ≡ None) (λ word. word_of self.now ≡ Some word.now) }
+        ensures { MatchOption result (self.now ≡ state_of []) (λ word. (words : List Name) × (self.now ≡ state_of (word.now ∷ words))) }
     {
         if self.words.is_empty() {
             return None;
