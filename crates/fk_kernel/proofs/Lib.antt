@@ -1,1 +1,4 @@
-mod Sound
+pub mod Sound
+pub mod Positions
+pub mod Words
+pub mod NamesInForce

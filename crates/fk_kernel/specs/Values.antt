@@ -1,14 +1,12 @@
 -- What contracts see of the kernel's parts.
-use Rattle.std.specs.Prelude.{ℕ, List, [], ◌∷◌, Option, Some, None}
+use Rattle.std.specs.Prelude.{ℕ, List, [], ◌∷◌}
 use Rattle.fuse_spec.specs.Paths.{Name, split}
-use Rattle.fuse_spec.specs.Maps.{NameMap, put_name}
 use Rattle.fuse_spec.specs.Operations.{getattr}
 use Rattle.fuse_spec.specs.Walks.{last, stat}
 use Rattle.fuse_spec.specs.Vfs.{CallState, walking, doing}
 use Rattle.fuse_spec.specs.Answers as answer
 use Rattle.fuse_spec.specs.Calls as call
 use Rattle.fuse_spec.specs.declared.Opened.{Opened}
-use Rattle.fuse_spec.specs.declared.Binding.{Binding}
 use Rattle.fk_kernel.specs.declared.call.Answer.{Answer}
 use Rattle.fk_kernel.specs.declared.call.Answer.TheVariants.{Attributes, Failed}
 use Rattle.fk_kernel.specs.declared.call.Call.{Call}

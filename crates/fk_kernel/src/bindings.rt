@@ -1,6 +1,10 @@
 //! Names in force, as a plain list.
 
-ghost use Rattle.std.specs.Prelude.{◌≡◌, ◌<◌, [], length, IfSome, OnErr};
+ghost use Rattle.std.specs.Prelude.{◌≡◌, [], OnOk, OnErr};
+ghost use Rattle.std.specs.List.{position};
+ghost use Rattle.fuse_spec.specs.Maps.{get_name, put_name};
+ghost use Rattle.fuse_spec.specs.Vfs.{valid_at};
+ghost use Rattle.fk_kernel.specs.Bound.{is_name, found_of};
 
 use fuse_spec::Binding;
 use std::alloc::{AllocError, Allocator};
@@ -51,7 +55,9 @@ impl<A: Allocator + Copy> Bindings<A> {
     }
 
     /// What the name leads to while it is valid: before its end.
-    pub(crate) fn find(&self, directory: u64, name: &[u8], now: u64) -> Found {
+    pub(crate) fn find(&self, directory: u64, name: &[u8], now: u64) -> Found
+        ensures { result ≡ found_of (valid_at now (get_name self.now (directory, name.now))) }
+    {
         let Some(place) = place_of(&self.names, directory, name) else {
             return Found::Unknown;
         };
@@ -73,7 +79,8 @@ impl<A: Allocator + Copy> Bindings<A> {
         name: &[u8],
         binding: Binding,
     ) -> Result<(), AllocError>
-        ensures { OnErr result (self.new ≡ self.old) }
+        ensures put { OnOk result (self.new ≡ put_name self.old (directory, name.now) binding) }
+        ensures refused { OnErr result (self.new ≡ self.old) }
     {
         match place_of(&self.names, directory, name) {
             Some(place) => {
@@ -102,13 +109,7 @@ impl<A: Allocator + Copy> Bindings<A> {
 
 /// Where a name stands in the list.
 fn place_of<A: Allocator>(names: &[BoundName<A>], directory: u64, name: &[u8]) -> Option<usize>
-    ensures { IfSome result (λ place. place < length names.now) }
+    ensures { result ≡ position (is_name directory name.now) names.now }
 {
-    for place in 0..names.len() {
-        let bound = &names[place];
-        if bound.directory == directory && bound.name.as_slice() == name {
-            return Some(place);
-        }
-    }
-    None
+    names.iter().position(|bound| bound.directory == directory && bound.name.as_slice() == name)
 }

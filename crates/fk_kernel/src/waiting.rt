@@ -1,6 +1,7 @@
 //! Unanswered calls, and answers that wait to be collected.
 
-ghost use Rattle.std.specs.Prelude.{◌≡◌};
+ghost use Rattle.std.specs.Prelude.{◌≡◌, List, [], ◌∷◌, MatchOption};
+ghost use Rattle.fuse_spec.specs.Paths.{Name};
 ghost use Rattle.fk_kernel.specs.Values.{words_in, state_of, answer_of};
 
 use crate::call::Answer;
@@ -36,7 +37,9 @@ impl<A: Allocator> WaitingCall<A> {
     }
 
     /// The word that is looked up, if one is.
-    pub(crate) fn word(&self) -> Option<&[u8]> {
+    pub(crate) fn word(&self) -> Option<&[u8]>
+        ensures { MatchOption result (self.now ≡ state_of []) (λ word. (words : List Name) × (self.now ≡ state_of (word.now ∷ words))) }
+    {
         if self.words.is_empty() {
             return None;
         }
