@@ -103,6 +103,13 @@ fn run_events<A: Allocator + Copy, W: Write>(
             run_event(&mut world, event, &mut records, hex, out)?;
         }
     }
+    flush(out)
+}
+
+/// Hands on all that was written.
+fn flush<W: Write>(out: &mut W) -> Result<(), Stop<'static>>
+    ensures { IfErr result (λ stop. status_of stop ≢ 1) }
+{
     out.flush().map_err(|_| Stop::OutputRefused)
 }
 
