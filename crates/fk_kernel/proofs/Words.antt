@@ -28,7 +28,7 @@ split_on word (b ∷ bytes) =
 pub split_first : (bytes : List ℕ) → split [] bytes ≡ take (first_len bytes) bytes ∷ words_behind (drop (first_len bytes) bytes)
 split_first bytes = split_on [] bytes
 
-words_there : (bytes : List ℕ) → 0 < length bytes → words_in bytes ≡ split [] bytes
+pub words_there : (bytes : List ℕ) → 0 < length bytes → words_in bytes ≡ split [] bytes
 words_there [] more = absurd (omega arith)
 words_there (b ∷ bytes) more = refl
 

@@ -1,8 +1,9 @@
 //! Paths: words between single slashes, behind a leading slash (this project's rule).
 
-ghost use Rattle.std.specs.Prelude.{◌≡◌, nat_eq, [], drop, MatchOption};
+ghost use Rattle.std.specs.Prelude.{◌≡◌, nat_eq, [], drop, All, IfNone, MatchOption};
 ghost use Rattle.std.specs.List.{position, position_or_len};
 ghost use Rattle.fuse_spec.specs.Paths.{split, word_fault, first_fault, words_of};
+ghost use Rattle.fk_wire.specs.Fields.{IsName};
 ghost use Rattle.fk_kernel.specs.Values.{words_in};
 
 /// A path has at most so many words.
@@ -50,7 +51,8 @@ pub(crate) fn word_len(bytes: &[u8]) -> usize
 
 /// The first fault of a path, as an error number. `/` alone is the root and has no words.
 pub(crate) fn path_fault(path: &[u8]) -> Option<u32>
-    ensures { MatchOption result (words_of path.now ≡ Ok (words_in (drop 1 path.now))) (λ errno. words_of path.now ≡ Err errno) }
+    ensures words { MatchOption result (words_of path.now ≡ Ok (words_in (drop 1 path.now))) (λ errno. words_of path.now ≡ Err errno) }
+    ensures named { IfNone result (All IsName (words_in (drop 1 path.now))) }
 {
     let [b'/', rest @ ..] = path else {
         return Some(EINVAL);

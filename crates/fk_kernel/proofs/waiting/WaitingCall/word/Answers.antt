@@ -1,6 +1,5 @@
-use Rattle.std.proofs.Common.{rules, ◌≡◌, List, ◌∷◌, take, drop, length, ◌<◌, ap, arith}
-use Rattle.fuse_spec.specs.Paths.{Name}
-use Rattle.fk_kernel.specs.Values.{words_in, state_of}
+use Rattle.std.proofs.Common.{rules, drop, length, ◌<◌, ap}
+use Rattle.fk_kernel.specs.Values.{state_of}
 use Rattle.fk_kernel.proofs.Words.{looked_up, words_behind}
 use Rattle.fk_kernel.proofs.waiting.WaitingCall.word.Goals as goal
 
