@@ -51,11 +51,7 @@ fn find_in<V>(rows: &[(u64, V)], key: u64) -> Option<usize>
         return None;
     }
     let row = &rows[place];
-    if row.0 == key {
-        Some(place)
-    } else {
-        None
-    }
+    if row.0 == key { Some(place) } else { None }
 }
 
 impl<V: Drop, A: Allocator + Copy> Table<V, A> {

@@ -60,7 +60,11 @@ fn refused_at<A: Allocator + Copy>(
         let before = heap.left();
         let mut outcome = world.step(event);
         let was_refused = before != 0 && heap.left() == 0;
-        assert_eq!(rt; outcome == Err(Refusal::NoMemory), was_refused, "{n} {event:?}");
+        assert_eq!(rt;
+            outcome == Err(Refusal::NoMemory),
+            was_refused,
+            "{n} {event:?}"
+        );
         if was_refused {
             refused = refused.saturating_add(1);
             outcome = world.step(event);
@@ -111,9 +115,21 @@ fn records_are_outcomes_and_answers(rt: HostRuntime) -> Result<(), Fail> {
     assert_eq!(rt; run(&mut world, &STAT_OF_MISSING, &mut records), Ok(()));
     assert_eq!(rt; records.len(), 13);
     assert_eq!(rt; records[0], Record::Outcome(Outcome::Mounted));
-    assert_eq!(rt; records[10], Record::Outcome(Outcome::Written { unique: 4, errno: 0 }));
+    assert_eq!(rt;
+        records[10],
+        Record::Outcome(Outcome::Written {
+            unique: 4,
+            errno: 0
+        })
+    );
     let answer = Answer::Failed { errno: 2 };
     assert_eq!(rt; records[11], Record::Answered { call: 1, answer });
-    assert_eq!(rt; records[12], Record::Outcome(Outcome::Settled { unique: 4, errno: 0 }));
+    assert_eq!(rt;
+        records[12],
+        Record::Outcome(Outcome::Settled {
+            unique: 4,
+            errno: 0
+        })
+    );
     Ok(())
 }
