@@ -78,6 +78,38 @@ expect frame-of-half-a-byte 1 "" "bad hex$newline" frame 2a0
 expect frame-in-capitals 1 "" "bad hex$newline" frame 2A
 expect_full frame-output-refused 5 "" frame 2a
 
+# One frame of each opcode, under unique 4 and about node 2. INIT, INTERRUPT and BATCH_FORGET are about no node.
+zeros() { printf "%0$((2 * $1))d" 0; }
+low32() { printf '%02x%02x%02x%02x' $(($1 & 255)) $(($1 >> 8 & 255)) $(($1 >> 16 & 255)) $(($1 >> 24 & 255)); }
+low64() { low32 "$1"; zeros 4; }
+range() { low64 1; zeros 8; low32 "$1"; zeros 20; }
+while read -r name number node len body; do
+    case $body in
+        range:*) rest=${body#range:}; body=$(range "${rest%%:*}")${rest#*:} ;;
+    esac
+    frame=$(low32 "$len")$(low32 "$number")$(low64 4)$(low64 2)$(zeros 16)$body
+    expect "frame-of-$name" 0 "$name 4 $node $len$newline" "" frame "$frame"
+done << END
+LOOKUP 1 2 42 6100
+FORGET 2 2 48 $(low64 3)
+GETATTR 3 2 56 $(zeros 16)
+MKDIR 9 2 50 $(low32 493)$(zeros 4)6100
+UNLINK 10 2 42 6100
+RMDIR 11 2 42 6100
+RENAME 12 2 52 $(low64 1)61006200
+LINK 13 2 50 $(low64 3)6200
+OPEN 14 2 48 $(zeros 8)
+READ 15 2 80 range:10:
+WRITE 16 2 82 range:2:6869
+RELEASE 18 2 64 $(low64 1)$(zeros 16)
+INIT 26 0 56 $(low32 7)$(low32 31)$(zeros 4)01000400
+READDIR 28 2 80 range:4096:
+CREATE 35 2 58 $(zeros 4)$(low32 33188)$(zeros 8)6100
+INTERRUPT 36 0 48 $(low64 4)
+BATCH_FORGET 42 0 80 $(low32 2)$(zeros 4)$(low64 2)$(low64 1)$(low64 3)$(low64 1)
+END
+expect frame-of-readdirplus 0 "fault 3 Opcode$newline" "" frame "$(low32 80)$(low32 44)$(low64 4)$(low64 2)$(zeros 16)$(range 4096)"
+
 # Scripts that are not run.
 printf 'call stat' > "$work/script"
 expect no-path 1 "" "line 1: wrong words$newline" run "$work/script"
