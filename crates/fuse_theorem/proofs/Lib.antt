@@ -8,3 +8,8 @@ pub mod HeldOperations
 pub mod Trees
 pub mod Ticking
 pub mod First
+pub mod Advancing
+pub mod Finding
+pub mod Asking
+pub mod Releasing
+pub mod Calling

@@ -1,0 +1,25 @@
+-- What every world keeps of its numbers: which were drawn, and which request serves which call.
+use Rattle.std.specs.Prelude.{◌≡◌, ◌≤◌, ◌<◌, ℕ, true, cond, Some, None, All, count_by, is_some}
+use Rattle.fuse_spec.specs.declared.Purpose.{Purpose}
+use Rattle.fuse_spec.specs.declared.QueuedRequest.{QueuedRequest}
+use Rattle.fuse_spec.specs.Maps.{get}
+use Rattle.fuse_spec.specs.Queues.{QueueState, IsSound}
+use Rattle.fuse_spec.specs.Messages.{Request}
+use Rattle.fuse_spec.specs.Kernel.{is_live, is_for}
+use Rattle.fuse_spec.specs.Server.{HeldRequest, Kept}
+use Rattle.fuse_spec.specs.Worlds.{World, Sent}
+
+-- how many requests serve a call
+abbrev pub requests_for : ℕ → QueueState Purpose → ℕ
+requests_for call s = count_by (λ (e : ℕ × QueuedRequest Purpose). is_for call e.1.kept) s.requests
+
+-- No call of the next number or a later one is unanswered; an unanswered call has one request at most, and an answered one none.
+-- What is on the links, held or kept bears a number that this mount has drawn.
+pub record IsNumbered (w : World) : Type 0 where
+  pub queues : IsSound w.kernel.queues
+  pub calls_below : (call : ℕ) → w.kernel.vfs.next_call ≤ call → get w.kernel.vfs.calls call ≡ None
+  pub one_request : (call : ℕ) → requests_for call w.kernel.queues ≤ cond (is_some (get w.kernel.vfs.calls call)) 1 0
+  pub sent_below : All (λ (r : Request). r.unique < w.kernel.queues.next) w.requests
+  pub replies_below : All (λ (sent : Sent). sent.unique < w.kernel.queues.next) w.replies
+  pub held_below : is_live w.kernel.phase ≡ true → (unique : ℕ) (t : HeldRequest) → get w.server.held unique ≡ Some t → unique < w.kernel.queues.next
+  pub kept_below : is_live w.kernel.phase ≡ true → (unique : ℕ) (k : Kept) → get w.server.kept unique ≡ Some k → unique < w.kernel.queues.next
