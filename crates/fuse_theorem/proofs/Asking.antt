@@ -43,7 +43,7 @@ pub record Paused (w : World) (p : Plain) (call : ℕ) : Type 0 where
   pub requests : RequestsAlike w p
   pub asks : is_live w.kernel.phase ≡ true → AsksAlikeBut w p call
 
-match_more : {X : Type 0} {P Q : X → Type 0} (o : Option X) → ((x : X) → P x → Q x) → MatchOption o ⊥ P → MatchOption o ⊥ Q
+pub match_more : {X : Type 0} {P Q : X → Type 0} (o : Option X) → ((x : X) → P x → Q x) → MatchOption o ⊥ P → MatchOption o ⊥ Q
 match_more None f h = h
 match_more (Some x) f h = f x h
 

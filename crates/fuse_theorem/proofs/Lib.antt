@@ -13,3 +13,5 @@ pub mod Finding
 pub mod Asking
 pub mod Releasing
 pub mod Calling
+pub mod Queuing
+pub mod Reading
