@@ -15,3 +15,5 @@ pub mod Releasing
 pub mod Calling
 pub mod Queuing
 pub mod Reading
+pub mod Meaning
+pub mod Taking
