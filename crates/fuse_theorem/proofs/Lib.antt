@@ -17,3 +17,4 @@ pub mod Queuing
 pub mod Reading
 pub mod Meaning
 pub mod Taking
+pub mod Changing
