@@ -1,6 +1,7 @@
 -- The two worlds side by side, moved by the same events.
 use Rattle.std.specs.Prelude.{◌≡◌, ℕ, ◌+◌, cond, List, [], ◌∷◌, ◌++◌, Option, Some, None, Ok, Err, map, nat_eq, find, option_map}
 use Rattle.fuse_spec.specs.Nodes.{HeldNode, file_of}
+use Rattle.fuse_spec.specs.Kernel.{request_of}
 use Rattle.fuse_spec.specs.Worlds.{World, first_world}
 use Rattle.fuse_spec.specs.Events.{Event, Outcome}
 use Rattle.fuse_spec.specs.Records.{Record, outcome, refused, answered, answers_of, collected}
@@ -31,9 +32,15 @@ pub record Both : Type 0 where
   pub records : List Record
   pub plain_records : List Record
 
--- A label is the unique that the kernel gives next, and a dropped name's directory is the file of its node.
+abbrev pub number_or : ℕ → Option ℕ → ℕ
+number_or other None = other
+number_or other (Some n) = n
+
+-- A label is the unique that the kernel gives next, or that of the request of the call that is signalled. A dropped name's directory
+-- is the file of its node.
 abbrev pub label : World → Event → ℕ
 label w (event.drop_name node name) = file_of w.server.nodes node
+label w (event.intr call fatal) = number_or 0 (request_of w.kernel call)
 label w other = w.kernel.queues.next
 
 abbrev pub taken : World → Event → Outcome → Option Plain → Option Plain

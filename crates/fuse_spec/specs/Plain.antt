@@ -1,6 +1,6 @@
 -- The plain world: a tree, the system calls' side and what was asked, over the files themselves. It has no node id, generation,
 -- count, unique, queue, message or table.
-use Rattle.std.specs.Prelude.{ℕ, Bool, true, false, [], ◌∷◌, Option, Some, None, nat_eq, find}
+use Rattle.std.specs.Prelude.{ℕ, Bool, true, false, [], ◌∷◌, Option, Some, None}
 use Rattle.fuse_spec.specs.declared.Validity.{Validity}
 use Rattle.fuse_spec.specs.Maps.{Map, put, remove, remove_name}
 use Rattle.fuse_spec.specs.Numbers.{eintr}
@@ -74,10 +74,6 @@ ask_noted p label ask = record p { asks = put p.asks label (record ask { noted =
 
 abbrev pub ask_marked : Plain → (label : ℕ) → Ask → Plain
 ask_marked p label ask = record p { asks = put p.asks label (record ask { marked = true }) }
-
--- The label of the call's ask.
-abbrev pub label_of : Plain → ℕ → Option (ℕ × Ask)
-label_of p call = find (λ (e : ℕ × Ask). nat_eq e.1.call call) p.asks
 
 abbrev pub plain_later : Plain → ℕ → Plain
 plain_later p ms = record p { vfs = later p.vfs ms }

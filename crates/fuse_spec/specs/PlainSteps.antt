@@ -1,5 +1,5 @@
 -- Which steps the plain world takes with an event and its outcome. `chosen` is the label of the ask that the event puts,
--- if it puts one, or the directory in which a name is dropped.
+-- if it puts one, or of the ask that a signal reaches, or the directory in which a name is dropped.
 use Rattle.std.specs.Prelude.{◌≡◌, ℕ, ◌+◌, ◌-◌, Bool, ◌&&◌, cond, not, Option, Some, None, nat_eq, is_some}
 use Rattle.fuse_spec.specs.Maps.{get}
 use Rattle.fuse_spec.specs.Vfs.{CallState}
@@ -10,7 +10,7 @@ use Rattle.fuse_spec.specs.declared.WriteResult.TheVariants.{Accepted, NoEntry, 
 use Rattle.fuse_spec.specs.declared.Taken.TheVariants as word
 use Rattle.fuse_spec.specs.Events.{Event, Outcome}
 use Rattle.fuse_spec.specs.Events as event
-use Rattle.fuse_spec.specs.Plain.{Plain, Ask, Stage, waiting, performed, declined, call_begun, ask_performed, ask_declined, ask_told, ask_interrupted, ask_noted, ask_marked, label_of, plain_later, name_dropped, plain_aborted, plain_mounted}
+use Rattle.fuse_spec.specs.Plain.{Plain, Ask, Stage, waiting, performed, declined, call_begun, ask_performed, ask_declined, ask_told, ask_interrupted, ask_noted, ask_marked, plain_later, name_dropped, plain_aborted, plain_mounted}
 
 -- A step, where the condition holds.
 abbrev pub where_so : Bool → Plain → Option Plain
@@ -41,13 +41,17 @@ abbrev pub telling : Plain → (label next : ℕ) → Option Ask → Option Plai
 telling p label next None = Some p
 telling p label next (Some ask) = telling_ask p label next ask ask.stage
 
--- A signal is noted on the ask of its call; one that took the request off the list also ends the ask.
-abbrev pub signalling : Plain → IntrEffect → Option (ℕ × Ask) → Option Plain
-signalling p signal None = None
-signalling p effect.Dequeued (Some e) = Some (ask_interrupted p e.0 e.1)
-signalling p effect.Flagged (Some e) = Some (ask_noted p e.0 e.1)
-signalling p effect.Queued (Some e) = Some (ask_noted p e.0 e.1)
-signalling p effect.None (Some e) = Some (ask_noted p e.0 e.1)
+-- A signal is noted on an ask; one that took the request off the list also ends the ask.
+abbrev pub signalled_ask : Plain → IntrEffect → (label : ℕ) → Ask → Plain
+signalled_ask p effect.Dequeued label ask = ask_interrupted p label ask
+signalled_ask p effect.Flagged label ask = ask_noted p label ask
+signalled_ask p effect.Queued label ask = ask_noted p label ask
+signalled_ask p effect.None label ask = ask_noted p label ask
+
+-- A signal reaches the ask of its call.
+abbrev pub signalling : Plain → IntrEffect → (call label : ℕ) → Option Ask → Option Plain
+signalling p signal call label None = None
+signalling p signal call label (Some ask) = where_so (nat_eq ask.call call) (signalled_ask p signal label ask)
 
 abbrev pub marking : Plain → ℕ → Option Ask → Option Plain
 marking p label None = Some p
@@ -60,7 +64,7 @@ takes chosen p (event.perform unique) (event.performed u errno lost) = serving p
 takes chosen p (event.write k) (event.written unique Accepted) = telling p unique chosen (get p.asks unique)
 takes chosen p (event.write k) (event.written unique NoEntry) = Some p
 takes chosen p (event.write k) (event.written unique Invalid) = Some p
-takes chosen p (event.intr call fatal) (event.interrupted c effect) = signalling p effect (label_of p call)
+takes chosen p (event.intr call fatal) (event.interrupted c effect) = signalling p effect call chosen (get p.asks chosen)
 takes chosen p (event.take k) (event.taken unique word.Marked) = marking p (unique - 1) (get p.asks (unique - 1))
 takes chosen p (event.take k) (event.taken unique other) = Some p
 takes chosen p (event.tick ms) (event.now clock) = where_so (nat_eq clock (p.vfs.clock + ms)) (plain_later p ms)
