@@ -5,7 +5,7 @@ use Rattle.std.proofs.lemmas.List.Elements.{All-nil, All-cons, All-head, All-tai
 use Rattle.std.specs.Map.{lookup, remove_entry}
 use Rattle.fuse_spec.specs.Maps.{Map, get}
 use Rattle.fuse_spec.proofs.Tables.{tie_no}
-use Rattle.fuse_spec.proofs.QueueCounts.{key_count, count_by-cons}
+use Rattle.fuse_spec.proofs.QueueCounts.{key_count, count_by-cons, lookup-no_key}
 
 pub same_is : (a : ℕ) → nat_eq a a ≡ true
 same_is a = elim (eqb_tells a a) [ inl h ↦ h.0 | inr h ↦ absurd (h.1 refl) ]
@@ -93,3 +93,63 @@ absent {X} m = let low = keys_below m in (low.0, low.1 low.0 (omega arith))
     keys_below (e ∷ m) =
         let rest = keys_below m in
         (e.0 + 1 + rest.0, λ n le. ap (λ (b : Bool). cond b (Some e.1) (get m n)) (tie_no n e.0 (λ same. absurd (omega (arith, same, le)))) ∙ rest.1 n (omega (arith, le)))
+
+module _ {X : Type 0} where
+  -- each of those that pass a test and are left
+  pub All-filter_left : (P : ℕ × X → Type 0) (f : ℕ × X → Bool) (u : ℕ) (es : List (ℕ × X)) → All P (filter f es) → All P (filter f (remove_entry (nat_eq u) es))
+  All-filter_left P f u [] h = h
+  All-filter_left P f u (e ∷ es) h = by (nat_eq u e.0) (f e) refl (λ k. All-filter_left P f u es k)
+    where
+      by : (b c : Bool) → f e ≡ c → (All P (filter f es) → All P (filter f (remove_entry (nat_eq u) es))) → All P (filter f (cond b es (e ∷ remove_entry (nat_eq u) es)))
+      by true true q rest = All-tail P e (filter f es) (rw q at h)
+      by true false q rest = rw q at h
+      by false true q rest = rw q (All-cons P e (filter f (remove_entry (nat_eq u) es)) (All-head P e (filter f es) (rw q at h)) (rest (All-tail P e (filter f es) (rw q at h))))
+      by false false q rest = rw q (rest (rw q at h))
+
+  -- the first that passes a test stays the first as another key goes
+  pub find_left : (p : ℕ × X → Bool) (u v : ℕ) (es : List (ℕ × X)) → option_map (λ (e : ℕ × X). e.0) (find p es) ≡ Some v → v ≢ u → option_map (λ (e : ℕ × X). e.0) (find p (remove_entry (nat_eq u) es)) ≡ Some v
+  find_left p u v [] found ne = found
+  find_left p u v (e ∷ es) found ne = grind (arith, nat_tests, found, ne, find_left p u v es)
+
+  -- how many pass a test, the one that goes among them
+  pub count_left : (p : ℕ × X → Bool) (u : ℕ) (x : X) (es : List (ℕ × X)) → lookup (nat_eq u) es ≡ Some x → count_by p (remove_entry (nat_eq u) es) + cond (p (u, x)) 1 0 ≡ count_by p es
+  count_left p u x [] found = cc
+  count_left p u x (e ∷ es) found = by (nat_eq u e.0) refl (count_left p u x es)
+    where
+      counted : count_by p (e ∷ es) ≡ cond (p e) 1 0 + count_by p es
+      counted = count_by-cons p e es
+
+      by : (b : Bool) → nat_eq u e.0 ≡ b → (lookup (nat_eq u) es ≡ Some x → count_by p (remove_entry (nat_eq u) es) + cond (p (u, x)) 1 0 ≡ count_by p es)
+          → count_by p (remove_entry (nat_eq u) (e ∷ es)) + cond (p (u, x)) 1 0 ≡ count_by p (e ∷ es)
+      by true h rest =
+          let here : Some e.1 ≡ Some x = rw h at found in
+          let is : e.1 ≡ x = cc in
+          let key : u ≡ e.0 = grind (arith, nat_tests, h) in
+          let whole : p (u, x) ≡ p e = λ i. p (key i, sym is i) in
+          rw (h, counted, whole) (omega arith)
+      by false h rest =
+          let left : count_by p (e ∷ remove_entry (nat_eq u) es) ≡ cond (p e) 1 0 + count_by p (remove_entry (nat_eq u) es) = count_by-cons p e (remove_entry (nat_eq u) es) in
+          let more = rest (rw h at found) in
+          rw (h, counted, left) (omega (arith, more))
+
+  -- the entry that a test finds stands under its key, where each key stands once
+  pub found_entry : (p : ℕ × X → Bool) (es : List (ℕ × X)) (u : ℕ) → key_count u es ≤ 1 → option_map (λ (e : ℕ × X). e.0) (find p es) ≡ Some u → (x : X) × (lookup (nat_eq u) es ≡ Some x) × (p (u, x) ≡ true)
+  found_entry p [] u once found = absurd (cc)
+  found_entry p (e ∷ es) u once found = by (p e) refl found (found_entry p es u)
+    where
+      counted : key_count u (e ∷ es) ≡ cond (nat_eq u e.0) 1 0 + key_count u es
+      counted = count_by-cons (λ (d : ℕ × X). nat_eq u d.0) e es
+
+      later : (b : Bool) → nat_eq u e.0 ≡ b → (x : X) × (lookup (nat_eq u) es ≡ Some x) × (p (u, x) ≡ true) → (x : X) × (cond b (Some e.1) (lookup (nat_eq u) es) ≡ Some x) × (p (u, x) ≡ true)
+      later true h rest =
+          let none : key_count u es ≡ 0 = grind (arith, counted, once, h) in
+          absurd (cc (lookup-no_key u es none, rest.1))
+      later false h rest = rest
+
+      by : (b : Bool) → p e ≡ b → option_map (λ (d : ℕ × X). d.0) (cond b (Some e) (find p es)) ≡ Some u
+          → (key_count u es ≤ 1 → option_map (λ (d : ℕ × X). d.0) (find p es) ≡ Some u → (x : X) × (lookup (nat_eq u) es ≡ Some x) × (p (u, x) ≡ true))
+          → (x : X) × (lookup (nat_eq u) (e ∷ es) ≡ Some x) × (p (u, x) ≡ true)
+      by true h f rest =
+          let key : e.0 ≡ u = cc in
+          (e.1, subst (λ (n : ℕ). cond (nat_eq n e.0) (Some e.1) (lookup (nat_eq n) es) ≡ Some e.1) key (ap (λ (b : Bool). cond b (Some e.1) (lookup (nat_eq e.0) es)) (same_is e.0)), subst (λ (n : ℕ). p (n, e.1) ≡ true) key h)
+      by false h f rest = later (nat_eq u e.0) refl (rest (omega (arith, counted, once)) f)
