@@ -18,3 +18,4 @@ pub mod Reading
 pub mod Meaning
 pub mod Taking
 pub mod Changing
+pub mod Ending
