@@ -153,3 +153,17 @@ module _ {X : Type 0} where
           let key : e.0 ≡ u = cc in
           (e.1, subst (λ (n : ℕ). cond (nat_eq n e.0) (Some e.1) (lookup (nat_eq n) es) ≡ Some e.1) key (ap (λ (b : Bool). cond b (Some e.1) (lookup (nat_eq e.0) es)) (same_is e.0)), subst (λ (n : ℕ). p (n, e.1) ≡ true) key h)
       by false h f rest = later (nat_eq u e.0) refl (rest (omega (arith, counted, once)) f)
+
+  -- no more pass a test once one goes
+  pub count_less : (p : ℕ × X → Bool) (u : ℕ) (es : List (ℕ × X)) → count_by p (remove_entry (nat_eq u) es) ≤ count_by p es
+  count_less p u [] = omega arith
+  count_less p u (e ∷ es) = by (nat_eq u e.0) refl (count_less p u es)
+    where
+      counted : count_by p (e ∷ es) ≡ cond (p e) 1 0 + count_by p es
+      counted = count_by-cons p e es
+
+      by : (b : Bool) → nat_eq u e.0 ≡ b → count_by p (remove_entry (nat_eq u) es) ≤ count_by p es → count_by p (remove_entry (nat_eq u) (e ∷ es)) ≤ count_by p (e ∷ es)
+      by true h rest = rw (h, counted) (omega arith)
+      by false h rest =
+          let left : count_by p (e ∷ remove_entry (nat_eq u) es) ≡ cond (p e) 1 0 + count_by p (remove_entry (nat_eq u) es) = count_by-cons p e (remove_entry (nat_eq u) es) in
+          rw (h, counted, left) (omega (arith, rest))

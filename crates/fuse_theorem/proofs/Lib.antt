@@ -19,3 +19,4 @@ pub mod Meaning
 pub mod Taking
 pub mod Changing
 pub mod Ending
+pub mod Writing
