@@ -20,3 +20,5 @@ pub mod Taking
 pub mod Changing
 pub mod Ending
 pub mod Writing
+pub mod OnlyRoots
+pub mod FirstCalls
