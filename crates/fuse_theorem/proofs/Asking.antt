@@ -63,7 +63,7 @@ asked_beside R S all label ask unique signalled marked (batch_forget fs) ne old 
 asked_beside R S all label ask unique signalled marked (interrupt original) ne old = get_put_there all label ask unique ne ∙ old
 
 -- what a request that serves another call asks stays
-body_beside : (k l : Kernel) (call : ℕ) (kept : Purpose) → ((q : ℕ) → q ≢ call → get l.vfs.calls q ≡ get k.vfs.calls q) → is_for call kept ≡ false → body_of l kept ≡ body_of k kept
+pub body_beside : (k l : Kernel) (call : ℕ) (kept : Purpose) → ((q : ℕ) → q ≢ call → get l.vfs.calls q ≡ get k.vfs.calls q) → is_for call kept ≡ false → body_of l kept ≡ body_of k kept
 body_beside k l call purpose.Init others other = refl
 body_beside k l call (purpose.Release o) others other = refl
 body_beside k l call (purpose.Call q) others other = ap asked_by (others q (λ same. true≢false (sym (subst (λ (n : ℕ). nat_eq n call ≡ true) (sym same) (same_is call)) ∙ other)))

@@ -55,7 +55,7 @@ not_asked R S all unique signalled marked (forget f) ask there over old = cc
 not_asked R S all unique signalled marked (batch_forget fs) ask there over old = cc
 not_asked R S all unique signalled marked (interrupt original) ask there over old = cc
 
-is_get_none : {X : Type 0} (o : Option X) → ((x : X) → o ≡ Some x → ⊥) → o ≡ None
+pub is_get_none : {X : Type 0} (o : Option X) → ((x : X) → o ≡ Some x → ⊥) → o ≡ None
 is_get_none None f = refl
 is_get_none (Some x) f = absurd (f x refl)
 

@@ -26,6 +26,15 @@ module _ {X : Type 0} (p : X → Bool) where
       by true h rest = absurd (grind (arith, counted, none, h))
       by false h rest = All-cons (λ y. p y ≡ false) x xs h (rest (grind (arith, counted, none, h)))
 
+  -- where each fails the test, none passes
+  pub all_fail : (xs : List X) → All (λ x. p x ≡ false) xs → count_by p xs ≡ 0
+  all_fail [] h = refl
+  all_fail (x ∷ xs) h =
+      let counted = count_by-cons p x xs in
+      let first = All-head (λ y. p y ≡ false) x xs h in
+      let rest = all_fail xs (All-tail (λ y. p y ≡ false) x xs h) in
+      rw (counted, first) (omega (arith, rest))
+
   pub All-filter : (P : X → Type 0) (xs : List X) → All P xs → All P (filter p xs)
   All-filter P [] h = All-nil P
   All-filter P (x ∷ xs) h = by (p x) (All-filter P xs (All-tail P x xs h))
@@ -167,3 +176,15 @@ module _ {X : Type 0} where
       by false h rest =
           let left : count_by p (e ∷ remove_entry (nat_eq u) es) ≡ cond (p e) 1 0 + count_by p (remove_entry (nat_eq u) es) = count_by-cons p e (remove_entry (nat_eq u) es) in
           rw (h, counted, left) (omega (arith, rest))
+
+  -- what is found under a key is what holds of each
+  pub All-found : (P : ℕ × X → Type 0) (u : ℕ) (es : List (ℕ × X)) (x : X) → All P es → lookup (nat_eq u) es ≡ Some x → P (u, x)
+  All-found P u [] x h found = absurd (cc)
+  All-found P u (e ∷ es) x h found = by (nat_eq u e.0) refl found (λ f. All-found P u es x (All-tail P e es h) f)
+    where
+      by : (b : Bool) → nat_eq u e.0 ≡ b → cond b (Some e.1) (lookup (nat_eq u) es) ≡ Some x → (lookup (nat_eq u) es ≡ Some x → P (u, x)) → P (u, x)
+      by true q f rest =
+          let key : e.0 ≡ u = grind (arith, nat_tests, q) in
+          let is : e.1 ≡ x = cc in
+          subst P (λ i. (key i, is i)) (All-head P e es h)
+      by false q f rest = rest f

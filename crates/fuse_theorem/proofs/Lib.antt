@@ -22,3 +22,5 @@ pub mod Ending
 pub mod Writing
 pub mod OnlyRoots
 pub mod FirstCalls
+pub mod Numbered
+pub mod FirstSteps

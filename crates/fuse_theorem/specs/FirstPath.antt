@@ -17,7 +17,7 @@ use Rattle.fuse_spec.specs.Calls as call
 use Rattle.fuse_spec.specs.Vfs.{CallState, walking, doing, using}
 use Rattle.fuse_spec.specs.Queues.{QueueState, pending, request_under, is_signalled}
 use Rattle.fuse_spec.specs.Messages.{RequestBody, init, asks, release, forget, batch_forget, interrupt, Request, WireReply}
-use Rattle.fuse_spec.specs.Kernel.{Kernel, is_live, body_of}
+use Rattle.fuse_spec.specs.Kernel.{Kernel, is_live, is_aborted, body_of}
 use Rattle.fuse_spec.specs.Server.{Server, HeldRequest, Copy}
 use Rattle.fuse_spec.specs.Performs.{is_still_held}
 use Rattle.fuse_spec.specs.Worlds.{World, Sent}
@@ -78,6 +78,7 @@ pub record OnlyRoot (w : World) : Type 0 where
   pub copies : All (λ (sent : Sent). Replies w.kernel sent.unique sent.wire) w.replies
   pub server_copies : (number : ℕ) (copy : Copy) → get w.server.copies number ≡ Some copy → (files_in_reply copy.wire ≡ []) × (opens_in_reply copy.wire ≡ [])
   pub unmounted : is_live w.kernel.phase ≡ false → w.kernel.vfs.calls ≡ []
+  pub not_aborted : is_aborted w.kernel.phase ≡ false
   pub once : (unique : ℕ) → unperformed w unique ≤ 1
 
 -- The events of the first path.

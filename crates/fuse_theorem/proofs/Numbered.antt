@@ -1,0 +1,81 @@
+-- The numbers of a world stay in order as a call takes a step.
+use Rattle.std.proofs.Common.{◌≡◌, ◌≢◌, ℕ, ◌+◌, ◌<◌, ◌≤◌, Bool, true, false, cond, List, [], ◌∷◌, ◌++◌, Option, Some, None, nat_eq, is_some, count_by, refl, ap, sym, subst, ◌∙◌, arith, inl, inr, All}
+use Rattle.std.proofs.lemmas.Bool.{cases_eq}
+use Rattle.fuse_spec.specs.declared.Opened.{Opened}
+use Rattle.fuse_spec.specs.declared.Mark.TheVariants.{Unread}
+use Rattle.fuse_spec.specs.declared.Purpose.{Purpose}
+use Rattle.fuse_spec.specs.declared.Purpose.TheVariants as purpose
+use Rattle.fuse_spec.specs.declared.QueuedRequest.{QueuedRequest}
+use Rattle.fuse_spec.specs.Maps.{Map, get}
+use Rattle.fuse_spec.specs.Operations.{Operation}
+use Rattle.fuse_spec.specs.Uniques.{IsNextNumber}
+use Rattle.fuse_spec.specs.Vfs.{CallState, Advance}
+use Rattle.fuse_spec.specs.Queues.{QueueState}
+use Rattle.fuse_spec.specs.QueueCalls.{after_enqueue}
+use Rattle.fuse_spec.specs.Messages.{Request}
+use Rattle.fuse_spec.specs.Kernel.{Kernel, is_live, is_for, asking_for, advanced}
+use Rattle.fuse_spec.specs.Server.{HeldRequest, Kept}
+use Rattle.fuse_spec.specs.Worlds.{World, Sent}
+use Rattle.fuse_spec.proofs.QueueCounts.{count_by-push}
+use Rattle.fuse_spec.proofs.QueueSoundness.{IsSound-enqueue}
+use Rattle.fuse_theorem.specs.Numbering.{IsNumbered, requests_for}
+use Rattle.fuse_theorem.proofs.Finding.{same_is, other_is}
+use Rattle.fuse_theorem.proofs.Advancing.{WaitsFor, StepsAlone}
+
+module _ (w : World) (numbered : IsNumbered w) (coming call : ℕ) (next : Advance Opened) (none_for : requests_for call w.kernel.queues ≡ 0)
+    (alone : StepsAlone w.kernel.vfs.calls coming call next) (low : call < coming) (later : w.kernel.vfs.next_call ≤ coming) where
+  below : (c : ℕ) → next.vfs.next_call ≤ c → get next.vfs.calls c ≡ None
+  below c le =
+      let high : coming ≤ c = subst (λ (n : ℕ). n ≤ c) alone.coming_call le in
+      alone.others c (λ e. absurd (omega (arith, e, high, low))) ∙ numbered.calls_below c (omega (arith, later, high))
+
+  one_for : (c : ℕ) → requests_for c w.kernel.queues ≤ cond (is_some (get next.vfs.calls c)) 1 0
+  one_for c = elim (cases_eq c call) [
+      | inl e ↦ let none : requests_for c w.kernel.queues ≡ 0 = subst (λ (n : ℕ). requests_for n w.kernel.queues ≡ 0) (sym e) none_for in omega (arith, none)
+      | inr ne ↦ subst (λ (o : Option (CallState Opened)). requests_for c w.kernel.queues ≤ cond (is_some o) 1 0) (sym (alone.others c ne)) (numbered.one_request c)
+    ]
+
+  one_more : (operation : Operation ℕ Opened) → WaitsFor next.vfs.calls call (Some operation) → (c : ℕ)
+      → requests_for c (after_enqueue w.kernel.queues (purpose.Call call)) ≤ cond (is_some (get next.vfs.calls c)) 1 0
+  one_more operation waits c =
+      let new : ℕ × QueuedRequest Purpose = (w.kernel.queues.next, record { mark = Unread; kept = purpose.Call call }) in
+      let pushed : requests_for c (after_enqueue w.kernel.queues (purpose.Call call)) ≡ requests_for c w.kernel.queues + cond (nat_eq call c) 1 0 =
+          count_by-push (λ (e : ℕ × QueuedRequest Purpose). is_for c e.1.kept) w.kernel.queues.requests new in
+      elim (cases_eq c call) [
+        | inl e ↦
+            let none : requests_for c w.kernel.queues ≡ 0 = subst (λ (n : ℕ). requests_for n w.kernel.queues ≡ 0) (sym e) none_for in
+            let there : is_some (get next.vfs.calls c) ≡ true = subst (λ (n : ℕ). is_some (get next.vfs.calls n) ≡ true) (sym e) (ap is_some waits.1) in
+            rw (there, pushed, none) (at_most (nat_eq call c))
+        | inr ne ↦
+            let other : nat_eq call c ≡ false = other_is call c (λ e. ne (sym e)) in
+            let few = one_for c in
+            rw (pushed, other) (omega (arith, few))
+      ]
+    where
+      at_most : (b : Bool) → 0 + cond b 1 0 ≤ 1
+      at_most true = omega arith
+      at_most false = omega arith
+
+  -- A step of a call.
+  pub advanced_numbered : ((operation : Operation ℕ Opened) → next.operation ≡ Some operation → IsNextNumber (w.kernel.queues.next + 2)) → IsNumbered (record w { kernel = advanced w.kernel call next })
+  advanced_numbered number = by next.operation refl
+    where
+      by : (o : Option (Operation ℕ Opened)) → next.operation ≡ o → IsNumbered (record w { kernel = asking_for (record w.kernel { vfs = next.vfs }) call o })
+      by None e = record {
+        queues = numbered.queues;
+        calls_below = below;
+        one_request = one_for;
+        sent_below = numbered.sent_below;
+        replies_below = numbered.replies_below;
+        held_below = numbered.held_below;
+        kept_below = numbered.kept_below;
+      }
+      by (Some operation) e = record {
+        queues = IsSound-enqueue w.kernel.queues (purpose.Call call) numbered.queues (number operation e);
+        calls_below = below;
+        one_request = one_more operation (subst (λ (o : Option (Operation ℕ Opened)). WaitsFor next.vfs.calls call o) e alone.here);
+        sent_below = λ i r lt. let under = numbered.sent_below i r lt in omega (arith, under);
+        replies_below = λ i s lt. let under = numbered.replies_below i s lt in omega (arith, under);
+        held_below = λ live u t at. let under = numbered.held_below live u t at in omega (arith, under);
+        kept_below = λ live u k at. let under = numbered.kept_below live u k at in omega (arith, under);
+      }
