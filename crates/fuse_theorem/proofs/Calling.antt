@@ -43,14 +43,14 @@ closed_alike w p sound live same f =
     let k = record w.kernel { closing = put w.kernel.closing f.0 f.1 } in
     released_alike (record w { kernel = k }) p sound (closing_alike w p sound same live (put w.kernel.closing f.0 f.1)) live f.0
 
-live_if_ready : (phase : Phase) → is_ready phase ≡ true → is_aborted phase ≡ false → is_live phase ≡ true
+pub live_if_ready : (phase : Phase) → is_ready phase ≡ true → is_aborted phase ≡ false → is_live phase ≡ true
 live_if_ready Down r a = cc
 live_if_ready Starting r a = refl
 live_if_ready Ready r a = refl
 live_if_ready Aborted r a = absurd (cc)
 
 module _ (w : World) (p : Plain) (numbering : IsNumbered w) (one : IsOneToOne (MeansIn w)) (same : Alike w p) where
-  none_new : requests_for w.kernel.vfs.next_call w.kernel.queues ≡ 0
+  pub none_new : requests_for w.kernel.vfs.next_call w.kernel.queues ≡ 0
   none_new =
       let c = w.kernel.vfs.next_call in
       let few : requests_for c w.kernel.queues ≤ 0 = subst (λ (b : Bool). requests_for c w.kernel.queues ≤ cond b 1 0) (ap is_some (numbering.calls_below c (omega arith))) (numbering.one_request c) in

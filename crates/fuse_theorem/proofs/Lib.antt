@@ -24,3 +24,5 @@ pub mod OnlyRoots
 pub mod FirstCalls
 pub mod Numbered
 pub mod FirstSteps
+pub mod Accepted
+pub mod FirstBegins

@@ -21,7 +21,11 @@ use Rattle.fuse_spec.specs.Kernel.{Kernel, is_live, is_aborted, body_of}
 use Rattle.fuse_spec.specs.Server.{Server, HeldRequest, Copy}
 use Rattle.fuse_spec.specs.Performs.{is_still_held}
 use Rattle.fuse_spec.specs.Worlds.{World, Sent}
-use Rattle.fuse_spec.specs.Events.{Event}
+use Rattle.fuse_spec.specs.Events.{Event, Outcome}
+use Rattle.fuse_spec.specs.Plain.{Plain}
+use Rattle.fuse_spec.specs.PlainSteps.{Takes}
+use Rattle.fuse_spec.specs.Alike.{Alike}
+use Rattle.fuse_theorem.specs.Numbering.{IsNumbered}
 use Rattle.fuse_spec.specs.Events as event
 
 -- A call of `stat` that looks up a name in the root, or asks for the root's attributes.
@@ -90,3 +94,12 @@ pub data IsFirst : Event → Type 0 where
   first_perform : (unique : ℕ) → IsFirst (event.perform unique)
   first_write : (k : ℕ) → IsFirst (event.write k)
   first_settle : (k : ℕ) → IsFirst (event.settle k)
+
+-- After an event of the first path: the plain world took the steps of the event and its outcome, the two are alike again, and the
+-- world is again one with the root alone.
+pub record Goes (w : World) (p : Plain) (event : Event) (outcome : Outcome) (after : World) : Type 0 where
+  pub plain : Plain
+  pub takes : Takes p event outcome plain
+  pub alike : Alike after plain
+  pub numbered : IsNumbered after
+  pub root : OnlyRoot after
