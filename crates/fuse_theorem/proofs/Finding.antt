@@ -43,6 +43,15 @@ module _ {X : Type 0} (p : X → Bool) where
       by true rest = All-cons P x (filter p xs) (All-head P x xs h) rest
       by false rest = rest
 
+  -- those that pass a test pass it
+  pub filtered : (xs : List X) → All (λ x. p x ≡ true) (filter p xs)
+  filtered [] = All-nil (λ x. p x ≡ true)
+  filtered (x ∷ xs) = by (p x) refl (filtered xs)
+    where
+      by : (b : Bool) → p x ≡ b → All (λ y. p y ≡ true) (filter p xs) → All (λ y. p y ≡ true) (cond b (x ∷ filter p xs) (filter p xs))
+      by true h rest = All-cons (λ y. p y ≡ true) x (filter p xs) h rest
+      by false h rest = rest
+
   -- the first that passes stays the first as more come
   pub find_first : {Y : Type 0} (f : X → Y) (xs ys : List X) (y : Y) → option_map f (find p xs) ≡ Some y → option_map f (find p (xs ++ ys)) ≡ Some y
   find_first f [] ys y e = cc

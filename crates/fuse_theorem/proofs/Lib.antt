@@ -26,3 +26,5 @@ pub mod Numbered
 pub mod FirstSteps
 pub mod Accepted
 pub mod FirstBegins
+pub mod FirstQueues
+pub mod FirstReads

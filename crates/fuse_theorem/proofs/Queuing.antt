@@ -36,7 +36,7 @@ All-at P (y ∷ xs) zero x h at = subst P (cc) (All-head P y xs h)
 All-at P (y ∷ xs) (suc k) x h at = All-at P xs k x (All-tail P y xs h) at
 
 -- what a request asks is not a matter of the queues
-same_body : (k : Kernel) (q : QueueState Purpose) (kept : Purpose) → body_of (record k { queues = q }) kept ≡ body_of k kept
+pub same_body : (k : Kernel) (q : QueueState Purpose) (kept : Purpose) → body_of (record k { queues = q }) kept ≡ body_of k kept
 same_body k q purpose.Init = refl
 same_body k q (purpose.Release o) = refl
 same_body k q (purpose.Call call) = refl
