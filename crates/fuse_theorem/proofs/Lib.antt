@@ -28,3 +28,4 @@ pub mod Accepted
 pub mod FirstBegins
 pub mod FirstQueues
 pub mod FirstReads
+pub mod FirstTakes
