@@ -55,3 +55,8 @@ after_next n number high =
     let even = number.even in
     let low = number.low in
     record { even = omega (arith, even); low = omega (arith, low); high = high }
+
+-- what is not refused holds
+pub is_not : (b : Bool) → not b ≡ false → b ≡ true
+is_not true e = refl
+is_not false e = absurd (cc)

@@ -18,17 +18,13 @@ use Rattle.fuse_spec.specs.Plain.{Plain}
 use Rattle.fuse_spec.specs.Alike.{Alike}
 use Rattle.fuse_theorem.specs.Numbering.{IsNumbered}
 use Rattle.fuse_theorem.specs.FirstPath.{OnlyRoot, Goes}
-use Rattle.fuse_theorem.proofs.Accepted.{unless_ok, going_ok, next_within, after_next}
+use Rattle.fuse_theorem.proofs.Accepted.{is_not, unless_ok, going_ok, next_within, after_next}
 use Rattle.fuse_theorem.proofs.Advancing.{begun_alone}
 use Rattle.fuse_theorem.proofs.Calling.{live_if_ready, none_new, call_goes}
 use Rattle.fuse_theorem.proofs.FirstCalls.{begun_at_root}
 use Rattle.fuse_theorem.proofs.FirstSteps.{advanced_root}
 use Rattle.fuse_theorem.proofs.Numbered.{advanced_numbered}
 use Rattle.fuse_theorem.proofs.OnlyRoots.{one_root}
-
-is_not : (b : Bool) → not b ≡ false → b ≡ true
-is_not true e = refl
-is_not false e = absurd (cc)
 
 module _ (w : World) (p : Plain) (numbered : IsNumbered w) (root : OnlyRoot w) (same : Alike w p) (path : List ℕ) where
   abbrev next : Advance Opened

@@ -8,7 +8,7 @@ use Rattle.fuse_spec.specs.declared.QueuedRequest.{QueuedRequest}
 use Rattle.fuse_spec.specs.Queues.{QueueState, pending, is_signalled}
 use Rattle.fuse_spec.specs.QueueCalls.{set_mark}
 use Rattle.fuse_spec.specs.Messages.{RequestBody, Request, WireReply}
-use Rattle.fuse_spec.specs.Kernel.{Kernel, body_of, is_for}
+use Rattle.fuse_spec.specs.Kernel.{Kernel, is_live, body_of, is_for}
 use Rattle.fuse_spec.specs.Worlds.{World, Sent}
 use Rattle.fuse_spec.proofs.QueueCounts.{count_by-cons}
 use Rattle.fuse_theorem.specs.FirstPath.{IsFirstBody, RepliesTo, kept_under, Serves, Replies, unperformed, OnlyRoot}
@@ -58,11 +58,11 @@ module _ (w : World) (root : OnlyRoot w) (q : QueueState Purpose) (stays : KeptS
       by (inl none) = subst (λ (o : Option Purpose). MatchOption o (Unit {0}) (λ purpose. MatchOption (body_of k purpose) ⊥ (λ body. RepliesTo body wire))) (sym none) tt
       by (inr e) = subst (λ (o : Option Purpose). MatchOption o (Unit {0}) (λ purpose. MatchOption (body_of k purpose) ⊥ (λ body. RepliesTo body wire))) (sym e) (replies_in w.kernel k (kept_under w.kernel.queues unique) wire (λ purpose z. same_body w.kernel q purpose) h)
 
-  pub requeued_root : q.interrupts ≡ [] → q.forgets ≡ [] → All (λ (e : ℕ × QueuedRequest Purpose). is_signalled e.1.mark ≡ false) q.requests
+  pub requeued_root : is_live w.kernel.phase ≡ true → q.interrupts ≡ [] → q.forgets ≡ [] → All (λ (e : ℕ × QueuedRequest Purpose). is_signalled e.1.mark ≡ false) q.requests
       → All (λ (e : ℕ × QueuedRequest Purpose). MatchOption (body_of w.kernel e.1.kept) ⊥ IsFirstBody) q.requests → (requests : List Request)
       → All (λ (r : Request). IsFirstBody r.body × Serves k r.unique r.body) requests → ((unique : ℕ) → unperformed (record w { kernel = k; requests = requests }) unique ≤ 1)
       → OnlyRoot (record w { kernel = k; requests = requests })
-  requeued_root interrupts forgets marks purposes requests sent once = record {
+  requeued_root live interrupts forgets marks purposes requests sent once = record {
     tree = root.tree;
     rows = root.rows;
     handles = root.handles;
@@ -81,12 +81,13 @@ module _ (w : World) (root : OnlyRoot w) (q : QueueState Purpose) (stays : KeptS
     sent = sent;
     held = λ u t at.
         let old = root.held u t at in
-        (old.0, old.1, old.2, λ live. serves_still u t.body (old.3 live));
+        (old.0, old.1, old.2, serves_still u t.body old.3);
     copies = λ i s lt.
         let copy = get_or w.replies i s in
         replies_still copy.unique copy.wire (root.copies i s lt);
     server_copies = root.server_copies;
-    unmounted = root.unmounted;
+    unmounted = λ down. absurd (cc (live, down));
     not_aborted = root.not_aborted;
+    server_live = root.server_live;
     once = once;
   }

@@ -27,7 +27,7 @@ use Rattle.fuse_spec.proofs.QueueSoundness.{IsSound-mark, mark_under-pending}
 use Rattle.fuse_spec.proofs.QueueReadings.{pending-mark, kept_under-mark, key_count-le-one}
 use Rattle.fuse_theorem.specs.Numbering.{IsNumbered, requests_for}
 use Rattle.fuse_theorem.specs.FirstPath.{IsFirstBody, kept_under, Serves, unperformed, OnlyRoot, Goes}
-use Rattle.fuse_theorem.proofs.Accepted.{unless_ok, going_ok, Went}
+use Rattle.fuse_theorem.proofs.Accepted.{unless_ok, going_ok, is_not}
 use Rattle.fuse_theorem.proofs.Finding.{All-filter, filtered}
 use Rattle.fuse_theorem.proofs.Queuing.{All-at, same_body}
 use Rattle.fuse_theorem.proofs.Reading.{read_pending_alike}
@@ -48,7 +48,7 @@ unread_and_quiet Read u s = absurd (cc)
 unread_and_quiet Interrupted u s = absurd (cc)
 
 module _ (w : World) (p : Plain) (numbered : IsNumbered w) (root : OnlyRoot w) (same : Alike w p) (place : ℕ) (e : ℕ × QueuedRequest Purpose) (body : RequestBody)
-    (found : slice_get (pending w.kernel.queues) place ≡ Some e) (asks : body_of w.kernel e.1.kept ≡ Some body) where
+    (found : slice_get (pending w.kernel.queues) place ≡ Some e) (asks : body_of w.kernel e.1.kept ≡ Some body) (live : is_live w.kernel.phase ≡ true) where
   abbrev q0 : QueueState Purpose
   q0 = w.kernel.queues
 
@@ -110,7 +110,7 @@ module _ (w : World) (p : Plain) (numbered : IsNumbered w) (root : OnlyRoot w) (
 
   root_after : OnlyRoot (record w { kernel = record w.kernel { queues = q1 }; requests = w.requests ++ new ∷ [] })
   root_after =
-      requeued_root w root q1 stays root.interrupts root.forgets (All-marked (λ (x : ℕ × QueuedRequest Purpose). is_signalled x.1.mark ≡ false) e.0 Read q0.requests root.marks (λ x h. refl))
+      requeued_root w root q1 stays live root.interrupts root.forgets (All-marked (λ (x : ℕ × QueuedRequest Purpose). is_signalled x.1.mark ≡ false) e.0 Read q0.requests root.marks (λ x h. refl))
       (All-marked (λ (x : ℕ × QueuedRequest Purpose). MatchOption (body_of w.kernel x.1.kept) ⊥ IsFirstBody) e.0 Read q0.requests root.purposes (λ x h. h)) (w.requests ++ new ∷ [])
       (All-push (λ (r : Request). IsFirstBody r.body × Serves (record w.kernel { queues = q1 }) r.unique r.body) w.requests new
       (λ i r lt.
@@ -140,16 +140,16 @@ first_reads w p numbered root same place choice o after e =
     let reading = reading_pending w place (pending_at q0 place) in
     let live = unless_ok (not (is_live w.kernel.phase)) refusal.NotReady (when_not_interrupted w reading) o after e in
     let quiet = unless_ok (not (nat_eq (length q0.interrupts) 0)) refusal.InterruptFirst reading o after live.rest in
-    by (slice_get (pending q0) place) refl quiet.rest
+    by (is_not (is_live w.kernel.phase) live.passed) (slice_get (pending q0) place) refl quiet.rest
   where
-    asked : (x : ℕ × QueuedRequest Purpose) → slice_get (pending w.kernel.queues) place ≡ Some x → (b : Option RequestBody) → body_of w.kernel x.1.kept ≡ b → reading_body w place x.0 b ≡ Ok (o, after)
+    asked : is_live w.kernel.phase ≡ true → (x : ℕ × QueuedRequest Purpose) → slice_get (pending w.kernel.queues) place ≡ Some x → (b : Option RequestBody) → body_of w.kernel x.1.kept ≡ b → reading_body w place x.0 b ≡ Ok (o, after)
         → Goes w p (event.read_pending place) o after
-    asked x found None asks e = absurd (cc)
-    asked x found (Some body) asks e =
+    asked alive x found None asks e = absurd (cc)
+    asked alive x found (Some body) asks e =
         let went = going_ok (event.is_read x.0) (world_read w place x.0 body) o after e in
-        subst (λ (y : Outcome × World). Goes w p (event.read_pending place) y.0 y.1) (λ i. (went.leads.outcome_is i, went.leads.after_is i)) (reads w p numbered root same place x body found asks)
+        subst (λ (y : Outcome × World). Goes w p (event.read_pending place) y.0 y.1) (λ i. (went.leads.outcome_is i, went.leads.after_is i)) (reads w p numbered root same place x body found asks alive)
 
-    by : (s : Option (ℕ × QueuedRequest Purpose)) → slice_get (pending w.kernel.queues) place ≡ s → reading_pending w place (option_map (λ (x : ℕ × QueuedRequest Purpose). (x.0, x.1.kept)) s) ≡ Ok (o, after)
+    by : is_live w.kernel.phase ≡ true → (s : Option (ℕ × QueuedRequest Purpose)) → slice_get (pending w.kernel.queues) place ≡ s → reading_pending w place (option_map (λ (x : ℕ × QueuedRequest Purpose). (x.0, x.1.kept)) s) ≡ Ok (o, after)
         → Goes w p (event.read_pending place) o after
-    by None found e = absurd (cc)
-    by (Some x) found e = asked x found (body_of w.kernel x.1.kept) refl e
+    by alive None found e = absurd (cc)
+    by alive (Some x) found e = asked alive x found (body_of w.kernel x.1.kept) refl e

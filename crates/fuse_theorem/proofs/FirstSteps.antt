@@ -93,13 +93,14 @@ module _ (w : World) (numbered : IsNumbered w) (root : OnlyRoot w) (live : is_li
             (old.0, serves_in w.kernel k (kept_under q0 request.unique) request.body (other_body k alone.others request.unique) old.1);
         held = λ u t at.
             let old = root.held u t at in
-            (old.0, old.1, old.2, λ l. serves_in w.kernel k (kept_under q0 u) t.body (other_body k alone.others u) (old.3 l));
+            (old.0, old.1, old.2, serves_in w.kernel k (kept_under q0 u) t.body (other_body k alone.others u) old.3);
         copies = λ i s lt.
             let sent = get_or w.replies i s in
             replies_in w.kernel k (kept_under q0 sent.unique) sent.wire (other_body k alone.others sent.unique) (root.copies i s lt);
         server_copies = root.server_copies;
         unmounted = λ down. absurd (cc (live, down));
         not_aborted = root.not_aborted;
+        server_live = root.server_live;
         once = root.once;
       }
 
@@ -155,10 +156,9 @@ module _ (w : World) (numbered : IsNumbered w) (root : OnlyRoot w) (live : is_li
             (serves_in l k (kept_under q0 request.unique) request.body (λ purpose e. bodies purpose) old.1));
         held = λ u t at.
             let old = quiet.held u t at in
-            (old.0, old.1, old.2, λ alive.
-            let low = numbered.held_below alive u t at in
-            subst (λ (o : Option Purpose). MatchOption o (Unit {0}) (λ purpose. body_of k purpose ≡ Some t.body)) (sym (beside u (λ e. absurd (omega (arith, e, low)))))
-            (serves_in l k (kept_under q0 u) t.body (λ purpose e. bodies purpose) (old.3 alive)));
+            let low = numbered.held_below live u t at in
+            (old.0, old.1, old.2, subst (λ (o : Option Purpose). MatchOption o (Unit {0}) (λ purpose. body_of k purpose ≡ Some t.body)) (sym (beside u (λ e. absurd (omega (arith, e, low)))))
+            (serves_in l k (kept_under q0 u) t.body (λ purpose e. bodies purpose) old.3));
         copies = λ i s lt.
             let sent = get_or w.replies i s in
             let low = numbered.replies_below i s lt in
@@ -167,6 +167,7 @@ module _ (w : World) (numbered : IsNumbered w) (root : OnlyRoot w) (live : is_li
         server_copies = root.server_copies;
         unmounted = λ down. absurd (cc (live, down));
         not_aborted = root.not_aborted;
+        server_live = root.server_live;
         once = λ u.
             let pushed : count_by (λ (e : ℕ × QueuedRequest Purpose). nat_eq u e.0) (pending k.queues) ≡ count_by (λ (e : ℕ × QueuedRequest Purpose). nat_eq u e.0) (pending q0) + cond (nat_eq u n) 1 0 =
                 ap (λ (es : List (ℕ × QueuedRequest Purpose)). count_by (λ (e : ℕ × QueuedRequest Purpose). nat_eq u e.0) es) (pending-enqueue q0 (purpose.Call call))

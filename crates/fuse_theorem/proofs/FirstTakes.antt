@@ -121,12 +121,13 @@ module _ (w : World) (p : Plain) (numbered : IsNumbered w) (root : OnlyRoot w) (
     marks = root.marks;
     purposes = root.purposes;
     sent = All-without (λ (x : Request). IsFirstBody x.body × Serves w.kernel x.unique x.body) w.requests k root.sent;
-    held = held_by (λ u t. IsFirstBody t.body × (t.marked ≡ false) × (is_still_held w.server.nodes t.generations ≡ true) × (is_live w.kernel.phase ≡ true → Serves w.kernel u t.body))
-        (first.0, refl, root_still_held w.server.nodes r.body first.0, λ live. first.1) root.held;
+    held = held_by (λ u t. IsFirstBody t.body × (t.marked ≡ false) × (is_still_held w.server.nodes t.generations ≡ true) × Serves w.kernel u t.body)
+        (first.0, refl, root_still_held w.server.nodes r.body first.0, first.1) root.held;
     copies = root.copies;
     server_copies = root.server_copies;
-    unmounted = root.unmounted;
+    unmounted = λ down. absurd (cc (found, ap (λ (xs : List Request). slice_get xs k) (root.unmounted down).1));
     not_aborted = root.not_aborted;
+    server_live = root.server_live;
     once = once_after;
   }
 

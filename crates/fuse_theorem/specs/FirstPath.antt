@@ -78,11 +78,12 @@ pub record OnlyRoot (w : World) : Type 0 where
   pub purposes : All (λ (e : ℕ × QueuedRequest Purpose). MatchOption (body_of w.kernel e.1.kept) ⊥ IsFirstBody) w.kernel.queues.requests
   pub sent : All (λ (r : Request). IsFirstBody r.body × Serves w.kernel r.unique r.body) w.requests
   pub held : (unique : ℕ) (t : HeldRequest) → get w.server.held unique ≡ Some t
-      → IsFirstBody t.body × (t.marked ≡ false) × (is_still_held w.server.nodes t.generations ≡ true) × (is_live w.kernel.phase ≡ true → Serves w.kernel unique t.body)
+      → IsFirstBody t.body × (t.marked ≡ false) × (is_still_held w.server.nodes t.generations ≡ true) × Serves w.kernel unique t.body
   pub copies : All (λ (sent : Sent). Replies w.kernel sent.unique sent.wire) w.replies
   pub server_copies : (number : ℕ) (copy : Copy) → get w.server.copies number ≡ Some copy → (files_in_reply copy.wire ≡ []) × (opens_in_reply copy.wire ≡ [])
-  pub unmounted : is_live w.kernel.phase ≡ false → w.kernel.vfs.calls ≡ []
+  pub unmounted : is_live w.kernel.phase ≡ false → (w.kernel.vfs.calls ≡ []) × (w.requests ≡ []) × (w.server.held ≡ []) × (w.replies ≡ [])
   pub not_aborted : is_aborted w.kernel.phase ≡ false
+  pub server_live : w.server.aborted ≡ false
   pub once : (unique : ℕ) → unperformed w unique ≤ 1
 
 -- The events of the first path.
