@@ -29,3 +29,5 @@ pub mod FirstBegins
 pub mod FirstQueues
 pub mod FirstReads
 pub mod FirstTakes
+pub mod Serving
+pub mod FirstServes
