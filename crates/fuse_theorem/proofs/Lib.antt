@@ -31,3 +31,4 @@ pub mod FirstReads
 pub mod FirstTakes
 pub mod Serving
 pub mod FirstServes
+pub mod FirstPerforms
