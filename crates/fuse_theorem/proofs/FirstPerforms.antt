@@ -1,5 +1,5 @@
 -- The server performs a request, on the first path.
-use Rattle.std.proofs.Common.{◌≡◌, ◌≢◌, ℕ, ◌+◌, ◌<◌, ◌≤◌, Bool, true, false, true≢false, not, cond, List, [], ◌∷◌, ◌++◌, Option, Some, None, Ok, nat_eq, count_by, get_or, refl, ap, sym, subst, ◌∙◌, arith, inl, inr, All}
+use Rattle.std.proofs.Common.{◌≡◌, ◌≢◌, ℕ, ◌+◌, ◌<◌, ◌≤◌, ◌%◌, Bool, true, false, true≢false, not, cond, List, [], ◌∷◌, ◌++◌, Option, Some, None, Ok, nat_eq, count_by, get_or, refl, ap, sym, subst, ◌∙◌, arith, inl, inr, All}
 use Rattle.std.specs.Prelude.{MatchOption, is_some}
 use Rattle.std.proofs.lemmas.Bool.{cases_eq}
 use Rattle.std.proofs.lemmas.List.Elements.{All-push}
@@ -169,6 +169,9 @@ module _ (w : World) (p : Plain) (numbered : IsNumbered w) (root : OnlyRoot w) (
     unmounted = λ down. absurd (cc (live, down));
     not_aborted = root.not_aborted;
     server_live = root.server_live;
+    even_sent = root.even_sent;
+    even_held = λ u x at. root.even_held u x (held_before u x at).1;
+    even_copies = All-push (λ (s : Sent). s.unique % 2 ≡ 0) w.replies sent root.even_copies (root.even_held unique t there);
     once = λ u. elim (cases_eq u unique) [
       | inl e ↦
           let gone : get (remove w.server.held unique) u ≡ None = subst (λ (n : ℕ). get (remove w.server.held unique) n ≡ None) (sym e) (get_gone_here w.server.held unique) in

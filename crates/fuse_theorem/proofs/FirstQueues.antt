@@ -1,5 +1,5 @@
 -- A world with the root alone stays one as the kernel's queues change.
-use Rattle.std.proofs.Common.{◌≡◌, ◌≢◌, ℕ, ◌+◌, ◌≤◌, ◌<◌, Bool, true, false, cond, List, [], ◌∷◌, Option, Some, None, nat_eq, count_by, option_map, get_or, refl, ap, sym, subst, ◌∙◌, arith, inl, inr, All}
+use Rattle.std.proofs.Common.{◌≡◌, ◌≢◌, ℕ, ◌+◌, ◌≤◌, ◌<◌, ◌%◌, Bool, true, false, cond, List, [], ◌∷◌, Option, Some, None, nat_eq, count_by, option_map, get_or, refl, ap, sym, subst, ◌∙◌, arith, inl, inr, All}
 use Rattle.std.specs.Prelude.{MatchOption, ◌⊎◌}
 use Rattle.std.proofs.lemmas.List.Elements.{All-nil, All-cons, All-head, All-tail}
 use Rattle.fuse_spec.specs.declared.Mark.{Mark}
@@ -60,9 +60,9 @@ module _ (w : World) (root : OnlyRoot w) (q : QueueState Purpose) (stays : KeptS
 
   pub requeued_root : is_live w.kernel.phase ≡ true → q.interrupts ≡ [] → q.forgets ≡ [] → All (λ (e : ℕ × QueuedRequest Purpose). is_signalled e.1.mark ≡ false) q.requests
       → All (λ (e : ℕ × QueuedRequest Purpose). MatchOption (body_of w.kernel e.1.kept) ⊥ IsFirstBody) q.requests → (requests : List Request)
-      → All (λ (r : Request). IsFirstBody r.body × Serves k r.unique r.body) requests → ((unique : ℕ) → unperformed (record w { kernel = k; requests = requests }) unique ≤ 1)
+      → All (λ (r : Request). IsFirstBody r.body × Serves k r.unique r.body) requests → All (λ (r : Request). r.unique % 2 ≡ 0) requests → ((unique : ℕ) → unperformed (record w { kernel = k; requests = requests }) unique ≤ 1)
       → OnlyRoot (record w { kernel = k; requests = requests })
-  requeued_root live interrupts forgets marks purposes requests sent once = record {
+  requeued_root live interrupts forgets marks purposes requests sent evens once = record {
     tree = root.tree;
     rows = root.rows;
     handles = root.handles;
@@ -89,5 +89,8 @@ module _ (w : World) (root : OnlyRoot w) (q : QueueState Purpose) (stays : KeptS
     unmounted = λ down. absurd (cc (live, down));
     not_aborted = root.not_aborted;
     server_live = root.server_live;
+    even_sent = evens;
+    even_held = root.even_held;
+    even_copies = root.even_copies;
     once = once;
   }

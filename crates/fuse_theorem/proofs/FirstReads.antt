@@ -1,5 +1,5 @@
 -- A pending request is read, on the first path.
-use Rattle.std.proofs.Common.{◌≡◌, ◌≢◌, ℕ, ◌+◌, ◌<◌, ◌≤◌, Bool, true, false, not, ◌&&◌, ◌||◌, cond, List, [], ◌∷◌, ◌++◌, remove, Option, Some, None, Ok, nat_eq, count_by, option_map, slice_get, get_or, length, refl, ap, sym, subst, ◌∙◌, arith, inl, inr, All}
+use Rattle.std.proofs.Common.{◌≡◌, ◌≢◌, ℕ, ◌+◌, ◌<◌, ◌≤◌, ◌%◌, Bool, true, false, not, ◌&&◌, ◌||◌, cond, List, [], ◌∷◌, ◌++◌, remove, Option, Some, None, Ok, nat_eq, count_by, option_map, slice_get, get_or, length, refl, ap, sym, subst, ◌∙◌, arith, inl, inr, All}
 use Rattle.std.specs.Prelude.{MatchOption, nat_lt, nat_le, sum_by, is_some, ◌⊎◌}
 use Rattle.std.specs.Option.{option_map_or}
 use Rattle.std.proofs.lemmas.Bool.Decides.{nat_tests}
@@ -38,6 +38,13 @@ pub number_below : (s : QueueState Purpose) → IsSound s → (u : ℕ) → 1 �
 number_below s sound u there = by (was_drawn s.next u) refl (sound.requests u)
   where
     by : (b : Bool) → was_drawn s.next u ≡ b → key_count u s.requests ≤ cond b 1 0 → u < s.next
+    by true e le = grind (arith, nat_tests, e)
+    by false e le = absurd (omega (arith, le, there))
+
+number_even : (s : QueueState Purpose) → IsSound s → (u : ℕ) → 1 ≤ key_count u s.requests → u % 2 ≡ 0
+number_even s sound u there = by (was_drawn s.next u) refl (sound.requests u)
+  where
+    by : (b : Bool) → was_drawn s.next u ≡ b → key_count u s.requests ≤ cond b 1 0 → u % 2 ≡ 0
     by true e le = grind (arith, nat_tests, e)
     by false e le = absurd (omega (arith, le, there))
 
@@ -119,7 +126,8 @@ module _ (w : World) (p : Plain) (numbered : IsNumbered w) (root : OnlyRoot w) (
       (old.0, serves_still w root q1 stays request.unique request.body old.1))
       (subst (λ (o : Option RequestBody). MatchOption o ⊥ IsFirstBody) asks
       (All-at (λ (x : ℕ × QueuedRequest Purpose). MatchOption (body_of w.kernel x.1.kept) ⊥ IsFirstBody) (pending q0) place e (All-filter (λ (x : ℕ × QueuedRequest Purpose). is_unread x.1.mark) (λ (x : ℕ × QueuedRequest Purpose). MatchOption (body_of w.kernel x.1.kept) ⊥ IsFirstBody) q0.requests root.purposes) found),
-      subst (λ (o : Option Purpose). MatchOption o (Unit {0}) (λ purpose. body_of (record w.kernel { queues = q1 }) purpose ≡ Some body)) (sym mine) (same_body w.kernel q1 e.1.kept ∙ asks))) once_after
+      subst (λ (o : Option Purpose). MatchOption o (Unit {0}) (λ purpose. body_of (record w.kernel { queues = q1 }) purpose ≡ Some body)) (sym mine) (same_body w.kernel q1 e.1.kept ∙ asks)))
+      (All-push (λ (r : Request). r.unique % 2 ≡ 0) w.requests new root.even_sent (number_even q0 numbered.queues e.0 is_there)) once_after
 
   pub reads : Goes w p (event.read_pending place) (event.is_read e.0) (world_read w place e.0 body)
   reads =

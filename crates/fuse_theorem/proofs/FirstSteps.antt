@@ -101,6 +101,9 @@ module _ (w : World) (numbered : IsNumbered w) (root : OnlyRoot w) (live : is_li
         unmounted = λ down. absurd (cc (live, down));
         not_aborted = root.not_aborted;
         server_live = root.server_live;
+        even_sent = root.even_sent;
+        even_held = root.even_held;
+        even_copies = root.even_copies;
         once = root.once;
       }
 
@@ -168,6 +171,9 @@ module _ (w : World) (numbered : IsNumbered w) (root : OnlyRoot w) (live : is_li
         unmounted = λ down. absurd (cc (live, down));
         not_aborted = root.not_aborted;
         server_live = root.server_live;
+        even_sent = root.even_sent;
+        even_held = root.even_held;
+        even_copies = root.even_copies;
         once = λ u.
             let pushed : count_by (λ (e : ℕ × QueuedRequest Purpose). nat_eq u e.0) (pending k.queues) ≡ count_by (λ (e : ℕ × QueuedRequest Purpose). nat_eq u e.0) (pending q0) + cond (nat_eq u n) 1 0 =
                 ap (λ (es : List (ℕ × QueuedRequest Purpose)). count_by (λ (e : ℕ × QueuedRequest Purpose). nat_eq u e.0) es) (pending-enqueue q0 (purpose.Call call))

@@ -1,5 +1,5 @@
 -- The server takes a request, on the first path.
-use Rattle.std.proofs.Common.{◌≡◌, ◌≢◌, ℕ, ◌+◌, ◌<◌, ◌≤◌, Bool, true, false, cond, List, [], ◌∷◌, remove, Option, Some, None, Ok, nat_eq, count_by, slice_get, get_or, length, map, refl, ap, sym, subst, ◌∙◌, arith, inl, inr, All}
+use Rattle.std.proofs.Common.{◌≡◌, ◌≢◌, ℕ, ◌+◌, ◌<◌, ◌≤◌, ◌%◌, Bool, true, false, cond, List, [], ◌∷◌, remove, Option, Some, None, Ok, nat_eq, count_by, slice_get, get_or, length, map, refl, ap, sym, subst, ◌∙◌, arith, inl, inr, All}
 use Rattle.std.specs.Prelude.{sum_by, is_some, ◌⊎◌}
 use Rattle.std.proofs.lemmas.Bool.{cases_eq}
 use Rattle.std.proofs.lemmas.List.Sums.{sum_by-remove}
@@ -128,6 +128,9 @@ module _ (w : World) (p : Plain) (numbered : IsNumbered w) (root : OnlyRoot w) (
     unmounted = λ down. absurd (cc (found, ap (λ (xs : List Request). slice_get xs k) (root.unmounted down).1));
     not_aborted = root.not_aborted;
     server_live = root.server_live;
+    even_sent = All-without (λ (x : Request). x.unique % 2 ≡ 0) w.requests k root.even_sent;
+    even_held = held_by (λ u t. u % 2 ≡ 0) (All-at (λ (x : Request). x.unique % 2 ≡ 0) w.requests k r root.even_sent found) root.even_held;
+    even_copies = root.even_copies;
     once = once_after;
   }
 

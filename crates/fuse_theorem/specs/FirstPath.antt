@@ -1,5 +1,5 @@
 -- The worlds in which the tree is the root alone, and each call is `stat`: no name leads anywhere, no node but the root is known.
-use Rattle.std.specs.Prelude.{◌≡◌, ◌≤◌, ◌+◌, ℕ, Bool, true, false, cond, List, [], ◌∷◌, Option, Some, None, nat_eq, count_by, is_some, option_map, All, MatchOption}
+use Rattle.std.specs.Prelude.{◌≡◌, ◌≤◌, ◌+◌, ◌%◌, ℕ, Bool, true, false, cond, List, [], ◌∷◌, Option, Some, None, nat_eq, count_by, is_some, option_map, All, MatchOption}
 use Rattle.fuse_spec.specs.declared.Attributes.{Attributes}
 use Rattle.fuse_spec.specs.declared.Binding.{Binding}
 use Rattle.fuse_spec.specs.declared.Mark.{Mark}
@@ -84,6 +84,9 @@ pub record OnlyRoot (w : World) : Type 0 where
   pub unmounted : is_live w.kernel.phase ≡ false → (w.kernel.vfs.calls ≡ []) × (w.requests ≡ []) × (w.server.held ≡ []) × (w.replies ≡ [])
   pub not_aborted : is_aborted w.kernel.phase ≡ false
   pub server_live : w.server.aborted ≡ false
+  pub even_sent : All (λ (r : Request). r.unique % 2 ≡ 0) w.requests
+  pub even_held : (unique : ℕ) (t : HeldRequest) → get w.server.held unique ≡ Some t → unique % 2 ≡ 0
+  pub even_copies : All (λ (sent : Sent). sent.unique % 2 ≡ 0) w.replies
   pub once : (unique : ℕ) → unperformed w unique ≤ 1
 
 -- The events of the first path.
