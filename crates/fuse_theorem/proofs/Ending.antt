@@ -72,7 +72,7 @@ module _ (w : World) (p : Plain) (numbered : IsNumbered w) (same : Alike w p) (u
       let for_it : is_for other (purpose.Call call) ≡ true = subst (λ (k : Purpose). is_for other k ≡ true) (ap (λ (x : QueuedRequest Purpose). x.kept) is_r ∙ serves) found.2 in
       elim (cases_eq other call) [ inl e ↦ e | inr ne ↦ absurd (true≢false (sym for_it ∙ other_is call other (λ z. ne (sym z)))) ]
 
-  none_left : (interrupts : List ℕ) → requests_for call (without_request q0 unique interrupts) ≡ 0
+  pub none_left : (interrupts : List ℕ) → requests_for call (without_request q0 unique interrupts) ≡ 0
   none_left interrupts =
       let count = count_left (λ (x : ℕ × QueuedRequest Purpose). is_for call x.1.kept) unique r q0.requests under in
       let mine : is_for call r.kept ≡ true = subst (λ (k : Purpose). is_for call k ≡ true) (sym serves) (same_is call) in

@@ -1,5 +1,6 @@
 -- The first request that serves a call, as requests are queued and go.
 use Rattle.std.proofs.Common.{◌≡◌, ◌≢◌, ℕ, zero, suc, ◌+◌, ◌≤◌, Bool, true, false, true≢false, not, cond, List, [], ◌∷◌, ◌++◌, filter, Option, Some, None, nat_eq, count_by, find, option_map, refl, ap, sym, subst, ◌∙◌, arith, inl, inr, All}
+use Rattle.std.proofs.lemmas.Bool.{cases_eq}
 use Rattle.std.proofs.lemmas.Bool.Decides.{nat_tests, eqb_tells}
 use Rattle.std.proofs.lemmas.List.Elements.{All-nil, All-cons, All-head, All-tail}
 use Rattle.std.specs.Map.{lookup, remove_entry}
@@ -197,3 +198,48 @@ module _ {X : Type 0} where
           let is : e.1 ≡ x = cc in
           subst P (λ i. (key i, is i)) (All-head P e es h)
       by false q f rest = rest f
+
+  -- each but those under a key that goes
+  pub All-removed : (P : ℕ × X → Type 0) (u : ℕ) (es : List (ℕ × X)) → All P es → All P (remove_entry (nat_eq u) es)
+  All-removed P u [] h = h
+  All-removed P u (e ∷ es) h = by (nat_eq u e.0) (All-removed P u es (All-tail P e es h))
+    where
+      by : (b : Bool) → All P (remove_entry (nat_eq u) es) → All P (cond b es (e ∷ remove_entry (nat_eq u) es))
+      by true rest = All-tail P e es h
+      by false rest = All-cons P e (remove_entry (nat_eq u) es) (All-head P e es h) rest
+
+  -- where none passes a test, none is found
+  pub find_none : (p : ℕ × X → Bool) (es : List (ℕ × X)) → count_by p es ≡ 0 → find p es ≡ None
+  find_none p [] none = refl
+  find_none p (e ∷ es) none = by (p e) refl (find_none p es)
+    where
+      counted : count_by p (e ∷ es) ≡ cond (p e) 1 0 + count_by p es
+      counted = count_by-cons p e es
+
+      by : (b : Bool) → p e ≡ b → (count_by p es ≡ 0 → find p es ≡ None) → find p (e ∷ es) ≡ None
+      by true h rest = absurd (grind (arith, counted, none, h))
+      by false h rest = rw h (rest (grind (arith, counted, none, h)))
+
+  -- one that fails a test goes, and the first that passes is the same
+  pub find_beside : (p : ℕ × X → Bool) (u : ℕ) (x : X) (es : List (ℕ × X)) → lookup (nat_eq u) es ≡ Some x → p (u, x) ≡ false → find p (remove_entry (nat_eq u) es) ≡ find p es
+  find_beside p u x [] found fails = refl
+  find_beside p u x (e ∷ es) found fails = by (nat_eq u e.0) refl (find_beside p u x es)
+    where
+      by : (b : Bool) → nat_eq u e.0 ≡ b → (lookup (nat_eq u) es ≡ Some x → p (u, x) ≡ false → find p (remove_entry (nat_eq u) es) ≡ find p es) → find p (remove_entry (nat_eq u) (e ∷ es)) ≡ find p (e ∷ es)
+      by true h rest =
+          let here : Some e.1 ≡ Some x = rw h at found in
+          let is : e.1 ≡ x = cc in
+          let key : u ≡ e.0 = grind (arith, nat_tests, h) in
+          let fails_here : p e ≡ false = (λ i. p (sym key i, is i)) ∙ fails in
+          rw (h, fails_here) refl
+      by false h rest = rw h (ap (λ (o : Option (ℕ × X)). cond (p e) (Some e) o) (rest (rw h at found) fails))
+
+  -- where one at most passes a test, it is the first that passes
+  pub found_one : (p : ℕ × X → Bool) (u v : ℕ) (x : X) (es : List (ℕ × X)) → count_by p es ≤ 1 → lookup (nat_eq u) es ≡ Some x → p (u, x) ≡ true → option_map (λ (e : ℕ × X). e.0) (find p es) ≡ Some v → v ≡ u
+  found_one p u v x es few found passes first = elim (cases_eq v u) [
+      | inl e ↦ e
+      | inr ne ↦
+          let total : count_by p (remove_entry (nat_eq u) es) + 1 ≡ count_by p es = subst (λ (b : Bool). count_by p (remove_entry (nat_eq u) es) + cond b 1 0 ≡ count_by p es) passes (count_left p u x es found) in
+          let none : count_by p (remove_entry (nat_eq u) es) ≡ 0 = omega (arith, total, few) in
+          absurd (cc (find_left p u v es first ne, find_none p (remove_entry (nat_eq u) es) none))
+    ]

@@ -32,3 +32,4 @@ pub mod FirstTakes
 pub mod Serving
 pub mod FirstServes
 pub mod FirstPerforms
+pub mod FirstWrites

@@ -89,7 +89,7 @@ module _ (w : World) (p : Plain) (numbered : IsNumbered w) (one : IsOneToOne (Me
   paused : ask.stage ≢ waiting → Paused w1 p1 call
   paused over = paused_ended w p numbered same unique call r ask under serves there interrupts_left (none_sent w p numbered same unique call r ask under serves there over) (none_held w p numbered same unique call r ask under serves there over)
 
-  numbered1 : IsNumbered w1
+  pub numbered1 : IsNumbered w1
   numbered1 = record {
     queues = sound1;
     calls_below = numbered.calls_below;

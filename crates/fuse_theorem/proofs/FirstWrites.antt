@@ -1,0 +1,175 @@
+-- The kernel takes a copy of a reply, on the first path.
+use Rattle.std.proofs.Common.{◌≡◌, ◌≢◌, ℕ, ◌+◌, ◌-◌, ◌<◌, ◌≤◌, ◌%◌, Bool, true, false, true≢false, not, ◌&&◌, cond, List, [], ◌∷◌, ◌++◌, remove, Option, Some, None, Ok, nat_eq, count_by, find, filter, option_map, slice_get, get_or, is_some, refl, ap, sym, subst, ◌∙◌, arith, inl, inr, All}
+use Rattle.std.specs.Prelude.{MatchOption, ◌⊎◌}
+use Rattle.std.specs.Option.{option_map_or}
+use Rattle.std.specs.Map.{lookup, remove_entry}
+use Rattle.std.proofs.lemmas.Bool.{cases_eq}
+use Rattle.fuse_spec.specs.declared.Opened.{Opened}
+use Rattle.fuse_spec.specs.declared.Phase.{Phase}
+use Rattle.fuse_spec.specs.declared.Phase.TheVariants.{Down, Starting, Ready, Aborted}
+use Rattle.fuse_spec.specs.declared.Purpose.{Purpose}
+use Rattle.fuse_spec.specs.declared.Purpose.TheVariants as purpose
+use Rattle.fuse_spec.specs.declared.QueuedRequest.{QueuedRequest}
+use Rattle.fuse_spec.specs.declared.ReplyResult.{ReplyResult}
+use Rattle.fuse_spec.specs.declared.WriteResult.{WriteResult}
+use Rattle.fuse_spec.specs.declared.WriteResult.TheVariants.{Accepted, NoEntry, Invalid}
+use Rattle.fuse_spec.specs.Maps.{Map, get}
+use Rattle.fuse_spec.specs.Operations.{Reply}
+use Rattle.fuse_spec.specs.Operations as op
+use Rattle.fuse_spec.specs.Walks.{last, stat}
+use Rattle.fuse_spec.specs.Vfs.{CallState, walking, doing, using, asked, Advance}
+use Rattle.fuse_spec.specs.CallReplies.{call_replied}
+use Rattle.fuse_spec.specs.Queues.{QueueState, pending, request_under, is_unread, is_signalled, IsSound}
+use Rattle.fuse_spec.specs.QueueCalls.{without, waiting, after_answer}
+use Rattle.fuse_spec.specs.Messages.{RequestBody, init, asks, Request, WireReply}
+use Rattle.fuse_spec.specs.Kernel.{Kernel, is_live, is_aborted, body_of, asked_by, is_for, request_of, advanced}
+use Rattle.fuse_spec.specs.Replies.{reply_written, reply_taken, ended_by, odd_taken, replied_to_call}
+use Rattle.fuse_spec.specs.Worlds.{World, Sent, after_write}
+use Rattle.fuse_spec.specs.Events.{Outcome}
+use Rattle.fuse_spec.specs.Events as event
+use Rattle.fuse_spec.specs.Steps.{writing_copy, written_as, step}
+use Rattle.fuse_spec.specs.Plain.{Plain, Ask, Stage, ask_told}
+use Rattle.fuse_spec.specs.Plain as plain
+use Rattle.fuse_spec.specs.PlainSteps.{Takes, telling, telling_ask, telling_call, where_so}
+use Rattle.fuse_spec.specs.Denotes.{MeansIn, MeansOpenIn, OptionAlike, StateAlike, ReplyAlike, Names, Opens}
+use Rattle.fuse_spec.specs.Alike.{StageTold, IsPaired, PurposeAsked, Alike}
+use Rattle.fuse_spec.proofs.QueueCounts.{lookup-remove_entry_other}
+use Rattle.fuse_spec.proofs.QueueReadings.{pending-answer, request_under-without, request_under-without_other, key_count-le-one}
+use Rattle.fuse_theorem.specs.Numbering.{IsNumbered, requests_for}
+use Rattle.fuse_theorem.specs.FirstPath.{StatsRoot, looks_up, asks_root, IsFirstBody, RepliesTo, to_init, to_lookup, to_getattr, kept_under, Serves, Replies, unperformed, OnlyRoot, Goes}
+use Rattle.fuse_theorem.proofs.Accepted.{going_ok}
+use Rattle.fuse_theorem.proofs.Advancing.{StepsAlone, call_replied_alone}
+use Rattle.fuse_theorem.proofs.Ending.{none_left, without_request}
+use Rattle.fuse_theorem.proofs.Finding.{same_is, other_is, All-removed, found_entry, found_one, find_beside}
+use Rattle.fuse_theorem.proofs.FirstCalls.{StaysAtRoot, missing_at_root, attributes_at_root}
+use Rattle.fuse_theorem.proofs.FirstQueues.{KeptStays, serves_still, requeued_root}
+use Rattle.fuse_theorem.proofs.FirstSteps.{advanced_root}
+use Rattle.fuse_theorem.proofs.Numbered.{advanced_numbered}
+use Rattle.fuse_theorem.proofs.OnlyRoots.{one_root}
+use Rattle.fuse_theorem.proofs.Queuing.{All-without, All-at, QueuesStay, queues_alike}
+use Rattle.fuse_theorem.proofs.Releasing.{next_unasked}
+use Rattle.fuse_theorem.proofs.Writing.{unsent_alike, numbered1, heard_alike}
+
+-- a request that waits for its reply
+pub record Waits (q : QueueState Purpose) (unique : ℕ) (purpose : Purpose) : Type 0 where
+  pub request : QueuedRequest Purpose
+  pub under : request_under q unique ≡ Some request
+  pub serves : request.kept ≡ purpose
+
+pub waiting_is : (q : QueueState Purpose) (unique : ℕ) (purpose : Purpose) → waiting q unique ≡ Some purpose → Waits q unique purpose
+waiting_is q unique purpose e = by (request_under q unique) refl e
+  where
+    read : (r : QueuedRequest Purpose) (b : Bool) → cond b None (Some r.kept) ≡ Some purpose → r.kept ≡ purpose
+    read r true f = absurd (cc)
+    read r false f = cc
+
+    by : (o : Option (QueuedRequest Purpose)) → request_under q unique ≡ o → option_map_or (λ r. cond (is_unread r.mark) None (Some r.kept)) o None ≡ Some purpose → Waits q unique purpose
+    by None under f = absurd (cc)
+    by (Some r) under f = record { request = r; under = under; serves = read r (is_unread r.mark) f }
+
+-- A copy leaves the link, and its result comes onto the other.
+module _ (w : World) (numbered : IsNumbered w) (root : OnlyRoot w) (k : ℕ) (results : List ReplyResult) where
+  abbrev pub unsent : World
+  unsent = record w { replies = remove w.replies k; results = results }
+
+  pub unsent_numbered : IsNumbered unsent
+  unsent_numbered = record {
+    queues = numbered.queues;
+    calls_below = numbered.calls_below;
+    one_request = numbered.one_request;
+    sent_below = numbered.sent_below;
+    replies_below = All-without (λ (s : Sent). s.unique < w.kernel.queues.next) w.replies k numbered.replies_below;
+    held_below = numbered.held_below;
+    kept_below = numbered.kept_below;
+  }
+
+  pub unsent_root : is_live w.kernel.phase ≡ true → OnlyRoot unsent
+  unsent_root live = record {
+    tree = root.tree;
+    rows = root.rows;
+    handles = root.handles;
+    nodes = root.nodes;
+    opens = root.opens;
+    closing = root.closing;
+    root = root.root;
+    interrupts = root.interrupts;
+    forgets = root.forgets;
+    calls = root.calls;
+    names = root.names;
+    marks = root.marks;
+    purposes = root.purposes;
+    sent = root.sent;
+    held = root.held;
+    copies = All-without (λ (s : Sent). Replies w.kernel s.unique s.wire) w.replies k root.copies;
+    server_copies = root.server_copies;
+    unmounted = λ down. absurd (cc (live, down));
+    not_aborted = root.not_aborted;
+    server_live = root.server_live;
+    even_sent = root.even_sent;
+    even_held = root.even_held;
+    even_copies = All-without (λ (s : Sent). s.unique % 2 ≡ 0) w.replies k root.even_copies;
+    once = root.once;
+  }
+
+-- A request that waits ends.
+module _ (w : World) (p : Plain) (numbered : IsNumbered w) (root : OnlyRoot w) (same : Alike w p) (live : is_live w.kernel.phase ≡ true) (unique : ℕ) (purpose : Purpose) (waits : waiting w.kernel.queues unique ≡ Some purpose) where
+  abbrev q0 : QueueState Purpose
+  q0 = w.kernel.queues
+
+  abbrev q1 : QueueState Purpose
+  q1 = without q0 unique
+
+  abbrev k1 : Kernel
+  k1 = record w.kernel { queues = q1 }
+
+  abbrev w1 : World
+  w1 = record w { kernel = k1 }
+
+  is_waiting : Waits q0 unique purpose
+  is_waiting = waiting_is q0 unique purpose waits
+
+  same_pending : pending q1 ≡ pending q0
+  same_pending = subst (λ (o : Option Purpose). pending (cond (is_some o) q1 q0) ≡ pending q0) waits (pending-answer q0 unique purpose waits)
+
+  stays : KeptStays q1 q0
+  stays v = elim (cases_eq v unique) [
+      | inl e ↦ inl (subst (λ (n : ℕ). kept_under q1 n ≡ None) (sym e) (ap (λ (o : Option (QueuedRequest Purpose)). option_map (λ (r : QueuedRequest Purpose). r.kept) o) (request_under-without q0 unique numbered.queues)))
+      | inr ne ↦ inr (ap (λ (o : Option (QueuedRequest Purpose)). option_map (λ (r : QueuedRequest Purpose). r.kept) o) (request_under-without_other q0 v unique (other_is v unique ne)))
+    ]
+
+  no_interrupts : q1.interrupts ≡ []
+  no_interrupts = ap (λ (xs : List ℕ). filter (λ i. not (nat_eq unique i)) xs) root.interrupts
+
+  ended_root : OnlyRoot w1
+  ended_root =
+      requeued_root w root q1 stays live no_interrupts root.forgets (All-removed (λ (e : ℕ × QueuedRequest Purpose). is_signalled e.1.mark ≡ false) unique q0.requests root.marks)
+      (All-removed (λ (e : ℕ × QueuedRequest Purpose). MatchOption (body_of w.kernel e.1.kept) ⊥ IsFirstBody) unique q0.requests root.purposes) w.requests
+      (λ i r lt.
+      let request = get_or w.requests i r in
+      let old = root.sent i r lt in
+      (old.0, serves_still w root q1 stays request.unique request.body old.1)) root.even_sent
+      (λ u. subst (λ (es : List (ℕ × QueuedRequest Purpose)). count_by (λ (e : ℕ × QueuedRequest Purpose). nat_eq u e.0) es + count_by (λ (r : Request). nat_eq u r.unique) w.requests + cond (is_some (get w.server.held u)) 1 0 ≤ 1) (sym same_pending) (root.once u))
+
+  -- where the request serves no call, no ask stands under its number
+  unasked : ((call : ℕ) → is_for call purpose ≡ false) → get p.asks unique ≡ None
+  unasked no_call = by (get p.asks unique) refl
+    where
+      by : (o : Option Ask) → get p.asks unique ≡ o → o ≡ None
+      by None e = refl
+      by (Some ask) e =
+          let found = found_entry (λ (x : ℕ × QueuedRequest Purpose). is_for ask.call x.1.kept) q0.requests unique (key_count-le-one q0 unique numbered.queues) ((same.asks live).no_other unique ask e) in
+          let is_r : found.0 ≡ is_waiting.request = cc (found.1, is_waiting.under) in
+          absurd (true≢false (sym found.2 ∙ ap (λ (r : QueuedRequest Purpose). is_for ask.call r.kept) is_r ∙ ap (λ (x : Purpose). is_for ask.call x) is_waiting.serves ∙ no_call ask.call))
+
+  -- .. and all stays alike as it ends
+  ended_stay : ((call : ℕ) → is_for call purpose ≡ false) → QueuesStay w p q1
+  ended_stay no_call = record {
+    pending = subst (All (PurposeAsked w p)) (sym same_pending) same.requests.pending;
+    same_request = λ call.
+        ap (λ (o : Option (ℕ × QueuedRequest Purpose)). option_map (λ (x : ℕ × QueuedRequest Purpose). x.0) o)
+        (find_beside (λ (x : ℕ × QueuedRequest Purpose). is_for call x.1.kept) unique is_waiting.request q0.requests is_waiting.under (ap (λ (x : Purpose). is_for call x) is_waiting.serves ∙ no_call call));
+    signalled = λ alive u request ask under at bears. elim (cases_eq u unique) [
+      | inl e ↦ absurd (cc (subst (λ (n : ℕ). request_under q1 n ≡ Some request) e under, request_under-without q0 unique numbered.queues))
+      | inr ne ↦ (same.asks alive).signalled u request ask (sym (request_under-without_other q0 u unique (other_is u unique ne)) ∙ under) at bears
+    ];
+  }
