@@ -39,6 +39,12 @@ pub replies_in : (k l : Kernel) (o : Option Purpose) (wire : WireReply) → ((pu
 replies_in k l None wire same h = tt
 replies_in k l (Some purpose) wire same h = subst (λ (o : Option RequestBody). MatchOption o ⊥ (λ body. RepliesTo body wire)) (sym (same purpose refl)) h
 
+-- what a request asks is a matter of the calls alone
+pub same_asked : (k l : Kernel) → k.vfs ≡ l.vfs → (purpose : Purpose) → body_of k purpose ≡ body_of l purpose
+same_asked k l e purpose.Init = refl
+same_asked k l e (purpose.Release o) = refl
+same_asked k l e (purpose.Call c) = ap (λ (v : Vfs Opened). asked_by (get v.calls c)) e
+
 first_body : (state : CallState Opened) → StatsRoot state → IsFirstBody (asks (asked state))
 first_body state (looks_up word words) = first_lookup word
 first_body state asks_root = first_getattr
@@ -189,11 +195,6 @@ module _ (w : World) (numbered : IsNumbered w) (root : OnlyRoot w) (live : is_li
             ];
       }
     where
-      same_asked : (k l : Kernel) → k.vfs ≡ l.vfs → (purpose : Purpose) → body_of k purpose ≡ body_of l purpose
-      same_asked k l e purpose.Init = refl
-      same_asked k l e (purpose.Release o) = refl
-      same_asked k l e (purpose.Call c) = ap (λ (v : Vfs Opened). asked_by (get v.calls c)) e
-
       at_most : (u : ℕ) (b : Bool) → count_by (λ (e : ℕ × QueuedRequest Purpose). nat_eq u e.0) (pending (after_enqueue q0 (purpose.Call call))) ≡ count_by (λ (e : ℕ × QueuedRequest Purpose). nat_eq u e.0) (pending q0) + cond b 1 0
           → unperformed w u ≡ 0 → unperformed (record w { kernel = record w.kernel { vfs = next.vfs; queues = after_enqueue q0 (purpose.Call call) } }) u ≤ 1
       at_most u true pushed none = omega (arith, pushed, none)

@@ -32,7 +32,7 @@ use Rattle.fuse_spec.specs.Plain.{Plain, Ask, Stage, ask_told}
 use Rattle.fuse_spec.specs.Plain as plain
 use Rattle.fuse_spec.specs.PlainSteps.{Takes, telling, telling_ask, telling_call, where_so}
 use Rattle.fuse_spec.specs.Denotes.{MeansIn, MeansOpenIn, OptionAlike, StateAlike, ReplyAlike, Names, Opens}
-use Rattle.fuse_spec.specs.Alike.{StageTold, IsPaired, PurposeAsked, Alike}
+use Rattle.fuse_spec.specs.Alike.{StageTold, IsPaired, RequestBodyAsked, PurposeAsked, Alike}
 use Rattle.fuse_spec.proofs.QueueCounts.{lookup-remove_entry_other}
 use Rattle.fuse_spec.proofs.QueueReadings.{pending-answer, request_under-without, request_under-without_other, key_count-le-one}
 use Rattle.fuse_theorem.specs.Numbering.{IsNumbered, requests_for}
@@ -43,12 +43,12 @@ use Rattle.fuse_theorem.proofs.Ending.{none_left, without_request}
 use Rattle.fuse_theorem.proofs.Finding.{same_is, other_is, All-removed, found_entry, found_one, find_beside}
 use Rattle.fuse_theorem.proofs.FirstCalls.{StaysAtRoot, missing_at_root, attributes_at_root}
 use Rattle.fuse_theorem.proofs.FirstQueues.{KeptStays, serves_still, requeued_root}
-use Rattle.fuse_theorem.proofs.FirstSteps.{advanced_root}
-use Rattle.fuse_theorem.proofs.Numbered.{advanced_numbered}
+use Rattle.fuse_theorem.proofs.FirstSteps.{same_asked, serves_in, replies_in, advanced_root}
+use Rattle.fuse_theorem.proofs.Numbered.{ended_numbered, advanced_numbered}
 use Rattle.fuse_theorem.proofs.OnlyRoots.{one_root}
 use Rattle.fuse_theorem.proofs.Queuing.{All-without, All-at, QueuesStay, queues_alike}
 use Rattle.fuse_theorem.proofs.Releasing.{next_unasked}
-use Rattle.fuse_theorem.proofs.Writing.{unsent_alike, numbered1, heard_alike}
+use Rattle.fuse_theorem.proofs.Writing.{unsent_alike, heard_alike}
 
 -- a request that waits for its reply
 pub record Waits (q : QueueState Purpose) (unique : ℕ) (purpose : Purpose) : Type 0 where
@@ -172,4 +172,92 @@ module _ (w : World) (p : Plain) (numbered : IsNumbered w) (root : OnlyRoot w) (
       | inl e ↦ absurd (cc (subst (λ (n : ℕ). request_under q1 n ≡ Some request) e under, request_under-without q0 unique numbered.queues))
       | inr ne ↦ (same.asks alive).signalled u request ask (sym (request_under-without_other q0 u unique (other_is u unique ne)) ∙ under) at bears
     ];
+  }
+
+-- A live mount is ready.
+module _ (w : World) (live : is_live w.kernel.phase ≡ true) where
+  abbrev pub ready : World
+  ready = record w { kernel = record w.kernel { phase = Ready } }
+
+  abbrev ready_kernel : Kernel
+  ready_kernel = record w.kernel { phase = Ready }
+
+  not_aborted_live : (phase : Phase) → is_live phase ≡ true → is_aborted phase ≡ false
+  not_aborted_live Down e = absurd (cc)
+  not_aborted_live Starting e = refl
+  not_aborted_live Ready e = refl
+  not_aborted_live Aborted e = absurd (cc)
+
+  pub ready_alike : (p : Plain) → Alike w p → Alike ready p
+  ready_alike p same = record {
+    tree = same.tree;
+    vfs = same.vfs;
+    requests = record {
+      pending = λ i e lt.
+          let entry = get_or (pending w.kernel.queues) i e in
+          subst (λ (o : Option RequestBody). MatchOption o ⊥ (RequestBodyAsked p.asks entry.0 (is_signalled entry.1.mark) false (MeansIn w) (MeansOpenIn w))) (sym (same_asked ready_kernel w.kernel refl entry.1.kept)) (same.requests.pending i e lt);
+      sent = same.requests.sent;
+      held = same.requests.held;
+    };
+    asks = λ _.
+        let old = same.asks live in
+        record {
+          of_calls = λ q state is.
+              let pair = old.of_calls q state is in
+              record { unique = pair.unique; ask = pair.ask; request = pair.request; there = pair.there; by = pair.by; same = pair.same };
+          no_other = old.no_other;
+          signalled = old.signalled;
+          kept = old.kept;
+          copies = old.copies;
+        };
+    validity = same.validity;
+    aborted = sym (not_aborted_live w.kernel.phase live) ∙ same.aborted;
+  }
+
+  pub ready_numbered : IsNumbered w → IsNumbered ready
+  ready_numbered numbered = record {
+    queues = numbered.queues;
+    calls_below = numbered.calls_below;
+    one_request = numbered.one_request;
+    sent_below = numbered.sent_below;
+    replies_below = numbered.replies_below;
+    held_below = λ _. numbered.held_below live;
+    kept_below = λ _. numbered.kept_below live;
+  }
+
+  pub ready_root : OnlyRoot w → OnlyRoot ready
+  ready_root root = record {
+    tree = root.tree;
+    rows = root.rows;
+    handles = root.handles;
+    nodes = root.nodes;
+    opens = root.opens;
+    closing = root.closing;
+    root = root.root;
+    interrupts = root.interrupts;
+    forgets = root.forgets;
+    calls = root.calls;
+    names = root.names;
+    marks = root.marks;
+    purposes = λ i e lt.
+        let entry = get_or w.kernel.queues.requests i e in
+        subst (λ (o : Option RequestBody). MatchOption o ⊥ IsFirstBody) (sym (same_asked ready_kernel w.kernel refl entry.1.kept)) (root.purposes i e lt);
+    sent = λ i r lt.
+        let request = get_or w.requests i r in
+        let old = root.sent i r lt in
+        (old.0, serves_in w.kernel ready_kernel (kept_under w.kernel.queues request.unique) request.body (λ x e. same_asked ready_kernel w.kernel refl x) old.1);
+    held = λ u t at.
+        let old = root.held u t at in
+        (old.0, old.1, old.2, serves_in w.kernel ready_kernel (kept_under w.kernel.queues u) t.body (λ x e. same_asked ready_kernel w.kernel refl x) old.3);
+    copies = λ i s lt.
+        let copy = get_or w.replies i s in
+        replies_in w.kernel ready_kernel (kept_under w.kernel.queues copy.unique) copy.wire (λ x e. same_asked ready_kernel w.kernel refl x) (root.copies i s lt);
+    server_copies = root.server_copies;
+    unmounted = λ down. absurd (cc (down));
+    not_aborted = refl;
+    server_live = root.server_live;
+    even_sent = root.even_sent;
+    even_held = root.even_held;
+    even_copies = root.even_copies;
+    once = root.once;
   }

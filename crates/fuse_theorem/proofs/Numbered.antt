@@ -11,16 +11,31 @@ use Rattle.fuse_spec.specs.Operations.{Operation}
 use Rattle.fuse_spec.specs.Uniques.{IsNextNumber}
 use Rattle.fuse_spec.specs.Vfs.{CallState, Advance}
 use Rattle.fuse_spec.specs.Queues.{QueueState}
-use Rattle.fuse_spec.specs.QueueCalls.{after_enqueue}
+use Rattle.fuse_spec.specs.QueueCalls.{after_enqueue, without}
 use Rattle.fuse_spec.specs.Messages.{Request}
 use Rattle.fuse_spec.specs.Kernel.{Kernel, is_live, is_for, asking_for, advanced}
 use Rattle.fuse_spec.specs.Server.{HeldRequest, Kept}
 use Rattle.fuse_spec.specs.Worlds.{World, Sent}
 use Rattle.fuse_spec.proofs.QueueCounts.{count_by-push}
-use Rattle.fuse_spec.proofs.QueueSoundness.{IsSound-enqueue}
+use Rattle.fuse_spec.proofs.QueueSoundness.{IsSound-enqueue, IsSound-without}
 use Rattle.fuse_theorem.specs.Numbering.{IsNumbered, requests_for}
-use Rattle.fuse_theorem.proofs.Finding.{same_is, other_is}
+use Rattle.fuse_theorem.proofs.Finding.{other_is, count_less}
 use Rattle.fuse_theorem.proofs.Advancing.{WaitsFor, StepsAlone}
+
+-- A request ends.
+pub ended_numbered : (w : World) → IsNumbered w → (unique : ℕ) → IsNumbered (record w { kernel = record w.kernel { queues = without w.kernel.queues unique } })
+ended_numbered w numbered unique = record {
+  queues = IsSound-without w.kernel.queues unique numbered.queues;
+  calls_below = numbered.calls_below;
+  one_request = λ c.
+      let less = count_less (λ (e : ℕ × QueuedRequest Purpose). is_for c e.1.kept) unique w.kernel.queues.requests in
+      let few = numbered.one_request c in
+      omega (arith, less, few);
+  sent_below = numbered.sent_below;
+  replies_below = numbered.replies_below;
+  held_below = numbered.held_below;
+  kept_below = numbered.kept_below;
+}
 
 module _ (w : World) (numbered : IsNumbered w) (coming call : ℕ) (next : Advance Opened) (none_for : requests_for call w.kernel.queues ≡ 0)
     (alone : StepsAlone w.kernel.vfs.calls coming call next) (low : call < coming) (later : w.kernel.vfs.next_call ≤ coming) where

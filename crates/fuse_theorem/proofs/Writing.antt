@@ -25,7 +25,7 @@ use Rattle.fuse_spec.specs.Alike.{VfsAlike, StageTold, Alike}
 use Rattle.fuse_spec.proofs.QueueSoundness.{IsSound-without, lookup-next}
 use Rattle.fuse_spec.proofs.Tables.{get_gone_there}
 use Rattle.fuse_theorem.specs.Numbering.{IsNumbered}
-use Rattle.fuse_theorem.proofs.Finding.{count_less}
+use Rattle.fuse_theorem.proofs.Numbered.{ended_numbered}
 use Rattle.fuse_theorem.proofs.Hearing.{IsOneToOne, answered_alike}
 use Rattle.fuse_theorem.proofs.Telling.{AdvanceAlike, told_call_alike}
 use Rattle.fuse_theorem.proofs.Advancing.{StepsAlone, call_replied_alone, answered_alone}
@@ -89,19 +89,8 @@ module _ (w : World) (p : Plain) (numbered : IsNumbered w) (one : IsOneToOne (Me
   paused : ask.stage ≢ waiting → Paused w1 p1 call
   paused over = paused_ended w p numbered same unique call r ask under serves there interrupts_left (none_sent w p numbered same unique call r ask under serves there over) (none_held w p numbered same unique call r ask under serves there over)
 
-  pub numbered1 : IsNumbered w1
-  numbered1 = record {
-    queues = sound1;
-    calls_below = numbered.calls_below;
-    one_request = λ c.
-        let less = count_less (λ (e : ℕ × QueuedRequest Purpose). is_for c e.1.kept) unique w.kernel.queues.requests in
-        let few = numbered.one_request c in
-        omega (arith, less, few);
-    sent_below = numbered.sent_below;
-    replies_below = numbered.replies_below;
-    held_below = numbered.held_below;
-    kept_below = numbered.kept_below;
-  }
+  numbered1 : IsNumbered w1
+  numbered1 = ended_numbered w numbered unique
 
   -- where a call takes a step once its request has ended
   stepped : (c : Advance Opened) (d : Advance ℕ) → ask.stage ≢ waiting → AdvanceAlike (MeansIn w) (MeansOpenIn w) one c d → StepsAlone w.kernel.vfs.calls w.kernel.vfs.next_call call c
