@@ -125,7 +125,7 @@ module _ (w : World) (p : Plain) (numbered : IsNumbered w) (root : OnlyRoot w) (
   abbrev w1 : World
   w1 = record w { kernel = k1 }
 
-  is_waiting : Waits q0 unique purpose
+  pub is_waiting : Waits q0 unique purpose
   is_waiting = waiting_is q0 unique purpose waits
 
   same_pending : pending q1 ≡ pending q0
@@ -140,7 +140,7 @@ module _ (w : World) (p : Plain) (numbered : IsNumbered w) (root : OnlyRoot w) (
   no_interrupts : q1.interrupts ≡ []
   no_interrupts = ap (λ (xs : List ℕ). filter (λ i. not (nat_eq unique i)) xs) root.interrupts
 
-  ended_root : OnlyRoot w1
+  pub ended_root : OnlyRoot w1
   ended_root =
       requeued_root w root q1 stays live no_interrupts root.forgets (All-removed (λ (e : ℕ × QueuedRequest Purpose). is_signalled e.1.mark ≡ false) unique q0.requests root.marks)
       (All-removed (λ (e : ℕ × QueuedRequest Purpose). MatchOption (body_of w.kernel e.1.kept) ⊥ IsFirstBody) unique q0.requests root.purposes) w.requests
@@ -151,7 +151,7 @@ module _ (w : World) (p : Plain) (numbered : IsNumbered w) (root : OnlyRoot w) (
       (λ u. subst (λ (es : List (ℕ × QueuedRequest Purpose)). count_by (λ (e : ℕ × QueuedRequest Purpose). nat_eq u e.0) es + count_by (λ (r : Request). nat_eq u r.unique) w.requests + cond (is_some (get w.server.held u)) 1 0 ≤ 1) (sym same_pending) (root.once u))
 
   -- where the request serves no call, no ask stands under its number
-  unasked : ((call : ℕ) → is_for call purpose ≡ false) → get p.asks unique ≡ None
+  pub unasked : ((call : ℕ) → is_for call purpose ≡ false) → get p.asks unique ≡ None
   unasked no_call = by (get p.asks unique) refl
     where
       by : (o : Option Ask) → get p.asks unique ≡ o → o ≡ None
@@ -162,7 +162,7 @@ module _ (w : World) (p : Plain) (numbered : IsNumbered w) (root : OnlyRoot w) (
           absurd (true≢false (sym found.2 ∙ ap (λ (r : QueuedRequest Purpose). is_for ask.call r.kept) is_r ∙ ap (λ (x : Purpose). is_for ask.call x) is_waiting.serves ∙ no_call ask.call))
 
   -- .. and all stays alike as it ends
-  ended_stay : ((call : ℕ) → is_for call purpose ≡ false) → QueuesStay w p q1
+  pub ended_stay : ((call : ℕ) → is_for call purpose ≡ false) → QueuesStay w p q1
   ended_stay no_call = record {
     pending = subst (All (PurposeAsked w p)) (sym same_pending) same.requests.pending;
     same_request = λ call.

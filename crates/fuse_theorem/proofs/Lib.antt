@@ -33,3 +33,4 @@ pub mod Serving
 pub mod FirstServes
 pub mod FirstPerforms
 pub mod FirstWrites
+pub mod FirstReplies
