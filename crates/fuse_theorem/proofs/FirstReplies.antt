@@ -46,10 +46,10 @@ use Rattle.fuse_theorem.proofs.Releasing.{next_unasked}
 use Rattle.fuse_theorem.proofs.Writing.{unsent_alike, heard_alike}
 
 -- a reply to INIT, and none to a RELEASE
-init_reply : (wire : WireReply) → RepliesTo init wire → wire ≡ op.agreed 7 31
+pub init_reply : (wire : WireReply) → RepliesTo init wire → wire ≡ op.agreed 7 31
 init_reply wire to_init = refl
 
-abbrev is_release : RequestBody → Bool
+abbrev pub is_release : RequestBody → Bool
 is_release (release o) = true
 is_release init = false
 is_release (asks operation) = false
@@ -57,7 +57,7 @@ is_release (forget f) = false
 is_release (batch_forget fs) = false
 is_release (interrupt original) = false
 
-replies_to_none : (body : RequestBody) (wire : WireReply) → RepliesTo body wire → is_release body ≡ false
+pub replies_to_none : (body : RequestBody) (wire : WireReply) → RepliesTo body wire → is_release body ≡ false
 replies_to_none body wire to_init = refl
 replies_to_none body wire (to_lookup name valid) = refl
 replies_to_none body wire (to_getattr attributes) = refl
@@ -68,7 +68,7 @@ pub record CameTo (w : World) (ask : Ask) (heard : Reply ℕ Opened) : Type 0 wh
   pub stage : ask.stage ≡ plain.performed reply
   pub fits : ReplyAlike (MeansIn w) (MeansOpenIn w) heard reply
 
-came_missing : (w : World) (ask : Ask) (valid : ℕ) → StageTold w.server.nodes w.server.handles ask.stage (op.missing valid) → CameTo w ask (op.missing valid)
+pub came_missing : (w : World) (ask : Ask) (valid : ℕ) → StageTold w.server.nodes w.server.handles ask.stage (op.missing valid) → CameTo w ask (op.missing valid)
 came_missing w ask valid told = by ask.stage refl told
   where
     fits : (reply : Reply ℕ ℕ) → ReplyAlike (Names w.server.nodes) (Opens w.server.handles) (op.missing valid) reply → ReplyAlike (MeansIn w) (MeansOpenIn w) (op.missing valid) reply
@@ -80,7 +80,7 @@ came_missing w ask valid told = by ask.stage refl told
     by (plain.performed reply) e h = record { reply = reply; stage = e; fits = fits reply h }
     by plain.declined e h = absurd (cc)
 
-came_attributes : (w : World) (ask : Ask) (a : Attributes) → StageTold w.server.nodes w.server.handles ask.stage (op.attributes a) → CameTo w ask (op.attributes a)
+pub came_attributes : (w : World) (ask : Ask) (a : Attributes) → StageTold w.server.nodes w.server.handles ask.stage (op.attributes a) → CameTo w ask (op.attributes a)
 came_attributes w ask a told = by ask.stage refl told
   where
     fits : (reply : Reply ℕ ℕ) → ReplyAlike (Names w.server.nodes) (Opens w.server.handles) (op.attributes a) reply → ReplyAlike (MeansIn w) (MeansOpenIn w) (op.attributes a) reply
@@ -97,7 +97,7 @@ module _ (w : World) (p : Plain) (numbered : IsNumbered w) (root : OnlyRoot w) (
   results result = w.results ++ record { number = sent.number; unique = sent.unique; result = result } ∷ []
 
   -- No request waits under its number.
-  none_waits : Goes w p (event.write k) (event.written sent.unique NoEntry) (after_write w k sent (NoEntry, w.kernel))
+  pub none_waits : Goes w p (event.write k) (event.written sent.unique NoEntry) (after_write w k sent (NoEntry, w.kernel))
   none_waits = record {
     plain = p;
     takes = (0, refl);
@@ -120,7 +120,7 @@ module _ (w : World) (p : Plain) (numbered : IsNumbered w) (root : OnlyRoot w) (
     numbered1 = ended_numbered w numbered sent.unique
 
     -- The reply to INIT makes the mount ready.
-    init_goes : ((call : ℕ) → is_for call kept ≡ false) → Goes w p (event.write k) (event.written sent.unique Accepted) (after_write w k sent (Accepted, record k1 { phase = Ready }))
+    pub init_goes : ((call : ℕ) → is_for call kept ≡ false) → Goes w p (event.write k) (event.written sent.unique Accepted) (after_write w k sent (Accepted, record k1 { phase = Ready }))
     init_goes no_call =
         let w2 = record w { kernel = record k1 { phase = Ready } } in
         let numbered2 = ready_numbered w1 live numbered1 in
@@ -156,7 +156,7 @@ module _ (w : World) (p : Plain) (numbered : IsNumbered w) (root : OnlyRoot w) (
           found_one (λ (x : ℕ × QueuedRequest Purpose). is_for call x.1.kept) sent.unique pair.unique is_wait.request w.kernel.queues.requests at_most is_wait.under
           (ap (λ (x : Purpose). is_for call x) serves ∙ same_is call) pair.request
 
-      ask_there : get p.asks sent.unique ≡ Some pair.ask
+      pub ask_there : get p.asks sent.unique ≡ Some pair.ask
       ask_there = subst (λ (n : ℕ). get p.asks n ≡ Some pair.ask) same_unique pair.there
 
       low : call < w.kernel.vfs.next_call

@@ -34,3 +34,4 @@ pub mod FirstServes
 pub mod FirstPerforms
 pub mod FirstWrites
 pub mod FirstReplies
+pub mod FirstCopies
