@@ -35,3 +35,4 @@ pub mod FirstPerforms
 pub mod FirstWrites
 pub mod FirstReplies
 pub mod FirstCopies
+pub mod FirstSettles

@@ -1,0 +1,139 @@
+-- A copy is settled, on the first path.
+use Rattle.std.proofs.Common.{◌≡◌, ◌≢◌, ℕ, Bool, true, false, not, cond, List, [], ◌∷◌, remove, Option, Some, None, Ok, nat_eq, slice_get, refl, ap, sym, subst, ◌∙◌, inl, inr}
+use Rattle.std.proofs.lemmas.Bool.{cases_eq}
+use Rattle.fuse_spec.specs.declared.Entry.{Entry}
+use Rattle.fuse_spec.specs.declared.ReplyResult.{ReplyResult}
+use Rattle.fuse_spec.specs.declared.WriteResult.{WriteResult}
+use Rattle.fuse_spec.specs.declared.WriteResult.TheVariants.{Accepted, NoEntry, Invalid}
+use Rattle.fuse_spec.specs.Maps.{Map, get}
+use Rattle.fuse_spec.specs.Maps as maps
+use Rattle.fuse_spec.specs.Operations.{files_in_reply, opens_in_reply}
+use Rattle.fuse_spec.specs.Messages.{WireReply}
+use Rattle.fuse_spec.specs.Copies.{rows_back, handles_back, given_back, kept_after, after_result, settled}
+use Rattle.fuse_spec.specs.Kernel.{is_live}
+use Rattle.fuse_spec.specs.Server.{Server, Kept, Copy, without_unheld_files}
+use Rattle.fuse_spec.specs.Worlds.{World, server_settled, after_settle}
+use Rattle.fuse_spec.specs.Events.{Outcome}
+use Rattle.fuse_spec.specs.Events as event
+use Rattle.fuse_spec.specs.Steps.{settling, step}
+use Rattle.fuse_spec.specs.Plain.{Plain}
+use Rattle.fuse_spec.specs.Alike.{Alike}
+use Rattle.fuse_spec.proofs.Tables.{get_gone_here, get_gone_there}
+use Rattle.fuse_theorem.specs.Numbering.{IsNumbered}
+use Rattle.fuse_theorem.specs.FirstPath.{OnlyRoot, Goes}
+use Rattle.fuse_theorem.proofs.Accepted.{ok_is}
+use Rattle.fuse_theorem.proofs.FirstServes.{swept_root}
+
+-- what is left of a map was there
+left_was : {X : Type 0} (m : Map X) (k q : ℕ) (x : X) → get (maps.remove m k) q ≡ Some x → get m q ≡ Some x
+left_was m k q x at = elim (cases_eq q k) [
+    | inl e ↦ absurd (cc (subst (λ (n : ℕ). get (maps.remove m k) n ≡ Some x) e at, get_gone_here m k))
+    | inr ne ↦ sym (get_gone_there m k q ne) ∙ at
+  ]
+
+-- what is still kept was kept
+kept_was : (kept : Map Kept) (copy : Copy) (o : Option Kept) (q : ℕ) (x : Kept) → get (kept_after kept copy o) q ≡ Some x → get kept q ≡ Some x
+kept_was kept copy None q x at = at
+kept_was kept copy (Some k) q x at = by (nat_eq k.first copy.first) at
+  where
+    by : (b : Bool) → get (cond b (maps.remove kept copy.unique) kept) q ≡ Some x → get kept q ≡ Some x
+    by true at = left_was kept copy.unique q x at
+    by false at = at
+
+module _ (w : World) (p : Plain) (numbered : IsNumbered w) (root : OnlyRoot w) (same : Alike w p) (results : List ReplyResult) (kept : Map Kept) (copies : Map Copy)
+    (was : (q : ℕ) (x : Kept) → get kept q ≡ Some x → get w.server.kept q ≡ Some x) (copies_were : (n : ℕ) (c : Copy) → get copies n ≡ Some c → get w.server.copies n ≡ Some c) where
+  abbrev after : World
+  after = record w { results = results; server = record w.server { copies = copies; kept = kept } }
+
+  forgotten_alike : Alike after p
+  forgotten_alike = record {
+    tree = record { names = same.tree.names; next_birth = same.tree.next_birth; next_serial = same.tree.next_serial; files = same.tree.files };
+    vfs = same.vfs;
+    requests = record { pending = same.requests.pending; sent = same.requests.sent; held = same.requests.held };
+    asks = λ live.
+        let old = same.asks live in
+        record {
+          of_calls = λ q state is.
+              let pair = old.of_calls q state is in
+              record { unique = pair.unique; ask = pair.ask; request = pair.request; there = pair.there; by = pair.by; same = pair.same };
+          no_other = old.no_other;
+          signalled = old.signalled;
+          kept = λ u k ask at there. old.kept u k ask (was u k at) there;
+          copies = old.copies;
+        };
+    validity = same.validity;
+    aborted = same.aborted;
+  }
+
+  forgotten_goes : (k unique : ℕ) (result : WriteResult) → Goes w p (event.settle k) (event.settled unique result) after
+  forgotten_goes k unique result = record {
+    plain = p;
+    takes = (0, refl);
+    alike = forgotten_alike;
+    numbered = record {
+      queues = numbered.queues;
+      calls_below = numbered.calls_below;
+      one_request = numbered.one_request;
+      sent_below = numbered.sent_below;
+      replies_below = numbered.replies_below;
+      held_below = numbered.held_below;
+      kept_below = λ live u x at. numbered.kept_below live u x (was u x at);
+    };
+    root = record {
+      tree = root.tree;
+      rows = root.rows;
+      handles = root.handles;
+      nodes = root.nodes;
+      opens = root.opens;
+      closing = root.closing;
+      root = root.root;
+      interrupts = root.interrupts;
+      forgets = root.forgets;
+      calls = root.calls;
+      names = root.names;
+      marks = root.marks;
+      purposes = root.purposes;
+      sent = root.sent;
+      held = root.held;
+      copies = root.copies;
+      server_copies = λ n c at. root.server_copies n c (copies_were n c at);
+      unmounted = root.unmounted;
+      not_aborted = root.not_aborted;
+      server_live = root.server_live;
+      even_sent = root.even_sent;
+      even_held = root.even_held;
+      even_copies = root.even_copies;
+      once = root.once;
+    };
+  }
+
+pub first_settles : (w : World) (p : Plain) → IsNumbered w → OnlyRoot w → Alike w p → (k : ℕ) (choice : ℕ → ℕ) (o : Outcome) (after : World) → step choice w (event.settle k) ≡ Ok (o, after)
+    → Goes w p (event.settle k) o after
+first_settles w p numbered root same k choice o last e = by (slice_get w.results k) e
+  where
+    results : List ReplyResult
+    results = remove w.results k
+
+    -- a refused copy that names nothing gives nothing back
+    none_back : (s : Server) (wire : WireReply) (result : WriteResult) → s.tree ≡ w.server.tree → s.aborted ≡ w.server.aborted → files_in_reply wire ≡ [] → opens_in_reply wire ≡ [] → after_result s wire result ≡ s
+    none_back s wire Accepted tree aborted files opens = refl
+    none_back s wire NoEntry tree aborted files opens =
+        (λ i. without_unheld_files (record s { nodes = rows_back s.nodes (files i); handles = handles_back s.handles (opens i) })) ∙ swept_root s (tree ∙ root.tree) (aborted ∙ root.server_live)
+    none_back s wire Invalid tree aborted files opens =
+        (λ i. without_unheld_files (record s { nodes = rows_back s.nodes (files i); handles = handles_back s.handles (opens i) })) ∙ swept_root s (tree ∙ root.tree) (aborted ∙ root.server_live)
+
+    by_copy : (result : ReplyResult) (c : Option Copy) → get w.server.copies result.number ≡ c → Goes w p (event.settle k) (event.settled result.unique result.result) (after_settle w k result c)
+    by_copy result None there = forgotten_goes w p numbered root same results w.server.kept w.server.copies (λ q x at. at) (λ n c at. at) k result.unique result.result
+    by_copy result (Some copy) there =
+        let kept = kept_after w.server.kept copy (get w.server.kept copy.unique) in
+        let copies = maps.remove w.server.copies result.number in
+        let named = root.server_copies result.number copy there in
+        let s = record w.server { copies = copies; kept = kept } in
+        subst (λ (x : Server). Goes w p (event.settle k) (event.settled result.unique result.result) (record w { results = results; server = x })) (sym (none_back s copy.wire result.result refl refl named.0 named.1))
+        (forgotten_goes w p numbered root same results kept copies (λ q x at. kept_was w.server.kept copy (get w.server.kept copy.unique) q x at) (λ n c at. left_was w.server.copies result.number n c at) k result.unique result.result)
+
+    by : (r : Option ReplyResult) → settling w k r ≡ Ok (o, last) → Goes w p (event.settle k) o last
+    by None e = absurd (cc)
+    by (Some result) e =
+        let leads = ok_is (event.settled result.unique result.result) (after_settle w k result (get w.server.copies result.number)) o last e in
+        subst (λ (y : Outcome × World). Goes w p (event.settle k) y.0 y.1) (λ i. (leads.outcome_is i, leads.after_is i)) (by_copy result (get w.server.copies result.number) refl)
