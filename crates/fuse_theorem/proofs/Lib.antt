@@ -36,3 +36,4 @@ pub mod FirstWrites
 pub mod FirstReplies
 pub mod FirstCopies
 pub mod FirstSettles
+pub mod FirstMounts
