@@ -37,3 +37,4 @@ pub mod FirstReplies
 pub mod FirstCopies
 pub mod FirstSettles
 pub mod FirstMounts
+pub mod FirstPath

@@ -1,5 +1,5 @@
 -- The worlds in which the tree is the root alone, and each call is `stat`: no name leads anywhere, no node but the root is known.
-use Rattle.std.specs.Prelude.{◌≡◌, ◌≤◌, ◌+◌, ◌%◌, ℕ, Bool, true, false, cond, List, [], ◌∷◌, Option, Some, None, nat_eq, count_by, is_some, option_map, All, MatchOption}
+use Rattle.std.specs.Prelude.{◌≡◌, ◌≤◌, ◌+◌, ◌%◌, ℕ, Bool, true, false, cond, List, [], ◌∷◌, ◌++◌, Option, Some, None, nat_eq, count_by, is_some, option_map, All, MatchOption}
 use Rattle.fuse_spec.specs.declared.Attributes.{Attributes}
 use Rattle.fuse_spec.specs.declared.Binding.{Binding}
 use Rattle.fuse_spec.specs.declared.Mark.{Mark}
@@ -27,6 +27,10 @@ use Rattle.fuse_spec.specs.PlainSteps.{Takes}
 use Rattle.fuse_spec.specs.Alike.{Alike}
 use Rattle.fuse_theorem.specs.Numbering.{IsNumbered}
 use Rattle.fuse_spec.specs.Events as event
+use Rattle.fuse_spec.specs.declared.Refusal.{Refusal}
+use Rattle.fuse_spec.specs.Records.{Record, outcome, refused, answers_of, collected}
+use Rattle.fuse_spec.specs.Runs.{plain_collected}
+use Rattle.fuse_spec.specs.Steps.{Happens}
 
 -- A call of `stat` that looks up a name in the root, or asks for the root's attributes.
 pub data StatsRoot : CallState Opened → Type 0 where
@@ -107,3 +111,21 @@ pub record Goes (w : World) (p : Plain) (event : Event) (outcome : Outcome) (aft
   pub alike : Alike after plain
   pub numbered : IsNumbered after
   pub root : OnlyRoot after
+
+-- A list of events of the first path leads from the one world to the other, and the plain world beside it: each event is refused and
+-- changes nothing, or is accepted, and then the answers are collected. The records are those of both worlds.
+pub data FirstRun : World → Plain → List Event → List Record → World → Plain → Type 0 where
+  ends : (w : World) (p : Plain) → FirstRun w p [] [] w p
+  refuses : (w : World) (p : Plain) (event : Event) (refusal : Refusal) (events : List Event) (records : List Record) (after : World) (plain : Plain)
+      → FirstRun w p events records after plain → FirstRun w p (event ∷ events) (refused refusal ∷ records) after plain
+  accepts : (w : World) (p : Plain) (event : Event) (o : Outcome) (mid : World) (q : Plain) (events : List Event) (records : List Record) (after : World) (plain : Plain)
+      → Happens w event o mid → Takes p event o q → Alike mid q → FirstRun (collected mid) (plain_collected q) events records after plain
+      → FirstRun w p (event ∷ events) (outcome o ∷ answers_of q.vfs.answers ++ records) after plain
+
+-- The records of a list of events, as the machine alone gives them.
+pub data Recorded : World → List Event → List Record → World → Type 0 where
+  none_left : (w : World) → Recorded w [] [] w
+  one_refused : (w : World) (event : Event) (refusal : Refusal) (events : List Event) (records : List Record) (after : World)
+      → Recorded w events records after → Recorded w (event ∷ events) (refused refusal ∷ records) after
+  one_accepted : (w : World) (event : Event) (o : Outcome) (mid : World) (events : List Event) (records : List Record) (after : World)
+      → Happens w event o mid → Recorded (collected mid) events records after → Recorded w (event ∷ events) (outcome o ∷ answers_of mid.kernel.vfs.answers ++ records) after
