@@ -1,13 +1,13 @@
 //! Frames as requests.
 
-ghost use Rattle.std.specs.Prelude.{◌≡◌, ◌≢◌, ◌≤◌, ◌+◌, length, IfOk, IfErr, IsOkAnd, List, ℕ};
+ghost use Rattle.std.specs.Prelude.{◌≡◌, ◌≢◌, ◌≤◌, ◌<◌, ◌+◌, length, IfOk, IfErr, IsOkAnd, List, MatchOption, ℕ};
 ghost use Rattle.fk_wire.specs.Fields.{ReadsAs, number_at};
-ghost use Rattle.fk_wire.specs.Requests.{RequestMessage, Spells, SpellsAt, request_content, request_message, opcode_of, request_body};
+ghost use Rattle.fk_wire.specs.Requests.{RequestMessage, Spells, SpellsAt, max_frame, request_content, request_message, opcode_of, request_body};
 ghost use Rattle.fk_wire.specs.Opcodes.{has_node};
 ghost use Rattle.fk_wire.specs.declared.opcode.Minor.{Minor};
 ghost use Rattle.fk_wire.specs.Decoded.{decoded};
 ghost use Rattle.fk_wire.specs.Faults.{NodeReads};
-ghost use Rattle.fk_wire.specs.Faults.{shape_of, BodyFaultIs, FaultIs, FaultIsAt, HasLength, IsHeadFault};
+ghost use Rattle.fk_wire.specs.Faults.{shape_of, BodyFaultIs, FaultIs, FaultIsAt, HasLength, IsHeadFault, name_after};
 
 use crate::fault::WireFault;
 use crate::fields::{u32_at, u64_at};
@@ -20,18 +20,50 @@ use crate::shapes::{fixed, one_name, two_names, with_bytes, with_pairs};
 // The reader is inlined into its callers: a request that is taken apart at once is then never laid out
 // in memory.
 
-/// The body of a frame under this opcode.
+/// Where the name stands in a frame under this opcode, if it has one name and ends with it.
+fn name_place(opcode: Opcode) -> Option<usize>
+    ensures { MatchOption result ((place : ℕ) → shape_of opcode ≢ name_after place) (λ place. shape_of opcode ≡ name_after place) }
+{
+    match opcode {
+        Opcode::Lookup | Opcode::Unlink | Opcode::Rmdir => Some(40),
+        Opcode::Mkdir | Opcode::Link => Some(48),
+        Opcode::Create => Some(56),
+        _ => None,
+    }
+}
+
+/// The body of a frame that ends with its one name. The name is looked at in one place for all six
+/// opcodes, so that there is one copy of it in the reader.
 #[inline(always)]
-fn body_of(opcode: Opcode, bytes: &[u8]) -> Result<RequestBody<'_>, WireFault>
-    requires { 40 ≤ length bytes.now }
+fn named_body(opcode: Opcode, bytes: &[u8], place: usize) -> Result<RequestBody<'_>, WireFault>
+    requires { shape_of opcode ≡ name_after place }
+    ensures ok { IfOk result (λ b. (opcode_of (request_content b) ≡ opcode) × ReadsAs 40 (request_body (request_content b)) bytes.now) }
+    ensures err { IfErr result (BodyFaultIs (shape_of opcode) bytes.now) }
+{
+    let name = one_name(bytes, place)?;
+    Ok(match opcode {
+        Opcode::Lookup => RequestBody::Lookup { name },
+        Opcode::Mkdir => RequestBody::Mkdir { name },
+        Opcode::Unlink => RequestBody::Unlink { name },
+        Opcode::Rmdir => RequestBody::Rmdir { name },
+        Opcode::Link => {
+            let oldnodeid = u64_at(bytes, 40);
+            RequestBody::Link { oldnodeid, name }
+        }
+        // No other opcode has such a body.
+        _ => RequestBody::Create { name },
+    })
+}
+
+/// The body of a frame under this opcode, which is none of those of `named_body`.
+#[inline(always)]
+fn other_body(opcode: Opcode, bytes: &[u8]) -> Result<RequestBody<'_>, WireFault>
+    requires unnamed { (place : ℕ) → shape_of opcode ≢ name_after place }
+    requires header { 40 ≤ length bytes.now }
     ensures ok { IfOk result (λ b. (opcode_of (request_content b) ≡ opcode) × ReadsAs 40 (request_body (request_content b)) bytes.now) }
     ensures err { IfErr result (BodyFaultIs (shape_of opcode) bytes.now) }
 {
     match opcode {
-        Opcode::Lookup => {
-            let name = one_name(bytes, 40)?;
-            Ok(RequestBody::Lookup { name })
-        }
         Opcode::Forget => {
             fixed(bytes, 48)?;
             let nlookup = u64_at(bytes, 40);
@@ -41,27 +73,10 @@ fn body_of(opcode: Opcode, bytes: &[u8]) -> Result<RequestBody<'_>, WireFault>
             fixed(bytes, 56)?;
             Ok(RequestBody::Getattr)
         }
-        Opcode::Mkdir => {
-            let name = one_name(bytes, 48)?;
-            Ok(RequestBody::Mkdir { name })
-        }
-        Opcode::Unlink => {
-            let name = one_name(bytes, 40)?;
-            Ok(RequestBody::Unlink { name })
-        }
-        Opcode::Rmdir => {
-            let name = one_name(bytes, 40)?;
-            Ok(RequestBody::Rmdir { name })
-        }
         Opcode::Rename => {
             let (old, new) = two_names(bytes, 48)?;
             let newdir = u64_at(bytes, 40);
             Ok(RequestBody::Rename { newdir, old, new })
-        }
-        Opcode::Link => {
-            let name = one_name(bytes, 48)?;
-            let oldnodeid = u64_at(bytes, 40);
-            Ok(RequestBody::Link { oldnodeid, name })
         }
         Opcode::Open => {
             fixed(bytes, 48)?;
@@ -112,10 +127,6 @@ fn body_of(opcode: Opcode, bytes: &[u8]) -> Result<RequestBody<'_>, WireFault>
             let size = u32_at(bytes, 56);
             Ok(RequestBody::Readdirplus { offset, size })
         }
-        Opcode::Create => {
-            let name = one_name(bytes, 56)?;
-            Ok(RequestBody::Create { name })
-        }
         Opcode::Interrupt => {
             fixed(bytes, 48)?;
             let unique = u64_at(bytes, 40);
@@ -125,6 +136,20 @@ fn body_of(opcode: Opcode, bytes: &[u8]) -> Result<RequestBody<'_>, WireFault>
             let pairs = with_pairs(bytes)?;
             Ok(RequestBody::BatchForget { pairs })
         }
+        _ => Err(WireFault::Body),
+    }
+}
+
+/// The body of a frame under this opcode.
+#[inline(always)]
+fn body_of(opcode: Opcode, bytes: &[u8]) -> Result<RequestBody<'_>, WireFault>
+    requires { 40 ≤ length bytes.now }
+    ensures ok { IfOk result (λ b. (opcode_of (request_content b) ≡ opcode) × ReadsAs 40 (request_body (request_content b)) bytes.now) }
+    ensures err { IfErr result (BodyFaultIs (shape_of opcode) bytes.now) }
+{
+    match name_place(opcode) {
+        Some(place) => named_body(opcode, bytes, place),
+        None => other_body(opcode, bytes),
     }
 }
 
@@ -140,6 +165,16 @@ fn nodeid_at(opcode: Opcode, bytes: &[u8]) -> u64
     }
 }
 
+/// The fault of a frame that has its length, but more bytes than a frame may have.
+fn long_fault(minor: Minor, code: u32) -> WireFault
+    ensures { (bytes : List ℕ) → HasLength bytes → number_at 4 4 bytes ≡ code → max_frame < length bytes → FaultIsAt minor bytes result }
+{
+    match opcode_at(minor, code) {
+        Some(_) => WireFault::Body,
+        None => WireFault::Opcode,
+    }
+}
+
 /// The request that a frame spells, without its contract's clause on what else it may spell.
 #[inline(always)]
 fn request_of(minor: Minor, bytes: &[u8]) -> Result<Request<'_>, WireFault>
@@ -152,12 +187,13 @@ fn request_of(minor: Minor, bytes: &[u8]) -> Result<Request<'_>, WireFault>
     if u32_at(bytes, 0) as usize != bytes.len() {
         return Err(WireFault::Length);
     }
-    let Some(opcode) = opcode_at(minor, u32_at(bytes, 4)) else {
+    let code = u32_at(bytes, 4);
+    if bytes.len() > MAX_FRAME {
+        return Err(long_fault(minor, code));
+    }
+    let Some(opcode) = opcode_at(minor, code) else {
         return Err(WireFault::Opcode);
     };
-    if bytes.len() > MAX_FRAME {
-        return Err(WireFault::Body);
-    }
     let unique = u64_at(bytes, 8);
     let nodeid = nodeid_at(opcode, bytes);
     match body_of(opcode, bytes) {
