@@ -158,11 +158,8 @@ fn nodeid_at(opcode: Opcode, bytes: &[u8]) -> u64
     requires { 40 ≤ length bytes.now }
     ensures { NodeReads (has_node opcode) bytes.now result }
 {
-    if is_about_node(opcode) {
-        u64_at(bytes, 16)
-    } else {
-        0
-    }
+    let nodeid = u64_at(bytes, 16);
+    if is_about_node(opcode) { nodeid } else { 0 }
 }
 
 /// The fault of a frame that has its length, but more bytes than a frame may have.
@@ -191,10 +188,10 @@ fn request_of(minor: Minor, bytes: &[u8]) -> Result<Request<'_>, WireFault>
     if bytes.len() > MAX_FRAME {
         return Err(long_fault(minor, code));
     }
+    let unique = u64_at(bytes, 8);
     let Some(opcode) = opcode_at(minor, code) else {
         return Err(WireFault::Opcode);
     };
-    let unique = u64_at(bytes, 8);
     let nodeid = nodeid_at(opcode, bytes);
     match body_of(opcode, bytes) {
         Ok(body) => Ok(Request {
