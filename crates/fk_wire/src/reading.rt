@@ -162,11 +162,19 @@ fn nodeid_at(opcode: Opcode, bytes: &[u8]) -> u64
     if is_about_node(opcode) { nodeid } else { 0 }
 }
 
-/// The fault of a frame that has its length, but more bytes than a frame may have.
-fn long_fault(minor: Minor, code: u32) -> WireFault
-    ensures { (bytes : List ℕ) → HasLength bytes → number_at 4 4 bytes ≡ code → max_frame < length bytes → FaultIsAt minor bytes result }
+/// The fault of a frame with fewer bytes than its header has, or more than a frame may have.
+#[cold]
+fn size_fault(minor: Minor, bytes: &[u8]) -> WireFault
+    requires { 40 ≤ length bytes.now → max_frame < length bytes.now }
+    ensures { FaultIsAt minor bytes.now result }
 {
-    match opcode_at(minor, code) {
+    if bytes.len() < 40 {
+        return WireFault::Short;
+    }
+    if u32_at(bytes, 0) as usize != bytes.len() {
+        return WireFault::Length;
+    }
+    match opcode_at(minor, u32_at(bytes, 4)) {
         Some(_) => WireFault::Body,
         None => WireFault::Opcode,
     }
@@ -178,18 +186,14 @@ fn request_of(minor: Minor, bytes: &[u8]) -> Result<Request<'_>, WireFault>
     ensures ok { IfOk result (λ r. SpellsAt minor bytes.now (request_message r)) }
     ensures fault { IfErr result (FaultIsAt minor bytes.now) }
 {
-    if bytes.len() < 40 {
-        return Err(WireFault::Short);
+    if bytes.len() < 40 || bytes.len() > MAX_FRAME {
+        return Err(size_fault(minor, bytes));
     }
     if u32_at(bytes, 0) as usize != bytes.len() {
         return Err(WireFault::Length);
     }
-    let code = u32_at(bytes, 4);
-    if bytes.len() > MAX_FRAME {
-        return Err(long_fault(minor, code));
-    }
     let unique = u64_at(bytes, 8);
-    let Some(opcode) = opcode_at(minor, code) else {
+    let Some(opcode) = opcode_at(minor, u32_at(bytes, 4)) else {
         return Err(WireFault::Opcode);
     };
     let nodeid = nodeid_at(opcode, bytes);
