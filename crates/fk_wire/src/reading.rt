@@ -1,157 +1,23 @@
 //! Frames as requests.
 
-ghost use Rattle.std.specs.Prelude.{◌≡◌, ◌≢◌, ◌≤◌, ◌<◌, ◌+◌, length, IfOk, IfErr, IsOkAnd, List, MatchOption, ℕ};
-ghost use Rattle.fk_wire.specs.Fields.{ReadsAs, number_at};
-ghost use Rattle.fk_wire.specs.Requests.{RequestMessage, Spells, SpellsAt, max_frame, request_content, request_message, opcode_of, request_body};
+ghost use Rattle.std.specs.Prelude.{◌≡◌, ◌≢◌, ◌≤◌, ◌<◌, length, IfOk, IfErr, IsOkAnd, List, ℕ};
+ghost use Rattle.fk_wire.specs.Fields.{number_at};
+ghost use Rattle.fk_wire.specs.Requests.{RequestMessage, Spells, SpellsAt, max_frame, request_message};
 ghost use Rattle.fk_wire.specs.Opcodes.{has_node};
 ghost use Rattle.fk_wire.specs.declared.opcode.Minor.{Minor};
 ghost use Rattle.fk_wire.specs.Decoded.{decoded};
 ghost use Rattle.fk_wire.specs.Faults.{NodeReads};
-ghost use Rattle.fk_wire.specs.Faults.{shape_of, BodyFaultIs, FaultIs, FaultIsAt, HasLength, IsHeadFault, name_after};
+ghost use Rattle.fk_wire.specs.Faults.{FaultIs, FaultIsAt, HasLength, IsHeadFault};
 
+use crate::bodies::body_of;
 use crate::fault::WireFault;
 use crate::fields::{u32_at, u64_at};
-use crate::flags::offered;
 use crate::limits::MAX_FRAME;
 use crate::opcode::{Minor, Opcode, is_about_node, opcode_at, served_minor};
-use crate::request::{Request, RequestBody};
-use crate::shapes::{fixed, one_name, two_names, with_bytes, with_pairs};
+use crate::request::Request;
 
 // The reader is inlined into its callers: a request that is taken apart at once is then never laid out
 // in memory.
-
-/// Where the name stands in a frame under this opcode, if it has one name and ends with it.
-fn name_place(opcode: Opcode) -> Option<usize>
-    ensures { MatchOption result ((place : ℕ) → shape_of opcode ≢ name_after place) (λ place. shape_of opcode ≡ name_after place) }
-{
-    match opcode {
-        Opcode::Lookup | Opcode::Unlink | Opcode::Rmdir => Some(40),
-        Opcode::Mkdir | Opcode::Link => Some(48),
-        Opcode::Create => Some(56),
-        _ => None,
-    }
-}
-
-/// The body of a frame that ends with its one name. The name is looked at in one place for all six
-/// opcodes, so that there is one copy of it in the reader.
-#[inline(always)]
-fn named_body(opcode: Opcode, bytes: &[u8], place: usize) -> Result<RequestBody<'_>, WireFault>
-    requires { shape_of opcode ≡ name_after place }
-    ensures ok { IfOk result (λ b. (opcode_of (request_content b) ≡ opcode) × ReadsAs 40 (request_body (request_content b)) bytes.now) }
-    ensures err { IfErr result (BodyFaultIs (shape_of opcode) bytes.now) }
-{
-    let name = one_name(bytes, place)?;
-    Ok(match opcode {
-        Opcode::Lookup => RequestBody::Lookup { name },
-        Opcode::Mkdir => RequestBody::Mkdir { name },
-        Opcode::Unlink => RequestBody::Unlink { name },
-        Opcode::Rmdir => RequestBody::Rmdir { name },
-        Opcode::Link => {
-            let oldnodeid = u64_at(bytes, 40);
-            RequestBody::Link { oldnodeid, name }
-        }
-        // No other opcode has such a body.
-        _ => RequestBody::Create { name },
-    })
-}
-
-/// The body of a frame under this opcode, which is none of those of `named_body`.
-#[inline(always)]
-fn other_body(opcode: Opcode, bytes: &[u8]) -> Result<RequestBody<'_>, WireFault>
-    requires unnamed { (place : ℕ) → shape_of opcode ≢ name_after place }
-    requires header { 40 ≤ length bytes.now }
-    ensures ok { IfOk result (λ b. (opcode_of (request_content b) ≡ opcode) × ReadsAs 40 (request_body (request_content b)) bytes.now) }
-    ensures err { IfErr result (BodyFaultIs (shape_of opcode) bytes.now) }
-{
-    match opcode {
-        Opcode::Forget => {
-            fixed(bytes, 48)?;
-            let nlookup = u64_at(bytes, 40);
-            Ok(RequestBody::Forget { nlookup })
-        }
-        Opcode::Getattr => {
-            fixed(bytes, 56)?;
-            Ok(RequestBody::Getattr)
-        }
-        Opcode::Rename => {
-            let (old, new) = two_names(bytes, 48)?;
-            let newdir = u64_at(bytes, 40);
-            Ok(RequestBody::Rename { newdir, old, new })
-        }
-        Opcode::Open => {
-            fixed(bytes, 48)?;
-            Ok(RequestBody::Open)
-        }
-        Opcode::Read => {
-            fixed(bytes, 80)?;
-            let fh = u64_at(bytes, 40);
-            let offset = u64_at(bytes, 48);
-            let size = u32_at(bytes, 56);
-            Ok(RequestBody::Read { fh, offset, size })
-        }
-        Opcode::Write => {
-            let data = with_bytes(bytes)?;
-            let fh = u64_at(bytes, 40);
-            let offset = u64_at(bytes, 48);
-            Ok(RequestBody::Write {
-                fh,
-                offset,
-                bytes: data,
-            })
-        }
-        Opcode::Release => {
-            fixed(bytes, 64)?;
-            let fh = u64_at(bytes, 40);
-            Ok(RequestBody::Release { fh })
-        }
-        Opcode::Init => {
-            fixed(bytes, 56)?;
-            let major = u32_at(bytes, 40);
-            let minor = u32_at(bytes, 44);
-            let flags = offered(u32_at(bytes, 52));
-            Ok(RequestBody::Init {
-                major,
-                minor,
-                flags,
-            })
-        }
-        Opcode::Readdir => {
-            fixed(bytes, 80)?;
-            let offset = u64_at(bytes, 48);
-            let size = u32_at(bytes, 56);
-            Ok(RequestBody::Readdir { offset, size })
-        }
-        Opcode::Readdirplus => {
-            fixed(bytes, 80)?;
-            let offset = u64_at(bytes, 48);
-            let size = u32_at(bytes, 56);
-            Ok(RequestBody::Readdirplus { offset, size })
-        }
-        Opcode::Interrupt => {
-            fixed(bytes, 48)?;
-            let unique = u64_at(bytes, 40);
-            Ok(RequestBody::Interrupt { unique })
-        }
-        Opcode::BatchForget => {
-            let pairs = with_pairs(bytes)?;
-            Ok(RequestBody::BatchForget { pairs })
-        }
-        _ => Err(WireFault::Body),
-    }
-}
-
-/// The body of a frame under this opcode.
-#[inline(always)]
-fn body_of(opcode: Opcode, bytes: &[u8]) -> Result<RequestBody<'_>, WireFault>
-    requires { 40 ≤ length bytes.now }
-    ensures ok { IfOk result (λ b. (opcode_of (request_content b) ≡ opcode) × ReadsAs 40 (request_body (request_content b)) bytes.now) }
-    ensures err { IfErr result (BodyFaultIs (shape_of opcode) bytes.now) }
-{
-    match name_place(opcode) {
-        Some(place) => named_body(opcode, bytes, place),
-        None => other_body(opcode, bytes),
-    }
-}
 
 /// The node in the header of a frame under this opcode. It is 0 where the field is free.
 fn nodeid_at(opcode: Opcode, bytes: &[u8]) -> u64
