@@ -12,6 +12,7 @@
 //! message of a frame as a function of its bytes.
 #![tactic(auto)]
 
+mod bodies;
 mod directory;
 mod entry;
 mod fault;

@@ -1,142 +1,48 @@
 //! Frames as requests.
 
-ghost use Rattle.std.specs.Prelude.{◌≡◌, ◌≢◌, ◌≤◌, ◌+◌, length, IfOk, IfErr, IsOkAnd, List, ℕ};
-ghost use Rattle.fk_wire.specs.Fields.{ReadsAs, number_at};
-ghost use Rattle.fk_wire.specs.Requests.{RequestMessage, Spells, SpellsAt, request_content, request_message, opcode_of, request_body};
+ghost use Rattle.std.specs.Prelude.{◌≡◌, ◌≢◌, ◌≤◌, ◌<◌, length, IfOk, IfErr, IsOkAnd, List, ℕ};
+ghost use Rattle.fk_wire.specs.Fields.{number_at};
+ghost use Rattle.fk_wire.specs.Requests.{RequestMessage, Spells, SpellsAt, max_frame, request_message};
 ghost use Rattle.fk_wire.specs.Opcodes.{has_node};
 ghost use Rattle.fk_wire.specs.declared.opcode.Minor.{Minor};
 ghost use Rattle.fk_wire.specs.Decoded.{decoded};
 ghost use Rattle.fk_wire.specs.Faults.{NodeReads};
-ghost use Rattle.fk_wire.specs.Faults.{shape_of, BodyFaultIs, FaultIs, FaultIsAt, HasLength, IsHeadFault};
+ghost use Rattle.fk_wire.specs.Faults.{FaultIs, FaultIsAt, HasLength, IsHeadFault};
 
+use crate::bodies::body_of;
 use crate::fault::WireFault;
 use crate::fields::{u32_at, u64_at};
-use crate::flags::offered;
 use crate::limits::MAX_FRAME;
 use crate::opcode::{Minor, Opcode, is_about_node, opcode_at, served_minor};
-use crate::request::{Request, RequestBody};
-use crate::shapes::{fixed, one_name, two_names, with_bytes, with_pairs};
+use crate::request::Request;
 
 // The reader is inlined into its callers: a request that is taken apart at once is then never laid out
 // in memory.
-
-/// The body of a frame under this opcode.
-#[inline(always)]
-fn body_of(opcode: Opcode, bytes: &[u8]) -> Result<RequestBody<'_>, WireFault>
-    requires { 40 ≤ length bytes.now }
-    ensures ok { IfOk result (λ b. (opcode_of (request_content b) ≡ opcode) × ReadsAs 40 (request_body (request_content b)) bytes.now) }
-    ensures err { IfErr result (BodyFaultIs (shape_of opcode) bytes.now) }
-{
-    match opcode {
-        Opcode::Lookup => {
-            let name = one_name(bytes, 40)?;
-            Ok(RequestBody::Lookup { name })
-        }
-        Opcode::Forget => {
-            fixed(bytes, 48)?;
-            let nlookup = u64_at(bytes, 40);
-            Ok(RequestBody::Forget { nlookup })
-        }
-        Opcode::Getattr => {
-            fixed(bytes, 56)?;
-            Ok(RequestBody::Getattr)
-        }
-        Opcode::Mkdir => {
-            let name = one_name(bytes, 48)?;
-            Ok(RequestBody::Mkdir { name })
-        }
-        Opcode::Unlink => {
-            let name = one_name(bytes, 40)?;
-            Ok(RequestBody::Unlink { name })
-        }
-        Opcode::Rmdir => {
-            let name = one_name(bytes, 40)?;
-            Ok(RequestBody::Rmdir { name })
-        }
-        Opcode::Rename => {
-            let (old, new) = two_names(bytes, 48)?;
-            let newdir = u64_at(bytes, 40);
-            Ok(RequestBody::Rename { newdir, old, new })
-        }
-        Opcode::Link => {
-            let name = one_name(bytes, 48)?;
-            let oldnodeid = u64_at(bytes, 40);
-            Ok(RequestBody::Link { oldnodeid, name })
-        }
-        Opcode::Open => {
-            fixed(bytes, 48)?;
-            Ok(RequestBody::Open)
-        }
-        Opcode::Read => {
-            fixed(bytes, 80)?;
-            let fh = u64_at(bytes, 40);
-            let offset = u64_at(bytes, 48);
-            let size = u32_at(bytes, 56);
-            Ok(RequestBody::Read { fh, offset, size })
-        }
-        Opcode::Write => {
-            let data = with_bytes(bytes)?;
-            let fh = u64_at(bytes, 40);
-            let offset = u64_at(bytes, 48);
-            Ok(RequestBody::Write {
-                fh,
-                offset,
-                bytes: data,
-            })
-        }
-        Opcode::Release => {
-            fixed(bytes, 64)?;
-            let fh = u64_at(bytes, 40);
-            Ok(RequestBody::Release { fh })
-        }
-        Opcode::Init => {
-            fixed(bytes, 56)?;
-            let major = u32_at(bytes, 40);
-            let minor = u32_at(bytes, 44);
-            let flags = offered(u32_at(bytes, 52));
-            Ok(RequestBody::Init {
-                major,
-                minor,
-                flags,
-            })
-        }
-        Opcode::Readdir => {
-            fixed(bytes, 80)?;
-            let offset = u64_at(bytes, 48);
-            let size = u32_at(bytes, 56);
-            Ok(RequestBody::Readdir { offset, size })
-        }
-        Opcode::Readdirplus => {
-            fixed(bytes, 80)?;
-            let offset = u64_at(bytes, 48);
-            let size = u32_at(bytes, 56);
-            Ok(RequestBody::Readdirplus { offset, size })
-        }
-        Opcode::Create => {
-            let name = one_name(bytes, 56)?;
-            Ok(RequestBody::Create { name })
-        }
-        Opcode::Interrupt => {
-            fixed(bytes, 48)?;
-            let unique = u64_at(bytes, 40);
-            Ok(RequestBody::Interrupt { unique })
-        }
-        Opcode::BatchForget => {
-            let pairs = with_pairs(bytes)?;
-            Ok(RequestBody::BatchForget { pairs })
-        }
-    }
-}
 
 /// The node in the header of a frame under this opcode. It is 0 where the field is free.
 fn nodeid_at(opcode: Opcode, bytes: &[u8]) -> u64
     requires { 40 ≤ length bytes.now }
     ensures { NodeReads (has_node opcode) bytes.now result }
 {
-    if is_about_node(opcode) {
-        u64_at(bytes, 16)
-    } else {
-        0
+    let nodeid = u64_at(bytes, 16);
+    if is_about_node(opcode) { nodeid } else { 0 }
+}
+
+/// The fault of a frame with fewer bytes than its header has, or more than a frame may have.
+#[cold]
+fn size_fault(minor: Minor, bytes: &[u8]) -> WireFault
+    requires { 40 ≤ length bytes.now → max_frame < length bytes.now }
+    ensures { FaultIsAt minor bytes.now result }
+{
+    if bytes.len() < 40 {
+        return WireFault::Short;
+    }
+    if u32_at(bytes, 0) as usize != bytes.len() {
+        return WireFault::Length;
+    }
+    match opcode_at(minor, u32_at(bytes, 4)) {
+        Some(_) => WireFault::Body,
+        None => WireFault::Opcode,
     }
 }
 
@@ -146,19 +52,16 @@ fn request_of(minor: Minor, bytes: &[u8]) -> Result<Request<'_>, WireFault>
     ensures ok { IfOk result (λ r. SpellsAt minor bytes.now (request_message r)) }
     ensures fault { IfErr result (FaultIsAt minor bytes.now) }
 {
-    if bytes.len() < 40 {
-        return Err(WireFault::Short);
+    if bytes.len() < 40 || bytes.len() > MAX_FRAME {
+        return Err(size_fault(minor, bytes));
     }
     if u32_at(bytes, 0) as usize != bytes.len() {
         return Err(WireFault::Length);
     }
+    let unique = u64_at(bytes, 8);
     let Some(opcode) = opcode_at(minor, u32_at(bytes, 4)) else {
         return Err(WireFault::Opcode);
     };
-    if bytes.len() > MAX_FRAME {
-        return Err(WireFault::Body);
-    }
-    let unique = u64_at(bytes, 8);
     let nodeid = nodeid_at(opcode, bytes);
     match body_of(opcode, bytes) {
         Ok(body) => Ok(Request {
