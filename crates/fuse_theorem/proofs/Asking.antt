@@ -1,5 +1,5 @@
 -- While one call takes a step, all else stays alike; what the call then asks is queued by the kernel and put by the plain world.
-use Rattle.std.proofs.Common.{◌≡◌, ◌≢◌, ℕ, ◌+◌, ◌<◌, Bool, true, false, true≢false, ◌||◌, cond, List, [], ◌∷◌, ◌++◌, Option, Some, None, nat_eq, find, option_map, refl, ap, sym, subst, ◌∙◌, arith, inl, inr, All, get_or}
+use Rattle.std.proofs.Common.{◌≡◌, ◌≢◌, ℕ, Bool, true, false, true≢false, [], ◌∷◌, ◌++◌, Option, Some, None, nat_eq, find, option_map, refl, ap, sym, subst, ◌∙◌, arith, inl, inr, All, get_or}
 use Rattle.std.specs.Prelude.{MatchOption}
 use Rattle.std.proofs.lemmas.Bool.{cases_eq}
 use Rattle.std.proofs.lemmas.List.Elements.{All-push}
@@ -13,19 +13,18 @@ use Rattle.fuse_spec.specs.Operations.{Operation}
 use Rattle.fuse_spec.specs.Vfs.{CallState, asked, Advance}
 use Rattle.fuse_spec.specs.Queues.{QueueState, pending, request_under, is_unread, is_signalled, IsSound}
 use Rattle.fuse_spec.specs.QueueCalls.{after_enqueue}
-use Rattle.fuse_spec.specs.Messages.{RequestBody, init, asks, release, forget, batch_forget, interrupt, Request}
+use Rattle.fuse_spec.specs.Messages.{RequestBody, init, asks, release, forget, batch_forget, interrupt}
 use Rattle.fuse_spec.specs.Kernel.{Kernel, is_live, is_aborted, body_of, asked_by, is_for, request_of, asking_for, advanced}
-use Rattle.fuse_spec.specs.Server.{HeldRequest, Kept}
+use Rattle.fuse_spec.specs.Server.{Kept}
 use Rattle.fuse_spec.specs.Worlds.{World, Sent}
 use Rattle.fuse_spec.specs.Plain.{Plain, Ask, waiting, asking, going_on}
 use Rattle.fuse_spec.specs.Denotes.{MeansIn, MeansOpenIn, OptionAlike, OperationAlike}
-use Rattle.fuse_spec.specs.Alike.{TreeAlike, IsWaiting, AskedBy, RequestBodyAsked, PurposeAsked, RequestsAlike, IsPaired, AsksAlike, StageTold, Alike}
+use Rattle.fuse_spec.specs.Alike.{TreeAlike, RequestBodyAsked, PurposeAsked, RequestsAlike, IsPaired, StageTold, Alike}
 use Rattle.fuse_spec.proofs.Tables.{get_put_here, get_put_there}
 use Rattle.fuse_spec.proofs.QueueSoundness.{lookup-next}
 use Rattle.fuse_spec.proofs.QueueReadings.{pending-enqueue, request_under-enqueue, request_under-enqueue_other}
-use Rattle.fuse_theorem.specs.Numbering.{IsNumbered, requests_for}
+use Rattle.fuse_theorem.specs.Numbering.{IsOneToOne, IsNumbered, requests_for}
 use Rattle.fuse_theorem.proofs.Finding.{same_is, other_is, no_key, none_passes, All-filter, find_first, find_last, found_key}
-use Rattle.fuse_theorem.proofs.Hearing.{IsOneToOne}
 use Rattle.fuse_theorem.proofs.Telling.{AdvanceAlike}
 use Rattle.fuse_theorem.proofs.Advancing.{WaitsFor, StepsAlone}
 
@@ -131,14 +130,14 @@ module _ (w : World) (p : Plain) (call : ℕ) (numbered : IsNumbered w) (paused 
         let old = paused.asks live in
         let waits : WaitsFor c.vfs.calls call (Some a) = subst (λ (o : Option (Operation ℕ Opened)). WaitsFor c.vfs.calls call o) some_c alone.here in
         let alike : OperationAlike Mean MeanOpen a b =
-            subst (λ (o : Option (Operation ℕ ℕ)). OptionAlike (OperationAlike Mean MeanOpen) (Some a) o) some_d
-            (subst (λ (o : Option (Operation ℕ Opened)). OptionAlike (OperationAlike Mean MeanOpen) o d.operation) some_c same.operation) in
+        subst (λ (o : Option (Operation ℕ ℕ)). OptionAlike (OperationAlike Mean MeanOpen) (Some a) o) some_d
+        (subst (λ (o : Option (Operation ℕ Opened)). OptionAlike (OperationAlike Mean MeanOpen) o d.operation) some_c same.operation) in
         let new : QueuedRequest Purpose = record { mark = Unread; kept = purpose.Call call } in
         let there : get asks' n ≡ Some ask = get_put_here p.asks n ask in
         let found : find (λ (e : ℕ × QueuedRequest Purpose). is_for call e.1.kept) (q0.requests ++ (n, new) ∷ []) ≡ Some (n, new) =
-            find_last (λ (e : ℕ × QueuedRequest Purpose). is_for call e.1.kept) q0.requests (n, new) paused.none_for (same_is call) in
+        find_last (λ (e : ℕ × QueuedRequest Purpose). is_for call e.1.kept) q0.requests (n, new) paused.none_for (same_is call) in
         let stays : (q u : ℕ) → request_of w.kernel q ≡ Some u → request_of k q ≡ Some u =
-            λ q u e. find_first (λ (x : ℕ × QueuedRequest Purpose). is_for q x.1.kept) (λ (x : ℕ × QueuedRequest Purpose). x.0) q0.requests ((n, new) ∷ []) u e in
+        λ q u e. find_first (λ (x : ℕ × QueuedRequest Purpose). is_for q x.1.kept) (λ (x : ℕ × QueuedRequest Purpose). x.0) q0.requests ((n, new) ∷ []) u e in
         let apart : (q u : ℕ) → request_of w.kernel q ≡ Some u → u ≢ n = λ q u e. next_is_new q0 numbered.queues u (λ (x : ℕ × QueuedRequest Purpose). is_for q x.1.kept) e in
         record {
           tree = tree;

@@ -1,9 +1,9 @@
 -- A call begins in both worlds.
-use Rattle.std.proofs.Common.{◌≡◌, ◌≢◌, ℕ, zero, suc, ◌+◌, ◌<◌, ◌≤◌, Bool, true, false, true≢false, not, ◌&&◌, cond, List, [], ◌∷◌, Option, Some, None, nat_eq, is_some, option_map, refl, ap, sym, subst, ◌∙◌, arith}
+use Rattle.std.proofs.Common.{◌≡◌, ℕ, ◌+◌, ◌≤◌, Bool, true, false, true≢false, not, ◌&&◌, cond, Option, Some, None, nat_eq, is_some, refl, ap, sym, subst, ◌∙◌, arith}
 use Rattle.fuse_spec.specs.declared.Opened.{Opened}
 use Rattle.fuse_spec.specs.declared.Phase.{Phase}
 use Rattle.fuse_spec.specs.declared.Phase.TheVariants.{Down, Starting, Ready, Aborted}
-use Rattle.fuse_spec.specs.Maps.{Map, get, put}
+use Rattle.fuse_spec.specs.Maps.{get, put}
 use Rattle.fuse_spec.specs.Operations.{Operation}
 use Rattle.fuse_spec.specs.Calls.{Call}
 use Rattle.fuse_spec.specs.Calls as call
@@ -18,12 +18,9 @@ use Rattle.fuse_spec.specs.Plain.{Plain, Ask, going_on, call_begun}
 use Rattle.fuse_spec.specs.PlainSteps.{Takes, where_so}
 use Rattle.fuse_spec.specs.Denotes.{MeansIn, MeansOpenIn}
 use Rattle.fuse_spec.specs.Alike.{Alike}
-use Rattle.fuse_spec.proofs.Tables.{get_put_here}
-use Rattle.fuse_theorem.specs.Numbering.{IsNumbered, requests_for}
+use Rattle.fuse_theorem.specs.Numbering.{IsOneToOne, IsNumbered, requests_for}
 use Rattle.fuse_theorem.proofs.Finding.{same_is, absent}
-use Rattle.fuse_theorem.proofs.Hearing.{IsOneToOne}
 use Rattle.fuse_theorem.proofs.Starting.{begun_alike}
-use Rattle.fuse_theorem.proofs.Telling.{AdvanceAlike}
 use Rattle.fuse_theorem.proofs.Advancing.{begun_alone}
 use Rattle.fuse_theorem.proofs.Asking.{Paused, advanced_alike}
 use Rattle.fuse_theorem.proofs.Releasing.{next_unasked, closing_alike, released_alike}
@@ -112,8 +109,8 @@ module _ (w : World) (p : Plain) (numbering : IsNumbered w) (one : IsOneToOne (M
     call_begun p label call,
     (label, ap (λ (b : Bool). where_so b (call_begun p label call)) (both_hold label fresh)),
     subst (λ (b : Bool). Alike (after_call w call) (going_on p label p.vfs.next_call (begun b p.vfs call))) same.aborted
-    (subst (λ (n : ℕ). Alike (after_call w call) (going_on p label n (begun (is_aborted w.kernel.phase) p.vfs call))) same.vfs.next_call
-    (call_alike call label (is_aborted w.kernel.phase) ready refl labelled)),
+        (subst (λ (n : ℕ). Alike (after_call w call) (going_on p label n (begun (is_aborted w.kernel.phase) p.vfs call))) same.vfs.next_call
+        (call_alike call label (is_aborted w.kernel.phase) ready refl labelled)),
   )
 
   -- A call begins: after that the two are alike again.

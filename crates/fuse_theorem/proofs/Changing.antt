@@ -1,21 +1,19 @@
 -- One ask changes, and stays the ask of the same call and the same operation.
-use Rattle.std.proofs.Common.{◌≡◌, ◌≢◌, ℕ, Bool, true, false, ◌||◌, List, Option, Some, None, get_or, length, refl, ap, sym, subst, ◌∙◌, inl, inr, All}
-use Rattle.std.specs.Prelude.{MatchOption}
+use Rattle.std.proofs.Common.{◌≡◌, ℕ, true, false, Some, get_or, ap, sym, subst, ◌∙◌, inl, inr, All}
 use Rattle.std.proofs.lemmas.Bool.{cases_eq}
-use Rattle.fuse_spec.specs.declared.Opened.{Opened}
 use Rattle.fuse_spec.specs.declared.Purpose.{Purpose}
 use Rattle.fuse_spec.specs.declared.QueuedRequest.{QueuedRequest}
-use Rattle.fuse_spec.specs.Maps.{Map, get, put}
+use Rattle.fuse_spec.specs.Maps.{get, put}
 use Rattle.fuse_spec.specs.Operations.{Operation}
 use Rattle.fuse_spec.specs.Queues.{pending, request_under, is_signalled}
-use Rattle.fuse_spec.specs.Messages.{RequestBody, init, asks, release, forget, batch_forget, interrupt, Request}
-use Rattle.fuse_spec.specs.Kernel.{is_live, body_of, request_of}
+use Rattle.fuse_spec.specs.Messages.{Request}
+use Rattle.fuse_spec.specs.Kernel.{body_of, request_of}
 use Rattle.fuse_spec.specs.Vfs.{asked}
 use Rattle.fuse_spec.specs.Server.{HeldRequest, Kept}
 use Rattle.fuse_spec.specs.Worlds.{World, Sent}
-use Rattle.fuse_spec.specs.Plain.{Plain, Ask, Stage}
+use Rattle.fuse_spec.specs.Plain.{Plain, Ask}
 use Rattle.fuse_spec.specs.Denotes.{MeansIn, MeansOpenIn, OperationAlike}
-use Rattle.fuse_spec.specs.Alike.{AskedBy, RequestBodyAsked, PurposeAsked, Meant, MeantOpen, StageTold, Alike}
+use Rattle.fuse_spec.specs.Alike.{RequestBodyAsked, PurposeAsked, Meant, MeantOpen, StageTold, Alike}
 use Rattle.fuse_spec.proofs.Tables.{get_put_here, get_put_there}
 use Rattle.fuse_theorem.proofs.Asking.{match_more, asked_beside}
 

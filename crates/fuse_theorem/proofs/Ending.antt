@@ -1,18 +1,17 @@
 -- A request of a call ends, and its ask with it: all else stays alike while the call takes its step.
-use Rattle.std.proofs.Common.{◌≡◌, ◌≢◌, ℕ, ◌+◌, ◌≤◌, Bool, true, false, true≢false, cond, List, Option, Some, None, nat_eq, is_some, find, filter, get_or, option_map, refl, ap, sym, subst, ◌∙◌, arith, inl, inr, All}
+use Rattle.std.proofs.Common.{◌≡◌, ◌≢◌, ℕ, ◌+◌, ◌≤◌, Bool, true, false, true≢false, cond, List, Option, Some, None, nat_eq, is_some, get_or, refl, ap, sym, subst, ◌∙◌, arith, inl, inr, All}
 use Rattle.std.specs.Prelude.{MatchOption}
-use Rattle.std.specs.Map.{lookup, remove_entry}
+use Rattle.std.specs.Map.{remove_entry}
 use Rattle.std.proofs.lemmas.Bool.{cases_eq}
 use Rattle.fuse_spec.specs.declared.Opened.{Opened}
 use Rattle.fuse_spec.specs.declared.Purpose.{Purpose}
 use Rattle.fuse_spec.specs.declared.Purpose.TheVariants as purpose
 use Rattle.fuse_spec.specs.declared.QueuedRequest.{QueuedRequest}
 use Rattle.fuse_spec.specs.Maps.{Map, get, remove}
-use Rattle.fuse_spec.specs.Queues.{QueueState, pending, request_under, is_unread, is_signalled, IsSound}
+use Rattle.fuse_spec.specs.Queues.{QueueState, pending, request_under, is_unread, is_signalled}
 use Rattle.fuse_spec.specs.Messages.{RequestBody, init, asks, release, forget, batch_forget, interrupt, Request}
-use Rattle.fuse_spec.specs.Kernel.{Kernel, is_live, body_of, is_for, request_of}
-use Rattle.fuse_spec.specs.Server.{HeldRequest}
-use Rattle.fuse_spec.specs.Worlds.{World, Sent}
+use Rattle.fuse_spec.specs.Kernel.{body_of, is_for, request_of}
+use Rattle.fuse_spec.specs.Worlds.{World}
 use Rattle.fuse_spec.specs.Plain.{Plain, Ask, waiting}
 use Rattle.fuse_spec.specs.Denotes.{MeansIn, MeansOpenIn}
 use Rattle.fuse_spec.specs.Alike.{RequestBodyAsked, PurposeAsked, Alike}
@@ -99,13 +98,13 @@ module _ (w : World) (p : Plain) (numbered : IsNumbered w) (same : Alike w p) (u
   paused_ended interrupts sent_apart unheld =
       let k = record w.kernel { queues = without_request q0 unique interrupts } in
       let stays : (c v : ℕ) → request_of w.kernel c ≡ Some v → v ≢ unique → request_of k c ≡ Some v =
-          λ c v e ne. find_left (λ (x : ℕ × QueuedRequest Purpose). is_for c x.1.kept) unique v q0.requests e ne in
+      λ c v e ne. find_left (λ (x : ℕ × QueuedRequest Purpose). is_for c x.1.kept) unique v q0.requests e ne in
       let was : (v : ℕ) (x : Ask) → get (remove p.asks unique) v ≡ Some x → (v ≢ unique) × (get p.asks v ≡ Some x) =
-          λ v x at.
-              elim (cases_eq v unique) [
-                | inl e ↦ absurd (cc (subst (λ (n : ℕ). get (remove p.asks unique) n ≡ Some x) e at, get_gone_here p.asks unique))
-                | inr ne ↦ (ne, sym (get_gone_there p.asks unique v ne) ∙ at)
-              ] in
+      λ v x at.
+      elim (cases_eq v unique) [
+        | inl e ↦ absurd (cc (subst (λ (n : ℕ). get (remove p.asks unique) n ≡ Some x) e at, get_gone_here p.asks unique))
+        | inr ne ↦ (ne, sym (get_gone_there p.asks unique v ne) ∙ at)
+      ] in
       record {
         none_for = none_left interrupts;
         requests = record {

@@ -1,5 +1,5 @@
 -- The first request that serves a call, as requests are queued and go.
-use Rattle.std.proofs.Common.{◌≡◌, ◌≢◌, ℕ, zero, suc, ◌+◌, ◌≤◌, Bool, true, false, true≢false, not, cond, List, [], ◌∷◌, ◌++◌, filter, Option, Some, None, nat_eq, count_by, find, option_map, refl, ap, sym, subst, ◌∙◌, arith, inl, inr, All}
+use Rattle.std.proofs.Common.{◌≡◌, ◌≢◌, ℕ, ◌+◌, ◌≤◌, Bool, true, false, true≢false, cond, List, [], ◌∷◌, ◌++◌, filter, Option, Some, None, nat_eq, count_by, find, option_map, refl, ap, sym, subst, ◌∙◌, arith, inl, inr, All}
 use Rattle.std.proofs.lemmas.Bool.{cases_eq}
 use Rattle.std.proofs.lemmas.Bool.Decides.{nat_tests, eqb_tells}
 use Rattle.std.proofs.lemmas.List.Elements.{All-nil, All-cons, All-head, All-tail}
@@ -237,9 +237,9 @@ module _ {X : Type 0} where
   -- where one at most passes a test, it is the first that passes
   pub found_one : (p : ℕ × X → Bool) (u v : ℕ) (x : X) (es : List (ℕ × X)) → count_by p es ≤ 1 → lookup (nat_eq u) es ≡ Some x → p (u, x) ≡ true → option_map (λ (e : ℕ × X). e.0) (find p es) ≡ Some v → v ≡ u
   found_one p u v x es few found passes first = elim (cases_eq v u) [
-      | inl e ↦ e
-      | inr ne ↦
-          let total : count_by p (remove_entry (nat_eq u) es) + 1 ≡ count_by p es = subst (λ (b : Bool). count_by p (remove_entry (nat_eq u) es) + cond b 1 0 ≡ count_by p es) passes (count_left p u x es found) in
-          let none : count_by p (remove_entry (nat_eq u) es) ≡ 0 = omega (arith, total, few) in
-          absurd (cc (find_left p u v es first ne, find_none p (remove_entry (nat_eq u) es) none))
-    ]
+    | inl e ↦ e
+    | inr ne ↦
+        let total : count_by p (remove_entry (nat_eq u) es) + 1 ≡ count_by p es = subst (λ (b : Bool). count_by p (remove_entry (nat_eq u) es) + cond b 1 0 ≡ count_by p es) passes (count_left p u x es found) in
+        let none : count_by p (remove_entry (nat_eq u) es) ≡ 0 = omega (arith, total, few) in
+        absurd (cc (find_left p u v es first ne, find_none p (remove_entry (nat_eq u) es) none))
+  ]

@@ -1,15 +1,13 @@
 -- A call of `stat` begins.
-use Rattle.std.proofs.Common.{◌≡◌, ◌≢◌, ℕ, ◌+◌, ◌<◌, ◌≤◌, ◌^◌, Bool, true, false, true≢false, not, cond, List, [], Option, Some, None, refl, ap, sym, subst, ◌∙◌, arith, nat_le, length, Ok}
+use Rattle.std.proofs.Common.{◌≡◌, ℕ, ◌+◌, ◌≤◌, ◌^◌, Bool, true, false, not, cond, List, Option, Some, None, refl, ap, sym, subst, arith, nat_le, length, Ok}
 use Rattle.fuse_spec.specs.declared.Opened.{Opened}
-use Rattle.fuse_spec.specs.declared.Phase.{Phase}
-use Rattle.fuse_spec.specs.declared.Phase.TheVariants.{Down, Starting, Ready, Aborted}
 use Rattle.fuse_spec.specs.declared.Refusal.TheVariants as refusal
 use Rattle.fuse_spec.specs.Numbers.{max_calls}
 use Rattle.fuse_spec.specs.Operations.{Operation}
 use Rattle.fuse_spec.specs.Uniques.{IsNextNumber}
 use Rattle.fuse_spec.specs.Calls as call
 use Rattle.fuse_spec.specs.Vfs.{Advance, begun}
-use Rattle.fuse_spec.specs.Kernel.{Kernel, is_live, is_aborted, asking_for, advanced, closing_of, closed_by}
+use Rattle.fuse_spec.specs.Kernel.{Kernel, is_aborted, asking_for, advanced, closing_of, closed_by}
 use Rattle.fuse_spec.specs.Worlds.{World, after_call}
 use Rattle.fuse_spec.specs.Events.{Outcome}
 use Rattle.fuse_spec.specs.Events as event
@@ -41,8 +39,8 @@ module _ (w : World) (p : Plain) (numbered : IsNumbered w) (root : OnlyRoot w) (
   asked_number : is_past (record w { kernel = begun_kernel }) ≡ false → (operation : Operation ℕ Opened) → next.operation ≡ Some operation → IsNextNumber (w.kernel.queues.next + 2)
   asked_number within operation e =
       let high : w.kernel.queues.next + 2 ≤ 2 ^ 62 =
-          next_within (record w { kernel = asking_for (record w.kernel { vfs = next.vfs }) w.kernel.vfs.next_call (Some operation) })
-          (subst (λ (o : Option (Operation ℕ Opened)). is_past (record w { kernel = asking_for (record w.kernel { vfs = next.vfs }) w.kernel.vfs.next_call o }) ≡ false) e within) in
+      next_within (record w { kernel = asking_for (record w.kernel { vfs = next.vfs }) w.kernel.vfs.next_call (Some operation) })
+      (subst (λ (o : Option (Operation ℕ Opened)). is_past (record w { kernel = asking_for (record w.kernel { vfs = next.vfs }) w.kernel.vfs.next_call o }) ≡ false) e within) in
       after_next w.kernel.queues.next numbered.queues.next high
 
   begins : is_ready w.kernel.phase ≡ true → is_past (after_call w (call.stat path)) ≡ false → Goes w p (event.call (call.stat path)) (event.begun w.kernel.vfs.next_call) (after_call w (call.stat path))

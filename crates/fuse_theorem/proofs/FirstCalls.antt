@@ -1,15 +1,14 @@
 -- A call of `stat` in a tree that is the root alone: it looks up a name in the root, asks for the root's attributes, or is answered.
-use Rattle.std.proofs.Common.{◌≡◌, ◌≢◌, ℕ, ◌+◌, Bool, true, false, cond, List, [], ◌∷◌, Option, Some, None, Result, Ok, Err, nat_lt, refl, ap, sym, subst, ◌∙◌, inl, inr}
-use Rattle.std.proofs.lemmas.Bool.{cases_eq}
+use Rattle.std.proofs.Common.{◌≡◌, ◌≢◌, ℕ, ◌+◌, Bool, true, false, cond, List, [], ◌∷◌, Option, Some, None, Result, Ok, Err, nat_lt, refl, sym, subst, ◌∙◌}
 use Rattle.std.specs.Ordering.{eq_by_cmp}
 use Rattle.fuse_spec.specs.declared.Attributes.{Attributes}
 use Rattle.fuse_spec.specs.declared.Binding.{Binding}
 use Rattle.fuse_spec.specs.declared.Opened.{Opened}
-use Rattle.fuse_spec.specs.Maps.{Map, NameMap, place_cmp, get, get_name, put_name}
+use Rattle.fuse_spec.specs.Maps.{NameMap, place_cmp, get, get_name}
 use Rattle.fuse_spec.specs.Numbers.{enoent}
 use Rattle.fuse_spec.specs.Paths.{Name, words_of}
 use Rattle.fuse_spec.specs.Operations as op
-use Rattle.fuse_spec.specs.Walks.{go, walk, after_stop, last, stat, WalkStop, unknown, missing, arrived}
+use Rattle.fuse_spec.specs.Walks.{go, after_stop, last, stat, unknown, missing}
 use Rattle.fuse_spec.specs.Calls as call
 use Rattle.fuse_spec.specs.Answers.{Answer}
 use Rattle.fuse_spec.specs.Answers as answer

@@ -1,21 +1,17 @@
 -- The kernel takes any copy on the reply link, on the first path.
-use Rattle.std.proofs.Common.{◌≡◌, ◌≢◌, ℕ, ◌-◌, ◌%◌, Bool, true, false, true≢false, cond, List, [], Option, Some, None, Ok, nat_eq, option_map, slice_get, refl, ap, sym, subst, ◌∙◌, All}
+use Rattle.std.proofs.Common.{◌≡◌, ℕ, ◌-◌, ◌%◌, Bool, true, false, true≢false, cond, List, Option, Some, None, Ok, nat_eq, option_map, slice_get, refl, ap, sym, subst, ◌∙◌}
 use Rattle.std.specs.Prelude.{MatchOption}
-use Rattle.fuse_spec.specs.declared.Attributes.{Attributes}
 use Rattle.fuse_spec.specs.declared.Opened.{Opened}
-use Rattle.fuse_spec.specs.declared.Phase.TheVariants.{Ready}
 use Rattle.fuse_spec.specs.declared.Purpose.{Purpose}
 use Rattle.fuse_spec.specs.declared.Purpose.TheVariants as purpose
 use Rattle.fuse_spec.specs.declared.QueuedRequest.{QueuedRequest}
 use Rattle.fuse_spec.specs.declared.WriteResult.{WriteResult}
-use Rattle.fuse_spec.specs.declared.WriteResult.TheVariants.{Accepted, NoEntry}
 use Rattle.fuse_spec.specs.Maps.{get}
 use Rattle.fuse_spec.specs.Operations as op
 use Rattle.fuse_spec.specs.Vfs.{CallState, asked}
-use Rattle.fuse_spec.specs.Queues.{QueueState, request_under}
 use Rattle.fuse_spec.specs.QueueCalls.{without, waiting}
-use Rattle.fuse_spec.specs.Messages.{RequestBody, init, asks, release, WireReply}
-use Rattle.fuse_spec.specs.Kernel.{Kernel, is_live, body_of, asked_by, is_for, advanced}
+use Rattle.fuse_spec.specs.Messages.{RequestBody, asks, release, WireReply}
+use Rattle.fuse_spec.specs.Kernel.{Kernel, is_live, body_of, asked_by, is_for}
 use Rattle.fuse_spec.specs.Replies.{reply_written, reply_taken, ended_by, odd_taken, replied_to_call}
 use Rattle.fuse_spec.specs.Worlds.{World, Sent, after_write}
 use Rattle.fuse_spec.specs.Events.{Outcome}
@@ -24,11 +20,11 @@ use Rattle.fuse_spec.specs.Steps.{writing_copy, step}
 use Rattle.fuse_spec.specs.Plain.{Plain, Ask}
 use Rattle.fuse_spec.specs.Alike.{StageTold, Alike}
 use Rattle.fuse_theorem.specs.Numbering.{IsNumbered}
-use Rattle.fuse_theorem.specs.FirstPath.{StatsRoot, looks_up, asks_root, RepliesTo, to_init, to_lookup, to_getattr, kept_under, Replies, OnlyRoot, Goes}
+use Rattle.fuse_theorem.specs.FirstPath.{StatsRoot, looks_up, asks_root, RepliesTo, to_lookup, to_getattr, kept_under, Replies, OnlyRoot, Goes}
 use Rattle.fuse_theorem.proofs.Accepted.{going_ok}
 use Rattle.fuse_theorem.proofs.FirstCalls.{missing_at_root, attributes_at_root}
-use Rattle.fuse_theorem.proofs.FirstReplies.{init_reply, is_release, replies_to_none, came_missing, came_attributes, none_waits, init_goes, pair, ask_there, hears_reply}
-use Rattle.fuse_theorem.proofs.FirstWrites.{Waits, waiting_is}
+use Rattle.fuse_theorem.proofs.FirstReplies.{init_reply, replies_to_none, came_missing, came_attributes, none_waits, init_goes, pair, ask_there, hears_reply}
+use Rattle.fuse_theorem.proofs.FirstWrites.{waiting_is}
 use Rattle.fuse_theorem.proofs.Queuing.{All-at}
 
 -- What the kernel's answer to the writer comes to.

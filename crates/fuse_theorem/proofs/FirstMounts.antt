@@ -1,5 +1,5 @@
 -- A mount, on the first path; and the world before its first mount.
-use Rattle.std.proofs.Common.{◌≡◌, ◌≢◌, ℕ, ◌+◌, ◌*◌, ◌<◌, ◌≤◌, ◌^◌, ◌%◌, Bool, true, false, true≢false, not, ◌&&◌, ◌||◌, cond, List, [], ◌∷◌, Option, Some, None, Ok, nat_eq, length, refl, ap, sym, subst, ◌∙◌, arith, All}
+use Rattle.std.proofs.Common.{◌≡◌, ℕ, ◌+◌, ◌<◌, ◌≤◌, ◌%◌, Bool, true, false, not, ◌&&◌, ◌||◌, cond, List, [], ◌∷◌, Option, Some, None, Ok, nat_eq, length, refl, ap, sym, subst, ◌∙◌, arith}
 use Rattle.std.specs.Prelude.{nat_lt, max, MatchOption}
 use Rattle.std.specs.Ordering.{is_eq}
 use Rattle.std.specs.List.{list_any}
@@ -15,15 +15,14 @@ use Rattle.fuse_spec.specs.declared.Refusal.TheVariants as refusal
 use Rattle.fuse_spec.specs.declared.Validity.{Validity}
 use Rattle.fuse_spec.specs.Maps.{Map, get, values}
 use Rattle.fuse_spec.specs.Numbers.{max_validity, econnaborted}
-use Rattle.fuse_spec.specs.Answers.{Answer, failed}
-use Rattle.fuse_spec.specs.Trees.{Tree, is_nameless}
-use Rattle.fuse_spec.specs.Vfs.{CallState, Vfs, given_up, all_answered}
+use Rattle.fuse_spec.specs.Answers.{failed}
+use Rattle.fuse_spec.specs.Trees.{is_nameless}
+use Rattle.fuse_spec.specs.Vfs.{CallState, given_up, all_answered}
 use Rattle.fuse_spec.specs.Queues.{QueueState, empty_queues, is_signalled, IsSound}
 use Rattle.fuse_spec.specs.QueueCalls.{after_enqueue}
-use Rattle.fuse_spec.specs.Uniques.{IsNextNumber}
 use Rattle.fuse_spec.specs.Messages.{Request}
-use Rattle.fuse_spec.specs.Kernel.{Kernel, is_live, body_of, kernel_mounted}
-use Rattle.fuse_spec.specs.Nodes.{NodeTable, HandleTable, HeldNode, OpenNumber, root_row}
+use Rattle.fuse_spec.specs.Kernel.{Kernel, is_live, body_of}
+use Rattle.fuse_spec.specs.Nodes.{HeldNode, OpenNumber, root_row}
 use Rattle.fuse_spec.specs.Server.{Server, is_file_held}
 use Rattle.fuse_spec.specs.Copies.{remounted}
 use Rattle.fuse_spec.specs.Worlds.{World, Sent, after_mount, first_world}
@@ -32,7 +31,7 @@ use Rattle.fuse_spec.specs.Events as event
 use Rattle.fuse_spec.specs.Steps.{unless, is_busy, step}
 use Rattle.fuse_spec.specs.Plain.{Plain, Ask, plain_mounted}
 use Rattle.fuse_spec.specs.Denotes.{MeansIn, MeansOpenIn, OptionAlike, StateAlike}
-use Rattle.fuse_spec.specs.Alike.{StageTold, RequestBodyAsked, PurposeAsked, VfsAlike, Alike}
+use Rattle.fuse_spec.specs.Alike.{StageTold, RequestBodyAsked, PurposeAsked, Alike}
 use Rattle.fuse_spec.proofs.Tables.{cmp_same}
 use Rattle.fuse_spec.proofs.QueueSoundness.{IsSound-enqueue}
 use Rattle.fuse_theorem.specs.Numbering.{IsNumbered}

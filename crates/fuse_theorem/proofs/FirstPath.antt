@@ -1,10 +1,9 @@
 -- The theorem for the first path: after each of its events the plain world has taken its steps, and the two are alike.
-use Rattle.std.proofs.Common.{◌≡◌, ℕ, false, List, [], ◌∷◌, ◌++◌, Option, Some, Ok, get_or, refl, ap, sym, subst, All}
+use Rattle.std.proofs.Common.{◌≡◌, ℕ, false, List, ◌∷◌, ◌++◌, Option, Ok, get_or, refl, sym, subst, All}
 use Rattle.std.specs.Prelude.{MatchOption}
 use Rattle.std.proofs.lemmas.List.Elements.{All-head, All-tail}
 use Rattle.fuse_spec.specs.declared.Purpose.{Purpose}
 use Rattle.fuse_spec.specs.declared.Purpose.TheVariants as purpose
-use Rattle.fuse_spec.specs.declared.QueuedRequest.{QueuedRequest}
 use Rattle.fuse_spec.specs.Maps.{Map}
 use Rattle.fuse_spec.specs.Answers.{Answer}
 use Rattle.fuse_spec.specs.Queues.{pending, is_signalled}
@@ -153,8 +152,9 @@ first_runs w p numbered root same events records after first (one_refused v even
     (run.0, refuses w p event refusal rest more last run.0 run.1, run.2)
 first_runs w p numbered root same events records after first (one_accepted v event o mid rest more last happens recorded) =
     let went = first_goes w p numbered root same event (All-head IsFirst event rest first) o mid happens in
-    let run = first_runs (collected mid) (plain_collected went.plain) (collected_numbered mid went.numbered) (collected_root mid went.root) (collected_alike mid went.plain went.alike) rest more last (All-tail IsFirst event rest first) recorded in
-    (run.0,
-    subst (λ (answers : Map Answer). FirstRun w p (event ∷ rest) (outcome o ∷ answers_of answers ++ more) last run.0) (sym went.alike.vfs.answers)
-    (accepts w p event o mid went.plain rest more last run.0 happens went.takes went.alike run.1),
-    run.2)
+    let run = first_runs (collected mid) (plain_collected went.plain) (collected_numbered mid went.numbered) (collected_root mid went.root) (collected_alike mid went.plain went.alike) rest more last (All-tail IsFirst event rest first) recorded in (
+      run.0,
+      subst (λ (answers : Map Answer). FirstRun w p (event ∷ rest) (outcome o ∷ answers_of answers ++ more) last run.0) (sym went.alike.vfs.answers)
+          (accepts w p event o mid went.plain rest more last run.0 happens went.takes went.alike run.1),
+      run.2,
+    )

@@ -1,9 +1,8 @@
 -- The server performs a request, on the first path.
-use Rattle.std.proofs.Common.{◌≡◌, ◌≢◌, ℕ, ◌+◌, ◌<◌, ◌≤◌, ◌%◌, Bool, true, false, true≢false, not, cond, List, [], ◌∷◌, ◌++◌, Option, Some, None, Ok, nat_eq, count_by, get_or, refl, ap, sym, subst, ◌∙◌, arith, inl, inr, All}
+use Rattle.std.proofs.Common.{◌≡◌, ◌≢◌, ℕ, ◌+◌, ◌<◌, ◌%◌, Bool, true, false, true≢false, cond, List, [], ◌∷◌, ◌++◌, Option, Some, None, Ok, nat_eq, count_by, get_or, refl, ap, sym, subst, ◌∙◌, arith, inl, inr}
 use Rattle.std.specs.Prelude.{MatchOption, is_some}
 use Rattle.std.proofs.lemmas.Bool.{cases_eq}
 use Rattle.std.proofs.lemmas.List.Elements.{All-push}
-use Rattle.fuse_spec.specs.declared.Attributes.{Attributes}
 use Rattle.fuse_spec.specs.declared.Validity.{Validity}
 use Rattle.fuse_spec.specs.declared.Opened.{Opened}
 use Rattle.fuse_spec.specs.declared.Purpose.{Purpose}
@@ -12,14 +11,13 @@ use Rattle.fuse_spec.specs.Maps.{Map, get, put, remove}
 use Rattle.fuse_spec.specs.Paths.{Name}
 use Rattle.fuse_spec.specs.Operations.{Operation, Reply, errno_of, files_in_reply, opens_in_reply}
 use Rattle.fuse_spec.specs.Operations as op
-use Rattle.fuse_spec.specs.Trees.{Tree, a_directory}
 use Rattle.fuse_spec.specs.FileOperations.{FileOperation, reply_by, tree_after, refusal}
 use Rattle.fuse_spec.specs.Queues.{pending}
-use Rattle.fuse_spec.specs.Messages.{RequestBody, init, asks, Request, WireReply}
-use Rattle.fuse_spec.specs.Kernel.{Kernel, is_live, body_of}
-use Rattle.fuse_spec.specs.Nodes.{NodeTable, HandleTable, HeldNode, root_row}
+use Rattle.fuse_spec.specs.Messages.{RequestBody, Request, WireReply}
+use Rattle.fuse_spec.specs.Kernel.{is_live, body_of}
+use Rattle.fuse_spec.specs.Nodes.{NodeTable, HeldNode, root_row}
 use Rattle.fuse_spec.specs.Server.{Server, HeldRequest, Kept, Copy, without_unheld_files}
-use Rattle.fuse_spec.specs.Performs.{PerformResult, performed, served, replying, is_still_held}
+use Rattle.fuse_spec.specs.Performs.{PerformResult, served, replying, is_still_held}
 use Rattle.fuse_spec.specs.Worlds.{World, Sent, after_perform}
 use Rattle.fuse_spec.specs.Worlds as worlds
 use Rattle.fuse_spec.specs.Events.{Outcome}
@@ -29,16 +27,16 @@ use Rattle.fuse_spec.specs.Plain.{Plain, Ask, Stage, waiting, ask_performed}
 use Rattle.fuse_spec.specs.Plain as plain
 use Rattle.fuse_spec.specs.PlainSteps.{Takes, serving, serving_ask, where_so}
 use Rattle.fuse_spec.specs.Denotes.{OperationAlike, ReplyAlike, Names, Opens}
-use Rattle.fuse_spec.specs.Alike.{AskedBy, RequestBodyAsked, Meant, MeantOpen, StageTold, Alike}
+use Rattle.fuse_spec.specs.Alike.{RequestBodyAsked, Meant, MeantOpen, StageTold, Alike}
 use Rattle.fuse_spec.proofs.Tables.{get_put_here, get_put_there, get_gone_here, get_gone_there}
 use Rattle.fuse_theorem.specs.Numbering.{IsNumbered}
-use Rattle.fuse_theorem.specs.FirstPath.{IsFirstBody, first_init, first_lookup, first_getattr, RepliesTo, to_init, to_lookup, to_getattr, kept_under, Serves, Replies, unperformed, OnlyRoot, Goes}
+use Rattle.fuse_theorem.specs.FirstPath.{IsFirstBody, first_init, first_lookup, first_getattr, RepliesTo, to_init, to_lookup, to_getattr, kept_under, Serves, Replies, OnlyRoot, Goes}
 use Rattle.fuse_theorem.proofs.Accepted.{going_ok}
 use Rattle.fuse_theorem.proofs.Finding.{same_is, none_passes}
 use Rattle.fuse_theorem.proofs.Changing.{with_ask, MayReplace, ask_changed}
 use Rattle.fuse_theorem.proofs.OnlyRoots.{root_is_directory, no_names}
 use Rattle.fuse_theorem.proofs.Serving.{unheld_alike, replied_alike}
-use Rattle.fuse_theorem.proofs.FirstServes.{root_tree, root_attributes, first_reply, replied, performed_first, swept_root, plain_lookup, plain_getattr, same_tree}
+use Rattle.fuse_theorem.proofs.FirstServes.{root_attributes, first_reply, performed_first, swept_root, plain_lookup, plain_getattr, same_tree}
 
 -- the plain operation of a look-up, and of GETATTR
 lookup_is : (R : ℕ → ℕ → Type 0) (S : Opened → ℕ → Type 0) (d : ℕ) (name : Name) (b : FileOperation) → OperationAlike R S (op.lookup d name) b → (e : ℕ) × R d e × (b ≡ op.lookup e name)
@@ -137,9 +135,9 @@ module _ (w : World) (p : Plain) (numbered : IsNumbered w) (root : OnlyRoot w) (
 
   held_before : (u : ℕ) (x : HeldRequest) → get (remove w.server.held unique) u ≡ Some x → (u ≢ unique) × (get w.server.held u ≡ Some x)
   held_before u x at = elim (cases_eq u unique) [
-      | inl e ↦ absurd (cc (subst (λ (n : ℕ). get (remove w.server.held unique) n ≡ Some x) e at, get_gone_here w.server.held unique))
-      | inr ne ↦ (ne, sym (get_gone_there w.server.held unique u ne) ∙ at)
-    ]
+    | inl e ↦ absurd (cc (subst (λ (n : ℕ). get (remove w.server.held unique) n ≡ Some x) e at, get_gone_here w.server.held unique))
+    | inr ne ↦ (ne, sym (get_gone_there w.server.held unique u ne) ∙ at)
+  ]
 
   root_after : OnlyRoot after
   root_after = record {
@@ -213,9 +211,9 @@ module _ (w : World) (p : Plain) (numbered : IsNumbered w) (root : OnlyRoot w) (
       } in
       let now = with_ask p unique new in
       let went : Alike after now = told_alike now (ask_changed w1 p (unheld_alike w p same unique) unique new may)
-          (λ alive x at.
-          let is_new : new ≡ x = cc (get_put_here p.asks unique new, at) in
-          subst (λ (y : Ask). StageTold w.server.nodes w.server.handles y.stage wire) is_new fits) in
+      (λ alive x at.
+      let is_new : new ≡ x = cc (get_put_here p.asks unique new, at) in
+      subst (λ (y : Ask). StageTold w.server.nodes w.server.handles y.stage wire) is_new fits) in
       subst (Alike after) (λ i. record p { tree = sym tree i; asks = put p.asks unique new }) went
 
   goes : (errno : ℕ) (lost : Bool) (q : Plain) → Takes p (event.perform unique) (event.performed unique errno lost) q → Alike after q → Goes w p (event.perform unique) (event.performed unique errno lost) after

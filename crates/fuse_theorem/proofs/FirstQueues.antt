@@ -1,15 +1,15 @@
 -- A world with the root alone stays one as the kernel's queues change.
-use Rattle.std.proofs.Common.{◌≡◌, ◌≢◌, ℕ, ◌+◌, ◌≤◌, ◌<◌, ◌%◌, Bool, true, false, cond, List, [], ◌∷◌, Option, Some, None, nat_eq, count_by, option_map, get_or, refl, ap, sym, subst, ◌∙◌, arith, inl, inr, All}
+use Rattle.std.proofs.Common.{◌≡◌, ℕ, ◌+◌, ◌≤◌, ◌%◌, Bool, true, false, cond, List, [], ◌∷◌, Option, Some, None, nat_eq, count_by, get_or, refl, ap, sym, subst, ◌∙◌, inl, inr, All}
 use Rattle.std.specs.Prelude.{MatchOption, ◌⊎◌}
-use Rattle.std.proofs.lemmas.List.Elements.{All-nil, All-cons, All-head, All-tail}
+use Rattle.std.proofs.lemmas.List.Elements.{All-cons, All-head, All-tail}
 use Rattle.fuse_spec.specs.declared.Mark.{Mark}
 use Rattle.fuse_spec.specs.declared.Purpose.{Purpose}
 use Rattle.fuse_spec.specs.declared.QueuedRequest.{QueuedRequest}
-use Rattle.fuse_spec.specs.Queues.{QueueState, pending, is_signalled}
+use Rattle.fuse_spec.specs.Queues.{QueueState, is_signalled}
 use Rattle.fuse_spec.specs.QueueCalls.{set_mark}
 use Rattle.fuse_spec.specs.Messages.{RequestBody, Request, WireReply}
 use Rattle.fuse_spec.specs.Kernel.{Kernel, is_live, body_of, is_for}
-use Rattle.fuse_spec.specs.Worlds.{World, Sent}
+use Rattle.fuse_spec.specs.Worlds.{World}
 use Rattle.fuse_spec.proofs.QueueCounts.{count_by-cons}
 use Rattle.fuse_theorem.specs.FirstPath.{IsFirstBody, RepliesTo, kept_under, Serves, Replies, unperformed, OnlyRoot}
 use Rattle.fuse_theorem.proofs.Queuing.{same_body}

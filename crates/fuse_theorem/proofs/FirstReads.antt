@@ -1,6 +1,6 @@
 -- A pending request is read, on the first path.
-use Rattle.std.proofs.Common.{◌≡◌, ◌≢◌, ℕ, ◌+◌, ◌<◌, ◌≤◌, ◌%◌, Bool, true, false, not, ◌&&◌, ◌||◌, cond, List, [], ◌∷◌, ◌++◌, remove, Option, Some, None, Ok, nat_eq, count_by, option_map, slice_get, get_or, length, refl, ap, sym, subst, ◌∙◌, arith, inl, inr, All}
-use Rattle.std.specs.Prelude.{MatchOption, nat_lt, nat_le, sum_by, is_some, ◌⊎◌}
+use Rattle.std.proofs.Common.{◌≡◌, ℕ, ◌+◌, ◌<◌, ◌≤◌, ◌%◌, Bool, true, false, not, cond, [], ◌∷◌, ◌++◌, remove, Option, Some, None, Ok, nat_eq, count_by, option_map, slice_get, get_or, length, refl, ap, sym, subst, ◌∙◌, arith, inl, inr}
+use Rattle.std.specs.Prelude.{MatchOption, sum_by, is_some, ◌⊎◌}
 use Rattle.std.specs.Option.{option_map_or}
 use Rattle.std.proofs.lemmas.Bool.Decides.{nat_tests}
 use Rattle.std.proofs.lemmas.List.Elements.{All-push}
@@ -12,20 +12,20 @@ use Rattle.fuse_spec.specs.declared.Purpose.{Purpose}
 use Rattle.fuse_spec.specs.declared.QueuedRequest.{QueuedRequest}
 use Rattle.fuse_spec.specs.declared.Refusal.TheVariants as refusal
 use Rattle.fuse_spec.specs.Maps.{get}
-use Rattle.fuse_spec.specs.Queues.{QueueState, pending, request_under, is_unread, is_signalled, has_interrupt, was_drawn, IsSound}
+use Rattle.fuse_spec.specs.Queues.{QueueState, pending, is_unread, is_signalled, has_interrupt, was_drawn, IsSound}
 use Rattle.fuse_spec.specs.QueueCalls.{with_mark, after_reading, after_read_pending, pending_at}
 use Rattle.fuse_spec.specs.Messages.{RequestBody, Request}
-use Rattle.fuse_spec.specs.Kernel.{is_live, body_of, is_for}
-use Rattle.fuse_spec.specs.Worlds.{World, Sent, after_read_pending as world_read}
+use Rattle.fuse_spec.specs.Kernel.{is_live, body_of}
+use Rattle.fuse_spec.specs.Worlds.{World, after_read_pending as world_read}
 use Rattle.fuse_spec.specs.Events.{Outcome}
 use Rattle.fuse_spec.specs.Events as event
-use Rattle.fuse_spec.specs.Steps.{unless, when_live, when_not_interrupted, reading_body, reading_pending, step}
+use Rattle.fuse_spec.specs.Steps.{when_not_interrupted, reading_body, reading_pending, step}
 use Rattle.fuse_spec.specs.Plain.{Plain}
 use Rattle.fuse_spec.specs.Alike.{Alike}
 use Rattle.fuse_spec.proofs.QueueCounts.{count_by-push, key_count, key_count-found, lookup-found}
 use Rattle.fuse_spec.proofs.QueueSoundness.{IsSound-mark, mark_under-pending}
 use Rattle.fuse_spec.proofs.QueueReadings.{pending-mark, kept_under-mark, key_count-le-one}
-use Rattle.fuse_theorem.specs.Numbering.{IsNumbered, requests_for}
+use Rattle.fuse_theorem.specs.Numbering.{IsNumbered}
 use Rattle.fuse_theorem.specs.FirstPath.{IsFirstBody, kept_under, Serves, unperformed, OnlyRoot, Goes}
 use Rattle.fuse_theorem.proofs.Accepted.{unless_ok, going_ok, is_not}
 use Rattle.fuse_theorem.proofs.Finding.{All-filter, filtered}
@@ -104,9 +104,9 @@ module _ (w : World) (p : Plain) (numbered : IsNumbered w) (root : OnlyRoot w) (
       let gone = sum_by-remove (λ (x : ℕ × QueuedRequest Purpose). cond (nat_eq u x.0) 1 0) (pending q0) place e inside in
       let is_e : get_or (pending q0) place e ≡ e = get_or_from_slice_get (pending q0) place e e found in
       let left : count_by (λ (x : ℕ × QueuedRequest Purpose). nat_eq u x.0) (remove (pending q0) place) + cond (nat_eq u e.0) 1 0 ≡ count_by (λ (x : ℕ × QueuedRequest Purpose). nat_eq u x.0) (pending q0) =
-          subst (λ (x : ℕ × QueuedRequest Purpose). sum_by (λ (y : ℕ × QueuedRequest Purpose). cond (nat_eq u y.0) 1 0) (remove (pending q0) place) + cond (nat_eq u x.0) 1 0 ≡ sum_by (λ (y : ℕ × QueuedRequest Purpose). cond (nat_eq u y.0) 1 0) (pending q0)) is_e gone in
+      subst (λ (x : ℕ × QueuedRequest Purpose). sum_by (λ (y : ℕ × QueuedRequest Purpose). cond (nat_eq u y.0) 1 0) (remove (pending q0) place) + cond (nat_eq u x.0) 1 0 ≡ sum_by (λ (y : ℕ × QueuedRequest Purpose). cond (nat_eq u y.0) 1 0) (pending q0)) is_e gone in
       let pushed : count_by (λ (r : Request). nat_eq u r.unique) (w.requests ++ new ∷ []) ≡ count_by (λ (r : Request). nat_eq u r.unique) w.requests + cond (nat_eq u e.0) 1 0 =
-          count_by-push (λ (r : Request). nat_eq u r.unique) w.requests new in
+      count_by-push (λ (r : Request). nat_eq u r.unique) w.requests new in
       let marked : pending q1 ≡ remove (pending q0) place = pending-mark q0 place e Read numbered.queues found refl in
       let old = root.once u in
       rw (marked, pushed) (omega (arith, left, old))
@@ -123,16 +123,17 @@ module _ (w : World) (p : Plain) (numbered : IsNumbered w) (root : OnlyRoot w) (
       (λ i r lt.
       let request = get_or w.requests i r in
       let old = root.sent i r lt in
-      (old.0, serves_still w root q1 stays request.unique request.body old.1))
-      (subst (λ (o : Option RequestBody). MatchOption o ⊥ IsFirstBody) asks
-      (All-at (λ (x : ℕ × QueuedRequest Purpose). MatchOption (body_of w.kernel x.1.kept) ⊥ IsFirstBody) (pending q0) place e (All-filter (λ (x : ℕ × QueuedRequest Purpose). is_unread x.1.mark) (λ (x : ℕ × QueuedRequest Purpose). MatchOption (body_of w.kernel x.1.kept) ⊥ IsFirstBody) q0.requests root.purposes) found),
-      subst (λ (o : Option Purpose). MatchOption o (Unit {0}) (λ purpose. body_of (record w.kernel { queues = q1 }) purpose ≡ Some body)) (sym mine) (same_body w.kernel q1 e.1.kept ∙ asks)))
+      (old.0, serves_still w root q1 stays request.unique request.body old.1)) (
+        subst (λ (o : Option RequestBody). MatchOption o ⊥ IsFirstBody) asks
+            (All-at (λ (x : ℕ × QueuedRequest Purpose). MatchOption (body_of w.kernel x.1.kept) ⊥ IsFirstBody) (pending q0) place e (All-filter (λ (x : ℕ × QueuedRequest Purpose). is_unread x.1.mark) (λ (x : ℕ × QueuedRequest Purpose). MatchOption (body_of w.kernel x.1.kept) ⊥ IsFirstBody) q0.requests root.purposes) found),
+        subst (λ (o : Option Purpose). MatchOption o (Unit {0}) (λ purpose. body_of (record w.kernel { queues = q1 }) purpose ≡ Some body)) (sym mine) (same_body w.kernel q1 e.1.kept ∙ asks),
+      ))
       (All-push (λ (r : Request). r.unique % 2 ≡ 0) w.requests new root.even_sent (number_even q0 numbered.queues e.0 is_there)) once_after
 
   pub reads : Goes w p (event.read_pending place) (event.is_read e.0) (world_read w place e.0 body)
   reads =
       let is_read : world_read w place e.0 body ≡ record w { kernel = record w.kernel { queues = q1 }; requests = w.requests ++ new ∷ [] } =
-          ap (λ (q : QueueState Purpose). record w { kernel = record w.kernel { queues = q }; requests = w.requests ++ new ∷ [] }) is_marked in
+      ap (λ (q : QueueState Purpose). record w { kernel = record w.kernel { queues = q }; requests = w.requests ++ new ∷ [] }) is_marked in
       record {
         plain = p;
         takes = (0, refl);

@@ -1,6 +1,6 @@
 -- What each copy of a reply does to the kernel, on the first path.
-use Rattle.std.proofs.Common.{◌≡◌, ◌≢◌, ℕ, ◌+◌, ◌-◌, ◌<◌, ◌≤◌, ◌%◌, Bool, true, false, true≢false, not, ◌&&◌, cond, List, [], ◌∷◌, ◌++◌, remove, Option, Some, None, Ok, nat_eq, find, option_map, slice_get, get_or, is_some, refl, ap, sym, subst, ◌∙◌, arith, inl, inr, All}
-use Rattle.std.specs.Prelude.{MatchOption, nat_lt}
+use Rattle.std.proofs.Common.{◌≡◌, ℕ, ◌<◌, ◌≤◌, Bool, true, false, not, cond, List, [], ◌∷◌, ◌++◌, Option, Some, None, slice_get, is_some, refl, ap, subst, ◌∙◌, arith}
+use Rattle.std.specs.Prelude.{nat_lt}
 use Rattle.std.proofs.lemmas.Bool.Decides.{nat_tests}
 use Rattle.fuse_spec.specs.declared.Attributes.{Attributes}
 use Rattle.fuse_spec.specs.declared.Opened.{Opened}
@@ -11,37 +11,33 @@ use Rattle.fuse_spec.specs.declared.QueuedRequest.{QueuedRequest}
 use Rattle.fuse_spec.specs.declared.ReplyResult.{ReplyResult}
 use Rattle.fuse_spec.specs.declared.WriteResult.{WriteResult}
 use Rattle.fuse_spec.specs.declared.WriteResult.TheVariants.{Accepted, NoEntry}
-use Rattle.fuse_spec.specs.Maps.{Map, get}
+use Rattle.fuse_spec.specs.Maps.{get}
 use Rattle.fuse_spec.specs.Operations.{Operation, Reply}
 use Rattle.fuse_spec.specs.Operations as op
-use Rattle.fuse_spec.specs.Vfs.{CallState, walking, doing, asked, Advance}
+use Rattle.fuse_spec.specs.Vfs.{CallState, Advance}
 use Rattle.fuse_spec.specs.CallReplies.{call_replied}
-use Rattle.fuse_spec.specs.Queues.{QueueState}
 use Rattle.fuse_spec.specs.QueueCalls.{without, waiting}
 use Rattle.fuse_spec.specs.Messages.{RequestBody, init, asks, release, forget, batch_forget, interrupt, WireReply}
-use Rattle.fuse_spec.specs.Kernel.{Kernel, is_live, body_of, asked_by, is_for, asking_for, advanced}
-use Rattle.fuse_spec.specs.Replies.{reply_written, reply_taken, ended_by, odd_taken, replied_to_call}
+use Rattle.fuse_spec.specs.Kernel.{Kernel, is_live, is_for, asking_for, advanced}
 use Rattle.fuse_spec.specs.Worlds.{World, Sent, after_write}
 use Rattle.fuse_spec.specs.Events.{Outcome}
 use Rattle.fuse_spec.specs.Events as event
-use Rattle.fuse_spec.specs.Steps.{writing_copy, step}
 use Rattle.fuse_spec.specs.Plain.{Plain, Ask, Stage, ask_told}
 use Rattle.fuse_spec.specs.Plain as plain
-use Rattle.fuse_spec.specs.PlainSteps.{Takes, telling, telling_ask, telling_call, where_so}
+use Rattle.fuse_spec.specs.PlainSteps.{telling, telling_ask, telling_call, where_so}
 use Rattle.fuse_spec.specs.Denotes.{MeansIn, MeansOpenIn, OptionAlike, StateAlike, ReplyAlike, Names, Opens}
 use Rattle.fuse_spec.specs.Alike.{StageTold, IsPaired, Alike}
 use Rattle.fuse_theorem.specs.Numbering.{IsNumbered, requests_for}
-use Rattle.fuse_theorem.specs.FirstPath.{StatsRoot, looks_up, asks_root, RepliesTo, to_init, to_lookup, to_getattr, kept_under, OnlyRoot, Goes}
-use Rattle.fuse_theorem.proofs.Accepted.{going_ok}
+use Rattle.fuse_theorem.specs.FirstPath.{RepliesTo, to_init, to_lookup, to_getattr, OnlyRoot, Goes}
 use Rattle.fuse_theorem.proofs.Advancing.{call_replied_alone}
 use Rattle.fuse_theorem.proofs.Ending.{none_left}
 use Rattle.fuse_theorem.proofs.Finding.{same_is, found_one}
-use Rattle.fuse_theorem.proofs.FirstCalls.{StaysAtRoot, missing_at_root, attributes_at_root}
+use Rattle.fuse_theorem.proofs.FirstCalls.{StaysAtRoot}
 use Rattle.fuse_theorem.proofs.FirstSteps.{advanced_root}
-use Rattle.fuse_theorem.proofs.FirstWrites.{Waits, waiting_is, unsent, unsent_numbered, unsent_root, is_waiting, ended_root, unasked, ended_stay, ready_alike, ready_numbered, ready_root}
+use Rattle.fuse_theorem.proofs.FirstWrites.{Waits, waiting_is, unsent_numbered, unsent_root, ended_root, unasked, ended_stay, ready_alike, ready_numbered, ready_root}
 use Rattle.fuse_theorem.proofs.Numbered.{ended_numbered, advanced_numbered}
 use Rattle.fuse_theorem.proofs.OnlyRoots.{one_root}
-use Rattle.fuse_theorem.proofs.Queuing.{All-at, queues_alike}
+use Rattle.fuse_theorem.proofs.Queuing.{queues_alike}
 use Rattle.fuse_theorem.proofs.Releasing.{next_unasked}
 use Rattle.fuse_theorem.proofs.Writing.{unsent_alike, heard_alike}
 
@@ -181,9 +177,11 @@ module _ (w : World) (p : Plain) (numbered : IsNumbered w) (root : OnlyRoot w) (
           let free = next_unasked w p numbered.queues same live in
           record {
             plain = q;
-            takes = (w.kernel.queues.next,
-            ap (λ (o : Option Ask). telling p sent.unique w.kernel.queues.next o) ask_there ∙ ap (λ (s : Stage). telling_ask p sent.unique w.kernel.queues.next pair.ask s) came.stage
-            ∙ ap (λ (o : Option (CallState ℕ)). telling_call p sent.unique w.kernel.queues.next pair.ask came.reply o) (ap (λ (n : ℕ). get p.vfs.calls n) pair.by ∙ there') ∙ ap (λ (o : Option Ask). where_so (not (is_some o)) q) free);
+            takes = (
+              w.kernel.queues.next,
+              ap (λ (o : Option Ask). telling p sent.unique w.kernel.queues.next o) ask_there ∙ ap (λ (s : Stage). telling_ask p sent.unique w.kernel.queues.next pair.ask s) came.stage
+                  ∙ ap (λ (o : Option (CallState ℕ)). telling_call p sent.unique w.kernel.queues.next pair.ask came.reply o) (ap (λ (n : ℕ). get p.vfs.calls n) pair.by ∙ there') ∙ ap (λ (o : Option Ask). where_so (not (is_some o)) q) free,
+            );
             alike = unsent_alike w2 q alike2 k (results Accepted);
             numbered = unsent_numbered w2 numbered2 root2 k (results Accepted);
             root = unsent_root w2 numbered2 root2 k (results Accepted) live2;

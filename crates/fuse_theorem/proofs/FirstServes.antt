@@ -1,15 +1,15 @@
 -- What the server and the plain world reply to the requests of the first path: the same, and no tree changes.
-use Rattle.std.proofs.Common.{◌≡◌, ◌≢◌, ℕ, ◌+◌, Bool, true, false, not, cond, List, [], ◌∷◌, Option, Some, None, option_map, find, length, refl, ap, sym, subst, ◌∙◌}
+use Rattle.std.proofs.Common.{◌≡◌, ℕ, ◌+◌, Bool, true, false, not, cond, [], ◌∷◌, Option, Some, None, option_map, find, length, refl, ap, sym, ◌∙◌}
 use Rattle.fuse_spec.specs.declared.Attributes.{Attributes}
 use Rattle.fuse_spec.specs.declared.Validity.{Validity}
-use Rattle.fuse_spec.specs.Maps.{Map, get, remove}
+use Rattle.fuse_spec.specs.Maps.{get}
 use Rattle.fuse_spec.specs.Numbers.{enotdir}
 use Rattle.fuse_spec.specs.Paths.{Name}
 use Rattle.fuse_spec.specs.Operations.{Reply}
 use Rattle.fuse_spec.specs.Operations as op
-use Rattle.fuse_spec.specs.Trees.{Tree, Content, Named, a_directory, is_at, kind_of, bytes_of, is_kind_directory, attributes_of}
-use Rattle.fuse_spec.specs.FileOperations.{looked_up, first_refusal, reply_or, tree_or, reply_by, tree_after, refusal, tree_unrefused}
-use Rattle.fuse_spec.specs.Messages.{RequestBody, init, asks, WireReply}
+use Rattle.fuse_spec.specs.Trees.{Tree, Named, a_directory, is_at, kind_of, bytes_of, is_kind_directory, attributes_of}
+use Rattle.fuse_spec.specs.FileOperations.{looked_up, first_refusal, reply_or, tree_or, reply_by}
+use Rattle.fuse_spec.specs.Messages.{RequestBody, asks, WireReply}
 use Rattle.fuse_spec.specs.Server.{Server, HeldRequest, without_unheld_files}
 use Rattle.fuse_spec.specs.Performs.{PerformResult, performing, performed, is_still_held, refusing}
 use Rattle.fuse_theorem.specs.FirstPath.{IsFirstBody, first_init, first_lookup, first_getattr}

@@ -1,7 +1,6 @@
 -- A copy is settled, on the first path.
-use Rattle.std.proofs.Common.{◌≡◌, ◌≢◌, ℕ, Bool, true, false, not, cond, List, [], ◌∷◌, remove, Option, Some, None, Ok, nat_eq, slice_get, refl, ap, sym, subst, ◌∙◌, inl, inr}
+use Rattle.std.proofs.Common.{◌≡◌, ℕ, Bool, true, false, cond, List, [], remove, Option, Some, None, Ok, nat_eq, slice_get, refl, sym, subst, ◌∙◌, inl, inr}
 use Rattle.std.proofs.lemmas.Bool.{cases_eq}
-use Rattle.fuse_spec.specs.declared.Entry.{Entry}
 use Rattle.fuse_spec.specs.declared.ReplyResult.{ReplyResult}
 use Rattle.fuse_spec.specs.declared.WriteResult.{WriteResult}
 use Rattle.fuse_spec.specs.declared.WriteResult.TheVariants.{Accepted, NoEntry, Invalid}
@@ -9,10 +8,9 @@ use Rattle.fuse_spec.specs.Maps.{Map, get}
 use Rattle.fuse_spec.specs.Maps as maps
 use Rattle.fuse_spec.specs.Operations.{files_in_reply, opens_in_reply}
 use Rattle.fuse_spec.specs.Messages.{WireReply}
-use Rattle.fuse_spec.specs.Copies.{rows_back, handles_back, given_back, kept_after, after_result, settled}
-use Rattle.fuse_spec.specs.Kernel.{is_live}
+use Rattle.fuse_spec.specs.Copies.{rows_back, handles_back, kept_after, after_result}
 use Rattle.fuse_spec.specs.Server.{Server, Kept, Copy, without_unheld_files}
-use Rattle.fuse_spec.specs.Worlds.{World, server_settled, after_settle}
+use Rattle.fuse_spec.specs.Worlds.{World, after_settle}
 use Rattle.fuse_spec.specs.Events.{Outcome}
 use Rattle.fuse_spec.specs.Events as event
 use Rattle.fuse_spec.specs.Steps.{settling, step}
@@ -27,9 +25,9 @@ use Rattle.fuse_theorem.proofs.FirstServes.{swept_root}
 -- what is left of a map was there
 left_was : {X : Type 0} (m : Map X) (k q : ℕ) (x : X) → get (maps.remove m k) q ≡ Some x → get m q ≡ Some x
 left_was m k q x at = elim (cases_eq q k) [
-    | inl e ↦ absurd (cc (subst (λ (n : ℕ). get (maps.remove m k) n ≡ Some x) e at, get_gone_here m k))
-    | inr ne ↦ sym (get_gone_there m k q ne) ∙ at
-  ]
+  | inl e ↦ absurd (cc (subst (λ (n : ℕ). get (maps.remove m k) n ≡ Some x) e at, get_gone_here m k))
+  | inr ne ↦ sym (get_gone_there m k q ne) ∙ at
+]
 
 -- what is still kept was kept
 kept_was : (kept : Map Kept) (copy : Copy) (o : Option Kept) (q : ℕ) (x : Kept) → get (kept_after kept copy o) q ≡ Some x → get kept q ≡ Some x

@@ -1,5 +1,5 @@
 -- A world with the root alone stays one as a call takes a step.
-use Rattle.std.proofs.Common.{◌≡◌, ◌≢◌, ℕ, ◌+◌, ◌<◌, ◌≤◌, Bool, true, false, cond, List, [], ◌∷◌, ◌++◌, Option, Some, None, nat_eq, is_some, count_by, option_map, get_or, length, refl, ap, sym, subst, ◌∙◌, arith, inl, inr, All}
+use Rattle.std.proofs.Common.{◌≡◌, ◌≢◌, ℕ, ◌+◌, ◌≤◌, Bool, true, false, cond, List, Option, Some, None, nat_eq, count_by, option_map, get_or, refl, ap, sym, subst, ◌∙◌, arith, inl, inr, All}
 use Rattle.std.specs.Prelude.{MatchOption}
 use Rattle.std.proofs.lemmas.Bool.{cases_eq}
 use Rattle.std.proofs.lemmas.List.Elements.{All-push}
@@ -8,20 +8,19 @@ use Rattle.fuse_spec.specs.declared.Mark.TheVariants.{Unread}
 use Rattle.fuse_spec.specs.declared.Purpose.{Purpose}
 use Rattle.fuse_spec.specs.declared.Purpose.TheVariants as purpose
 use Rattle.fuse_spec.specs.declared.QueuedRequest.{QueuedRequest}
-use Rattle.fuse_spec.specs.Maps.{Map, get}
+use Rattle.fuse_spec.specs.Maps.{get}
 use Rattle.fuse_spec.specs.Operations.{Operation}
 use Rattle.fuse_spec.specs.Vfs.{CallState, Vfs, Advance, asked}
 use Rattle.fuse_spec.specs.Queues.{QueueState, pending, request_under, is_unread, is_signalled}
 use Rattle.fuse_spec.specs.QueueCalls.{after_enqueue}
 use Rattle.fuse_spec.specs.Messages.{RequestBody, asks, Request, WireReply}
 use Rattle.fuse_spec.specs.Kernel.{Kernel, is_live, body_of, asked_by, is_for, asking_for, advanced}
-use Rattle.fuse_spec.specs.Server.{HeldRequest}
-use Rattle.fuse_spec.specs.Worlds.{World, Sent}
-use Rattle.fuse_spec.proofs.QueueCounts.{count_by-push, key_count, lookup-no_key}
+use Rattle.fuse_spec.specs.Worlds.{World}
+use Rattle.fuse_spec.proofs.QueueCounts.{count_by-push}
 use Rattle.fuse_spec.proofs.QueueSoundness.{lookup-next}
 use Rattle.fuse_spec.proofs.QueueReadings.{pending-enqueue, request_under-enqueue_other}
 use Rattle.fuse_theorem.specs.Numbering.{IsNumbered, requests_for}
-use Rattle.fuse_theorem.specs.FirstPath.{StatsRoot, looks_up, asks_root, IsFirstBody, first_lookup, first_getattr, RepliesTo, kept_under, Serves, Replies, unperformed, OnlyRoot}
+use Rattle.fuse_theorem.specs.FirstPath.{StatsRoot, looks_up, asks_root, IsFirstBody, first_lookup, first_getattr, RepliesTo, kept_under, unperformed, OnlyRoot}
 use Rattle.fuse_theorem.proofs.Finding.{other_is, none_passes, all_fail, no_key, All-filter, All-found}
 use Rattle.fuse_theorem.proofs.Advancing.{WaitsFor, StepsAlone}
 use Rattle.fuse_theorem.proofs.Asking.{body_beside}
@@ -70,9 +69,9 @@ module _ (w : World) (numbered : IsNumbered w) (root : OnlyRoot w) (live : is_li
 
   calls_stat : (c : ℕ) (state : CallState Opened) → get next.vfs.calls c ≡ Some state → StatsRoot state
   calls_stat c state at = elim (cases_eq c call) [
-      | inl e ↦ stays.stats state (subst (λ (n : ℕ). get next.vfs.calls n ≡ Some state) e at)
-      | inr ne ↦ root.calls c state (sym (alone.others c ne) ∙ at)
-    ]
+    | inl e ↦ stays.stats state (subst (λ (n : ℕ). get next.vfs.calls n ≡ Some state) e at)
+    | inr ne ↦ root.calls c state (sym (alone.others c ne) ∙ at)
+  ]
 
   quiet_root : OnlyRoot (record w { kernel = record w.kernel { vfs = next.vfs } })
   quiet_root =
@@ -119,11 +118,11 @@ module _ (w : World) (numbered : IsNumbered w) (root : OnlyRoot w) (live : is_li
       let n = q0.next in
       let new = lookup-next q0 numbered.queues in
       let in_pending : count_by (λ (e : ℕ × QueuedRequest Purpose). nat_eq n e.0) (pending q0) ≡ 0 =
-          all_fail (λ (e : ℕ × QueuedRequest Purpose). nat_eq n e.0) (pending q0)
-          (All-filter (λ (e : ℕ × QueuedRequest Purpose). is_unread e.1.mark) (λ (e : ℕ × QueuedRequest Purpose). nat_eq n e.0 ≡ false) q0.requests (λ i e lt. other_is n (get_or q0.requests i e).0 (λ z. no_key n q0.requests new i e lt (sym z)))) in
+      all_fail (λ (e : ℕ × QueuedRequest Purpose). nat_eq n e.0) (pending q0)
+      (All-filter (λ (e : ℕ × QueuedRequest Purpose). is_unread e.1.mark) (λ (e : ℕ × QueuedRequest Purpose). nat_eq n e.0 ≡ false) q0.requests (λ i e lt. other_is n (get_or q0.requests i e).0 (λ z. no_key n q0.requests new i e lt (sym z)))) in
       let on_link : count_by (λ (r : Request). nat_eq n r.unique) w.requests ≡ 0 =
-          all_fail (λ (r : Request). nat_eq n r.unique) w.requests
-          (λ i r lt. let low = numbered.sent_below i r lt in other_is n (get_or w.requests i r).unique (λ z. absurd (omega (arith, z, low)))) in
+      all_fail (λ (r : Request). nat_eq n r.unique) w.requests
+      (λ i r lt. let low = numbered.sent_below i r lt in other_is n (get_or w.requests i r).unique (λ z. absurd (omega (arith, z, low)))) in
       let held : get w.server.held n ≡ None = is_get_none (get w.server.held n) (λ t at. let low = numbered.held_below live n t at in absurd (omega (arith, low))) in
       rw (in_pending, on_link, held) refl
 
@@ -137,7 +136,7 @@ module _ (w : World) (numbered : IsNumbered w) (root : OnlyRoot w) (live : is_li
       let new : QueuedRequest Purpose = record { mark = Unread; kept = purpose.Call call } in
       let bodies : (purpose : Purpose) → body_of k purpose ≡ body_of l purpose = same_asked k l refl in
       let beside : (u : ℕ) → u ≢ n → kept_under k.queues u ≡ kept_under q0 u =
-          λ u ne. ap (λ (o : Option (QueuedRequest Purpose)). option_map (λ (r : QueuedRequest Purpose). r.kept) o) (request_under-enqueue_other q0 (purpose.Call call) u (other_is u n ne)) in
+      λ u ne. ap (λ (o : Option (QueuedRequest Purpose)). option_map (λ (r : QueuedRequest Purpose). r.kept) o) (request_under-enqueue_other q0 (purpose.Call call) u (other_is u n ne)) in
       let mine : body_of k (purpose.Call call) ≡ Some (asks (asked waits.0)) = ap asked_by waits.1 in
       record {
         tree = root.tree;
@@ -160,14 +159,20 @@ module _ (w : World) (numbered : IsNumbered w) (root : OnlyRoot w) (live : is_li
         sent = λ i r lt.
             let request = get_or w.requests i r in
             let old = quiet.sent i r lt in
-            let low = numbered.sent_below i r lt in
-            (old.0, subst (λ (o : Option Purpose). MatchOption o (Unit {0}) (λ purpose. body_of k purpose ≡ Some request.body)) (sym (beside request.unique (λ e. absurd (omega (arith, e, low)))))
-            (serves_in l k (kept_under q0 request.unique) request.body (λ purpose e. bodies purpose) old.1));
+            let low = numbered.sent_below i r lt in (
+              old.0,
+              subst (λ (o : Option Purpose). MatchOption o (Unit {0}) (λ purpose. body_of k purpose ≡ Some request.body)) (sym (beside request.unique (λ e. absurd (omega (arith, e, low)))))
+                  (serves_in l k (kept_under q0 request.unique) request.body (λ purpose e. bodies purpose) old.1),
+            );
         held = λ u t at.
             let old = quiet.held u t at in
-            let low = numbered.held_below live u t at in
-            (old.0, old.1, old.2, subst (λ (o : Option Purpose). MatchOption o (Unit {0}) (λ purpose. body_of k purpose ≡ Some t.body)) (sym (beside u (λ e. absurd (omega (arith, e, low)))))
-            (serves_in l k (kept_under q0 u) t.body (λ purpose e. bodies purpose) old.3));
+            let low = numbered.held_below live u t at in (
+              old.0,
+              old.1,
+              old.2,
+              subst (λ (o : Option Purpose). MatchOption o (Unit {0}) (λ purpose. body_of k purpose ≡ Some t.body)) (sym (beside u (λ e. absurd (omega (arith, e, low)))))
+                  (serves_in l k (kept_under q0 u) t.body (λ purpose e. bodies purpose) old.3),
+            );
         copies = λ i s lt.
             let sent = get_or w.replies i s in
             let low = numbered.replies_below i s lt in
@@ -182,8 +187,8 @@ module _ (w : World) (numbered : IsNumbered w) (root : OnlyRoot w) (live : is_li
         even_copies = root.even_copies;
         once = λ u.
             let pushed : count_by (λ (e : ℕ × QueuedRequest Purpose). nat_eq u e.0) (pending k.queues) ≡ count_by (λ (e : ℕ × QueuedRequest Purpose). nat_eq u e.0) (pending q0) + cond (nat_eq u n) 1 0 =
-                ap (λ (es : List (ℕ × QueuedRequest Purpose)). count_by (λ (e : ℕ × QueuedRequest Purpose). nat_eq u e.0) es) (pending-enqueue q0 (purpose.Call call))
-                ∙ count_by-push (λ (e : ℕ × QueuedRequest Purpose). nat_eq u e.0) (pending q0) (n, new) in
+            ap (λ (es : List (ℕ × QueuedRequest Purpose)). count_by (λ (e : ℕ × QueuedRequest Purpose). nat_eq u e.0) es) (pending-enqueue q0 (purpose.Call call))
+            ∙ count_by-push (λ (e : ℕ × QueuedRequest Purpose). nat_eq u e.0) (pending q0) (n, new) in
             elim (cases_eq u n) [
               | inl e ↦
                   let none : unperformed w u ≡ 0 = subst (λ (m : ℕ). unperformed w m ≡ 0) (sym e) none_next in

@@ -1,6 +1,6 @@
 -- The server takes a request, on the first path.
-use Rattle.std.proofs.Common.{◌≡◌, ◌≢◌, ℕ, ◌+◌, ◌<◌, ◌≤◌, ◌%◌, Bool, true, false, cond, List, [], ◌∷◌, remove, Option, Some, None, Ok, nat_eq, count_by, slice_get, get_or, length, map, refl, ap, sym, subst, ◌∙◌, arith, inl, inr, All}
-use Rattle.std.specs.Prelude.{sum_by, is_some, ◌⊎◌}
+use Rattle.std.proofs.Common.{◌≡◌, ℕ, ◌+◌, ◌<◌, ◌≤◌, ◌%◌, Bool, true, false, cond, List, remove, Option, Some, None, Ok, nat_eq, count_by, slice_get, get_or, length, map, refl, ap, sym, subst, ◌∙◌, arith, inl, inr}
+use Rattle.std.specs.Prelude.{is_some, ◌⊎◌}
 use Rattle.std.proofs.lemmas.Bool.{cases_eq}
 use Rattle.std.proofs.lemmas.List.Sums.{sum_by-remove}
 use Rattle.std.proofs.lemmas.Option.{slice_get_cases, get_or_from_slice_get}
@@ -9,7 +9,6 @@ use Rattle.fuse_spec.specs.declared.Purpose.{Purpose}
 use Rattle.fuse_spec.specs.declared.QueuedRequest.{QueuedRequest}
 use Rattle.fuse_spec.specs.Maps.{get, put}
 use Rattle.fuse_spec.specs.Queues.{pending}
-use Rattle.fuse_spec.specs.Kernel.{is_live}
 use Rattle.fuse_spec.specs.Messages.{RequestBody, Request}
 use Rattle.fuse_spec.specs.Nodes.{NodeTable, row_of}
 use Rattle.fuse_spec.specs.Server.{Server, HeldRequest, holding, nodes_of_body, generation_in}
@@ -67,11 +66,11 @@ module _ (w : World) (p : Plain) (numbered : IsNumbered w) (root : OnlyRoot w) (
 
   held_by : (X : ℕ → HeldRequest → Type 0) → X r.unique new → ((u : ℕ) (t : HeldRequest) → get w.server.held u ≡ Some t → X u t) → (u : ℕ) (t : HeldRequest) → get (put w.server.held r.unique new) u ≡ Some t → X u t
   held_by X mine others u t at = elim (cases_eq u r.unique) [
-      | inl e ↦
-          let is_new : new ≡ t = cc (get_put_here w.server.held r.unique new, subst (λ (n : ℕ). get (put w.server.held r.unique new) n ≡ Some t) e at) in
-          subst (λ (n : ℕ). X n t) (sym e) (subst (X r.unique) is_new mine)
-      | inr ne ↦ others u t (sym (get_put_there w.server.held r.unique new u ne) ∙ at)
-    ]
+    | inl e ↦
+        let is_new : new ≡ t = cc (get_put_here w.server.held r.unique new, subst (λ (n : ℕ). get (put w.server.held r.unique new) n ≡ Some t) e at) in
+        subst (λ (n : ℕ). X n t) (sym e) (subst (X r.unique) is_new mine)
+    | inr ne ↦ others u t (sym (get_put_there w.server.held r.unique new u ne) ∙ at)
+  ]
 
   number_after : IsNumbered after
   number_after = record {
@@ -147,7 +146,7 @@ first_takes w p numbered root same k choice o after e = by (slice_get w.requests
         let took = taking w.server r.unique r.body in
         let went = going_ok (event.taken r.unique took.word) (after_take w k r.unique took) o after e in
         let here : (event.taken r.unique Held, record w { requests = remove w.requests k; server = holding w.server r.unique r.body }) ≡ (o, after) =
-            ap (λ (t : TakeResult). (event.taken r.unique t.word, after_take w k r.unique t)) (sym is) ∙ (λ i. (went.leads.outcome_is i, went.leads.after_is i)) in
+        ap (λ (t : TakeResult). (event.taken r.unique t.word, after_take w k r.unique t)) (sym is) ∙ (λ i. (went.leads.outcome_is i, went.leads.after_is i)) in
         subst (λ (y : Outcome × World). Goes w p (event.take k) y.0 y.1) here (takes_it w p numbered root same k r found)
 
     by : (s : Option Request) → slice_get w.requests k ≡ s → taking_request w k s ≡ Ok (o, after) → Goes w p (event.take k) o after

@@ -1,54 +1,29 @@
 -- The kernel takes a copy of a reply, on the first path.
-use Rattle.std.proofs.Common.{◌≡◌, ◌≢◌, ℕ, ◌+◌, ◌-◌, ◌<◌, ◌≤◌, ◌%◌, Bool, true, false, true≢false, not, ◌&&◌, cond, List, [], ◌∷◌, ◌++◌, remove, Option, Some, None, Ok, nat_eq, count_by, find, filter, option_map, slice_get, get_or, is_some, refl, ap, sym, subst, ◌∙◌, arith, inl, inr, All}
-use Rattle.std.specs.Prelude.{MatchOption, ◌⊎◌}
+use Rattle.std.proofs.Common.{◌≡◌, ℕ, ◌+◌, ◌<◌, ◌≤◌, ◌%◌, Bool, true, false, true≢false, not, cond, List, [], remove, Option, Some, None, nat_eq, count_by, filter, option_map, get_or, is_some, refl, ap, sym, subst, ◌∙◌, inl, inr, All}
+use Rattle.std.specs.Prelude.{MatchOption}
 use Rattle.std.specs.Option.{option_map_or}
-use Rattle.std.specs.Map.{lookup, remove_entry}
 use Rattle.std.proofs.lemmas.Bool.{cases_eq}
-use Rattle.fuse_spec.specs.declared.Opened.{Opened}
 use Rattle.fuse_spec.specs.declared.Phase.{Phase}
 use Rattle.fuse_spec.specs.declared.Phase.TheVariants.{Down, Starting, Ready, Aborted}
 use Rattle.fuse_spec.specs.declared.Purpose.{Purpose}
-use Rattle.fuse_spec.specs.declared.Purpose.TheVariants as purpose
 use Rattle.fuse_spec.specs.declared.QueuedRequest.{QueuedRequest}
 use Rattle.fuse_spec.specs.declared.ReplyResult.{ReplyResult}
-use Rattle.fuse_spec.specs.declared.WriteResult.{WriteResult}
-use Rattle.fuse_spec.specs.declared.WriteResult.TheVariants.{Accepted, NoEntry, Invalid}
-use Rattle.fuse_spec.specs.Maps.{Map, get}
-use Rattle.fuse_spec.specs.Operations.{Reply}
-use Rattle.fuse_spec.specs.Operations as op
-use Rattle.fuse_spec.specs.Walks.{last, stat}
-use Rattle.fuse_spec.specs.Vfs.{CallState, walking, doing, using, asked, Advance}
-use Rattle.fuse_spec.specs.CallReplies.{call_replied}
-use Rattle.fuse_spec.specs.Queues.{QueueState, pending, request_under, is_unread, is_signalled, IsSound}
-use Rattle.fuse_spec.specs.QueueCalls.{without, waiting, after_answer}
-use Rattle.fuse_spec.specs.Messages.{RequestBody, init, asks, Request, WireReply}
-use Rattle.fuse_spec.specs.Kernel.{Kernel, is_live, is_aborted, body_of, asked_by, is_for, request_of, advanced}
-use Rattle.fuse_spec.specs.Replies.{reply_written, reply_taken, ended_by, odd_taken, replied_to_call}
-use Rattle.fuse_spec.specs.Worlds.{World, Sent, after_write}
-use Rattle.fuse_spec.specs.Events.{Outcome}
-use Rattle.fuse_spec.specs.Events as event
-use Rattle.fuse_spec.specs.Steps.{writing_copy, written_as, step}
-use Rattle.fuse_spec.specs.Plain.{Plain, Ask, Stage, ask_told}
-use Rattle.fuse_spec.specs.Plain as plain
-use Rattle.fuse_spec.specs.PlainSteps.{Takes, telling, telling_ask, telling_call, where_so}
-use Rattle.fuse_spec.specs.Denotes.{MeansIn, MeansOpenIn, OptionAlike, StateAlike, ReplyAlike, Names, Opens}
-use Rattle.fuse_spec.specs.Alike.{StageTold, IsPaired, RequestBodyAsked, PurposeAsked, Alike}
-use Rattle.fuse_spec.proofs.QueueCounts.{lookup-remove_entry_other}
+use Rattle.fuse_spec.specs.Maps.{get}
+use Rattle.fuse_spec.specs.Queues.{QueueState, pending, request_under, is_unread, is_signalled}
+use Rattle.fuse_spec.specs.QueueCalls.{without, waiting}
+use Rattle.fuse_spec.specs.Messages.{RequestBody, Request}
+use Rattle.fuse_spec.specs.Kernel.{Kernel, is_live, is_aborted, body_of, is_for}
+use Rattle.fuse_spec.specs.Worlds.{World, Sent}
+use Rattle.fuse_spec.specs.Plain.{Plain, Ask}
+use Rattle.fuse_spec.specs.Denotes.{MeansIn, MeansOpenIn}
+use Rattle.fuse_spec.specs.Alike.{RequestBodyAsked, PurposeAsked, Alike}
 use Rattle.fuse_spec.proofs.QueueReadings.{pending-answer, request_under-without, request_under-without_other, key_count-le-one}
-use Rattle.fuse_theorem.specs.Numbering.{IsNumbered, requests_for}
-use Rattle.fuse_theorem.specs.FirstPath.{StatsRoot, looks_up, asks_root, IsFirstBody, RepliesTo, to_init, to_lookup, to_getattr, kept_under, Serves, Replies, unperformed, OnlyRoot, Goes}
-use Rattle.fuse_theorem.proofs.Accepted.{going_ok}
-use Rattle.fuse_theorem.proofs.Advancing.{StepsAlone, call_replied_alone}
-use Rattle.fuse_theorem.proofs.Ending.{none_left, without_request}
-use Rattle.fuse_theorem.proofs.Finding.{same_is, other_is, All-removed, found_entry, found_one, find_beside}
-use Rattle.fuse_theorem.proofs.FirstCalls.{StaysAtRoot, missing_at_root, attributes_at_root}
+use Rattle.fuse_theorem.specs.Numbering.{IsNumbered}
+use Rattle.fuse_theorem.specs.FirstPath.{IsFirstBody, kept_under, Replies, OnlyRoot}
+use Rattle.fuse_theorem.proofs.Finding.{other_is, All-removed, found_entry, find_beside}
 use Rattle.fuse_theorem.proofs.FirstQueues.{KeptStays, serves_still, requeued_root}
-use Rattle.fuse_theorem.proofs.FirstSteps.{same_asked, serves_in, replies_in, advanced_root}
-use Rattle.fuse_theorem.proofs.Numbered.{ended_numbered, advanced_numbered}
-use Rattle.fuse_theorem.proofs.OnlyRoots.{one_root}
-use Rattle.fuse_theorem.proofs.Queuing.{All-without, All-at, QueuesStay, queues_alike}
-use Rattle.fuse_theorem.proofs.Releasing.{next_unasked}
-use Rattle.fuse_theorem.proofs.Writing.{unsent_alike, heard_alike}
+use Rattle.fuse_theorem.proofs.FirstSteps.{same_asked, serves_in, replies_in}
+use Rattle.fuse_theorem.proofs.Queuing.{All-without, QueuesStay}
 
 -- a request that waits for its reply
 pub record Waits (q : QueueState Purpose) (unique : ℕ) (purpose : Purpose) : Type 0 where
@@ -133,9 +108,9 @@ module _ (w : World) (p : Plain) (numbered : IsNumbered w) (root : OnlyRoot w) (
 
   stays : KeptStays q1 q0
   stays v = elim (cases_eq v unique) [
-      | inl e ↦ inl (subst (λ (n : ℕ). kept_under q1 n ≡ None) (sym e) (ap (λ (o : Option (QueuedRequest Purpose)). option_map (λ (r : QueuedRequest Purpose). r.kept) o) (request_under-without q0 unique numbered.queues)))
-      | inr ne ↦ inr (ap (λ (o : Option (QueuedRequest Purpose)). option_map (λ (r : QueuedRequest Purpose). r.kept) o) (request_under-without_other q0 v unique (other_is v unique ne)))
-    ]
+    | inl e ↦ inl (subst (λ (n : ℕ). kept_under q1 n ≡ None) (sym e) (ap (λ (o : Option (QueuedRequest Purpose)). option_map (λ (r : QueuedRequest Purpose). r.kept) o) (request_under-without q0 unique numbered.queues)))
+    | inr ne ↦ inr (ap (λ (o : Option (QueuedRequest Purpose)). option_map (λ (r : QueuedRequest Purpose). r.kept) o) (request_under-without_other q0 v unique (other_is v unique ne)))
+  ]
 
   no_interrupts : q1.interrupts ≡ []
   no_interrupts = ap (λ (xs : List ℕ). filter (λ i. not (nat_eq unique i)) xs) root.interrupts

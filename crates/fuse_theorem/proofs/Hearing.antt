@@ -8,11 +8,8 @@ use Rattle.fuse_spec.specs.declared.Binding.{Binding}
 use Rattle.fuse_spec.specs.Vfs.{Vfs, answered, bound, unbound, opened_by}
 use Rattle.fuse_spec.specs.Denotes.{OptionAlike, StateAlike, BindingAlike}
 use Rattle.fuse_spec.specs.Alike.{VfsAlike}
+use Rattle.fuse_theorem.specs.Numbering.{IsOneToOne}
 use Rattle.fuse_spec.proofs.Tables.{put_alike, gone_alike, name_put, name_put_there, name_gone, tie_alike}
-
--- a file has one name on each side
-abbrev pub IsOneToOne : (ℕ → ℕ → Type 0) → Type 0
-IsOneToOne R = (a b c d : ℕ) → R a c → R b d → (a ≡ b → c ≡ d) × (c ≡ d → a ≡ b)
 
 cond_alike : {X Y : Type 0} (A : X → Y → Type 0) (b c : Bool) (x x' : X) (y y' : Y) → b ≡ c → A x y → A x' y' → A (cond b x x') (cond c y y')
 cond_alike A b c x x' y y' e h k = subst (λ t. A (cond b x x') (cond t y y')) e (by b)

@@ -1,12 +1,12 @@
 -- Operations that are alike stay alike where what their files mean is said in another way.
-use Rattle.std.proofs.Common.{◌≡◌, ℕ, zero, suc, ◌+◌, ◌<◌, List, [], ◌∷◌, Option, Some, map, length, get_or, refl, ap, sym, subst, ◌∙◌, arith}
+use Rattle.std.proofs.Common.{◌≡◌, ℕ, zero, suc, List, [], ◌∷◌, map, refl, ap, subst, ◌∙◌, arith}
 use Rattle.std.specs.Prelude.{Contains}
 use Rattle.fuse_spec.specs.Operations.{Operation, lookup, getattr, mkdir, create, unlink, rmdir, rename, link, opening, readdir, read, write, files_in}
 use Rattle.fuse_spec.specs.declared.Opened.{Opened}
 use Rattle.fuse_spec.specs.declared.Counted.{Counted}
 use Rattle.fuse_spec.specs.Maps.{Map}
 use Rattle.fuse_spec.specs.Kernel.{opened_nodes}
-use Rattle.fuse_spec.specs.Nodes.{NodeTable, HandleTable, HeldNode, row_of}
+use Rattle.fuse_spec.specs.Nodes.{NodeTable, HandleTable, row_of}
 use Rattle.fuse_spec.specs.Server.{generation_in}
 use Rattle.fuse_spec.specs.Denotes.{Means, MeansOpen, OperationAlike}
 use Rattle.fuse_spec.specs.Alike.{Meant, MeantOpen}

@@ -1,21 +1,18 @@
 -- The numbers of a world stay in order as a call takes a step.
-use Rattle.std.proofs.Common.{◌≡◌, ◌≢◌, ℕ, ◌+◌, ◌<◌, ◌≤◌, Bool, true, false, cond, List, [], ◌∷◌, ◌++◌, Option, Some, None, nat_eq, is_some, count_by, refl, ap, sym, subst, ◌∙◌, arith, inl, inr, All}
+use Rattle.std.proofs.Common.{◌≡◌, ℕ, ◌+◌, ◌<◌, ◌≤◌, Bool, true, false, cond, Option, Some, None, nat_eq, is_some, refl, ap, sym, subst, ◌∙◌, arith, inl, inr}
 use Rattle.std.proofs.lemmas.Bool.{cases_eq}
 use Rattle.fuse_spec.specs.declared.Opened.{Opened}
 use Rattle.fuse_spec.specs.declared.Mark.TheVariants.{Unread}
 use Rattle.fuse_spec.specs.declared.Purpose.{Purpose}
 use Rattle.fuse_spec.specs.declared.Purpose.TheVariants as purpose
 use Rattle.fuse_spec.specs.declared.QueuedRequest.{QueuedRequest}
-use Rattle.fuse_spec.specs.Maps.{Map, get}
+use Rattle.fuse_spec.specs.Maps.{get}
 use Rattle.fuse_spec.specs.Operations.{Operation}
 use Rattle.fuse_spec.specs.Uniques.{IsNextNumber}
 use Rattle.fuse_spec.specs.Vfs.{CallState, Advance}
-use Rattle.fuse_spec.specs.Queues.{QueueState}
 use Rattle.fuse_spec.specs.QueueCalls.{after_enqueue, without}
-use Rattle.fuse_spec.specs.Messages.{Request}
-use Rattle.fuse_spec.specs.Kernel.{Kernel, is_live, is_for, asking_for, advanced}
-use Rattle.fuse_spec.specs.Server.{HeldRequest, Kept}
-use Rattle.fuse_spec.specs.Worlds.{World, Sent}
+use Rattle.fuse_spec.specs.Kernel.{is_for, asking_for, advanced}
+use Rattle.fuse_spec.specs.Worlds.{World}
 use Rattle.fuse_spec.proofs.QueueCounts.{count_by-push}
 use Rattle.fuse_spec.proofs.QueueSoundness.{IsSound-enqueue, IsSound-without}
 use Rattle.fuse_theorem.specs.Numbering.{IsNumbered, requests_for}
@@ -46,16 +43,16 @@ module _ (w : World) (numbered : IsNumbered w) (coming call : ℕ) (next : Advan
 
   one_for : (c : ℕ) → requests_for c w.kernel.queues ≤ cond (is_some (get next.vfs.calls c)) 1 0
   one_for c = elim (cases_eq c call) [
-      | inl e ↦ let none : requests_for c w.kernel.queues ≡ 0 = subst (λ (n : ℕ). requests_for n w.kernel.queues ≡ 0) (sym e) none_for in omega (arith, none)
-      | inr ne ↦ subst (λ (o : Option (CallState Opened)). requests_for c w.kernel.queues ≤ cond (is_some o) 1 0) (sym (alone.others c ne)) (numbered.one_request c)
-    ]
+    | inl e ↦ let none : requests_for c w.kernel.queues ≡ 0 = subst (λ (n : ℕ). requests_for n w.kernel.queues ≡ 0) (sym e) none_for in omega (arith, none)
+    | inr ne ↦ subst (λ (o : Option (CallState Opened)). requests_for c w.kernel.queues ≤ cond (is_some o) 1 0) (sym (alone.others c ne)) (numbered.one_request c)
+  ]
 
   one_more : (operation : Operation ℕ Opened) → WaitsFor next.vfs.calls call (Some operation) → (c : ℕ)
       → requests_for c (after_enqueue w.kernel.queues (purpose.Call call)) ≤ cond (is_some (get next.vfs.calls c)) 1 0
   one_more operation waits c =
       let new : ℕ × QueuedRequest Purpose = (w.kernel.queues.next, record { mark = Unread; kept = purpose.Call call }) in
       let pushed : requests_for c (after_enqueue w.kernel.queues (purpose.Call call)) ≡ requests_for c w.kernel.queues + cond (nat_eq call c) 1 0 =
-          count_by-push (λ (e : ℕ × QueuedRequest Purpose). is_for c e.1.kept) w.kernel.queues.requests new in
+      count_by-push (λ (e : ℕ × QueuedRequest Purpose). is_for c e.1.kept) w.kernel.queues.requests new in
       elim (cases_eq c call) [
         | inl e ↦
             let none : requests_for c w.kernel.queues ≡ 0 = subst (λ (n : ℕ). requests_for n w.kernel.queues ≡ 0) (sym e) none_for in

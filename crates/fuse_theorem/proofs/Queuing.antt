@@ -1,29 +1,24 @@
 -- What the kernel does to its queues, reads of requests, INTERRUPTs and forgets among it, leaves all alike.
-use Rattle.std.proofs.Common.{◌≡◌, ◌≢◌, ℕ, zero, suc, ◌+◌, ◌<◌, ◌||◌, Bool, true, false, true≢false, cond, List, [], ◌∷◌, ◌++◌, remove, Option, Some, None, nat_eq, find, option_map, slice_get, get_or, take, drop, length, refl, ap, sym, subst, ◌∙◌, arith, inl, inr, All}
+use Rattle.std.proofs.Common.{◌≡◌, ℕ, zero, suc, Bool, true, false, cond, List, [], ◌∷◌, remove, Option, Some, None, nat_eq, find, option_map, slice_get, get_or, take, drop, refl, ap, sym, subst, ◌∙◌, arith, All}
 use Rattle.std.specs.Prelude.{MatchOption}
-use Rattle.std.proofs.lemmas.Bool.{cases_eq}
 use Rattle.std.proofs.lemmas.Bool.Decides.{nat_tests}
-use Rattle.std.proofs.lemmas.List.Elements.{All-head, All-tail, All-push, All-append, All-take, All-drop}
-use Rattle.std.proofs.lemmas.Option.{slice_get_cases}
+use Rattle.std.proofs.lemmas.List.Elements.{All-head, All-tail, All-append, All-take, All-drop}
 use Rattle.fuse_spec.specs.declared.Opened.{Opened}
 use Rattle.fuse_spec.specs.declared.Mark.{Mark}
-use Rattle.fuse_spec.specs.declared.Mark.TheVariants.{Unread, Flagged, Read, Interrupted}
 use Rattle.fuse_spec.specs.declared.Purpose.{Purpose}
 use Rattle.fuse_spec.specs.declared.Purpose.TheVariants as purpose
 use Rattle.fuse_spec.specs.declared.QueuedRequest.{QueuedRequest}
 use Rattle.fuse_spec.specs.Maps.{Map, get}
-use Rattle.fuse_spec.specs.Queues.{QueueState, pending, request_under, is_signalled, is_unread, IsSound}
-use Rattle.fuse_spec.specs.QueueCalls.{set_mark, with_mark, after_reading, after_read_pending, pending_at, after_read_interrupt, after_read_forgets}
+use Rattle.fuse_spec.specs.Queues.{QueueState, pending, request_under, is_signalled}
+use Rattle.fuse_spec.specs.QueueCalls.{set_mark, with_mark}
 use Rattle.fuse_spec.specs.Messages.{RequestBody, init, asks, release, forget, batch_forget, interrupt, Request}
 use Rattle.fuse_spec.specs.Kernel.{Kernel, is_live, body_of, is_for, request_of}
 use Rattle.fuse_spec.specs.Worlds.{World}
 use Rattle.fuse_spec.specs.Plain.{Plain, Ask}
-use Rattle.fuse_spec.specs.Denotes.{MeansIn, MeansOpenIn, OperationAlike}
-use Rattle.fuse_spec.specs.Alike.{IsWaiting, AskedBy, RequestBodyAsked, PurposeAsked, Alike}
-use Rattle.fuse_spec.proofs.QueueCounts.{key_count-found, lookup-set_mark_other, lookup-set_mark_same}
-use Rattle.fuse_spec.proofs.QueueReadings.{pending-read_pending, request_under-mark_other}
-use Rattle.fuse_spec.proofs.QueueSoundness.{mark_under-pending}
-use Rattle.fuse_theorem.proofs.Asking.{match_more}
+use Rattle.fuse_spec.specs.Denotes.{MeansIn, MeansOpenIn}
+use Rattle.fuse_spec.specs.Alike.{RequestBodyAsked, PurposeAsked, Alike}
+use Rattle.fuse_spec.proofs.QueueCounts.{lookup-set_mark_same}
+use Rattle.fuse_spec.proofs.QueueReadings.{request_under-mark_other}
 
 -- each but the one that is taken out
 pub All-without : {X : Type 0} (P : X → Type 0) (xs : List X) (k : ℕ) → All P xs → All P (remove xs k)

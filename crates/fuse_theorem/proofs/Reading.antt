@@ -1,5 +1,5 @@
 -- Reads of pending requests, INTERRUPTs and forgets are no steps of the plain world.
-use Rattle.std.proofs.Common.{◌≡◌, ℕ, ◌+◌, ◌<◌, Bool, true, false, cond, List, [], ◌∷◌, ◌++◌, remove, Option, Some, None, option_map, slice_get, drop, take, find, nat_eq, refl, ap, sym, subst, ◌∙◌, arith, All}
+use Rattle.std.proofs.Common.{◌≡◌, ℕ, ◌+◌, Bool, true, false, cond, List, [], ◌∷◌, ◌++◌, Option, Some, None, option_map, slice_get, drop, find, nat_eq, refl, ap, sym, subst, All}
 use Rattle.std.specs.Prelude.{MatchOption}
 use Rattle.std.specs.Option.{option_map_or}
 use Rattle.std.specs.Map.{lookup}
@@ -9,14 +9,14 @@ use Rattle.fuse_spec.specs.declared.Mark.TheVariants.{Unread, Flagged, Read, Int
 use Rattle.fuse_spec.specs.declared.Purpose.{Purpose}
 use Rattle.fuse_spec.specs.declared.QueuedRequest.{QueuedRequest}
 use Rattle.fuse_spec.specs.Maps.{get}
-use Rattle.fuse_spec.specs.Queues.{QueueState, pending, request_under, is_signalled, is_unread, IsSound}
+use Rattle.fuse_spec.specs.Queues.{QueueState, pending, is_signalled, is_unread, IsSound}
 use Rattle.fuse_spec.specs.QueueCalls.{with_mark, after_reading, after_read_pending, after_read_interrupt, after_read_forgets}
 use Rattle.fuse_spec.specs.QueueCalls as queues
 use Rattle.fuse_spec.specs.Uniques.{interrupt_number}
-use Rattle.fuse_spec.specs.Messages.{Forget, RequestBody, Request, forget, batch_forget, interrupt}
-use Rattle.fuse_spec.specs.Kernel.{is_live, body_of, is_for}
+use Rattle.fuse_spec.specs.Messages.{Forget, RequestBody, Request, interrupt}
+use Rattle.fuse_spec.specs.Kernel.{body_of, is_for}
 use Rattle.fuse_spec.specs.Worlds.{World, forget_body, after_read_pending as world_read, after_read_interrupt as world_read_interrupt, after_read_forgets as world_read_forgets}
-use Rattle.fuse_spec.specs.Plain.{Plain, Ask}
+use Rattle.fuse_spec.specs.Plain.{Plain}
 use Rattle.fuse_spec.specs.Denotes.{MeansIn, MeansOpenIn}
 use Rattle.fuse_spec.specs.Alike.{RequestBodyAsked, PurposeAsked, Alike}
 use Rattle.fuse_spec.proofs.QueueReadings.{pending-mark}
@@ -55,11 +55,11 @@ module _ (w : World) (p : Plain) (same : Alike w p) (sound : IsSound w.kernel.qu
   pub read_pending_alike : (place : ℕ) (e : ℕ × QueuedRequest Purpose) (body : RequestBody) → slice_get (pending w.kernel.queues) place ≡ Some e → body_of w.kernel e.1.kept ≡ Some body → Alike (world_read w place e.0 body) p
   read_pending_alike place e body found asks =
       let reading : QueuesStay w p (after_read_pending w.kernel.queues place) =
-          subst (λ (o : Option (ℕ × QueuedRequest Purpose)). QueuesStay w p (option_map_or (λ (x : ℕ × QueuedRequest Purpose). after_reading w.kernel.queues x.0 x.1.mark) o w.kernel.queues)) (sym found)
-          (reading_stay place e e.1.mark refl found) in
+      subst (λ (o : Option (ℕ × QueuedRequest Purpose)). QueuesStay w p (option_map_or (λ (x : ℕ × QueuedRequest Purpose). after_reading w.kernel.queues x.0 x.1.mark) o w.kernel.queues)) (sym found)
+      (reading_stay place e e.1.mark refl found) in
       let asked : PurposeAsked w p e = All-at (PurposeAsked w p) (pending w.kernel.queues) place e same.requests.pending found in
       let asked_body : RequestBodyAsked p.asks e.0 (is_signalled e.1.mark) false (MeansIn w) (MeansOpenIn w) body =
-          subst (λ (o : Option RequestBody). MatchOption o ⊥ (RequestBodyAsked p.asks e.0 (is_signalled e.1.mark) false (MeansIn w) (MeansOpenIn w))) asks asked in
+      subst (λ (o : Option RequestBody). MatchOption o ⊥ (RequestBodyAsked p.asks e.0 (is_signalled e.1.mark) false (MeansIn w) (MeansOpenIn w))) asks asked in
       queues_alike w p same (after_read_pending w.kernel.queues place) (w.requests ++ record { unique = e.0; body = body } ∷ []) reading
       (All-push (λ (r : Request). RequestBodyAsked p.asks r.unique false false (MeansIn w) (MeansOpenIn w) r.body) w.requests (record { unique = e.0; body = body }) same.requests.sent
       (asked_unsignalled (MeansIn w) (MeansOpenIn w) p.asks e.0 (is_signalled e.1.mark) body asked_body))

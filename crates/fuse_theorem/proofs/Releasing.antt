@@ -1,6 +1,5 @@
 -- A RELEASE that the kernel queues is no ask of the plain world.
-use Rattle.std.proofs.Common.{◌≡◌, ◌≢◌, ℕ, ◌+◌, ◌<◌, Bool, true, false, true≢false, cond, List, [], ◌∷◌, ◌++◌, Option, Some, None, find, option_map, refl, ap, sym, subst, ◌∙◌, arith, inl, inr, All}
-use Rattle.std.specs.Prelude.{MatchOption}
+use Rattle.std.proofs.Common.{◌≡◌, ℕ, Bool, true, false, cond, [], ◌∷◌, Option, Some, None, refl, sym, subst, ◌∙◌, inl, inr, All}
 use Rattle.std.proofs.lemmas.Bool.{cases_eq}
 use Rattle.std.proofs.lemmas.List.Elements.{All-push}
 use Rattle.fuse_spec.specs.declared.Opened.{Opened}
@@ -8,17 +7,15 @@ use Rattle.fuse_spec.specs.declared.Purpose.{Purpose}
 use Rattle.fuse_spec.specs.declared.Purpose.TheVariants as purpose
 use Rattle.fuse_spec.specs.declared.Mark.TheVariants.{Unread}
 use Rattle.fuse_spec.specs.declared.QueuedRequest.{QueuedRequest}
-use Rattle.fuse_spec.specs.Maps.{Map, get, put, remove}
-use Rattle.fuse_spec.specs.Queues.{QueueState, pending, request_under, is_signalled, IsSound}
+use Rattle.fuse_spec.specs.Maps.{Map, get, remove}
+use Rattle.fuse_spec.specs.Queues.{pending, IsSound}
 use Rattle.fuse_spec.specs.QueueCalls.{after_enqueue}
-use Rattle.fuse_spec.specs.Kernel.{Kernel, is_live, is_for, request_of, is_used, released, released_if_idle}
+use Rattle.fuse_spec.specs.Kernel.{is_live, is_for, request_of, is_used, released, released_if_idle}
 use Rattle.fuse_spec.specs.Worlds.{World}
 use Rattle.fuse_spec.specs.Plain.{Plain, Ask}
-use Rattle.fuse_spec.specs.Alike.{PurposeAsked, IsPaired, Alike}
-use Rattle.fuse_spec.proofs.QueueSoundness.{lookup-next}
-use Rattle.fuse_spec.proofs.QueueReadings.{pending-enqueue, request_under-enqueue, request_under-enqueue_other}
-use Rattle.fuse_theorem.specs.Numbering.{IsNumbered}
-use Rattle.fuse_theorem.proofs.Finding.{same_is, other_is, find_first}
+use Rattle.fuse_spec.specs.Alike.{PurposeAsked, Alike}
+use Rattle.fuse_spec.proofs.QueueReadings.{pending-enqueue, request_under-enqueue_other}
+use Rattle.fuse_theorem.proofs.Finding.{other_is, find_first}
 use Rattle.fuse_theorem.proofs.Asking.{next_is_new}
 
 module _ (w : World) (p : Plain) (sound : IsSound w.kernel.queues) (same : Alike w p) (live : is_live w.kernel.phase ≡ true) where
@@ -39,7 +36,7 @@ module _ (w : World) (p : Plain) (sound : IsSound w.kernel.queues) (same : Alike
       let old = same.asks live in
       let new : QueuedRequest Purpose = record { mark = Unread; kept = purpose.Release o } in
       let stays : (q u : ℕ) → request_of w.kernel q ≡ Some u → request_of k q ≡ Some u =
-          λ q u e. find_first (λ (x : ℕ × QueuedRequest Purpose). is_for q x.1.kept) (λ (x : ℕ × QueuedRequest Purpose). x.0) q0.requests ((n, new) ∷ []) u e in
+      λ q u e. find_first (λ (x : ℕ × QueuedRequest Purpose). is_for q x.1.kept) (λ (x : ℕ × QueuedRequest Purpose). x.0) q0.requests ((n, new) ∷ []) u e in
       record {
         tree = same.tree;
         vfs = same.vfs;

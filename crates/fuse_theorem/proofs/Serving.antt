@@ -1,11 +1,11 @@
 -- The server performs a request: it is held no longer, and what it is replied is kept and sent.
-use Rattle.std.proofs.Common.{◌≡◌, ◌≢◌, ℕ, Bool, true, List, [], ◌∷◌, ◌++◌, Option, Some, None, refl, ap, sym, subst, ◌∙◌, inl, inr, All}
+use Rattle.std.proofs.Common.{◌≡◌, ℕ, true, [], ◌∷◌, ◌++◌, Some, ap, sym, subst, ◌∙◌, inl, inr}
 use Rattle.std.proofs.lemmas.Bool.{cases_eq}
 use Rattle.std.proofs.lemmas.List.Elements.{All-push}
 use Rattle.fuse_spec.specs.Maps.{Map, get, put, remove}
 use Rattle.fuse_spec.specs.Messages.{WireReply}
 use Rattle.fuse_spec.specs.Kernel.{is_live}
-use Rattle.fuse_spec.specs.Server.{Server, HeldRequest, Kept, Copy}
+use Rattle.fuse_spec.specs.Server.{Kept, Copy}
 use Rattle.fuse_spec.specs.Worlds.{World, Sent}
 use Rattle.fuse_spec.specs.Plain.{Plain, Ask}
 use Rattle.fuse_spec.specs.Alike.{StageTold, Alike}

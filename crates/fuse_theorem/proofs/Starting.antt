@@ -9,8 +9,9 @@ use Rattle.fuse_spec.specs.Vfs.{using, Vfs, numbered, begun, after_beginning, la
 use Rattle.fuse_spec.specs.Denotes.{OptionAlike}
 use Rattle.fuse_spec.specs.Alike.{VfsAlike}
 use Rattle.fuse_spec.proofs.Tables.{gone_alike}
+use Rattle.fuse_theorem.specs.Numbering.{IsOneToOne}
 use Rattle.fuse_theorem.proofs.Beginning.{BeginningAlike, beginning_alike}
-use Rattle.fuse_theorem.proofs.Hearing.{IsOneToOne, answered_alike}
+use Rattle.fuse_theorem.proofs.Hearing.{answered_alike}
 use Rattle.fuse_theorem.proofs.Telling.{AdvanceAlike, asking_alike, walks_on_alike}
 
 module _ {O P : Type 0} (R : ℕ → ℕ → Type 0) (S : O → P → Type 0) (c : Vfs O) (d : Vfs P) (same : VfsAlike R S c d) where

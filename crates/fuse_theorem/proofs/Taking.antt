@@ -1,19 +1,17 @@
 -- What the server takes and holds stays asked as it was.
-use Rattle.std.proofs.Common.{◌≡◌, ◌≢◌, ℕ, ◌+◌, Bool, true, false, true≢false, ◌||◌, cond, List, [], ◌∷◌, ◌++◌, remove, Option, Some, None, option_map, slice_get, map, refl, ap, sym, subst, ◌∙◌, arith, inl, inr, All}
+use Rattle.std.proofs.Common.{◌≡◌, ℕ, false, List, [], ◌∷◌, ◌++◌, remove, Some, None, slice_get, map, sym, subst, ◌∙◌, inl, inr}
 use Rattle.std.proofs.lemmas.Bool.{cases_eq}
 use Rattle.std.proofs.lemmas.List.Elements.{All-push}
-use Rattle.fuse_spec.specs.declared.Opened.{Opened}
-use Rattle.fuse_spec.specs.declared.Taken.TheVariants.{Held, Ignored, Again}
-use Rattle.fuse_spec.specs.Maps.{Map, get, put}
-use Rattle.fuse_spec.specs.Operations.{Operation, files_in, failed}
+use Rattle.fuse_spec.specs.Maps.{get, put}
+use Rattle.fuse_spec.specs.Operations.{files_in}
 use Rattle.fuse_spec.specs.Messages.{RequestBody, init, asks, release, forget, batch_forget, interrupt, Request, WireReply}
-use Rattle.fuse_spec.specs.Kernel.{is_live, opened_nodes}
-use Rattle.fuse_spec.specs.Nodes.{NodeTable, row_of}
-use Rattle.fuse_spec.specs.Server.{Server, HeldRequest, holding, sending, nodes_of_body, generation_in}
-use Rattle.fuse_spec.specs.Worlds.{World, Sent, after_take}
+use Rattle.fuse_spec.specs.Kernel.{opened_nodes}
+use Rattle.fuse_spec.specs.Nodes.{row_of}
+use Rattle.fuse_spec.specs.Server.{HeldRequest, holding, sending, nodes_of_body, generation_in}
+use Rattle.fuse_spec.specs.Worlds.{World, Sent}
 use Rattle.fuse_spec.specs.Plain.{Plain, Ask}
-use Rattle.fuse_spec.specs.Denotes.{MeansIn, MeansOpenIn, OperationAlike}
-use Rattle.fuse_spec.specs.Alike.{AskedBy, RequestBodyAsked, Meant, MeantOpen, StageTold, Alike}
+use Rattle.fuse_spec.specs.Denotes.{MeansIn, MeansOpenIn}
+use Rattle.fuse_spec.specs.Alike.{RequestBodyAsked, Meant, MeantOpen, StageTold, Alike}
 use Rattle.fuse_spec.proofs.Tables.{get_put_here, get_put_there}
 use Rattle.fuse_theorem.proofs.Queuing.{All-without, All-at}
 use Rattle.fuse_theorem.proofs.Meaning.{operation_more, means_meant, means_open_meant}

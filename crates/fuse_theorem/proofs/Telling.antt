@@ -12,9 +12,10 @@ use Rattle.fuse_spec.specs.CallReplies.{operation_replied, call_replied}
 use Rattle.fuse_spec.specs.Denotes.{OptionAlike, OperationAlike, ReplyAlike, StateAlike, BindingAlike, WalkPlanAlike}
 use Rattle.fuse_spec.specs.Alike.{VfsAlike}
 use Rattle.fuse_spec.proofs.Tables.{put_alike}
+use Rattle.fuse_theorem.specs.Numbering.{IsOneToOne}
 use Rattle.fuse_theorem.proofs.Cases.{SameOperation, both_getattr, both_mkdir, both_create, both_unlink, both_rmdir, both_rename, both_link, both_opening, both_readdir, both_read, both_write, same_operation, SameReply, same_found, same_missing, same_created, same_opened, same_attributes, same_listed, same_content, same_written, same_done, same_failed, same_reply}
 use Rattle.fuse_theorem.proofs.Walking.{WalkedAlike, LookAlike, walk_alike}
-use Rattle.fuse_theorem.proofs.Hearing.{IsOneToOne, answered_alike, opened_alike, bound_alike, unbound_alike}
+use Rattle.fuse_theorem.proofs.Hearing.{answered_alike, opened_alike, bound_alike, unbound_alike}
 
 module _ {O P : Type 0} (R : ℕ → ℕ → Type 0) (S : O → P → Type 0) (one : IsOneToOne R) where
   told_by_cases : (c : Vfs O) (d : Vfs P) → VfsAlike R S c d → (call : ℕ) (a : Operation ℕ O) (b : Operation ℕ P) (s : Reply ℕ O) (t : Reply ℕ P) → SameOperation R S a b → SameReply R S s t

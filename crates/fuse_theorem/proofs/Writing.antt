@@ -1,38 +1,32 @@
 -- A reply reaches its call in both worlds.
-use Rattle.std.proofs.Common.{◌≡◌, ◌≢◌, ℕ, ◌+◌, Bool, true, false, true≢false, not, cond, List, Option, Some, None, nat_eq, is_some, remove, get_or, filter, refl, ap, sym, subst, ◌∙◌, arith, All}
+use Rattle.std.proofs.Common.{◌≡◌, ◌≢◌, ℕ, true, not, List, Some, None, nat_eq, remove, filter, refl, sym, subst, ◌∙◌}
 use Rattle.fuse_spec.specs.declared.Opened.{Opened}
 use Rattle.fuse_spec.specs.declared.Purpose.{Purpose}
 use Rattle.fuse_spec.specs.declared.Purpose.TheVariants as purpose
 use Rattle.fuse_spec.specs.declared.QueuedRequest.{QueuedRequest}
 use Rattle.fuse_spec.specs.declared.ReplyResult.{ReplyResult}
-use Rattle.fuse_spec.specs.declared.WriteResult.TheVariants.{Accepted}
-use Rattle.fuse_spec.specs.Maps.{Map, get, put}
-use Rattle.fuse_spec.specs.Maps as maps
-use Rattle.fuse_spec.specs.Operations.{Operation, Reply, failed}
+use Rattle.fuse_spec.specs.Maps.{get}
+use Rattle.fuse_spec.specs.Operations.{Reply}
 use Rattle.fuse_spec.specs.Answers as answer
-use Rattle.fuse_spec.specs.Vfs.{CallState, walking, doing, using, Vfs, Advance, answered, no_more}
+use Rattle.fuse_spec.specs.Vfs.{CallState, walking, doing, using, Advance, answered, no_more}
 use Rattle.fuse_spec.specs.CallReplies.{call_replied}
-use Rattle.fuse_spec.specs.Queues.{QueueState, request_under, IsSound}
+use Rattle.fuse_spec.specs.Queues.{request_under, IsSound}
 use Rattle.fuse_spec.specs.QueueCalls.{without}
-use Rattle.fuse_spec.specs.Messages.{WireReply}
-use Rattle.fuse_spec.specs.Kernel.{Kernel, is_live, is_for, advanced, after_use}
+use Rattle.fuse_spec.specs.Kernel.{Kernel, is_live, advanced, after_use}
 use Rattle.fuse_spec.specs.Worlds.{World, Sent}
-use Rattle.fuse_spec.specs.Events as event
-use Rattle.fuse_spec.specs.Plain.{Plain, Ask, Stage, waiting, performed, declined, going_on, ask_told, ask_interrupted}
-use Rattle.fuse_spec.specs.PlainSteps.{Takes, where_so, telling, telling_ask, telling_call}
-use Rattle.fuse_spec.specs.Denotes.{MeansIn, MeansOpenIn, OptionAlike, StateAlike, ReplyAlike}
-use Rattle.fuse_spec.specs.Alike.{VfsAlike, StageTold, Alike}
-use Rattle.fuse_spec.proofs.QueueSoundness.{IsSound-without, lookup-next}
-use Rattle.fuse_spec.proofs.Tables.{get_gone_there}
-use Rattle.fuse_theorem.specs.Numbering.{IsNumbered}
+use Rattle.fuse_spec.specs.Plain.{Plain, Ask, waiting, performed, declined, going_on, ask_told, ask_interrupted}
+use Rattle.fuse_spec.specs.Denotes.{MeansIn, MeansOpenIn, StateAlike, ReplyAlike}
+use Rattle.fuse_spec.specs.Alike.{StageTold, Alike}
+use Rattle.fuse_spec.proofs.QueueSoundness.{IsSound-without}
+use Rattle.fuse_theorem.specs.Numbering.{IsOneToOne, IsNumbered}
 use Rattle.fuse_theorem.proofs.Numbered.{ended_numbered}
-use Rattle.fuse_theorem.proofs.Hearing.{IsOneToOne, answered_alike}
+use Rattle.fuse_theorem.proofs.Hearing.{answered_alike}
 use Rattle.fuse_theorem.proofs.Telling.{AdvanceAlike, told_call_alike}
 use Rattle.fuse_theorem.proofs.Advancing.{StepsAlone, call_replied_alone, answered_alone}
 use Rattle.fuse_theorem.proofs.Asking.{Paused, advanced_alike}
 use Rattle.fuse_theorem.proofs.Releasing.{next_unasked, released_alike}
 use Rattle.fuse_theorem.proofs.Queuing.{All-without}
-use Rattle.fuse_theorem.proofs.Ending.{without_ask, without_request, paused_ended, none_sent, none_held}
+use Rattle.fuse_theorem.proofs.Ending.{without_ask, paused_ended, none_sent, none_held}
 
 -- A copy leaves the reply link, and results come onto theirs.
 pub unsent_alike : (w : World) (p : Plain) → Alike w p → (k : ℕ) (results : List ReplyResult) → Alike (record w { replies = remove w.replies k; results = results }) p

@@ -1,9 +1,7 @@
 -- The worlds in which the tree is the root alone, and each call is `stat`: no name leads anywhere, no node but the root is known.
-use Rattle.std.specs.Prelude.{◌≡◌, ◌≤◌, ◌+◌, ◌%◌, ℕ, Bool, true, false, cond, List, [], ◌∷◌, ◌++◌, Option, Some, None, nat_eq, count_by, is_some, option_map, All, MatchOption}
+use Rattle.std.specs.Prelude.{◌≡◌, ◌≤◌, ◌+◌, ◌%◌, ℕ, true, false, cond, List, [], ◌∷◌, ◌++◌, Option, Some, None, nat_eq, count_by, is_some, option_map, All, MatchOption}
 use Rattle.fuse_spec.specs.declared.Attributes.{Attributes}
 use Rattle.fuse_spec.specs.declared.Binding.{Binding}
-use Rattle.fuse_spec.specs.declared.Mark.{Mark}
-use Rattle.fuse_spec.specs.declared.Mark.TheVariants.{Unread, Flagged, Read, Interrupted}
 use Rattle.fuse_spec.specs.declared.Opened.{Opened}
 use Rattle.fuse_spec.specs.declared.Purpose.{Purpose}
 use Rattle.fuse_spec.specs.declared.QueuedRequest.{QueuedRequest}
@@ -14,11 +12,11 @@ use Rattle.fuse_spec.specs.Operations as op
 use Rattle.fuse_spec.specs.Trees.{a_directory}
 use Rattle.fuse_spec.specs.Walks.{last, stat}
 use Rattle.fuse_spec.specs.Calls as call
-use Rattle.fuse_spec.specs.Vfs.{CallState, walking, doing, using}
+use Rattle.fuse_spec.specs.Vfs.{CallState, walking, doing}
 use Rattle.fuse_spec.specs.Queues.{QueueState, pending, request_under, is_signalled}
-use Rattle.fuse_spec.specs.Messages.{RequestBody, init, asks, release, forget, batch_forget, interrupt, Request, WireReply}
+use Rattle.fuse_spec.specs.Messages.{RequestBody, init, asks, Request, WireReply}
 use Rattle.fuse_spec.specs.Kernel.{Kernel, is_live, is_aborted, body_of}
-use Rattle.fuse_spec.specs.Server.{Server, HeldRequest, Copy}
+use Rattle.fuse_spec.specs.Server.{HeldRequest, Copy}
 use Rattle.fuse_spec.specs.Performs.{is_still_held}
 use Rattle.fuse_spec.specs.Worlds.{World, Sent}
 use Rattle.fuse_spec.specs.Events.{Event, Outcome}

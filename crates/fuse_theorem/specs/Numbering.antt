@@ -23,3 +23,7 @@ pub record IsNumbered (w : World) : Type 0 where
   pub replies_below : All (λ (sent : Sent). sent.unique < w.kernel.queues.next) w.replies
   pub held_below : is_live w.kernel.phase ≡ true → (unique : ℕ) (t : HeldRequest) → get w.server.held unique ≡ Some t → unique < w.kernel.queues.next
   pub kept_below : is_live w.kernel.phase ≡ true → (unique : ℕ) (k : Kept) → get w.server.kept unique ≡ Some k → unique < w.kernel.queues.next
+
+-- No two nodes mean the same file, and no node means two.
+abbrev pub IsOneToOne : (ℕ → ℕ → Type 0) → Type 0
+IsOneToOne R = (a b c d : ℕ) → R a c → R b d → (a ≡ b → c ≡ d) × (c ≡ d → a ≡ b)

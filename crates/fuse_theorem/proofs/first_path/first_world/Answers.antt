@@ -1,0 +1,5 @@
+use Rattle.fuse_theorem.proofs.FirstMounts.{first_numbered, first_root}
+use Rattle.fuse_theorem.proofs.first_path.first_world.Goals as goal
+
+pub returns : goal.returns
+returns g = (first_numbered, first_root)
