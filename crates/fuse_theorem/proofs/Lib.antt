@@ -20,6 +20,7 @@ pub mod Taking
 pub mod Changing
 pub mod Ending
 pub mod Writing
+pub mod Dropping
 pub mod OnlyRoots
 pub mod FirstCalls
 pub mod Numbered
