@@ -21,6 +21,7 @@ pub mod Changing
 pub mod Ending
 pub mod Writing
 pub mod Dropping
+pub mod Carrying
 pub mod OnlyRoots
 pub mod FirstCalls
 pub mod Numbered

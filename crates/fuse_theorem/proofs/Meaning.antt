@@ -5,13 +5,14 @@ use Rattle.fuse_spec.specs.Operations.{Operation, lookup, getattr, mkdir, create
 use Rattle.fuse_spec.specs.declared.Opened.{Opened}
 use Rattle.fuse_spec.specs.declared.Counted.{Counted}
 use Rattle.fuse_spec.specs.Maps.{Map}
+use Rattle.fuse_spec.specs.Counts.{opens_of}
 use Rattle.fuse_spec.specs.Kernel.{opened_nodes}
 use Rattle.fuse_spec.specs.Nodes.{NodeTable, HandleTable, row_of}
 use Rattle.fuse_spec.specs.Server.{generation_in}
 use Rattle.fuse_spec.specs.Denotes.{Means, MeansOpen, OperationAlike}
 use Rattle.fuse_spec.specs.Alike.{Meant, MeantOpen}
 
-first_of : {X : Type 0} (x : X) (xs : List X) → Contains (x ∷ xs) x
+pub first_of : {X : Type 0} (x : X) (xs : List X) → Contains (x ∷ xs) x
 first_of x xs = (0, omega arith, refl)
 
 second_of : {X : Type 0} (x y : X) (xs : List X) → Contains (x ∷ y ∷ xs) y
@@ -19,7 +20,7 @@ second_of x y xs = (1, omega arith, refl)
 
 -- what holds of an operation's files and open files alone
 pub operation_more : (R R' : ℕ → ℕ → Type 0) (S S' : Opened → ℕ → Type 0) (a : Operation ℕ Opened) (b : Operation ℕ ℕ)
-    → ((id file : ℕ) → Contains (files_in opened_nodes a) id → R id file → R' id file) → ((o : Opened) (file : ℕ) → Contains (files_in opened_nodes a) o.nodeid → S o file → S' o file)
+    → ((id file : ℕ) → Contains (files_in opened_nodes a) id → R id file → R' id file) → ((o : Opened) (file : ℕ) → Contains (files_in opened_nodes a) o.nodeid → Contains (opens_of a) o → S o file → S' o file)
     → OperationAlike R S a b → OperationAlike R' S' a b
 operation_more R R' S S' (lookup d name) (lookup e other) f g h = (f d e (first_of d []) h.0, h.1)
 operation_more R R' S S' (getattr x) (getattr y) f g h = f x y (first_of x []) h
@@ -31,8 +32,8 @@ operation_more R R' S S' (rename d old e new) (rename d' old' e' new') f g h = (
 operation_more R R' S S' (link x d name) (link y e other) f g h = (f x y (second_of d x []) h.0, f d e (first_of d (x ∷ [])) h.1, h.2)
 operation_more R R' S S' (opening x) (opening y) f g h = f x y (first_of x []) h
 operation_more R R' S S' (readdir d after size) (readdir e after' size') f g h = (f d e (first_of d []) h.0, h.1, h.2)
-operation_more R R' S S' (read o offset size) (read o' offset' size') f g h = (g o o' (first_of o.nodeid []) h.0, h.1, h.2)
-operation_more R R' S S' (write o offset bytes) (write o' offset' bytes') f g h = (g o o' (first_of o.nodeid []) h.0, h.1, h.2)
+operation_more R R' S S' (read o offset size) (read o' offset' size') f g h = (g o o' (first_of o.nodeid []) (first_of o []) h.0, h.1, h.2)
+operation_more R R' S S' (write o offset bytes) (write o' offset' bytes') f g h = (g o o' (first_of o.nodeid []) (first_of o []) h.0, h.1, h.2)
 operation_more R R' S S' a b f g h = absurd h
 
 Contains-map : {X Y : Type 0} (f : X → Y) (xs : List X) (x : X) → Contains xs x → Contains (map f xs) (f x)

@@ -33,7 +33,7 @@ module _ (w : World) (p : Plain) (same : Alike w p) where
         ask = h.ask;
         there = h.there;
         is_waiting = h.is_waiting;
-        same = operation_more (MeansIn w) _ (MeansOpenIn w) _ operation h.ask.operation (means_meant w.kernel.nodes w.server.nodes w.server.handles ids) (means_open_meant w.kernel.nodes w.server.nodes w.server.handles ids) h.same;
+        same = operation_more (MeansIn w) _ (MeansOpenIn w) _ operation h.ask.operation (means_meant w.kernel.nodes w.server.nodes w.server.handles ids) (λ o file among named s. means_open_meant w.kernel.nodes w.server.nodes w.server.handles ids o file among s) h.same;
       }
   taken_asked unique init h = h
   taken_asked unique (release o) h = h
