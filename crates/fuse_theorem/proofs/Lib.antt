@@ -22,6 +22,7 @@ pub mod Ending
 pub mod Writing
 pub mod Dropping
 pub mod Carrying
+pub mod Giving
 pub mod OnlyRoots
 pub mod FirstCalls
 pub mod Numbered
