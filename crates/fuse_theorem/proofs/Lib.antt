@@ -23,6 +23,7 @@ pub mod Writing
 pub mod Dropping
 pub mod Carrying
 pub mod Giving
+pub mod Sweeping
 pub mod OnlyRoots
 pub mod FirstCalls
 pub mod Numbered
