@@ -24,6 +24,7 @@ pub mod Dropping
 pub mod Carrying
 pub mod Giving
 pub mod Sweeping
+pub mod SendingAgain
 pub mod OnlyRoots
 pub mod FirstCalls
 pub mod Numbered

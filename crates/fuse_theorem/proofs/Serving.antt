@@ -68,3 +68,26 @@ module _ (w : World) (p : Plain) (same : Alike w p) where
     validity = same.validity;
     aborted = same.aborted;
   }
+
+  -- One more copy goes out. It says what the ask under its number came to.
+  pub copied_alike : (unique number next : ℕ) (wire : WireReply) (copies : Map Copy) → (is_live w.kernel.phase ≡ true → (ask : Ask) → get p.asks unique ≡ Some ask → StageTold w.server.nodes w.server.handles ask.stage wire)
+      → Alike (record w { server = record w.server { copies = copies; next_copy = next }; replies = w.replies ++ record { number = number; unique = unique; wire = wire } ∷ [] }) p
+  copied_alike unique number next wire copies told = record {
+    tree = record { names = same.tree.names; next_birth = same.tree.next_birth; next_serial = same.tree.next_serial; files = same.tree.files };
+    vfs = same.vfs;
+    requests = record { pending = same.requests.pending; sent = same.requests.sent; held = same.requests.held };
+    asks = λ live.
+        let old = same.asks live in
+        record {
+          of_calls = λ q state is.
+              let pair = old.of_calls q state is in
+              record { unique = pair.unique; ask = pair.ask; request = pair.request; there = pair.there; by = pair.by; same = pair.same };
+          no_other = old.no_other;
+          signalled = old.signalled;
+          kept = old.kept;
+          copies = All-push (λ (sent : Sent). (ask : Ask) → get p.asks sent.unique ≡ Some ask → StageTold w.server.nodes w.server.handles ask.stage sent.wire) w.replies (record { number = number; unique = unique; wire = wire }) old.copies
+              (told live);
+        };
+    validity = same.validity;
+    aborted = same.aborted;
+  }
