@@ -25,6 +25,7 @@ pub mod Carrying
 pub mod Giving
 pub mod Sweeping
 pub mod SendingAgain
+pub mod Names
 pub mod OnlyRoots
 pub mod FirstCalls
 pub mod Numbered
