@@ -26,6 +26,7 @@ pub mod Giving
 pub mod Sweeping
 pub mod SendingAgain
 pub mod Names
+pub mod Standing
 pub mod OnlyRoots
 pub mod FirstCalls
 pub mod Numbered
