@@ -199,3 +199,55 @@ module _ (tree : Tree) (files : Map Content) (held : ℕ → Bool) (kept : (file
       by : (o : Option ℕ) → is_named (tree_or tree (tree_unrefused tree operation) o).names file ≡ true → (stands file || makes_unless tree operation file o) ≡ true
       by None m = named_unrefused operation h file m
       by (Some errno) m = or_left (stands file) false (named_stands file m)
+
+  -- ---- the files that a reply names
+
+  looked_stands : (valid : Validity) (test : Named → Bool) (o : Option ℕ) → option_map (λ (n : Named). n.file) (find test tree.names) ≡ o → All (λ f. (stands f || false) ≡ true) (files_in_reply (looked_up valid o))
+  looked_stands valid test None e = All-nil (λ f. (stands f || false) ≡ true)
+  looked_stands valid test (Some x) e = All-cons (λ f. (stands f || false) ≡ true) x [] (or_left (stands x) false (lead_stands test x e)) (All-nil (λ f. (stands f || false) ≡ true))
+
+  given_unrefused : (valid : Validity) (operation : FileOperation) → DeedStands operation → All (λ f. (stands f || makes tree operation f) ≡ true) (files_in_reply (reply_unrefused valid tree operation))
+  given_unrefused valid (lookup d name) h = looked_stands valid (is_at d name) (file_at tree d name) refl
+  given_unrefused valid (getattr x) h = All-nil (λ f. (stands f || false) ≡ true)
+  given_unrefused valid (mkdir d name) h =
+      All-cons (λ f. (stands f || nat_eq tree.next_birth f) ≡ true) tree.next_birth [] (or_right (stands tree.next_birth) (nat_eq tree.next_birth tree.next_birth) (same_is tree.next_birth)) (All-nil (λ f. (stands f || nat_eq tree.next_birth f) ≡ true))
+  given_unrefused valid (create d name) h =
+      All-cons (λ f. (stands f || nat_eq tree.next_birth f) ≡ true) tree.next_birth [] (or_right (stands tree.next_birth) (nat_eq tree.next_birth tree.next_birth) (same_is tree.next_birth)) (All-nil (λ f. (stands f || nat_eq tree.next_birth f) ≡ true))
+  given_unrefused valid (unlink d name) h = All-nil (λ f. (stands f || false) ≡ true)
+  given_unrefused valid (rmdir d name) h = All-nil (λ f. (stands f || false) ≡ true)
+  given_unrefused valid (rename d old e new) h = All-nil (λ f. (stands f || false) ≡ true)
+  given_unrefused valid (link x d name) h = All-cons (λ f. (stands f || false) ≡ true) x [] (or_left (stands x) false h.0) (All-nil (λ f. (stands f || false) ≡ true))
+  given_unrefused valid (opening x) h = All-nil (λ f. (stands f || false) ≡ true)
+  given_unrefused valid (readdir d after size) h = All-nil (λ f. (stands f || false) ≡ true)
+  given_unrefused valid (read x offset size) h = All-nil (λ f. (stands f || false) ≡ true)
+  given_unrefused valid (write x offset bytes) h = All-nil (λ f. (stands f || false) ≡ true)
+
+  opened_looked : (valid : Validity) (o : Option ℕ) → opens_in_reply (looked_up valid o) ≡ []
+  opened_looked valid None = refl
+  opened_looked valid (Some x) = refl
+
+  opened_unrefused : (valid : Validity) (operation : FileOperation) → DeedStands operation → All (λ f. (stands f || makes tree operation f) ≡ true) (opens_in_reply (reply_unrefused valid tree operation))
+  opened_unrefused valid (lookup d name) h = subst (All (λ f. (stands f || false) ≡ true)) (sym (opened_looked valid (file_at tree d name))) (All-nil (λ f. (stands f || false) ≡ true))
+  opened_unrefused valid (getattr x) h = All-nil (λ f. (stands f || false) ≡ true)
+  opened_unrefused valid (mkdir d name) h = All-nil (λ f. (stands f || nat_eq tree.next_birth f) ≡ true)
+  opened_unrefused valid (create d name) h =
+      All-cons (λ f. (stands f || nat_eq tree.next_birth f) ≡ true) tree.next_birth [] (or_right (stands tree.next_birth) (nat_eq tree.next_birth tree.next_birth) (same_is tree.next_birth)) (All-nil (λ f. (stands f || nat_eq tree.next_birth f) ≡ true))
+  opened_unrefused valid (unlink d name) h = All-nil (λ f. (stands f || false) ≡ true)
+  opened_unrefused valid (rmdir d name) h = All-nil (λ f. (stands f || false) ≡ true)
+  opened_unrefused valid (rename d old e new) h = All-nil (λ f. (stands f || false) ≡ true)
+  opened_unrefused valid (link x d name) h = All-nil (λ f. (stands f || false) ≡ true)
+  opened_unrefused valid (opening x) h = All-cons (λ f. (stands f || false) ≡ true) x [] (or_left (stands x) false h) (All-nil (λ f. (stands f || false) ≡ true))
+  opened_unrefused valid (readdir d after size) h = All-nil (λ f. (stands f || false) ≡ true)
+  opened_unrefused valid (read x offset size) h = All-nil (λ f. (stands f || false) ≡ true)
+  opened_unrefused valid (write x offset bytes) h = All-nil (λ f. (stands f || false) ≡ true)
+
+  -- Each file that the reply names, or opens, stood or was made.
+  pub given_stands : (valid : Validity) (operation : FileOperation) → DeedStands operation
+      → All (λ f. (stands f || makes_unless tree operation f (refusal tree operation)) ≡ true) (files_in_reply (reply_by valid tree operation))
+      × All (λ f. (stands f || makes_unless tree operation f (refusal tree operation)) ≡ true) (opens_in_reply (reply_by valid tree operation))
+  given_stands valid operation h = by (refusal tree operation)
+    where
+      by : (o : Option ℕ) → All (λ f. (stands f || makes_unless tree operation f o) ≡ true) (files_in_reply (reply_or (reply_unrefused valid tree operation) o))
+          × All (λ f. (stands f || makes_unless tree operation f o) ≡ true) (opens_in_reply (reply_or (reply_unrefused valid tree operation) o))
+      by None = (given_unrefused valid operation h, opened_unrefused valid operation h)
+      by (Some errno) = (All-nil (λ f. (stands f || false) ≡ true), All-nil (λ f. (stands f || false) ≡ true))
