@@ -27,6 +27,7 @@ pub mod Sweeping
 pub mod SendingAgain
 pub mod Names
 pub mod Standing
+pub mod Naming
 pub mod OnlyRoots
 pub mod FirstCalls
 pub mod Numbered
