@@ -28,6 +28,7 @@ pub mod SendingAgain
 pub mod Names
 pub mod Standing
 pub mod Naming
+pub mod Performing
 pub mod OnlyRoots
 pub mod FirstCalls
 pub mod Numbered

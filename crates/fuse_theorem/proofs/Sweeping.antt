@@ -36,7 +36,7 @@ swept_alike s tree before names births serials files fewer = record {
 }
 
 -- what is found at a key is a value
-found_any : {X : Type 0} (test : X → Bool) (m : Map X) (k : ℕ) (x : X) → get m k ≡ Some x → test x ≡ true → list_any test (values m) ≡ true
+pub found_any : {X : Type 0} (test : X → Bool) (m : Map X) (k : ℕ) (x : X) → get m k ≡ Some x → test x ≡ true → list_any test (values m) ≡ true
 found_any test [] k x at holds = absurd (cc)
 found_any test (e ∷ m) k x at holds = by (is_eq (nat_cmp k e.0)) at (λ f. found_any test m k x f holds)
   where
