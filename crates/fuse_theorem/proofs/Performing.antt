@@ -7,7 +7,7 @@ use Rattle.fuse_spec.specs.declared.Opened.{Opened}
 use Rattle.fuse_spec.specs.declared.Purpose.{Purpose}
 use Rattle.fuse_spec.specs.declared.QueuedRequest.{QueuedRequest}
 use Rattle.fuse_spec.specs.Maps.{Map, get, put, remove, values}
-use Rattle.fuse_spec.specs.Operations.{Operation, lookup, getattr, mkdir, create, unlink, rmdir, rename, link, opening, readdir, read, write, Reply, files_in_reply, opens_in_reply, errno_of}
+use Rattle.fuse_spec.specs.Operations.{Operation, lookup, getattr, mkdir, create, unlink, rmdir, rename, link, opening, readdir, read, write, Reply, files_in_reply, opens_in_reply, errno_of, failed}
 use Rattle.fuse_spec.specs.Trees.{Tree, Named, Content, is_nameless}
 use Rattle.fuse_spec.specs.FileOperations.{FileOperation, reply_by, tree_after, refusal}
 use Rattle.fuse_spec.specs.Queues.{pending}
@@ -35,7 +35,7 @@ use Rattle.fuse_theorem.proofs.Naming.{named_alike, given_held, opened_held}
 use Rattle.fuse_theorem.proofs.Serving.{unheld_alike, replied_alike}
 use Rattle.fuse_theorem.proofs.Standing.{Stands, DeedStands, named_same, deed_same, makes_unless, files_after, named_after, given_stands}
 use Rattle.fuse_theorem.proofs.Sweeping.{found_any, swept_alike}
-use Rattle.fuse_theorem.proofs.Trees.{with_files, told_same, numbers_same}
+use Rattle.fuse_theorem.proofs.Trees.{with_files, AllSame, DeedSame, told_same, numbers_same}
 
 -- What is true of the server's tables: the root stands in none, and the coming open number is new.
 pub record TablesSound (s : Server) : Type 0 where
@@ -104,3 +104,66 @@ module _ (w : World) (p : Plain) (same : Alike w p) where
     open_for (write o offset bytes) (write file offset' bytes') h = number_open o file h.0
     open_for (read o offset size) b h = absurd h
     open_for (write o offset bytes) b h = absurd h
+
+module _ (w : World) (p : Plain) (same : Alike w p) (choice : ℕ → ℕ) (unique : ℕ) (t : HeldRequest) (operation : Operation ℕ Opened) (there : get w.server.held unique ≡ Some t) (body_is : t.body ≡ asks operation)
+    (unmarked : t.marked ≡ false) (still : is_still_held w.server.nodes t.generations ≡ true) (live : w.server.aborted ≡ false) (tables : TablesSound w.server) (one : IsOneToOne (MeansIn w))
+    (known : (id generation : ℕ) → generation_known w.kernel.nodes id ≡ Some generation → (file : ℕ) × Denotes w.server.nodes id generation file)
+    (none_pending : count_by (λ (e : ℕ × QueuedRequest Purpose). nat_eq unique e.0) (pending w.kernel.queues) ≡ 0) (none_sent : count_by (λ (r : Request). nat_eq unique r.unique) w.requests ≡ 0) where
+  pub asked : AskedBy p.asks unique false t.marked (OperationAlike (Meant w.server.nodes t.generations) (MeantOpen w.server.nodes w.server.handles t.generations) operation)
+  asked = subst (RequestBodyAsked p.asks unique false t.marked (Meant w.server.nodes t.generations) (MeantOpen w.server.nodes w.server.handles t.generations)) body_is (same.requests.held unique t there)
+
+  -- the operation of the ask, on the files
+  abbrev deed : FileOperation
+  deed = asked.ask.operation
+
+  -- what the plain world's tree replies to it
+  abbrev pub reply : Reply ℕ ℕ
+  reply = reply_by p.validity p.tree deed
+
+  abbrev s1 : Server
+  s1 = record w.server { held = remove w.server.held unique }
+
+  abbrev nodes2 : NodeTable
+  nodes2 = all_given choice w.server.nodes (files_in_reply reply)
+
+  abbrev handles2 : HandleTable
+  handles2 = all_opened w.server.handles (opens_in_reply reply)
+
+  abbrev tree2 : Tree
+  tree2 = tree_after w.server.tree deed
+
+  abbrev wire2 : WireReply
+  wire2 = wire_of choice nodes2 tree2 w.server.handles.next_fh reply
+
+  abbrev s2 : Server
+  s2 = record s1 { tree = tree2; nodes = nodes2; handles = handles2 }
+
+  -- ---- the server performs the very operation of the ask
+
+  deed_there : DeedStands p.tree w.server.tree.files (λ file. is_file_held w.server file) same.tree.files deed
+  deed_there = deed_stands w p same t.generations operation deed asked.same
+
+  tree_is : w.server.tree ≡ with_files p.tree w.server.tree.files
+  tree_is = λ i. record { files = w.server.tree.files; names = same.tree.names i; next_birth = same.tree.next_birth i; next_serial = same.tree.next_serial i }
+
+  all_named : AllSame p.tree w.server.tree.files p.tree.names
+  all_named = named_same p.tree w.server.tree.files (λ file. is_file_held w.server file) same.tree.files
+
+  same_files : DeedSame p.tree w.server.tree.files deed
+  same_files = deed_same p.tree w.server.tree.files (λ file. is_file_held w.server file) same.tree.files deed deed_there
+
+  same_reply : reply_by w.server.validity w.server.tree deed ≡ reply
+  same_reply = (λ i. reply_by (same.validity i) (tree_is i) deed) ∙ told_same p.tree w.server.tree.files all_named p.validity deed same_files
+
+  performed_is : performed choice s1 t ≡ record { server = s2; wire = wire2 }
+  performed_is =
+      ap (λ (b : Bool). cond b (refusing s1 4) (cond (is_still_held w.server.nodes t.generations) (performing choice s1 t.body) (refusing s1 5))) unmarked
+      ∙ ap (λ (b : Bool). cond b (performing choice s1 t.body) (refusing s1 5)) still ∙ ap (performing choice s1) body_is
+      ∙ ap (λ (b : Bool). cond b (doing choice s1 (file_operation_of w.server.nodes operation)) (refusing s1 9)) (open_for w p same t.generations operation deed asked.same)
+      ∙ ap (doing choice s1) (held_operation w.server.nodes w.server.handles t.generations operation deed asked.same) ∙ ap (λ (r : Reply ℕ ℕ). did r w.server.aborted) same_reply ∙ ap (did reply) live
+    where
+      did : Reply ℕ ℕ → Bool → PerformResult
+      did r aborted = record {
+        server = record s1 { tree = tree2; nodes = cond aborted w.server.nodes (all_given choice w.server.nodes (files_in_reply r)); handles = cond aborted w.server.handles (all_opened w.server.handles (opens_in_reply r)) };
+        wire = cond aborted (failed (errno_of r)) (wire_of choice (all_given choice w.server.nodes (files_in_reply r)) tree2 w.server.handles.next_fh r);
+      }
