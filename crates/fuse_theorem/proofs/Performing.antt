@@ -7,7 +7,7 @@ use Rattle.fuse_spec.specs.declared.Opened.{Opened}
 use Rattle.fuse_spec.specs.declared.Purpose.{Purpose}
 use Rattle.fuse_spec.specs.declared.QueuedRequest.{QueuedRequest}
 use Rattle.fuse_spec.specs.Maps.{Map, get, put, remove, values}
-use Rattle.fuse_spec.specs.Operations.{Operation, lookup, getattr, mkdir, create, unlink, rmdir, rename, link, opening, readdir, read, write, Reply, files_in_reply, opens_in_reply, errno_of, failed}
+use Rattle.fuse_spec.specs.Operations.{Operation, lookup, getattr, mkdir, create, unlink, rmdir, rename, link, opening, readdir, read, write, Reply, found, missing, created, opened, attributes, listed, content, written, agreed, done, failed, files_in_reply, opens_in_reply, errno_of}
 use Rattle.fuse_spec.specs.Trees.{Tree, Named, Content, is_nameless}
 use Rattle.fuse_spec.specs.FileOperations.{FileOperation, reply_by, tree_after, refusal}
 use Rattle.fuse_spec.specs.Queues.{pending}
@@ -22,7 +22,7 @@ use Rattle.fuse_spec.specs.Plain.{Plain, Ask, Stage, ask_performed}
 use Rattle.fuse_spec.specs.Plain as plain
 use Rattle.fuse_spec.specs.PlainSteps.{Takes, serving, serving_ask, where_so}
 use Rattle.fuse_spec.specs.Denotes.{OperationAlike, MeansIn, Denotes, generation_known}
-use Rattle.fuse_spec.specs.Alike.{AskedBy, RequestBodyAsked, Meant, MeantOpen, StageTold, Alike}
+use Rattle.fuse_spec.specs.Alike.{TreeAlike, AskedBy, RequestBodyAsked, Meant, MeantOpen, StageTold, Alike}
 use Rattle.fuse_spec.proofs.Tables.{get_put_here, get_gone_here}
 use Rattle.fuse_theorem.specs.Numbering.{IsOneToOne}
 use Rattle.fuse_theorem.proofs.Carrying.{grown, carried_alike}
@@ -167,3 +167,138 @@ module _ (w : World) (p : Plain) (same : Alike w p) (choice : ℕ → ℕ) (uniq
         server = record s1 { tree = tree2; nodes = cond aborted w.server.nodes (all_given choice w.server.nodes (files_in_reply r)); handles = cond aborted w.server.handles (all_opened w.server.handles (opens_in_reply r)) };
         wire = cond aborted (failed (errno_of r)) (wire_of choice (all_given choice w.server.nodes (files_in_reply r)) tree2 w.server.handles.next_fh r);
       }
+
+  -- ---- the world afterwards
+
+  abbrev s3 : Server
+  s3 = without_unheld_files s2
+
+  abbrev kept2 : Kept
+  kept2 = record { wire = wire2; first = w.server.next_copy }
+
+  abbrev copies2 : Map Copy
+  copies2 = put w.server.copies w.server.next_copy (record { unique = unique; wire = wire2; first = w.server.next_copy })
+
+  abbrev sent2 : Sent
+  sent2 = record { number = w.server.next_copy; unique = unique; wire = wire2 }
+
+  abbrev after : World
+  after = record w { server = record s3 { kept = put w.server.kept unique kept2; copies = copies2; next_copy = w.server.next_copy + 1 }; replies = w.replies ++ sent2 ∷ [] }
+
+  is_served : after_perform w unique (served choice w.server unique t) ≡ after
+  is_served =
+      ap (λ (d : PerformResult). after_perform w unique (record { server = replying (without_unheld_files d.server) unique d.wire; wire = d.wire })) performed_is
+      ∙ (λ i. worlds.replying (record w {
+        server = record s3 {
+          kept = cond (live i) w.server.kept (put w.server.kept unique kept2);
+          copies = cond (live i) w.server.copies copies2;
+          next_copy = cond (live i) w.server.next_copy (w.server.next_copy + 1);
+        };
+      }) w.server.next_copy unique (cond (live i) None (Some wire2)))
+
+  -- ---- the two are alike
+
+  abbrev new : Ask
+  new = record asked.ask { stage = plain.performed reply }
+
+  abbrev w1 : World
+  w1 = record w { server = s1 }
+
+  may_replace : MayReplace w1 p unique new
+  may_replace =
+      let waits = asked.is_waiting in
+      let stage = waits.stage in
+      record {
+        old = asked.ask;
+        there = asked.there;
+        same_call = refl;
+        same_operation = refl;
+        pending = λ i e lt same_key. absurd (true≢false (sym (subst (λ (n : ℕ). nat_eq unique n ≡ true) (sym same_key) (same_is unique)) ∙ none_passes (λ (x : ℕ × QueuedRequest Purpose). nat_eq unique x.0) (pending w.kernel.queues) none_pending i e lt));
+        sent = λ i r lt same_key. absurd (true≢false (sym (subst (λ (n : ℕ). nat_eq unique n ≡ true) (sym same_key) (same_is unique)) ∙ none_passes (λ (x : Request). nat_eq unique x.unique) w.requests none_sent i r lt));
+        held = λ x at. absurd (cc (at, get_gone_here w.server.held unique));
+        noted = λ r under bears noted. noted;
+        kept = λ k at was. absurd (subst (λ (s : Stage). StageTold w.server.nodes w.server.handles s k.wire) stage was);
+        copies = λ i s lt same_key was. absurd (subst (λ (x : Stage). StageTold w.server.nodes w.server.handles x (get_or w.replies i s).wire) stage was);
+      }
+
+  either : (S : Type 0) (a b : Bool) → (a || b) ≡ true → (a ≡ true → S) → (b ≡ true → S) → S
+  either S true b q f g = f refl
+  either S false b q f g = g q
+
+  module _ (may : MayChoose choice w.server.nodes (files_in_reply reply)) where
+    opens_still : (r : Reply ℕ ℕ) (fh file : ℕ) → is_open w.server.handles fh file ≡ true → is_open (all_opened w.server.handles (opens_in_reply r)) fh file ≡ true
+    opens_still (created x v o) fh file h = opened_open w.server.handles o tables.new_number fh file h
+    opens_still (opened o) fh file h = opened_open w.server.handles o tables.new_number fh file h
+    opens_still (found x v) fh file h = h
+    opens_still (missing v) fh file h = h
+    opens_still (attributes a) fh file h = h
+    opens_still (listed xs) fh file h = h
+    opens_still (content xs) fh file h = h
+    opens_still (written n) fh file h = h
+    opens_still (agreed a b) fh file h = h
+    opens_still done fh file h = h
+    opens_still (failed e) fh file h = h
+
+    trees_alike : TreeAlike s3 (tree_after p.tree deed)
+    trees_alike =
+        let numbers = numbers_same p.tree w.server.tree.files all_named deed same_files in
+        let stood = λ (file : ℕ). (is_named p.tree.names file || is_file_held w.server file) || makes_unless p.tree deed file (refusal p.tree deed) in
+        swept_alike s2 (tree_after p.tree deed) stood (ap (λ (x : Tree). (tree_after x deed).names) tree_is ∙ ap (λ (n : List Named × ℕ × ℕ). n.0) numbers)
+        (ap (λ (x : Tree). (tree_after x deed).next_birth) tree_is ∙ ap (λ (n : List Named × ℕ × ℕ). n.1) numbers) (ap (λ (x : Tree). (tree_after x deed).next_serial) tree_is ∙ ap (λ (n : List Named × ℕ × ℕ). n.2) numbers)
+        (λ file.
+        ap (λ (x : Tree). get (tree_after x deed).files file) tree_is ∙ files_after p.tree w.server.tree.files (λ f. is_file_held w.server f) same.tree.files deed deed_there file
+        ∙ ap (λ (b : Bool). cond b (get (tree_after p.tree deed).files file) None) (sym (absorbed (is_named (tree_after p.tree deed).names file) (stood file) (λ n. named_after p.tree w.server.tree.files (λ f. is_file_held w.server f) same.tree.files deed deed_there file n))))
+        (λ file h. fewer file h)
+      where
+        absorbed : (a b : Bool) → (a ≡ true → b ≡ true) → (a || b) ≡ b
+        absorbed true b f = sym (f refl)
+        absorbed false b f = refl
+
+        held_stood : (file : ℕ) (a b c : Bool) → b ≡ true → ((a || b) || c) ≡ true
+        held_stood file true true c e = refl
+        held_stood file false true c e = refl
+        held_stood file a false c e = absurd (true≢false (sym e))
+
+        left_held : (a b : Bool) → a ≡ true → (a || b) ≡ true
+        left_held true b e = refl
+        left_held false b e = absurd (true≢false (sym e))
+
+        right_held : (a b : Bool) → b ≡ true → (a || b) ≡ true
+        right_held true b e = refl
+        right_held false b e = e
+
+        fewer : (file : ℕ) → is_file_held s2 file ≡ true → ((is_named p.tree.names file || is_file_held w.server file) || makes_unless p.tree deed file (refusal p.tree deed)) ≡ true
+        fewer file h =
+            let given = given_stands p.tree w.server.tree.files (λ f. is_file_held w.server f) same.tree.files p.validity deed deed_there in
+            let rows = list_any (λ (row : HeldNode). nat_eq row.file file) (values w.server.nodes.rows) in
+            let numbers = list_any (λ (x : OpenNumber). nat_eq x.file file) (values w.server.handles.handles) in
+            let makes = makes_unless p.tree deed file (refusal p.tree deed) in
+            either (((is_named p.tree.names file || is_file_held w.server file) || makes) ≡ true) (list_any (λ (row : HeldNode). nat_eq row.file file) (values nodes2.rows)) (list_any (λ (x : OpenNumber). nat_eq x.file file) (values handles2.handles)) h
+            (λ q. given_held (λ f. ((is_named p.tree.names f || is_file_held w.server f) || makes_unless p.tree deed f (refusal p.tree deed)) ≡ true) choice (files_in_reply reply) w.server.nodes file given.0 may
+            (λ r. held_stood file (is_named p.tree.names file) (rows || numbers) makes (left_held rows numbers r)) q)
+            (λ q. opened_held (λ f. ((is_named p.tree.names f || is_file_held w.server f) || makes_unless p.tree deed f (refusal p.tree deed)) ≡ true) (opens_in_reply reply) w.server.handles file given.1
+            (λ r. held_stood file (is_named p.tree.names file) (rows || numbers) makes (right_held rows numbers r)) q)
+
+    performed_alike : Alike after (ask_performed p unique asked.ask)
+    performed_alike =
+        let asked_alike = ask_changed w1 p (unheld_alike w p same unique) unique new may_replace in
+        let now = with_ask p unique new in
+        let denotes = λ (id generation file : ℕ) (d : Denotes w.server.nodes id generation file). all_given_denotes choice (files_in_reply reply) w.server.nodes id generation file d in
+        let carries = grown w1 now w.kernel.nodes nodes2 handles2 (λ id generation e. e) denotes (opens_still reply) (one_grown w.kernel.nodes w.server.nodes nodes2 known denotes one) in
+        let carried = carried_alike w1 now asked_alike w.kernel.nodes nodes2 handles2 s3.tree (tree_after p.tree deed) carries trees_alike in
+        replied_alike (record w1 { server = s3 }) (ask_performed p unique asked.ask) carried unique w.server.next_copy (w.server.next_copy + 1) wire2 kept2 copies2 refl
+        (λ alive x at.
+        let is_new : new ≡ x = cc (get_put_here p.asks unique new, at) in
+        subst (λ (y : Ask). StageTold nodes2 handles2 y.stage wire2) is_new (named_alike choice w.server.nodes w.server.handles tree2 reply tables.no_root may))
+
+    -- The server performs the request, and the plain world its ask: the two are alike again.
+    pub perform_goes : (q : Plain) × Takes p (event.perform unique) (event.performed unique (errno_of (served choice w.server unique t).wire) w.server.aborted) q × Alike (after_perform w unique (served choice w.server unique t)) q
+    perform_goes =
+        let waits = asked.is_waiting in
+        (
+          ask_performed p unique asked.ask,
+          (0,
+          ap (λ (o : Option Ask). serving p unique o) asked.there ∙ ap (λ (s : Stage). serving_ask p unique asked.ask s) waits.stage
+          ∙ ap (λ (b : Bool). cond b (where_so asked.ask.noted (plain.ask_declined p unique asked.ask)) (Some (ask_performed p unique asked.ask))) (waits.marked_too ∙ unmarked)),
+          subst (λ (v : World). Alike v (ask_performed p unique asked.ask)) (sym is_served) performed_alike,
+        )
