@@ -29,6 +29,7 @@ pub mod Names
 pub mod Standing
 pub mod Naming
 pub mod Performing
+pub mod Learning
 pub mod OnlyRoots
 pub mod FirstCalls
 pub mod Numbered
