@@ -30,6 +30,7 @@ pub mod Standing
 pub mod Naming
 pub mod Performing
 pub mod Learning
+pub mod Accepting
 pub mod OnlyRoots
 pub mod FirstCalls
 pub mod Numbered
