@@ -1,3 +1,4 @@
 pub mod Inverse
 pub mod Rows
 pub mod Slots
+pub mod Vacant

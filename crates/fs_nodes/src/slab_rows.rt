@@ -7,9 +7,10 @@ ghost use Rattle.fs_nodes.specs.Rows.{listed};
 ghost use Rattle.fs_nodes.specs.Inverse.{AreInverse};
 ghost use Rattle.indexmap.specs.IndexMap as map;
 ghost use Rattle.indexmap.specs.IndexMap.{spare};
-ghost use Rattle.fs_nodes.specs.Slots.{rows_from, file_at, place_under, room_of, AreSmall};
+ghost use Rattle.fs_nodes.specs.Slots.{rows_from, file_at, room_of, AreSmall};
 
 use crate::node_rows::NodeRows;
+use crate::places::{FIRST, place_of};
 use crate::stored_node::StoredNode;
 use indexmap::IndexMap;
 use slab::Slab;
@@ -20,9 +21,6 @@ type Builder = BuildHasherDefault<FoldHasher>;
 
 /// The most places that a slab has room for.
 const MOST: usize = 0x4000_0000_0000_0000;
-
-/// The nodeid at place 0.
-const FIRST: u64 = 2;
 
 /// Nodes in a slab. No call scans them but `nodes`.
 #[derive(Drop)]
@@ -115,16 +113,6 @@ fn list_nodes<A: Allocator + Copy>(
         list.push((place as u64 + FIRST, node.generation, node.count))?;
     }
     Ok(list)
-}
-
-/// The place of a nodeid.
-fn place_of(id: u64) -> Option<usize>
-    ensures { result ≡ place_under id }
-{
-    if id < FIRST {
-        return None;
-    }
-    Some((id - FIRST) as usize)
 }
 
 /// Writes what stands at a place.
