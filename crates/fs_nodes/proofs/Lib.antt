@@ -1,4 +1,5 @@
 pub mod Inverse
 pub mod Maps
 pub mod Slots
+pub mod Sound
 pub mod Vacant

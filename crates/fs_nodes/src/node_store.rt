@@ -5,6 +5,7 @@ ghost use Rattle.fuse_spec.specs.Maps.{get, values};
 ghost use Rattle.fuse_spec.specs.Nodes.{HeldNode, NodeTable, MayName, IsUnheld, given, taken_back, is_row_of};
 ghost use Rattle.fuse_spec.specs.Server.{count_in};
 ghost use Rattle.fs_nodes.specs.Rows.{generation_given, room_for, HasCount, listed};
+ghost use Rattle.fs_nodes.specs.Sound.{IsSound};
 
 use crate::too_many::TooMany;
 use std::alloc::{AllocError, Allocator};
@@ -102,4 +103,7 @@ pub trait NodeStore {
     /// Memory was wanting.
     fn nodes(&self, alloc: Self::Heap) -> Result<Vec<(u64, u64, u64), Self::Heap>, AllocError>
         ensures { IfOk result (λ nodes. nodes.items ≡ listed (table self.now).rows) };
+
+    /// Nodeids rise from 2, no two have one file, each has a lookup, and its generation was given before the coming one.
+    ghost sound: { (s : Self) → IsSound (table s) };
 }

@@ -1,5 +1,6 @@
 //! The calls of the table, over any representation of its rows.
 ghost use Rattle.std.specs.Prelude.{◌≤◌, ◌^◌};
+ghost use Rattle.fs_nodes.specs.Sound.{IsSound};
 
 use crate::node_rows::NodeRows;
 use crate::node_store::{LIMIT, NodeStore};
@@ -13,6 +14,7 @@ pub struct NodesOf<R: NodeRows> {
     rows: R,
     next: u64,
     ghost limit: { next ≤ 2 ^ 62 },
+    ghost sound: { IsSound (record { rows = R.rows rows; next_generation = next }) },
 }
 
 impl<R: NodeRows> NodeStore for NodesOf<R> {
@@ -107,4 +109,6 @@ impl<R: NodeRows> NodeStore for NodesOf<R> {
     fn nodes(&self, alloc: R::Heap) -> Result<Vec<(u64, u64, u64), R::Heap>, AllocError> {
         self.rows.nodes(alloc)
     }
+
+    ghost sound = { λ t. t.sound };
 }
