@@ -1,6 +1,5 @@
 -- What the calls keep true of the two maps.
-use Rattle.std.proofs.Common.{◌≡◌, ◌≢◌, ℕ, ◌+◌, ◌-◌, ◌<◌, ◌≤◌, ◌^◌, Bool, true, false, true≢false, cond, List, [], ◌∷◌, ◌++◌, Option, Some, None, IsSome, is_some, length, length-append, refl, ap, sym, ◌∙◌, subst, arith, rules, nat_eq, nat_lt, sum_by, inl, inr, suc, Contains, unwrap_or, position, slice_get, get_or}
-use Rattle.std.specs.Option.{option_map}
+use Rattle.std.proofs.Common.{◌≡◌, ◌≢◌, ℕ, ◌+◌, ◌<◌, ◌≤◌, ◌^◌, Bool, true, false, cond, List, [], ◌∷◌, ◌++◌, Option, Some, None, is_some, length, length-append, refl, ap, sym, ◌∙◌, arith, rules, nat_eq, sum_by, inl, inr, suc, Contains, unwrap_or, position, get_or}
 use Rattle.std.specs.List.{IsDistinct, list_any}
 use Rattle.std.specs.Cmp.{nat_eq_equiv}
 use Rattle.std.specs.Map.{lookup, keys_of, values_of, set_value}
@@ -13,13 +12,13 @@ use Rattle.std.proofs.lemmas.Map.Views.{lookup-from_Contains}
 use Rattle.indexmap.specs.IndexMap.{swap_remove_entry}
 use Rattle.indexmap.proofs.MapLemmas.{Found-position, Missing-position, swap_remove_entry-found}
 use Rattle.indexmap.proofs.SetLemmas.{map-swap_remove}
-use Rattle.fuse_spec.specs.Maps.{get, values}
+use Rattle.fuse_spec.specs.Maps.{values}
 use Rattle.fuse_spec.specs.Nodes.{OpenNumber}
 use Rattle.fs_handles.specs.declared.open_file.OpenFile.{OpenFile}
 use Rattle.fs_handles.specs.OpenNumbers.{number_of, handles_of}
 use Rattle.fs_handles.specs.Uses.{one_of, numbers_of, positive, one_less, IsCounted}
 use Rattle.fs_handles.proofs.Maps.{HasValue, any_is}
-use Rattle.fs_handles.proofs.Handles.{sorted_handles, get-handles_of, get_there}
+use Rattle.fs_handles.proofs.Handles.{sorted_handles, get_there}
 
 numbers-cons : (file : ℕ) (e : ℕ × OpenFile) (es : List (ℕ × OpenFile)) → numbers_of file (e ∷ es) ≡ one_of file e.1 + numbers_of file es
 numbers-cons file e es = sum_by-cons (one_of file) e.1 (values_of es)
@@ -47,12 +46,6 @@ counts file fh opened (e ∷ es) is same = elim (cases_eq fh e.0) [
       let more = counts file fh opened es rest same in
       omega (arith, more, numbers-cons file e es)
 ]
-
-is_positive : (n : ℕ) → IsSome (positive n) → 0 < n
-is_positive n some = grind (arith, some, rules)
-
-positive_is : (n : ℕ) → 0 < n → IsSome (positive n)
-positive_is n some = grind (arith, some, rules)
 
 -- an entry is taken out, and the last one stands in its place
 numbers-swap_remove : (file : ℕ) (test : ℕ → Bool) (es : List (ℕ × OpenFile)) (old : OpenFile) → lookup test es ≡ Some old

@@ -1,5 +1,5 @@
 -- Two maps stay each other's inverse where a file and its place are added to both, or taken from both.
-use Rattle.std.proofs.Common.{◌≡◌, ◌≢◌, ℕ, true, false, cond, Option, Some, None, refl, ap, sym, ◌∙◌, subst, arith, rules, nat_eq, inl, inr}
+use Rattle.std.proofs.Common.{◌≡◌, ◌≢◌, ℕ, false, cond, Option, Some, None, ap, sym, ◌∙◌, arith, rules, nat_eq, inl, inr}
 use Rattle.std.proofs.lemmas.Bool.{cases_eq, eq-eqb}
 use Rattle.std.proofs.lemmas.Option.{none-some, same_Some}
 use Rattle.fs_nodes.specs.Inverse.{AreInverse}

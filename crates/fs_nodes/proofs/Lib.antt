@@ -1,3 +1,4 @@
+pub mod Callers
 pub mod Inverse
 pub mod Maps
 pub mod Slots

@@ -1,5 +1,5 @@
 -- Maps as lists of entries in rising key: two that answer alike are one, and what a test finds among their values.
-use Rattle.std.proofs.Common.{◌≡◌, ◌≢◌, ℕ, ◌≤◌, ◌<◌, Bool, true, false, true≢false, cond, not, ◌&&◌, ◌||◌, List, [], ◌∷◌, Option, Some, None, refl, ap, sym, subst, ◌∙◌, arith, rules, inl, inr, T}
+use Rattle.std.proofs.Common.{◌≡◌, ℕ, ◌≤◌, Bool, true, false, true≢false, cond, not, ◌&&◌, ◌||◌, [], ◌∷◌, Some, None, refl, ap, sym, ◌∙◌, arith, rules, inl, inr, T}
 use Rattle.std.specs.Prelude.{nat_eq}
 use Rattle.std.specs.List.{list_any}
 use Rattle.std.specs.declared.cmp.Ordering.{Ordering}
@@ -82,7 +82,7 @@ module _ {X : Type 0} where
     pub there : get m key ≡ Some value
     pub passes : test value ≡ true
 
-  any_there : (m : Map X) (test : X → Bool) (k : ℕ) (x : X) → get m k ≡ Some x → test x ≡ true → list_any test (values m) ≡ true
+  pub any_there : (m : Map X) (test : X → Bool) (k : ℕ) (x : X) → get m k ≡ Some x → test x ≡ true → list_any test (values m) ≡ true
   any_there [] test k x is passes = absurd (none-some x is)
   any_there (e ∷ es) test k x is passes = by (is_eq (nat_cmp k e.0)) (test e.1) refl is (λ found. any_there es test k x found passes)
     where

@@ -1,11 +1,9 @@
 -- Held nodes stay sound where one is added, counted again or taken out.
-use Rattle.std.proofs.Common.{◌≡◌, ◌≢◌, ℕ, ◌+◌, ◌<◌, ◌≤◌, Bool, true, false, true≢false, cond, [], Option, Some, None, refl, ap, sym, ◌∙◌, subst, arith, nat_eq, inl, inr, T}
-use Rattle.std.specs.Ordering.{nat_cmp}
-use Rattle.std.specs.FinMap.{is_sorted}
+use Rattle.std.proofs.Common.{◌≡◌, ◌≢◌, ℕ, ◌+◌, ◌<◌, ◌≤◌, Bool, true, false, true≢false, Some, None, refl, ap, sym, ◌∙◌, subst, arith, inl, inr, T}
 use Rattle.std.proofs.lemmas.Bool.{cases_eq}
 use Rattle.std.proofs.lemmas.Option.{none-some, same_Some}
 use Rattle.fuse_spec.specs.Maps.{Map, get, put, remove}
-use Rattle.fuse_spec.specs.Nodes.{HeldNode, NodeTable}
+use Rattle.fuse_spec.specs.Nodes.{HeldNode}
 use Rattle.fs_nodes.specs.Rows.{IsOfNone}
 use Rattle.fs_nodes.specs.Sound.{IsSound}
 use Rattle.fs_nodes.proofs.Inverse.{at_written, at_other}
@@ -87,14 +85,4 @@ sound_gone {rows = rows} {next = next} new id is remove_is = subst (λ m. IsSoun
   one_each = λ q o row same at at_o files. is.one_each q o row same (removed rows id q row at) (removed rows id o same at_o) files;
   counted = λ q row at. is.counted q row (removed rows id q row at);
   given_before = λ q row at. is.given_before q row (removed rows id q row at);
-})
-
--- no node is sound
-pub sound_none : (new : Map HeldNode) (next : ℕ) → new ≡ [] → IsSound (record { rows = new; next_generation = next })
-sound_none new next none = subst (λ m. IsSound (record { rows = m; next_generation = next })) (sym none) (record {
-  sorted = refl;
-  from_two = λ q row at. absurd (none-some row at);
-  one_each = λ q o row same at at_o files. absurd (none-some row at);
-  counted = λ q row at. absurd (none-some row at);
-  given_before = λ q row at. absurd (none-some row at);
 })

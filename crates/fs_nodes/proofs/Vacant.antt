@@ -1,12 +1,12 @@
 -- A list of slots with the list of its vacant places: what the calls keep true, and what a search from the front finds.
-use Rattle.std.proofs.Common.{◌≡◌, ◌≢◌, ℕ, zero, suc, ◌+◌, ◌-◌, ◌<◌, ◌≤◌, Bool, true, false, true≢false, cond, List, [], ◌∷◌, ◌++◌, Option, Some, None, IsSome, is_some, length, length-set, position, get_or, slice_set, drop, refl, ap, sym, ◌∙◌, subst, arith, rules, nat_eq, nat_lt, inl, inr}
+use Rattle.std.proofs.Common.{◌≡◌, ◌≢◌, ℕ, zero, suc, ◌+◌, ◌-◌, ◌<◌, ◌≤◌, Bool, true, false, true≢false, cond, List, [], ◌∷◌, ◌++◌, Option, Some, None, IsSome, is_some, length, length-set, position, slice_set, refl, ap, sym, ◌∙◌, subst, arith, rules, nat_eq, nat_lt, inl, inr}
 use Rattle.std.specs.Prelude.{count_by}
 use Rattle.std.specs.Option.{option_map}
 use Rattle.std.specs.List.{list_any, position_or_len}
 use Rattle.std.proofs.lemmas.Bool.{cases_eq, eq-eqb, eqb-true}
 use Rattle.std.proofs.lemmas.Bool.Decides.{nat_tests}
 use Rattle.std.proofs.lemmas.Option.{none-some, same_Some}
-use Rattle.std.proofs.lemmas.List.{get_or-set_same, get_or-set_other, get_or_append_left, drop_more}
+use Rattle.std.proofs.lemmas.List.{get_or-set_same, get_or-set_other}
 use Rattle.std.proofs.lemmas.List.Quantifiers.{position-Some}
 use Rattle.std.proofs.lemmas.List.Sums.{sum_by-set, fails_before_first}
 use Rattle.std.proofs.Math.Seq.{get_or-append_seam}
@@ -14,7 +14,7 @@ use Rattle.fuse_spec.specs.Maps.{get, put, remove, values}
 use Rattle.fuse_spec.specs.Nodes.{HeldNode}
 use Rattle.fuse_spec.proofs.QueueCounts.{count_by-push}
 use Rattle.fs_nodes.specs.declared.stored_node.StoredNode.{StoredNode}
-use Rattle.fs_nodes.specs.Rows.{node_of, IsOf, IsOfNone, listed}
+use Rattle.fs_nodes.specs.Rows.{node_of, IsOf, IsOfNone}
 use Rattle.fs_nodes.specs.Slots.{rows_from, at_place, file_at}
 use Rattle.fs_nodes.specs.Vacant.{AreVacant, is_kept_of}
 use Rattle.fs_nodes.proofs.Maps.{HasValue, any_is}
@@ -81,13 +81,6 @@ pub counts_vacant : (new slots : List (Option StoredNode)) (place : ℕ) (slot :
     → Counts new slots 0 (cond (is_some slot) 1 0)
 counts_vacant new slots place slot lt none set =
     subst (λ b. Counts new slots (cond b 1 0) (cond (is_some slot) 1 0)) (ap is_some none) (counts_set new slots place slot lt set)
-
-pub count_push : (slots : List (Option StoredNode)) (kept : StoredNode) → count_by is_some (slots ++ Some kept ∷ []) ≡ count_by is_some slots + 1
-count_push slots kept = count_by-push is_some slots (Some kept)
-
-pub no_items : {X : Type 0} (xs : List X) → length xs ≡ 0 → xs ≡ []
-no_items [] e = refl
-no_items (x ∷ xs) e = absurd (omega arith)
 
 -- what rows are where a slot was written
 pub rows_set : (new slots : List (Option StoredNode)) (place : ℕ) (kept : StoredNode) → place < length slots → new ≡ slice_set slots place (Some kept)
@@ -156,13 +149,6 @@ place_taken {dropped = dropped} fewer place are popped = (are.within place in_it
     in_it : 0 < count_by (nat_eq place) dropped
     in_it = (let both = ap (count_by (nat_eq place)) popped ∙ count_by-push (nat_eq place) fewer place in let one = one_at place in omega arith)
 
-pub vacant_none : (slots : List (Option StoredNode)) (dropped : List ℕ) → dropped ≡ [] → AreVacant slots dropped
-vacant_none slots dropped none = record {
-  empty = λ q in_it. (let zero_is = ap (count_by (nat_eq q)) none in absurd (omega arith));
-  within = λ q in_it. (let zero_is = ap (count_by (nat_eq q)) none in absurd (omega arith));
-  once = λ q. (let zero_is = ap (count_by (nat_eq q)) none in omega arith);
-}
-
 pub vacant_dropped : {slots : List (Option StoredNode)} {dropped : List ℕ} (new : List (Option StoredNode)) (more : List ℕ) (place : ℕ) → AreVacant slots dropped
     → IsSome (at_place slots place) → more ≡ dropped ++ place ∷ [] → new ≡ slice_set slots place None → AreVacant new more
 vacant_dropped {slots = slots} {dropped = dropped} new more place are some pushed set = record {
@@ -215,9 +201,6 @@ is_kept file (Some kept) is = eq-eqb kept.file file (same_Some kept.file file is
 pub found_at : (slots : List (Option StoredNode)) (file place : ℕ) → position (is_kept_of file) slots ≡ Some place → file_at slots place ≡ Some file
 found_at slots file place is = kept_is file (at_place slots place) ((position-Some (is_kept_of file) slots place None is).1)
 
-pub found_within : (slots : List (Option StoredNode)) (file place : ℕ) → position (is_kept_of file) slots ≡ Some place → place < length slots
-found_within slots file place is = (position-Some (is_kept_of file) slots place None is).0
-
 none_passes : (slots : List (Option StoredNode)) (file : ℕ) → position (is_kept_of file) slots ≡ None → (place : ℕ) → place < length slots → is_kept_of file (at_place slots place) ≡ false
 none_passes slots file none place lt = (let past_all = by (nat_lt (position_or_len (is_kept_of file) slots) (length slots)) refl in fails_before_first (is_kept_of file) slots place None (omega arith))
   where
@@ -246,9 +229,3 @@ found_is slots file found is = any_is (is_some found) (rows_from 2 slots) (λ (r
     back : (o : Option ℕ) → position (is_kept_of file) slots ≡ o → HasValue (rows_from 2 slots) (λ (row : HeldNode). nat_eq row.file file) → is_some o ≡ true
     back None at has = absurd (not_found slots file at (has.key - 2) (place_of_row slots has.key has.value has.there ∙ ap Some (eqb-true has.value.file file has.passes)))
     back (Some place) at has = refl
-
--- ---- listing
-
-pub listed-drop : (slots : List (Option StoredNode)) (place : ℕ) (slot : Option StoredNode) → place < length slots → slot ≡ at_place slots place
-    → listed (rows_from (place + 2) (drop place slots)) ≡ listed (rows_from (place + 2) (slot ∷ drop (place + 1) slots))
-listed-drop slots place slot lt is = ap (λ s. listed (rows_from (place + 2) s)) (drop_more slots place None lt ∙ ap (λ s. s ∷ drop (place + 1) slots) (sym is))

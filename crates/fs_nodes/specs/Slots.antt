@@ -1,5 +1,5 @@
 -- Slots whose place plus 2 is the nodeid.
-use Rattle.std.specs.Prelude.{◌≡◌, ℕ, ◌+◌, ◌-◌, ◌<◌, ◌^◌, List, [], ◌∷◌, Option, Some, None, nat_eq, slice_index_or, cond, nat_lt, nat_le, min, option_map}
+use Rattle.std.specs.Prelude.{ℕ, ◌+◌, ◌-◌, ◌<◌, ◌^◌, List, [], ◌∷◌, Option, Some, None, slice_index_or, cond, nat_lt, nat_le, min, option_map}
 use Rattle.fuse_spec.specs.Maps.{Map}
 use Rattle.fuse_spec.specs.Nodes.{HeldNode}
 use Rattle.fs_nodes.specs.declared.stored_node.StoredNode.{StoredNode}

@@ -22,7 +22,6 @@ pub use too_many::TooMany;
 /// The table of the program, in a slab: no call scans the nodes but `nodes`.
 pub type NodeTable<A = Global> = NodesOf<SlabRows<A>>;
 
-
 /// The table in a plain list.
 pub type ListNodes<A = Global> = NodesOf<ListRows<A>>;
 

@@ -67,7 +67,13 @@ impl<R: NodeRows> NodeStore for NodesOf<R> {
         }
         if count < node.count {
             let left = node.count - count;
-            self.rows.write(id, StoredNode { count: left, ..node });
+            self.rows.write(
+                id,
+                StoredNode {
+                    count: left,
+                    ..node
+                },
+            );
         } else {
             self.rows.take_out(id);
         }

@@ -1,4 +1,4 @@
-use Rattle.std.proofs.Common.{◌≡◌, ◌+◌, ◌++◌, map}
+use Rattle.std.proofs.Common.{◌≡◌, ◌++◌}
 use Rattle.fs_nodes.specs.Rows.{listed}
 use Rattle.fs_nodes.specs.Slots.{rows_from, AreSmall}
 use Rattle.fs_nodes.proofs.Slots.{listed_places}

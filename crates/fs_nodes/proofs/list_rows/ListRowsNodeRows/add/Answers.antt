@@ -1,10 +1,10 @@
-use Rattle.std.proofs.Common.{◌≡◌, ◌+◌, ◌<◌, ◌^◌, Some, None, sym, ◌∙◌, ap, arith, length, length-append}
+use Rattle.std.proofs.Common.{◌+◌, Some, sym, ◌∙◌, ap, arith, length}
 use Rattle.std.specs.Option.{option_map}
 use Rattle.fuse_spec.specs.Maps.{get, put}
 use Rattle.fs_nodes.specs.Rows.{node_of}
 use Rattle.fs_nodes.specs.Slots.{rows_from}
 use Rattle.fs_nodes.proofs.Slots.{get_at}
-use Rattle.fs_nodes.proofs.Vacant.{place_taken, vacant_taken, vacant_none, counts_vacant, count_push, no_items, rows_set, rows_push, at_end}
+use Rattle.fs_nodes.proofs.Vacant.{place_taken, vacant_taken, counts_vacant, rows_set, rows_push, at_end}
 use Rattle.fs_nodes.proofs.list_rows.ListRowsNodeRows.add.Goals as goal
 
 pub put_slot-requires : goal.put_slot-requires

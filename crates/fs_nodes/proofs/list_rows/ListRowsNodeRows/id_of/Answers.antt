@@ -1,4 +1,4 @@
-use Rattle.std.proofs.Common.{◌≡◌, None, Some, position, sym, ap, ◌∙◌}
+use Rattle.std.proofs.Common.{None, Some, position, sym, ap, ◌∙◌}
 use Rattle.fs_nodes.specs.Vacant.{is_kept_of}
 use Rattle.fs_nodes.proofs.Slots.{is_of}
 use Rattle.fs_nodes.proofs.Vacant.{found_at, found_is, not_of}

@@ -1,8 +1,8 @@
-use Rattle.std.proofs.Common.{◌≡◌, ◌+◌, ◌<◌, Some, None, IsSome, is_some, sym, ◌∙◌, ap, arith}
+use Rattle.std.proofs.Common.{None, sym, ◌∙◌, ap, arith}
 use Rattle.std.specs.Option.{option_map}
 use Rattle.fuse_spec.specs.Maps.{get, remove}
 use Rattle.fs_nodes.specs.Rows.{node_of}
-use Rattle.fs_nodes.specs.Slots.{rows_from, at_place}
+use Rattle.fs_nodes.specs.Slots.{rows_from}
 use Rattle.fs_nodes.proofs.Slots.{get_low, get_at, rows_without_none, place-low, place-high}
 use Rattle.fs_nodes.proofs.Vacant.{kept_within, none_there, some_there, vacant_dropped, counts_kept, rows_unset}
 use Rattle.fs_nodes.proofs.list_rows.ListRowsNodeRows.take_out.Goals as goal

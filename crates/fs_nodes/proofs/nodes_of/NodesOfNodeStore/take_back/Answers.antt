@@ -1,4 +1,4 @@
-use Rattle.std.proofs.Common.{◌≤◌, ◌<◌, ◌^◌, sym, refl, arith}
+use Rattle.std.proofs.Common.{sym, refl, arith}
 use Rattle.fs_nodes.proofs.Sound.{sound_counted, sound_gone}
 use Rattle.fs_nodes.proofs.nodes_of.NodesOfNodeStore.take_back.Goals as goal
 

@@ -1,9 +1,8 @@
-use Rattle.std.proofs.Common.{◌≡◌, ◌<◌, ◌≤◌, ◌^◌, Some, nat_eq, inl, inr, ◌∙◌, sym, ap, arith}
+use Rattle.std.proofs.Common.{◌<◌, ◌^◌, Some, inl, inr, ◌∙◌, sym, ap, arith}
 use Rattle.std.specs.Option.{option_map}
 use Rattle.std.proofs.lemmas.Bool.{cases_eq}
 use Rattle.std.proofs.lemmas.Option.{same_Some}
 use Rattle.fs_nodes.specs.Rows.{node_of}
-use Rattle.fs_nodes.specs.Slots.{file_at}
 use Rattle.fs_nodes.specs.declared.stored_node.StoredNode.{StoredNode}
 use Rattle.fs_nodes.proofs.Inverse.{inverse_with, at_written, at_other}
 use Rattle.fs_nodes.proofs.Slots.{get_at, rows-write, file_at-changed, no_place, has_room}

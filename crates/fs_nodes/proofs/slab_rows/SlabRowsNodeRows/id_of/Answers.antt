@@ -1,5 +1,4 @@
-use Rattle.std.proofs.Common.{◌≡◌, true, false, Some, None, is_some, nat_eq, sym, ap, ◌∙◌}
-use Rattle.std.specs.Map.{lookup}
+use Rattle.std.proofs.Common.{true, false, is_some, sym, ap, ◌∙◌}
 use Rattle.fs_nodes.proofs.Slots.{is_of, of_none, has_is}
 use Rattle.fs_nodes.proofs.slab_rows.SlabRowsNodeRows.id_of.Goals as goal
 

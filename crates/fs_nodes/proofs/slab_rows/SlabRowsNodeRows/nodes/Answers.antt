@@ -1,7 +1,4 @@
-use Rattle.std.proofs.Common.{◌≡◌, ◌+◌, ◌<◌, ◌^◌, Option, Some, None, IsSome, sym, ◌∙◌, ap, refl, arith}
-use Rattle.std.specs.Option.{option_map}
-use Rattle.fs_nodes.specs.Slots.{at_place, file_at}
-use Rattle.fs_nodes.specs.declared.stored_node.StoredNode.{StoredNode}
+use Rattle.std.proofs.Common.{arith}
 use Rattle.fs_nodes.proofs.Slots.{small_entries, file_there}
 use Rattle.fs_nodes.proofs.slab_rows.SlabRowsNodeRows.nodes.Goals as goal
 
@@ -9,6 +6,6 @@ pub list_nodes-requires : goal.list_nodes-requires
 list_nodes-requires g c =
     let self = c.args.self.now in
     small_entries 0 self.nodes.slots (λ place some.
-      let there = file_there self.nodes.slots place some in
-      let small = self.small there.0 place (self.inverse.named there.0 place there.1) in
-      omega arith)
+    let there = file_there self.nodes.slots place some in
+    let small = self.small there.0 place (self.inverse.named there.0 place there.1) in
+    omega arith)

@@ -1,4 +1,4 @@
-use Rattle.std.proofs.Common.{◌≡◌, ◌<◌, ℕ, true≢false, sym, ap, arith}
+use Rattle.std.proofs.Common.{true≢false, sym, ap, arith}
 use Rattle.slab.specs.Slab.{Slab}
 use Rattle.fs_nodes.specs.declared.stored_node.StoredNode.{StoredNode}
 use Rattle.fs_nodes.proofs.Slots.{has_room}

@@ -1,4 +1,4 @@
-use Rattle.std.proofs.Common.{◌≡◌, ◌<◌, ◌^◌, Some, None, nat_eq, inl, inr, sym, ◌∙◌, ap}
+use Rattle.std.proofs.Common.{None, nat_eq, inl, inr, sym, ◌∙◌, ap}
 use Rattle.std.specs.Map.{lookup}
 use Rattle.std.specs.Option.{option_map}
 use Rattle.std.proofs.lemmas.Bool.{cases_eq}
@@ -34,7 +34,7 @@ invariant_of-self-2 g c =
     let removed = c.swap_remove-place.ensures.updates.0 in
     record {
       inverse = inverse_without _ _ node.file place old.inverse (ap (option_map (λ (kept : StoredNode). kept.file)) there)
-        (file_at-changed _ old.nodes.slots place None updates.changed updates.others) removed;
+          (file_at-changed _ old.nodes.slots place None updates.changed updates.others) removed;
       small = λ file p is. elim (cases_eq node.file file) [
         | inl e ↦ absurd (none-some p (sym (at_written _ (λ q. lookup (nat_eq q) old.places.entries) node.file None removed file e) ∙ is))
         | inr ne ↦ old.small file p (sym (at_other _ (λ q. lookup (nat_eq q) old.places.entries) node.file None removed file ne) ∙ is)

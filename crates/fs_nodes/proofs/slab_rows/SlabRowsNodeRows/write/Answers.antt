@@ -1,9 +1,9 @@
-use Rattle.std.proofs.Common.{◌≡◌, Some, sym, ◌∙◌, ap, subst}
+use Rattle.std.proofs.Common.{sym, ◌∙◌, ap, subst}
 use Rattle.fuse_spec.specs.Maps.{get, put}
 use Rattle.fs_nodes.specs.Rows.{node_of, IsOf}
 use Rattle.fs_nodes.specs.Slots.{rows_from}
 use Rattle.fs_nodes.proofs.Inverse.{inverse_same}
-use Rattle.fs_nodes.proofs.Slots.{get_low, rows-write, file_at-changed, file_at-kept, of_is, kept_is_some, place-low, place-high}
+use Rattle.fs_nodes.proofs.Slots.{get_low, rows-write, file_at-kept, of_is, kept_is_some, place-low, place-high}
 use Rattle.fs_nodes.proofs.slab_rows.SlabRowsNodeRows.write.Goals as goal
 
 pub set-requires : goal.set-requires
