@@ -1,0 +1,30 @@
+-- What the table of open numbers keeps true of its two maps.
+use Rattle.std.specs.Prelude.{◌≡◌, ℕ, ◌-◌, ◌^◌, ◌<◌, ◌≤◌, cond, nat_lt, nat_eq, List, Option, Some, None, length, sum_by}
+use Rattle.std.specs.List.{IsDistinct}
+use Rattle.std.specs.Map.{lookup, keys_of, values_of}
+use Rattle.fs_handles.specs.declared.open_file.OpenFile.{OpenFile}
+
+-- 1 for an open number of this file
+abbrev pub one_of : ℕ → OpenFile → ℕ
+one_of file kept = cond (nat_eq kept.file file) 1 0
+
+-- how many of the open numbers are of this file
+abbrev pub numbers_of : ℕ → List (ℕ × OpenFile) → ℕ
+numbers_of file opens = sum_by (one_of file) (values_of opens)
+
+-- a number, or nothing in place of 0
+abbrev pub positive : ℕ → Option ℕ
+positive n = cond (nat_lt 0 n) (Some n) None
+
+-- a number less one, and nothing for the last
+abbrev pub one_less : Option ℕ → Option ℕ
+one_less None = None
+one_less (Some n) = positive (n - 1)
+
+-- Each file has its number of open numbers, and no number from `next` on is in use.
+pub record IsCounted (opens : List (ℕ × OpenFile)) (uses : List (ℕ × ℕ)) (next : ℕ) : Type 0 where
+  pub counted : (file : ℕ) → lookup (nat_eq file) uses ≡ positive (numbers_of file opens)
+  pub fresh : (fh : ℕ) → next ≤ fh → lookup (nat_eq fh) opens ≡ None
+  pub distinct : IsDistinct nat_eq (keys_of opens)
+  pub few : length opens < next
+  pub limit : next ≤ 2 ^ 62

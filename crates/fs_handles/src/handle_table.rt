@@ -1,0 +1,178 @@
+//! Open numbers, each with its file and its count.
+ghost use Rattle.std.specs.Prelude.{◌≡◌, ℕ, ◌+◌, ◌^◌, ◌<◌, ◌≤◌, if◌then◌else◌, [], None, nat_eq, Some, IsOk, OnOk, option_map};
+ghost use Rattle.std.specs.List.{list_any};
+ghost use Rattle.std.specs.Option.{ForSome};
+ghost use Rattle.indexmap.specs.IndexMap as map;
+ghost use Rattle.indexmap.specs.IndexMap.{spare};
+ghost use Rattle.fuse_spec.specs.Maps.{get, values};
+ghost use Rattle.fuse_spec.specs.Nodes.{OpenNumber, handle_opened, handle_more, handle_back};
+ghost use Rattle.fs_handles.specs.Uses.{one_less};
+
+use crate::open_file::OpenFile;
+use indexmap::IndexMap;
+use std::alloc::{AllocError, Allocator, Global};
+use std::hash::{BuildHasherDefault, FoldHasher};
+use std::marker::Model;
+
+type Builder = BuildHasherDefault<FoldHasher>;
+
+/// Open numbers stay below this.
+pub const LIMIT: u64 = 0x4000_0000_0000_0000;
+
+/// The open numbers in use, each of a file and with its count. Numbers rise from 1, and none is given twice, also not
+/// after `clear`.
+///
+/// Contracts see it as the table of the definitions and its room: how many more files can be opened with no memory.
+/// Only `reserve` takes memory. Under a number that is not in use a look answers `None` or `false`, and any other call
+/// changes nothing (this project's rule).
+#[derive(Drop)]
+pub struct HandleTable<A: Allocator = Global> {
+    opens: IndexMap<u64, OpenFile, Builder, A>,
+    // how many open numbers each open file has
+    uses: IndexMap<u64, u64, Builder, A>,
+    next: u64,
+}
+
+impl<A: Allocator> Model for HandleTable<A> {
+    ghost use Rattle.std.specs.Prelude.{min};
+    ghost use Rattle.std.specs.Coded.{codes};
+    ghost use Rattle.indexmap.specs.IndexMap.{spare};
+    ghost use Rattle.fs_handles.specs.OpenNumbers.{TableWithRoom, table_of};
+    ghost use Rattle.fs_handles.specs.Uses.{IsCounted};
+
+    ghost Value = { TableWithRoom };
+
+    ghost coded = { Prim.hlevel (codes) };
+
+    ghost view = { λ t. record { table = table_of t.opens.entries t.next; room = min (spare t.opens) (spare t.uses) } };
+
+    ghost invariant = { λ t. IsCounted t.opens.entries t.uses.entries t.next };
+}
+
+impl<A: Allocator + Copy> HandleTable<A> {
+    /// A table with no open number. The first is 1.
+    pub fn new(alloc: A) -> Self
+        ensures { result.table ≡ record { handles = []; next_fh = 1 } }
+    {
+        HandleTable {
+            opens: IndexMap::new(alloc),
+            uses: IndexMap::new(alloc),
+            next: 1,
+        }
+    }
+
+    /// Makes room for one `open`. Room that is not used stays.
+    ///
+    /// # Errors
+    ///
+    /// Memory was wanting, and that room was not there. The table is as before, and no room went.
+    pub fn reserve(&mut self) -> Result<(), AllocError>
+        ensures table { self.new.table ≡ self.old.table }
+        ensures room { OnOk result (0 < self.new.room) }
+        ensures kept { self.old.room ≤ self.new.room }
+        ensures succeeds { 0 < self.old.room → IsOk result }
+    {
+        self.opens.reserve(1)?;
+        self.uses.reserve(1)
+    }
+
+    /// How many open numbers are left to give.
+    pub fn numbers_left(&self) -> u64
+        ensures { result + self.now.table.next_fh ≡ 2 ^ 62 }
+    {
+        LIMIT - self.next
+    }
+
+    /// Gives an open number to a file, with a count of 1: one copy of the reply to OPEN or CREATE carries it.
+    pub fn open(&mut self, file: u64) -> u64
+        requires room { 0 < self.old.room }
+        requires numbers { self.old.table.next_fh < 2 ^ 62 }
+        ensures fh { result ≡ self.old.table.next_fh }
+        ensures unused { get self.old.table.handles result ≡ None }
+        ensures table { self.new.table ≡ handle_opened self.old.table file }
+        ensures room { self.old.room ≤ self.new.room + 1 }
+    {
+        let fh = self.next;
+        put(&mut self.opens, fh, OpenFile { file, count: 1 });
+        let uses = self.uses.get(&file).copied().unwrap_or(0);
+        put(&mut self.uses, file, uses + 1);
+        self.next = fh + 1;
+        fh
+    }
+
+    /// Counts one more copy that carries the open number.
+    pub fn again(&mut self, fh: u64)
+        requires { ForSome (get self.old.table.handles fh) (λ (handle : OpenNumber). handle.count + 1 < 2 ^ 64) }
+        ensures table { self.new.table ≡ handle_more self.old.table fh }
+        ensures room { self.old.room ≤ self.new.room }
+    {
+        let Some(open_file) = self.opens.get_mut(&fh) else {
+            return;
+        };
+        open_file.count += 1;
+    }
+
+    /// Whether the file has an open number.
+    pub fn has(&self, file: u64) -> bool
+        ensures { result ≡ list_any (λ (handle : OpenNumber). nat_eq handle.file file) (values self.now.table.handles) }
+    {
+        self.uses.contains_key(&file)
+    }
+
+    /// Takes one from the count of an open number. With none left it goes.
+    pub fn take_back(&mut self, fh: u64)
+        ensures table { self.new.table ≡ handle_back self.old.table fh }
+        ensures room { self.old.room ≤ self.new.room }
+    {
+        let Some(open_file) = self.opens.get_mut(&fh) else {
+            return;
+        };
+        if open_file.count > 1 {
+            open_file.count -= 1;
+            return;
+        }
+        let file = open_file.file;
+        let _last = self.opens.swap_remove(&fh);
+        use_less(&mut self.uses, file);
+    }
+
+    /// The file of an open number.
+    pub fn file_of(&self, fh: u64) -> Option<u64>
+        ensures { result ≡ option_map (λ handle. handle.file) (get self.now.table.handles fh) }
+    {
+        self.opens.get(&fh).map(|open_file| open_file.file)
+    }
+
+    /// Takes all open numbers out of use. Numbers go on, and the room stays.
+    pub fn clear(&mut self)
+        ensures table { self.new.table ≡ record self.old.table { handles = [] } }
+        ensures room { self.old.room ≤ self.new.room }
+    {
+        self.opens.clear();
+        self.uses.clear();
+    }
+}
+
+/// Puts a value under a key, with room.
+fn put<V: Drop, A: Allocator + Copy>(entries: &mut IndexMap<u64, V, Builder, A>, key: u64, value: V)
+    requires { 0 < spare entries.old }
+    ensures entries { entries.new.entries ≡ map.insert_entry nat_eq entries.old.entries key value }
+    ensures at { (q : ℕ) → map.get nat_eq entries.new q ≡ (if nat_eq key q then Some value else map.get nat_eq entries.old q) }
+    ensures unique { map.IsUnique nat_eq entries.new }
+    ensures room { spare entries.old ≤ spare entries.new + 1 }
+{
+    let _old = entries.insert(key, value).unwrap();
+}
+
+/// Takes one open number of a file out of the count.
+fn use_less<A: Allocator + Copy>(uses: &mut IndexMap<u64, u64, Builder, A>, file: u64)
+    ensures less { (other : ℕ) → map.get nat_eq uses.new other ≡ (if nat_eq file other then one_less (map.get nat_eq uses.old file) else map.get nat_eq uses.old other) }
+    ensures room { spare uses.old ≤ spare uses.new }
+{
+    match uses.get_mut(&file) {
+        Some(count) if *count > 1 => *count -= 1,
+        _ => {
+            let _last = uses.swap_remove(&file);
+        }
+    }
+}

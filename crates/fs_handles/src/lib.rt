@@ -1,0 +1,11 @@
+//! The server's table of open files: each open number (`fh`) with its file and its count.
+#![tactic(auto)]
+
+mod handle_table;
+mod open_file;
+
+pub use handle_table::{HandleTable, LIMIT};
+pub use open_file::OpenFile;
+
+#[cfg(test)]
+mod tests;

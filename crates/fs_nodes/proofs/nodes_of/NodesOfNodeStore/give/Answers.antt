@@ -1,0 +1,17 @@
+use Rattle.std.proofs.Common.{sym, refl, arith}
+use Rattle.fs_nodes.proofs.Sound.{sound_counted, sound_given}
+use Rattle.fs_nodes.proofs.nodes_of.NodesOfNodeStore.give.Goals as goal
+
+pub invariant_of-self : goal.invariant_of-self
+invariant_of-self g c = record {
+  limit = c.args.self.now.limit;
+  sound = sound_counted _ c.in-Some.id _ _ c.args.self.now.sound (sym c.in-Some-node.ensures) refl refl (omega arith) c.write.ensures.rows;
+}
+
+pub invariant_of-self-2 : goal.invariant_of-self-2
+invariant_of-self-2 g c =
+    let left = c.requires.generation c.in_default.ensures.none in
+    record {
+      limit = omega arith;
+      sound = sound_given _ c.add-id.result _ c.args.self.now.sound c.add-id.ensures.low c.in_default.ensures.none refl (omega arith) c.add-id.ensures.rows;
+    }

@@ -1,0 +1,5 @@
+pub mod Inverse
+pub mod Rows
+pub mod Slots
+pub mod Sound
+pub mod Vacant
