@@ -26,27 +26,12 @@ use Rattle.fuse_spec.specs.Denotes.{MeansIn, MeansOpenIn, Means, MeansOpen, Opti
 use Rattle.fuse_spec.specs.Alike.{TreeAlike, Alike}
 use Rattle.fuse_spec.proofs.QueueSoundness.{IsSound-without}
 use Rattle.fuse_theorem.specs.Numbering.{IsNumbered, IsOneToOne}
+use Rattle.fuse_theorem.specs.Conditions.{OneId, OpensItsFile, IsReply}
 use Rattle.fuse_theorem.proofs.Carrying.{grown, carried_alike}
-use Rattle.fuse_theorem.proofs.Learning.{OneId, one_to_one, learnt_known, OpensItsFile, heard_fits}
+use Rattle.fuse_theorem.proofs.Learning.{one_to_one, learnt_known, heard_fits}
 use Rattle.fuse_theorem.proofs.Releasing.{next_unasked}
 use Rattle.fuse_theorem.proofs.Telling.{asked_alike}
 use Rattle.fuse_theorem.proofs.Writing.{unsent_alike, used_alike, heard_alike}
-
--- A reply to the request of a call, whose ask was performed.
-pub record IsReply (w : World) (p : Plain) (sent : Sent) (call : ℕ) (state : CallState Opened) (reply : Reply ℕ ℕ) : Type 0 where
-  pub request : QueuedRequest Purpose
-  pub under : request_under w.kernel.queues sent.unique ≡ Some request
-  pub serves : request.kept ≡ purpose.Call call
-  pub state_is : get w.kernel.vfs.calls call ≡ Some state
-  pub ask : Ask
-  pub there : get p.asks sent.unique ≡ Some ask
-  pub by_call : ask.call ≡ call
-  pub same : OperationAlike (MeansIn w) (MeansOpenIn w) (asked state) ask.operation
-  pub stage : ask.stage ≡ plain.performed reply
-  pub told : ReplyAlike (Names w.server.nodes) (Opens w.server.handles) sent.wire reply
-  pub goes : goes_with (asked state) sent.wire ≡ true
-  pub used : use_of_all w.kernel.nodes (files_in_reply sent.wire) ≡ usable
-  pub opens : OpensItsFile w.server.nodes w.server.handles (asked state) sent.wire
 
 module _ (w : World) (p : Plain) (numbered : IsNumbered w) (one : OneId w.server.nodes) (same : Alike w p) (live : is_live w.kernel.phase ≡ true) (k : ℕ) (sent : Sent) (call : ℕ) (state : CallState Opened) (reply : Reply ℕ ℕ)
     (is : IsReply w p sent call state reply) where

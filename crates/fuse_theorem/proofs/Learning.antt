@@ -14,14 +14,11 @@ use Rattle.fuse_spec.specs.Replies.{goes_with, Use, usable, useless, stale, use_
 use Rattle.fuse_spec.specs.Denotes.{Denotes, Names, Opens, generation_known, Means, MeansOpen, OperationAlike, ReplyAlike}
 use Rattle.fuse_spec.proofs.Tables.{get_put_here, get_put_there}
 use Rattle.fuse_theorem.specs.Numbering.{IsOneToOne}
+use Rattle.fuse_theorem.specs.Conditions.{OneId, OpensItsFile}
 use Rattle.fuse_theorem.proofs.Finding.{same_is, other_is}
 use Rattle.fuse_theorem.proofs.Giving.{denotes_one}
 
--- No two nodes of the table have the same file.
-abbrev pub OneId : NodeTable → Type 0
-OneId t = (i j g h file : ℕ) → Denotes t i g file → Denotes t j h file → i ≡ j
-
--- Then no two nodes that the kernel knows mean the same file.
+-- Where no two nodes have the same file, no two that the kernel knows mean the same.
 pub one_to_one : (nodes : Map Counted) (t : NodeTable) → OneId t → IsOneToOne (Means nodes t)
 one_to_one nodes t one a b c d r s = (
   λ e.
@@ -85,12 +82,6 @@ opens_one h fh a b x y = by (get h.handles fh) x y
       | inl p ↦ elim (eqb_tells handle.file b) [ inl q ↦ sym p.1 ∙ q.1 | inr q ↦ absurd (true≢false (sym y ∙ q.0)) ]
       | inr p ↦ absurd (true≢false (sym x ∙ p.0))
     ]
-
--- The open number of a reply to CREATE or OPEN is one of the file that is created or opened.
-abbrev pub OpensItsFile : NodeTable → HandleTable → Operation ℕ Opened → WireReply → Type 0
-OpensItsFile t h operation (created g v fh) = (file : ℕ) → Denotes t g.nodeid g.generation file → is_open h fh file ≡ true
-OpensItsFile t h (opening node) (opened fh) = (generation file : ℕ) → Denotes t node generation file → is_open h fh file ≡ true
-OpensItsFile t h operation wire = Unit {0}
 
 -- What the kernel hears is what the reply says of the files.
 pub heard_fits : (nodes : Map Counted) (t : NodeTable) (h : HandleTable) (operation : Operation ℕ Opened) (asked : Operation ℕ ℕ) (wire : WireReply) (reply : Reply ℕ ℕ) → goes_with operation wire ≡ true

@@ -25,6 +25,7 @@ use Rattle.fuse_spec.specs.Denotes.{OperationAlike, MeansIn, Denotes, generation
 use Rattle.fuse_spec.specs.Alike.{TreeAlike, AskedBy, RequestBodyAsked, Meant, MeantOpen, StageTold, Alike}
 use Rattle.fuse_spec.proofs.Tables.{get_put_here, get_gone_here}
 use Rattle.fuse_theorem.specs.Numbering.{IsOneToOne}
+use Rattle.fuse_theorem.specs.Conditions.{TablesSound, KnownAreHeld, CanPerform}
 use Rattle.fuse_theorem.proofs.Carrying.{grown, carried_alike}
 use Rattle.fuse_theorem.proofs.Changing.{with_ask, MayReplace, ask_changed}
 use Rattle.fuse_theorem.proofs.Finding.{same_is, other_is, none_passes}
@@ -36,11 +37,6 @@ use Rattle.fuse_theorem.proofs.Serving.{unheld_alike, replied_alike}
 use Rattle.fuse_theorem.proofs.Standing.{Stands, DeedStands, named_same, deed_same, makes_unless, files_after, named_after, given_stands}
 use Rattle.fuse_theorem.proofs.Sweeping.{found_any, swept_alike}
 use Rattle.fuse_theorem.proofs.Trees.{with_files, AllSame, DeedSame, told_same, numbers_same}
-
--- What is true of the server's tables: the root stands in none, and the coming open number is new.
-pub record TablesSound (s : Server) : Type 0 where
-  pub no_root : get s.nodes.rows 1 ≡ None
-  pub new_number : get s.handles.handles s.handles.next_fh ≡ None
 
 module _ (w : World) (p : Plain) (same : Alike w p) where
   abbrev Kept_if : ℕ → Bool
@@ -105,12 +101,10 @@ module _ (w : World) (p : Plain) (same : Alike w p) where
     open_for (read o offset size) b h = absurd h
     open_for (write o offset bytes) b h = absurd h
 
-module _ (w : World) (p : Plain) (same : Alike w p) (choice : ℕ → ℕ) (unique : ℕ) (t : HeldRequest) (operation : Operation ℕ Opened) (there : get w.server.held unique ≡ Some t) (body_is : t.body ≡ asks operation)
-    (unmarked : t.marked ≡ false) (still : is_still_held w.server.nodes t.generations ≡ true) (live : w.server.aborted ≡ false) (tables : TablesSound w.server) (one : IsOneToOne (MeansIn w))
-    (known : (id generation : ℕ) → generation_known w.kernel.nodes id ≡ Some generation → (file : ℕ) × Denotes w.server.nodes id generation file)
-    (none_pending : count_by (λ (e : ℕ × QueuedRequest Purpose). nat_eq unique e.0) (pending w.kernel.queues) ≡ 0) (none_sent : count_by (λ (r : Request). nat_eq unique r.unique) w.requests ≡ 0) where
+module _ (w : World) (p : Plain) (same : Alike w p) (choice : ℕ → ℕ) (unique : ℕ) (t : HeldRequest) (operation : Operation ℕ Opened) (can : CanPerform w unique t operation)
+    (tables : TablesSound w.server) (one : IsOneToOne (MeansIn w)) (known : KnownAreHeld w) where
   pub asked : AskedBy p.asks unique false t.marked (OperationAlike (Meant w.server.nodes t.generations) (MeantOpen w.server.nodes w.server.handles t.generations) operation)
-  asked = subst (RequestBodyAsked p.asks unique false t.marked (Meant w.server.nodes t.generations) (MeantOpen w.server.nodes w.server.handles t.generations)) body_is (same.requests.held unique t there)
+  asked = subst (RequestBodyAsked p.asks unique false t.marked (Meant w.server.nodes t.generations) (MeantOpen w.server.nodes w.server.handles t.generations)) can.body_is (same.requests.held unique t can.there)
 
   -- the operation of the ask, on the files
   abbrev deed : FileOperation
@@ -157,10 +151,10 @@ module _ (w : World) (p : Plain) (same : Alike w p) (choice : ℕ → ℕ) (uniq
 
   performed_is : performed choice s1 t ≡ record { server = s2; wire = wire2 }
   performed_is =
-      ap (λ (b : Bool). cond b (refusing s1 4) (cond (is_still_held w.server.nodes t.generations) (performing choice s1 t.body) (refusing s1 5))) unmarked
-      ∙ ap (λ (b : Bool). cond b (performing choice s1 t.body) (refusing s1 5)) still ∙ ap (performing choice s1) body_is
+      ap (λ (b : Bool). cond b (refusing s1 4) (cond (is_still_held w.server.nodes t.generations) (performing choice s1 t.body) (refusing s1 5))) can.unmarked
+      ∙ ap (λ (b : Bool). cond b (performing choice s1 t.body) (refusing s1 5)) can.still ∙ ap (performing choice s1) can.body_is
       ∙ ap (λ (b : Bool). cond b (doing choice s1 (file_operation_of w.server.nodes operation)) (refusing s1 9)) (open_for w p same t.generations operation deed asked.same)
-      ∙ ap (doing choice s1) (held_operation w.server.nodes w.server.handles t.generations operation deed asked.same) ∙ ap (λ (r : Reply ℕ ℕ). did r w.server.aborted) same_reply ∙ ap (did reply) live
+      ∙ ap (doing choice s1) (held_operation w.server.nodes w.server.handles t.generations operation deed asked.same) ∙ ap (λ (r : Reply ℕ ℕ). did r w.server.aborted) same_reply ∙ ap (did reply) can.live
     where
       did : Reply ℕ ℕ → Bool → PerformResult
       did r aborted = record {
@@ -190,11 +184,11 @@ module _ (w : World) (p : Plain) (same : Alike w p) (choice : ℕ → ℕ) (uniq
       ap (λ (d : PerformResult). after_perform w unique (record { server = replying (without_unheld_files d.server) unique d.wire; wire = d.wire })) performed_is
       ∙ (λ i. worlds.replying (record w {
         server = record s3 {
-          kept = cond (live i) w.server.kept (put w.server.kept unique kept2);
-          copies = cond (live i) w.server.copies copies2;
-          next_copy = cond (live i) w.server.next_copy (w.server.next_copy + 1);
+          kept = cond (can.live i) w.server.kept (put w.server.kept unique kept2);
+          copies = cond (can.live i) w.server.copies copies2;
+          next_copy = cond (can.live i) w.server.next_copy (w.server.next_copy + 1);
         };
-      }) w.server.next_copy unique (cond (live i) None (Some wire2)))
+      }) w.server.next_copy unique (cond (can.live i) None (Some wire2)))
 
   -- ---- the two are alike
 
@@ -213,8 +207,8 @@ module _ (w : World) (p : Plain) (same : Alike w p) (choice : ℕ → ℕ) (uniq
         there = asked.there;
         same_call = refl;
         same_operation = refl;
-        pending = λ i e lt same_key. absurd (true≢false (sym (subst (λ (n : ℕ). nat_eq unique n ≡ true) (sym same_key) (same_is unique)) ∙ none_passes (λ (x : ℕ × QueuedRequest Purpose). nat_eq unique x.0) (pending w.kernel.queues) none_pending i e lt));
-        sent = λ i r lt same_key. absurd (true≢false (sym (subst (λ (n : ℕ). nat_eq unique n ≡ true) (sym same_key) (same_is unique)) ∙ none_passes (λ (x : Request). nat_eq unique x.unique) w.requests none_sent i r lt));
+        pending = λ i e lt same_key. absurd (true≢false (sym (subst (λ (n : ℕ). nat_eq unique n ≡ true) (sym same_key) (same_is unique)) ∙ none_passes (λ (x : ℕ × QueuedRequest Purpose). nat_eq unique x.0) (pending w.kernel.queues) can.none_pending i e lt));
+        sent = λ i r lt same_key. absurd (true≢false (sym (subst (λ (n : ℕ). nat_eq unique n ≡ true) (sym same_key) (same_is unique)) ∙ none_passes (λ (x : Request). nat_eq unique x.unique) w.requests can.none_sent i r lt));
         held = λ x at. absurd (cc (at, get_gone_here w.server.held unique));
         noted = λ r under bears noted. noted;
         kept = λ k at was. absurd (subst (λ (s : Stage). StageTold w.server.nodes w.server.handles s k.wire) stage was);
@@ -299,6 +293,6 @@ module _ (w : World) (p : Plain) (same : Alike w p) (choice : ℕ → ℕ) (uniq
           ask_performed p unique asked.ask,
           (0,
           ap (λ (o : Option Ask). serving p unique o) asked.there ∙ ap (λ (s : Stage). serving_ask p unique asked.ask s) waits.stage
-          ∙ ap (λ (b : Bool). cond b (where_so asked.ask.noted (plain.ask_declined p unique asked.ask)) (Some (ask_performed p unique asked.ask))) (waits.marked_too ∙ unmarked)),
+          ∙ ap (λ (b : Bool). cond b (where_so asked.ask.noted (plain.ask_declined p unique asked.ask)) (Some (ask_performed p unique asked.ask))) (waits.marked_too ∙ can.unmarked)),
           subst (λ (v : World). Alike v (ask_performed p unique asked.ask)) (sym is_served) performed_alike,
         )

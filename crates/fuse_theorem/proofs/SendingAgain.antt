@@ -13,6 +13,7 @@ use Rattle.fuse_spec.specs.Plain.{Plain}
 use Rattle.fuse_spec.specs.Denotes.{MeansIn, Denotes, generation_known}
 use Rattle.fuse_spec.specs.Alike.{Alike}
 use Rattle.fuse_theorem.specs.Numbering.{IsOneToOne}
+use Rattle.fuse_theorem.specs.Conditions.{KnownAreHeld}
 use Rattle.fuse_theorem.proofs.Carrying.{grown, carried_alike}
 use Rattle.fuse_theorem.proofs.Giving.{counted_denotes, counted_open, one_grown}
 use Rattle.fuse_theorem.proofs.Serving.{copied_alike}
@@ -36,7 +37,7 @@ handles_same file (fh ∷ fhs) h = handles_same file fhs (handle_more h fh) ∙ 
     by (Some x) e = any_put (λ (y : OpenNumber). nat_eq y.file file) h.handles fh x (record x { count = x.count + 1 }) e refl
 
 -- Where the server holds what the kernel knows, all is alike afterwards.
-pub again_alike : (w : World) (p : Plain) → IsOneToOne (MeansIn w) → ((id generation : ℕ) → generation_known w.kernel.nodes id ≡ Some generation → (file : ℕ) × Denotes w.server.nodes id generation file) → Alike w p
+pub again_alike : (w : World) (p : Plain) → IsOneToOne (MeansIn w) → KnownAreHeld w → Alike w p
     → (unique : ℕ) (kept : Kept) → get w.server.kept unique ≡ Some kept → Alike (after_again w unique kept) p
 again_alike w p one held same unique kept there =
     let t = rows_counted w.server.nodes (files_in_reply kept.wire) in

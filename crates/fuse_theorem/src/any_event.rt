@@ -18,7 +18,25 @@ ghost use Rattle.fuse_spec.specs.Plain.{Plain, first_plain};
 ghost use Rattle.fuse_spec.specs.PlainSteps.{Takes};
 ghost use Rattle.fuse_spec.specs.Denotes.{MeansIn};
 ghost use Rattle.fuse_spec.specs.Alike.{Alike};
+ghost use Rattle.std.specs.Prelude.{◌++◌, [], ◌∷◌};
+ghost use Rattle.fuse_spec.specs.declared.Binding.{Binding};
+ghost use Rattle.fuse_spec.specs.declared.Opened.{Opened};
+ghost use Rattle.fuse_spec.specs.declared.WriteResult.TheVariants.{Accepted};
+ghost use Rattle.fuse_spec.specs.Maps.{get_name};
+ghost use Rattle.fuse_spec.specs.Paths.{Name};
+ghost use Rattle.fuse_spec.specs.Operations.{Operation, Reply, errno_of, files_in_reply};
+ghost use Rattle.fuse_spec.specs.FileOperations.{reply_by};
+ghost use Rattle.fuse_spec.specs.Vfs.{CallState};
+ghost use Rattle.fuse_spec.specs.Kernel.{is_live};
+ghost use Rattle.fuse_spec.specs.QueueCalls.{without as without_request};
+ghost use Rattle.fuse_spec.specs.Nodes.{MayChoose};
+ghost use Rattle.fuse_spec.specs.Plain.{Ask};
+ghost use Rattle.fuse_spec.specs.Replies.{replied_to_call};
+ghost use Rattle.fuse_spec.specs.Server.{HeldRequest, Kept};
+ghost use Rattle.fuse_spec.specs.Performs.{served};
+ghost use Rattle.fuse_spec.specs.Worlds.{Sent, after_perform, after_again, after_write, after_drop};
 ghost use Rattle.fuse_theorem.specs.Numbering.{IsNumbered, IsOneToOne};
+ghost use Rattle.fuse_theorem.specs.Conditions.{OneId, KnownAreHeld, TablesSound, CanPerform, IsReply};
 
 /// The world before its first mount is alike to the plain world with the root alone.
 pub fn first_worlds()
@@ -46,4 +64,32 @@ pub fn read_pending()
 pub fn take()
     ensures { (w : World) (p : Plain) → Alike w p → (k : ℕ) (r : Request) → slice_get w.requests k ≡ Some r →
         Alike (record w { requests = without w.requests k; server = holding w.server r.unique r.body }) p }
+{}
+
+/// The server performs a held request of a call, whatever its operation and whatever free nodeids it gives: the plain world performs the
+/// ask on the same files, and the reply that goes out says the same of them.
+pub fn perform()
+    ensures { (w : World) (p : Plain) (same : Alike w p) (choice : ℕ → ℕ) (unique : ℕ) (t : HeldRequest) (operation : Operation ℕ Opened) → CanPerform w unique t operation →
+        TablesSound w.server → OneId w.server.nodes → KnownAreHeld w →
+        ((ask : Ask) → get p.asks unique ≡ Some ask → MayChoose choice w.server.nodes (files_in_reply (reply_by p.validity p.tree ask.operation))) →
+        (q : Plain) × Takes p (event.perform unique) (event.performed unique (errno_of (served choice w.server unique t).wire) w.server.aborted) q × Alike (after_perform w unique (served choice w.server unique t)) q }
+{}
+
+/// One more copy of a kept reply goes out. That is no step of the plain world.
+pub fn again()
+    ensures { (w : World) (p : Plain) → OneId w.server.nodes → KnownAreHeld w → Alike w p → (unique : ℕ) (kept : Kept) → get w.server.kept unique ≡ Some kept → Alike (after_again w unique kept) p }
+{}
+
+/// The kernel accepts a reply to a call, whatever its operation: the call hears in both worlds what its ask came to, and what it asks next is
+/// asked in both.
+pub fn accept()
+    ensures { (w : World) (p : Plain) → IsNumbered w → OneId w.server.nodes → Alike w p → is_live w.kernel.phase ≡ true → (k : ℕ) (sent : Sent) (call : ℕ) (state : CallState Opened) (reply : Reply ℕ ℕ) → IsReply w p sent call state reply →
+        (q : Plain) × Takes p (event.write k) (event.written sent.unique Accepted) q
+        × Alike (after_write w k sent (replied_to_call (record w.kernel { queues = without_request w.kernel.queues sent.unique }) call sent.wire (get w.kernel.vfs.calls call))) q }
+{}
+
+/// A name in force is dropped.
+pub fn drop_name()
+    ensures { (w : World) (p : Plain) → IsOneToOne (MeansIn w) → Alike w p → (directory : ℕ) (name : Name) (bound : Binding) → get_name w.kernel.vfs.names (directory, name) ≡ Some bound →
+        (q : Plain) × Takes p (event.drop_name directory name) event.dropped q × Alike (after_drop w directory name) q }
 {}

@@ -1,0 +1,65 @@
+-- What the laws on single events need of the world. All of it holds from the first world on, as the events of the finished system keep it.
+use Rattle.std.specs.Prelude.{◌≡◌, ◌+◌, ℕ, Bool, true, false, cond, List, [], ◌∷◌, Option, Some, None, nat_eq, count_by, is_some}
+use Rattle.fuse_spec.specs.declared.Opened.{Opened}
+use Rattle.fuse_spec.specs.declared.Purpose.{Purpose}
+use Rattle.fuse_spec.specs.declared.Purpose.TheVariants as purpose
+use Rattle.fuse_spec.specs.declared.QueuedRequest.{QueuedRequest}
+use Rattle.fuse_spec.specs.Maps.{get}
+use Rattle.fuse_spec.specs.Operations.{Operation, Reply, opening, created, opened, files_in_reply}
+use Rattle.fuse_spec.specs.Vfs.{CallState, asked}
+use Rattle.fuse_spec.specs.Queues.{pending, request_under}
+use Rattle.fuse_spec.specs.Messages.{Request, RequestBody, asks, WireReply}
+use Rattle.fuse_spec.specs.Nodes.{NodeTable, HandleTable, is_open}
+use Rattle.fuse_spec.specs.Server.{Server, HeldRequest}
+use Rattle.fuse_spec.specs.Replies.{goes_with, usable, use_of_all}
+use Rattle.fuse_spec.specs.Performs.{is_still_held}
+use Rattle.fuse_spec.specs.Worlds.{World, Sent}
+use Rattle.fuse_spec.specs.Plain.{Plain, Ask}
+use Rattle.fuse_spec.specs.Plain as plain
+use Rattle.fuse_spec.specs.Denotes.{Denotes, MeansIn, MeansOpenIn, generation_known, OperationAlike, ReplyAlike, Names, Opens}
+
+-- No two nodes of the server's table have the same file.
+abbrev pub OneId : NodeTable → Type 0
+OneId t = (i j g h file : ℕ) → Denotes t i g file → Denotes t j h file → i ≡ j
+
+-- The server holds what the kernel knows, under the kernel's generation.
+abbrev pub KnownAreHeld : World → Type 0
+KnownAreHeld w = (id generation : ℕ) → generation_known w.kernel.nodes id ≡ Some generation → (file : ℕ) × Denotes w.server.nodes id generation file
+
+-- The root stands in no table, and the coming open number is new.
+pub record TablesSound (s : Server) : Type 0 where
+  pub no_root : get s.nodes.rows 1 ≡ None
+  pub new_number : get s.handles.handles s.handles.next_fh ≡ None
+
+-- The open number of a reply to CREATE or OPEN is one of the file that is created or opened.
+abbrev pub OpensItsFile : NodeTable → HandleTable → Operation ℕ Opened → WireReply → Type 0
+OpensItsFile t h operation (created g v fh) = (file : ℕ) → Denotes t g.nodeid g.generation file → is_open h fh file ≡ true
+OpensItsFile t h (opening node) (opened fh) = (generation file : ℕ) → Denotes t node generation file → is_open h fh file ≡ true
+OpensItsFile t h operation wire = Unit {0}
+
+-- A request of a call that the server can perform: it is held alone under its number, no INTERRUPT marked it, the mount lives, and
+-- its nodes are held as they were when it was taken.
+pub record CanPerform (w : World) (unique : ℕ) (t : HeldRequest) (operation : Operation ℕ Opened) : Type 0 where
+  pub there : get w.server.held unique ≡ Some t
+  pub body_is : t.body ≡ asks operation
+  pub unmarked : t.marked ≡ false
+  pub still : is_still_held w.server.nodes t.generations ≡ true
+  pub live : w.server.aborted ≡ false
+  pub none_pending : count_by (λ (e : ℕ × QueuedRequest Purpose). nat_eq unique e.0) (pending w.kernel.queues) ≡ 0
+  pub none_sent : count_by (λ (r : Request). nat_eq unique r.unique) w.requests ≡ 0
+
+-- A copy that replies to the request of an unanswered call, whose ask was performed: it goes with the operation, and its entries can be used.
+pub record IsReply (w : World) (p : Plain) (sent : Sent) (call : ℕ) (state : CallState Opened) (reply : Reply ℕ ℕ) : Type 0 where
+  pub request : QueuedRequest Purpose
+  pub under : request_under w.kernel.queues sent.unique ≡ Some request
+  pub serves : request.kept ≡ purpose.Call call
+  pub state_is : get w.kernel.vfs.calls call ≡ Some state
+  pub ask : Ask
+  pub there : get p.asks sent.unique ≡ Some ask
+  pub by_call : ask.call ≡ call
+  pub same : OperationAlike (MeansIn w) (MeansOpenIn w) (asked state) ask.operation
+  pub stage : ask.stage ≡ plain.performed reply
+  pub told : ReplyAlike (Names w.server.nodes) (Opens w.server.handles) sent.wire reply
+  pub goes : goes_with (asked state) sent.wire ≡ true
+  pub used : use_of_all w.kernel.nodes (files_in_reply sent.wire) ≡ usable
+  pub opens : OpensItsFile w.server.nodes w.server.handles (asked state) sent.wire
