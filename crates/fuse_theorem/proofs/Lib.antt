@@ -31,6 +31,7 @@ pub mod Naming
 pub mod Performing
 pub mod Learning
 pub mod Accepting
+pub mod Noting
 pub mod OnlyRoots
 pub mod FirstCalls
 pub mod Numbered
