@@ -13,6 +13,10 @@ abbrev pub generation_at : Option CountedNode → Option ℕ
 generation_at None = None
 generation_at (Some node) = Some node.generation
 
+abbrev pub pins_at : Option CountedNode → ℕ
+pins_at None = 0
+pins_at (Some node) = node.pins
+
 -- The id is counted under another generation.
 abbrev pub IsUnlike : Option CountedNode → ℕ → Type 0
 IsUnlike None generation = ⊥

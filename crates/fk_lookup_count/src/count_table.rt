@@ -3,7 +3,7 @@ ghost use Rattle.std.specs.Prelude.{◌≡◌, ◌≢◌, ℕ, ◌+◌, ◌^◌,
 ghost use Rattle.std.specs.Option.{ForSome};
 ghost use Rattle.fuse_spec.specs.Maps.{Map, get};
 ghost use Rattle.fk_lookup_count.specs.declared.counted_node.CountedNode.{CountedNode};
-ghost use Rattle.fk_lookup_count.specs.CountedNodes.{count_at, generation_at, IsUnlike, learnt, pinned, unpinned, forget_of, evicted, listed};
+ghost use Rattle.fk_lookup_count.specs.CountedNodes.{count_at, generation_at, pins_at, IsUnlike, learnt, pinned, unpinned, forget_of, evicted, listed};
 
 use crate::counted_node::Forget;
 use crate::unlike::Unlike;
@@ -57,6 +57,10 @@ pub trait CountTable {
     /// The generation under which an id is counted.
     fn generation_of(&self, id: u64) -> Option<u64>
         ensures { result ≡ generation_at (get (counted self.now) id) };
+
+    /// How many uses pin an id.
+    fn pins_of(&self, id: u64) -> u64
+        ensures { result ≡ pins_at (get (counted self.now) id) };
 
     /// Pins a counted id once more.
     fn pin(&mut self, id: u64)

@@ -101,6 +101,13 @@ impl<S: Slots> CountTable for CountsOf<S> {
         }
     }
 
+    fn pins_of(&self, id: u64) -> u64 {
+        match self.node(id) {
+            None => 0,
+            Some(node) => node.pins,
+        }
+    }
+
     fn pin(&mut self, id: u64) {
         if let Some(node) = self.node(id) {
             let more = CountedNode {
