@@ -92,41 +92,40 @@ module _ {slots : Slots} {key : Place} {place : ℕ} (r : EntryOf slots key plac
         let all = t.named q in
         omega arith
 
-    module _ (left : List ℕ) (gone : (q : ℕ) → times q left + times q held ≡ times q ids) (fewer : length left + length held ≡ length ids) where
-      pub room_left : length left + 2 ≤ capacity
-      room_left =
-          let room = mentions_room slots place r.entry r.bound in
+    pub room_held : length ids + 2 ≤ capacity + length held
+    room_held =
+        let room = mentions_room slots place r.entry r.bound in
+        let here = ap length held_is in
+        let many = t.many in
+        let fits = t.room in
+        omega arith
+
+    pub table-put : (binding : Binding) (after : List ℕ) → ((q : ℕ) → times q after + times q held ≡ times q ids + times q (named key.0 binding.target))
+        → length after + length held ≡ length ids + length (named key.0 binding.target) → IsTable (put_name slots key (Some binding)) after capacity
+    table-put binding after swapped as_many = record {
+      sorted = sorted-put slots key (Some binding) t.sorted;
+      named = λ q.
+          let new : times q (named_in (r.entry.0, Some binding)) ≡ times q (named key.0 binding.target) = ap (λ (p : Place). times q (named p.0 binding.target)) (sym key_is) in
+          let set_at = sum_by-set (λ s. times q (named_in s)) slots place (r.entry.0, Some binding) r.entry r.bound in
+          let here = ap (times q) held_is in
+          let was = t.named q in
+          let now = swapped q in
+          let is = ap (uses q) (put_there (Some binding)) in
+          omega arith;
+      many =
+          let new : length (named_in (r.entry.0, Some binding)) ≡ length (named key.0 binding.target) = ap (λ (p : Place). length (named p.0 binding.target)) (sym key_is) in
+          let set_at = sum_by-set (λ s. length (named_in s)) slots place (r.entry.0, Some binding) r.entry r.bound in
           let here = ap length held_is in
-          let many = t.many in
+          let was = t.many in
+          let is = ap mentions (put_there (Some binding)) in
+          omega arith;
+      room =
+          let same : length (put_name slots key (Some binding)) ≡ length slots = ap length (sym (put_there (Some binding))) ∙ length-set slots place (r.entry.0, Some binding) in
           let fits = t.room in
-          omega arith
+          omega arith;
+    }
 
-      pub table-put : (binding : Binding) (after : List ℕ) → ((q : ℕ) → times q after ≡ times q left + times q (named key.0 binding.target)) → length after ≡ length left + length (named key.0 binding.target)
-          → IsTable (put_name slots key (Some binding)) after capacity
-      table-put binding after came more = record {
-        sorted = sorted-put slots key (Some binding) t.sorted;
-        named = λ q.
-            let new : times q (named_in (r.entry.0, Some binding)) ≡ times q (named key.0 binding.target) = ap (λ (p : Place). times q (named p.0 binding.target)) (sym key_is) in
-            let set_at = sum_by-set (λ s. times q (named_in s)) slots place (r.entry.0, Some binding) r.entry r.bound in
-            let here = ap (times q) held_is in
-            let was = t.named q in
-            let out = gone q in
-            let back = came q in
-            let is = ap (uses q) (put_there (Some binding)) in
-            omega arith;
-        many =
-            let new : length (named_in (r.entry.0, Some binding)) ≡ length (named key.0 binding.target) = ap (λ (p : Place). length (named p.0 binding.target)) (sym key_is) in
-            let set_at = sum_by-set (λ s. length (named_in s)) slots place (r.entry.0, Some binding) r.entry r.bound in
-            let here = ap length held_is in
-            let was = t.many in
-            let is = ap mentions (put_there (Some binding)) in
-            omega arith;
-        room =
-            let same : length (put_name slots key (Some binding)) ≡ length slots = ap length (sym (put_there (Some binding))) ∙ length-set slots place (r.entry.0, Some binding) in
-            let fits = t.room in
-            omega arith;
-      }
-
+    module _ (left : List ℕ) (gone : (q : ℕ) → times q left + times q held ≡ times q ids) (fewer : length left + length held ≡ length ids) where
       pub table-remove : IsTable (remove_name slots key) left capacity
       table-remove = record {
         sorted = sorted-remove slots key t.sorted;

@@ -105,12 +105,20 @@ impl<A: Allocator + Copy> Bindings<A> {
         ensures names { self.new.names ≡ put_name self.old.names (directory, name.now) (record { target = target; until = until }) }
         ensures kept { (other : Place) → HasRoom self.old other → HasRoom self.new other }
     {
+        self.set(directory, name, Binding { target, until });
+    }
+
+    fn set(&mut self, directory: u64, name: &[u8], binding: Binding)
+        requires { HasRoom self.old (directory, name.now) }
+        ensures names { self.new.names ≡ put_name self.old.names (directory, name.now) binding }
+        ensures kept { (other : Place) → HasRoom self.old other → HasRoom self.new other }
+    {
         let Some(place) = find_in(&self.rows, directory, name) else {
             return;
         };
-        self.nodes.leave(directory, binding_at(&self.rows, place));
-        self.nodes.enter(directory, target);
-        bind(&mut self.rows, place, Binding { target, until });
+        let old = binding_at(&self.rows, place);
+        self.nodes.replace(directory, old, binding.target);
+        bind(&mut self.rows, place, binding);
     }
 
     /// Removes the binding of a name and its room. Says whether it was bound, also after its end.
@@ -119,12 +127,20 @@ impl<A: Allocator + Copy> Bindings<A> {
         ensures names { self.new.names ≡ remove_name self.old.names (directory, name.now) }
         ensures kept { (other : Place) → other ≢ (directory, name.now) → HasRoom self.old other → HasRoom self.new other }
     {
+        self.take_out(directory, name).is_some()
+    }
+
+    fn take_out(&mut self, directory: u64, name: &[u8]) -> Option<Binding>
+        ensures bound { result ≡ get_name self.old.names (directory, name.now) }
+        ensures names { self.new.names ≡ remove_name self.old.names (directory, name.now) }
+        ensures kept { (other : Place) → other ≢ (directory, name.now) → HasRoom self.old other → HasRoom self.new other }
+    {
         let Some(place) = find_in(&self.rows, directory, name) else {
-            return false;
+            return None;
         };
         let binding = take_out(&mut self.rows, place);
         self.nodes.leave(directory, binding);
-        binding.is_some()
+        binding
     }
 
     /// Removes all bindings, and their room.

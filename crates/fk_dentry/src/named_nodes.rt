@@ -1,5 +1,5 @@
 //! How many bindings name each node.
-ghost use Rattle.std.specs.Prelude.{◌≡◌, ℕ, ◌+◌, ◌<◌, ◌≤◌, [], cond, length, nat_eq, nat_lt, vec_len, vec_capacity, OnOk, IsOk, T};
+ghost use Rattle.std.specs.Prelude.{◌≡◌, ℕ, ◌+◌, ◌<◌, ◌≤◌, [], cond, length, nat_eq, nat_lt, vec_len, vec_capacity, OnOk, IsOk, IsTrue, T};
 ghost use Rattle.fk_dentry.specs.Named.{is_rising, place_under, times, named, named_by};
 
 use fuse_spec::Binding;
@@ -67,8 +67,23 @@ impl<A: Allocator> NamedNodes<A> {
         let _id = self.ids.remove(place);
     }
 
+    /// A binding replaces another, if there was one.
+    pub fn replace(&mut self, directory: u64, old: Option<Binding>, target: Option<u64>)
+        requires named { (q : ℕ) → times q (named_by directory old) ≤ times q self.old.ids.items }
+        requires room { vec_len self.old.ids + 2 ≤ vec_capacity self.old.ids + length (named_by directory old) }
+        ensures times { (q : ℕ) → times q self.new.ids.items + times q (named_by directory old) ≡ times q self.old.ids.items + times q (named directory target) }
+        ensures len { vec_len self.new.ids + length (named_by directory old) ≡ vec_len self.old.ids + length (named directory target) }
+        ensures capacity { vec_capacity self.new.ids ≡ vec_capacity self.old.ids }
+    {
+        if names_the_same(old, target) {
+            return;
+        }
+        self.leave(directory, old);
+        self.enter(directory, target);
+    }
+
     /// A binding is new.
-    pub fn enter(&mut self, directory: u64, target: Option<u64>)
+    fn enter(&mut self, directory: u64, target: Option<u64>)
         requires { vec_len self.old.ids + 2 ≤ vec_capacity self.old.ids }
         ensures times { (q : ℕ) → times q self.new.ids.items ≡ times q self.old.ids.items + times q (named directory target) }
         ensures len { vec_len self.new.ids ≡ vec_len self.old.ids + length (named directory target) }
@@ -105,6 +120,16 @@ impl<A: Allocator> NamedNodes<A> {
     {
         self.ids.clear();
     }
+}
+
+/// Whether there is a binding, with this target.
+fn names_the_same(binding: Option<Binding>, target: Option<u64>) -> bool
+    ensures { IsTrue result → (directory : ℕ) → named_by directory binding ≡ named directory target }
+{
+    let Some(binding) = binding else {
+        return false;
+    };
+    binding.target == target
 }
 
 /// How many of the ids, from the first on, are lower.

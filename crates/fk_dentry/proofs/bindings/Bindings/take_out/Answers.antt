@@ -8,14 +8,14 @@ use Rattle.fk_dentry.proofs.BoundNames.{bound_in, get-names, names-remove, room-
 use Rattle.fk_dentry.proofs.PlaceOrder.{place_total}
 use Rattle.fk_dentry.proofs.SortedEntries.{absent_is}
 use Rattle.fk_dentry.proofs.TableLemmas.{get_is, held_among, table-remove}
-use Rattle.fk_dentry.proofs.bindings.Bindings.remove.Goals as goal
+use Rattle.fk_dentry.proofs.bindings.Bindings.take_out.Goals as goal
 
 pub returns-in_default-clause-bound : goal.returns-in_default-clause-bound
 returns-in_default-clause-bound g c =
     let key : Place = (c.args.directory, c.args.name.now) in
     let slots = slots_of c.self.inside.rows.items in
     let none = rw c.deref.ensures.value at c.in_default.ensures in
-    rw (← c.self.view_is) (sym (ap is_some (get-names slots c.self.invariant.sorted key ∙ ap bound_in none)))
+    rw (← c.self.view_is) (sym (get-names slots c.self.invariant.sorted key ∙ ap bound_in none))
 
 pub returns-in_default-clause-names : goal.returns-in_default-clause-names
 returns-in_default-clause-names g c =
@@ -51,7 +51,7 @@ returns-clause-bound g c =
     let r = rw c.deref.ensures.value at c.in-Some.ensures in
     let binding = c.take_out-binding.ensures.binding key r in
     let slots = slots_of c.self.inside.rows.items in
-    rw (← c.self.view_is) (c.is_some.ensures ∙ ap is_some (binding ∙ sym (get-names slots c.self.invariant.sorted key ∙ ap bound_in (get_is r c.self.invariant.sorted))))
+    rw (← c.self.view_is) (binding ∙ sym (get-names slots c.self.invariant.sorted key ∙ ap bound_in (get_is r c.self.invariant.sorted)))
 
 pub returns-clause-names : goal.returns-clause-names
 returns-clause-names g c =
