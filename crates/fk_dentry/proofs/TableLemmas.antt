@@ -10,12 +10,13 @@ use Rattle.std.proofs.lemmas.List.{length-set, length-map}
 use Rattle.std.proofs.lemmas.List.Edits.{length-insert, length-remove}
 use Rattle.std.proofs.lemmas.List.Sums.{sum_by-cons, sum_by-set, sum_by-insert, sum_by-remove}
 use Rattle.std.proofs.lemmas.Option.{same_Some, slice_get_read, slice_get_past, slice_get-map, get_or_from_slice_get}
+use Rattle.std.specs.declared.boxed.Box.{Box}
 use Rattle.fuse_spec.specs.declared.Binding.{Binding}
 use Rattle.fuse_spec.specs.Maps.{Place, place_cmp, get_name, put_name, remove_name}
 use Rattle.fk_dentry.specs.declared.row.Row.{Row}
 use Rattle.fk_dentry.specs.Named.{times, named, named_by, named_in, uses, mentions}
 use Rattle.fk_dentry.specs.Places.{place_among, IsEntryOf}
-use Rattle.fk_dentry.specs.Rows.{place_of_row, slots_of, IsTable}
+use Rattle.fk_dentry.specs.Rows.{place_of_row, slot_of, slots_of, IsTable}
 use Rattle.fk_dentry.proofs.PlaceOrder.{place_total, place_same}
 use Rattle.fk_dentry.proofs.SortedEntries.{map_insert, map_remove, map_set, found, found_is, put_is, set_is, removed_is}
 use Rattle.fk_dentry.proofs.BoundNames.{Slots, sorted-put, sorted-remove}
@@ -179,65 +180,65 @@ table-room {slots = slots} {ids = ids} key most t none fits = record {
 
 -- ---- rows
 
-module _ {A : Type 0} (rows : List (Row A)) where
+module _ {A : Type 0} (rows : List (Box (Row A) A)) where
   pub length-slots : length (slots_of rows) ≡ length rows
-  length-slots = length-map rows (λ (x : Row A). (place_of_row x, x.binding))
+  length-slots = length-map rows slot_of
 
   -- the entry of a row that was read
-  pub row_is : {key : Place} {place : ℕ} (r : EntryOf (slots_of rows) key place) (row : Row A) → row ≡ slice_index_or rows place row → r.entry ≡ (place_of_row row, row.binding)
+  pub row_is : {key : Place} {place : ℕ} (r : EntryOf (slots_of rows) key place) (row : Box (Row A) A) → row ≡ slice_index_or rows place row → r.entry ≡ (place_of_row row.value, row.value.binding)
   row_is {place = place} r row is =
       let bound : place < length rows = subst (λ n. place < n) length-slots r.bound in
-      same_Some r.entry _ (sym r.there ∙ slice_get-map (λ (x : Row A). (place_of_row x, x.binding)) rows place ∙ ap (λ o. option_map (λ (x : Row A). (place_of_row x, x.binding)) o) (slice_get_read rows (length rows) place row refl bound is))
+      same_Some r.entry _ (sym r.there ∙ slice_get-map slot_of rows place ∙ ap (λ o. option_map slot_of o) (slice_get_read rows (length rows) place row refl bound is))
 
-  pub slots-put : {key : Place} {place : ℕ} (r : EntryOf (slots_of rows) key place) (row : Row A) (binding : Option Binding) → row ≡ slice_index_or rows place row
-      → slots_of (set rows place (record row { binding = binding })) ≡ put_name (slots_of rows) key binding
+  pub slots-put : {key : Place} {place : ℕ} (r : EntryOf (slots_of rows) key place) (row : Box (Row A) A) (binding : Option Binding) → row ≡ slice_index_or rows place row
+      → slots_of (set rows place (record row { value = record row.value { binding = binding } })) ≡ put_name (slots_of rows) key binding
   slots-put {place = place} r row binding is =
-      map_set (λ (x : Row A). (place_of_row x, x.binding)) rows place (record row { binding = binding })
+      map_set slot_of rows place (record row { value = record row.value { binding = binding } })
       ∙ ap (λ (e : Place × Option Binding). set (slots_of rows) place (e.0, binding)) (sym (row_is r row is)) ∙ put_there r binding
 
   pub slots-remove : {key : Place} {place : ℕ} → EntryOf (slots_of rows) key place → T (is_sorted place_cmp (slots_of rows)) → slots_of (remove rows place) ≡ remove_name (slots_of rows) key
-  slots-remove {place = place} r h = map_remove (λ (x : Row A). (place_of_row x, x.binding)) rows place ∙ remove_there r h
+  slots-remove {place = place} r h = map_remove slot_of rows place ∙ remove_there r h
 
-  pub slots-insert : (key : Place) (place : ℕ) (row : Row A) → place ≡ place_among place_cmp key (slots_of rows) → place_of_row row ≡ key → row.binding ≡ None → get_name (slots_of rows) key ≡ None
+  pub slots-insert : (key : Place) (place : ℕ) (row : Box (Row A) A) → place ≡ place_among place_cmp key (slots_of rows) → place_of_row row.value ≡ key → row.value.binding ≡ None → get_name (slots_of rows) key ≡ None
       → slots_of (insert rows place row) ≡ put_name (slots_of rows) key None
   slots-insert key place row at same unbound none =
-      map_insert (λ (x : Row A). (place_of_row x, x.binding)) rows place row ∙ ap (λ (k : Place). insert (slots_of rows) place (k, row.binding)) same
+      map_insert slot_of rows place row ∙ ap (λ (k : Place). insert (slots_of rows) place (k, row.value.binding)) same
       ∙ ap (λ (b : Option Binding). insert (slots_of rows) place (key, b)) unbound ∙ ap (λ i. insert (slots_of rows) i (key, None)) at ∙ put_is place_cmp place_total key None (slots_of rows) none
 
   -- the same at the place where the rows that were seen have it
-  pub slots-insert_at : (seen : List (Row A)) (key : Place) (place : ℕ) (row : Row A) → seen ≡ rows → place ≡ place_among place_cmp key (slots_of seen) → place_of_row row ≡ key → row.binding ≡ None
+  pub slots-insert_at : (seen : List (Box (Row A) A)) (key : Place) (place : ℕ) (row : Box (Row A) A) → seen ≡ rows → place ≡ place_among place_cmp key (slots_of seen) → place_of_row row.value ≡ key → row.value.binding ≡ None
       → get_name (slots_of rows) key ≡ None → slots_of (insert rows place row) ≡ put_name (slots_of rows) key None
-  slots-insert_at seen key place row same at of_key unbound none = slots-insert key place row (at ∙ ap (λ (rs : List (Row A)). place_among place_cmp key (slots_of rs)) same) of_key unbound none
+  slots-insert_at seen key place row same at of_key unbound none = slots-insert key place row (at ∙ ap (λ (rs : List (Box (Row A) A)). place_among place_cmp key (slots_of rs)) same) of_key unbound none
 
   -- ---- what a search ends at
 
   found_at : (key : Place) (place : ℕ) → T (is_sorted place_cmp (slots_of rows)) → place ≡ place_among place_cmp key (slots_of rows)
-      → get_name (slots_of rows) key ≡ found place_cmp place_total key (option_map (λ (x : Row A). (place_of_row x, x.binding)) (slice_get rows place))
+      → get_name (slots_of rows) key ≡ found place_cmp place_total key (option_map slot_of (slice_get rows place))
   found_at key place h at =
       found_is place_cmp place_total key (slots_of rows) h ∙ ap (λ i. found place_cmp place_total key (slice_get (slots_of rows) i)) (sym at)
-      ∙ ap (found place_cmp place_total key) (slice_get-map (λ (x : Row A). (place_of_row x, x.binding)) rows place)
+      ∙ ap (found place_cmp place_total key) (slice_get-map slot_of rows place)
 
   pub none_past : (key : Place) (place : ℕ) → T (is_sorted place_cmp (slots_of rows)) → place ≡ place_among place_cmp key (slots_of rows) → place ≡ length rows → get_name (slots_of rows) key ≡ None
-  none_past key place h at end = found_at key place h at ∙ ap (λ o. found place_cmp place_total key (option_map (λ (x : Row A). (place_of_row x, x.binding)) o)) (slice_get_past rows place (omega arith))
+  none_past key place h at end = found_at key place h at ∙ ap (λ o. found place_cmp place_total key (option_map slot_of o)) (slice_get_past rows place (omega arith))
 
-  pub none_other : (key : Place) (place : ℕ) (row : Row A) → T (is_sorted place_cmp (slots_of rows)) → place ≡ place_among place_cmp key (slots_of rows) → place ≤ length rows → place ≢ length rows → row ≡ slice_index_or rows place row
-      → is_eq (place_cmp key (place_of_row row)) ≡ false → get_name (slots_of rows) key ≡ None
+  pub none_other : (key : Place) (place : ℕ) (row : Box (Row A) A) → T (is_sorted place_cmp (slots_of rows)) → place ≡ place_among place_cmp key (slots_of rows) → place ≤ length rows → place ≢ length rows → row ≡ slice_index_or rows place row
+      → is_eq (place_cmp key (place_of_row row.value)) ≡ false → get_name (slots_of rows) key ≡ None
   none_other key place row h at le ne is other =
       let there : slice_get rows place ≡ Some row = slice_get_read rows (length rows) place row refl (omega arith) is in
-      found_at key place h at ∙ ap (λ o. found place_cmp place_total key (option_map (λ (x : Row A). (place_of_row x, x.binding)) o)) there ∙ ap (λ b. cond b (Some row.binding) None) other
+      found_at key place h at ∙ ap (λ o. found place_cmp place_total key (option_map slot_of o)) there ∙ ap (λ b. cond b (Some row.value.binding) None) other
 
   equal : (r : Ordering) → is_eq r ≡ true → r ≡ Equal
   equal Less e = absurd (subst T (sym e) tt)
   equal Equal e = refl
   equal Greater e = absurd (subst T (sym e) tt)
 
-  pub row_there : (key : Place) (place : ℕ) (row : Row A) → place ≡ place_among place_cmp key (slots_of rows) → place ≤ length rows → place ≢ length rows → row ≡ slice_index_or rows place row
-      → is_eq (place_cmp key (place_of_row row)) ≡ true → EntryOf (slots_of rows) key place
+  pub row_there : (key : Place) (place : ℕ) (row : Box (Row A) A) → place ≡ place_among place_cmp key (slots_of rows) → place ≤ length rows → place ≢ length rows → row ≡ slice_index_or rows place row
+      → is_eq (place_cmp key (place_of_row row.value)) ≡ true → EntryOf (slots_of rows) key place
   row_there key place row at le ne is same = record {
     at = at;
     bound = subst (λ n. place < n) (sym length-slots) (omega arith);
-    entry = (place_of_row row, row.binding);
-    there = slice_get-map (λ (x : Row A). (place_of_row x, x.binding)) rows place ∙ ap (option_map (λ (x : Row A). (place_of_row x, x.binding))) (slice_get_read rows (length rows) place row refl (omega arith) is);
+    entry = (place_of_row row.value, row.value.binding);
+    there = slice_get-map slot_of rows place ∙ ap (option_map slot_of) (slice_get_read rows (length rows) place row refl (omega arith) is);
     same = equal _ same;
   }
 

@@ -26,7 +26,7 @@ use std::marker::Model;
 /// | `clear` | `n` steps |
 #[derive(Drop)]
 pub struct Bindings<A: Allocator = Global> {
-    rows: Vec<Row<A>, A>,
+    rows: Vec<Box<Row<A>, A>, A>,
     nodes: NamedNodes<A>,
 }
 
@@ -93,9 +93,15 @@ impl<A: Allocator + Copy> Bindings<A> {
         }
         let alloc = *self.rows.allocator();
         let name = name.to_vec(alloc)?;
+        let row = Row {
+            directory,
+            name,
+            binding: None,
+        };
+        let row = Box::new(alloc, row)?;
         self.rows.reserve(1)?;
         self.nodes.reserve_in_all(2 * self.rows.capacity())?;
-        add(&mut self.rows, directory, name);
+        add(&mut self.rows, row);
         Ok(())
     }
 

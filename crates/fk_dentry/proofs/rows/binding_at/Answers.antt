@@ -7,5 +7,5 @@ use Rattle.fk_dentry.proofs.rows.binding_at.Goals as goal
 
 pub returns : goal.returns
 returns g c = λ key r.
-    ap (λ (row : Row _). row.binding) (sym c.index-rows-place.is)
-    ∙ sym (ap (λ (e : Place × Option Binding). e.1) (row_is c.args.rows.now r _ c.index-rows-place.is))
+    ap (λ (row : Row _). row.binding) c.deref.ensures
+    ∙ sym (ap (λ (e : Place × Option Binding). e.1) (row_is c.args.rows.now r c.index-rows-place.result c.index-rows-place.is))

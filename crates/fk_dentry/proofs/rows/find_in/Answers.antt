@@ -12,10 +12,10 @@ pub returns-then-is_of : goal.returns-then-is_of
 returns-then-is_of g c =
     let key : Place = (c.args.directory, c.args.name.now) in
     row_there c.args.rows.now key c.place_in-place.result _ c.place_in-place.ensures.place c.place_in-place.ensures.bound c.if-place-rows.false c.index-rows-place.is
-    (sym c.is_of.ensures ∙ c.if-is_of.true)
+    (sym (rw c.deref.ensures at c.is_of.ensures) ∙ c.if-is_of.true)
 
 pub returns-else-is_of : goal.returns-else-is_of
 returns-else-is_of g c =
     let key : Place = (c.args.directory, c.args.name.now) in
     none_other c.args.rows.now key c.place_in-place.result _ c.requires c.place_in-place.ensures.place c.place_in-place.ensures.bound c.if-place-rows.false c.index-rows-place.is
-    (sym c.is_of.ensures ∙ c.if-is_of.false)
+    (sym (rw c.deref.ensures at c.is_of.ensures) ∙ c.if-is_of.false)
