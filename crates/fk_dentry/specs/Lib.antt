@@ -1,0 +1,4 @@
+pub mod Places
+pub mod Rows
+pub mod Named
+pub mod NamesInForce

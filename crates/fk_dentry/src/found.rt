@@ -1,0 +1,12 @@
+//! What a look-up of a name finds.
+
+/// What the names in force say of a name.
+#[derive(Clone, Copy, Debug, PartialEq, Eq)]
+pub enum Found {
+    /// It leads to the node of this id.
+    Node(u64),
+    /// The directory has no such name.
+    Missing,
+    /// Nothing that is still valid.
+    Unknown,
+}

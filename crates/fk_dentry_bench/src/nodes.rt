@@ -1,0 +1,50 @@
+//! The counted nodes.
+use crate::{Measured, nanos};
+use anyhow::Error;
+use fk_lookup_count::{CountTable, KernelNodes};
+use std::time::Instant;
+
+/// How many nodes are evicted before they are counted again.
+const BATCH: u64 = 8;
+
+/// Counts a node, with room made before.
+fn learn(nodes: &mut KernelNodes, id: u64) -> Result<(), Error> {
+    nodes.reserve(id)?;
+    if nodes.count_of(id) < u64::MAX {
+        nodes.learn(id, 1)?;
+    }
+    Ok(())
+}
+
+/// The id of a place, counted round and round.
+fn id_of(place: u64, size: u64) -> u64 {
+    (place % size.max(1)).saturating_add(2)
+}
+
+/// Evicts nodes, eight in a row. That they are counted again takes no part in the time.
+pub fn evict(rt: &HostRuntime, size: u64, rounds: u32) -> Result<Measured, Error> {
+    let mut nodes: KernelNodes = CountTable::new(rt.alloc());
+    for place in 0..size {
+        learn(&mut nodes, id_of(place, size))?;
+    }
+    let mut total = 0u64;
+    let mut time = 0u64;
+    for round in 0..rounds {
+        let first = (round as u64).wrapping_mul(BATCH);
+        let start = Instant::now(rt)?;
+        for place in first..first.saturating_add(BATCH) {
+            if let Some(forget) = nodes.evict(id_of(place, size)) {
+                total = total.wrapping_add(forget.nlookup);
+            }
+        }
+        time = time.saturating_add(nanos(Instant::now(rt)?.duration_since(start)));
+        for place in first..first.saturating_add(BATCH) {
+            learn(&mut nodes, id_of(place, size))?;
+        }
+    }
+    Ok(Measured {
+        calls: (rounds as u64).saturating_mul(BATCH),
+        nanos: time,
+        total,
+    })
+}

@@ -1,0 +1,29 @@
+-- A slab of slots, and the place of each id there.
+use Rattle.std.specs.Prelude.{◌≡◌, ℕ, List, Option, Some, IsSome, map}
+use Rattle.std.specs.Prelude.{slice_index_or, None}
+use Rattle.std.specs.Option.{unwrap_or}
+use Rattle.std.specs.Ordering.{nat_cmp}
+use Rattle.std.specs.Map.{lookup}
+use Rattle.std.specs.BTreeMap.{is_at}
+use Rattle.fuse_spec.specs.Maps.{Map}
+use Rattle.fk_lookup_count.specs.declared.counted_node.CountedNode.{CountedNode}
+
+abbrev pub at_place : List (Option CountedNode) → ℕ → Option CountedNode
+at_place slots place = slice_index_or slots place None
+
+-- The place of an id.
+abbrev pub place_under : List (ℕ × ℕ) → ℕ → Option ℕ
+place_under places id = lookup (is_at (nat_cmp id)) places
+
+-- What stands at a place.
+abbrev pub standing : List (Option CountedNode) → ℕ → CountedNode
+standing slots place = unwrap_or (at_place slots place) (record { generation = 0; count = 0; pins = 0 })
+
+-- The slots by id.
+abbrev pub rows_of : List (Option CountedNode) → List (ℕ × ℕ) → Map CountedNode
+rows_of slots places = map (λ e. (e.0, standing slots e.1)) places
+
+-- Each id's place holds a slot, and no two ids share one.
+pub record IsTable (slots : List (Option CountedNode)) (places : List (ℕ × ℕ)) : Type 0 where
+  pub leads : (id place : ℕ) → place_under places id ≡ Some place → IsSome (at_place slots place)
+  pub apart : (id other place : ℕ) → place_under places id ≡ Some place → place_under places other ≡ Some place → id ≡ other

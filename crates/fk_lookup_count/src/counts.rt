@@ -1,0 +1,150 @@
+//! The calls of the table, over either kind of slots.
+ghost use Rattle.std.specs.Prelude.{◌≡◌, ◌≢◌, ℕ, ◌+◌, ◌-◌, ◌<◌, ◌≤◌, Some, IsSome, IfSome};
+ghost use Rattle.std.specs.FinMap.{get as slot_of};
+ghost use Rattle.fuse_spec.specs.Maps.{get, put, remove};
+ghost use Rattle.fk_lookup_count.specs.Slots.{nodes_in};
+
+use crate::count_table::CountTable;
+use crate::counted_node::{CountedNode, Forget};
+use crate::slots::Slots;
+use crate::unlike::Unlike;
+use std::alloc::AllocError;
+
+/// The counted nodes, in slots under their ids.
+#[derive(Drop)]
+pub struct CountsOf<S: Slots> {
+    slots: S,
+}
+
+impl<S: Slots> CountsOf<S> {
+    /// The node that is counted under an id.
+    fn node(&self, id: u64) -> Option<CountedNode>
+        ensures node { result ≡ get (nodes_in (S.slots self.now.slots)) id }
+        ensures some { IfSome result (λ node. 0 < node.count) }
+        ensures room { IsSome result → IsSome (slot_of (S.slots self.now.slots) id) }
+    {
+        let slot = self.slots.slot(id)?;
+        if slot.count == 0 {
+            return None;
+        }
+        Some(slot)
+    }
+
+    /// Writes the node of an id that has room.
+    fn write(&mut self, id: u64, node: CountedNode)
+        requires room { IsSome (slot_of (S.slots self.old.slots) id) }
+        requires some { 0 < node.count }
+        ensures nodes { nodes_in (S.slots self.new.slots) ≡ put (nodes_in (S.slots self.old.slots)) id node }
+        ensures kept { (other : ℕ) → IsSome (slot_of (S.slots self.old.slots) other) → IsSome (slot_of (S.slots self.new.slots) other) }
+    {
+        self.slots.write(id, node);
+    }
+
+    /// Takes the node of an id out, and its room.
+    fn take_out(&mut self, id: u64)
+        ensures nodes { nodes_in (S.slots self.new.slots) ≡ remove (nodes_in (S.slots self.old.slots)) id }
+        ensures kept { (other : ℕ) → other ≢ id → IsSome (slot_of (S.slots self.old.slots) other) → IsSome (slot_of (S.slots self.new.slots) other) }
+    {
+        self.slots.take_out(id);
+    }
+}
+
+impl<S: Slots> CountTable for CountsOf<S> {
+    type Heap = S::Heap;
+
+    ghost counted = { λ t. nodes_in (S.slots t.slots) };
+
+    ghost has_room = { λ t id. IsSome (slot_of (S.slots t.slots) id) };
+
+    fn new(alloc: S::Heap) -> Self {
+        CountsOf {
+            slots: S::new(alloc),
+        }
+    }
+
+    fn reserve(&mut self, id: u64) -> Result<(), AllocError> {
+        if self.slots.slot(id).is_some() {
+            return Ok(());
+        }
+        self.slots.add(id)?;
+        Ok(())
+    }
+
+    fn learn(&mut self, id: u64, generation: u64) -> Result<(), Unlike> {
+        let node = match self.node(id) {
+            None => CountedNode {
+                generation,
+                count: 1,
+                pins: 0,
+            },
+            Some(node) if node.generation != generation => return Err(Unlike),
+            Some(node) => CountedNode {
+                count: node.count + 1,
+                ..node
+            },
+        };
+        self.write(id, node);
+        Ok(())
+    }
+
+    fn count_of(&self, id: u64) -> u64 {
+        match self.node(id) {
+            None => 0,
+            Some(node) => node.count,
+        }
+    }
+
+    fn generation_of(&self, id: u64) -> Option<u64> {
+        match self.node(id) {
+            None => None,
+            Some(node) => Some(node.generation),
+        }
+    }
+
+    fn pins_of(&self, id: u64) -> u64 {
+        match self.node(id) {
+            None => 0,
+            Some(node) => node.pins,
+        }
+    }
+
+    fn pin(&mut self, id: u64) {
+        if let Some(node) = self.node(id) {
+            let more = CountedNode {
+                pins: node.pins + 1,
+                ..node
+            };
+            self.write(id, more);
+        }
+    }
+
+    fn unpin(&mut self, id: u64) {
+        if let Some(node) = self.node(id) {
+            let less = CountedNode {
+                pins: node.pins.saturating_sub(1),
+                ..node
+            };
+            self.write(id, less);
+        }
+    }
+
+    fn evict(&mut self, id: u64) -> Option<Forget> {
+        let node = self.node(id)?;
+        if node.pins != 0 {
+            return None;
+        }
+        self.take_out(id);
+        Some(Forget {
+            nodeid: id,
+            nlookup: node.count,
+        })
+    }
+
+    fn clear(&mut self) {
+        self.slots.clear();
+    }
+
+    fn nodes(&self, alloc: S::Heap) -> Result<Vec<(u64, u64, u64), S::Heap>, AllocError> {
+        self.slots.nodes(alloc)
+    }
+}

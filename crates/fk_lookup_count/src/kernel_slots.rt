@@ -1,0 +1,123 @@
+//! The kernel's slots: a slab, and an ordered map from each id to its place there.
+ghost use Rattle.std.specs.Prelude.{◌≡◌, ◌≢◌, ℕ, ◌<◌, Some, None, IsSome, OnOk, OnErr};
+ghost use Rattle.std.specs.Ordering.{nat_cmp};
+ghost use Rattle.std.specs.BTreeMap.{Updates as UpdatesTree};
+ghost use Rattle.slab.specs.Slab.{get, Updates};
+ghost use Rattle.fk_lookup_count.specs.Table.{standing};
+
+use crate::counted_node::CountedNode;
+use crate::slots::{ROOM, Slots};
+use slab::Slab;
+use std::alloc::{AllocError, Allocator, Global};
+use std::collections::BTreeMap;
+use std::marker::Model;
+
+/// Slots in a slab. Of `n` slots one is found, written or taken out in `log n` steps.
+#[derive(Drop)]
+pub struct KernelSlots<A: Allocator = Global> {
+    nodes: Slab<CountedNode, A>,
+    places: BTreeMap<u64, usize, A>,
+}
+
+impl<A: Allocator> Model for KernelSlots<A> {
+    ghost use Rattle.std.specs.Ordering.{nat_cmp};
+    ghost use Rattle.std.specs.Coded.{codes};
+    ghost use Rattle.std.specs.FinMap.{FinMap, from_entries, code as map_code};
+    ghost use Rattle.fk_lookup_count.specs.declared.counted_node.CountedNode.{CountedNode};
+    ghost use Rattle.fk_lookup_count.specs.contracts.counted_node.CountedNode as counted_row;
+    ghost use Rattle.fk_lookup_count.specs.Table.{rows_of, IsTable};
+
+    ghost Value = { FinMap nat_cmp CountedNode };
+
+    ghost coded = { Prim.hlevel (codes, map_code, counted_row.the_row.coded) };
+
+    ghost view = { λ t. from_entries (rows_of t.nodes.slots t.places.entries) };
+
+    ghost invariant = { λ t. IsTable t.nodes.slots t.places.entries };
+}
+
+impl<A: Allocator + Copy> Slots for KernelSlots<A> {
+    type Heap = A;
+
+    ghost slots = { λ s. s };
+
+    fn new(alloc: A) -> Self {
+        KernelSlots {
+            nodes: Slab::new(alloc),
+            places: BTreeMap::new(alloc),
+        }
+    }
+
+    fn slot(&self, id: u64) -> Option<CountedNode> {
+        let place = *self.places.get(&id)?;
+        self.nodes.get(place).copied()
+    }
+
+    fn add(&mut self, id: u64) -> Result<(), AllocError> {
+        self.nodes.reserve(1)?;
+        put(&mut self.places, id, self.nodes.vacant_key())?;
+        let _place = self.nodes.insert_reserved(ROOM);
+        Ok(())
+    }
+
+    fn write(&mut self, id: u64, slot: CountedNode) {
+        let Some(place) = self.places.get(&id).copied() else {
+            return;
+        };
+        set(&mut self.nodes, place, slot);
+    }
+
+    fn take_out(&mut self, id: u64) {
+        let Some(place) = self.places.remove(&id) else {
+            return;
+        };
+        let _slot = self.nodes.try_remove(place);
+    }
+
+    fn clear(&mut self) {
+        self.nodes.clear();
+        self.places.clear();
+    }
+
+    fn nodes(&self, alloc: A) -> Result<Vec<(u64, u64, u64), A>, AllocError> {
+        let mut nodes = Vec::new(alloc);
+        for (id, place) in &self.places {
+            let node = standing(&self.nodes, *place);
+            if node.count > 0 {
+                nodes.push((*id, node.generation, node.count))?;
+            }
+        }
+        Ok(nodes)
+    }
+}
+
+/// What stands at a place.
+fn standing<A: Allocator>(nodes: &Slab<CountedNode, A>, place: usize) -> CountedNode
+    ensures { result ≡ standing nodes.now.slots place }
+{
+    match nodes.get(place) {
+        Some(node) => *node,
+        None => ROOM,
+    }
+}
+
+/// Writes what stands at a place.
+fn set<A: Allocator>(nodes: &mut Slab<CountedNode, A>, place: usize, slot: CountedNode)
+    requires { IsSome (get nodes.old place) }
+    ensures { Updates nodes.old nodes.new place (Some slot) }
+{
+    nodes[place] = slot;
+}
+
+/// Puts the place of an id.
+fn put<A: Allocator + Copy>(
+    places: &mut BTreeMap<u64, usize, A>,
+    id: u64,
+    place: usize,
+) -> Result<(), AllocError>
+    ensures ok { OnOk result (UpdatesTree nat_cmp places.old places.new id (Some place)) }
+    ensures err { OnErr result (places.new.entries ≡ places.old.entries) }
+{
+    let _old = places.insert(id, place)?;
+    Ok(())
+}

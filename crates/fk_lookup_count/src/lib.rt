@@ -1,0 +1,31 @@
+//! The nodes that the kernel counts: each node id with its generation, its lookup count and its pins.
+//!
+//! A lookup count says how many entry replies named a node since it was learnt. The server keeps the same count, and takes it back
+//! by forgets (libfuse's low-level notes, "forget").
+#![tactic(auto)]
+
+pub mod count_table;
+mod counted_node;
+mod counts;
+mod kernel_slots;
+mod list_slots;
+mod rows;
+pub mod slots;
+mod unlike;
+
+pub use count_table::CountTable;
+pub use counted_node::{CountedNode, Forget};
+pub use counts::CountsOf;
+pub use kernel_slots::KernelSlots;
+pub use list_slots::ListSlots;
+use std::alloc::Global;
+pub use unlike::Unlike;
+
+/// The kernel's table: a slab of nodes, and an ordered map from each id to its place there.
+pub type KernelNodes<A = Global> = CountsOf<KernelSlots<A>>;
+
+/// The plain table: rows in rising id.
+pub type ListCounts<A = Global> = CountsOf<ListSlots<A>>;
+
+#[cfg(test)]
+mod tests;

@@ -1,0 +1,55 @@
+//! Slots under node ids: what a representation of the table offers.
+ghost use Rattle.std.specs.Prelude.{◌≡◌, ℕ, Some, None, IsSome, OnOk, OnErr, IfOk};
+ghost use Rattle.std.specs.Ordering.{nat_cmp};
+ghost use Rattle.std.specs.FinMap.{FinMap, get, insert, remove, empty};
+ghost use Rattle.fk_lookup_count.specs.declared.counted_node.CountedNode.{CountedNode};
+ghost use Rattle.fk_lookup_count.specs.CountedNodes.{listed};
+ghost use Rattle.fk_lookup_count.specs.Slots.{nodes_in};
+
+use crate::counted_node::CountedNode;
+use std::alloc::{AllocError, Allocator};
+
+/// A slot that holds no node: room for one.
+pub(crate) const ROOM: CountedNode = CountedNode {
+    generation: 0,
+    count: 0,
+    pins: 0,
+};
+
+/// Slots under node ids. A slot of count 0 is room for its id, and no node.
+pub trait Slots {
+    type Heap: Allocator + Copy;
+
+    /// What stands in each slot.
+    ghost slots: { Self → FinMap nat_cmp CountedNode };
+
+    fn new(alloc: Self::Heap) -> Self
+        ensures { slots result ≡ empty };
+
+    /// The slot of an id.
+    fn slot(&self, id: u64) -> Option<CountedNode>
+        ensures { result ≡ get (slots self.now) id };
+
+    /// Gives a slot to an id that has none.
+    fn add(&mut self, id: u64) -> Result<(), AllocError>
+        requires { get (slots self.old) id ≡ None }
+        ensures ok { OnOk result (slots self.new ≡ insert (slots self.old) id (record { generation = 0; count = 0; pins = 0 })) }
+        ensures err { OnErr result (slots self.new ≡ slots self.old) };
+
+    /// Writes the slot of an id that has one.
+    fn write(&mut self, id: u64, slot: CountedNode)
+        requires { IsSome (get (slots self.old) id) }
+        ensures { slots self.new ≡ insert (slots self.old) id slot };
+
+    /// Takes the slot of an id away.
+    fn take_out(&mut self, id: u64)
+        ensures { slots self.new ≡ remove (slots self.old) id };
+
+    /// Takes all slots away.
+    fn clear(&mut self)
+        ensures { slots self.new ≡ empty };
+
+    /// Id, generation and count of each slot that holds a node, in rising id.
+    fn nodes(&self, alloc: Self::Heap) -> Result<Vec<(u64, u64, u64), Self::Heap>, AllocError>
+        ensures { IfOk result (λ nodes. nodes.items ≡ listed (nodes_in (slots self.now))) };
+}
