@@ -1,36 +1,29 @@
 -- The kernel accepts a reply to a call's request, for all operations: the call hears of the files what its ask came to.
-use Rattle.std.proofs.Common.{◌≡◌, ◌≢◌, ℕ, ◌+◌, ◌≤◌, Bool, true, false, true≢false, not, cond, List, [], ◌∷◌, ◌++◌, remove, Option, Some, None, nat_eq, option_map, is_some, refl, ap, sym, subst, ◌∙◌, All}
+use Rattle.std.proofs.Common.{◌≡◌, ℕ, Bool, true, not, List, [], ◌∷◌, ◌++◌, Option, Some, None, is_some, refl, ap, sym, subst, ◌∙◌}
 use Rattle.fuse_spec.specs.declared.Counted.{Counted}
 use Rattle.fuse_spec.specs.declared.Opened.{Opened}
-use Rattle.fuse_spec.specs.declared.Purpose.{Purpose}
-use Rattle.fuse_spec.specs.declared.Purpose.TheVariants as purpose
-use Rattle.fuse_spec.specs.declared.QueuedRequest.{QueuedRequest}
 use Rattle.fuse_spec.specs.declared.ReplyResult.{ReplyResult}
 use Rattle.fuse_spec.specs.declared.WriteResult.{WriteResult}
 use Rattle.fuse_spec.specs.declared.WriteResult.TheVariants.{Accepted}
 use Rattle.fuse_spec.specs.Maps.{Map, get}
-use Rattle.fuse_spec.specs.Operations.{Operation, Reply, files_in_reply}
-use Rattle.fuse_spec.specs.Vfs.{CallState, walking, doing, using, asked, Vfs, Advance}
+use Rattle.fuse_spec.specs.Operations.{Reply, files_in_reply}
+use Rattle.fuse_spec.specs.Vfs.{CallState, walking, doing, using, asked, Advance}
 use Rattle.fuse_spec.specs.CallReplies.{call_replied}
-use Rattle.fuse_spec.specs.Queues.{QueueState, request_under, IsSound}
 use Rattle.fuse_spec.specs.QueueCalls.{without}
-use Rattle.fuse_spec.specs.Messages.{WireReply}
-use Rattle.fuse_spec.specs.Kernel.{Kernel, is_live, asking_for, advanced, after_use}
-use Rattle.fuse_spec.specs.Replies.{goes_with, Use, usable, use_of_all, learnt, kernel_reply, judged, replied, replied_to_call}
+use Rattle.fuse_spec.specs.Kernel.{Kernel, is_live, advanced, after_use}
+use Rattle.fuse_spec.specs.Replies.{Use, learnt, kernel_reply, judged, replied, replied_to_call}
 use Rattle.fuse_spec.specs.Worlds.{World, Sent, after_write}
 use Rattle.fuse_spec.specs.Events as event
 use Rattle.fuse_spec.specs.Plain.{Plain, Ask, Stage, ask_told}
-use Rattle.fuse_spec.specs.Plain as plain
 use Rattle.fuse_spec.specs.PlainSteps.{Takes, telling, telling_ask, telling_call, where_so}
-use Rattle.fuse_spec.specs.Denotes.{MeansIn, MeansOpenIn, Means, MeansOpen, OptionAlike, OperationAlike, StateAlike, ReplyAlike, Names, Opens}
-use Rattle.fuse_spec.specs.Alike.{TreeAlike, Alike}
+use Rattle.fuse_spec.specs.Denotes.{MeansIn, MeansOpenIn, OptionAlike, StateAlike, ReplyAlike}
+use Rattle.fuse_spec.specs.Alike.{Alike}
 use Rattle.fuse_spec.proofs.QueueSoundness.{IsSound-without}
-use Rattle.fuse_theorem.specs.Numbering.{IsNumbered, IsOneToOne}
-use Rattle.fuse_theorem.specs.Conditions.{OneId, OpensItsFile, IsReply}
+use Rattle.fuse_theorem.specs.Numbering.{IsNumbered}
+use Rattle.fuse_theorem.specs.Conditions.{OneId, IsReply}
 use Rattle.fuse_theorem.proofs.Carrying.{grown, carried_alike}
 use Rattle.fuse_theorem.proofs.Learning.{one_to_one, learnt_known, heard_fits}
 use Rattle.fuse_theorem.proofs.Releasing.{next_unasked}
-use Rattle.fuse_theorem.proofs.Telling.{asked_alike}
 use Rattle.fuse_theorem.proofs.Writing.{unsent_alike, used_alike, heard_alike}
 
 module _ (w : World) (p : Plain) (numbered : IsNumbered w) (one : OneId w.server.nodes) (same : Alike w p) (live : is_live w.kernel.phase ≡ true) (k : ℕ) (sent : Sent) (call : ℕ) (state : CallState Opened) (reply : Reply ℕ ℕ)
@@ -105,12 +98,13 @@ module _ (w : World) (p : Plain) (numbered : IsNumbered w) (one : OneId w.server
   pub accept_goes : (q' : Plain) × Takes p (event.write k) (event.written sent.unique Accepted) q'
       × Alike (after_write w k sent (replied_to_call (record w.kernel { queues = without w.kernel.queues sent.unique }) call sent.wire (get w.kernel.vfs.calls call))) q'
   accept_goes =
-      let free = next_unasked w p numbered.queues same live in
-      (
+      let free = next_unasked w p numbered.queues same live in (
         q,
-        (w.kernel.queues.next,
-        ap (λ (o : Option Ask). telling p sent.unique w.kernel.queues.next o) is.there ∙ ap (λ (s : Stage). telling_ask p sent.unique w.kernel.queues.next is.ask s) is.stage
-        ∙ ap (λ (o : Option (CallState ℕ)). telling_call p sent.unique w.kernel.queues.next is.ask reply o) (ap (λ (n : ℕ). get p.vfs.calls n) is.by_call ∙ state'.1) ∙ ap (λ (o : Option Ask). where_so (not (is_some o)) q) free),
+        (
+          w.kernel.queues.next,
+          ap (λ (o : Option Ask). telling p sent.unique w.kernel.queues.next o) is.there ∙ ap (λ (s : Stage). telling_ask p sent.unique w.kernel.queues.next is.ask s) is.stage
+              ∙ ap (λ (o : Option (CallState ℕ)). telling_call p sent.unique w.kernel.queues.next is.ask reply o) (ap (λ (n : ℕ). get p.vfs.calls n) is.by_call ∙ state'.1) ∙ ap (λ (o : Option Ask). where_so (not (is_some o)) q) free,
+        ),
         subst (λ (took : WriteResult × Kernel). Alike (after_write w k sent took) q) (sym replied_is)
-        (unsent_alike (record w { kernel = after_use (advanced k1 call next) state }) q (used_after state refl told_alike) k results'),
+            (unsent_alike (record w { kernel = after_use (advanced k1 call next) state }) q (used_after state refl told_alike) k results'),
       )

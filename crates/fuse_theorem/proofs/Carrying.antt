@@ -1,12 +1,10 @@
 -- The tables of nodes change, and what was meant by them is meant still: all stays alike.
-use Rattle.std.proofs.Common.{◌≡◌, ◌≢◌, ℕ, zero, suc, ◌+◌, ◌<◌, Bool, true, false, List, [], ◌∷◌, Option, Some, None, get_or, length, refl, ap, sym, subst, ◌∙◌, arith, inl, inr, All}
-use Rattle.std.specs.Prelude.{MatchOption, Contains}
+use Rattle.std.proofs.Common.{◌≡◌, ℕ, Bool, true, false, List, [], Option, Some, None, get_or, refl, subst, All}
+use Rattle.std.specs.Prelude.{Contains}
 use Rattle.fuse_spec.specs.declared.Binding.{Binding}
 use Rattle.fuse_spec.specs.declared.Counted.{Counted}
 use Rattle.fuse_spec.specs.declared.Entry.{Entry}
 use Rattle.fuse_spec.specs.declared.Opened.{Opened}
-use Rattle.fuse_spec.specs.declared.Purpose.{Purpose}
-use Rattle.fuse_spec.specs.declared.QueuedRequest.{QueuedRequest}
 use Rattle.fuse_spec.specs.Maps.{Map, get, get_name}
 use Rattle.fuse_spec.specs.Operations.{Operation, Reply, found, missing, created, opened, attributes, listed, content, written, agreed, done, failed, files_in_reply, opens_in_reply}
 use Rattle.fuse_spec.specs.Walks.{FinalOperation, WalkPlan, last}
@@ -22,7 +20,7 @@ use Rattle.fuse_spec.specs.Messages.{RequestBody, init, asks, release, forget, b
 use Rattle.fuse_spec.specs.Plain.{Plain, Ask, Stage, waiting, performed, declined}
 use Rattle.fuse_spec.specs.Nodes.{NodeTable, HandleTable, is_open}
 use Rattle.fuse_spec.specs.Denotes.{OptionAlike, OperationAlike, ReplyAlike, FinalAlike, WalkPlanAlike, StateAlike, BindingAlike, Names, Opens, Denotes, generation_known, Means, MeansOpen, MeansIn, MeansOpenIn}
-use Rattle.fuse_spec.specs.Alike.{TreeAlike, VfsAlike, RequestBodyAsked, PurposeAsked, Meant, MeantOpen, StageTold, Alike}
+use Rattle.fuse_spec.specs.Alike.{TreeAlike, VfsAlike, RequestBodyAsked, Meant, MeantOpen, StageTold, Alike}
 use Rattle.fuse_theorem.specs.Numbering.{IsOneToOne}
 use Rattle.fuse_theorem.proofs.Asking.{match_more}
 use Rattle.fuse_theorem.proofs.Meaning.{operation_more, first_of}

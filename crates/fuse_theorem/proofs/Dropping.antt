@@ -1,5 +1,5 @@
 -- A name in force is dropped in both worlds.
-use Rattle.std.proofs.Common.{◌≡◌, ◌≢◌, ℕ, List, Some, None, refl, ◌∙◌, sym}
+use Rattle.std.proofs.Common.{◌≡◌, ℕ, Some, refl}
 use Rattle.fuse_spec.specs.declared.Binding.{Binding}
 use Rattle.fuse_spec.specs.Maps.{get_name}
 use Rattle.fuse_spec.specs.Paths.{Name}

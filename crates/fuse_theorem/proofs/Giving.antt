@@ -1,15 +1,15 @@
 -- What nodes denote, and which numbers are open, as lookups are counted and files are opened.
-use Rattle.std.proofs.Common.{◌≡◌, ◌≢◌, ℕ, ◌+◌, Bool, true, false, true≢false, cond, List, [], ◌∷◌, Option, Some, None, nat_eq, refl, ap, sym, subst, ◌∙◌, inl, inr}
+use Rattle.std.proofs.Common.{◌≡◌, ℕ, ◌+◌, Bool, true, true≢false, cond, List, [], ◌∷◌, Option, Some, None, nat_eq, refl, ap, sym, subst, ◌∙◌, inl, inr}
 use Rattle.std.proofs.lemmas.Bool.{cases_eq}
 use Rattle.fuse_spec.specs.declared.Counted.{Counted}
 use Rattle.fuse_spec.specs.declared.Entry.{Entry}
 use Rattle.fuse_spec.specs.Maps.{Map, get, put}
 use Rattle.fuse_spec.specs.Copies.{rows_counted, handles_counted}
-use Rattle.fuse_spec.specs.Nodes.{HeldNode, NodeTable, row_of, root_row, given, given_row, all_given, row_more, rows_more, OpenNumber, HandleTable, is_open, is_file_of, handle_opened, all_opened, handle_more, handles_more}
+use Rattle.fuse_spec.specs.Nodes.{HeldNode, NodeTable, row_of, root_row, given, given_row, all_given, row_more, rows_more, OpenNumber, HandleTable, is_open, is_file_of, handle_opened, handle_more, handles_more}
 use Rattle.fuse_spec.specs.Denotes.{Denotes, Means, generation_known}
 use Rattle.fuse_spec.proofs.Tables.{get_put_here, get_put_there}
 use Rattle.fuse_theorem.specs.Numbering.{IsOneToOne}
-use Rattle.fuse_theorem.proofs.Finding.{same_is, other_is}
+use Rattle.fuse_theorem.proofs.Finding.{other_is}
 
 -- a node denotes one file under a generation
 pub denotes_one : (t : NodeTable) (id generation a b : ℕ) → Denotes t id generation a → Denotes t id generation b → a ≡ b
@@ -21,29 +21,29 @@ denotes_one t id generation a b x y =
 put_denotes : (t : NodeTable) (id next : ℕ) (new : HeldNode) → ((old : HeldNode) → get t.rows id ≡ Some old → (new.generation ≡ old.generation) × (new.file ≡ old.file)) → (i generation file : ℕ) → Denotes t i generation file
     → Denotes (record { rows = put t.rows id new; next_generation = next }) i generation file
 put_denotes t id next new keeps i generation file d = elim (cases_eq i 1) [
-    | inl root ↦
-        record {
-          row = d.row;
-          there = ap (λ (b : Bool). cond b (Some root_row) (get (put t.rows id new) i)) (is_one i root) ∙ ap (λ (b : Bool). cond b (Some root_row) (get t.rows i)) (sym (is_one i root)) ∙ d.there;
-          same_generation = d.same_generation;
-          same_file = d.same_file;
-        }
-    | inr other ↦
-        let old_there : get t.rows i ≡ Some d.row = ap (λ (b : Bool). cond b (Some root_row) (get t.rows i)) (sym (other_is i 1 other)) ∙ d.there in
-        let to_row : (r : HeldNode) → get (put t.rows id new) i ≡ Some r → row_of (record { rows = put t.rows id new; next_generation = next }) i ≡ Some r =
-            λ r e. ap (λ (b : Bool). cond b (Some root_row) (get (put t.rows id new) i)) (other_is i 1 other) ∙ e in
-        elim (cases_eq i id) [
-          | inl e ↦
-              let kept = keeps d.row (subst (λ (n : ℕ). get t.rows n ≡ Some d.row) e old_there) in
-              record {
-                row = new;
-                there = to_row new (subst (λ (n : ℕ). get (put t.rows id new) n ≡ Some new) (sym e) (get_put_here t.rows id new));
-                same_generation = kept.0 ∙ d.same_generation;
-                same_file = kept.1 ∙ d.same_file;
-              }
-          | inr ne ↦ record { row = d.row; there = to_row d.row (get_put_there t.rows id new i ne ∙ old_there); same_generation = d.same_generation; same_file = d.same_file }
-        ]
-  ]
+  | inl root ↦
+      record {
+        row = d.row;
+        there = ap (λ (b : Bool). cond b (Some root_row) (get (put t.rows id new) i)) (is_one i root) ∙ ap (λ (b : Bool). cond b (Some root_row) (get t.rows i)) (sym (is_one i root)) ∙ d.there;
+        same_generation = d.same_generation;
+        same_file = d.same_file;
+      }
+  | inr other ↦
+      let old_there : get t.rows i ≡ Some d.row = ap (λ (b : Bool). cond b (Some root_row) (get t.rows i)) (sym (other_is i 1 other)) ∙ d.there in
+      let to_row : (r : HeldNode) → get (put t.rows id new) i ≡ Some r → row_of (record { rows = put t.rows id new; next_generation = next }) i ≡ Some r =
+      λ r e. ap (λ (b : Bool). cond b (Some root_row) (get (put t.rows id new) i)) (other_is i 1 other) ∙ e in
+      elim (cases_eq i id) [
+        | inl e ↦
+            let kept = keeps d.row (subst (λ (n : ℕ). get t.rows n ≡ Some d.row) e old_there) in
+            record {
+              row = new;
+              there = to_row new (subst (λ (n : ℕ). get (put t.rows id new) n ≡ Some new) (sym e) (get_put_here t.rows id new));
+              same_generation = kept.0 ∙ d.same_generation;
+              same_file = kept.1 ∙ d.same_file;
+            }
+        | inr ne ↦ record { row = d.row; there = to_row d.row (get_put_there t.rows id new i ne ∙ old_there); same_generation = d.same_generation; same_file = d.same_file }
+      ]
+]
   where
     is_one : (i : ℕ) → i ≡ 1 → nat_eq i 1 ≡ true
     is_one i e = subst (λ (n : ℕ). nat_eq n 1 ≡ true) (sym e) refl
@@ -92,9 +92,9 @@ counted_open (fh' ∷ fhs) h fh file o = counted_open fhs (handle_more h fh') fh
 
 pub opened_open : (h : HandleTable) (file' : ℕ) → get h.handles h.next_fh ≡ None → (fh file : ℕ) → is_open h fh file ≡ true → is_open (handle_opened h file') fh file ≡ true
 opened_open h file' none fh file o = elim (cases_eq fh h.next_fh) [
-    | inl here ↦ absurd (true≢false (sym o ∙ ap (λ (n : ℕ). is_file_of file (get h.handles n)) here ∙ ap (is_file_of file) none))
-    | inr ne ↦ ap (is_file_of file) (get_put_there h.handles h.next_fh (record { file = file'; count = 1 }) fh ne) ∙ o
-  ]
+  | inl here ↦ absurd (true≢false (sym o ∙ ap (λ (n : ℕ). is_file_of file (get h.handles n)) here ∙ ap (is_file_of file) none))
+  | inr ne ↦ ap (is_file_of file) (get_put_there h.handles h.next_fh (record { file = file'; count = 1 }) fh ne) ∙ o
+]
 
 -- Where the server holds what the kernel knows, no more is meant as the server's table grows.
 pub one_grown : (nodes : Map Counted) (t t' : NodeTable) → ((id generation : ℕ) → generation_known nodes id ≡ Some generation → (file : ℕ) × Denotes t id generation file)

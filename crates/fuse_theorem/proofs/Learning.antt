@@ -1,46 +1,46 @@
 -- The kernel learns the nodes that a reply names.
-use Rattle.std.proofs.Common.{◌≡◌, ◌≢◌, ℕ, ◌+◌, ◌<◌, Bool, true, false, true≢false, not, cond, List, [], ◌∷◌, Option, Some, None, nat_eq, option_map, length, refl, ap, sym, subst, ◌∙◌, arith, inl, inr, All}
-use Rattle.std.specs.Prelude.{nat_lt, nat_le}
+use Rattle.std.proofs.Common.{◌≡◌, ◌≢◌, ℕ, Bool, true, false, true≢false, cond, List, [], ◌∷◌, Option, Some, None, nat_eq, option_map, refl, ap, sym, subst, ◌∙◌, inl, inr}
+use Rattle.std.specs.Prelude.{nat_lt}
 use Rattle.std.proofs.lemmas.Bool.{cases_eq}
-use Rattle.std.proofs.lemmas.Bool.Decides.{nat_tests, eqb_tells}
+use Rattle.std.proofs.lemmas.Bool.Decides.{eqb_tells}
 use Rattle.fuse_spec.specs.declared.Counted.{Counted}
 use Rattle.fuse_spec.specs.declared.Entry.{Entry}
 use Rattle.fuse_spec.specs.declared.Opened.{Opened}
 use Rattle.fuse_spec.specs.Maps.{Map, get, put}
-use Rattle.fuse_spec.specs.Operations.{Operation, lookup, getattr, mkdir, create, unlink, rmdir, rename, link, opening, readdir, read, write, Reply, found, missing, created, opened, attributes, listed, content, written, agreed, done, failed, files_in_reply, opens_in_reply}
+use Rattle.fuse_spec.specs.Operations.{Operation, create, opening, Reply, found, missing, created, opened, attributes, listed, content, written, agreed, done, failed, files_in_reply}
 use Rattle.fuse_spec.specs.Messages.{WireReply}
 use Rattle.fuse_spec.specs.Nodes.{NodeTable, HandleTable, OpenNumber, is_open, is_file_of}
-use Rattle.fuse_spec.specs.Replies.{goes_with, Use, usable, useless, stale, use_counted, use_of, use_of_all, first_use, counted_more, learnt, node_opened, kernel_reply}
+use Rattle.fuse_spec.specs.Replies.{goes_with, usable, useless, stale, use_counted, use_of, use_of_all, first_use, counted_more, learnt, kernel_reply}
 use Rattle.fuse_spec.specs.Denotes.{Denotes, Names, Opens, generation_known, Means, MeansOpen, OperationAlike, ReplyAlike}
 use Rattle.fuse_spec.proofs.Tables.{get_put_here, get_put_there}
 use Rattle.fuse_theorem.specs.Numbering.{IsOneToOne}
 use Rattle.fuse_theorem.specs.Conditions.{OneId, OpensItsFile}
-use Rattle.fuse_theorem.proofs.Finding.{same_is, other_is}
+use Rattle.fuse_theorem.proofs.Finding.{other_is}
 use Rattle.fuse_theorem.proofs.Giving.{denotes_one}
 
 -- Where no two nodes have the same file, no two that the kernel knows mean the same.
 pub one_to_one : (nodes : Map Counted) (t : NodeTable) → OneId t → IsOneToOne (Means nodes t)
 one_to_one nodes t one a b c d r s = (
   λ e.
-  let same_generation : r.generation ≡ s.generation = cc (subst (λ (n : ℕ). generation_known nodes n ≡ Some r.generation) e r.known, s.known) in
-  denotes_one t b s.generation c d (subst (λ (n : ℕ). Denotes t b n c) same_generation (subst (λ (n : ℕ). Denotes t n r.generation c) e r.denotes)) s.denotes,
+      let same_generation : r.generation ≡ s.generation = cc (subst (λ (n : ℕ). generation_known nodes n ≡ Some r.generation) e r.known, s.known) in
+      denotes_one t b s.generation c d (subst (λ (n : ℕ). Denotes t b n c) same_generation (subst (λ (n : ℕ). Denotes t n r.generation c) e r.denotes)) s.denotes,
   λ e. one a b r.generation s.generation d (subst (λ (n : ℕ). Denotes t a r.generation n) e r.denotes) s.denotes,
 )
 
 -- what is known stays known
 put_known : (nodes : Map Counted) (g : Entry) (id generation : ℕ) → generation_known nodes id ≡ Some generation → generation_known (put nodes g.nodeid (counted_more g (get nodes g.nodeid))) id ≡ Some generation
 put_known nodes g id generation e = elim (cases_eq id 1) [
-    | inl root ↦ ap (λ (b : Bool). cond b (Some 0) (option_map (λ (c : Counted). c.generation) (get (put nodes g.nodeid (counted_more g (get nodes g.nodeid))) id))) (is_one root) ∙ sym (ap (λ (b : Bool). cond b (Some 0) (option_map (λ (c : Counted). c.generation) (get nodes id))) (is_one root)) ∙ e
-    | inr other ↦
-        let plain : option_map (λ (c : Counted). c.generation) (get nodes id) ≡ Some generation = ap (λ (b : Bool). cond b (Some 0) (option_map (λ (c : Counted). c.generation) (get nodes id))) (sym (other_is id 1 other)) ∙ e in
-        ap (λ (b : Bool). cond b (Some 0) (option_map (λ (c : Counted). c.generation) (get (put nodes g.nodeid (counted_more g (get nodes g.nodeid))) id))) (other_is id 1 other)
-        ∙ elim (cases_eq id g.nodeid) [
-          | inl here ↦
-              ap (λ (n : ℕ). option_map (λ (c : Counted). c.generation) (get (put nodes g.nodeid (counted_more g (get nodes g.nodeid))) n)) here ∙ ap (λ (o : Option Counted). option_map (λ (c : Counted). c.generation) o) (get_put_here nodes g.nodeid (counted_more g (get nodes g.nodeid)))
-              ∙ counted (get nodes g.nodeid) (ap (λ (n : ℕ). option_map (λ (c : Counted). c.generation) (get nodes n)) (sym here) ∙ plain)
-          | inr ne ↦ ap (λ (o : Option Counted). option_map (λ (c : Counted). c.generation) o) (get_put_there nodes g.nodeid (counted_more g (get nodes g.nodeid)) id ne) ∙ plain
-        ]
-  ]
+  | inl root ↦ ap (λ (b : Bool). cond b (Some 0) (option_map (λ (c : Counted). c.generation) (get (put nodes g.nodeid (counted_more g (get nodes g.nodeid))) id))) (is_one root) ∙ sym (ap (λ (b : Bool). cond b (Some 0) (option_map (λ (c : Counted). c.generation) (get nodes id))) (is_one root)) ∙ e
+  | inr other ↦
+      let plain : option_map (λ (c : Counted). c.generation) (get nodes id) ≡ Some generation = ap (λ (b : Bool). cond b (Some 0) (option_map (λ (c : Counted). c.generation) (get nodes id))) (sym (other_is id 1 other)) ∙ e in
+      ap (λ (b : Bool). cond b (Some 0) (option_map (λ (c : Counted). c.generation) (get (put nodes g.nodeid (counted_more g (get nodes g.nodeid))) id))) (other_is id 1 other)
+      ∙ elim (cases_eq id g.nodeid) [
+        | inl here ↦
+            ap (λ (n : ℕ). option_map (λ (c : Counted). c.generation) (get (put nodes g.nodeid (counted_more g (get nodes g.nodeid))) n)) here ∙ ap (λ (o : Option Counted). option_map (λ (c : Counted). c.generation) o) (get_put_here nodes g.nodeid (counted_more g (get nodes g.nodeid)))
+            ∙ counted (get nodes g.nodeid) (ap (λ (n : ℕ). option_map (λ (c : Counted). c.generation) (get nodes n)) (sym here) ∙ plain)
+        | inr ne ↦ ap (λ (o : Option Counted). option_map (λ (c : Counted). c.generation) o) (get_put_there nodes g.nodeid (counted_more g (get nodes g.nodeid)) id ne) ∙ plain
+      ]
+]
   where
     is_one : id ≡ 1 → nat_eq id 1 ≡ true
     is_one same = subst (λ (n : ℕ). nat_eq n 1 ≡ true) (sym same) refl
@@ -91,9 +91,11 @@ heard_fits nodes t h operation asked (found g v) (found file v') goes used its s
 heard_fits nodes t h operation asked (missing v) (missing v') goes used its same told = told
 heard_fits nodes t h (create d name) asked (created g v fh) (created file v' o) goes used its same told =
     let known = usable_known nodes g used in
-    let one_file : file ≡ o = opens_one h fh file o (its file told.0) told.2 in
-    (record { generation = g.generation; known = known; denotes = told.0 }, told.1,
-    record { node_means = record { generation = g.generation; known = known; denotes = subst (λ (n : ℕ). Denotes t g.nodeid g.generation n) one_file told.0 }; is_number = told.2 })
+    let one_file : file ≡ o = opens_one h fh file o (its file told.0) told.2 in (
+      record { generation = g.generation; known = known; denotes = told.0 },
+      told.1,
+      record { node_means = record { generation = g.generation; known = known; denotes = subst (λ (n : ℕ). Denotes t g.nodeid g.generation n) one_file told.0 }; is_number = told.2 },
+    )
 heard_fits nodes t h (opening node) (opening file) (opened fh) (opened o) goes used its same told =
     let one_file : file ≡ o = opens_one h fh file o (its same.generation file same.denotes) told in
     record { node_means = record { generation = same.generation; known = same.known; denotes = subst (λ (n : ℕ). Denotes t node same.generation n) one_file same.denotes }; is_number = told }

@@ -32,6 +32,7 @@ pub mod Performing
 pub mod Learning
 pub mod Accepting
 pub mod Noting
+pub mod Signalling
 pub mod OnlyRoots
 pub mod FirstCalls
 pub mod Numbered

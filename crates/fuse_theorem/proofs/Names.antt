@@ -1,9 +1,8 @@
 -- Which files have a name, as names come and go.
-use Rattle.std.proofs.Common.{◌≡◌, ◌≢◌, ℕ, ◌+◌, ◌≤◌, Bool, true, false, true≢false, not, ◌||◌, cond, List, [], ◌∷◌, ◌++◌, Option, Some, None, nat_eq, count_by, find, filter, option_map, refl, ap, sym, subst, ◌∙◌, arith, inl, inr, All, get_or}
+use Rattle.std.proofs.Common.{◌≡◌, ℕ, ◌+◌, ◌≤◌, Bool, true, false, true≢false, not, ◌||◌, cond, List, [], ◌∷◌, ◌++◌, Some, nat_eq, count_by, find, filter, option_map, refl, sym, subst, arith, All, get_or}
 use Rattle.std.proofs.lemmas.Bool.Decides.{nat_tests}
 use Rattle.std.proofs.lemmas.List.Elements.{All-nil, All-cons, All-head, All-tail}
-use Rattle.fuse_spec.specs.Paths.{Name}
-use Rattle.fuse_spec.specs.Trees.{Named, is_at}
+use Rattle.fuse_spec.specs.Trees.{Named}
 use Rattle.fuse_spec.proofs.QueueCounts.{count_by-cons, count_by-push}
 use Rattle.fuse_theorem.proofs.Finding.{same_is}
 

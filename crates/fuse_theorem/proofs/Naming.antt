@@ -1,5 +1,5 @@
 -- What a reply names as it is sent: files by the nodes that are given, an open file by its new number.
-use Rattle.std.proofs.Common.{◌≡◌, ◌≢◌, ℕ, ◌+◌, ◌≤◌, Bool, true, false, true≢false, ◌||◌, cond, List, [], ◌∷◌, Option, Some, None, nat_eq, refl, ap, sym, subst, ◌∙◌, arith, inl, inr, All}
+use Rattle.std.proofs.Common.{◌≡◌, ◌≢◌, ℕ, ◌≤◌, Bool, true, false, true≢false, ◌||◌, cond, List, [], ◌∷◌, Option, Some, None, nat_eq, refl, ap, sym, subst, ◌∙◌, arith, inl, inr, All}
 use Rattle.std.specs.Prelude.{MatchOption}
 use Rattle.std.specs.List.{list_any}
 use Rattle.std.specs.declared.cmp.Ordering.{Ordering}
@@ -8,13 +8,12 @@ use Rattle.std.specs.Ordering.{nat_cmp}
 use Rattle.std.specs.FinMap.Entries.{by_order}
 use Rattle.std.proofs.lemmas.Bool.{cases_eq}
 use Rattle.std.proofs.lemmas.List.Elements.{All-head, All-tail}
-use Rattle.fuse_spec.specs.declared.Entry.{Entry}
 use Rattle.fuse_spec.specs.Maps.{Map, get, put, values}
 use Rattle.fuse_spec.specs.Operations.{Reply, found, missing, created, opened, attributes, listed, content, written, agreed, done, failed, files_in_reply, opens_in_reply}
 use Rattle.fuse_spec.specs.Trees.{Tree}
-use Rattle.fuse_spec.specs.Nodes.{HeldNode, NodeTable, row_of, root_row, MayName, IsUnheld, MayChoose, given, given_row, generation_after, all_given, OpenNumber, HandleTable, is_open, is_file_of, handle_opened, all_opened}
+use Rattle.fuse_spec.specs.Nodes.{HeldNode, NodeTable, row_of, root_row, MayName, IsUnheld, MayChoose, given, given_row, all_given, OpenNumber, HandleTable, is_open, is_file_of, handle_opened, all_opened}
 use Rattle.fuse_spec.specs.Server.{generation_in}
-use Rattle.fuse_spec.specs.Performs.{entry_for, wire_of}
+use Rattle.fuse_spec.specs.Performs.{wire_of}
 use Rattle.fuse_spec.specs.Denotes.{Denotes, ReplyAlike, Names, Opens}
 use Rattle.fuse_spec.proofs.Tables.{get_put_here}
 use Rattle.fuse_theorem.proofs.Finding.{same_is, other_is}
@@ -26,7 +25,7 @@ module _ (t : NodeTable) (no_root : get t.rows 1 ≡ None) where
       let new = given_row t file (get t.rows id) in
       let other : id ≢ 1 = λ e. not_root e (get t.rows id) refl may in
       let there : row_of (given t file id) id ≡ Some new =
-          ap (λ (b : Bool). cond b (Some root_row) (get (put t.rows id new) id)) (other_is id 1 other) ∙ get_put_here t.rows id new in
+      ap (λ (b : Bool). cond b (Some root_row) (get (put t.rows id new) id)) (other_is id 1 other) ∙ get_put_here t.rows id new in
       record { row = new; there = there; same_generation = sym (ap generation_in there); same_file = file_is (get t.rows id) may }
     where
       not_root : id ≡ 1 → (o : Option HeldNode) → get t.rows id ≡ o → MatchOption o ((2 ≤ id) × IsUnheld t file) (λ row. row.file ≡ file) → ⊥

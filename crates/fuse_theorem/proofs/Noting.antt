@@ -1,32 +1,29 @@
 -- A signal is noted on the ask of its call, and marks the call's request.
-use Rattle.std.proofs.Common.{◌≡◌, ◌≢◌, ℕ, ◌+◌, Bool, true, false, true≢false, not, ◌||◌, cond, List, [], ◌∷◌, Option, Some, None, nat_eq, filter, option_map, get_or, refl, ap, sym, subst, ◌∙◌, arith, inl, inr, All}
-use Rattle.std.specs.Prelude.{MatchOption}
+use Rattle.std.proofs.Common.{◌≡◌, ℕ, Bool, true, false, cond, List, [], ◌∷◌, Some, nat_eq, filter, get_or, refl, ap, sym, subst, ◌∙◌, arith, inl, inr, All}
 use Rattle.std.specs.Map.{lookup}
-use Rattle.std.specs.Option.{option_map_or}
 use Rattle.std.proofs.lemmas.Bool.{cases_eq}
 use Rattle.std.proofs.lemmas.Bool.Decides.{nat_tests}
-use Rattle.std.proofs.lemmas.List.Elements.{All-nil, All-cons, All-head, All-tail}
+use Rattle.std.proofs.lemmas.List.Elements.{All-cons, All-head, All-tail}
 use Rattle.fuse_spec.specs.declared.Mark.{Mark}
-use Rattle.fuse_spec.specs.declared.Mark.TheVariants.{Unread, Flagged, Read, Interrupted}
+use Rattle.fuse_spec.specs.declared.Mark.TheVariants.{Flagged, Interrupted}
 use Rattle.fuse_spec.specs.declared.Opened.{Opened}
 use Rattle.fuse_spec.specs.declared.Purpose.{Purpose}
 use Rattle.fuse_spec.specs.declared.QueuedRequest.{QueuedRequest}
 use Rattle.fuse_spec.specs.Maps.{Map, get, put}
 use Rattle.fuse_spec.specs.Queues.{QueueState, pending, request_under, is_unread, is_signalled}
 use Rattle.fuse_spec.specs.QueueCalls.{set_mark, with_mark, with_interrupt}
-use Rattle.fuse_spec.specs.Messages.{RequestBody, init, asks, release, forget, batch_forget, interrupt, Request}
+use Rattle.fuse_spec.specs.Messages.{RequestBody, init, asks, release, forget, batch_forget, interrupt}
 use Rattle.fuse_spec.specs.Kernel.{is_live, body_of}
-use Rattle.fuse_spec.specs.Server.{HeldRequest}
-use Rattle.fuse_spec.specs.Worlds.{World, Sent}
+use Rattle.fuse_spec.specs.Worlds.{World}
 use Rattle.fuse_spec.specs.Plain.{Plain, Ask, ask_noted}
 use Rattle.fuse_spec.specs.Denotes.{MeansIn, MeansOpenIn, OperationAlike}
 use Rattle.fuse_spec.specs.Alike.{RequestBodyAsked, PurposeAsked, Meant, MeantOpen, Alike}
 use Rattle.fuse_spec.proofs.Tables.{get_put_here}
 use Rattle.fuse_spec.proofs.QueueReadings.{request_under-mark_other}
 use Rattle.fuse_theorem.proofs.Asking.{match_more}
-use Rattle.fuse_theorem.proofs.Changing.{with_ask, MayReplace, ask_changed}
+use Rattle.fuse_theorem.proofs.Changing.{MayReplace, ask_changed}
 use Rattle.fuse_theorem.proofs.Finding.{other_is}
-use Rattle.fuse_theorem.proofs.Queuing.{QueuesStay, queues_alike, find_marked}
+use Rattle.fuse_theorem.proofs.Queuing.{queues_alike, find_marked}
 
 -- what is asked under a number is asked of its noted ask, with a signal or without
 noted_asked : (R : ℕ → ℕ → Type 0) (S : Opened → ℕ → Type 0) (all : Map Ask) (unique : ℕ) (old now marked : Bool) (body : RequestBody) (ask : Ask) → get all unique ≡ Some ask
@@ -122,11 +119,11 @@ module _ (w : World) (p : Plain) (same : Alike w p) (unique : ℕ) (ask : Ask) (
 
   bears_noted : (m : Mark) → is_live w.kernel.phase ≡ true → (u : ℕ) (request : QueuedRequest Purpose) (x : Ask) → request_under (with_mark q0 unique m) u ≡ Some request → get p.asks u ≡ Some x → is_signalled request.mark ≡ true → x.noted ≡ true
   bears_noted m live u request x at stands bears = elim (cases_eq u unique) [
-      | inl e ↦
-          let is_ask : ask ≡ x = cc (there, subst (λ (n : ℕ). get p.asks n ≡ Some x) e stands) in
-          subst (λ (a : Ask). a.noted ≡ true) is_ask noted
-      | inr ne ↦ (same.asks live).signalled u request x (sym (request_under-mark_other q0 u unique m (other_is u unique ne)) ∙ at) stands bears
-    ]
+    | inl e ↦
+        let is_ask : ask ≡ x = cc (there, subst (λ (n : ℕ). get p.asks n ≡ Some x) e stands) in
+        subst (λ (a : Ask). a.noted ≡ true) is_ask noted
+    | inr ne ↦ (same.asks live).signalled u request x (sym (request_under-mark_other q0 u unique m (other_is u unique ne)) ∙ at) stands bears
+  ]
 
   re_asked : (m : Mark) (e : ℕ × QueuedRequest Purpose) → e.0 ≡ unique → PurposeAsked w p e → PurposeAsked w p (e.0, record { mark = m; kept = e.1.kept })
   re_asked m e here asked = match_more (body_of w.kernel e.1.kept)

@@ -1,17 +1,16 @@
 -- The server performs the operation of a held request, and the plain world that of its ask.
-use Rattle.std.proofs.Common.{◌≡◌, ◌≢◌, ℕ, ◌+◌, Bool, true, false, true≢false, not, ◌||◌, ◌&&◌, cond, List, [], ◌∷◌, ◌++◌, Option, Some, None, nat_eq, count_by, get_or, refl, ap, sym, subst, ◌∙◌, arith, inl, inr, All}
+use Rattle.std.proofs.Common.{◌≡◌, ℕ, ◌+◌, Bool, true, false, true≢false, ◌||◌, cond, List, [], ◌∷◌, ◌++◌, Option, Some, None, nat_eq, get_or, refl, ap, sym, subst, ◌∙◌, inl, inr}
 use Rattle.std.specs.List.{list_any}
-use Rattle.std.specs.Prelude.{is_some}
 use Rattle.std.proofs.lemmas.Bool.{cases_eq}
 use Rattle.fuse_spec.specs.declared.Opened.{Opened}
 use Rattle.fuse_spec.specs.declared.Purpose.{Purpose}
 use Rattle.fuse_spec.specs.declared.QueuedRequest.{QueuedRequest}
 use Rattle.fuse_spec.specs.Maps.{Map, get, put, remove, values}
 use Rattle.fuse_spec.specs.Operations.{Operation, lookup, getattr, mkdir, create, unlink, rmdir, rename, link, opening, readdir, read, write, Reply, found, missing, created, opened, attributes, listed, content, written, agreed, done, failed, files_in_reply, opens_in_reply, errno_of}
-use Rattle.fuse_spec.specs.Trees.{Tree, Named, Content, is_nameless}
+use Rattle.fuse_spec.specs.Trees.{Tree, Named}
 use Rattle.fuse_spec.specs.FileOperations.{FileOperation, reply_by, tree_after, refusal}
 use Rattle.fuse_spec.specs.Queues.{pending}
-use Rattle.fuse_spec.specs.Messages.{RequestBody, asks, Request, WireReply}
+use Rattle.fuse_spec.specs.Messages.{Request, WireReply}
 use Rattle.fuse_spec.specs.Nodes.{HeldNode, NodeTable, HandleTable, OpenNumber, root_row, row_of, file_of, is_open, MayChoose, all_given, all_opened}
 use Rattle.fuse_spec.specs.Server.{Server, HeldRequest, Kept, Copy, is_file_held, without_unheld_files}
 use Rattle.fuse_spec.specs.Performs.{PerformResult, performed, performing, served, replying, doing, refusing, is_still_held, is_open_for, file_operation_of, wire_of}
@@ -21,7 +20,7 @@ use Rattle.fuse_spec.specs.Events as event
 use Rattle.fuse_spec.specs.Plain.{Plain, Ask, Stage, ask_performed}
 use Rattle.fuse_spec.specs.Plain as plain
 use Rattle.fuse_spec.specs.PlainSteps.{Takes, serving, serving_ask, where_so}
-use Rattle.fuse_spec.specs.Denotes.{OperationAlike, MeansIn, Denotes, generation_known}
+use Rattle.fuse_spec.specs.Denotes.{OperationAlike, MeansIn, Denotes}
 use Rattle.fuse_spec.specs.Alike.{TreeAlike, AskedBy, RequestBodyAsked, Meant, MeantOpen, StageTold, Alike}
 use Rattle.fuse_spec.proofs.Tables.{get_put_here, get_gone_here}
 use Rattle.fuse_theorem.specs.Numbering.{IsOneToOne}
@@ -45,16 +44,16 @@ module _ (w : World) (p : Plain) (same : Alike w p) where
   -- what a node denotes stands in the tree
   denoted_stands : (id generation file : ℕ) → Denotes w.server.nodes id generation file → Stands p.tree w.server.tree.files Kept_if same.tree.files file
   denoted_stands id generation file d = elim (cases_eq id 1) [
-      | inl e ↦
-          let is_root : root_row ≡ d.row = cc (subst (λ (n : ℕ). row_of w.server.nodes n ≡ Some d.row) e d.there) in
-          let zero_file : 0 ≡ file = ap (λ (r : HeldNode). r.file) is_root ∙ d.same_file in
-          subst (Stands p.tree w.server.tree.files Kept_if same.tree.files) zero_file refl
-      | inr ne ↦
-          let there : get w.server.nodes.rows id ≡ Some d.row = ap (λ (b : Bool). cond b (Some root_row) (get w.server.nodes.rows id)) (sym (other_is id 1 ne)) ∙ d.there in
-          let held : list_any (λ (row : HeldNode). nat_eq row.file file) (values w.server.nodes.rows) ≡ true =
-              found_any (λ (row : HeldNode). nat_eq row.file file) w.server.nodes.rows id d.row there (ap (λ (n : ℕ). nat_eq n file) d.same_file ∙ same_is file) in
-          right (is_named p.tree.names file) (list_any (λ (x : OpenNumber). nat_eq x.file file) (values w.server.handles.handles)) held
-    ]
+    | inl e ↦
+        let is_root : root_row ≡ d.row = cc (subst (λ (n : ℕ). row_of w.server.nodes n ≡ Some d.row) e d.there) in
+        let zero_file : 0 ≡ file = ap (λ (r : HeldNode). r.file) is_root ∙ d.same_file in
+        subst (Stands p.tree w.server.tree.files Kept_if same.tree.files) zero_file refl
+    | inr ne ↦
+        let there : get w.server.nodes.rows id ≡ Some d.row = ap (λ (b : Bool). cond b (Some root_row) (get w.server.nodes.rows id)) (sym (other_is id 1 ne)) ∙ d.there in
+        let held : list_any (λ (row : HeldNode). nat_eq row.file file) (values w.server.nodes.rows) ≡ true =
+        found_any (λ (row : HeldNode). nat_eq row.file file) w.server.nodes.rows id d.row there (ap (λ (n : ℕ). nat_eq n file) d.same_file ∙ same_is file) in
+        right (is_named p.tree.names file) (list_any (λ (x : OpenNumber). nat_eq x.file file) (values w.server.handles.handles)) held
+  ]
     where
       right : {b : Bool} (a c : Bool) → b ≡ true → (a || (b || c)) ≡ true
       right true c e = refl
@@ -288,11 +287,12 @@ module _ (w : World) (p : Plain) (same : Alike w p) (choice : ℕ → ℕ) (uniq
     -- The server performs the request, and the plain world its ask: the two are alike again.
     pub perform_goes : (q : Plain) × Takes p (event.perform unique) (event.performed unique (errno_of (served choice w.server unique t).wire) w.server.aborted) q × Alike (after_perform w unique (served choice w.server unique t)) q
     perform_goes =
-        let waits = asked.is_waiting in
-        (
+        let waits = asked.is_waiting in (
           ask_performed p unique asked.ask,
-          (0,
-          ap (λ (o : Option Ask). serving p unique o) asked.there ∙ ap (λ (s : Stage). serving_ask p unique asked.ask s) waits.stage
-          ∙ ap (λ (b : Bool). cond b (where_so asked.ask.noted (plain.ask_declined p unique asked.ask)) (Some (ask_performed p unique asked.ask))) (waits.marked_too ∙ can.unmarked)),
+          (
+            0,
+            ap (λ (o : Option Ask). serving p unique o) asked.there ∙ ap (λ (s : Stage). serving_ask p unique asked.ask s) waits.stage
+                ∙ ap (λ (b : Bool). cond b (where_so asked.ask.noted (plain.ask_declined p unique asked.ask)) (Some (ask_performed p unique asked.ask))) (waits.marked_too ∙ can.unmarked),
+          ),
           subst (λ (v : World). Alike v (ask_performed p unique asked.ask)) (sym is_served) performed_alike,
         )

@@ -1,16 +1,16 @@
 -- A kept reply is sent once more. That is no step of the plain world.
-use Rattle.std.proofs.Common.{◌≡◌, ℕ, ◌+◌, Bool, true, not, ◌||◌, cond, List, [], ◌∷◌, Option, Some, None, nat_eq, refl, ap, sym, ◌∙◌}
+use Rattle.std.proofs.Common.{◌≡◌, ℕ, ◌+◌, Bool, not, ◌||◌, cond, List, [], ◌∷◌, Option, Some, None, nat_eq, refl, ap, sym, ◌∙◌}
 use Rattle.std.specs.List.{list_any}
 use Rattle.fuse_spec.specs.declared.Entry.{Entry}
-use Rattle.fuse_spec.specs.Maps.{Map, get, put, values}
+use Rattle.fuse_spec.specs.Maps.{get, put, values}
 use Rattle.fuse_spec.specs.Operations.{files_in_reply, opens_in_reply}
 use Rattle.fuse_spec.specs.Trees.{is_nameless}
 use Rattle.fuse_spec.specs.Copies.{rows_counted, handles_counted}
 use Rattle.fuse_spec.specs.Nodes.{HeldNode, NodeTable, row_more, rows_more, OpenNumber, HandleTable, handle_more, handles_more}
-use Rattle.fuse_spec.specs.Server.{Server, Kept, is_file_held}
+use Rattle.fuse_spec.specs.Server.{Kept, is_file_held}
 use Rattle.fuse_spec.specs.Worlds.{World, after_again}
 use Rattle.fuse_spec.specs.Plain.{Plain}
-use Rattle.fuse_spec.specs.Denotes.{MeansIn, Denotes, generation_known}
+use Rattle.fuse_spec.specs.Denotes.{MeansIn, Denotes}
 use Rattle.fuse_spec.specs.Alike.{Alike}
 use Rattle.fuse_theorem.specs.Numbering.{IsOneToOne}
 use Rattle.fuse_theorem.specs.Conditions.{KnownAreHeld}
@@ -46,7 +46,7 @@ again_alike w p one held same unique kept there =
     let carries = grown w p w.kernel.nodes t h (λ id generation e. e) still (λ fh file o. counted_open (opens_in_reply kept.wire) w.server.handles fh file o) (one_grown w.kernel.nodes w.server.nodes t held still one) in
     let s1 = record w.server { nodes = t; handles = h } in
     let same_files : (file : ℕ) → is_file_held w.server file ≡ is_file_held s1 file =
-        λ file i. sym (rows_same file (files_in_reply kept.wire) w.server.nodes) i || sym (handles_same file (opens_in_reply kept.wire) w.server.handles) i in
+    λ file i. sym (rows_same file (files_in_reply kept.wire) w.server.nodes) i || sym (handles_same file (opens_in_reply kept.wire) w.server.handles) i in
     let w1 = record w { server = s1 } in
     let alike1 : Alike w1 p = carried_alike w p same w.kernel.nodes t h w.server.tree p.tree carries (record {
       names = same.tree.names;

@@ -1,10 +1,9 @@
 -- A tree operation on the server's tree and on the plain tree: the same files stand afterwards, the new one among them.
-use Rattle.std.proofs.Common.{◌≡◌, ◌≢◌, ℕ, ◌+◌, Bool, true, false, true≢false, not, ◌||◌, cond, List, [], ◌∷◌, ◌++◌, Option, Some, None, nat_eq, is_some, filter, find, option_map, length, refl, ap, sym, subst, ◌∙◌, inl, inr, All}
+use Rattle.std.proofs.Common.{◌≡◌, ℕ, Bool, true, false, true≢false, not, ◌||◌, cond, List, [], ◌∷◌, ◌++◌, Option, Some, None, nat_eq, filter, find, option_map, refl, ap, sym, subst, ◌∙◌, inl, inr, All}
 use Rattle.std.proofs.lemmas.Bool.{cases_eq}
 use Rattle.std.proofs.lemmas.List.Elements.{All-nil, All-cons, All-head, All-tail}
 use Rattle.fuse_spec.specs.Maps.{Map, get, put}
-use Rattle.fuse_spec.specs.Paths.{Name}
-use Rattle.fuse_spec.specs.Operations.{lookup, getattr, mkdir, create, unlink, rmdir, rename, link, opening, readdir, read, write, Reply, found, missing, created, opened, attributes, listed, content, written, done, failed, files_in_reply, opens_in_reply}
+use Rattle.fuse_spec.specs.Operations.{lookup, getattr, mkdir, create, unlink, rmdir, rename, link, opening, readdir, read, write, files_in_reply, opens_in_reply}
 use Rattle.fuse_spec.specs.Trees.{Tree, Named, Content, a_directory, a_file, file_at, bytes_of, overwritten, is_at}
 use Rattle.fuse_spec.specs.declared.Validity.{Validity}
 use Rattle.fuse_spec.specs.FileOperations.{FileOperation, refusal, reply_by, reply_or, reply_unrefused, looked_up, tree_after, tree_or, tree_unrefused, renamed, is_same}
@@ -96,25 +95,25 @@ module _ (tree : Tree) (files : Map Content) (held : ℕ → Bool) (kept : (file
 
   made : (c : Content) (file : ℕ) → get (put files tree.next_birth c) file ≡ cond (stands file || nat_eq tree.next_birth file) (get (put tree.files tree.next_birth c) file) None
   made c file = elim (cases_eq file tree.next_birth) [
-      | inl e ↦
-          let both : (stands file || nat_eq tree.next_birth file) ≡ true = or_right (stands file) (nat_eq tree.next_birth file) (subst (λ (n : ℕ). nat_eq tree.next_birth n ≡ true) (sym e) (same_is tree.next_birth)) in
-          (ap (λ (n : ℕ). get (put files tree.next_birth c) n) e ∙ get_put_here files tree.next_birth c)
-          ∙ sym (ap (λ (n : ℕ). get (put tree.files tree.next_birth c) n) e ∙ get_put_here tree.files tree.next_birth c) ∙ sym (ap (λ (b : Bool). cond b (get (put tree.files tree.next_birth c) file) None) both)
-      | inr ne ↦
-          get_put_there files tree.next_birth c file ne ∙ unmade file
-          ∙ (λ i. cond (stands file || sym (other_is tree.next_birth file (λ z. ne (sym z))) i) (sym (get_put_there tree.files tree.next_birth c file ne) i) None)
-    ]
+    | inl e ↦
+        let both : (stands file || nat_eq tree.next_birth file) ≡ true = or_right (stands file) (nat_eq tree.next_birth file) (subst (λ (n : ℕ). nat_eq tree.next_birth n ≡ true) (sym e) (same_is tree.next_birth)) in
+        (ap (λ (n : ℕ). get (put files tree.next_birth c) n) e ∙ get_put_here files tree.next_birth c)
+        ∙ sym (ap (λ (n : ℕ). get (put tree.files tree.next_birth c) n) e ∙ get_put_here tree.files tree.next_birth c) ∙ sym (ap (λ (b : Bool). cond b (get (put tree.files tree.next_birth c) file) None) both)
+    | inr ne ↦
+        get_put_there files tree.next_birth c file ne ∙ unmade file
+        ∙ (λ i. cond (stands file || sym (other_is tree.next_birth file (λ z. ne (sym z))) i) (sym (get_put_there tree.files tree.next_birth c file ne) i) None)
+  ]
 
   overwriting : (target : ℕ) (f : Option Content → Content) → Stands target → (file : ℕ) → get (put files target (f (get files target))) file ≡ cond (stands file || false) (get (put tree.files target (f (get tree.files target))) file) None
   overwriting target f there file = elim (cases_eq file target) [
-      | inl e ↦
-          let both : (stands file || false) ≡ true = or_left (stands file) false (subst Stands (sym e) there) in
-          (ap (λ (n : ℕ). get (put files target (f (get files target))) n) e ∙ get_put_here files target (f (get files target))) ∙ ap (λ (o : Option Content). Some (f o)) (same_if_stands target there)
-          ∙ sym (ap (λ (n : ℕ). get (put tree.files target (f (get tree.files target))) n) e ∙ get_put_here tree.files target (f (get tree.files target)))
-          ∙ sym (ap (λ (b : Bool). cond b (get (put tree.files target (f (get tree.files target))) file) None) both)
-      | inr ne ↦
-          get_put_there files target (f (get files target)) file ne ∙ unmade file ∙ ap (λ (o : Option Content). cond (stands file || false) o None) (sym (get_put_there tree.files target (f (get tree.files target)) file ne))
-    ]
+    | inl e ↦
+        let both : (stands file || false) ≡ true = or_left (stands file) false (subst Stands (sym e) there) in
+        (ap (λ (n : ℕ). get (put files target (f (get files target))) n) e ∙ get_put_here files target (f (get files target))) ∙ ap (λ (o : Option Content). Some (f o)) (same_if_stands target there)
+        ∙ sym (ap (λ (n : ℕ). get (put tree.files target (f (get tree.files target))) n) e ∙ get_put_here tree.files target (f (get tree.files target)))
+        ∙ sym (ap (λ (b : Bool). cond b (get (put tree.files target (f (get tree.files target))) file) None) both)
+    | inr ne ↦
+        get_put_there files target (f (get files target)) file ne ∙ unmade file ∙ ap (λ (o : Option Content). cond (stands file || false) o None) (sym (get_put_there tree.files target (f (get tree.files target)) file ne))
+  ]
 
   files_unrefused : (operation : FileOperation) → DeedStands operation → (file : ℕ)
       → get (tree_unrefused (with_files tree files) operation).files file ≡ cond (stands file || makes tree operation file) (get (tree_unrefused tree operation).files file) None

@@ -1,5 +1,5 @@
 -- What the laws on single events need of the world. All of it holds from the first world on, as the events of the finished system keep it.
-use Rattle.std.specs.Prelude.{◌≡◌, ◌+◌, ℕ, Bool, true, false, cond, List, [], ◌∷◌, Option, Some, None, nat_eq, count_by, is_some}
+use Rattle.std.specs.Prelude.{◌≡◌, ◌≢◌, ℕ, All, true, false, Some, None, nat_eq, count_by}
 use Rattle.fuse_spec.specs.declared.Opened.{Opened}
 use Rattle.fuse_spec.specs.declared.Purpose.{Purpose}
 use Rattle.fuse_spec.specs.declared.Purpose.TheVariants as purpose
@@ -7,8 +7,8 @@ use Rattle.fuse_spec.specs.declared.QueuedRequest.{QueuedRequest}
 use Rattle.fuse_spec.specs.Maps.{get}
 use Rattle.fuse_spec.specs.Operations.{Operation, Reply, opening, created, opened, files_in_reply}
 use Rattle.fuse_spec.specs.Vfs.{CallState, asked}
-use Rattle.fuse_spec.specs.Queues.{pending, request_under}
-use Rattle.fuse_spec.specs.Messages.{Request, RequestBody, asks, WireReply}
+use Rattle.fuse_spec.specs.Queues.{pending, request_under, is_unread}
+use Rattle.fuse_spec.specs.Messages.{Request, asks, WireReply}
 use Rattle.fuse_spec.specs.Nodes.{NodeTable, HandleTable, is_open}
 use Rattle.fuse_spec.specs.Server.{Server, HeldRequest}
 use Rattle.fuse_spec.specs.Replies.{goes_with, usable, use_of_all}
@@ -63,3 +63,7 @@ pub record IsReply (w : World) (p : Plain) (sent : Sent) (call : ℕ) (state : C
   pub goes : goes_with (asked state) sent.wire ≡ true
   pub used : use_of_all w.kernel.nodes (files_in_reply sent.wire) ≡ usable
   pub opens : OpensItsFile w.server.nodes w.server.handles (asked state) sent.wire
+
+-- What is unread is neither on the link nor held.
+abbrev pub UnreadAreUnsent : World → Type 0
+UnreadAreUnsent w = (unique : ℕ) (r : QueuedRequest Purpose) → request_under w.kernel.queues unique ≡ Some r → is_unread r.mark ≡ true → All (λ (s : Request). s.unique ≢ unique) w.requests × (get w.server.held unique ≡ None)

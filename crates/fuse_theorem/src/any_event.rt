@@ -27,7 +27,8 @@ ghost use Rattle.fuse_spec.specs.Paths.{Name};
 ghost use Rattle.fuse_spec.specs.Operations.{Operation, Reply, errno_of, files_in_reply};
 ghost use Rattle.fuse_spec.specs.FileOperations.{reply_by};
 ghost use Rattle.fuse_spec.specs.Vfs.{CallState};
-ghost use Rattle.fuse_spec.specs.Kernel.{is_live};
+ghost use Rattle.std.specs.Prelude.{Bool};
+ghost use Rattle.fuse_spec.specs.Kernel.{is_live, call_signalled};
 ghost use Rattle.fuse_spec.specs.QueueCalls.{without as without_request};
 ghost use Rattle.fuse_spec.specs.Nodes.{MayChoose};
 ghost use Rattle.fuse_spec.specs.Plain.{Ask};
@@ -36,7 +37,7 @@ ghost use Rattle.fuse_spec.specs.Server.{HeldRequest, Kept};
 ghost use Rattle.fuse_spec.specs.Performs.{served};
 ghost use Rattle.fuse_spec.specs.Worlds.{Sent, after_perform, after_again, after_write, after_drop};
 ghost use Rattle.fuse_theorem.specs.Numbering.{IsNumbered, IsOneToOne};
-ghost use Rattle.fuse_theorem.specs.Conditions.{OneId, KnownAreHeld, TablesSound, CanPerform, IsReply};
+ghost use Rattle.fuse_theorem.specs.Conditions.{OneId, KnownAreHeld, TablesSound, CanPerform, IsReply, UnreadAreUnsent};
 
 /// The world before its first mount is alike to the plain world with the root alone.
 pub fn first_worlds()
@@ -92,4 +93,10 @@ pub fn accept()
 pub fn drop_name()
     ensures { (w : World) (p : Plain) → IsOneToOne (MeansIn w) → Alike w p → (directory : ℕ) (name : Name) (bound : Binding) → get_name w.kernel.vfs.names (directory, name) ≡ Some bound →
         (q : Plain) × Takes p (event.drop_name directory name) event.dropped q × Alike (after_drop w directory name) q }
+{}
+
+/// A signal, fatal or not, reaches an unanswered call, whatever its request's mark: the plain world notes it on the call's ask, or ends the ask.
+pub fn signal()
+    ensures { (w : World) (p : Plain) → IsNumbered w → OneId w.server.nodes → Alike w p → is_live w.kernel.phase ≡ true → (call : ℕ) (state : CallState Opened) → get w.kernel.vfs.calls call ≡ Some state → (fatal : Bool) → UnreadAreUnsent w →
+        (q : Plain) × Takes p (event.intr call fatal) (event.interrupted call (call_signalled w.kernel call state fatal).0) q × Alike (record w { kernel = (call_signalled w.kernel call state fatal).1 }) q }
 {}
