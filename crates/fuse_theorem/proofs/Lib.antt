@@ -33,6 +33,7 @@ pub mod Learning
 pub mod Accepting
 pub mod Noting
 pub mod Signalling
+pub mod Forgetting
 pub mod OnlyRoots
 pub mod FirstCalls
 pub mod Numbered

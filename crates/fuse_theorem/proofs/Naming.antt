@@ -57,7 +57,7 @@ named_alike choice t h tree (failed e) no_root may = refl
 
 -- ---- which files are held afterwards
 
-any_put_le : {X : Type 0} (test : X → Bool) (m : Map X) (k : ℕ) (x : X) → list_any test (values (put m k x)) ≡ true → (test x || list_any test (values m)) ≡ true
+pub any_put_le : {X : Type 0} (test : X → Bool) (m : Map X) (k : ℕ) (x : X) → list_any test (values (put m k x)) ≡ true → (test x || list_any test (values m)) ≡ true
 any_put_le test [] k x h = h
 any_put_le test (e ∷ m) k x h = by (nat_cmp k e.0) h (any_put_le test m k x)
   where

@@ -1,5 +1,6 @@
--- What the laws on single events need of the world. All of it holds from the first world on, as the events of the finished system keep it.
-use Rattle.std.specs.Prelude.{◌≡◌, ◌≢◌, ℕ, All, true, false, Some, None, nat_eq, count_by}
+-- What the laws on single events need of the world.
+use Rattle.std.specs.Prelude.{Contains, ◌≡◌, ◌≢◌, ℕ, All, true, false, Some, None, nat_eq, count_by}
+use Rattle.fuse_spec.specs.declared.Entry.{Entry}
 use Rattle.fuse_spec.specs.declared.Opened.{Opened}
 use Rattle.fuse_spec.specs.declared.Purpose.{Purpose}
 use Rattle.fuse_spec.specs.declared.Purpose.TheVariants as purpose
@@ -10,7 +11,7 @@ use Rattle.fuse_spec.specs.Vfs.{CallState, asked}
 use Rattle.fuse_spec.specs.Queues.{pending, request_under, is_unread}
 use Rattle.fuse_spec.specs.Messages.{Request, asks, WireReply}
 use Rattle.fuse_spec.specs.Nodes.{NodeTable, HandleTable, is_open}
-use Rattle.fuse_spec.specs.Server.{Server, HeldRequest}
+use Rattle.fuse_spec.specs.Server.{Server, HeldRequest, Kept}
 use Rattle.fuse_spec.specs.Replies.{goes_with, usable, use_of_all}
 use Rattle.fuse_spec.specs.Performs.{is_still_held}
 use Rattle.fuse_spec.specs.Worlds.{World, Sent}
@@ -67,3 +68,15 @@ pub record IsReply (w : World) (p : Plain) (sent : Sent) (call : ℕ) (state : C
 -- What is unread is neither on the link nor held.
 abbrev pub UnreadAreUnsent : World → Type 0
 UnreadAreUnsent w = (unique : ℕ) (r : QueuedRequest Purpose) → request_under w.kernel.queues unique ≡ Some r → is_unread r.mark ≡ true → All (λ (s : Request). s.unique ≢ unique) w.requests × (get w.server.held unique ≡ None)
+
+-- Each entry of the reply is held under its own generation.
+abbrev pub EntriesAreHeld : NodeTable → WireReply → Type 0
+EntriesAreHeld t wire = (g : Entry) → Contains (files_in_reply wire) g → (file : ℕ) × Denotes t g.nodeid g.generation file
+
+-- With this table the server holds, under their generations, the nodes that the kernel knows, those of the requests that it holds, and those
+-- that copies and kept replies to unanswered requests name.
+pub record HoldsAll (w : World) (t : NodeTable) : Type 0 where
+  pub known : (id generation : ℕ) → generation_known w.kernel.nodes id ≡ Some generation → (file : ℕ) × Denotes t id generation file
+  pub held : (unique : ℕ) (x : HeldRequest) → get w.server.held unique ≡ Some x → (id generation : ℕ) → Contains x.generations (id, generation) → (file : ℕ) × Denotes t id generation file
+  pub kept : (unique : ℕ) (k : Kept) → get w.server.kept unique ≡ Some k → request_under w.kernel.queues unique ≢ None → EntriesAreHeld t k.wire
+  pub copies : All (λ (s : Sent). request_under w.kernel.queues s.unique ≢ None → EntriesAreHeld t s.wire) w.replies

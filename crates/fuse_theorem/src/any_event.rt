@@ -27,17 +27,18 @@ ghost use Rattle.fuse_spec.specs.Paths.{Name};
 ghost use Rattle.fuse_spec.specs.Operations.{Operation, Reply, errno_of, files_in_reply};
 ghost use Rattle.fuse_spec.specs.FileOperations.{reply_by};
 ghost use Rattle.fuse_spec.specs.Vfs.{CallState};
-ghost use Rattle.std.specs.Prelude.{Bool};
+ghost use Rattle.std.specs.Prelude.{Bool, List};
 ghost use Rattle.fuse_spec.specs.Kernel.{is_live, call_signalled};
 ghost use Rattle.fuse_spec.specs.QueueCalls.{without as without_request};
 ghost use Rattle.fuse_spec.specs.Nodes.{MayChoose};
 ghost use Rattle.fuse_spec.specs.Plain.{Ask};
 ghost use Rattle.fuse_spec.specs.Replies.{replied_to_call};
-ghost use Rattle.fuse_spec.specs.Server.{HeldRequest, Kept};
+ghost use Rattle.fuse_spec.specs.Messages.{Forget};
+ghost use Rattle.fuse_spec.specs.Server.{HeldRequest, Kept, all_taken_back, forgetting};
 ghost use Rattle.fuse_spec.specs.Performs.{served};
 ghost use Rattle.fuse_spec.specs.Worlds.{Sent, after_perform, after_again, after_write, after_drop};
 ghost use Rattle.fuse_theorem.specs.Numbering.{IsNumbered, IsOneToOne};
-ghost use Rattle.fuse_theorem.specs.Conditions.{OneId, KnownAreHeld, TablesSound, CanPerform, IsReply, UnreadAreUnsent};
+ghost use Rattle.fuse_theorem.specs.Conditions.{OneId, KnownAreHeld, TablesSound, CanPerform, IsReply, UnreadAreUnsent, HoldsAll};
 
 /// The world before its first mount is alike to the plain world with the root alone.
 pub fn first_worlds()
@@ -99,4 +100,11 @@ pub fn drop_name()
 pub fn signal()
     ensures { (w : World) (p : Plain) → IsNumbered w → OneId w.server.nodes → Alike w p → is_live w.kernel.phase ≡ true → (call : ℕ) (state : CallState Opened) → get w.kernel.vfs.calls call ≡ Some state → (fatal : Bool) → UnreadAreUnsent w →
         (q : Plain) × Takes p (event.intr call fatal) (event.interrupted call (call_signalled w.kernel call state fatal).0) q × Alike (record w { kernel = (call_signalled w.kernel call state fatal).1 }) q }
+{}
+
+/// The server takes a FORGET or a BATCH_FORGET. Nodes go at their last lookup, and with them nameless files that nothing holds: where the
+/// server holds afterwards what is known, held and on its way, all is alike. That is no step of the plain world.
+pub fn forget()
+    ensures { (w : World) (p : Plain) → OneId w.server.nodes → Alike w p → (k : ℕ) (fs : List Forget) → HoldsAll w (all_taken_back w.server.nodes fs) →
+        Alike (record w { requests = without w.requests k; server = forgetting w.server fs }) p }
 {}
