@@ -34,6 +34,7 @@ pub mod Accepting
 pub mod Noting
 pub mod Signalling
 pub mod Forgetting
+pub mod Declining
 pub mod OnlyRoots
 pub mod FirstCalls
 pub mod Numbered

@@ -38,7 +38,7 @@ ghost use Rattle.fuse_spec.specs.Server.{HeldRequest, Kept, all_taken_back, forg
 ghost use Rattle.fuse_spec.specs.Performs.{served};
 ghost use Rattle.fuse_spec.specs.Worlds.{Sent, after_perform, after_again, after_write, after_drop};
 ghost use Rattle.fuse_theorem.specs.Numbering.{IsNumbered, IsOneToOne};
-ghost use Rattle.fuse_theorem.specs.Conditions.{OneId, KnownAreHeld, TablesSound, CanPerform, IsReply, UnreadAreUnsent, HoldsAll};
+ghost use Rattle.fuse_theorem.specs.Conditions.{OneId, KnownAreHeld, TablesSound, CanPerform, CanDecline, IsReply, UnreadAreUnsent, HoldsAll};
 
 /// The world before its first mount is alike to the plain world with the root alone.
 pub fn first_worlds()
@@ -74,6 +74,12 @@ pub fn perform()
     ensures { (w : World) (p : Plain) (same : Alike w p) (choice : ℕ → ℕ) (unique : ℕ) (t : HeldRequest) (operation : Operation ℕ Opened) → CanPerform w unique t operation →
         TablesSound w.server → OneId w.server.nodes → KnownAreHeld w →
         ((ask : Ask) → get p.asks unique ≡ Some ask → MayChoose choice w.server.nodes (files_in_reply (reply_by p.validity p.tree ask.operation))) →
+        (q : Plain) × Takes p (event.perform unique) (event.performed unique (errno_of (served choice w.server unique t).wire) w.server.aborted) q × Alike (after_perform w unique (served choice w.server unique t)) q }
+{}
+
+/// The server answers a marked request EINTR and performs nothing: the plain world declines the ask.
+pub fn decline()
+    ensures { (w : World) (p : Plain) → Alike w p → (choice : ℕ → ℕ) (unique : ℕ) (t : HeldRequest) (operation : Operation ℕ Opened) → CanDecline w unique t operation →
         (q : Plain) × Takes p (event.perform unique) (event.performed unique (errno_of (served choice w.server unique t).wire) w.server.aborted) q × Alike (after_perform w unique (served choice w.server unique t)) q }
 {}
 
