@@ -35,6 +35,7 @@ pub mod Noting
 pub mod Signalling
 pub mod Forgetting
 pub mod Declining
+pub mod AcceptingEintr
 pub mod OnlyRoots
 pub mod FirstCalls
 pub mod Numbered

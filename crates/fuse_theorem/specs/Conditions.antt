@@ -6,7 +6,8 @@ use Rattle.fuse_spec.specs.declared.Purpose.{Purpose}
 use Rattle.fuse_spec.specs.declared.Purpose.TheVariants as purpose
 use Rattle.fuse_spec.specs.declared.QueuedRequest.{QueuedRequest}
 use Rattle.fuse_spec.specs.Maps.{get}
-use Rattle.fuse_spec.specs.Operations.{Operation, Reply, opening, created, opened, files_in_reply}
+use Rattle.fuse_spec.specs.Numbers.{eintr}
+use Rattle.fuse_spec.specs.Operations.{Operation, Reply, opening, created, opened, failed, files_in_reply}
 use Rattle.fuse_spec.specs.Vfs.{CallState, asked}
 use Rattle.fuse_spec.specs.Queues.{pending, request_under, is_unread}
 use Rattle.fuse_spec.specs.Messages.{Request, asks, WireReply}
@@ -73,6 +74,19 @@ pub record IsReply (w : World) (p : Plain) (sent : Sent) (call : ℕ) (state : C
   pub goes : goes_with (asked state) sent.wire ≡ true
   pub used : use_of_all w.kernel.nodes (files_in_reply sent.wire) ≡ usable
   pub opens : OpensItsFile w.server.nodes w.server.handles (asked state) sent.wire
+
+-- A copy that says EINTR of an unanswered call's request, whose ask was declined.
+pub record IsDeclined (w : World) (p : Plain) (sent : Sent) (call : ℕ) (state : CallState Opened) : Type 0 where
+  pub request : QueuedRequest Purpose
+  pub under : request_under w.kernel.queues sent.unique ≡ Some request
+  pub serves : request.kept ≡ purpose.Call call
+  pub state_is : get w.kernel.vfs.calls call ≡ Some state
+  pub ask : Ask
+  pub there : get p.asks sent.unique ≡ Some ask
+  pub by_call : ask.call ≡ call
+  pub stage : ask.stage ≡ plain.declined
+  pub noted : ask.noted ≡ true
+  pub wire_is : sent.wire ≡ failed eintr
 
 -- What is unread is neither on the link nor held.
 abbrev pub UnreadAreUnsent : World → Type 0

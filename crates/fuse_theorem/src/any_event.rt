@@ -38,7 +38,7 @@ ghost use Rattle.fuse_spec.specs.Server.{HeldRequest, Kept, all_taken_back, forg
 ghost use Rattle.fuse_spec.specs.Performs.{served};
 ghost use Rattle.fuse_spec.specs.Worlds.{Sent, after_perform, after_again, after_write, after_drop};
 ghost use Rattle.fuse_theorem.specs.Numbering.{IsNumbered, IsOneToOne};
-ghost use Rattle.fuse_theorem.specs.Conditions.{OneId, KnownAreHeld, TablesSound, CanPerform, CanDecline, IsReply, UnreadAreUnsent, HoldsAll};
+ghost use Rattle.fuse_theorem.specs.Conditions.{OneId, KnownAreHeld, TablesSound, CanPerform, CanDecline, IsReply, IsDeclined, UnreadAreUnsent, HoldsAll};
 
 /// The world before its first mount is alike to the plain world with the root alone.
 pub fn first_worlds()
@@ -92,6 +92,13 @@ pub fn again()
 /// asked in both.
 pub fn accept()
     ensures { (w : World) (p : Plain) → IsNumbered w → OneId w.server.nodes → Alike w p → is_live w.kernel.phase ≡ true → (k : ℕ) (sent : Sent) (call : ℕ) (state : CallState Opened) (reply : Reply ℕ ℕ) → IsReply w p sent call state reply →
+        (q : Plain) × Takes p (event.write k) (event.written sent.unique Accepted) q
+        × Alike (after_write w k sent (replied_to_call (record w.kernel { queues = without_request w.kernel.queues sent.unique }) call sent.wire (get w.kernel.vfs.calls call))) q }
+{}
+
+/// The kernel accepts EINTR for a request whose ask was declined: the call is answered EINTR in both worlds.
+pub fn accept_eintr()
+    ensures { (w : World) (p : Plain) → IsNumbered w → OneId w.server.nodes → Alike w p → is_live w.kernel.phase ≡ true → (k : ℕ) (sent : Sent) (call : ℕ) (state : CallState Opened) → IsDeclined w p sent call state →
         (q : Plain) × Takes p (event.write k) (event.written sent.unique Accepted) q
         × Alike (after_write w k sent (replied_to_call (record w.kernel { queues = without_request w.kernel.queues sent.unique }) call sent.wire (get w.kernel.vfs.calls call))) q }
 {}
