@@ -32,6 +32,8 @@ pub mod Performing
 pub mod Learning
 pub mod Accepting
 pub mod Noting
+pub mod GivingUp
+pub mod Aborting
 pub mod OnlyRoots
 pub mod FirstCalls
 pub mod Numbered

@@ -34,7 +34,10 @@ ghost use Rattle.fuse_spec.specs.Plain.{Ask};
 ghost use Rattle.fuse_spec.specs.Replies.{replied_to_call};
 ghost use Rattle.fuse_spec.specs.Server.{HeldRequest, Kept};
 ghost use Rattle.fuse_spec.specs.Performs.{served};
-ghost use Rattle.fuse_spec.specs.Worlds.{Sent, after_perform, after_again, after_write, after_drop};
+ghost use Rattle.fuse_spec.specs.Worlds.{Sent, after_perform, after_again, after_write, after_drop, after_abort};
+ghost use Rattle.std.specs.Prelude.{T};
+ghost use Rattle.std.specs.Ordering.{nat_cmp};
+ghost use Rattle.std.specs.FinMap.{is_sorted};
 ghost use Rattle.fuse_theorem.specs.Numbering.{IsNumbered, IsOneToOne};
 ghost use Rattle.fuse_theorem.specs.Conditions.{OneId, KnownAreHeld, TablesSound, CanPerform, IsReply};
 
@@ -92,4 +95,10 @@ pub fn accept()
 pub fn drop_name()
     ensures { (w : World) (p : Plain) → IsOneToOne (MeansIn w) → Alike w p → (directory : ℕ) (name : Name) (bound : Binding) → get_name w.kernel.vfs.names (directory, name) ≡ Some bound →
         (q : Plain) × Takes p (event.drop_name directory name) event.dropped q × Alike (after_drop w directory name) q }
+{}
+
+/// The mount is aborted, where the kernel's root is node 1 and the answers that are not collected stand in rising number.
+pub fn abort()
+    ensures { (w : World) (p : Plain) → w.kernel.vfs.root ≡ 1 → T (is_sorted nat_cmp w.kernel.vfs.answers) → Alike w p →
+        (q : Plain) × Takes p event.abort event.aborted q × Alike (after_abort w) q }
 {}
