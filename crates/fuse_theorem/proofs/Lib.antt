@@ -34,6 +34,7 @@ pub mod Accepting
 pub mod Noting
 pub mod GivingUp
 pub mod Aborting
+pub mod Marking
 pub mod OnlyRoots
 pub mod FirstCalls
 pub mod Numbered

@@ -1,5 +1,5 @@
 -- What the laws on single events need of the world. All of it holds from the first world on, as the events of the finished system keep it.
-use Rattle.std.specs.Prelude.{◌≡◌, ◌+◌, ℕ, Bool, true, false, cond, List, [], ◌∷◌, Option, Some, None, nat_eq, count_by, is_some}
+use Rattle.std.specs.Prelude.{◌≡◌, ◌≤◌, ◌+◌, ℕ, Bool, true, false, cond, List, [], ◌∷◌, Option, Some, None, nat_eq, count_by, is_some, slice_get}
 use Rattle.fuse_spec.specs.declared.Opened.{Opened}
 use Rattle.fuse_spec.specs.declared.Purpose.{Purpose}
 use Rattle.fuse_spec.specs.declared.Purpose.TheVariants as purpose
@@ -8,7 +8,7 @@ use Rattle.fuse_spec.specs.Maps.{get}
 use Rattle.fuse_spec.specs.Operations.{Operation, Reply, opening, created, opened, files_in_reply}
 use Rattle.fuse_spec.specs.Vfs.{CallState, asked}
 use Rattle.fuse_spec.specs.Queues.{pending, request_under}
-use Rattle.fuse_spec.specs.Messages.{Request, RequestBody, asks, WireReply}
+use Rattle.fuse_spec.specs.Messages.{Request, RequestBody, asks, interrupt, WireReply}
 use Rattle.fuse_spec.specs.Nodes.{NodeTable, HandleTable, is_open}
 use Rattle.fuse_spec.specs.Server.{Server, HeldRequest}
 use Rattle.fuse_spec.specs.Replies.{goes_with, usable, use_of_all}
@@ -17,6 +17,7 @@ use Rattle.fuse_spec.specs.Worlds.{World, Sent}
 use Rattle.fuse_spec.specs.Plain.{Plain, Ask}
 use Rattle.fuse_spec.specs.Plain as plain
 use Rattle.fuse_spec.specs.Denotes.{Denotes, MeansIn, MeansOpenIn, generation_known, OperationAlike, ReplyAlike, Names, Opens}
+use Rattle.fuse_theorem.specs.FirstPath.{unperformed}
 
 -- No two nodes of the server's table have the same file.
 abbrev pub OneId : NodeTable → Type 0
@@ -63,3 +64,11 @@ pub record IsReply (w : World) (p : Plain) (sent : Sent) (call : ℕ) (state : C
   pub goes : goes_with (asked state) sent.wire ≡ true
   pub used : use_of_all w.kernel.nodes (files_in_reply sent.wire) ≡ usable
   pub opens : OpensItsFile w.server.nodes w.server.handles (asked state) sent.wire
+
+-- An INTERRUPT on the link bears its original's number and one. The original stands nowhere else while it is held, and a signal was noted on its ask.
+pub record IsInterrupt (w : World) (p : Plain) (k : ℕ) (r : Request) (original : ℕ) : Type 0 where
+  pub there : slice_get w.requests k ≡ Some r
+  pub body_is : r.body ≡ interrupt original
+  pub number : r.unique ≡ original + 1
+  pub noted : (ask : Ask) → get p.asks original ≡ Some ask → ask.noted ≡ true
+  pub once : unperformed w original ≤ 1

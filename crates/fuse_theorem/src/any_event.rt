@@ -34,12 +34,13 @@ ghost use Rattle.fuse_spec.specs.Plain.{Ask};
 ghost use Rattle.fuse_spec.specs.Replies.{replied_to_call};
 ghost use Rattle.fuse_spec.specs.Server.{HeldRequest, Kept};
 ghost use Rattle.fuse_spec.specs.Performs.{served};
-ghost use Rattle.fuse_spec.specs.Worlds.{Sent, after_perform, after_again, after_write, after_drop, after_abort};
+ghost use Rattle.fuse_spec.specs.Worlds.{Sent, after_take, after_perform, after_again, after_write, after_drop, after_abort};
 ghost use Rattle.std.specs.Prelude.{T};
+ghost use Rattle.fuse_spec.specs.Taking.{taking};
 ghost use Rattle.std.specs.Ordering.{nat_cmp};
 ghost use Rattle.std.specs.FinMap.{is_sorted};
 ghost use Rattle.fuse_theorem.specs.Numbering.{IsNumbered, IsOneToOne};
-ghost use Rattle.fuse_theorem.specs.Conditions.{OneId, KnownAreHeld, TablesSound, CanPerform, IsReply};
+ghost use Rattle.fuse_theorem.specs.Conditions.{OneId, KnownAreHeld, TablesSound, CanPerform, IsReply, IsInterrupt};
 
 /// The world before its first mount is alike to the plain world with the root alone.
 pub fn first_worlds()
@@ -67,6 +68,13 @@ pub fn read_pending()
 pub fn take()
     ensures { (w : World) (p : Plain) → Alike w p → (k : ℕ) (r : Request) → slice_get w.requests k ≡ Some r →
         Alike (record w { requests = without w.requests k; server = holding w.server r.unique r.body }) p }
+{}
+
+/// The server takes an INTERRUPT: where its original is held, it and its ask are marked; where the original's reply is kept, nothing
+/// changes; else EAGAIN is replied.
+pub fn take_interrupt()
+    ensures { (w : World) (p : Plain) → Alike w p → (k : ℕ) (r : Request) (original : ℕ) → IsInterrupt w p k r original →
+        (q : Plain) × Takes p (event.take k) (event.taken r.unique (taking w.server r.unique r.body).word) q × Alike (after_take w k r.unique (taking w.server r.unique r.body)) q }
 {}
 
 /// The server performs a held request of a call, whatever its operation and whatever free nodeids it gives: the plain world performs the
