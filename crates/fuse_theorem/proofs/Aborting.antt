@@ -1,5 +1,5 @@
 -- The mount is aborted in both worlds.
-use Rattle.std.proofs.Common.{◌≡◌, ℕ, false, [], Some, refl, sym, subst}
+use Rattle.std.proofs.Common.{◌≡◌, ℕ, false, [], refl}
 use Rattle.std.specs.Prelude.{T}
 use Rattle.std.specs.Ordering.{nat_cmp}
 use Rattle.std.specs.FinMap.{is_sorted}
@@ -11,16 +11,18 @@ use Rattle.fuse_spec.specs.Worlds.{World, after_abort}
 use Rattle.fuse_spec.specs.Events as event
 use Rattle.fuse_spec.specs.Plain.{Plain, plain_aborted}
 use Rattle.fuse_spec.specs.PlainSteps.{Takes}
-use Rattle.fuse_spec.specs.Denotes.{MeansIn, MeansOpenIn, generation_known}
+use Rattle.fuse_spec.specs.Denotes.{MeansIn, MeansOpenIn}
 use Rattle.fuse_spec.specs.Alike.{RequestBodyAsked, PurposeAsked, Alike}
-use Rattle.fuse_theorem.proofs.GivingUp.{given_up_alike}
+use Rattle.fuse_theorem.proofs.OnlyRoots.{only_root_known}
+use Rattle.fuse_theorem.proofs.GivingUp.{given_up_alike, root_means}
+
+-- No node but the root is known then.
+pub aborted_means : (w : World) (id file : ℕ) → MeansIn (after_abort w) id file → (id ≡ 1) × (file ≡ 0)
+aborted_means w id file means = only_root_known [] w.server.nodes refl id file means
 
 module _ (w : World) (p : Plain) (root : w.kernel.vfs.root ≡ 1) (sorted : T (is_sorted nat_cmp w.kernel.vfs.answers)) (same : Alike w p) where
-  -- the root is known without a table
   roots : MeansIn (after_abort w) w.kernel.vfs.root p.vfs.root
-  roots =
-      let old = same.vfs.roots in
-      record { generation = old.generation; known = subst (λ (id : ℕ). generation_known [] id ≡ Some old.generation) (sym root) (subst (λ (id : ℕ). generation_known w.kernel.nodes id ≡ Some old.generation) root old.known); denotes = old.denotes }
+  roots = root_means w.kernel.nodes [] w.server.nodes w.server.nodes w.kernel.vfs.root p.vfs.root root same.vfs.roots
 
   -- What the server holds stays asked, as its tables alone say what that means.
   pub aborted_alike : Alike (after_abort w) (plain_aborted p)

@@ -1,15 +1,17 @@
 -- Everything is given up: the unanswered calls are answered alike in both worlds.
-use Rattle.std.proofs.Common.{◌≡◌, ℕ, Bool, true, false, cond, [], ◌∷◌, Option, Some, None, is_some, refl, ap, sym, ◌∙◌}
+use Rattle.std.proofs.Common.{◌≡◌, ℕ, Bool, true, false, cond, [], ◌∷◌, Option, Some, None, is_some, refl, ap, sym, subst, ◌∙◌}
 use Rattle.std.specs.Prelude.{T}
 use Rattle.std.specs.Ordering.{nat_cmp, eq_by_cmp}
 use Rattle.std.specs.Cmp.{nat_cmp_total}
 use Rattle.std.specs.FinMap.{is_sorted, nat_cmp-IsAntisymmetric}
 use Rattle.std.specs.FinMap.Entries.{is_sorted-put, same_entries}
+use Rattle.fuse_spec.specs.declared.Counted.{Counted}
 use Rattle.fuse_spec.specs.Maps.{Map, get}
 use Rattle.fuse_spec.specs.Numbers.{econnaborted}
 use Rattle.fuse_spec.specs.Answers.{Answer, failed}
 use Rattle.fuse_spec.specs.Vfs.{Vfs, all_answered, given_up}
-use Rattle.fuse_spec.specs.Denotes.{OptionAlike, StateAlike}
+use Rattle.fuse_spec.specs.Nodes.{NodeTable}
+use Rattle.fuse_spec.specs.Denotes.{Means, OptionAlike, StateAlike}
 use Rattle.fuse_spec.specs.Alike.{VfsAlike}
 use Rattle.fuse_spec.proofs.Tables.{get_put}
 
@@ -53,3 +55,12 @@ given_up_alike R R' S S' c d same sorted roots = record {
   clock = same.clock;
   roots = roots;
 }
+
+-- What node 1 means is not a matter of the tables.
+pub root_means : (nodes nodes' : Map Counted) (t t' : NodeTable) (id file : ℕ) → id ≡ 1 → Means nodes t id file → Means nodes' t' id file
+root_means nodes nodes' t t' id file is means = subst (λ (n : ℕ). Means nodes' t' n file) (sym is) (of_root (subst (λ (n : ℕ). Means nodes t n file) is means))
+  where
+    of_root : Means nodes t 1 file → Means nodes' t' 1 file
+    of_root old =
+        let row = old.denotes in
+        record { generation = old.generation; known = old.known; denotes = record { row = row.row; there = row.there; same_generation = row.same_generation; same_file = row.same_file } }

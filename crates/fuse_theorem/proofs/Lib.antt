@@ -32,10 +32,11 @@ pub mod Performing
 pub mod Learning
 pub mod Accepting
 pub mod Noting
-pub mod GivingUp
-pub mod Aborting
 pub mod Marking
 pub mod OnlyRoots
+pub mod GivingUp
+pub mod Aborting
+pub mod Mounting
 pub mod FirstCalls
 pub mod Numbered
 pub mod FirstSteps

@@ -34,7 +34,7 @@ ghost use Rattle.fuse_spec.specs.Plain.{Ask};
 ghost use Rattle.fuse_spec.specs.Replies.{replied_to_call};
 ghost use Rattle.fuse_spec.specs.Server.{HeldRequest, Kept};
 ghost use Rattle.fuse_spec.specs.Performs.{served};
-ghost use Rattle.fuse_spec.specs.Worlds.{Sent, after_take, after_perform, after_again, after_write, after_drop, after_abort};
+ghost use Rattle.fuse_spec.specs.Worlds.{Sent, after_take, after_perform, after_again, after_write, after_drop, after_abort, after_mount};
 ghost use Rattle.std.specs.Prelude.{T};
 ghost use Rattle.fuse_spec.specs.Taking.{taking};
 ghost use Rattle.std.specs.Ordering.{nat_cmp};
@@ -109,4 +109,15 @@ pub fn drop_name()
 pub fn abort()
     ensures { (w : World) (p : Plain) → w.kernel.vfs.root ≡ 1 → T (is_sorted nat_cmp w.kernel.vfs.answers) → Alike w p →
         (q : Plain) × Takes p event.abort event.aborted q × Alike (after_abort w) q }
+{}
+
+/// A mount, whatever was there, where the kernel's root is node 1 and the answers that are not collected stand in rising number.
+pub fn mount()
+    ensures { (w : World) (p : Plain) → w.kernel.vfs.root ≡ 1 → T (is_sorted nat_cmp w.kernel.vfs.answers) → Alike w p → (found_ms missing_ms : ℕ) →
+        (q : Plain) × Takes p (event.mount found_ms missing_ms) event.mounted q × Alike (after_mount w found_ms missing_ms) q }
+{}
+
+/// After a mount, and after an abort, no node means anything but the root.
+pub fn root_alone()
+    ensures { (w : World) (id file : ℕ) → ((found_ms missing_ms : ℕ) → MeansIn (after_mount w found_ms missing_ms) id file → (id ≡ 1) × (file ≡ 0)) × (MeansIn (after_abort w) id file → (id ≡ 1) × (file ≡ 0)) }
 {}
