@@ -36,7 +36,11 @@ pub mod Signalling
 pub mod Forgetting
 pub mod Declining
 pub mod AcceptingEintr
+pub mod Marking
 pub mod OnlyRoots
+pub mod GivingUp
+pub mod Aborting
+pub mod Mounting
 pub mod FirstCalls
 pub mod Numbered
 pub mod FirstSteps

@@ -14,7 +14,7 @@ use Rattle.fuse_theorem.specs.FirstPath.{OnlyRoot}
 use Rattle.fuse_theorem.proofs.Finding.{other_is}
 
 -- a kernel that knows no node but the root
-only_root_known : (nodes : Map Counted) (t : NodeTable) → nodes ≡ [] → (id file : ℕ) → Means nodes t id file → (id ≡ 1) × (file ≡ 0)
+pub only_root_known : (nodes : Map Counted) (t : NodeTable) → nodes ≡ [] → (id file : ℕ) → Means nodes t id file → (id ≡ 1) × (file ≡ 0)
 only_root_known nodes t none id file means = elim (cases_eq id 1) [
   | inl e ↦
       let there : Some root_row ≡ Some means.denotes.row = subst (λ (n : ℕ). row_of t n ≡ Some means.denotes.row) e means.denotes.there in

@@ -1,5 +1,5 @@
 -- What the laws on single events need of the world.
-use Rattle.std.specs.Prelude.{Contains, ◌≡◌, ◌≢◌, ℕ, All, true, false, Some, None, nat_eq, count_by}
+use Rattle.std.specs.Prelude.{Contains, ◌≡◌, ◌≢◌, ◌≤◌, ◌+◌, ℕ, All, true, false, cond, Some, None, nat_eq, count_by, is_some, slice_get}
 use Rattle.fuse_spec.specs.declared.Entry.{Entry}
 use Rattle.fuse_spec.specs.declared.Opened.{Opened}
 use Rattle.fuse_spec.specs.declared.Purpose.{Purpose}
@@ -10,7 +10,7 @@ use Rattle.fuse_spec.specs.Numbers.{eintr}
 use Rattle.fuse_spec.specs.Operations.{Operation, Reply, opening, created, opened, failed, files_in_reply}
 use Rattle.fuse_spec.specs.Vfs.{CallState, asked}
 use Rattle.fuse_spec.specs.Queues.{pending, request_under, is_unread}
-use Rattle.fuse_spec.specs.Messages.{Request, asks, WireReply}
+use Rattle.fuse_spec.specs.Messages.{Request, asks, interrupt, WireReply}
 use Rattle.fuse_spec.specs.Nodes.{NodeTable, HandleTable, is_open}
 use Rattle.fuse_spec.specs.Server.{Server, HeldRequest, Kept}
 use Rattle.fuse_spec.specs.Replies.{goes_with, usable, use_of_all}
@@ -19,6 +19,7 @@ use Rattle.fuse_spec.specs.Worlds.{World, Sent}
 use Rattle.fuse_spec.specs.Plain.{Plain, Ask}
 use Rattle.fuse_spec.specs.Plain as plain
 use Rattle.fuse_spec.specs.Denotes.{Denotes, MeansIn, MeansOpenIn, generation_known, OperationAlike, ReplyAlike, Names, Opens}
+use Rattle.fuse_theorem.specs.FirstPath.{unperformed}
 
 -- No two nodes of the server's table have the same file.
 abbrev pub OneId : NodeTable → Type 0
@@ -103,3 +104,11 @@ pub record HoldsAll (w : World) (t : NodeTable) : Type 0 where
   pub held : (unique : ℕ) (x : HeldRequest) → get w.server.held unique ≡ Some x → (id generation : ℕ) → Contains x.generations (id, generation) → (file : ℕ) × Denotes t id generation file
   pub kept : (unique : ℕ) (k : Kept) → get w.server.kept unique ≡ Some k → request_under w.kernel.queues unique ≢ None → EntriesAreHeld t k.wire
   pub copies : All (λ (s : Sent). request_under w.kernel.queues s.unique ≢ None → EntriesAreHeld t s.wire) w.replies
+
+-- An INTERRUPT on the link bears its original's number and one. The original stands nowhere else while it is held, and a signal was noted on its ask.
+pub record IsInterrupt (w : World) (p : Plain) (k : ℕ) (r : Request) (original : ℕ) : Type 0 where
+  pub there : slice_get w.requests k ≡ Some r
+  pub body_is : r.body ≡ interrupt original
+  pub number : r.unique ≡ original + 1
+  pub noted : (ask : Ask) → get p.asks original ≡ Some ask → ask.noted ≡ true
+  pub once : unperformed w original ≤ 1

@@ -36,9 +36,13 @@ ghost use Rattle.fuse_spec.specs.Replies.{replied_to_call};
 ghost use Rattle.fuse_spec.specs.Messages.{Forget};
 ghost use Rattle.fuse_spec.specs.Server.{HeldRequest, Kept, all_taken_back, forgetting};
 ghost use Rattle.fuse_spec.specs.Performs.{served};
-ghost use Rattle.fuse_spec.specs.Worlds.{Sent, after_perform, after_again, after_write, after_drop};
+ghost use Rattle.fuse_spec.specs.Worlds.{Sent, after_take, after_perform, after_again, after_write, after_drop, after_abort, after_mount};
+ghost use Rattle.std.specs.Prelude.{T};
+ghost use Rattle.fuse_spec.specs.Taking.{taking};
+ghost use Rattle.std.specs.Ordering.{nat_cmp};
+ghost use Rattle.std.specs.FinMap.{is_sorted};
 ghost use Rattle.fuse_theorem.specs.Numbering.{IsNumbered, IsOneToOne};
-ghost use Rattle.fuse_theorem.specs.Conditions.{OneId, KnownAreHeld, TablesSound, CanPerform, CanDecline, IsReply, IsDeclined, UnreadAreUnsent, HoldsAll};
+ghost use Rattle.fuse_theorem.specs.Conditions.{OneId, KnownAreHeld, TablesSound, CanPerform, CanDecline, IsReply, IsDeclined, UnreadAreUnsent, HoldsAll, IsInterrupt};
 
 /// The world before its first mount is alike to the plain world with the root alone.
 pub fn first_worlds()
@@ -66,6 +70,13 @@ pub fn read_pending()
 pub fn take()
     ensures { (w : World) (p : Plain) → Alike w p → (k : ℕ) (r : Request) → slice_get w.requests k ≡ Some r →
         Alike (record w { requests = without w.requests k; server = holding w.server r.unique r.body }) p }
+{}
+
+/// The server takes an INTERRUPT: where its original is held, it and its ask are marked; where the original's reply is kept, nothing
+/// changes; else EAGAIN is replied.
+pub fn take_interrupt()
+    ensures { (w : World) (p : Plain) → Alike w p → (k : ℕ) (r : Request) (original : ℕ) → IsInterrupt w p k r original →
+        (q : Plain) × Takes p (event.take k) (event.taken r.unique (taking w.server r.unique r.body).word) q × Alike (after_take w k r.unique (taking w.server r.unique r.body)) q }
 {}
 
 /// The server performs a held request of a call, whatever its operation and whatever free nodeids it gives: the plain world performs the
@@ -120,4 +131,21 @@ pub fn signal()
 pub fn forget()
     ensures { (w : World) (p : Plain) → OneId w.server.nodes → Alike w p → (k : ℕ) (fs : List Forget) → HoldsAll w (all_taken_back w.server.nodes fs) →
         Alike (record w { requests = without w.requests k; server = forgetting w.server fs }) p }
+{}
+
+/// The mount is aborted, where the kernel's root is node 1 and the answers that are not collected stand in rising number.
+pub fn abort()
+    ensures { (w : World) (p : Plain) → w.kernel.vfs.root ≡ 1 → T (is_sorted nat_cmp w.kernel.vfs.answers) → Alike w p →
+        (q : Plain) × Takes p event.abort event.aborted q × Alike (after_abort w) q }
+{}
+
+/// A mount, whatever was there, where the kernel's root is node 1 and the answers that are not collected stand in rising number.
+pub fn mount()
+    ensures { (w : World) (p : Plain) → w.kernel.vfs.root ≡ 1 → T (is_sorted nat_cmp w.kernel.vfs.answers) → Alike w p → (found_ms missing_ms : ℕ) →
+        (q : Plain) × Takes p (event.mount found_ms missing_ms) event.mounted q × Alike (after_mount w found_ms missing_ms) q }
+{}
+
+/// After a mount, and after an abort, no node means anything but the root.
+pub fn root_alone()
+    ensures { (w : World) (id file : ℕ) → ((found_ms missing_ms : ℕ) → MeansIn (after_mount w found_ms missing_ms) id file → (id ≡ 1) × (file ≡ 0)) × (MeansIn (after_abort w) id file → (id ≡ 1) × (file ≡ 0)) }
 {}
