@@ -1,0 +1,5 @@
+pub mod ListLemmas
+pub mod FileRows
+pub mod Keeping
+pub mod Climbing
+pub mod Records

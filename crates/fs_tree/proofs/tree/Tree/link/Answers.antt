@@ -1,0 +1,10 @@
+use Rattle.std.proofs.Common.{rules, ◌≡◌, ◌<◌, ◌^◌, ℕ, ◌+◌, ◌++◌, ◌∷◌, [], length, not, nat_eq, find, cond, count_by, Some, None, sym, ap, ◌∙◌, arith}
+use Rattle.fuse_spec.specs.Trees.{is_at, Named, kind_of}
+use Rattle.fs_tree.specs.Views.{content_in}
+use Rattle.fs_tree.proofs.Keeping.{kept-named, kept-where, kept-born, kept-less, kept-written, kept-moved}
+use Rattle.fs_tree.proofs.tree.Tree.link.Goals as goal
+
+pub invariant_of-self-2 : goal.invariant_of-self-2
+invariant_of-self-2 g c =
+    let serials = rw (← c.self.view_is) at c.requires.serials in
+    rw c.in_ok-add.ensures.ok (kept-named _ _ _ _ c.self.invariant _ (search rules) (rw (← c.self.view_is) at c.in_default.ensures.room) serials)
