@@ -129,6 +129,7 @@ impl<A: Allocator + Copy> Files<A> {
     pub(crate) fn retain_named(&mut self, names: &Names<A>)
         ensures { self.new.contents ≡ filter (λ e. not (nat_eq (cond (nat_eq e.0 0) 1 (count_by (λ n. nat_eq n.file e.0) names.now)) 0)) self.old.contents }
     {
-        self.contents.retain(|file, _| *file == ROOT || names.count_of(*file) != 0);
+        self.contents
+            .retain(|file, _| *file == ROOT || names.count_of(*file) != 0);
     }
 }

@@ -125,5 +125,4 @@ impl<A: Allocator + Copy> Tree<A> {
             None
         }
     }
-
 }
