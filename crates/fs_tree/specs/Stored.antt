@@ -1,5 +1,5 @@
 -- What is true of a stored tree, beside what it shows.
-use Rattle.std.specs.Prelude.{◌≡◌, ℕ, ◌+◌, ◌<◌, ◌≤◌, ◌^◌, List, [], ◌∷◌, length, map, filter, nat_eq, nat_lt}
+use Rattle.std.specs.Prelude.{ℕ, ◌+◌, ◌<◌, ◌≤◌, ◌^◌, List, [], ◌∷◌, length, map, filter, nat_eq, nat_lt}
 use Rattle.fuse_spec.specs.Maps.{Map, get}
 use Rattle.fuse_spec.specs.Operations.{Dirent}
 use Rattle.fuse_spec.specs.Trees.{Content, Named, kind_of}

@@ -1,5 +1,5 @@
 -- What the stored names, files and records stand for.
-use Rattle.std.specs.Prelude.{ℕ, ◌+◌, List, map}
+use Rattle.std.specs.Prelude.{ℕ, ◌+◌}
 use Rattle.fuse_spec.specs.Trees as plain
 use Rattle.fuse_spec.specs.Trees.{Named, a_directory, a_file}
 use Rattle.fuse_spec.specs.Operations.{Dirent}

@@ -66,6 +66,7 @@ impl<A: Allocator + Copy> Tree<A> {
             return Err(error);
         }
         self.names.remove(directory, name);
+        // the file stays, nameless or not
         Ok(())
     }
 

@@ -1,9 +1,8 @@
 //! The first refusal that applies to an operation, if any.
 
-ghost use Rattle.std.specs.Prelude.{◌<◌, ◌≡◌, IfNone, length, Some, None};
+ghost use Rattle.std.specs.Prelude.{◌<◌, IfNone, length, Some};
 ghost use Rattle.fuse_spec.specs.Operations.{mkdir, unlink, rmdir, link, rename};
-ghost use Rattle.fuse_spec.specs.FileOperations.{refusal, is_dir, is_file, is_filled, first_refusal};
-ghost use Rattle.fuse_spec.specs.Numbers.{enotdir, eisdir, enotempty};
+ghost use Rattle.fuse_spec.specs.FileOperations.{refusal, first_refusal, making};
 ghost use Rattle.fs_tree.specs.Outcomes.{Refuses, replacing};
 
 use crate::MOST_NAMES;
@@ -21,7 +20,17 @@ impl<A: Allocator + Copy> Tree<A> {
             Some(TreeError::NotADirectory)
         } else if self.is_nameless(directory) {
             Some(TreeError::NotFound)
-        } else if self.names.file_at(directory, name).is_some() {
+        } else {
+            self.refusal_of_name(directory, name)
+        }
+    }
+
+    /// The refusal of one more name in a directory.
+    fn refusal_of_name(&self, directory: u64, name: &[u8]) -> Option<TreeError>
+        ensures refusal { Refuses (first_refusal (making self.now directory name.now)) result }
+        ensures room { IfNone result (length self.now.names < 4096) }
+    {
+        if self.names.file_at(directory, name).is_some() {
             Some(TreeError::AlreadyExists)
         } else if self.names.len() >= MOST_NAMES {
             Some(TreeError::NoSpace)
@@ -43,12 +52,8 @@ impl<A: Allocator + Copy> Tree<A> {
             Some(TreeError::NotPermitted)
         } else if self.is_nameless(file) {
             Some(TreeError::NotFound)
-        } else if self.names.file_at(directory, name).is_some() {
-            Some(TreeError::AlreadyExists)
-        } else if self.names.len() >= MOST_NAMES {
-            Some(TreeError::NoSpace)
         } else {
-            None
+            self.refusal_of_name(directory, name)
         }
     }
 

@@ -1,4 +1,4 @@
-use Rattle.std.proofs.Common.{rules, ◌≡◌, ap, not, ◌∙◌, refl}
+use Rattle.std.proofs.Common.{rules, ap, not, ◌∙◌, refl}
 use Rattle.std.proofs.lemmas.Fn.{filter_same}
 use Rattle.fuse_spec.specs.Trees.{is_at}
 use Rattle.fs_tree.specs.Views.{named_of}

@@ -1,9 +1,8 @@
-use Rattle.std.proofs.Common.{rules, ◌≡◌, None, Some, ℕ, refl, sym, ap, ◌∙◌, map, nat_eq, subst, T, not}
+use Rattle.std.proofs.Common.{sym, ap, ◌∙◌, map, nat_eq, subst, T, not}
 use Rattle.std.specs.Ordering.{nat_cmp}
 use Rattle.std.specs.FinMap.{is_sorted}
-use Rattle.fuse_spec.specs.Trees.{kind_of, bytes_of, a_file}
 use Rattle.fs_tree.specs.Views.{content_in, file_of}
-use Rattle.fs_tree.proofs.FileRows.{get-seen, put-seen, push-seen, remove-seen, sorted_with, sorted_where, is_ok-stored, there-kind}
+use Rattle.fs_tree.proofs.FileRows.{remove-seen, sorted_where}
 use Rattle.fs_tree.proofs.files.Files.remove.Goals as goal
 
 pub invariant_of-self : goal.invariant_of-self

@@ -1,4 +1,4 @@
-use Rattle.std.proofs.Common.{rules, ◌≡◌, ℕ, Bool, not, cond, count_by, sym, ap, subst, ◌∙◌, map, nat_eq, refl, T}
+use Rattle.std.proofs.Common.{not, cond, count_by, sym, ap, subst, ◌∙◌, map, nat_eq, refl, T}
 use Rattle.std.specs.Ordering.{nat_cmp}
 use Rattle.std.specs.FinMap.{is_sorted}
 use Rattle.fs_tree.specs.Views.{file_of}

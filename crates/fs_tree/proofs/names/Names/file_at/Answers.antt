@@ -1,4 +1,4 @@
-use Rattle.std.proofs.Common.{rules, ◌≡◌, ap, refl, ◌∙◌, sym}
+use Rattle.std.proofs.Common.{ap, refl, ◌∙◌, sym}
 use Rattle.fuse_spec.specs.Trees.{is_at}
 use Rattle.fs_tree.specs.Views.{named_of}
 use Rattle.std.specs.Option.{option_map}

@@ -1,4 +1,4 @@
-use Rattle.std.proofs.Common.{◌≡◌, ◌<◌, length, refl, sym, ◌∙◌, arith}
+use Rattle.std.proofs.Common.{◌<◌, length, sym, ◌∙◌, arith}
 use Rattle.fs_tree.proofs.Climbing.{within-here, within-up, within-top, within-end}
 use Rattle.fs_tree.proofs.names.Names.is_below.Goals as goal
 

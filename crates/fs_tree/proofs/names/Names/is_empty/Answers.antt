@@ -1,6 +1,5 @@
-use Rattle.std.proofs.Common.{rules, ◌≡◌, ap, refl, nat_eq, eq-eqb, ◌∙◌, arith, sym}
+use Rattle.std.proofs.Common.{refl, nat_eq, ◌∙◌, arith, sym}
 use Rattle.fs_tree.specs.Views.{named_of}
-use Rattle.std.specs.Option.{option_map}
 use Rattle.std.proofs.lemmas.Grind.{common_steps}
 use Rattle.fs_tree.proofs.ListLemmas.{find-skipped, find-here, find-past, left-found, none_left-found}
 use Rattle.fs_tree.proofs.names.Names.is_empty.Goals as goal

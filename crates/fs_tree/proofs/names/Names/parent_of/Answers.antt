@@ -1,4 +1,4 @@
-use Rattle.std.proofs.Common.{rules, ◌≡◌, ap, refl, nat_eq, eq-eqb, ◌∙◌, arith, sym}
+use Rattle.std.proofs.Common.{ap, refl, nat_eq, ◌∙◌, arith, sym}
 use Rattle.fs_tree.specs.Views.{named_of}
 use Rattle.std.specs.Option.{option_map}
 use Rattle.std.proofs.lemmas.Grind.{common_steps}

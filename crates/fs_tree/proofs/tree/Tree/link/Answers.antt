@@ -1,7 +1,5 @@
-use Rattle.std.proofs.Common.{rules, ◌≡◌, ◌<◌, ◌^◌, ℕ, ◌+◌, ◌++◌, ◌∷◌, [], length, not, nat_eq, find, cond, count_by, Some, None, sym, ap, ◌∙◌, arith}
-use Rattle.fuse_spec.specs.Trees.{is_at, Named, kind_of}
-use Rattle.fs_tree.specs.Views.{content_in}
-use Rattle.fs_tree.proofs.Keeping.{kept-named, kept-where, kept-born, kept-less, kept-written, kept-moved}
+use Rattle.std.proofs.Common.{rules}
+use Rattle.fs_tree.proofs.Keeping.{kept-named}
 use Rattle.fs_tree.proofs.tree.Tree.link.Goals as goal
 
 pub invariant_of-self-2 : goal.invariant_of-self-2
