@@ -2,4 +2,5 @@ pub mod ListLemmas
 pub mod FileRows
 pub mod Keeping
 pub mod Climbing
-pub mod Records
+pub mod EntryRows
+pub mod ByDirectory

@@ -1,5 +1,7 @@
 -- What is true of a stored tree, beside what it shows.
-use Rattle.std.specs.Prelude.{ℕ, ◌+◌, ◌<◌, ◌≤◌, ◌^◌, List, [], ◌∷◌, length, map, filter, nat_eq, nat_lt}
+use Rattle.std.specs.Prelude.{◌≡◌, ℕ, ◌+◌, ◌<◌, ◌≤◌, ◌^◌, List, [], ◌∷◌, length, map, filter, nat_eq, nat_lt}
+use Rattle.std.specs.Map.{lookup}
+use Rattle.std.specs.Option.{unwrap_or}
 use Rattle.fuse_spec.specs.Maps.{Map, get}
 use Rattle.fuse_spec.specs.Operations.{Dirent}
 use Rattle.fuse_spec.specs.Trees.{Content, Named, kind_of}
@@ -34,3 +36,21 @@ pub record IsKept (files : Map Content) (names : List Named) (next_birth next_se
   pub few : length names ≤ 4096
   pub births_fit : next_birth ≤ 2 ^ 62
   pub serials_fit : next_serial ≤ 2 ^ 62
+
+-- A name in one directory.
+pub record Entry : Type 0 where
+  pub name : List ℕ
+  pub file : ℕ
+  pub serial : ℕ
+
+-- The names in a directory, where the directories that have any are listed.
+abbrev pub entries_in : List (ℕ × List Entry) → ℕ → List Entry
+entries_in directories dir = unwrap_or (lookup (nat_eq dir) directories) []
+
+-- A name, by its directory.
+abbrev pub in_directory : ℕ → Entry → Named
+in_directory dir e = record { directory = dir; name = e.name; file = e.file; serial = e.serial }
+
+-- The names in each directory are these, in rising serial.
+abbrev pub AreByDirectory : (ℕ → List Entry) → List Named → Type 0
+AreByDirectory entries names = (dir : ℕ) → map (in_directory dir) (entries dir) ≡ filter (λ n. nat_eq n.directory dir) names

@@ -7,6 +7,8 @@
 #![tactic(auto)]
 
 mod bytes;
+mod directories;
+mod entries;
 mod error;
 mod files;
 mod listing;

@@ -1,12 +1,15 @@
 //! The names of a tree.
 
-ghost use Rattle.std.specs.Prelude.{◌≡◌, ◌++◌, ◌∷◌, [], ◌<◌, ◌^◌, not, filter, find, map, length, count_by, nat_eq, option_map, OnOk, OnErr, IfOk, ◌≤◌, vec_len, vec_capacity};
-ghost use Rattle.fuse_spec.specs.Trees.{is_at, is_within, fitting};
+ghost use Rattle.std.specs.Prelude.{◌≡◌, ◌++◌, ◌∷◌, [], ◌<◌, ◌^◌, not, filter, find, map, length, count_by, nat_eq, option_map, OnOk, OnErr, IfOk, ◌≤◌, ◌&&◌, false, None, vec_len, vec_capacity};
+ghost use Rattle.fuse_spec.specs.Trees.{is_at, is_within, fitting, same_name};
 ghost use Rattle.fs_tree.specs.Views.{named_of, dirent_of};
 ghost use Rattle.fs_tree.specs.Stored.{listed};
 
+use crate::directories::{Directories, open, put_last_in, remove_from};
+use crate::entries::Link;
 use crate::files::Files;
-use crate::listing::{Record, record_len};
+use crate::listing::Record;
+use indexmap::IndexMap;
 use std::alloc::{AllocError, Allocator};
 use std::marker::Model;
 
@@ -28,10 +31,11 @@ impl<A: Allocator> Name<A> {
     }
 }
 
-/// The names, in rising serial.
+/// The names, in rising serial, and again by directory.
 #[derive(Drop)]
 pub(crate) struct Names<A: Allocator> {
     rows: Vec<Name<A>, A>,
+    directories: Directories<A>,
 }
 
 impl<A: Allocator> Model for Names<A> {
@@ -41,8 +45,11 @@ impl<A: Allocator> Model for Names<A> {
     ghost Value = { List Named };
 
     ghost use Rattle.fs_tree.specs.Views.{named_of};
+    ghost use Rattle.fs_tree.specs.Stored.{entries_in, AreByDirectory};
 
     ghost view = { λ n. map named_of n.rows.items };
+
+    ghost invariant = { λ n. AreByDirectory (entries_in n.directories.entries) (map named_of n.rows.items) };
 }
 
 impl<A: Allocator + Copy> Names<A> {
@@ -51,6 +58,7 @@ impl<A: Allocator + Copy> Names<A> {
     {
         Names {
             rows: Vec::new(alloc),
+            directories: IndexMap::new(alloc),
         }
     }
 
@@ -65,12 +73,10 @@ impl<A: Allocator + Copy> Names<A> {
     pub(crate) fn file_at(&self, directory: u64, name: &[u8]) -> Option<u64>
         ensures { result ≡ option_map (λ n. n.file) (find (is_at directory name.now) self.now) }
     {
-        for row in &self.rows {
-            if row.is_at(directory, name) {
-                return Some(row.file);
-            }
+        match self.directories.get(&directory) {
+            Some(entries) => entries.file_at(name),
+            None => None,
         }
-        None
     }
 
     /// How many names lead to a file.
@@ -96,15 +102,13 @@ impl<A: Allocator + Copy> Names<A> {
     pub(crate) fn is_empty(&self, directory: u64) -> bool
         ensures { result ≡ nat_eq (length (filter (λ n. nat_eq n.directory directory) self.now)) 0 }
     {
-        for row in &self.rows {
-            if row.directory == directory {
-                return false;
-            }
+        match self.directories.get(&directory) {
+            Some(entries) => entries.is_empty(),
+            None => true,
         }
-        true
     }
 
-    /// Puts a name last. Where memory is refused nothing changes.
+    /// Puts a name last that is not there. Where memory is refused nothing changes.
     pub(crate) fn add(
         &mut self,
         directory: u64,
@@ -112,16 +116,22 @@ impl<A: Allocator + Copy> Names<A> {
         file: u64,
         serial: u64,
     ) -> Result<(), AllocError>
+        requires absent { find (is_at directory name.now) self.old ≡ None }
         ensures ok { OnOk result (self.new ≡ self.old ++ record { directory = directory; name = name.now; file = file; serial = serial } ∷ []) }
         ensures unchanged { OnErr result (self.new ≡ self.old) }
     {
-        let name = name.to_vec(*self.rows.allocator())?;
-        self.rows.push(Name {
+        let alloc = *self.rows.allocator();
+        let key = copy_of(name, alloc)?;
+        let name = copy_of(name, alloc)?;
+        self.rows.reserve(1)?;
+        open(&mut self.directories, directory, alloc)?;
+        put_last_in(&mut self.directories, directory, key, Link { file, serial })?;
+        self.rows.push_reserved(Name {
             directory,
             name,
             file,
             serial,
-        })?;
+        });
         Ok(())
     }
 
@@ -129,6 +139,7 @@ impl<A: Allocator + Copy> Names<A> {
     pub(crate) fn remove(&mut self, directory: u64, name: &[u8])
         ensures { self.new ≡ filter (λ n. not (is_at directory name.now n)) self.old }
     {
+        remove_from(&mut self.directories, directory, name);
         take_away(&mut self.rows, directory, name);
     }
 
@@ -142,11 +153,18 @@ impl<A: Allocator + Copy> Names<A> {
         file: u64,
         serial: u64,
     ) -> Result<(), AllocError>
+        requires other { (nat_eq new_directory directory && same_name new.now old.now) ≡ false }
         ensures ok { OnOk result (self.new ≡ filter (λ n. not (is_at new_directory new.now n)) (filter (λ n. not (is_at directory old.now n)) self.old) ++ record { directory = new_directory; name = new.now; file = file; serial = serial } ∷ []) }
         ensures unchanged { OnErr result (self.new ≡ self.old) }
     {
-        let name = new.to_vec(*self.rows.allocator())?;
+        let alloc = *self.rows.allocator();
+        let key = copy_of(new, alloc)?;
+        let name = copy_of(new, alloc)?;
         self.rows.reserve(1)?;
+        open(&mut self.directories, new_directory, alloc)?;
+        let link = Link { file, serial };
+        put_last_in(&mut self.directories, new_directory, key, link)?;
+        remove_from(&mut self.directories, directory, old);
         take_away(&mut self.rows, directory, old);
         take_away(&mut self.rows, new_directory, new);
         self.rows.push_reserved(Name {
@@ -185,24 +203,10 @@ impl<A: Allocator + Copy> Names<A> {
     ) -> Result<Vec<Record<'_>, A>, AllocError>
         ensures { IfOk result (λ records. map dirent_of records.items ≡ fitting size (listed files.now.contents directory after self.now)) }
     {
-        let mut records = Vec::new(*self.rows.allocator());
-        let mut room = size;
-        for row in &self.rows {
-            if row.directory == directory && after < row.serial {
-                let len = record_len(&row.name);
-                if len > room {
-                    break;
-                }
-                records.push(Record {
-                    name: &row.name,
-                    serial: row.serial,
-                    kind: files.kind(row.file),
-                    file: row.file,
-                })?;
-                room -= len;
-            }
+        match self.directories.get(&directory) {
+            Some(entries) => entries.list(files, after, size),
+            None => Ok(Vec::new(*self.rows.allocator())),
         }
-        Ok(records)
     }
 }
 
@@ -213,4 +217,10 @@ fn take_away<A: Allocator>(rows: &mut Vec<Name<A>, A>, directory: u64, name: &[u
     ensures capacity { vec_capacity rows.new ≡ vec_capacity rows.old }
 {
     rows.retain(|row| !row.is_at(directory, name));
+}
+
+fn copy_of<A: Allocator + Copy>(name: &[u8], alloc: A) -> Result<Vec<u8, A>, AllocError>
+    ensures { IfOk result (λ copy. copy.items ≡ name.now) }
+{
+    name.to_vec(alloc)
 }

@@ -1,8 +1,9 @@
 //! The first refusal that applies to an operation, if any.
 
-ghost use Rattle.std.specs.Prelude.{◌<◌, IfNone, length, Some};
+ghost use Rattle.std.specs.Prelude.{◌≡◌, ◌<◌, IfNone, length, find, Some, None};
 ghost use Rattle.fuse_spec.specs.Operations.{mkdir, unlink, rmdir, link, rename};
 ghost use Rattle.fuse_spec.specs.FileOperations.{refusal, first_refusal, making};
+ghost use Rattle.fuse_spec.specs.Trees.{is_at};
 ghost use Rattle.fs_tree.specs.Outcomes.{Refuses, replacing};
 
 use crate::MOST_NAMES;
@@ -15,6 +16,7 @@ impl<A: Allocator + Copy> Tree<A> {
     pub fn refusal_of_make(&self, directory: u64, name: &[u8]) -> Option<TreeError>
         ensures refusal { Refuses (refusal self.now (mkdir directory name.now)) result }
         ensures room { IfNone result (length self.now.names < 4096) }
+        ensures free { IfNone result (find (is_at directory name.now) self.now.names ≡ None) }
     {
         if !self.is_directory(directory) {
             Some(TreeError::NotADirectory)
@@ -29,6 +31,7 @@ impl<A: Allocator + Copy> Tree<A> {
     fn refusal_of_name(&self, directory: u64, name: &[u8]) -> Option<TreeError>
         ensures refusal { Refuses (first_refusal (making self.now directory name.now)) result }
         ensures room { IfNone result (length self.now.names < 4096) }
+        ensures free { IfNone result (find (is_at directory name.now) self.now.names ≡ None) }
     {
         if self.names.file_at(directory, name).is_some() {
             Some(TreeError::AlreadyExists)
@@ -43,6 +46,7 @@ impl<A: Allocator + Copy> Tree<A> {
     pub fn refusal_of_link(&self, file: u64, directory: u64, name: &[u8]) -> Option<TreeError>
         ensures refusal { Refuses (refusal self.now (link file directory name.now)) result }
         ensures room { IfNone result (length self.now.names < 4096) }
+        ensures free { IfNone result (find (is_at directory name.now) self.now.names ≡ None) }
     {
         if !self.is_directory(directory) {
             Some(TreeError::NotADirectory)

@@ -1,21 +1,18 @@
-use Rattle.std.proofs.Common.{ap, refl, ◌∙◌, sym}
-use Rattle.fuse_spec.specs.Trees.{is_at}
+use Rattle.std.proofs.Common.{rules, ◌≡◌, None, Some, ℕ, refl, sym, ap, ◌∙◌, map, nat_eq, nat_lt, length, filter, not, ◌&&◌, find, []}
+use Rattle.std.proofs.lemmas.List.{map-append}
+use Rattle.std.specs.Option.{unwrap_or, option_map}
+use Rattle.fuse_spec.specs.Trees.{is_at, fitting, same_name}
+use Rattle.fs_tree.specs.Stored.{entries_in, AreByDirectory, dirent_in, in_directory}
 use Rattle.fs_tree.specs.Views.{named_of}
-use Rattle.std.specs.Option.{option_map}
-use Rattle.fs_tree.proofs.ListLemmas.{find-skipped, find-here, find-past}
+use Rattle.fs_tree.proofs.ByDirectory.{file-in, length-in, listed-in, AreByDirectory-same, AreByDirectory-added, AreByDirectory-removed, AreByDirectory-moved}
 use Rattle.fs_tree.proofs.names.Names.file_at.Goals as goal
 
-pub loop-row-init : goal.loop-row-init
-loop-row-init g c = rw (← c.self.view_is, c.deref-row-items.ensures.value) refl
+pub returns-in-Some : goal.returns-in-Some
+returns-in-Some g c =
+    let there = ap (λ o. option_map (λ e. e.file) (find (λ e. same_name e.name c.args.name.now) (unwrap_or o []))) c.in-Some.ensures.value in
+    rw (← c.self.view_is) (c.file_at.ensures ∙ there ∙ file-in (entries_in c.self.inside.directories.entries) (map named_of c.self.inside.rows.items) c.self.invariant c.args.directory c.args.name.now)
 
-pub returns-then-is_at : goal.returns-then-is_at
-returns-then-is_at g c =
-    let found = find-here named_of (is_at c.args.directory c.args.name.now) c.deref-row-items.result.now c.loop-row.row-index c.row-item.result c.loop-row-test.true c.row-item.is (sym c.is_at.ensures ∙ c.if-is_at.true) in
-    sym (ap (option_map (λ n. n.file)) (c.loop-row.invariant ∙ found))
-
-pub loop-row-preserved : goal.loop-row-preserved
-loop-row-preserved g c =
-    c.loop-row.invariant ∙ find-skipped named_of (is_at c.args.directory c.args.name.now) c.deref-row-items.result.now c.loop-row.row-index c.row-item.result c.loop-row-test.true c.row-item.is (sym c.is_at.ensures ∙ c.if-is_at.false)
-
-pub returns : goal.returns
-returns g c = sym (ap (option_map (λ n. n.file)) (c.loop-row.invariant ∙ find-past named_of (is_at c.args.directory c.args.name.now) c.deref-row-items.result.now c.loop-row.row-index c.loop-row-test.false))
+pub returns-in-None : goal.returns-in-None
+returns-in-None g c =
+    let there = ap (λ o. option_map (λ e. e.file) (find (λ e. same_name e.name c.args.name.now) (unwrap_or o []))) c.in-None.ensures.value in
+    rw (← c.self.view_is) (there ∙ file-in (entries_in c.self.inside.directories.entries) (map named_of c.self.inside.rows.items) c.self.invariant c.args.directory c.args.name.now)
