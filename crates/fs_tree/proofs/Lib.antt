@@ -4,3 +4,4 @@ pub mod Keeping
 pub mod Climbing
 pub mod EntryRows
 pub mod ByDirectory
+pub mod OpenDirectories

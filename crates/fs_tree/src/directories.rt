@@ -57,3 +57,23 @@ pub(crate) fn remove_from<A: Allocator + Copy>(
         entries.remove(name);
     }
 }
+
+/// Lets a directory without names go.
+pub(crate) fn close<A: Allocator + Copy>(directories: &mut Directories<A>, directory: u64)
+    ensures { (k : ℕ) → entries_in directories.new.entries k ≡ entries_in directories.old.entries k }
+{
+    let Some(entries) = directories.get(&directory) else {
+        return;
+    };
+    if entries.is_empty() {
+        let _entries = directories.swap_remove(&directory);
+    }
+}
+
+/// Lets all directories without names go.
+pub(crate) fn close_empty<A: Allocator + Copy>(directories: &mut Directories<A>)
+    ensures { (k : ℕ) → entries_in directories.new.entries k ≡ entries_in directories.old.entries k }
+{
+    let _len = directories.len();
+    directories.retain(|_, entries| !entries.is_empty());
+}

@@ -5,7 +5,7 @@ ghost use Rattle.fuse_spec.specs.Trees.{is_at, is_within, fitting, same_name};
 ghost use Rattle.fs_tree.specs.Views.{named_of, dirent_of};
 ghost use Rattle.fs_tree.specs.Stored.{listed};
 
-use crate::directories::{Directories, open, put_last_in, remove_from};
+use crate::directories::{Directories, close, close_empty, open, put_last_in, remove_from};
 use crate::entries::Link;
 use crate::files::Files;
 use crate::listing::Record;
@@ -141,6 +141,20 @@ impl<A: Allocator + Copy> Names<A> {
     {
         remove_from(&mut self.directories, directory, name);
         take_away(&mut self.rows, directory, name);
+    }
+
+    /// Lets go what is kept for a directory, if no name is in it.
+    pub(crate) fn forget(&mut self, directory: u64)
+        ensures { self.new ≡ self.old }
+    {
+        close(&mut self.directories, directory);
+    }
+
+    /// Lets go what is kept for directories without names.
+    pub(crate) fn forget_empty(&mut self)
+        ensures { self.new ≡ self.old }
+    {
+        close_empty(&mut self.directories);
     }
 
     /// Takes two names away and puts the second one anew, last. Where memory is refused nothing changes.

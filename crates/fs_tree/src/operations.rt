@@ -138,6 +138,7 @@ impl<A: Allocator + Copy> Tree<A> {
     {
         if self.is_nameless(file) {
             self.files.remove(file);
+            self.names.forget(file);
         }
     }
 
@@ -146,6 +147,7 @@ impl<A: Allocator + Copy> Tree<A> {
         ensures { self.new ≡ without_nameless self.old }
     {
         self.files.retain_named(&self.names);
+        self.names.forget_empty();
     }
 }
 
