@@ -2,6 +2,7 @@
 
 use super::{Answer, Operation, perform};
 use crate::{Tree, TreeError};
+use std::alloc::Global;
 use std::process::Abort;
 use std::test::Fail;
 
@@ -124,15 +125,15 @@ const RENAMES: [Row; 13] = [
     (Operation::Rename(0, "d", 3, "inner"), Ok(Answer::Done)),
 ];
 
-fn started(rt: &HostRuntime) -> Result<Tree, TreeError> {
-    let mut tree = Tree::new(rt.alloc())?;
+fn started(rt: &impl Abort, alloc: Global) -> Result<Tree, TreeError> {
+    let mut tree = Tree::new(alloc)?;
     check_rows(rt, &mut tree, &START);
     Ok(tree)
 }
 
 #[test]
 fn lookups_and_makes(rt: HostRuntime) -> Result<(), Fail> {
-    let mut tree = started(&rt)?;
+    let mut tree = started(&rt, rt.alloc())?;
     check_rows(&rt, &mut tree, &LOOKUPS_AND_MAKES);
     assert_eq!(rt; tree.next_birth(), 7);
     Ok(())
@@ -140,14 +141,14 @@ fn lookups_and_makes(rt: HostRuntime) -> Result<(), Fail> {
 
 #[test]
 fn removals(rt: HostRuntime) -> Result<(), Fail> {
-    let mut tree = started(&rt)?;
+    let mut tree = started(&rt, rt.alloc())?;
     check_rows(&rt, &mut tree, &REMOVALS);
     Ok(())
 }
 
 #[test]
 fn links(rt: HostRuntime) -> Result<(), Fail> {
-    let mut tree = started(&rt)?;
+    let mut tree = started(&rt, rt.alloc())?;
     check_rows(&rt, &mut tree, &LINKS);
     assert_eq!(rt; tree.names_of(2), 2);
     Ok(())
@@ -155,21 +156,21 @@ fn links(rt: HostRuntime) -> Result<(), Fail> {
 
 #[test]
 fn refused_renames(rt: HostRuntime) -> Result<(), Fail> {
-    let mut tree = started(&rt)?;
+    let mut tree = started(&rt, rt.alloc())?;
     check_rows(&rt, &mut tree, &REFUSED_RENAMES);
     Ok(())
 }
 
 #[test]
 fn renames(rt: HostRuntime) -> Result<(), Fail> {
-    let mut tree = started(&rt)?;
+    let mut tree = started(&rt, rt.alloc())?;
     check_rows(&rt, &mut tree, &RENAMES);
     Ok(())
 }
 
 #[test]
 fn what_would_be_refused(rt: HostRuntime) -> Result<(), Fail> {
-    let tree = started(&rt)?;
+    let tree = started(&rt, rt.alloc())?;
     assert!(rt; tree.refusal_of_rename(0, b"x", 0, b"y") == Some(TreeError::NotFound));
     assert!(rt; tree.refusal_of_make(0, b"d") == Some(TreeError::AlreadyExists));
     assert!(rt; tree.refusal_of_link(4, 0, b"n").is_none());
