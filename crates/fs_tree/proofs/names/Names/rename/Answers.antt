@@ -1,0 +1,18 @@
+use Rattle.std.proofs.Common.{rules, ◌≡◌, None, Some, ℕ, refl, sym, ap, ◌∙◌, map, nat_eq, nat_lt, length, filter, not, ◌&&◌}
+use Rattle.std.proofs.lemmas.List.{map-append}
+use Rattle.std.specs.Option.{unwrap_or, option_map}
+use Rattle.fuse_spec.specs.Trees.{is_at, fitting}
+use Rattle.fs_tree.specs.Stored.{entries_in, AreByDirectory}
+use Rattle.fs_tree.specs.Views.{named_of}
+use Rattle.fs_tree.proofs.ByDirectory.{file-in, length-in, listed-in, AreByDirectory-same, AreByDirectory-added, AreByDirectory-removed, AreByDirectory-moved}
+use Rattle.fs_tree.proofs.names.Names.rename.Goals as goal
+
+pub invariant_of-self-2 : goal.invariant_of-self-2
+invariant_of-self-2 g c =
+    let opened = AreByDirectory-same _ _ _ c.open.ensures.same c.self.invariant in
+    rw (c.push_reserved.ensures.items, map-append, c.take_away-2.ensures.names, c.take_away.ensures.names, c.reserve.ensures.items, c.in_ok-name.ensures, ← c.in_ok-key.ensures)
+    (AreByDirectory-moved c.args.directory c.args.old.now c.args.new_directory c.in_ok-key.key.items c.args.file c.args.serial _ _ _ _ c.in_ok-put_last_in.ensures.ok c.remove_from.ensures opened
+    (rw (← c.in_ok-key.ensures) at c.requires.other))
+
+pub returns-clause-ok : goal.returns-clause-ok
+returns-clause-ok g c = rw (← c.self.view_is, c.push_reserved.ensures.items, map-append, c.take_away-2.ensures.names, c.take_away.ensures.names, c.reserve.ensures.items) (search rules)

@@ -1,0 +1,4 @@
+pub mod EntryViews
+pub mod Outcomes
+pub mod Stored
+pub mod Views

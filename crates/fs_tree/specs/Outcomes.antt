@@ -1,0 +1,79 @@
+-- What a call of the tree answers, said with the operations of `fuse_spec`.
+use Rattle.std.specs.Prelude.{◌≡◌, ℕ, Bool, true, false, ◌&&◌, List, [], ◌∷◌, not, filter, Option, Some, None, MatchOption, cond}
+use Rattle.fuse_spec.specs.declared.Validity.{Validity}
+use Rattle.fuse_spec.specs.declared.Kind.{Kind}
+use Rattle.fuse_spec.specs.declared.Kind.TheVariants.{Directory, Regular, Other}
+use Rattle.fuse_spec.specs.Numbers.{eperm, enoent, eexist, enotdir, eisdir, einval, efbig, enospc, enotempty}
+use Rattle.fuse_spec.specs.Maps.{get, remove}
+use Rattle.fuse_spec.specs.Operations.{Reply}
+use Rattle.fuse_spec.specs.Trees.{Tree, a_directory, kind_of, is_nameless}
+use Rattle.fuse_spec.specs.FileOperations.{FileOperation, Check, is_dir, is_file, is_filled, refusal, reply_unrefused}
+use Rattle.fs_tree.specs.declared.error.TreeError.{TreeError}
+use Rattle.fs_tree.specs.declared.error.TreeError.TheVariants.{NotPermitted, NotFound, NoMemory, AlreadyExists, NotADirectory, IsADirectory, Invalid, FileTooLarge, NoSpace, NotEmpty}
+
+-- The error's number in errno.h.
+abbrev pub errno_of : TreeError → ℕ
+errno_of NotPermitted = eperm
+errno_of NotFound = enoent
+errno_of NoMemory = 12
+errno_of AlreadyExists = eexist
+errno_of NotADirectory = enotdir
+errno_of IsADirectory = eisdir
+errno_of Invalid = einval
+errno_of FileTooLarge = efbig
+errno_of NoSpace = enospc
+errno_of NotEmpty = enotempty
+
+-- The refusal that an error tells of. A want of memory comes only where nothing refuses.
+abbrev pub refusal_in : TreeError → Option ℕ
+refusal_in NotPermitted = Some eperm
+refusal_in NotFound = Some enoent
+refusal_in NoMemory = None
+refusal_in AlreadyExists = Some eexist
+refusal_in NotADirectory = Some enotdir
+refusal_in IsADirectory = Some eisdir
+refusal_in Invalid = Some einval
+refusal_in FileTooLarge = Some efbig
+refusal_in NoSpace = Some enospc
+refusal_in NotEmpty = Some enotempty
+
+-- What a test for a refusal answers.
+abbrev pub Refuses : Option ℕ → Option TreeError → Type 0
+Refuses first error = MatchOption error (first ≡ None) (λ e. (first ≡ refusal_in e) × (first ≡ Some (errno_of e)))
+
+-- The call was refused with this error: the first refusal of the operation, or a want of memory where there is none.
+abbrev pub IsRefused : Tree → FileOperation → TreeError → Type 0
+IsRefused tree operation error = refusal tree operation ≡ refusal_in error
+
+-- The same of a call that takes no memory.
+abbrev pub IsRefusedBy : Tree → FileOperation → TreeError → Type 0
+IsRefusedBy tree operation error = refusal tree operation ≡ Some (errno_of error)
+
+-- Nothing refuses the operation, and this is its reply.
+abbrev pub IsReply : Tree → FileOperation → Reply ℕ ℕ → Type 0
+IsReply tree operation reply = (refusal tree operation ≡ None) × ((valid : Validity) → reply_unrefused valid tree operation ≡ reply)
+
+-- The tree with the root alone.
+abbrev pub only_root : Tree
+only_root = record { files = (0, a_directory) ∷ []; names = []; next_birth = 1; next_serial = 1 }
+
+abbrev pub is_kind_regular : Kind → Bool
+is_kind_regular Directory = false
+is_kind_regular Regular = true
+is_kind_regular Other = false
+
+abbrev pub is_regular : Tree → ℕ → Bool
+is_regular tree file = is_kind_regular (kind_of (get tree.files file))
+
+-- The tree without this file, if it is nameless.
+abbrev pub discarded : Tree → ℕ → Tree
+discarded tree file = record tree { files = cond (is_nameless tree file) (remove tree.files file) tree.files }
+
+-- The tree without its nameless files.
+abbrev pub without_nameless : Tree → Tree
+without_nameless tree = record tree { files = filter (λ e. not (is_nameless tree e.0)) tree.files }
+
+-- What refuses to replace a file by another one.
+abbrev pub replacing : Tree → Option ℕ → Option ℕ → List Check
+replacing tree moved there =
+    (is_dir tree moved && is_file tree there, enotdir) ∷ (is_file tree moved && is_dir tree there, eisdir) ∷ (is_filled tree there, enotempty) ∷ []

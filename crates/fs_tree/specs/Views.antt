@@ -1,0 +1,24 @@
+-- What the stored names, files and records stand for.
+use Rattle.std.specs.Prelude.{ℕ, ◌+◌}
+use Rattle.fuse_spec.specs.Trees as plain
+use Rattle.fuse_spec.specs.Trees.{Named, a_directory, a_file}
+use Rattle.fuse_spec.specs.Operations.{Dirent}
+use Rattle.fs_tree.specs.declared.names.Name.{Name}
+use Rattle.fs_tree.specs.declared.files.Content.{Content}
+use Rattle.fs_tree.specs.declared.files.Content.TheVariants.{Directory, Regular}
+use Rattle.fs_tree.specs.declared.listing.Record.{Record}
+
+module _ {A : Type 0} where
+  abbrev pub named_of : Name A → Named
+  named_of n = record { directory = n.directory; name = n.name.items; file = n.file; serial = n.serial }
+
+  abbrev pub content_in : Content A → plain.Content
+  content_in Directory = a_directory
+  content_in (Regular bytes) = a_file bytes.items
+
+  abbrev pub file_of : ℕ × Content A → ℕ × plain.Content
+  file_of e = (e.0, content_in e.1)
+
+-- The record of READDIR for a name. An inode number is one more than the file's birth.
+abbrev pub dirent_of : Record → Dirent
+dirent_of r = record { ino = r.file + 1; offset = r.serial; kind = r.kind; name = r.name.now }

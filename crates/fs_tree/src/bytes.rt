@@ -1,0 +1,120 @@
+//! Reading and writing the bytes of a file.
+
+ghost use Rattle.std.specs.Prelude.{◌≡◌, ◌+◌, ◌≤◌, ◌<◌, ◌^◌, IfNone, length, take, drop, min, IfErr, OnOk, OnErr, IfOk, None, IsTrue, true, ◌↔◌};
+ghost use Rattle.fuse_spec.specs.Operations.{getattr, opening, read, write, content, attributes};
+ghost use Rattle.fuse_spec.specs.Trees.{attributes_of, overwritten};
+ghost use Rattle.fuse_spec.specs.FileOperations.{refusal, tree_unrefused};
+ghost use Rattle.fs_tree.specs.Outcomes.{IsRefused, IsRefusedBy, IsReply, is_regular};
+
+use crate::error::TreeError;
+use crate::tree::{ROOT, Tree};
+use crate::{Attributes, Kind, MOST_BYTES, MOST_READ};
+use std::alloc::{AllocError, Allocator};
+
+impl<A: Allocator + Copy> Tree<A> {
+    /// What is told of a file. Of one that is not in the tree: another kind, no bytes, no links.
+    pub fn getattr(&self, file: u64) -> Attributes
+        requires { file < 2 ^ 62 }
+        ensures { result ≡ attributes_of self.now file }
+    {
+        Attributes {
+            kind: self.files.kind(file),
+            ino: file + 1,
+            size: self.files.bytes(file).len() as u64,
+            nlink: self.links(file) as u32,
+        }
+    }
+
+    /// Whether a file may be opened: EISDIR for a directory.
+    pub fn open(&self, file: u64) -> Result<(), TreeError>
+        ensures ok { OnOk result (refusal self.now (opening file) ≡ None) }
+        ensures refused { IfErr result (IsRefusedBy self.now (opening file)) }
+    {
+        if self.is_directory(file) {
+            return Err(TreeError::IsADirectory);
+        }
+        Ok(())
+    }
+
+    /// Whether a file is regular. A file that is not in the tree is not.
+    pub fn is_regular(&self, file: u64) -> bool
+        ensures { result ≡ is_regular self.now file }
+    {
+        matches!(self.files.kind(file), Kind::Regular)
+    }
+
+    /// The bytes of a file from an offset on: at most `size` and 4,096, fewer at the end of the file, none past it.
+    pub fn read(&self, file: u64, offset: u64, size: u32) -> &[u8]
+        ensures { IsReply self.now (read file offset size) (content result.now) }
+    {
+        let bytes = bytes_from(self.files.bytes(file), offset as usize);
+        first_bytes(bytes, size.min(MOST_READ) as usize)
+    }
+
+    /// Writes bytes into a regular file. A gap between its end and the offset becomes zeros. EFBIG past 65,536 bytes.
+    pub fn write(&mut self, file: u64, offset: u64, bytes: &[u8]) -> Result<(), TreeError>
+        requires { IsTrue (is_regular self.old file) }
+        ensures ok { OnOk result ((refusal self.old (write file offset bytes.now) ≡ None) × (self.new ≡ tree_unrefused self.old (write file offset bytes.now))) }
+        ensures refused { IfErr result (IsRefused self.old (write file offset bytes.now)) }
+        ensures unchanged { OnErr result (self.new ≡ self.old) }
+    {
+        if !fits(offset, bytes.len()) {
+            return Err(TreeError::FileTooLarge);
+        }
+        if bytes.is_empty() {
+            return Ok(());
+        }
+        let written = with_bytes(self.alloc, self.files.bytes(file), offset as usize, bytes)?;
+        self.files.store(file, written);
+        Ok(())
+    }
+}
+
+/// Whether so many bytes from an offset on lie within the largest file.
+fn fits(offset: u64, len: usize) -> bool
+    ensures { (result ≡ true) ↔ (offset + len ≤ 65536) }
+{
+    offset <= MOST_BYTES && len as u64 <= MOST_BYTES - offset
+}
+
+/// The bytes with others written over them from an offset on. A gap is zeros.
+fn with_bytes<A: Allocator>(
+    alloc: A,
+    old: &[u8],
+    offset: usize,
+    bytes: &[u8],
+) -> Result<Vec<u8, A>, AllocError>
+    requires fits { offset + length bytes.now ≤ 65536 }
+    requires some { 0 < length bytes.now }
+    ensures { IfOk result (λ new. new.items ≡ overwritten old.now offset bytes.now) }
+{
+    let end = offset + bytes.len();
+    let mut new = Vec::with_capacity(alloc, end.max(old.len()))?;
+    new.extend_from_slice(first_bytes(old, offset))?;
+    new.resize(offset, 0)?;
+    new.extend_from_slice(bytes)?;
+    new.extend_from_slice(bytes_from(old, end))?;
+    Ok(new)
+}
+
+/// At most so many bytes, the first ones.
+fn first_bytes(bytes: &[u8], count: usize) -> &[u8]
+    ensures { result.now ≡ take count bytes.now }
+{
+    if count < bytes.len() {
+        &bytes[..count]
+    } else {
+        bytes
+    }
+}
+
+/// The bytes from an offset on: none past their end.
+fn bytes_from(bytes: &[u8], offset: usize) -> &[u8]
+    ensures { result.now ≡ drop offset bytes.now }
+{
+    if offset < bytes.len() {
+        &bytes[offset..]
+    } else {
+        &[]
+    }
+}

@@ -1,0 +1,34 @@
+//! The file tree of the server: files, their names, and the operations on them.
+//!
+//! A file is known by its birth. The root is file 0, and a directory. Births rise by 1, and none is used twice. A name is a
+//! directory, the bytes of the name, the file to which it leads, and a serial. Serials start at 1 and rise with each name that is
+//! made. A file is nameless when no name leads to it; the root never counts as nameless. A nameless file stays until it is
+//! discarded.
+#![tactic(auto)]
+
+mod bytes;
+mod directories;
+mod entries;
+mod error;
+mod files;
+mod listing;
+mod names;
+mod operations;
+mod refusals;
+#[cfg(test)]
+mod tests;
+mod tree;
+
+pub use error::TreeError;
+pub use fuse_spec::{Attributes, Kind};
+pub use listing::Record;
+pub use tree::{ROOT, Tree};
+
+/// The most names in a tree.
+pub const MOST_NAMES: usize = 4096;
+
+/// The most bytes in a file.
+pub const MOST_BYTES: u64 = 65_536;
+
+/// The most bytes that one read, or one list of names, gives.
+pub const MOST_READ: u32 = 4096;

@@ -1,0 +1,134 @@
+//! Refused growths change nothing, and the same call succeeds after them.
+
+use super::{Answer, Operation, perform};
+use crate::{Tree, TreeError};
+use fail_at::FailAt;
+use std::alloc::{Allocator, Global};
+use std::process::Abort;
+use std::test::Fail;
+
+const EVENTS: [(Operation, Answer); 9] = [
+    (Operation::Mkdir(0, "d"), Answer::File(1)),
+    (Operation::Create(1, "f"), Answer::File(2)),
+    (Operation::Write(2, 3, "abc"), Answer::Done),
+    (Operation::Link(2, 0, "g"), Answer::Done),
+    (Operation::Rename(1, "f", 0, "moved"), Answer::Done),
+    (Operation::Rename(0, "g", 1, "h"), Answer::Done),
+    (Operation::Unlink(1, "h"), Answer::Done),
+    (Operation::Rmdir(0, "d"), Answer::Done),
+    (Operation::Lookup(0, "moved"), Answer::File(2)),
+];
+
+/// What can be seen of the tree.
+fn seen<A: Allocator + Copy>(tree: &Tree<A>) -> Result<(u64, u64, usize, usize, u64), TreeError> {
+    Ok((
+        tree.births_left(),
+        tree.serials_left(),
+        tree.readdir(0, 0, 4096)?.len(),
+        tree.names_of(2),
+        tree.getattr(2).size,
+    ))
+}
+
+/// Performs one event of a run in which the next growth but so many is refused. Says whether it was refused here.
+fn one_event<A: Allocator + Copy>(
+    rt: &impl Abort,
+    tree: &mut Tree<A>,
+    heap: &FailAt<Global>,
+    event: &(Operation, Answer),
+) -> Result<bool, TreeError> {
+    let refuse = heap.left();
+    heap.refuse(0);
+    let before = seen(tree)?;
+    heap.refuse(refuse);
+    let outcome = perform(tree, event.0);
+    let refused = refuse != 0 && heap.left() == 0;
+    if refused {
+        assert!(rt; outcome == Err(TreeError::NoMemory) && seen(tree)? == before);
+        assert!(rt; perform(tree, event.0) == Ok(event.1));
+    } else {
+        assert!(rt; outcome == Ok(event.1));
+    }
+    Ok(refused)
+}
+
+/// A run with the `n`th growth refused. Says whether that growth came.
+fn refused_at<A: Allocator + Copy>(
+    rt: &impl Abort,
+    alloc: A,
+    heap: &FailAt<Global>,
+    n: u64,
+) -> Result<bool, TreeError> {
+    heap.refuse(0);
+    let mut tree = Tree::new(alloc)?;
+    heap.refuse(n);
+    let mut refused = false;
+    for event in &EVENTS {
+        refused |= one_event(rt, &mut tree, heap, event)?;
+    }
+    heap.refuse(0);
+    Ok(refused)
+}
+
+#[test]
+fn each_growth_refused(rt: HostRuntime) -> Result<(), Fail> {
+    let heap = FailAt::new(rt.alloc());
+    let mut last = 0u64;
+    for n in 1..40u64 {
+        if refused_at(&rt, &heap, &heap, n)? {
+            last = n;
+        }
+    }
+    // some growths came, and the run ended without one more
+    assert!(rt; 5 <= last && last < 39);
+    Ok(())
+}
+
+/// Look-ups and what takes names or files away need no memory.
+fn takes_none<A: Allocator + Copy>(
+    rt: &impl Abort,
+    alloc: A,
+    heap: &FailAt<Global>,
+) -> Result<(), TreeError> {
+    let mut tree = Tree::new(alloc)?;
+    for event in &EVENTS[..4] {
+        let _ = perform(&mut tree, event.0)?;
+    }
+    heap.refuse(1);
+    assert!(rt; tree.lookup(1, b"f") == Ok(Some(2)));
+    assert!(rt; tree.unlink(1, b"f") == Ok(()) && tree.unlink(0, b"g") == Ok(()));
+    assert!(rt; tree.rmdir(0, b"d") == Ok(()));
+    tree.discard(2);
+    tree.discard_nameless();
+    assert_eq!(rt; tree.next_birth(), 3);
+    assert_eq!(rt; heap.left(), 1);
+    heap.refuse(0);
+    Ok(())
+}
+
+#[test]
+fn removals_take_no_memory(rt: HostRuntime) -> Result<(), Fail> {
+    let heap = FailAt::new(rt.alloc());
+    takes_none(&rt, &heap, &heap)?;
+    Ok(())
+}
+
+#[test]
+fn the_root_needs_memory(rt: HostRuntime) -> Result<(), Fail> {
+    let heap = FailAt::new(rt.alloc());
+    refused_root(&rt, &heap, &heap)?;
+    Ok(())
+}
+
+fn refused_root<A: Allocator + Copy>(
+    rt: &impl Abort,
+    alloc: A,
+    heap: &FailAt<Global>,
+) -> Result<(), TreeError> {
+    heap.refuse(1);
+    assert!(rt; Tree::new(alloc).is_err());
+    heap.refuse(0);
+    let tree = Tree::new(alloc)?;
+    assert!(rt; tree.is_directory(0));
+    Ok(())
+}

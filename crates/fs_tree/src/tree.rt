@@ -1,0 +1,126 @@
+//! The tree: its files, its names, and what is read from it.
+
+ghost use Rattle.std.specs.Prelude.{◌≡◌, ◌+◌, ◌^◌, ◌<◌, ◌≤◌, IfOk, IfErr, None, count_by, nat_eq};
+ghost use Rattle.fuse_spec.specs.Operations.{lookup};
+ghost use Rattle.fuse_spec.specs.Trees.{is_directory, is_nameless, links, file_at};
+ghost use Rattle.fuse_spec.specs.FileOperations.{refusal};
+ghost use Rattle.fs_tree.specs.Outcomes.{IsRefusedBy, only_root};
+ghost use Rattle.fs_tree.specs.Stored.{IsRising};
+
+use crate::Kind;
+use crate::error::TreeError;
+use crate::files::{Content, Files};
+use crate::names::Names;
+use std::alloc::{AllocError, Allocator, Global};
+use std::marker::Model;
+
+/// The birth of the root.
+pub const ROOT: u64 = 0;
+
+/// No birth and no serial is drawn from here on.
+const COUNTER_END: u64 = 1 << 62;
+
+/// A tree of files.
+#[derive(Drop)]
+pub struct Tree<A: Allocator = Global> {
+    pub(crate) names: Names<A>,
+    pub(crate) files: Files<A>,
+    pub(crate) next_birth: u64,
+    pub(crate) next_serial: u64,
+    pub(crate) alloc: A,
+}
+
+impl<A: Allocator> Model for Tree<A> {
+    ghost use Rattle.fuse_spec.specs.Trees.{Tree};
+
+    ghost Value = { Tree };
+
+    ghost use Rattle.fs_tree.specs.Stored.{IsKept};
+
+    ghost view = { λ t. record { files = t.files.contents; names = t.names; next_birth = t.next_birth; next_serial = t.next_serial } };
+
+    ghost invariant = { λ t. IsKept t.files.contents t.names t.next_birth t.next_serial };
+}
+
+impl<A: Allocator + Copy> Tree<A> {
+    /// A tree with the root alone.
+    pub fn new(alloc: A) -> Result<Self, AllocError>
+        ensures { IfOk result (λ tree. tree ≡ only_root) }
+    {
+        let mut files = Files::new(alloc);
+        files.reserve_one()?;
+        files.push(ROOT, Content::Directory);
+        Ok(Tree {
+            names: Names::new(alloc),
+            files,
+            next_birth: 1,
+            next_serial: 1,
+            alloc,
+        })
+    }
+
+    /// The birth that the next file gets.
+    pub fn next_birth(&self) -> u64
+        ensures { result ≡ self.now.next_birth }
+    {
+        self.next_birth
+    }
+
+    /// How many births are left below 2^62.
+    pub fn births_left(&self) -> u64
+        ensures { self.now.next_birth + result ≡ 2 ^ 62 }
+    {
+        COUNTER_END - self.next_birth
+    }
+
+    /// How many serials are left below 2^62.
+    pub fn serials_left(&self) -> u64
+        ensures { self.now.next_serial + result ≡ 2 ^ 62 }
+    {
+        COUNTER_END - self.next_serial
+    }
+
+    /// Whether a file is a directory. A file that is not in the tree is none.
+    pub fn is_directory(&self, file: u64) -> bool
+        ensures { result ≡ is_directory self.now file }
+    {
+        matches!(self.files.kind(file), Kind::Directory)
+    }
+
+    /// How many names lead to a file. The root counts as having one.
+    pub(crate) fn links(&self, file: u64) -> usize
+        ensures links { result ≡ links self.now file }
+        ensures few { result ≤ 4096 }
+    {
+        if file == ROOT {
+            1
+        } else {
+            self.names.count_of(file)
+        }
+    }
+
+    /// Whether no name leads to a file. The root never counts as nameless.
+    pub fn is_nameless(&self, file: u64) -> bool
+        ensures { result ≡ is_nameless self.now file }
+    {
+        self.links(file) == 0
+    }
+
+    /// The file to which a name in a directory leads, if one does.
+    pub fn lookup(&self, directory: u64, name: &[u8]) -> Result<Option<u64>, TreeError>
+        ensures ok { IfOk result (λ file. (refusal self.now (lookup directory name.now) ≡ None) × (file ≡ file_at self.now directory name.now)) }
+        ensures refused { IfErr result (IsRefusedBy self.now (lookup directory name.now)) }
+    {
+        if !self.is_directory(directory) {
+            return Err(TreeError::NotADirectory);
+        }
+        Ok(self.names.file_at(directory, name))
+    }
+
+    /// How many names lead to a file.
+    pub fn names_of(&self, file: u64) -> usize
+        ensures { result ≡ count_by (λ n. nat_eq n.file file) self.now.names }
+    {
+        self.names.count_of(file)
+    }
+}
