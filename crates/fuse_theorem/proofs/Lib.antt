@@ -54,3 +54,4 @@ pub mod FirstCopies
 pub mod FirstSettles
 pub mod FirstMounts
 pub mod FirstPath
+pub mod Fresh
