@@ -58,3 +58,4 @@ pub mod FirstCopies
 pub mod FirstSettles
 pub mod FirstMounts
 pub mod FirstPath
+pub mod Fresh

@@ -149,3 +149,15 @@ pub fn mount()
 pub fn root_alone()
     ensures { (w : World) (id file : ℕ) → ((found_ms missing_ms : ℕ) → MeansIn (after_mount w found_ms missing_ms) id file → (id ≡ 1) × (file ≡ 0)) × (MeansIn (after_abort w) id file → (id ≡ 1) × (file ≡ 0)) }
 {}
+
+/// After a mount, whatever was there, the world meets the conditions of the other laws on numbers and on the tables.
+pub fn mounted_is_sound()
+    ensures { (w : World) (found_ms missing_ms : ℕ) →
+        IsNumbered (after_mount w found_ms missing_ms) × OneId (after_mount w found_ms missing_ms).server.nodes × KnownAreHeld (after_mount w found_ms missing_ms) × TablesSound (after_mount w found_ms missing_ms).server }
+{}
+
+/// After an abort too, where the server's tables met them, which stay as they were.
+pub fn aborted_is_sound()
+    ensures { (w : World) → OneId w.server.nodes → TablesSound w.server →
+        IsNumbered (after_abort w) × OneId (after_abort w).server.nodes × KnownAreHeld (after_abort w) × TablesSound (after_abort w).server }
+{}
