@@ -1,5 +1,5 @@
 -- The kernel accepts EINTR for a request that was marked: its call is answered EINTR, and the plain world's ask ends so.
-use Rattle.std.proofs.Common.{◌≡◌, ◌≢◌, ℕ, ◌+◌, Bool, true, false, not, cond, List, [], ◌∷◌, ◌++◌, remove, Option, Some, None, is_some, refl, ap, sym, subst, ◌∙◌, All}
+use Rattle.std.proofs.Common.{◌≡◌, ℕ, Bool, true, List, [], ◌∷◌, ◌++◌, Option, Some, None, refl, ap, sym, subst, ◌∙◌}
 use Rattle.fuse_spec.specs.declared.Opened.{Opened}
 use Rattle.fuse_spec.specs.declared.ReplyResult.{ReplyResult}
 use Rattle.fuse_spec.specs.declared.WriteResult.{WriteResult}
@@ -65,5 +65,5 @@ module _ (w : World) (p : Plain) (numbered : IsNumbered w) (one : OneId w.server
     q,
     (0, ap (λ (o : Option Ask). telling p sent.unique 0 o) is.there ∙ ap (λ (s : Stage). telling_ask p sent.unique 0 is.ask s) is.stage ∙ ap (λ (b : Bool). where_so b q) is.noted),
     subst (λ (took : WriteResult × Kernel). Alike (after_write w k sent took) q) (sym replied_is)
-    (unsent_alike (record w { kernel = after_use k2 state }) q (used_alike (record w { kernel = k2 }) q (IsSound-without w.kernel.queues sent.unique numbered.queues) live told state) k results),
+        (unsent_alike (record w { kernel = after_use k2 state }) q (used_alike (record w { kernel = k2 }) q (IsSound-without w.kernel.queues sent.unique numbered.queues) live told state) k results),
   )

@@ -1,14 +1,14 @@
 -- The server answers a marked request EINTR, and the plain world declines its ask.
-use Rattle.std.proofs.Common.{◌≡◌, ◌≢◌, ℕ, ◌+◌, Bool, true, false, true≢false, not, ◌||◌, cond, List, [], ◌∷◌, ◌++◌, Option, Some, None, nat_eq, count_by, get_or, refl, ap, sym, subst, ◌∙◌, All}
+use Rattle.std.proofs.Common.{◌≡◌, ℕ, ◌+◌, Bool, true, false, true≢false, cond, [], ◌∷◌, ◌++◌, Option, Some, None, nat_eq, get_or, refl, ap, sym, subst, ◌∙◌}
 use Rattle.fuse_spec.specs.declared.Opened.{Opened}
 use Rattle.fuse_spec.specs.declared.Purpose.{Purpose}
 use Rattle.fuse_spec.specs.declared.QueuedRequest.{QueuedRequest}
-use Rattle.fuse_spec.specs.Maps.{Map, get, put, remove}
+use Rattle.fuse_spec.specs.Maps.{Map, put, remove}
 use Rattle.fuse_spec.specs.Operations.{Operation, failed, errno_of}
 use Rattle.fuse_spec.specs.Queues.{pending}
-use Rattle.fuse_spec.specs.Messages.{RequestBody, asks, Request, WireReply}
+use Rattle.fuse_spec.specs.Messages.{Request, WireReply}
 use Rattle.fuse_spec.specs.Server.{Server, HeldRequest, Kept, Copy, is_file_held, without_unheld_files}
-use Rattle.fuse_spec.specs.Performs.{PerformResult, performed, performing, served, replying, refusing, is_still_held}
+use Rattle.fuse_spec.specs.Performs.{PerformResult, performing, served, replying, refusing, is_still_held}
 use Rattle.fuse_spec.specs.Worlds.{World, Sent, after_perform}
 use Rattle.fuse_spec.specs.Worlds as worlds
 use Rattle.fuse_spec.specs.Events as event
@@ -120,12 +120,13 @@ module _ (w : World) (p : Plain) (same : Alike w p) (choice : ℕ → ℕ) (uniq
   -- The request is answered EINTR, and its ask declined: the two are alike again.
   pub decline_goes : (q : Plain) × Takes p (event.perform unique) (event.performed unique (errno_of (served choice w.server unique t).wire) w.server.aborted) q × Alike (after_perform w unique (served choice w.server unique t)) q
   decline_goes =
-      let waits = asked.is_waiting in
-      (
+      let waits = asked.is_waiting in (
         ask_declined p unique asked.ask,
-        (0,
-        ap (λ (o : Option Ask). serving p unique o) asked.there ∙ ap (λ (s : Stage). serving_ask p unique asked.ask s) waits.stage
-        ∙ ap (λ (b : Bool). cond b (where_so asked.ask.noted (ask_declined p unique asked.ask)) (Some (plain.ask_performed p unique asked.ask))) (waits.marked_too ∙ can.marked)
-        ∙ ap (λ (b : Bool). where_so b (ask_declined p unique asked.ask)) (waits.noted can.marked)),
+        (
+          0,
+          ap (λ (o : Option Ask). serving p unique o) asked.there ∙ ap (λ (s : Stage). serving_ask p unique asked.ask s) waits.stage
+              ∙ ap (λ (b : Bool). cond b (where_so asked.ask.noted (ask_declined p unique asked.ask)) (Some (plain.ask_performed p unique asked.ask))) (waits.marked_too ∙ can.marked)
+              ∙ ap (λ (b : Bool). where_so b (ask_declined p unique asked.ask)) (waits.noted can.marked),
+        ),
         subst (λ (v : World). Alike v (ask_declined p unique asked.ask)) (sym is_served) declined_alike,
       )

@@ -1,27 +1,24 @@
 -- Lookups are given back, and nodes go that nobody knows any more: all stays alike.
-use Rattle.std.proofs.Common.{◌≡◌, ◌≢◌, ℕ, ◌-◌, Bool, true, false, true≢false, not, ◌||◌, cond, List, [], ◌∷◌, Option, Some, None, nat_eq, get_or, find, option_map, refl, ap, sym, subst, ◌∙◌, inl, inr, All}
-use Rattle.std.specs.Prelude.{nat_lt, Contains}
+use Rattle.std.proofs.Common.{◌≡◌, ◌≢◌, ℕ, ◌-◌, Bool, true, false, true≢false, not, ◌||◌, cond, List, [], ◌∷◌, Option, Some, None, nat_eq, get_or, refl, ap, sym, subst, ◌∙◌, inl, inr}
+use Rattle.std.specs.Prelude.{nat_lt}
 use Rattle.std.specs.List.{list_any, remove as without}
 use Rattle.std.proofs.lemmas.Bool.{cases_eq}
-use Rattle.fuse_spec.specs.declared.Entry.{Entry}
-use Rattle.fuse_spec.specs.declared.Opened.{Opened}
 use Rattle.fuse_spec.specs.declared.Purpose.{Purpose}
 use Rattle.fuse_spec.specs.declared.QueuedRequest.{QueuedRequest}
 use Rattle.fuse_spec.specs.Maps.{Map, get, put, remove, values}
-use Rattle.fuse_spec.specs.Operations.{files_in_reply, opens_in_reply}
-use Rattle.fuse_spec.specs.Messages.{Forget, WireReply}
+use Rattle.fuse_spec.specs.Messages.{Forget}
 use Rattle.fuse_spec.specs.Queues.{request_under}
-use Rattle.fuse_spec.specs.Kernel.{is_live, is_for, request_of}
-use Rattle.fuse_spec.specs.Nodes.{HeldNode, NodeTable, OpenNumber, row_of, root_row, rows_less, taken_back}
-use Rattle.fuse_spec.specs.Server.{Server, HeldRequest, Kept, is_file_held, without_unheld_files, all_taken_back, forgetting}
-use Rattle.fuse_spec.specs.Worlds.{World, Sent}
+use Rattle.fuse_spec.specs.Kernel.{is_live, is_for}
+use Rattle.fuse_spec.specs.Nodes.{HeldNode, NodeTable, OpenNumber, root_row, rows_less, taken_back}
+use Rattle.fuse_spec.specs.Server.{HeldRequest, is_file_held, without_unheld_files, all_taken_back, forgetting}
+use Rattle.fuse_spec.specs.Worlds.{World}
 use Rattle.fuse_spec.specs.Plain.{Plain, Ask}
-use Rattle.fuse_spec.specs.Denotes.{Denotes, Means, MeansIn, MeansOpenIn, Names}
-use Rattle.fuse_spec.specs.Alike.{Meant, MeantOpen, StageTold, Alike}
+use Rattle.fuse_spec.specs.Denotes.{Denotes, Means, MeansIn}
+use Rattle.fuse_spec.specs.Alike.{Meant, Alike}
 use Rattle.fuse_spec.proofs.Tables.{get_put_here, get_put_there, get_gone_here, get_gone_there}
 use Rattle.fuse_theorem.specs.Conditions.{OneId, HoldsAll}
 use Rattle.fuse_theorem.proofs.Carrying.{Carries, stage_more, carried_alike}
-use Rattle.fuse_theorem.proofs.Finding.{same_is, other_is, found_key}
+use Rattle.fuse_theorem.proofs.Finding.{other_is, found_key}
 use Rattle.fuse_theorem.proofs.Giving.{denotes_one}
 use Rattle.fuse_theorem.proofs.Learning.{one_to_one}
 use Rattle.fuse_theorem.proofs.Naming.{any_put_le}
@@ -156,7 +153,7 @@ forgotten_alike w p one same k fs holds =
     let carries = carries_fewer w p same t (λ i generation file d. all_less_denotes fs w.server.nodes i generation file d) one holds in
     let numbers = λ (file : ℕ). list_any (λ (h : OpenNumber). nat_eq h.file file) (values w.server.handles.handles) in
     let trees = swept_alike s2 p.tree (λ file. is_file_held w.server file) same.tree.names same.tree.next_birth same.tree.next_serial same.tree.files
-        (λ file h. either (list_any (λ (row : HeldNode). nat_eq row.file file) (values t.rows)) (numbers file) (list_any (λ (row : HeldNode). nat_eq row.file file) (values w.server.nodes.rows)) h (λ q. files_fewer file fs w.server.nodes q)) in
+    (λ file h. either (list_any (λ (row : HeldNode). nat_eq row.file file) (values t.rows)) (numbers file) (list_any (λ (row : HeldNode). nat_eq row.file file) (values w.server.nodes.rows)) h (λ q. files_fewer file fs w.server.nodes q)) in
     let carried = carried_alike w p same w.kernel.nodes t w.server.handles (without_unheld_files s2).tree p.tree carries trees in
     ignored_alike (record w { server = forgetting w.server fs }) p carried k
   where

@@ -1,5 +1,5 @@
 -- What the laws on single events need of the world.
-use Rattle.std.specs.Prelude.{Contains, ◌≡◌, ◌≢◌, ◌≤◌, ◌+◌, ℕ, All, true, false, cond, Some, None, nat_eq, count_by, is_some, slice_get}
+use Rattle.std.specs.Prelude.{Contains, ◌≡◌, ◌≢◌, ◌≤◌, ◌+◌, ℕ, All, true, false, Some, None, nat_eq, count_by, slice_get}
 use Rattle.fuse_spec.specs.declared.Entry.{Entry}
 use Rattle.fuse_spec.specs.declared.Opened.{Opened}
 use Rattle.fuse_spec.specs.declared.Purpose.{Purpose}
