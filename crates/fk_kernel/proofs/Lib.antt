@@ -3,3 +3,5 @@ pub mod Positions
 pub mod Words
 pub mod WordsAreNames
 pub mod NamesInForce
+pub mod Requests
+pub mod Stats

@@ -8,7 +8,7 @@ use Rattle.std.specs.FinMap.Entries.{by_order}
 use Rattle.std.proofs.lemmas.Bool.{cases_eq}
 use Rattle.std.proofs.lemmas.Bool.Decides.{eqb_tells}
 use Rattle.fuse_spec.specs.Maps.{Map, get, put, remove}
-use Rattle.fuse_spec.proofs.Tables.{tie_no, get_put_there, get_gone_here, get_gone_there}
+use Rattle.fuse_spec.proofs.Tables.{cmp_same, tie_no, get_put_there, get_gone_here, get_gone_there}
 use Rattle.fk_kernel.specs.Soundness.{IsSound}
 
 module _ {V : Type 0} where
@@ -37,6 +37,19 @@ module _ {V : Type 0} where
         | inr h ↦
             let rest = length_gone m k (λ none. there (ap (λ (b : Bool). cond b (Some e.1) (get m k)) (tie_no k e.0 (λ q. h.1 (sym q))) ∙ none)) in
             rw h.0 (omega arith)
+      ]
+
+  -- where nothing is there nothing goes
+  pub gone_absent : (m : Map V) (k : ℕ) → get m k ≡ None → remove m k ≡ m
+  gone_absent [] k none = refl
+  gone_absent (e ∷ m) k none =
+      elim (eqb_tells e.0 k) [
+        | inl h ↦
+            let here : Some e.1 ≡ None = sym (ap (λ (n : ℕ). cond (is_eq (nat_cmp k n)) (Some e.1) (get m k)) h.1 ∙ ap (λ r. cond (is_eq r) (Some e.1) (get m k)) (cmp_same k)) ∙ none in
+            cc
+        | inr h ↦
+            let rest = sym (ap (λ (b : Bool). cond b (Some e.1) (get m k)) (tie_no k e.0 (λ q. h.1 (sym q)))) ∙ none in
+            rw h.0 (ap (λ (t : Map V). e ∷ t) (gone_absent m k rest))
       ]
 
   -- a look-up that finds something does not find nothing

@@ -1,7 +1,15 @@
 //! The kernel.
 
-ghost use Rattle.std.specs.Prelude.{length, ◌≡◌, ◌<◌, ◌^◌, ◌+◌, [], OnOk, OnErr, IfOk};
+ghost use Rattle.std.specs.Prelude.{length, ◌≡◌, ◌<◌, ◌^◌, ◌+◌, [], drop, Some, None, OnOk, OnErr, IfOk, IfErr, true, IfNone, IfSome, cond, nat_eq};
+ghost use Rattle.fuse_spec.specs.Uniques.{numbers_left_from};
+ghost use Rattle.fuse_spec.specs.Answers.{failed};
+ghost use Rattle.fuse_spec.specs.Calls as call;
+ghost use Rattle.fuse_spec.specs.Kernel.{is_live, is_aborted, call_begun, kernel_mounted};
+ghost use Rattle.fuse_spec.specs.Steps.{is_ready};
+ghost use Rattle.fuse_spec.specs.Vfs.{begun, asking, answered, no_more, numbered};
 ghost use Rattle.fuse_spec.specs.Worlds.{first_kernel};
+ghost use Rattle.fk_kernel.specs.Values.{words_in, state_of, answer_of, call_of};
+ghost use Rattle.fk_kernel.specs.Refused.{or_no_memory, begin_refusal, mount_refusal};
 ghost use Rattle.fuse_spec.specs.Queues.{empty_queues};
 ghost use Rattle.fuse_spec.specs.QueueCalls.{after_enqueue, after_read_pending};
 
@@ -53,7 +61,7 @@ impl<Q: QueueTable<Purpose>> Model for KernelOf<Q> {
     ghost use Rattle.std.specs.Prelude.{[]};
     ghost use Rattle.std.specs.Coded.{codes};
     ghost use Rattle.fuse_spec.specs.Kernel.{Kernel as KernelState};
-    ghost use Rattle.fk_kernel.specs.Soundness.{IsSound};
+    ghost use Rattle.fk_kernel.specs.Soundness.{IsSoundKernel};
 
     ghost Value = { KernelState };
 
@@ -61,7 +69,7 @@ impl<Q: QueueTable<Purpose>> Model for KernelOf<Q> {
 
     ghost view = { λ k. record { phase = k.phase; vfs = record { calls = k.calls.entries; names = k.names; opens = []; answers = k.answers.entries; next_call = k.next_call; clock = k.clock; root = 1 }; queues = Q.state k.queues; nodes = []; closing = [] } };
 
-    ghost invariant = { λ k. IsSound k.calls.entries k.answers.entries k.answers.room k.next_call };
+    ghost invariant = { λ k. IsSoundKernel k.phase k.calls.entries k.answers.entries k.answers.room k.next_call k.names (Q.state k.queues) };
 }
 
 impl<Q: QueueTable<Purpose> + Drop> KernelOf<Q> {
@@ -81,8 +89,22 @@ impl<Q: QueueTable<Purpose> + Drop> KernelOf<Q> {
         }
     }
 
-    fn is_live(&self) -> bool {
+    fn is_live(&self) -> bool
+        ensures { result ≡ is_live self.now.phase }
+    {
         matches!(self.phase, Phase::Starting | Phase::Ready)
+    }
+
+    fn is_ready(&self) -> bool
+        ensures { result ≡ is_ready self.now.phase }
+    {
+        matches!(self.phase, Phase::Ready | Phase::Aborted)
+    }
+
+    fn is_aborted(&self) -> bool
+        ensures { result ≡ is_aborted self.now.phase }
+    {
+        matches!(self.phase, Phase::Aborted)
     }
 
     /// Mounts anew: everything of the old mount is given up, and INIT is queued.
@@ -121,10 +143,12 @@ impl<Q: QueueTable<Purpose> + Drop> KernelOf<Q> {
     /// `NoMemory`. The kernel is as before.
     pub fn begin(&mut self, call: &Call<'_>) -> Result<u64, Refusal>
         ensures err { OnErr result (self.new ≡ self.old) }
-        ensures number { IfOk result (λ call. call ≡ self.old.vfs.next_call) }
-        ensures next { IfOk result (λ call. self.new.vfs.next_call ≡ call + 1) }
+        ensures refusal { IfErr result (λ refusal. refusal ≡ or_no_memory (begin_refusal self.old (call_of call.now))) }
+        ensures judged { OnOk result (begin_refusal self.old (call_of call.now) ≡ None) }
+        ensures number { IfOk result (λ n. n ≡ self.old.vfs.next_call) }
+        ensures begun { OnOk result (self.new ≡ call_begun self.old (call_of call.now)) }
     {
-        if !matches!(self.phase, Phase::Ready | Phase::Aborted) {
+        if !self.is_ready() {
             return Err(Refusal::NotReady);
         }
         if self.calls.len() >= MAX_CALLS {
@@ -141,8 +165,11 @@ impl<Q: QueueTable<Purpose> + Drop> KernelOf<Q> {
     }
 
     /// The error that answers a `stat` of a path at once, if one does.
-    fn answer_at_once(&self, path: &[u8]) -> Option<u32> {
-        if matches!(self.phase, Phase::Aborted) {
+    fn answer_at_once(&self, path: &[u8]) -> Option<u32>
+        ensures asks { IfNone result (begun (is_aborted self.now.phase) self.now.vfs (call.stat path.now) ≡ asking (numbered self.now.vfs) self.now.vfs.next_call (state_of (words_in (drop 1 path.now)))) }
+        ensures answered { IfSome result (λ errno. begun (is_aborted self.now.phase) self.now.vfs (call.stat path.now) ≡ no_more (answered (numbered self.now.vfs) self.now.vfs.next_call (failed errno))) }
+    {
+        if self.is_aborted() {
             return Some(ENOTCONN);
         }
         if let Some(fault) = path_fault(path) {
@@ -151,7 +178,7 @@ impl<Q: QueueTable<Purpose> + Drop> KernelOf<Q> {
         if path.len() > 1 {
             let rest = &path[1..];
             let len = word_len(rest);
-            if self.names.find(ROOT, &rest[..len], self.clock) == Found::Missing {
+            if let Found::Missing = self.names.find(ROOT, &rest[..len], self.clock) {
                 return Some(ENOENT);
             }
         }
@@ -163,8 +190,10 @@ impl<Q: QueueTable<Purpose> + Drop> KernelOf<Q> {
         requires number { self.old.vfs.next_call < 2 ^ 62 }
         requires few { length self.old.vfs.calls < 64 }
         ensures err { OnErr result (self.new ≡ self.old) }
-        ensures number { IfOk result (λ call. call ≡ self.old.vfs.next_call) }
-        ensures next { IfOk result (λ call. self.new.vfs.next_call ≡ call + 1) }
+        ensures refusal { IfErr result (λ refusal. refusal ≡ Refusal.NoMemory) }
+        ensures number { IfOk result (λ n. n ≡ self.old.vfs.next_call) }
+        ensures vfs { OnOk result (self.new.vfs ≡ answered (numbered self.old.vfs) self.old.vfs.next_call (answer_of answer)) }
+        ensures same { OnOk result (self.new ≡ record self.old { vfs = self.new.vfs }) }
     {
         let Ok(()) = self.answers.reserve(MAX_CALLS) else {
             return Err(Refusal::NoMemory);
@@ -179,9 +208,14 @@ impl<Q: QueueTable<Purpose> + Drop> KernelOf<Q> {
     fn begin_asking(&mut self, path: &[u8]) -> Result<u64, Refusal>
         requires number { self.old.vfs.next_call < 2 ^ 62 }
         requires few { length self.old.vfs.calls < 64 }
+        requires ready { is_ready self.old.phase ≡ true }
         ensures err { OnErr result (self.new ≡ self.old) }
-        ensures number { IfOk result (λ call. call ≡ self.old.vfs.next_call) }
-        ensures next { IfOk result (λ call. self.new.vfs.next_call ≡ call + 1) }
+        ensures refusal { IfErr result (λ refusal. refusal ≡ cond (nat_eq (numbers_left_from self.old.queues.next) 0) Refusal.Exhausted Refusal.NoMemory) }
+        ensures number { IfOk result (λ n. n ≡ self.old.vfs.next_call) }
+        ensures left { OnOk result (0 < numbers_left_from self.old.queues.next) }
+        ensures vfs { OnOk result (self.new.vfs ≡ (asking (numbered self.old.vfs) self.old.vfs.next_call (state_of (words_in (drop 1 path.now)))).vfs) }
+        ensures queues { OnOk result (self.new.queues ≡ after_enqueue self.old.queues (Purpose.Call self.old.vfs.next_call)) }
+        ensures same { OnOk result (self.new ≡ record self.old { vfs = self.new.vfs; queues = self.new.queues }) }
     {
         if self.queues.numbers_left() == 0 {
             return Err(Refusal::Exhausted);
