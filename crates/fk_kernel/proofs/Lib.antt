@@ -5,3 +5,4 @@ pub mod WordsAreNames
 pub mod NamesInForce
 pub mod Requests
 pub mod Stats
+pub mod Phases

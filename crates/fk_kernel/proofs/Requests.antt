@@ -1,9 +1,9 @@
 -- No request of the queues is a RELEASE, whatever the kernel does to them.
-use Rattle.std.proofs.Common.{◌≡◌, ℕ, Bool, true, false, cond, List, [], ◌∷◌, Option, Some, None, nat_eq, refl, sym, subst, All}
-use Rattle.std.specs.Prelude.{slice_get, is_some, not, ◌&&◌}
+use Rattle.std.proofs.Common.{◌≡◌, ◌≢◌, ℕ, zero, suc, Bool, true, false, cond, List, [], ◌∷◌, Option, Some, None, nat_eq, refl, ap, ◌∙◌, subst, All}
+use Rattle.std.specs.Prelude.{slice_get, is_some, option_map, not, ◌&&◌}
 use Rattle.std.specs.List.{list_any}
 use Rattle.std.specs.Map.{remove_entry}
-use Rattle.std.proofs.lemmas.List.Elements.{All-nil, All-cons, All-head, All-tail, All-push}
+use Rattle.std.proofs.lemmas.List.Elements.{All-nil, All-cons, All-head, All-tail, All-push, All-filter}
 use Rattle.fuse_spec.specs.declared.Mark.{Mark}
 use Rattle.fuse_spec.specs.declared.Mark.TheVariants.{Unread, Flagged, Read, Interrupted}
 use Rattle.fuse_spec.specs.declared.InterruptReply.TheVariants.{Again}
@@ -11,8 +11,8 @@ use Rattle.fuse_spec.specs.declared.Opened.{Opened}
 use Rattle.fuse_spec.specs.declared.Purpose.{Purpose}
 use Rattle.fuse_spec.specs.declared.Purpose.TheVariants.{Init, Release, Call}
 use Rattle.fuse_spec.specs.declared.QueuedRequest.{QueuedRequest}
-use Rattle.fuse_spec.specs.Queues.{QueueState, pending, is_interrupted}
-use Rattle.fuse_spec.specs.QueueCalls.{after_enqueue, set_mark, after_reading, after_read_pending, waiting, without, after_answer, with_interrupt, after_interrupt_reply}
+use Rattle.fuse_spec.specs.Queues.{QueueState, pending, is_interrupted, is_unread}
+use Rattle.fuse_spec.specs.QueueCalls.{after_enqueue, pending_at, set_mark, after_reading, after_read_pending, waiting, without, after_answer, with_interrupt, after_interrupt_reply}
 use Rattle.fuse_spec.proofs.QueueReadings.{after_interrupt_reply-again}
 use Rattle.fk_kernel.specs.Soundness.{IsNoRelease}
 
@@ -72,3 +72,27 @@ module _ (s : QueueState Purpose) (h : All IsNoRelease s.requests) where
       by : (b : Bool) → All IsNoRelease (cond b (with_interrupt s unique) s).requests
       by true = h
       by false = h
+
+-- a pending request is none either
+pub at_place : (es : List Entry) (place : ℕ) (e : Entry) → All IsNoRelease es → slice_get es place ≡ Some e → IsNoRelease e
+at_place [] place e h at =
+    let no : None ≡ Some e = at in
+    cc
+at_place (x ∷ es) zero e h at =
+    let same : x ≡ e = cc at in
+    subst IsNoRelease same (All-head IsNoRelease x es h)
+at_place (x ∷ es) (suc place) e h at = at_place es place e (All-tail IsNoRelease x es h) at
+
+abbrev shown : Entry → ℕ × Purpose
+shown e = (e.0, e.1.kept)
+
+pub pending_purpose : (s : QueueState Purpose) (place unique : ℕ) (purpose : Purpose) → All IsNoRelease s.requests → pending_at s place ≡ Some (unique, purpose) → (opened : Opened) → purpose ≢ Release opened
+pending_purpose s place unique purpose h at = by (slice_get (pending s) place) refl at
+  where
+    by : (o : Option Entry) → slice_get (pending s) place ≡ o → option_map shown o ≡ Some (unique, purpose) → (opened : Opened) → purpose ≢ Release opened
+    by None e is =
+        let no : None ≡ Some (unique, purpose) = is in
+        cc
+    by (Some x) e is = λ opened r.
+        let both : shown x ≡ (unique, purpose) = cc is in
+        at_place (pending s) place x (All-filter (λ (y : Entry). is_unread y.1.mark) IsNoRelease s.requests h) e opened (ap (λ (q : ℕ × Purpose). q.1) both ∙ r)

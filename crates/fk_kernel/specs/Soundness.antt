@@ -1,12 +1,12 @@
 -- What is true of the kernel after each event.
-use Rattle.std.specs.Prelude.{◌≡◌, ◌≢◌, ◌≤◌, ◌^◌, ℕ, List, [], All, Option, Some, None, length}
+use Rattle.std.specs.Prelude.{◌≡◌, ◌≢◌, ◌≤◌, ◌^◌, ℕ, false, List, [], All, Option, Some, None, length}
 use Rattle.fuse_spec.specs.Maps.{Map, get, NameMap, get_name}
 use Rattle.fuse_spec.specs.Paths.{Name}
 use Rattle.fuse_spec.specs.Queues.{QueueState}
 use Rattle.fuse_spec.specs.declared.Binding.{Binding}
 use Rattle.fuse_spec.specs.declared.Opened.{Opened}
 use Rattle.fuse_spec.specs.declared.Phase.{Phase}
-use Rattle.fuse_spec.specs.declared.Phase.TheVariants.{Down}
+use Rattle.fuse_spec.specs.Kernel.{is_live}
 use Rattle.fuse_spec.specs.declared.Purpose.{Purpose}
 use Rattle.fuse_spec.specs.declared.Purpose.TheVariants.{Release}
 use Rattle.fuse_spec.specs.declared.QueuedRequest.{QueuedRequest}
@@ -30,7 +30,7 @@ IsNoRelease e = (opened : Opened) → e.1.kept ≢ Release opened
 -- All that is true of the kernel.
 pub record IsSoundKernel {V W : Type 0} (phase : Phase) (calls : Map V) (answers : Map W) (free coming : ℕ) (names : NameMap Binding) (queues : QueueState Purpose) : Type 0 where
   pub numbers : IsSound calls answers free coming
-  -- before the first mount there is no call
-  pub idle : phase ≡ Down → calls ≡ []
+  -- where no mount is live there is no call
+  pub idle : is_live phase ≡ false → calls ≡ []
   pub nowhere : LeadNowhere names
   pub releases : All IsNoRelease queues.requests

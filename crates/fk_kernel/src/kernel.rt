@@ -1,15 +1,17 @@
 //! The kernel.
 
-ghost use Rattle.std.specs.Prelude.{length, ◌≡◌, ◌<◌, ◌^◌, ◌+◌, [], drop, Some, None, OnOk, OnErr, IfOk, IfErr, true, IfNone, IfSome, cond, nat_eq};
+ghost use Rattle.std.specs.Prelude.{length, ◌≡◌, ◌<◌, ◌^◌, ◌+◌, [], drop, Some, None, OnOk, OnErr, IfOk, IfErr, true, false, ◌≢◌, is_some, option_map, slice_get, IfNone, IfSome, cond, nat_eq};
 ghost use Rattle.fuse_spec.specs.Uniques.{numbers_left_from};
 ghost use Rattle.fuse_spec.specs.Answers.{failed};
 ghost use Rattle.fuse_spec.specs.Calls as call;
-ghost use Rattle.fuse_spec.specs.Kernel.{is_live, is_aborted, call_begun, kernel_mounted};
-ghost use Rattle.fuse_spec.specs.Steps.{is_ready};
+ghost use Rattle.fuse_spec.specs.declared.Opened.{Opened};
+ghost use Rattle.fuse_spec.specs.Kernel.{is_live, is_aborted, body_of, call_begun, kernel_mounted};
+ghost use Rattle.fuse_spec.specs.Maps.{remove};
+ghost use Rattle.fuse_spec.specs.Steps.{is_ready, is_busy};
 ghost use Rattle.fuse_spec.specs.Vfs.{begun, asking, answered, no_more, numbered};
 ghost use Rattle.fuse_spec.specs.Worlds.{first_kernel};
 ghost use Rattle.fk_kernel.specs.Values.{words_in, state_of, answer_of, call_of};
-ghost use Rattle.fk_kernel.specs.Refused.{or_no_memory, begin_refusal, mount_refusal};
+ghost use Rattle.fk_kernel.specs.Refused.{or_no_memory, begin_refusal, mount_refusal, read_refusal, IsPendingRequest};
 ghost use Rattle.fuse_spec.specs.Queues.{empty_queues};
 ghost use Rattle.fuse_spec.specs.QueueCalls.{after_enqueue, after_read_pending};
 
@@ -95,6 +97,13 @@ impl<Q: QueueTable<Purpose> + Drop> KernelOf<Q> {
         matches!(self.phase, Phase::Starting | Phase::Ready)
     }
 
+    /// Whether a live mount has unanswered calls. No file is open so far.
+    fn is_busy(&self) -> bool
+        ensures { result ≡ is_busy self.now }
+    {
+        self.is_live() && self.calls.len() != 0
+    }
+
     fn is_ready(&self) -> bool
         ensures { result ≡ is_ready self.now.phase }
     {
@@ -114,13 +123,12 @@ impl<Q: QueueTable<Purpose> + Drop> KernelOf<Q> {
     /// `Busy` where a live mount has unanswered calls; then `NoMemory`. The kernel is as before.
     pub fn mount(&mut self) -> Result<(), Refusal>
         ensures err { OnErr result (self.new ≡ self.old) }
-        ensures phase { OnOk result (self.new.phase ≡ Phase.Starting) }
-        ensures queues { OnOk result (self.new.queues ≡ after_enqueue empty_queues Purpose.Init) }
-        ensures calls { OnOk result (self.new.vfs.calls ≡ []) }
-        ensures names { OnOk result (self.new.vfs.names ≡ []) }
+        ensures refusal { IfErr result (λ refusal. refusal ≡ or_no_memory (mount_refusal self.old)) }
+        ensures judged { OnOk result (mount_refusal self.old ≡ None) }
+        ensures mounted { OnOk result (self.new ≡ kernel_mounted self.old) }
         ensures answers { OnOk result (self.new.vfs.answers ≡ self.old.vfs.answers) }
     {
-        if self.is_live() && self.calls.len() != 0 {
+        if self.is_busy() {
             return Err(Refusal::Busy);
         }
         let mut queues = Q::new(self.alloc);
@@ -166,6 +174,7 @@ impl<Q: QueueTable<Purpose> + Drop> KernelOf<Q> {
 
     /// The error that answers a `stat` of a path at once, if one does.
     fn answer_at_once(&self, path: &[u8]) -> Option<u32>
+        ensures not_aborted { IfNone result (is_aborted self.now.phase ≡ false) }
         ensures asks { IfNone result (begun (is_aborted self.now.phase) self.now.vfs (call.stat path.now) ≡ asking (numbered self.now.vfs) self.now.vfs.next_call (state_of (words_in (drop 1 path.now)))) }
         ensures answered { IfSome result (λ errno. begun (is_aborted self.now.phase) self.now.vfs (call.stat path.now) ≡ no_more (answered (numbered self.now.vfs) self.now.vfs.next_call (failed errno))) }
     {
@@ -209,6 +218,7 @@ impl<Q: QueueTable<Purpose> + Drop> KernelOf<Q> {
         requires number { self.old.vfs.next_call < 2 ^ 62 }
         requires few { length self.old.vfs.calls < 64 }
         requires ready { is_ready self.old.phase ≡ true }
+        requires not_aborted { is_aborted self.old.phase ≡ false }
         ensures err { OnErr result (self.new ≡ self.old) }
         ensures refusal { IfErr result (λ refusal. refusal ≡ cond (nat_eq (numbers_left_from self.old.queues.next) 0) Refusal.Exhausted Refusal.NoMemory) }
         ensures number { IfOk result (λ n. n ≡ self.old.vfs.next_call) }
@@ -243,18 +253,35 @@ impl<Q: QueueTable<Purpose> + Drop> KernelOf<Q> {
         Ok(call)
     }
 
-    /// Why the pending request at a place cannot be read, want of memory aside.
-    pub fn read_refusal(&self, place: u64) -> Option<Refusal> {
+    /// Whether a request has something to ask: that of a call has while the call is unanswered.
+    fn asks(&self, purpose: Purpose) -> bool
+        ensures { result ≡ is_some (body_of self.now purpose) }
+    {
+        match purpose {
+            Purpose::Init | Purpose::Release(_) => true,
+            Purpose::Call(call) => self.calls.get(call).is_some(),
+        }
+    }
+
+    /// Why the pending request at a place cannot be read, want of memory aside: `NotReady` where the mount is not live,
+    /// `InterruptFirst` while an INTERRUPT is queued, `NoSuch` where no request is pending there.
+    pub fn read_refusal(&self, place: u64) -> Option<Refusal>
+        ensures { result ≡ read_refusal self.now place }
+    {
         if !self.is_live() {
             return Some(Refusal::NotReady);
         }
         if self.queues.first_interrupt().is_some() {
             return Some(Refusal::InterruptFirst);
         }
-        if self.queues.pending(place as usize).is_none() {
+        let Some((_, purpose)) = self.queues.pending(place as usize) else {
             return Some(Refusal::NoSuch);
+        };
+        if self.asks(*purpose) {
+            None
+        } else {
+            Some(Refusal::NoSuch)
         }
-        None
     }
 
     /// Reads the pending request at a place, counted from 0 in order of queuing. It is in processing from then on.
@@ -265,8 +292,10 @@ impl<Q: QueueTable<Purpose> + Drop> KernelOf<Q> {
     /// is pending there; then `NoMemory`. The kernel is as before.
     pub fn read_pending(&mut self, place: u64) -> Result<RequestFrame<Q::Heap>, Refusal>
         ensures err { OnErr result (self.new ≡ self.old) }
-        ensures queues { OnOk result (self.new.queues ≡ after_read_pending self.old.queues place) }
-        ensures vfs { OnOk result (self.new.vfs ≡ self.old.vfs) }
+        ensures refusal { IfErr result (λ refusal. refusal ≡ or_no_memory (read_refusal self.old place)) }
+        ensures judged { OnOk result (read_refusal self.old place ≡ None) }
+        ensures frame { IfOk result (λ frame. IsPendingRequest self.old place frame) }
+        ensures read { OnOk result (self.new ≡ record self.old { queues = after_read_pending self.old.queues place }) }
     {
         if let Some(refusal) = self.read_refusal(place) {
             return Err(refusal);
@@ -280,11 +309,14 @@ impl<Q: QueueTable<Purpose> + Drop> KernelOf<Q> {
         Ok(frame)
     }
 
-    fn request_frame(
-        &self,
-        unique: u64,
-        purpose: Purpose,
-    ) -> Result<RequestFrame<Q::Heap>, Refusal> {
+    /// The frame of a request that has something to ask. No file is open so far, so that none is a RELEASE.
+    fn request_frame(&self, unique: u64, purpose: Purpose) -> Result<RequestFrame<Q::Heap>, Refusal>
+        requires asks { is_some (body_of self.now purpose) ≡ true }
+        requires no_release { (opened : Opened) → purpose ≢ Purpose.Release opened }
+        ensures refusal { IfErr result (λ refusal. refusal ≡ Refusal.NoMemory) }
+        ensures unique { IfOk result (λ frame. frame.unique ≡ unique) }
+        ensures body { IfOk result (λ frame. body_of self.now purpose ≡ Some frame.body) }
+    {
         let frame = match purpose {
             Purpose::Init => RequestFrame::init(self.alloc, unique),
             Purpose::Release(_) => return Err(Refusal::NoSuch),
@@ -433,13 +465,17 @@ impl<Q: QueueTable<Purpose> + Drop> KernelOf<Q> {
     }
 
     /// Hands out, once, the answer of the lowest answered call.
-    pub fn collect(&mut self) -> Option<(u64, Answer)> {
+    pub fn collect(&mut self) -> Option<(u64, Answer)>
+        ensures answer { option_map (λ r. (r.0, answer_of r.1)) result ≡ slice_get self.old.vfs.answers 0 }
+        ensures none { IfNone result (self.new ≡ self.old) }
+        ensures taken { IfSome result (λ r. self.new ≡ record self.old { vfs = record self.old.vfs { answers = remove self.old.vfs.answers r.0 } }) }
+    {
         let Some(call) = self.answers.first_key() else {
             return None;
         };
-        match self.answers.remove(call) {
-            Some(answer) => Some((call, answer.into_answer())),
-            None => None,
-        }
+        let Some(answer) = self.answers.remove(call) else {
+            return None;
+        };
+        Some((call, answer.into_answer()))
     }
 }
