@@ -6,3 +6,6 @@ pub mod NamesInForce
 pub mod Requests
 pub mod Stats
 pub mod Phases
+pub mod Sayings
+pub mod Replied
+pub mod Heads

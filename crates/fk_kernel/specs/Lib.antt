@@ -2,3 +2,4 @@ pub mod Values
 pub mod Bound
 pub mod Soundness
 pub mod Refused
+pub mod Said

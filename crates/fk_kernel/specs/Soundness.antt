@@ -1,6 +1,7 @@
 -- What is true of the kernel after each event.
-use Rattle.std.specs.Prelude.{◌≡◌, ◌≢◌, ◌≤◌, ◌^◌, ℕ, false, List, [], All, Option, Some, None, length}
+use Rattle.std.specs.Prelude.{◌≡◌, ◌≢◌, ◌≤◌, ◌<◌, ◌^◌, ℕ, false, List, [], All, Option, Some, None, length}
 use Rattle.fuse_spec.specs.Maps.{Map, get, NameMap, get_name}
+use Rattle.fuse_spec.specs.Numbers.{clock_end}
 use Rattle.fuse_spec.specs.Paths.{Name}
 use Rattle.fuse_spec.specs.Queues.{QueueState}
 use Rattle.fuse_spec.specs.declared.Binding.{Binding}
@@ -28,9 +29,10 @@ abbrev pub IsNoRelease : ℕ × QueuedRequest Purpose → Type 0
 IsNoRelease e = (opened : Opened) → e.1.kept ≢ Release opened
 
 -- All that is true of the kernel.
-pub record IsSoundKernel {V W : Type 0} (phase : Phase) (calls : Map V) (answers : Map W) (free coming : ℕ) (names : NameMap Binding) (queues : QueueState Purpose) : Type 0 where
+pub record IsSoundKernel {V W : Type 0} (phase : Phase) (calls : Map V) (answers : Map W) (free coming : ℕ) (names : NameMap Binding) (queues : QueueState Purpose) (clock : ℕ) : Type 0 where
   pub numbers : IsSound calls answers free coming
   -- where no mount is live there is no call
   pub idle : is_live phase ≡ false → calls ≡ []
   pub nowhere : LeadNowhere names
   pub releases : All IsNoRelease queues.requests
+  pub clock_low : clock < clock_end

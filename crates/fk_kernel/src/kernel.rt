@@ -1,27 +1,35 @@
 //! The kernel.
 
-ghost use Rattle.std.specs.Prelude.{length, ◌≡◌, ◌<◌, ◌^◌, ◌+◌, [], drop, Some, None, OnOk, OnErr, IfOk, IfErr, true, false, ◌≢◌, is_some, option_map, slice_get, IfNone, IfSome, cond, nat_eq};
+ghost use Rattle.std.specs.Prelude.{length, ◌≡◌, ◌<◌, ◌^◌, ◌+◌, [], ◌∷◌, ◌≤◌, ◌%◌, ℕ, List, drop, Some, None, Ok, OnOk, OnErr, IfOk, IfErr, true, false, ◌≢◌, is_some, option_map, slice_get, IfNone, IfSome, cond, nat_eq};
 ghost use Rattle.fuse_spec.specs.Uniques.{numbers_left_from};
 ghost use Rattle.fuse_spec.specs.Answers.{failed};
 ghost use Rattle.fuse_spec.specs.Calls as call;
 ghost use Rattle.fuse_spec.specs.declared.Opened.{Opened};
 ghost use Rattle.fuse_spec.specs.Kernel.{is_live, is_aborted, body_of, call_begun, kernel_mounted};
-ghost use Rattle.fuse_spec.specs.Maps.{remove};
+ghost use Rattle.fuse_spec.specs.Maps.{get, remove};
 ghost use Rattle.fuse_spec.specs.Steps.{is_ready, is_busy};
-ghost use Rattle.fuse_spec.specs.Vfs.{begun, asking, answered, no_more, numbered};
+ghost use Rattle.fuse_spec.specs.Vfs.{begun, asking, answered, bound, no_more, numbered};
 ghost use Rattle.fuse_spec.specs.Worlds.{first_kernel};
 ghost use Rattle.fk_kernel.specs.Values.{words_in, state_of, answer_of, call_of};
+ghost use Rattle.fuse_spec.specs.Messages.{WireReply};
+ghost use Rattle.fuse_spec.specs.Numbers.{max_validity};
+ghost use Rattle.fuse_spec.specs.Operations as reply;
+ghost use Rattle.fuse_spec.specs.Paths.{Name};
+ghost use Rattle.fuse_spec.specs.Replies.{reply_written};
+ghost use Rattle.fuse_spec.specs.declared.Entry.{Entry};
+ghost use Rattle.fk_kernel.specs.Said.{Says, SaysNothing, HasReplyHead, head_unique, awaited, nothing, wrong_body};
 ghost use Rattle.fk_kernel.specs.Refused.{or_no_memory, begin_refusal, mount_refusal, read_refusal, IsPendingRequest};
 ghost use Rattle.fuse_spec.specs.Queues.{empty_queues};
-ghost use Rattle.fuse_spec.specs.QueueCalls.{after_enqueue, after_read_pending};
+ghost use Rattle.fuse_spec.specs.QueueCalls.{after_enqueue, after_read_pending, waiting, without};
 
 use crate::bindings::{Bindings, Found};
 use crate::call::{Answer, Call};
 use crate::path::{path_fault, word_len};
+use crate::said::{GetattrSaid, LookupSaid, said_to_getattr, said_to_lookup};
 use crate::waiting::{StoredAnswer, WaitingCall};
 use fk_queues::{QueueTable, Queues};
 use fk_wire::{Opcode, ReplyBody, read_reply, read_reply_head};
-use fuse_frames::{RequestFrame, attributes_of, milliseconds};
+use fuse_frames::RequestFrame;
 use fuse_spec::{Binding, Phase, Purpose, Refusal, WriteResult};
 use fuse_tables::Table;
 use std::alloc::Global;
@@ -71,7 +79,7 @@ impl<Q: QueueTable<Purpose>> Model for KernelOf<Q> {
 
     ghost view = { λ k. record { phase = k.phase; vfs = record { calls = k.calls.entries; names = k.names; opens = []; answers = k.answers.entries; next_call = k.next_call; clock = k.clock; root = 1 }; queues = Q.state k.queues; nodes = []; closing = [] } };
 
-    ghost invariant = { λ k. IsSoundKernel k.phase k.calls.entries k.answers.entries k.answers.room k.next_call k.names (Q.state k.queues) };
+    ghost invariant = { λ k. IsSoundKernel k.phase k.calls.entries k.answers.entries k.answers.room k.next_call k.names (Q.state k.queues) k.clock };
 }
 
 impl<Q: QueueTable<Purpose> + Drop> KernelOf<Q> {
@@ -342,7 +350,10 @@ impl<Q: QueueTable<Purpose> + Drop> KernelOf<Q> {
     ///
     /// `NoMemory`; the kernel is as before.
     pub fn write(&mut self, bytes: &[u8]) -> Result<WriteResult, Refusal>
-        ensures { OnErr result (self.new ≡ self.old) }
+        ensures err { OnErr result (self.new ≡ self.old) }
+        ensures refusal { IfErr result (λ refusal. refusal ≡ Refusal.NoMemory) }
+        ensures headless { (HasReplyHead bytes.now → ⊥) → (result ≡ Ok WriteResult.Invalid) × (self.new ≡ self.old) }
+        ensures unawaited { HasReplyHead bytes.now → awaited self.old (head_unique bytes.now) ≡ nothing → (result ≡ Ok WriteResult.NoEntry) × (self.new ≡ self.old) }
     {
         let Ok((error, unique)) = read_reply_head(bytes) else {
             return Ok(WriteResult::Invalid);
@@ -361,7 +372,9 @@ impl<Q: QueueTable<Purpose> + Drop> KernelOf<Q> {
     }
 
     /// A reply to the INTERRUPT of a request: it counts while that request is read and unanswered.
-    fn write_to_interrupt(&mut self, original: u64, error: i32, bytes: &[u8]) -> WriteResult {
+    fn write_to_interrupt(&mut self, original: u64, error: i32, bytes: &[u8]) -> WriteResult
+        ensures unawaited { waiting self.old.queues original ≡ None → (result ≡ WriteResult.NoEntry) × (self.new ≡ self.old) }
+    {
         if self.queues.waiting(original).is_none() {
             return WriteResult::NoEntry;
         }
@@ -395,49 +408,90 @@ impl<Q: QueueTable<Purpose> + Drop> KernelOf<Q> {
         }
     }
 
+    /// A reply to the LOOKUP or GETATTR of a call. Where the call is not unanswered, its request just ends.
     fn write_to_call(
         &mut self,
         unique: u64,
         call: u64,
         bytes: &[u8],
     ) -> Result<WriteResult, Refusal>
-        ensures { OnErr result (self.new ≡ self.old) }
+        requires even { nat_eq (unique % 2) 1 ≡ false }
+        requires waits { waiting self.old.queues unique ≡ Some (Purpose.Call call) }
+        ensures err { OnErr result (self.new ≡ self.old) }
+        ensures refusal { IfErr result (λ refusal. refusal ≡ Refusal.NoMemory) }
     {
         let Some(waiting) = self.calls.get(call) else {
-            return Ok(WriteResult::NoEntry);
+            let _kept = self.queues.answer(unique);
+            return Ok(WriteResult::Accepted);
         };
-        let opcode = match waiting.word() {
-            Some(_) => Opcode::Lookup,
-            None => Opcode::Getattr,
+        match waiting.word() {
+            None => Ok(self.write_to_getattr(unique, call, bytes)),
+            Some(_) => self.write_to_lookup(unique, call, bytes),
+        }
+    }
+
+    /// A reply to the GETATTR of the root. Bytes that are none answer the call EIO.
+    fn write_to_getattr(&mut self, unique: u64, call: u64, bytes: &[u8]) -> WriteResult
+        requires even { nat_eq (unique % 2) 1 ≡ false }
+        requires waits { waiting self.old.queues unique ≡ Some (Purpose.Call call) }
+        requires asks { get self.old.vfs.calls call ≡ Some (state_of []) }
+        ensures said { (wire : WireReply) → Says Opcode.Getattr bytes.now wire → reply_written self.old unique wire ≡ (result, self.new) }
+        ensures unsaid { SaysNothing Opcode.Getattr bytes.now → reply_written self.old unique wrong_body ≡ (result, self.new) }
+    {
+        let Some(said) = said_to_getattr(bytes) else {
+            self.answer_call(unique, call, Answer::Failed { errno: EIO });
+            return WriteResult::Invalid;
         };
-        let Ok(reply) = read_reply(opcode, bytes) else {
+        let answer = match said {
+            GetattrSaid::Failed { errno } => Answer::Failed { errno },
+            GetattrSaid::Attributes(attributes) => Answer::Attributes(attributes),
+        };
+        self.answer_call(unique, call, answer);
+        WriteResult::Accepted
+    }
+
+    /// A reply to the LOOKUP of a name in the root. Bytes that are none answer the call EIO.
+    fn write_to_lookup(
+        &mut self,
+        unique: u64,
+        call: u64,
+        bytes: &[u8],
+    ) -> Result<WriteResult, Refusal>
+        requires even { nat_eq (unique % 2) 1 ≡ false }
+        requires waits { waiting self.old.queues unique ≡ Some (Purpose.Call call) }
+        requires looks_up { (word : Name) × (words : List Name) × (get self.old.vfs.calls call ≡ Some (state_of (word ∷ words))) }
+        ensures err { OnErr result (self.new ≡ self.old) }
+        ensures refusal { IfErr result (λ refusal. refusal ≡ Refusal.NoMemory) }
+        ensures failed { (errno : ℕ) → Says Opcode.Lookup bytes.now (reply.failed errno) → IfOk result (λ written. reply_written self.old unique (reply.failed errno) ≡ (written, self.new)) }
+        ensures missing { (valid : ℕ) → Says Opcode.Lookup bytes.now (reply.missing valid) → IfOk result (λ written. reply_written self.old unique (reply.missing valid) ≡ (written, self.new)) }
+        ensures found { (entry : Entry) (valid : ℕ) → Says Opcode.Lookup bytes.now (reply.found entry valid) → IfOk result (λ written. (written ≡ WriteResult.Invalid) × (self.new ≡ self.old)) }
+        ensures unsaid { SaysNothing Opcode.Lookup bytes.now → IfOk result (λ written. reply_written self.old unique wrong_body ≡ (written, self.new)) }
+    {
+        let Some(said) = said_to_lookup(bytes) else {
             self.answer_call(unique, call, Answer::Failed { errno: EIO });
             return Ok(WriteResult::Invalid);
         };
-        if reply.error != 0 {
-            let errno = reply.error.unsigned_abs();
-            self.answer_call(unique, call, Answer::Failed { errno });
-            return Ok(WriteResult::Accepted);
-        }
-        match reply.body {
-            ReplyBody::Attr { attr } => {
-                self.answer_call(unique, call, Answer::Attributes(attributes_of(&attr)));
+        match said {
+            LookupSaid::Failed { errno } => {
+                self.answer_call(unique, call, Answer::Failed { errno });
                 Ok(WriteResult::Accepted)
             }
-            ReplyBody::Entry { entry } if entry.nodeid == 0 => {
-                let valid_ms = milliseconds(entry.entry_valid, entry.entry_valid_nsec);
+            LookupSaid::Missing { valid_ms } => {
                 self.name_is_missing(call, valid_ms)?;
                 self.answer_call(unique, call, Answer::Failed { errno: ENOENT });
                 Ok(WriteResult::Accepted)
             }
             // For now a reply that names a node is refused and changes nothing.
-            _ => Ok(WriteResult::Invalid),
+            LookupSaid::Found => Ok(WriteResult::Invalid),
         }
     }
 
     /// The word that a call looks up is missing for so many milliseconds from now on.
     fn name_is_missing(&mut self, call: u64, valid_ms: u64) -> Result<(), Refusal>
-        ensures { OnErr result (self.new ≡ self.old) }
+        requires day { valid_ms ≤ max_validity }
+        ensures err { OnErr result (self.new ≡ self.old) }
+        ensures refusal { IfErr result (λ refusal. refusal ≡ Refusal.NoMemory) }
+        ensures bound { OnOk result ((word : Name) (words : List Name) → get self.old.vfs.calls call ≡ Some (state_of (word ∷ words)) → self.new ≡ record self.old { vfs = bound self.old.vfs 1 word None valid_ms }) }
     {
         let Some(waiting) = self.calls.get(call) else {
             return Ok(());
@@ -456,7 +510,11 @@ impl<Q: QueueTable<Purpose> + Drop> KernelOf<Q> {
     }
 
     /// The call's request ends, and the call is answered.
-    fn answer_call(&mut self, unique: u64, call: u64, answer: Answer) {
+    fn answer_call(&mut self, unique: u64, call: u64, answer: Answer)
+        requires waits { is_some (waiting self.old.queues unique) ≡ true }
+        requires unanswered { is_some (get self.old.vfs.calls call) ≡ true }
+        ensures { self.new ≡ record self.old { vfs = answered self.old.vfs call (answer_of answer); queues = without self.old.queues unique } }
+    {
         let _kept = self.queues.answer(unique);
         if self.calls.remove(call).is_none() {
             return;

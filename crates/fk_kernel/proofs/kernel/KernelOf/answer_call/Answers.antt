@@ -15,6 +15,7 @@ invariant_of-self g c =
       idle = λ down. rw (old.idle down) refl;
       nowhere = old.nowhere;
       releases = one_answered (g.Q.QueueTable.state k.queues) old.releases c.args.unique;
+      clock_low = old.clock_low;
     })
 
 pub invariant_of-self-2 : goal.invariant_of-self-2
@@ -28,4 +29,5 @@ invariant_of-self-2 g c =
       idle = λ down. rw (old.idle down) refl;
       nowhere = old.nowhere;
       releases = one_answered (g.Q.QueueTable.state k.queues) old.releases c.args.unique;
+      clock_low = old.clock_low;
     })

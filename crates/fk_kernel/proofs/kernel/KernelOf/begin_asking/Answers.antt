@@ -18,4 +18,4 @@ invariant_of-self-2 g c =
     let live = live_if k.phase ready going in
     let old = c.self.invariant in
     rw (c.put.ensures.entries, c.in-Ok-reserve.ensures.entries, c.in-Ok.ensures.entries)
-    (record { numbers = sound_begun_asking k.calls.entries k.answers.entries k.answers.room k.next_call old.numbers c.new.result c.reserve.new.self.room low room; idle = λ down. absurd (true≢false (sym live ∙ down)); nowhere = old.nowhere; releases = rw (c.enqueue-unique.ensures.state, c.reserve-3.ensures.state) (call_queued (g.Q.QueueTable.state k.queues) k.next_call old.releases) })
+    (record { numbers = sound_begun_asking k.calls.entries k.answers.entries k.answers.room k.next_call old.numbers c.new.result c.reserve.new.self.room low room; idle = λ down. absurd (true≢false (sym live ∙ down)); nowhere = old.nowhere; releases = rw (c.enqueue-unique.ensures.state, c.reserve-3.ensures.state) (call_queued (g.Q.QueueTable.state k.queues) k.next_call old.releases); clock_low = old.clock_low })
