@@ -9,3 +9,4 @@ pub mod Phases
 pub mod Sayings
 pub mod Replied
 pub mod Heads
+pub mod Taken

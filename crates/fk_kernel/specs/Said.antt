@@ -13,7 +13,10 @@ use Rattle.fuse_spec.specs.Operations as reply
 use Rattle.fuse_spec.specs.Messages.{WireReply}
 use Rattle.fuse_spec.specs.Maps.{get}
 use Rattle.fuse_spec.specs.Vfs.{CallState, asked}
-use Rattle.fuse_spec.specs.QueueCalls.{waiting}
+use Rattle.fuse_spec.specs.QueueCalls.{waiting, without}
+use Rattle.fuse_spec.specs.Replies.{reply_written}
+use Rattle.fuse_spec.specs.declared.WriteResult.{WriteResult}
+use Rattle.fuse_spec.specs.declared.WriteResult.TheVariants.{Accepted, Invalid}
 use Rattle.fuse_spec.specs.Kernel.{Kernel}
 use Rattle.fuse_frames.specs.ReplyTies.{SaysReply}
 use Rattle.fk_kernel.specs.declared.said.GetattrSaid.{GetattrSaid}
@@ -89,3 +92,15 @@ awaited k unique = cond (nat_eq (unique % 2) 1) (awaited_by_interrupt (waiting k
 -- a body that goes with no operation of a call
 abbrev pub wrong_body : WireReply
 wrong_body = reply.agreed 0 0
+
+-- What becomes of a reply under the unique of a call's request, with a head, by what awaits it. A reply to a LOOKUP that names
+-- a node is put off so far: it is refused, and changes nothing.
+pub record IsTakenByCall (k : Kernel) (unique : ℕ) (bytes : List ℕ) (awaits : Awaited) (result : WriteResult) (after : Kernel) : Type 0 where
+  -- the call is not unanswered: the request just ends
+  pub gone : awaits ≡ gone → (result ≡ Accepted) × (after ≡ record k { queues = without k.queues unique })
+  pub getattr : awaits ≡ reply_to op.Getattr → (wire : WireReply) → Says op.Getattr bytes wire → reply_written k unique wire ≡ (result, after)
+  pub no_getattr : awaits ≡ reply_to op.Getattr → SaysNothing op.Getattr bytes → reply_written k unique wrong_body ≡ (result, after)
+  pub failed : awaits ≡ reply_to op.Lookup → (errno : ℕ) → Says op.Lookup bytes (reply.failed errno) → reply_written k unique (reply.failed errno) ≡ (result, after)
+  pub missing : awaits ≡ reply_to op.Lookup → (valid : ℕ) → Says op.Lookup bytes (reply.missing valid) → reply_written k unique (reply.missing valid) ≡ (result, after)
+  pub found : awaits ≡ reply_to op.Lookup → (entry : Entry) (valid : ℕ) → Says op.Lookup bytes (reply.found entry valid) → (result ≡ Invalid) × (after ≡ k)
+  pub no_lookup : awaits ≡ reply_to op.Lookup → SaysNothing op.Lookup bytes → reply_written k unique wrong_body ≡ (result, after)

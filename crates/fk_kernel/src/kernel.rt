@@ -17,7 +17,7 @@ ghost use Rattle.fuse_spec.specs.Operations as reply;
 ghost use Rattle.fuse_spec.specs.Paths.{Name};
 ghost use Rattle.fuse_spec.specs.Replies.{reply_written};
 ghost use Rattle.fuse_spec.specs.declared.Entry.{Entry};
-ghost use Rattle.fk_kernel.specs.Said.{Says, SaysNothing, HasReplyHead, head_unique, awaited, nothing, wrong_body};
+ghost use Rattle.fk_kernel.specs.Said.{Says, SaysNothing, HasReplyHead, head_unique, awaited, awaited_by_call, nothing, wrong_body, IsTakenByCall};
 ghost use Rattle.fk_kernel.specs.Refused.{or_no_memory, begin_refusal, mount_refusal, read_refusal, IsPendingRequest};
 ghost use Rattle.fuse_spec.specs.Queues.{empty_queues};
 ghost use Rattle.fuse_spec.specs.QueueCalls.{after_enqueue, after_read_pending, waiting, without};
@@ -354,6 +354,7 @@ impl<Q: QueueTable<Purpose> + Drop> KernelOf<Q> {
         ensures refusal { IfErr result (λ refusal. refusal ≡ Refusal.NoMemory) }
         ensures headless { (HasReplyHead bytes.now → ⊥) → (result ≡ Ok WriteResult.Invalid) × (self.new ≡ self.old) }
         ensures unawaited { HasReplyHead bytes.now → awaited self.old (head_unique bytes.now) ≡ nothing → (result ≡ Ok WriteResult.NoEntry) × (self.new ≡ self.old) }
+        ensures taken { HasReplyHead bytes.now → IfOk result (λ written. IsTakenByCall self.old (head_unique bytes.now) bytes.now (awaited self.old (head_unique bytes.now)) written self.new) }
     {
         let Ok((error, unique)) = read_reply_head(bytes) else {
             return Ok(WriteResult::Invalid);
@@ -419,6 +420,7 @@ impl<Q: QueueTable<Purpose> + Drop> KernelOf<Q> {
         requires waits { waiting self.old.queues unique ≡ Some (Purpose.Call call) }
         ensures err { OnErr result (self.new ≡ self.old) }
         ensures refusal { IfErr result (λ refusal. refusal ≡ Refusal.NoMemory) }
+        ensures taken { IfOk result (λ written. IsTakenByCall self.old unique bytes.now (awaited_by_call (get self.old.vfs.calls call)) written self.new) }
     {
         let Some(waiting) = self.calls.get(call) else {
             let _kept = self.queues.answer(unique);
