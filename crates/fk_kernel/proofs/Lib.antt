@@ -3,3 +3,10 @@ pub mod Positions
 pub mod Words
 pub mod WordsAreNames
 pub mod NamesInForce
+pub mod Requests
+pub mod Stats
+pub mod Phases
+pub mod Sayings
+pub mod Replied
+pub mod Heads
+pub mod Taken

@@ -1,6 +1,6 @@
 -- The kernel's calls stay sound as calls begin, are answered and collected.
 use Rattle.std.proofs.Common.{◌≡◌, ◌≢◌, ℕ, suc, ◌+◌, ◌≤◌, ◌<◌, ◌^◌, Bool, true, false, not, cond, List, [], ◌∷◌, length, filter, Option, Some, None, refl, sym, ap, subst, ◌∙◌, arith, inl, inr, true≢false, if◌then◌else◌}
-use Rattle.std.specs.Prelude.{nat_eq, is_some}
+use Rattle.std.specs.Prelude.{nat_eq, is_some, option_map, slice_get}
 use Rattle.std.specs.declared.cmp.Ordering.{Ordering}
 use Rattle.std.specs.declared.cmp.Ordering.TheVariants.{Less, Equal, Greater}
 use Rattle.std.specs.Ordering.{nat_cmp, is_eq}
@@ -8,7 +8,7 @@ use Rattle.std.specs.FinMap.Entries.{by_order}
 use Rattle.std.proofs.lemmas.Bool.{cases_eq}
 use Rattle.std.proofs.lemmas.Bool.Decides.{eqb_tells}
 use Rattle.fuse_spec.specs.Maps.{Map, get, put, remove}
-use Rattle.fuse_spec.proofs.Tables.{tie_no, get_put_there, get_gone_here, get_gone_there}
+use Rattle.fuse_spec.proofs.Tables.{cmp_same, tie_no, get_put_there, get_gone_here, get_gone_there}
 use Rattle.fk_kernel.specs.Soundness.{IsSound}
 
 module _ {V : Type 0} where
@@ -38,6 +38,32 @@ module _ {V : Type 0} where
             let rest = length_gone m k (λ none. there (ap (λ (b : Bool). cond b (Some e.1) (get m k)) (tie_no k e.0 (λ q. h.1 (sym q))) ∙ none)) in
             rw h.0 (omega arith)
       ]
+
+  -- where nothing is there nothing goes
+  pub gone_absent : (m : Map V) (k : ℕ) → get m k ≡ None → remove m k ≡ m
+  gone_absent [] k none = refl
+  gone_absent (e ∷ m) k none =
+      elim (eqb_tells e.0 k) [
+        | inl h ↦
+            let here : Some e.1 ≡ None = sym (ap (λ (n : ℕ). cond (is_eq (nat_cmp k n)) (Some e.1) (get m k)) h.1 ∙ ap (λ r. cond (is_eq r) (Some e.1) (get m k)) (cmp_same k)) ∙ none in
+            cc
+        | inr h ↦
+            let rest = sym (ap (λ (b : Bool). cond b (Some e.1) (get m k)) (tie_no k e.0 (λ q. h.1 (sym q)))) ∙ none in
+            rw h.0 (ap (λ (t : Map V). e ∷ t) (gone_absent m k rest))
+      ]
+
+  abbrev entry : ℕ → V → Option (ℕ × V)
+  entry k v = Some (k, v)
+
+  -- the lowest entry is found under its key
+  pub first_found : (m : Map V) (k : ℕ) (v : Option V) → option_map {T = ℕ × V} {U = ℕ} (λ e. e.0) (slice_get m 0) ≡ Some k → v ≡ get m k → option_map {T = V} {U = ℕ × V} (λ x. (k, x)) v ≡ slice_get m 0
+  first_found [] k v first found =
+      let no : None ≡ Some k = first in
+      cc
+  first_found (e ∷ m) k v first found =
+      let same : e.0 ≡ k = cc first in
+      let here : v ≡ Some e.1 = found ∙ ap (λ (n : ℕ). cond (is_eq (nat_cmp n e.0)) (Some e.1) (get m n)) (sym same) ∙ ap (λ r. cond (is_eq r) (Some e.1) (get m e.0)) (cmp_same e.0) in
+      ap (option_map {T = V} {U = ℕ × V} (λ x. (k, x))) here ∙ ap (λ (n : ℕ). entry n e.1) (sym same)
 
   -- a look-up that finds something does not find nothing
   pub there_is : (o : Option V) → is_some o ≡ true → o ≢ None

@@ -1,3 +1,5 @@
 pub mod Values
 pub mod Bound
 pub mod Soundness
+pub mod Refused
+pub mod Said

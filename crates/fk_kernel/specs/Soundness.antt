@@ -1,6 +1,16 @@
--- What is true of the kernel's calls after each event.
-use Rattle.std.specs.Prelude.{◌≡◌, ◌≢◌, ◌≤◌, ◌^◌, ℕ, List, Option, None, length}
-use Rattle.fuse_spec.specs.Maps.{Map, get}
+-- What is true of the kernel after each event.
+use Rattle.std.specs.Prelude.{◌≡◌, ◌≢◌, ◌≤◌, ◌<◌, ◌^◌, ℕ, false, List, [], All, Option, Some, None, length}
+use Rattle.fuse_spec.specs.Maps.{Map, get, NameMap, get_name}
+use Rattle.fuse_spec.specs.Numbers.{clock_end}
+use Rattle.fuse_spec.specs.Paths.{Name}
+use Rattle.fuse_spec.specs.Queues.{QueueState}
+use Rattle.fuse_spec.specs.declared.Binding.{Binding}
+use Rattle.fuse_spec.specs.declared.Opened.{Opened}
+use Rattle.fuse_spec.specs.declared.Phase.{Phase}
+use Rattle.fuse_spec.specs.Kernel.{is_live}
+use Rattle.fuse_spec.specs.declared.Purpose.{Purpose}
+use Rattle.fuse_spec.specs.declared.Purpose.TheVariants.{Release}
+use Rattle.fuse_spec.specs.declared.QueuedRequest.{QueuedRequest}
 
 -- No call of the next number or a later one is there, none is both unanswered and answered, and there is room to answer all.
 pub record IsSound {V W : Type 0} (calls : Map V) (answers : Map W) (free coming : ℕ) : Type 0 where
@@ -9,3 +19,20 @@ pub record IsSound {V W : Type 0} (calls : Map V) (answers : Map W) (free coming
   pub apart : (n : ℕ) → get calls n ≢ None → get answers n ≡ None
   pub room : length calls ≤ free
   pub next : coming ≤ 2 ^ 62
+
+-- No name in force leads to a file: so far names are bound only as they are missing.
+abbrev pub LeadNowhere : NameMap Binding → Type 0
+LeadNowhere names = (directory : ℕ) (name : Name) (bound : Binding) → get_name names (directory, name) ≡ Some bound → bound.target ≡ None
+
+-- The request is not a RELEASE: so far no file is opened.
+abbrev pub IsNoRelease : ℕ × QueuedRequest Purpose → Type 0
+IsNoRelease e = (opened : Opened) → e.1.kept ≢ Release opened
+
+-- All that is true of the kernel.
+pub record IsSoundKernel {V W : Type 0} (phase : Phase) (calls : Map V) (answers : Map W) (free coming : ℕ) (names : NameMap Binding) (queues : QueueState Purpose) (clock : ℕ) : Type 0 where
+  pub numbers : IsSound calls answers free coming
+  -- where no mount is live there is no call
+  pub idle : is_live phase ≡ false → calls ≡ []
+  pub nowhere : LeadNowhere names
+  pub releases : All IsNoRelease queues.requests
+  pub clock_low : clock < clock_end

@@ -1,17 +1,35 @@
 //! The kernel.
 
-ghost use Rattle.std.specs.Prelude.{length, ◌≡◌, ◌<◌, ◌^◌, ◌+◌, [], OnOk, OnErr, IfOk};
+ghost use Rattle.std.specs.Prelude.{length, ◌≡◌, ◌<◌, ◌^◌, ◌+◌, [], ◌∷◌, ◌≤◌, ◌%◌, ℕ, List, drop, Some, None, Ok, OnOk, OnErr, IfOk, IfErr, true, false, ◌≢◌, is_some, option_map, slice_get, IfNone, IfSome, cond, nat_eq};
+ghost use Rattle.fuse_spec.specs.Uniques.{numbers_left_from};
+ghost use Rattle.fuse_spec.specs.Answers.{failed};
+ghost use Rattle.fuse_spec.specs.Calls as call;
+ghost use Rattle.fuse_spec.specs.declared.Opened.{Opened};
+ghost use Rattle.fuse_spec.specs.Kernel.{is_live, is_aborted, body_of, call_begun, kernel_mounted};
+ghost use Rattle.fuse_spec.specs.Maps.{get, remove};
+ghost use Rattle.fuse_spec.specs.Steps.{is_ready, is_busy};
+ghost use Rattle.fuse_spec.specs.Vfs.{begun, asking, answered, bound, no_more, numbered};
 ghost use Rattle.fuse_spec.specs.Worlds.{first_kernel};
+ghost use Rattle.fk_kernel.specs.Values.{words_in, state_of, answer_of, call_of};
+ghost use Rattle.fuse_spec.specs.Messages.{WireReply};
+ghost use Rattle.fuse_spec.specs.Numbers.{max_validity};
+ghost use Rattle.fuse_spec.specs.Operations as reply;
+ghost use Rattle.fuse_spec.specs.Paths.{Name};
+ghost use Rattle.fuse_spec.specs.Replies.{reply_written};
+ghost use Rattle.fuse_spec.specs.declared.Entry.{Entry};
+ghost use Rattle.fk_kernel.specs.Said.{Says, SaysNothing, HasReplyHead, head_unique, awaited, awaited_by_call, nothing, wrong_body, IsTakenByCall};
+ghost use Rattle.fk_kernel.specs.Refused.{or_no_memory, begin_refusal, mount_refusal, read_refusal, IsPendingRequest};
 ghost use Rattle.fuse_spec.specs.Queues.{empty_queues};
-ghost use Rattle.fuse_spec.specs.QueueCalls.{after_enqueue, after_read_pending};
+ghost use Rattle.fuse_spec.specs.QueueCalls.{after_enqueue, after_read_pending, waiting, without};
 
 use crate::bindings::{Bindings, Found};
 use crate::call::{Answer, Call};
 use crate::path::{path_fault, word_len};
+use crate::said::{GetattrSaid, LookupSaid, said_to_getattr, said_to_lookup};
 use crate::waiting::{StoredAnswer, WaitingCall};
 use fk_queues::{QueueTable, Queues};
 use fk_wire::{Opcode, ReplyBody, read_reply, read_reply_head};
-use fuse_frames::{RequestFrame, attributes_of, milliseconds};
+use fuse_frames::RequestFrame;
 use fuse_spec::{Binding, Phase, Purpose, Refusal, WriteResult};
 use fuse_tables::Table;
 use std::alloc::Global;
@@ -53,7 +71,7 @@ impl<Q: QueueTable<Purpose>> Model for KernelOf<Q> {
     ghost use Rattle.std.specs.Prelude.{[]};
     ghost use Rattle.std.specs.Coded.{codes};
     ghost use Rattle.fuse_spec.specs.Kernel.{Kernel as KernelState};
-    ghost use Rattle.fk_kernel.specs.Soundness.{IsSound};
+    ghost use Rattle.fk_kernel.specs.Soundness.{IsSoundKernel};
 
     ghost Value = { KernelState };
 
@@ -61,7 +79,7 @@ impl<Q: QueueTable<Purpose>> Model for KernelOf<Q> {
 
     ghost view = { λ k. record { phase = k.phase; vfs = record { calls = k.calls.entries; names = k.names; opens = []; answers = k.answers.entries; next_call = k.next_call; clock = k.clock; root = 1 }; queues = Q.state k.queues; nodes = []; closing = [] } };
 
-    ghost invariant = { λ k. IsSound k.calls.entries k.answers.entries k.answers.room k.next_call };
+    ghost invariant = { λ k. IsSoundKernel k.phase k.calls.entries k.answers.entries k.answers.room k.next_call k.names (Q.state k.queues) k.clock };
 }
 
 impl<Q: QueueTable<Purpose> + Drop> KernelOf<Q> {
@@ -81,8 +99,29 @@ impl<Q: QueueTable<Purpose> + Drop> KernelOf<Q> {
         }
     }
 
-    fn is_live(&self) -> bool {
+    fn is_live(&self) -> bool
+        ensures { result ≡ is_live self.now.phase }
+    {
         matches!(self.phase, Phase::Starting | Phase::Ready)
+    }
+
+    /// Whether a live mount has unanswered calls. No file is open so far.
+    fn is_busy(&self) -> bool
+        ensures { result ≡ is_busy self.now }
+    {
+        self.is_live() && self.calls.len() != 0
+    }
+
+    fn is_ready(&self) -> bool
+        ensures { result ≡ is_ready self.now.phase }
+    {
+        matches!(self.phase, Phase::Ready | Phase::Aborted)
+    }
+
+    fn is_aborted(&self) -> bool
+        ensures { result ≡ is_aborted self.now.phase }
+    {
+        matches!(self.phase, Phase::Aborted)
     }
 
     /// Mounts anew: everything of the old mount is given up, and INIT is queued.
@@ -92,13 +131,12 @@ impl<Q: QueueTable<Purpose> + Drop> KernelOf<Q> {
     /// `Busy` where a live mount has unanswered calls; then `NoMemory`. The kernel is as before.
     pub fn mount(&mut self) -> Result<(), Refusal>
         ensures err { OnErr result (self.new ≡ self.old) }
-        ensures phase { OnOk result (self.new.phase ≡ Phase.Starting) }
-        ensures queues { OnOk result (self.new.queues ≡ after_enqueue empty_queues Purpose.Init) }
-        ensures calls { OnOk result (self.new.vfs.calls ≡ []) }
-        ensures names { OnOk result (self.new.vfs.names ≡ []) }
+        ensures refusal { IfErr result (λ refusal. refusal ≡ or_no_memory (mount_refusal self.old)) }
+        ensures judged { OnOk result (mount_refusal self.old ≡ None) }
+        ensures mounted { OnOk result (self.new ≡ kernel_mounted self.old) }
         ensures answers { OnOk result (self.new.vfs.answers ≡ self.old.vfs.answers) }
     {
-        if self.is_live() && self.calls.len() != 0 {
+        if self.is_busy() {
             return Err(Refusal::Busy);
         }
         let mut queues = Q::new(self.alloc);
@@ -121,10 +159,12 @@ impl<Q: QueueTable<Purpose> + Drop> KernelOf<Q> {
     /// `NoMemory`. The kernel is as before.
     pub fn begin(&mut self, call: &Call<'_>) -> Result<u64, Refusal>
         ensures err { OnErr result (self.new ≡ self.old) }
-        ensures number { IfOk result (λ call. call ≡ self.old.vfs.next_call) }
-        ensures next { IfOk result (λ call. self.new.vfs.next_call ≡ call + 1) }
+        ensures refusal { IfErr result (λ refusal. refusal ≡ or_no_memory (begin_refusal self.old (call_of call.now))) }
+        ensures judged { OnOk result (begin_refusal self.old (call_of call.now) ≡ None) }
+        ensures number { IfOk result (λ n. n ≡ self.old.vfs.next_call) }
+        ensures begun { OnOk result (self.new ≡ call_begun self.old (call_of call.now)) }
     {
-        if !matches!(self.phase, Phase::Ready | Phase::Aborted) {
+        if !self.is_ready() {
             return Err(Refusal::NotReady);
         }
         if self.calls.len() >= MAX_CALLS {
@@ -141,8 +181,12 @@ impl<Q: QueueTable<Purpose> + Drop> KernelOf<Q> {
     }
 
     /// The error that answers a `stat` of a path at once, if one does.
-    fn answer_at_once(&self, path: &[u8]) -> Option<u32> {
-        if matches!(self.phase, Phase::Aborted) {
+    fn answer_at_once(&self, path: &[u8]) -> Option<u32>
+        ensures not_aborted { IfNone result (is_aborted self.now.phase ≡ false) }
+        ensures asks { IfNone result (begun (is_aborted self.now.phase) self.now.vfs (call.stat path.now) ≡ asking (numbered self.now.vfs) self.now.vfs.next_call (state_of (words_in (drop 1 path.now)))) }
+        ensures answered { IfSome result (λ errno. begun (is_aborted self.now.phase) self.now.vfs (call.stat path.now) ≡ no_more (answered (numbered self.now.vfs) self.now.vfs.next_call (failed errno))) }
+    {
+        if self.is_aborted() {
             return Some(ENOTCONN);
         }
         if let Some(fault) = path_fault(path) {
@@ -151,7 +195,7 @@ impl<Q: QueueTable<Purpose> + Drop> KernelOf<Q> {
         if path.len() > 1 {
             let rest = &path[1..];
             let len = word_len(rest);
-            if self.names.find(ROOT, &rest[..len], self.clock) == Found::Missing {
+            if let Found::Missing = self.names.find(ROOT, &rest[..len], self.clock) {
                 return Some(ENOENT);
             }
         }
@@ -163,8 +207,10 @@ impl<Q: QueueTable<Purpose> + Drop> KernelOf<Q> {
         requires number { self.old.vfs.next_call < 2 ^ 62 }
         requires few { length self.old.vfs.calls < 64 }
         ensures err { OnErr result (self.new ≡ self.old) }
-        ensures number { IfOk result (λ call. call ≡ self.old.vfs.next_call) }
-        ensures next { IfOk result (λ call. self.new.vfs.next_call ≡ call + 1) }
+        ensures refusal { IfErr result (λ refusal. refusal ≡ Refusal.NoMemory) }
+        ensures number { IfOk result (λ n. n ≡ self.old.vfs.next_call) }
+        ensures vfs { OnOk result (self.new.vfs ≡ answered (numbered self.old.vfs) self.old.vfs.next_call (answer_of answer)) }
+        ensures same { OnOk result (self.new ≡ record self.old { vfs = self.new.vfs }) }
     {
         let Ok(()) = self.answers.reserve(MAX_CALLS) else {
             return Err(Refusal::NoMemory);
@@ -179,9 +225,15 @@ impl<Q: QueueTable<Purpose> + Drop> KernelOf<Q> {
     fn begin_asking(&mut self, path: &[u8]) -> Result<u64, Refusal>
         requires number { self.old.vfs.next_call < 2 ^ 62 }
         requires few { length self.old.vfs.calls < 64 }
+        requires ready { is_ready self.old.phase ≡ true }
+        requires not_aborted { is_aborted self.old.phase ≡ false }
         ensures err { OnErr result (self.new ≡ self.old) }
-        ensures number { IfOk result (λ call. call ≡ self.old.vfs.next_call) }
-        ensures next { IfOk result (λ call. self.new.vfs.next_call ≡ call + 1) }
+        ensures refusal { IfErr result (λ refusal. refusal ≡ cond (nat_eq (numbers_left_from self.old.queues.next) 0) Refusal.Exhausted Refusal.NoMemory) }
+        ensures number { IfOk result (λ n. n ≡ self.old.vfs.next_call) }
+        ensures left { OnOk result (0 < numbers_left_from self.old.queues.next) }
+        ensures vfs { OnOk result (self.new.vfs ≡ (asking (numbered self.old.vfs) self.old.vfs.next_call (state_of (words_in (drop 1 path.now)))).vfs) }
+        ensures queues { OnOk result (self.new.queues ≡ after_enqueue self.old.queues (Purpose.Call self.old.vfs.next_call)) }
+        ensures same { OnOk result (self.new ≡ record self.old { vfs = self.new.vfs; queues = self.new.queues }) }
     {
         if self.queues.numbers_left() == 0 {
             return Err(Refusal::Exhausted);
@@ -209,18 +261,35 @@ impl<Q: QueueTable<Purpose> + Drop> KernelOf<Q> {
         Ok(call)
     }
 
-    /// Why the pending request at a place cannot be read, want of memory aside.
-    pub fn read_refusal(&self, place: u64) -> Option<Refusal> {
+    /// Whether a request has something to ask: that of a call has while the call is unanswered.
+    fn asks(&self, purpose: Purpose) -> bool
+        ensures { result ≡ is_some (body_of self.now purpose) }
+    {
+        match purpose {
+            Purpose::Init | Purpose::Release(_) => true,
+            Purpose::Call(call) => self.calls.get(call).is_some(),
+        }
+    }
+
+    /// Why the pending request at a place cannot be read, want of memory aside: `NotReady` where the mount is not live,
+    /// `InterruptFirst` while an INTERRUPT is queued, `NoSuch` where no request is pending there.
+    pub fn read_refusal(&self, place: u64) -> Option<Refusal>
+        ensures { result ≡ read_refusal self.now place }
+    {
         if !self.is_live() {
             return Some(Refusal::NotReady);
         }
         if self.queues.first_interrupt().is_some() {
             return Some(Refusal::InterruptFirst);
         }
-        if self.queues.pending(place as usize).is_none() {
+        let Some((_, purpose)) = self.queues.pending(place as usize) else {
             return Some(Refusal::NoSuch);
+        };
+        if self.asks(*purpose) {
+            None
+        } else {
+            Some(Refusal::NoSuch)
         }
-        None
     }
 
     /// Reads the pending request at a place, counted from 0 in order of queuing. It is in processing from then on.
@@ -231,8 +300,10 @@ impl<Q: QueueTable<Purpose> + Drop> KernelOf<Q> {
     /// is pending there; then `NoMemory`. The kernel is as before.
     pub fn read_pending(&mut self, place: u64) -> Result<RequestFrame<Q::Heap>, Refusal>
         ensures err { OnErr result (self.new ≡ self.old) }
-        ensures queues { OnOk result (self.new.queues ≡ after_read_pending self.old.queues place) }
-        ensures vfs { OnOk result (self.new.vfs ≡ self.old.vfs) }
+        ensures refusal { IfErr result (λ refusal. refusal ≡ or_no_memory (read_refusal self.old place)) }
+        ensures judged { OnOk result (read_refusal self.old place ≡ None) }
+        ensures frame { IfOk result (λ frame. IsPendingRequest self.old place frame) }
+        ensures read { OnOk result (self.new ≡ record self.old { queues = after_read_pending self.old.queues place }) }
     {
         if let Some(refusal) = self.read_refusal(place) {
             return Err(refusal);
@@ -246,11 +317,14 @@ impl<Q: QueueTable<Purpose> + Drop> KernelOf<Q> {
         Ok(frame)
     }
 
-    fn request_frame(
-        &self,
-        unique: u64,
-        purpose: Purpose,
-    ) -> Result<RequestFrame<Q::Heap>, Refusal> {
+    /// The frame of a request that has something to ask. No file is open so far, so that none is a RELEASE.
+    fn request_frame(&self, unique: u64, purpose: Purpose) -> Result<RequestFrame<Q::Heap>, Refusal>
+        requires asks { is_some (body_of self.now purpose) ≡ true }
+        requires no_release { (opened : Opened) → purpose ≢ Purpose.Release opened }
+        ensures refusal { IfErr result (λ refusal. refusal ≡ Refusal.NoMemory) }
+        ensures unique { IfOk result (λ frame. frame.unique ≡ unique) }
+        ensures body { IfOk result (λ frame. body_of self.now purpose ≡ Some frame.body) }
+    {
         let frame = match purpose {
             Purpose::Init => RequestFrame::init(self.alloc, unique),
             Purpose::Release(_) => return Err(Refusal::NoSuch),
@@ -276,7 +350,11 @@ impl<Q: QueueTable<Purpose> + Drop> KernelOf<Q> {
     ///
     /// `NoMemory`; the kernel is as before.
     pub fn write(&mut self, bytes: &[u8]) -> Result<WriteResult, Refusal>
-        ensures { OnErr result (self.new ≡ self.old) }
+        ensures err { OnErr result (self.new ≡ self.old) }
+        ensures refusal { IfErr result (λ refusal. refusal ≡ Refusal.NoMemory) }
+        ensures headless { (HasReplyHead bytes.now → ⊥) → (result ≡ Ok WriteResult.Invalid) × (self.new ≡ self.old) }
+        ensures unawaited { HasReplyHead bytes.now → awaited self.old (head_unique bytes.now) ≡ nothing → (result ≡ Ok WriteResult.NoEntry) × (self.new ≡ self.old) }
+        ensures taken { HasReplyHead bytes.now → IfOk result (λ written. IsTakenByCall self.old (head_unique bytes.now) bytes.now (awaited self.old (head_unique bytes.now)) written self.new) }
     {
         let Ok((error, unique)) = read_reply_head(bytes) else {
             return Ok(WriteResult::Invalid);
@@ -295,7 +373,9 @@ impl<Q: QueueTable<Purpose> + Drop> KernelOf<Q> {
     }
 
     /// A reply to the INTERRUPT of a request: it counts while that request is read and unanswered.
-    fn write_to_interrupt(&mut self, original: u64, error: i32, bytes: &[u8]) -> WriteResult {
+    fn write_to_interrupt(&mut self, original: u64, error: i32, bytes: &[u8]) -> WriteResult
+        ensures unawaited { waiting self.old.queues original ≡ None → (result ≡ WriteResult.NoEntry) × (self.new ≡ self.old) }
+    {
         if self.queues.waiting(original).is_none() {
             return WriteResult::NoEntry;
         }
@@ -329,49 +409,91 @@ impl<Q: QueueTable<Purpose> + Drop> KernelOf<Q> {
         }
     }
 
+    /// A reply to the LOOKUP or GETATTR of a call. Where the call is not unanswered, its request just ends.
     fn write_to_call(
         &mut self,
         unique: u64,
         call: u64,
         bytes: &[u8],
     ) -> Result<WriteResult, Refusal>
-        ensures { OnErr result (self.new ≡ self.old) }
+        requires even { nat_eq (unique % 2) 1 ≡ false }
+        requires waits { waiting self.old.queues unique ≡ Some (Purpose.Call call) }
+        ensures err { OnErr result (self.new ≡ self.old) }
+        ensures refusal { IfErr result (λ refusal. refusal ≡ Refusal.NoMemory) }
+        ensures taken { IfOk result (λ written. IsTakenByCall self.old unique bytes.now (awaited_by_call (get self.old.vfs.calls call)) written self.new) }
     {
         let Some(waiting) = self.calls.get(call) else {
-            return Ok(WriteResult::NoEntry);
+            let _kept = self.queues.answer(unique);
+            return Ok(WriteResult::Accepted);
         };
-        let opcode = match waiting.word() {
-            Some(_) => Opcode::Lookup,
-            None => Opcode::Getattr,
+        match waiting.word() {
+            None => Ok(self.write_to_getattr(unique, call, bytes)),
+            Some(_) => self.write_to_lookup(unique, call, bytes),
+        }
+    }
+
+    /// A reply to the GETATTR of the root. Bytes that are none answer the call EIO.
+    fn write_to_getattr(&mut self, unique: u64, call: u64, bytes: &[u8]) -> WriteResult
+        requires even { nat_eq (unique % 2) 1 ≡ false }
+        requires waits { waiting self.old.queues unique ≡ Some (Purpose.Call call) }
+        requires asks { get self.old.vfs.calls call ≡ Some (state_of []) }
+        ensures said { (wire : WireReply) → Says Opcode.Getattr bytes.now wire → reply_written self.old unique wire ≡ (result, self.new) }
+        ensures unsaid { SaysNothing Opcode.Getattr bytes.now → reply_written self.old unique wrong_body ≡ (result, self.new) }
+    {
+        let Some(said) = said_to_getattr(bytes) else {
+            self.answer_call(unique, call, Answer::Failed { errno: EIO });
+            return WriteResult::Invalid;
         };
-        let Ok(reply) = read_reply(opcode, bytes) else {
+        let answer = match said {
+            GetattrSaid::Failed { errno } => Answer::Failed { errno },
+            GetattrSaid::Attributes(attributes) => Answer::Attributes(attributes),
+        };
+        self.answer_call(unique, call, answer);
+        WriteResult::Accepted
+    }
+
+    /// A reply to the LOOKUP of a name in the root. Bytes that are none answer the call EIO.
+    fn write_to_lookup(
+        &mut self,
+        unique: u64,
+        call: u64,
+        bytes: &[u8],
+    ) -> Result<WriteResult, Refusal>
+        requires even { nat_eq (unique % 2) 1 ≡ false }
+        requires waits { waiting self.old.queues unique ≡ Some (Purpose.Call call) }
+        requires looks_up { (word : Name) × (words : List Name) × (get self.old.vfs.calls call ≡ Some (state_of (word ∷ words))) }
+        ensures err { OnErr result (self.new ≡ self.old) }
+        ensures refusal { IfErr result (λ refusal. refusal ≡ Refusal.NoMemory) }
+        ensures failed { (errno : ℕ) → Says Opcode.Lookup bytes.now (reply.failed errno) → IfOk result (λ written. reply_written self.old unique (reply.failed errno) ≡ (written, self.new)) }
+        ensures missing { (valid : ℕ) → Says Opcode.Lookup bytes.now (reply.missing valid) → IfOk result (λ written. reply_written self.old unique (reply.missing valid) ≡ (written, self.new)) }
+        ensures found { (entry : Entry) (valid : ℕ) → Says Opcode.Lookup bytes.now (reply.found entry valid) → IfOk result (λ written. (written ≡ WriteResult.Invalid) × (self.new ≡ self.old)) }
+        ensures unsaid { SaysNothing Opcode.Lookup bytes.now → IfOk result (λ written. reply_written self.old unique wrong_body ≡ (written, self.new)) }
+    {
+        let Some(said) = said_to_lookup(bytes) else {
             self.answer_call(unique, call, Answer::Failed { errno: EIO });
             return Ok(WriteResult::Invalid);
         };
-        if reply.error != 0 {
-            let errno = reply.error.unsigned_abs();
-            self.answer_call(unique, call, Answer::Failed { errno });
-            return Ok(WriteResult::Accepted);
-        }
-        match reply.body {
-            ReplyBody::Attr { attr } => {
-                self.answer_call(unique, call, Answer::Attributes(attributes_of(&attr)));
+        match said {
+            LookupSaid::Failed { errno } => {
+                self.answer_call(unique, call, Answer::Failed { errno });
                 Ok(WriteResult::Accepted)
             }
-            ReplyBody::Entry { entry } if entry.nodeid == 0 => {
-                let valid_ms = milliseconds(entry.entry_valid, entry.entry_valid_nsec);
+            LookupSaid::Missing { valid_ms } => {
                 self.name_is_missing(call, valid_ms)?;
                 self.answer_call(unique, call, Answer::Failed { errno: ENOENT });
                 Ok(WriteResult::Accepted)
             }
             // For now a reply that names a node is refused and changes nothing.
-            _ => Ok(WriteResult::Invalid),
+            LookupSaid::Found => Ok(WriteResult::Invalid),
         }
     }
 
     /// The word that a call looks up is missing for so many milliseconds from now on.
     fn name_is_missing(&mut self, call: u64, valid_ms: u64) -> Result<(), Refusal>
-        ensures { OnErr result (self.new ≡ self.old) }
+        requires day { valid_ms ≤ max_validity }
+        ensures err { OnErr result (self.new ≡ self.old) }
+        ensures refusal { IfErr result (λ refusal. refusal ≡ Refusal.NoMemory) }
+        ensures bound { OnOk result ((word : Name) (words : List Name) → get self.old.vfs.calls call ≡ Some (state_of (word ∷ words)) → self.new ≡ record self.old { vfs = bound self.old.vfs 1 word None valid_ms }) }
     {
         let Some(waiting) = self.calls.get(call) else {
             return Ok(());
@@ -390,7 +512,11 @@ impl<Q: QueueTable<Purpose> + Drop> KernelOf<Q> {
     }
 
     /// The call's request ends, and the call is answered.
-    fn answer_call(&mut self, unique: u64, call: u64, answer: Answer) {
+    fn answer_call(&mut self, unique: u64, call: u64, answer: Answer)
+        requires waits { is_some (waiting self.old.queues unique) ≡ true }
+        requires unanswered { is_some (get self.old.vfs.calls call) ≡ true }
+        ensures { self.new ≡ record self.old { vfs = answered self.old.vfs call (answer_of answer); queues = without self.old.queues unique } }
+    {
         let _kept = self.queues.answer(unique);
         if self.calls.remove(call).is_none() {
             return;
@@ -399,13 +525,17 @@ impl<Q: QueueTable<Purpose> + Drop> KernelOf<Q> {
     }
 
     /// Hands out, once, the answer of the lowest answered call.
-    pub fn collect(&mut self) -> Option<(u64, Answer)> {
+    pub fn collect(&mut self) -> Option<(u64, Answer)>
+        ensures answer { option_map (λ r. (r.0, answer_of r.1)) result ≡ slice_get self.old.vfs.answers 0 }
+        ensures none { IfNone result (self.new ≡ self.old) }
+        ensures taken { IfSome result (λ r. self.new ≡ record self.old { vfs = record self.old.vfs { answers = remove self.old.vfs.answers r.0 } }) }
+    {
         let Some(call) = self.answers.first_key() else {
             return None;
         };
-        match self.answers.remove(call) {
-            Some(answer) => Some((call, answer.into_answer())),
-            None => None,
-        }
+        let Some(answer) = self.answers.remove(call) else {
+            return None;
+        };
+        Some((call, answer.into_answer()))
     }
 }

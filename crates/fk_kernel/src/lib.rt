@@ -5,6 +5,7 @@ mod bindings;
 mod call;
 mod kernel;
 mod path;
+mod said;
 mod waiting;
 
 pub use call::{Answer, Call};

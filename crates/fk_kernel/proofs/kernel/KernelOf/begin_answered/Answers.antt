@@ -1,5 +1,5 @@
-use Rattle.std.proofs.Common.{length, ◌≤◌, ◌<◌, arith}
-use Rattle.fk_kernel.proofs.Sound.{sound_begun_answered}
+use Rattle.std.proofs.Common.{length, ◌≤◌, ◌<◌, refl, arith}
+use Rattle.fk_kernel.proofs.Sound.{gone_absent, sound_begun_answered}
 use Rattle.fk_kernel.proofs.kernel.KernelOf.begin_answered.Goals as goal
 
 pub invariant_of-self-2 : goal.invariant_of-self-2
@@ -10,4 +10,12 @@ invariant_of-self-2 g c =
     let reserved = c.in-Ok.ensures.room in
     let left = c.put.ensures.room in
     let room : length k.calls.entries ≤ c.put.new.self.room = omega (arith, few, reserved, left) in
-    rw (c.put.ensures.entries, c.in-Ok.ensures.entries) (sound_begun_answered k.calls.entries k.answers.entries k.answers.room k.next_call c.self.invariant c.new.result c.put.new.self.room low room)
+    let old = c.self.invariant in
+    rw (c.put.ensures.entries, c.in-Ok.ensures.entries)
+    (record { numbers = sound_begun_answered k.calls.entries k.answers.entries k.answers.room k.next_call old.numbers c.new.result c.put.new.self.room low room; idle = old.idle; nowhere = old.nowhere; releases = old.releases; clock_low = old.clock_low })
+
+pub returns-clause-vfs : goal.returns-clause-vfs
+returns-clause-vfs g c =
+    let k = c.self.inside in
+    let absent = c.self.invariant.numbers.calls_below k.next_call (omega arith) in
+    rw (← c.self.view_is, c.put.ensures.entries, c.in-Ok.ensures.entries, c.new.ensures, gone_absent k.calls.entries k.next_call absent) refl

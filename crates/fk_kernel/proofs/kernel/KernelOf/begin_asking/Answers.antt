@@ -1,4 +1,8 @@
-use Rattle.std.proofs.Common.{length, ◌≤◌, ◌<◌, ◌+◌, arith}
+use Rattle.std.proofs.Common.{length, ◌≤◌, ◌<◌, ◌+◌, ◌≡◌, true, false, true≢false, sym, ap, ◌∙◌, arith}
+use Rattle.fuse_spec.specs.Kernel.{is_aborted}
+use Rattle.fuse_spec.specs.Steps.{is_ready}
+use Rattle.fk_kernel.proofs.Phases.{live_if}
+use Rattle.fk_kernel.proofs.Requests.{call_queued}
 use Rattle.fk_kernel.proofs.Sound.{sound_begun_asking}
 use Rattle.fk_kernel.proofs.kernel.KernelOf.begin_asking.Goals as goal
 
@@ -9,4 +13,9 @@ invariant_of-self-2 g c =
     let low = rw (← c.self.view_is) at c.requires.number in
     let reserved = c.in-Ok.ensures.room in
     let room : length k.calls.entries + 1 ≤ c.reserve.new.self.room = omega (arith, few, reserved) in
-    rw (c.put.ensures.entries, c.in-Ok-reserve.ensures.entries, c.in-Ok.ensures.entries) (sound_begun_asking k.calls.entries k.answers.entries k.answers.room k.next_call c.self.invariant c.new.result c.reserve.new.self.room low room)
+    let ready : is_ready k.phase ≡ true = rw (← c.self.view_is) at c.requires.ready in
+    let going : is_aborted k.phase ≡ false = rw (← c.self.view_is) at c.requires.not_aborted in
+    let live = live_if k.phase ready going in
+    let old = c.self.invariant in
+    rw (c.put.ensures.entries, c.in-Ok-reserve.ensures.entries, c.in-Ok.ensures.entries)
+    (record { numbers = sound_begun_asking k.calls.entries k.answers.entries k.answers.room k.next_call old.numbers c.new.result c.reserve.new.self.room low room; idle = λ down. absurd (true≢false (sym live ∙ down)); nowhere = old.nowhere; releases = rw (c.enqueue-unique.ensures.state, c.reserve-3.ensures.state) (call_queued (g.Q.QueueTable.state k.queues) k.next_call old.releases); clock_low = old.clock_low })

@@ -1,0 +1,50 @@
+use Rattle.std.proofs.Common.{rules, ◌≡◌, Some, None, sym, ap, ◌∙◌}
+use Rattle.fuse_spec.specs.QueueCalls.{waiting}
+use Rattle.fuse_spec.specs.declared.Purpose.TheVariants.{Init, Release}
+use Rattle.fk_kernel.specs.Said.{head_unique}
+use Rattle.fk_kernel.proofs.Taken.{odd_test, even_test, taken_odd, taken_even, of_nothing, of_init, of_release}
+use Rattle.fk_wire.specs.declared.opcode.Opcode.TheVariants as op
+use Rattle.fk_wire.specs.Opcodes.{served}
+use Rattle.fk_kernel.proofs.Heads.{no_head}
+use Rattle.fk_kernel.proofs.kernel.KernelOf.write.Goals as goal
+
+pub returns-in_default-clause-unawaited : goal.returns-in_default-clause-unawaited
+returns-in_default-clause-unawaited g c = λ head awaits.
+    let fault = c.in_default.ensures.fault served op.Getattr in
+    absurd (no_head c.args.bytes.now c.in_default.field-0 fault.0 fault.1 head)
+
+pub returns-in_default-clause-taken : goal.returns-in_default-clause-taken
+returns-in_default-clause-taken g c = λ head.
+    let fault = c.in_default.ensures.fault served op.Getattr in
+    absurd (no_head c.args.bytes.now c.in_default.field-0 fault.0 fault.1 head)
+
+pub returns-then-unique-eq1-clause-taken : goal.returns-then-unique-eq1-clause-taken
+returns-then-unique-eq1-clause-taken g c = λ head.
+    taken_odd _ (head_unique c.args.bytes.now) _ _ _ (odd_test c.in-Ok.unique (head_unique c.args.bytes.now) c.in-Ok.ensures.ok.3 c.if-unique-eq1.true)
+
+pub returns-in_default-waiting-clause-taken : goal.returns-in_default-waiting-clause-taken
+returns-in_default-waiting-clause-taken g c = λ head.
+    let queues = g.Q.QueueTable.state c.self.inside.queues in
+    let unique = head_unique c.args.bytes.now in
+    let same = c.in-Ok.ensures.ok.3 in
+    let at : waiting queues c.in-Ok.unique ≡ None = search rules in
+    let waits : waiting c.args.self.now.queues unique ≡ None = rw (← c.self.view_is) (ap (waiting queues) (sym same) ∙ at) in
+    taken_even _ unique _ _ _ None (even_test c.in-Ok.unique unique same c.if-unique-eq1.false) waits of_nothing
+
+pub returns-in-Init-clause-taken : goal.returns-in-Init-clause-taken
+returns-in-Init-clause-taken g c = λ head.
+    let queues = g.Q.QueueTable.state c.self.inside.queues in
+    let unique = head_unique c.args.bytes.now in
+    let same = c.in-Ok.ensures.ok.3 in
+    let at : waiting queues c.in-Ok.unique ≡ Some c.in-Some.purpose.now = search rules in
+    let waits : waiting c.args.self.now.queues unique ≡ Some Init = rw (← c.self.view_is) (ap (waiting queues) (sym same) ∙ at ∙ ap Some c.in-Init.is) in
+    taken_even _ unique _ _ _ (Some Init) (even_test c.in-Ok.unique unique same c.if-unique-eq1.false) waits of_init
+
+pub returns-in-Release-clause-taken : goal.returns-in-Release-clause-taken
+returns-in-Release-clause-taken g c = λ head.
+    let queues = g.Q.QueueTable.state c.self.inside.queues in
+    let unique = head_unique c.args.bytes.now in
+    let same = c.in-Ok.ensures.ok.3 in
+    let at : waiting queues c.in-Ok.unique ≡ Some c.in-Some.purpose.now = search rules in
+    let waits : waiting c.args.self.now.queues unique ≡ Some (Release c.in-Release.field-0) = rw (← c.self.view_is) (ap (waiting queues) (sym same) ∙ at ∙ ap Some c.in-Release.is) in
+    taken_even _ unique _ _ _ (Some (Release c.in-Release.field-0)) (even_test c.in-Ok.unique unique same c.if-unique-eq1.false) waits of_release

@@ -1,0 +1,8 @@
+use Rattle.std.proofs.Common.{true≢false}
+use Rattle.fk_kernel.proofs.Requests.{one_answered}
+use Rattle.fk_kernel.proofs.kernel.KernelOf.write_to_init.Goals as goal
+
+pub invariant_of-self : goal.invariant_of-self
+invariant_of-self g c =
+    let old = c.self.invariant in
+    rw c.answer-kept.ensures.state (record { numbers = old.numbers; idle = λ e. absurd (true≢false e); nowhere = old.nowhere; releases = one_answered (g.Q.QueueTable.state c.self.inside.queues) old.releases c.args.unique; clock_low = old.clock_low })

@@ -1,0 +1,50 @@
+-- Which refusal each call of the kernel gets. The refusals stand in the order in which they are judged; want of memory comes last.
+use Rattle.std.specs.Prelude.{◌≡◌, ℕ, ◌+◌, Bool, ◌||◌, cond, not, Option, Some, None, length, nat_eq, nat_lt, nat_le}
+use Rattle.fuse_spec.specs.Numbers.{max_calls, counter_end}
+use Rattle.fuse_spec.specs.Calls.{Call}
+use Rattle.fuse_spec.specs.Kernel.{Kernel, is_live, body_of, call_begun}
+use Rattle.fuse_spec.specs.Messages.{Request, RequestBody}
+use Rattle.fuse_spec.specs.QueueCalls.{pending_at}
+use Rattle.fuse_spec.specs.Steps.{is_ready, is_busy}
+use Rattle.fuse_spec.specs.declared.Purpose.{Purpose}
+use Rattle.fuse_spec.specs.declared.Refusal.{Refusal}
+use Rattle.fuse_spec.specs.declared.Refusal.TheVariants.{NoMemory, NoSuch, InterruptFirst, NotReady, Full, Busy, Exhausted}
+
+-- a refusal that was judged, or want of memory
+abbrev pub or_no_memory : Option Refusal → Refusal
+or_no_memory None = NoMemory
+or_no_memory (Some refusal) = refusal
+
+-- whether a counter of the kernel would have given a number past its end
+abbrev pub is_past_end : Kernel → Bool
+is_past_end k = nat_lt counter_end k.queues.next || nat_lt counter_end k.vfs.next_call
+
+-- why a call cannot begin, want of memory aside
+abbrev pub begin_refusal : Kernel → Call → Option Refusal
+begin_refusal k call =
+    cond (not (is_ready k.phase)) (Some NotReady) (cond (nat_le max_calls (length k.vfs.calls)) (Some Full) (cond (is_past_end (call_begun k call)) (Some Exhausted) None))
+
+-- why a mount is refused, want of memory aside
+abbrev pub mount_refusal : Kernel → Option Refusal
+mount_refusal k = cond (is_busy k) (Some Busy) None
+
+-- whether a request has something to ask: INIT and RELEASE do, and that of a call while the call is unanswered
+abbrev pub body_refusal : Option RequestBody → Option Refusal
+body_refusal None = Some NoSuch
+body_refusal (Some body) = None
+
+abbrev pub place_refusal : Kernel → Option (ℕ × Purpose) → Option Refusal
+place_refusal k None = Some NoSuch
+place_refusal k (Some request) = body_refusal (body_of k request.1)
+
+-- why the pending request at a place cannot be read, want of memory aside
+abbrev pub read_refusal : Kernel → ℕ → Option Refusal
+read_refusal k place =
+    cond (not (is_live k.phase)) (Some NotReady)
+    (cond (not (nat_eq (length k.queues.interrupts) 0)) (Some InterruptFirst) (place_refusal k (pending_at k.queues place)))
+
+-- the request that is pending at a place, and what it asks
+pub record IsPendingRequest (k : Kernel) (place : ℕ) (request : Request) : Type 0 where
+  pub purpose : Purpose
+  pub pending : pending_at k.queues place ≡ Some (request.unique, purpose)
+  pub body : body_of k purpose ≡ Some request.body

@@ -1,0 +1,106 @@
+-- What the bytes of a reply say to the request that awaits it.
+use Rattle.std.specs.Prelude.{◌≡◌, ℕ, ◌-◌, ◌%◌, cond, List, Option, Some, None, nat_eq}
+use Rattle.fk_wire.specs.declared.opcode.Opcode.{Opcode}
+use Rattle.fk_wire.specs.declared.opcode.Opcode.TheVariants as op
+use Rattle.fk_wire.specs.Fields.{number_at}
+use Rattle.fk_wire.specs.ReplyFaults.{HasReplyLength, HasError}
+use Rattle.fuse_spec.specs.declared.Opened.{Opened}
+use Rattle.fuse_spec.specs.declared.Entry.{Entry}
+use Rattle.fuse_spec.specs.declared.Purpose.{Purpose}
+use Rattle.fuse_spec.specs.declared.Purpose.TheVariants.{Init, Release, Call}
+use Rattle.fuse_spec.specs.Operations.{Operation, lookup, getattr, mkdir, create, unlink, rmdir, rename, link, opening, readdir, read, write}
+use Rattle.fuse_spec.specs.Operations as reply
+use Rattle.fuse_spec.specs.Messages.{WireReply}
+use Rattle.fuse_spec.specs.Maps.{get}
+use Rattle.fuse_spec.specs.Vfs.{CallState, asked}
+use Rattle.fuse_spec.specs.QueueCalls.{waiting, without}
+use Rattle.fuse_spec.specs.Replies.{reply_written}
+use Rattle.fuse_spec.specs.declared.WriteResult.{WriteResult}
+use Rattle.fuse_spec.specs.declared.WriteResult.TheVariants.{Accepted, Invalid}
+use Rattle.fuse_spec.specs.Kernel.{Kernel}
+use Rattle.fuse_frames.specs.ReplyTies.{SaysReply}
+use Rattle.fk_kernel.specs.declared.said.GetattrSaid.{GetattrSaid}
+use Rattle.fk_kernel.specs.declared.said.GetattrSaid.TheVariants as getattr_said
+use Rattle.fk_kernel.specs.declared.said.LookupSaid.{LookupSaid}
+use Rattle.fk_kernel.specs.declared.said.LookupSaid.TheVariants as lookup_said
+
+-- The bytes have the head of a reply: they are as many as it says, and its error is in range.
+abbrev pub HasReplyHead : List ℕ → Type 0
+HasReplyHead bytes = HasReplyLength bytes × HasError bytes
+
+-- the unique in that head
+abbrev pub head_unique : List ℕ → ℕ
+head_unique bytes = number_at 8 8 bytes
+
+-- The bytes say this to a request of this opcode.
+pub record Says (o : Opcode) (bytes : List ℕ) (wire : WireReply) : Type 0 where
+  pub unique : ℕ
+  pub says : SaysReply o bytes unique wire
+
+-- They are no reply to a request of this opcode.
+abbrev pub SaysNothing : Opcode → List ℕ → Type 0
+SaysNothing o bytes = (wire : WireReply) → Says o bytes wire → ⊥
+
+-- They say what was made out of them.
+abbrev pub SaysToGetattr : List ℕ → GetattrSaid → Type 0
+SaysToGetattr bytes (getattr_said.Failed errno) = Says op.Getattr bytes (reply.failed errno)
+SaysToGetattr bytes (getattr_said.Attributes attributes) = Says op.Getattr bytes (reply.attributes attributes)
+
+abbrev pub SaysToLookup : List ℕ → LookupSaid → Type 0
+SaysToLookup bytes (lookup_said.Failed errno) = Says op.Lookup bytes (reply.failed errno)
+SaysToLookup bytes (lookup_said.Missing valid) = Says op.Lookup bytes (reply.missing valid)
+SaysToLookup bytes lookup_said.Found = (entry : Entry) × (valid : ℕ) × Says op.Lookup bytes (reply.found entry valid)
+
+-- the opcode of the request that asks an operation
+abbrev pub opcode_of : Operation ℕ Opened → Opcode
+opcode_of (lookup d name) = op.Lookup
+opcode_of (getattr x) = op.Getattr
+opcode_of (mkdir d name) = op.Mkdir
+opcode_of (create d name) = op.Create
+opcode_of (unlink d name) = op.Unlink
+opcode_of (rmdir d name) = op.Rmdir
+opcode_of (rename d old e new) = op.Rename
+opcode_of (link x d name) = op.Link
+opcode_of (opening x) = op.Open
+opcode_of (readdir d after size) = op.Readdir
+opcode_of (read o offset size) = op.Read
+opcode_of (write o offset bytes) = op.Write
+
+-- What awaits a reply under a unique: no request, that of a call which is not unanswered, or a request of an opcode.
+pub data Awaited : Type 0 where
+  nothing gone : Awaited
+  reply_to : (opcode : Opcode) → Awaited
+
+abbrev pub awaited_by_call : Option (CallState Opened) → Awaited
+awaited_by_call None = gone
+awaited_by_call (Some state) = reply_to (opcode_of (asked state))
+
+abbrev pub awaited_by : Kernel → Option Purpose → Awaited
+awaited_by k None = nothing
+awaited_by k (Some Init) = reply_to op.Init
+awaited_by k (Some (Release opened)) = reply_to op.Release
+awaited_by k (Some (Call call)) = awaited_by_call (get k.vfs.calls call)
+
+abbrev pub awaited_by_interrupt : Option Purpose → Awaited
+awaited_by_interrupt None = nothing
+awaited_by_interrupt (Some purpose) = reply_to op.Interrupt
+
+-- An odd unique is that of the INTERRUPT of the request before it.
+abbrev pub awaited : Kernel → ℕ → Awaited
+awaited k unique = cond (nat_eq (unique % 2) 1) (awaited_by_interrupt (waiting k.queues (unique - 1))) (awaited_by k (waiting k.queues unique))
+
+-- a body that goes with no operation of a call
+abbrev pub wrong_body : WireReply
+wrong_body = reply.agreed 0 0
+
+-- What becomes of a reply under the unique of a call's request, with a head, by what awaits it. A reply to a LOOKUP that names
+-- a node is put off so far: it is refused, and changes nothing.
+pub record IsTakenByCall (k : Kernel) (unique : ℕ) (bytes : List ℕ) (awaits : Awaited) (result : WriteResult) (after : Kernel) : Type 0 where
+  -- the call is not unanswered: the request just ends
+  pub gone : awaits ≡ gone → (result ≡ Accepted) × (after ≡ record k { queues = without k.queues unique })
+  pub getattr : awaits ≡ reply_to op.Getattr → (wire : WireReply) → Says op.Getattr bytes wire → reply_written k unique wire ≡ (result, after)
+  pub no_getattr : awaits ≡ reply_to op.Getattr → SaysNothing op.Getattr bytes → reply_written k unique wrong_body ≡ (result, after)
+  pub failed : awaits ≡ reply_to op.Lookup → (errno : ℕ) → Says op.Lookup bytes (reply.failed errno) → reply_written k unique (reply.failed errno) ≡ (result, after)
+  pub missing : awaits ≡ reply_to op.Lookup → (valid : ℕ) → Says op.Lookup bytes (reply.missing valid) → reply_written k unique (reply.missing valid) ≡ (result, after)
+  pub found : awaits ≡ reply_to op.Lookup → (entry : Entry) (valid : ℕ) → Says op.Lookup bytes (reply.found entry valid) → (result ≡ Invalid) × (after ≡ k)
+  pub no_lookup : awaits ≡ reply_to op.Lookup → SaysNothing op.Lookup bytes → reply_written k unique wrong_body ≡ (result, after)
