@@ -1,11 +1,15 @@
 -- What the server does with any frame that it is given.
-use Rattle.std.specs.Prelude.{◌≡◌, ◌≢◌, ◌≤◌, ◌^◌, ℕ, List, Option, None}
+use Rattle.std.specs.Prelude.{◌≡◌, ◌≢◌, ◌≤◌, ◌^◌, ℕ, Bool, false, nat_eq, List, Option, Some, None}
 use Rattle.fuse_spec.specs.Maps.{Map, get}
 use Rattle.fuse_spec.specs.Numbers.{max_validity}
 use Rattle.fuse_spec.specs.Messages.{Request}
-use Rattle.fuse_spec.specs.Server.{Server}
+use Rattle.fuse_spec.specs.Server.{Server, Kept, Copy}
+use Rattle.fuse_spec.specs.Copies.{settled}
 use Rattle.fuse_spec.specs.Taking.{taking}
 use Rattle.fuse_spec.specs.declared.Taken.{Taken}
+use Rattle.fuse_spec.specs.declared.ReplyResult.{ReplyResult}
+use Rattle.fuse_spec.specs.declared.Refusal.{Refusal}
+use Rattle.fuse_spec.specs.declared.Refusal.TheVariants.{NoSuch}
 use Rattle.fuse_frames.specs.RequestTies.{SaysRequest}
 
 -- A frame is taken as the request that it spells.
@@ -23,3 +27,19 @@ pub record IsSound {V W X : Type 0} (held : Map V) (kept : Map W) (copies : Map 
   pub copies_below : (n : ℕ) → coming ≤ n → get copies n ≡ None
   pub numbers : coming ≤ 2 ^ 62
   pub a_day : missing ≤ max_validity
+
+-- A copy that was sent is settled by the result of its write.
+pub record Settles (old : Server) (result : ReplyResult) (new : Server) : Type 0 where
+  pub copy : Copy
+  pub there : get old.copies result.number ≡ Some copy
+  pub after : new ≡ settled old result.number copy result.result
+
+-- Nothing to settle: no copy of this number was sent, or it is settled already.
+pub record HasNoCopy (old : Server) (result : ReplyResult) (refusal : Refusal) : Type 0 where
+  pub absent : get old.copies result.number ≡ None
+  pub no_such : refusal ≡ NoSuch
+
+-- whether a kept reply is the one whose first copy has this number
+abbrev pub is_of_copy : Option Kept → ℕ → Bool
+is_of_copy None first = false
+is_of_copy (Some kept) first = nat_eq kept.first first

@@ -1,10 +1,11 @@
 //! The server.
 
-ghost use Rattle.std.specs.Prelude.{◌≡◌, ◌≢◌, ◌<◌, ◌≤◌, ◌^◌, OnErr};
+ghost use Rattle.std.specs.Prelude.{◌≡◌, ◌≢◌, ◌<◌, ◌≤◌, ◌^◌, OnErr, MatchResult};
 ghost use Rattle.fuse_spec.specs.Maps.{get};
 ghost use Rattle.fuse_spec.specs.Numbers.{max_validity};
 ghost use Rattle.fuse_spec.specs.Worlds.{first_server};
 ghost use Rattle.fuse_spec.specs.Copies.{remounted};
+ghost use Rattle.fs_server.specs.Effects.{Settles, HasNoCopy, is_of_copy};
 
 use crate::held::{HeldBody, HeldRequest, KeptReply, SentCopy, SentReply};
 use fk_wire::{Request, RequestBody, read_request};
@@ -224,7 +225,8 @@ impl<A: Allocator + Copy> Server<A> {
     ///
     /// `NoSuch` where no copy of this number was sent, or it is settled already; the server is as before.
     pub fn settle(&mut self, settled: ReplyResult) -> Result<(), Refusal>
-        ensures { OnErr result (self.new ≡ self.old) }
+        ensures refused { OnErr result (self.new ≡ self.old) }
+        ensures effect { MatchResult result (λ _. Settles self.old settled self.new) (HasNoCopy self.old settled) }
     {
         let Some(copy) = self.copies.remove(settled.number) else {
             return Err(Refusal::NoSuch);
@@ -236,7 +238,9 @@ impl<A: Allocator + Copy> Server<A> {
     }
 
     /// Whether the reply under a unique is kept, and its first copy has this number.
-    fn keeps_first(&self, unique: u64, first: u64) -> bool {
+    fn keeps_first(&self, unique: u64, first: u64) -> bool
+        ensures { result ≡ is_of_copy (get self.now.kept unique) first }
+    {
         match self.kept.get(unique) {
             Some(kept) => kept.first() == first,
             None => false,
