@@ -1,1 +1,2 @@
 mod Sound
+mod Alone

@@ -1,15 +1,18 @@
 -- What the server does with any frame that it is given.
-use Rattle.std.specs.Prelude.{◌≡◌, ◌≢◌, ◌≤◌, ◌^◌, ℕ, Bool, false, nat_eq, List, Option, Some, None}
-use Rattle.fuse_spec.specs.Maps.{Map, get}
-use Rattle.fuse_spec.specs.Numbers.{max_validity}
-use Rattle.fuse_spec.specs.Messages.{Request}
-use Rattle.fuse_spec.specs.Server.{Server, Kept, Copy}
+use Rattle.std.specs.Prelude.{◌≡◌, ◌≢◌, ◌≤◌, ◌^◌, ℕ, Bool, false, cond, nat_eq, nat_lt, is_some, List, Option, Some, None}
+use Rattle.fuse_spec.specs.Maps.{Map, get, remove}
+use Rattle.fuse_spec.specs.Numbers.{max_validity, counter_end}
+use Rattle.fuse_spec.specs.Messages.{Request, WireReply}
+use Rattle.fuse_spec.specs.Operations.{errno_of}
+use Rattle.fuse_spec.specs.Performs.{performed, served}
+use Rattle.fuse_spec.specs.Worlds.{Sent}
+use Rattle.fuse_spec.specs.Server.{Server, HeldRequest, Kept, Copy}
 use Rattle.fuse_spec.specs.Copies.{settled}
 use Rattle.fuse_spec.specs.Taking.{taking}
 use Rattle.fuse_spec.specs.declared.Taken.{Taken}
 use Rattle.fuse_spec.specs.declared.ReplyResult.{ReplyResult}
 use Rattle.fuse_spec.specs.declared.Refusal.{Refusal}
-use Rattle.fuse_spec.specs.declared.Refusal.TheVariants.{NoSuch}
+use Rattle.fuse_spec.specs.declared.Refusal.TheVariants.{NoMemory, NoSuch, Exhausted}
 use Rattle.fuse_frames.specs.RequestTies.{SaysRequest}
 
 -- A frame is taken as the request that it spells.
@@ -43,3 +46,26 @@ pub record HasNoCopy (old : Server) (result : ReplyResult) (refusal : Refusal) :
 abbrev pub is_of_copy : Option Kept → ℕ → Bool
 is_of_copy None first = false
 is_of_copy (Some kept) first = nat_eq kept.first first
+
+-- Why a request can't be performed, want of memory aside: none is held under the unique, or no copy number is left.
+abbrev pub performing_refusal : Server → ℕ → Option Refusal
+performing_refusal s unique = cond (is_some (get s.held unique)) (cond (nat_lt s.next_copy counter_end) None (Some Exhausted)) (Some NoSuch)
+
+-- that refusal, or else want of memory
+abbrev pub or_no_memory : Option Refusal → Refusal
+or_no_memory None = NoMemory
+or_no_memory (Some refusal) = refusal
+
+-- What the request held under a unique is answered.
+pub record AnswersHeld (s : Server) (unique : ℕ) (wire : WireReply) : Type 0 where
+  pub held : HeldRequest
+  pub there : get s.held unique ≡ Some held
+  pub gives : (choice : ℕ → ℕ) → performed choice (record s { held = remove s.held unique }) held ≡ record { server = record s { held = remove s.held unique }; wire = wire }
+
+-- A held request is performed, and this is the first copy of its reply. No node is given yet, so the choice of ids is free.
+pub record PerformsHeld (old : Server) (unique errno : ℕ) (copy : Sent) (new : Server) : Type 0 where
+  pub held : HeldRequest
+  pub there : get old.held unique ≡ Some held
+  pub served_so : (choice : ℕ → ℕ) → served choice old unique held ≡ record { server = new; wire = copy.wire }
+  pub copy_is : copy ≡ record { number = old.next_copy; unique = unique; wire = copy.wire }
+  pub errno_is : errno ≡ errno_of copy.wire

@@ -1,11 +1,14 @@
 //! The server.
 
-ghost use Rattle.std.specs.Prelude.{◌≡◌, ◌≢◌, ◌<◌, ◌≤◌, ◌^◌, OnErr, MatchResult};
+ghost use Rattle.std.specs.Prelude.{◌≡◌, ◌≢◌, ◌<◌, ◌≤◌, ◌^◌, OnErr, IfOk, IfErr, MatchResult};
 ghost use Rattle.fuse_spec.specs.Maps.{get};
 ghost use Rattle.fuse_spec.specs.Numbers.{max_validity};
 ghost use Rattle.fuse_spec.specs.Worlds.{first_server};
 ghost use Rattle.fuse_spec.specs.Copies.{remounted};
-ghost use Rattle.fs_server.specs.Effects.{Settles, HasNoCopy, is_of_copy};
+ghost use Rattle.fs_server.specs.Effects.{Settles, HasNoCopy, is_of_copy, performing_refusal, or_no_memory, AnswersHeld, PerformsHeld};
+ghost use Rattle.fs_server.specs.Values.{root_alone, wire_of};
+ghost use Rattle.fuse_spec.specs.Trees.{attributes_of};
+ghost use Rattle.fuse_spec.specs.declared.Refusal.TheVariants.{NoMemory};
 
 use crate::held::{HeldBody, HeldRequest, KeptReply, SentCopy, SentReply};
 use fk_wire::{Request, RequestBody, read_request};
@@ -149,7 +152,8 @@ impl<A: Allocator + Copy> Server<A> {
 
     /// Why a request cannot be performed, want of memory aside.
     pub fn perform_refusal(&self, unique: u64) -> Option<Refusal>
-        ensures { result ≡ None → (self.now.next_copy < 2 ^ 62) × (get self.now.held unique ≢ None) }
+        ensures exact { result ≡ performing_refusal self.now unique }
+        ensures none { result ≡ None → (self.now.next_copy < 2 ^ 62) × (get self.now.held unique ≢ None) }
     {
         if self.held.get(unique).is_none() {
             return Some(Refusal::NoSuch);
@@ -167,7 +171,8 @@ impl<A: Allocator + Copy> Server<A> {
     /// `NoSuch` where no request is held under the unique, `Exhausted` where no copy number is left; then `NoMemory`.
     /// The server is as before.
     pub fn perform(&mut self, unique: u64) -> Result<Done<A>, Refusal>
-        ensures { OnErr result (self.new ≡ self.old) }
+        ensures refused { OnErr result (self.new ≡ self.old) }
+        ensures effect { MatchResult result (λ done. PerformsHeld self.old unique done.errno done.copy self.new) (λ refusal. refusal ≡ or_no_memory (performing_refusal self.old unique)) }
     {
         if let Some(refusal) = self.perform_refusal(unique) {
             return Err(refusal);
@@ -189,7 +194,11 @@ impl<A: Allocator + Copy> Server<A> {
     }
 
     /// The reply to a held request. In a tree that is the root alone each name is missing.
-    fn reply(&self, unique: u64, number: u64) -> Result<(SentReply, ReplyCopy<A>), Refusal> {
+    fn reply(&self, unique: u64, number: u64) -> Result<(SentReply, ReplyCopy<A>), Refusal>
+        ensures answer { IfOk result (λ r. AnswersHeld self.now unique (wire_of r.0)) }
+        ensures copy { IfOk result (λ r. r.1 ≡ record { number = number; unique = unique; wire = wire_of r.0 }) }
+        ensures refused { get self.now.held unique ≢ None → IfErr result (λ refusal. refusal ≡ NoMemory) }
+    {
         let Some(held) = self.held.get(unique) else {
             return Err(Refusal::NoSuch);
         };
@@ -257,7 +266,9 @@ fn is_served(request: &Request<'_>) -> bool {
 }
 
 /// The root's attributes: born first, with one name.
-fn root_attributes() -> Attributes {
+fn root_attributes() -> Attributes
+    ensures { result ≡ attributes_of root_alone 0 }
+{
     Attributes {
         kind: Kind::Directory,
         ino: 1,
