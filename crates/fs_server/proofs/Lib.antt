@@ -1,2 +1,3 @@
 mod Sound
 mod Alone
+mod Frames

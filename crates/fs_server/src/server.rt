@@ -5,7 +5,9 @@ ghost use Rattle.fuse_spec.specs.Maps.{get};
 ghost use Rattle.fuse_spec.specs.Numbers.{max_validity};
 ghost use Rattle.fuse_spec.specs.Worlds.{first_server};
 ghost use Rattle.fuse_spec.specs.Copies.{remounted};
-ghost use Rattle.fs_server.specs.Effects.{Settles, HasNoCopy, is_of_copy, performing_refusal, or_no_memory, AnswersHeld, PerformsHeld};
+ghost use Rattle.fs_server.specs.Effects.{Settles, HasNoCopy, is_of_copy, performing_refusal, or_no_memory, AnswersHeld, PerformsHeld, TakesFrame, RefusesFrame, request_fault, held_for};
+ghost use Rattle.fuse_frames.specs.RequestTies.{body_in};
+ghost use Rattle.fk_wire.specs.Requests.{request_content};
 ghost use Rattle.fs_server.specs.Values.{root_alone, wire_of};
 ghost use Rattle.fuse_spec.specs.Trees.{attributes_of};
 ghost use Rattle.fuse_spec.specs.declared.Refusal.TheVariants.{NoMemory};
@@ -15,7 +17,7 @@ use fk_wire::{Request, RequestBody, read_request};
 use fuse_frames::ReplyCopy;
 use fuse_spec::{Attributes, Kind, Refusal, ReplyResult, Taken, Validity};
 use fuse_tables::Table;
-use std::alloc::{Allocator, Global};
+use std::alloc::{AllocError, Allocator, Global};
 use std::marker::Model;
 use thiserror::Error;
 
@@ -115,35 +117,53 @@ impl<A: Allocator + Copy> Server<A> {
     /// The first of `Wire`, `UnknownNode`, `RepeatedUnique` and `Memory` that applies; the server is as before.
     /// For now INIT, LOOKUP and GETATTR alone are served.
     pub fn take(&mut self, bytes: &[u8]) -> Result<(u64, Taken), ServerFault>
-        ensures { OnErr result (self.new ≡ self.old) }
+        ensures refused { OnErr result (self.new ≡ self.old) }
+        ensures effect { MatchResult result (λ taken. TakesFrame self.old bytes.now taken.0 taken.1 self.new) (RefusesFrame self.old bytes.now) }
     {
         let Ok(request) = read_request(bytes) else {
             return Err(ServerFault::Wire);
         };
-        if !is_served(&request) {
-            return Err(ServerFault::Wire);
-        }
-        if request.nodeid != ROOT && !matches!(request.body, RequestBody::Init { .. }) {
-            return Err(ServerFault::UnknownNode);
+        if let Some(fault) = self.request_fault(&request) {
+            return Err(fault);
         }
         let unique = request.unique;
-        if self.held.get(unique).is_some() || self.kept.get(unique).is_some() {
-            return Err(ServerFault::RepeatedUnique);
-        }
         let Ok(()) = self.held.reserve(1) else {
             return Err(ServerFault::Memory);
         };
-        let held = self.held_request(&request)?;
+        let Ok(held) = self.held_request(&request) else {
+            return Err(ServerFault::Memory);
+        };
         self.held.put(unique, held);
         Ok((unique, Taken::Held))
     }
 
-    fn held_request(&self, request: &Request<'_>) -> Result<HeldRequest<A>, ServerFault> {
+    /// What is wrong with a request, want of memory aside.
+    fn request_fault(&self, request: &Request<'_>) -> Option<ServerFault>
+        ensures { result ≡ request_fault self.now request.now.unique (body_in request.now.nodeid (request_content request.now.body)) }
+    {
+        let is_known = match request.body {
+            RequestBody::Init { .. } => true,
+            RequestBody::Lookup { .. } | RequestBody::Getattr => request.nodeid == ROOT,
+            _ => return Some(ServerFault::Wire),
+        };
+        let is_held = self.held.get(request.unique).is_some();
+        if !is_known {
+            return Some(ServerFault::UnknownNode);
+        }
+        if is_held || self.kept.get(request.unique).is_some() {
+            return Some(ServerFault::RepeatedUnique);
+        }
+        None
+    }
+
+    /// What is held for a request that is served.
+    fn held_request(&self, request: &Request<'_>) -> Result<HeldRequest<A>, AllocError>
+        ensures { IfOk result (λ held. held ≡ held_for (request_content request.now.body)) }
+    {
         let body = match request.body {
             RequestBody::Init { flags, .. } => HeldBody::Init { flags },
-            RequestBody::Lookup { name } => match name.to_vec(self.alloc) {
-                Ok(name) => HeldBody::Lookup { name },
-                Err(_) => return Err(ServerFault::Memory),
+            RequestBody::Lookup { name } => HeldBody::Lookup {
+                name: name.to_vec(self.alloc)?,
             },
             _ => HeldBody::Getattr,
         };
@@ -255,14 +275,6 @@ impl<A: Allocator + Copy> Server<A> {
             None => false,
         }
     }
-}
-
-/// Whether a request is one of those that are served so far.
-fn is_served(request: &Request<'_>) -> bool {
-    matches!(
-        request.body,
-        RequestBody::Init { .. } | RequestBody::Lookup { .. } | RequestBody::Getattr
-    )
 }
 
 /// The root's attributes: born first, with one name.
