@@ -1,1 +1,3 @@
 mod Sound
+mod Alone
+mod Frames

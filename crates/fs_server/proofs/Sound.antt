@@ -1,9 +1,9 @@
 -- The server stays sound as requests are taken and performed, and copies are settled.
-use Rattle.std.proofs.Common.{◌≡◌, ◌≢◌, ℕ, ◌+◌, ◌≤◌, ◌<◌, ◌^◌, Bool, true, false, true≢false, Option, Some, None, refl, sym, ap, subst, ◌∙◌, arith, inl, inr}
+use Rattle.std.proofs.Common.{◌≡◌, ◌≢◌, ℕ, ◌+◌, ◌<◌, ◌^◌, true, true≢false, Option, Some, None, sym, ap, subst, ◌∙◌, arith, inl, inr}
 use Rattle.std.specs.Prelude.{is_some}
 use Rattle.std.proofs.lemmas.Bool.{cases_eq}
 use Rattle.fuse_spec.specs.Maps.{Map, get, put, remove}
-use Rattle.fuse_spec.proofs.Tables.{get_put_here, get_put_there, get_gone_here, get_gone_there}
+use Rattle.fuse_spec.proofs.Tables.{get_put_there, get_gone_here, get_gone_there}
 use Rattle.fs_server.specs.Effects.{IsSound}
 
 gone_none : {V : Type 0} (m : Map V) (k q : ℕ) → get m q ≡ None → get (remove m k) q ≡ None

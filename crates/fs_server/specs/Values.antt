@@ -1,10 +1,9 @@
 -- What contracts see of the server's parts.
-use Rattle.std.specs.Prelude.{ℕ, List, [], ◌∷◌, false}
+use Rattle.std.specs.Prelude.{ℕ, List, [], ◌∷◌}
 use Rattle.fuse_spec.specs.Operations as operation
 use Rattle.fuse_spec.specs.Messages.{RequestBody, WireReply, init, asks}
 use Rattle.fuse_spec.specs.Trees.{Tree, a_directory}
 use Rattle.fuse_spec.specs.Nodes.{NodeTable, HandleTable}
-use Rattle.fuse_spec.specs.Server as server
 use Rattle.fs_server.specs.declared.held.HeldBody.{HeldBody}
 use Rattle.fs_server.specs.declared.held.HeldBody.TheVariants.{Init, Lookup, Getattr}
 use Rattle.fs_server.specs.declared.held.SentReply.{SentReply}

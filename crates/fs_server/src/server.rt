@@ -1,17 +1,23 @@
 //! The server.
 
-ghost use Rattle.std.specs.Prelude.{◌≡◌, ◌≢◌, ◌<◌, ◌≤◌, ◌^◌, OnErr};
+ghost use Rattle.std.specs.Prelude.{◌≡◌, ◌≢◌, ◌<◌, ◌≤◌, ◌^◌, OnErr, IfOk, IfErr, MatchResult};
 ghost use Rattle.fuse_spec.specs.Maps.{get};
 ghost use Rattle.fuse_spec.specs.Numbers.{max_validity};
 ghost use Rattle.fuse_spec.specs.Worlds.{first_server};
 ghost use Rattle.fuse_spec.specs.Copies.{remounted};
+ghost use Rattle.fs_server.specs.Effects.{Settles, HasNoCopy, is_of_copy, performing_refusal, or_no_memory, AnswersHeld, PerformsHeld, TakesFrame, RefusesFrame, request_fault, held_for};
+ghost use Rattle.fuse_frames.specs.RequestTies.{body_in};
+ghost use Rattle.fk_wire.specs.Requests.{request_content};
+ghost use Rattle.fs_server.specs.Values.{root_alone, wire_of};
+ghost use Rattle.fuse_spec.specs.Trees.{attributes_of};
+ghost use Rattle.fuse_spec.specs.declared.Refusal.TheVariants.{NoMemory};
 
 use crate::held::{HeldBody, HeldRequest, KeptReply, SentCopy, SentReply};
 use fk_wire::{Request, RequestBody, read_request};
 use fuse_frames::ReplyCopy;
 use fuse_spec::{Attributes, Kind, Refusal, ReplyResult, Taken, Validity};
 use fuse_tables::Table;
-use std::alloc::{Allocator, Global};
+use std::alloc::{AllocError, Allocator, Global};
 use std::marker::Model;
 use thiserror::Error;
 
@@ -111,35 +117,53 @@ impl<A: Allocator + Copy> Server<A> {
     /// The first of `Wire`, `UnknownNode`, `RepeatedUnique` and `Memory` that applies; the server is as before.
     /// For now INIT, LOOKUP and GETATTR alone are served.
     pub fn take(&mut self, bytes: &[u8]) -> Result<(u64, Taken), ServerFault>
-        ensures { OnErr result (self.new ≡ self.old) }
+        ensures refused { OnErr result (self.new ≡ self.old) }
+        ensures effect { MatchResult result (λ taken. TakesFrame self.old bytes.now taken.0 taken.1 self.new) (RefusesFrame self.old bytes.now) }
     {
         let Ok(request) = read_request(bytes) else {
             return Err(ServerFault::Wire);
         };
-        if !is_served(&request) {
-            return Err(ServerFault::Wire);
-        }
-        if request.nodeid != ROOT && !matches!(request.body, RequestBody::Init { .. }) {
-            return Err(ServerFault::UnknownNode);
+        if let Some(fault) = self.request_fault(&request) {
+            return Err(fault);
         }
         let unique = request.unique;
-        if self.held.get(unique).is_some() || self.kept.get(unique).is_some() {
-            return Err(ServerFault::RepeatedUnique);
-        }
         let Ok(()) = self.held.reserve(1) else {
             return Err(ServerFault::Memory);
         };
-        let held = self.held_request(&request)?;
+        let Ok(held) = self.held_request(&request) else {
+            return Err(ServerFault::Memory);
+        };
         self.held.put(unique, held);
         Ok((unique, Taken::Held))
     }
 
-    fn held_request(&self, request: &Request<'_>) -> Result<HeldRequest<A>, ServerFault> {
+    /// What is wrong with a request, want of memory aside.
+    fn request_fault(&self, request: &Request<'_>) -> Option<ServerFault>
+        ensures { result ≡ request_fault self.now request.now.unique (body_in request.now.nodeid (request_content request.now.body)) }
+    {
+        let is_known = match request.body {
+            RequestBody::Init { .. } => true,
+            RequestBody::Lookup { .. } | RequestBody::Getattr => request.nodeid == ROOT,
+            _ => return Some(ServerFault::Wire),
+        };
+        let is_held = self.held.get(request.unique).is_some();
+        if !is_known {
+            return Some(ServerFault::UnknownNode);
+        }
+        if is_held || self.kept.get(request.unique).is_some() {
+            return Some(ServerFault::RepeatedUnique);
+        }
+        None
+    }
+
+    /// What is held for a request that is served.
+    fn held_request(&self, request: &Request<'_>) -> Result<HeldRequest<A>, AllocError>
+        ensures { IfOk result (λ held. held ≡ held_for (request_content request.now.body)) }
+    {
         let body = match request.body {
             RequestBody::Init { flags, .. } => HeldBody::Init { flags },
-            RequestBody::Lookup { name } => match name.to_vec(self.alloc) {
-                Ok(name) => HeldBody::Lookup { name },
-                Err(_) => return Err(ServerFault::Memory),
+            RequestBody::Lookup { name } => HeldBody::Lookup {
+                name: name.to_vec(self.alloc)?,
             },
             _ => HeldBody::Getattr,
         };
@@ -148,7 +172,8 @@ impl<A: Allocator + Copy> Server<A> {
 
     /// Why a request cannot be performed, want of memory aside.
     pub fn perform_refusal(&self, unique: u64) -> Option<Refusal>
-        ensures { result ≡ None → (self.now.next_copy < 2 ^ 62) × (get self.now.held unique ≢ None) }
+        ensures exact { result ≡ performing_refusal self.now unique }
+        ensures none { result ≡ None → (self.now.next_copy < 2 ^ 62) × (get self.now.held unique ≢ None) }
     {
         if self.held.get(unique).is_none() {
             return Some(Refusal::NoSuch);
@@ -166,7 +191,8 @@ impl<A: Allocator + Copy> Server<A> {
     /// `NoSuch` where no request is held under the unique, `Exhausted` where no copy number is left; then `NoMemory`.
     /// The server is as before.
     pub fn perform(&mut self, unique: u64) -> Result<Done<A>, Refusal>
-        ensures { OnErr result (self.new ≡ self.old) }
+        ensures refused { OnErr result (self.new ≡ self.old) }
+        ensures effect { MatchResult result (λ done. PerformsHeld self.old unique done.errno done.copy self.new) (λ refusal. refusal ≡ or_no_memory (performing_refusal self.old unique)) }
     {
         if let Some(refusal) = self.perform_refusal(unique) {
             return Err(refusal);
@@ -188,7 +214,11 @@ impl<A: Allocator + Copy> Server<A> {
     }
 
     /// The reply to a held request. In a tree that is the root alone each name is missing.
-    fn reply(&self, unique: u64, number: u64) -> Result<(SentReply, ReplyCopy<A>), Refusal> {
+    fn reply(&self, unique: u64, number: u64) -> Result<(SentReply, ReplyCopy<A>), Refusal>
+        ensures answer { IfOk result (λ r. AnswersHeld self.now unique (wire_of r.0)) }
+        ensures copy { IfOk result (λ r. r.1 ≡ record { number = number; unique = unique; wire = wire_of r.0 }) }
+        ensures refused { get self.now.held unique ≢ None → IfErr result (λ refusal. refusal ≡ NoMemory) }
+    {
         let Some(held) = self.held.get(unique) else {
             return Err(Refusal::NoSuch);
         };
@@ -224,7 +254,8 @@ impl<A: Allocator + Copy> Server<A> {
     ///
     /// `NoSuch` where no copy of this number was sent, or it is settled already; the server is as before.
     pub fn settle(&mut self, settled: ReplyResult) -> Result<(), Refusal>
-        ensures { OnErr result (self.new ≡ self.old) }
+        ensures refused { OnErr result (self.new ≡ self.old) }
+        ensures effect { MatchResult result (λ _. Settles self.old settled self.new) (HasNoCopy self.old settled) }
     {
         let Some(copy) = self.copies.remove(settled.number) else {
             return Err(Refusal::NoSuch);
@@ -236,7 +267,9 @@ impl<A: Allocator + Copy> Server<A> {
     }
 
     /// Whether the reply under a unique is kept, and its first copy has this number.
-    fn keeps_first(&self, unique: u64, first: u64) -> bool {
+    fn keeps_first(&self, unique: u64, first: u64) -> bool
+        ensures { result ≡ is_of_copy (get self.now.kept unique) first }
+    {
         match self.kept.get(unique) {
             Some(kept) => kept.first() == first,
             None => false,
@@ -244,16 +277,10 @@ impl<A: Allocator + Copy> Server<A> {
     }
 }
 
-/// Whether a request is one of those that are served so far.
-fn is_served(request: &Request<'_>) -> bool {
-    matches!(
-        request.body,
-        RequestBody::Init { .. } | RequestBody::Lookup { .. } | RequestBody::Getattr
-    )
-}
-
 /// The root's attributes: born first, with one name.
-fn root_attributes() -> Attributes {
+fn root_attributes() -> Attributes
+    ensures { result ≡ attributes_of root_alone 0 }
+{
     Attributes {
         kind: Kind::Directory,
         ino: 1,

@@ -8,8 +8,8 @@ invariant_of-self g c =
     let s = c.self.inside in
     rw c.remove.ensures.entries (sound_settled s.held.entries s.kept.entries s.copies.entries s.next_copy s.validity.missing_ms c.self.invariant c.args.settled.number)
 
-pub returns-in_default : goal.returns-in_default
-returns-in_default g c =
+pub returns-in_default-clause-refused : goal.returns-in_default-clause-refused
+returns-in_default-clause-refused g c =
     let s = c.self.inside in
     rw (← c.self.view_is, c.remove.ensures.entries, absent_is s.copies.entries c.args.settled.number (sym c.remove.ensures.value ∙ c.in_default.is)) refl
 
