@@ -1,4 +1,4 @@
--- A server whose tree is the root alone, with no node and no open number given: what the held requests are answered.
+-- A server whose tree is the root alone, with no node and no open number given: what its held requests are answered.
 use Rattle.std.proofs.Common.{◌≡◌, ℕ, false, List, [], ◌∷◌, Some, refl, ap, ◌∙◌}
 use Rattle.fuse_spec.specs.Maps.{Map, get, remove}
 use Rattle.fuse_spec.specs.Operations as operation

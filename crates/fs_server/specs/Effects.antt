@@ -1,4 +1,4 @@
--- What the server does with any frame that it is given.
+-- What each call of the server does, and what it is refused for.
 use Rattle.std.specs.Prelude.{◌≡◌, ◌≢◌, ◌≤◌, ◌^◌, ℕ, Bool, true, false, cond, nat_eq, nat_lt, is_some, List, [], ◌∷◌, Option, Some, None}
 use Rattle.fuse_spec.specs.Maps.{Map, get, remove}
 use Rattle.fuse_spec.specs.Numbers.{max_validity, counter_end}
