@@ -1,5 +1,5 @@
 -- A head in which a fault was found is none.
-use Rattle.std.proofs.Common.{◌≡◌, arith}
+use Rattle.std.proofs.Common.{arith}
 use Rattle.std.specs.Prelude.{ℕ, List}
 use Rattle.fk_wire.specs.declared.fault.WireFault.{WireFault}
 use Rattle.fk_wire.specs.declared.fault.WireFault.TheVariants as faults

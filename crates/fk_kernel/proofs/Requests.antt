@@ -12,7 +12,7 @@ use Rattle.fuse_spec.specs.declared.Purpose.{Purpose}
 use Rattle.fuse_spec.specs.declared.Purpose.TheVariants.{Init, Release, Call}
 use Rattle.fuse_spec.specs.declared.QueuedRequest.{QueuedRequest}
 use Rattle.fuse_spec.specs.Queues.{QueueState, pending, is_interrupted, is_unread}
-use Rattle.fuse_spec.specs.QueueCalls.{after_enqueue, pending_at, set_mark, after_reading, after_read_pending, waiting, without, after_answer, with_interrupt, after_interrupt_reply}
+use Rattle.fuse_spec.specs.QueueCalls.{after_enqueue, pending_at, set_mark, after_reading, after_read_pending, waiting, after_answer, with_interrupt, after_interrupt_reply}
 use Rattle.fuse_spec.proofs.QueueReadings.{after_interrupt_reply-again}
 use Rattle.fk_kernel.specs.Soundness.{IsNoRelease}
 

@@ -1,24 +1,20 @@
 -- A reply that was read says its body, or its error number alone.
-use Rattle.std.proofs.Common.{◌≡◌, ◌≢◌, ◌≤◌, ◌+◌, ℕ, zero, suc, Bool, true, false, if◌then◌else◌, inl, inr, arith, List, Option, Some, Result, Ok, Err, refl, sym, ap, ◌∙◌}
-use Rattle.std.specs.Prelude.{ℤ, pos, negsuc, unsigned_abs, IfOk, IsOkAnd}
+use Rattle.std.proofs.Common.{◌≡◌, ◌≢◌, ℕ, Bool, if◌then◌else◌, inl, inr, List, Result, Err, refl, sym, ap, ◌∙◌}
+use Rattle.std.specs.Prelude.{ℤ, pos, IsOkAnd}
 use Rattle.std.specs.Int.{w32, cast_unsigned, cast_signed}
 use Rattle.std.proofs.lemmas.Int.{to_z-of_z}
 use Rattle.fk_wire.proofs.OneReply.{error_fits}
 use Rattle.fk_wire.specs.declared.fault.WireFault.{WireFault}
 use Rattle.fk_wire.specs.declared.opcode.Opcode.{Opcode}
-use Rattle.fk_wire.specs.declared.opcode.Opcode.TheVariants as op
-use Rattle.fk_wire.specs.declared.entry.Attr.{Attr}
 use Rattle.fk_wire.specs.declared.entry.Entry.{Entry}
 use Rattle.fk_wire.specs.declared.reply.Reply.{Reply}
 use Rattle.fk_wire.specs.declared.reply.ReplyBody.{ReplyBody}
 use Rattle.fk_wire.specs.declared.reply.ReplyBody.TheVariants as view
 use Rattle.fk_wire.specs.Entries.{EntryContent, missing, found, entry_content}
-use Rattle.fk_wire.specs.Replies.{ReplyContent, entry_reply, ReplyMessage, reply_content, reply_message, SpellsReply, IsErrorNumber}
+use Rattle.fk_wire.specs.Replies.{entry_reply, ReplyMessage, reply_content, reply_message, SpellsReply, IsErrorNumber}
 use Rattle.fuse_spec.specs.Operations as reply
 use Rattle.fuse_spec.specs.Messages.{WireReply}
 use Rattle.fuse_frames.specs.ReplyTies.{wire_said, wire_body, entry_in, milliseconds}
-use Rattle.fuse_spec.specs.declared.Entry.{Entry as FuseEntry}
-use Rattle.fuse_spec.specs.Numbers.{max_validity}
 use Rattle.std.proofs.lemmas.Bool.Decides.{eqb_tells}
 use Rattle.fuse_frames.proofs.ReplyLemmas.{one_reply}
 use Rattle.fk_kernel.specs.Said.{Says, SaysNothing}

@@ -1,5 +1,5 @@
 -- How a call of `stat` begins where no name in force leads to a file.
-use Rattle.std.proofs.Common.{◌≡◌, ◌≢◌, ℕ, ◌+◌, Bool, true, false, cond, List, [], ◌∷◌, Option, Some, None, Result, Ok, Err, nat_lt, refl, ap, sym, subst, ◌∙◌}
+use Rattle.std.proofs.Common.{◌≡◌, ◌≢◌, ℕ, Bool, true, false, cond, List, [], ◌∷◌, Option, Some, None, Result, Ok, Err, nat_lt, refl, ap, sym, subst, ◌∙◌}
 use Rattle.std.specs.Prelude.{OnOk, OnErr}
 use Rattle.std.specs.Ordering.{eq_by_cmp}
 use Rattle.fuse_spec.proofs.Tables.{name_put}
@@ -13,7 +13,6 @@ use Rattle.fuse_spec.specs.Walks.{go, after_stop, last, stat, unknown, missing}
 use Rattle.fuse_spec.specs.Operations.{getattr}
 use Rattle.fuse_spec.specs.Begins.{faulty, sets_out}
 use Rattle.fuse_spec.specs.Vfs.{doing, Vfs, Advance, valid_at, look, numbered, begun, asking, no_more, answered, after_walk, after_beginning}
-use Rattle.fk_kernel.specs.declared.bindings.Found.{Found}
 use Rattle.fk_kernel.specs.declared.bindings.Found.TheVariants.{Node, Missing, Unknown}
 use Rattle.fk_kernel.specs.Bound.{found_of}
 use Rattle.fk_kernel.specs.Soundness.{LeadNowhere}

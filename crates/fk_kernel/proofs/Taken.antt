@@ -1,23 +1,19 @@
 -- What becomes of a reply to a call, put together from its cases.
-use Rattle.std.proofs.Common.{◌≡◌, ◌≢◌, ℕ, ◌-◌, ◌%◌, Bool, true, false, cond, List, [], ◌∷◌, Option, Some, None, Result, Ok, Err, nat_eq, refl, ap, sym, subst, ◌∙◌, inl, inr}
+use Rattle.std.proofs.Common.{◌≡◌, ◌≢◌, ℕ, ◌-◌, ◌%◌, Bool, true, false, cond, List, Option, Some, None, Result, Ok, Err, nat_eq, ap, sym, subst, ◌∙◌, inl, inr}
 use Rattle.std.specs.Prelude.{IfOk}
 use Rattle.std.proofs.lemmas.Bool.Decides.{eqb_tells}
 use Rattle.fuse_spec.specs.declared.Refusal.{Refusal}
-use Rattle.fk_wire.specs.declared.opcode.Opcode.{Opcode}
 use Rattle.fk_wire.specs.declared.opcode.Opcode.TheVariants as op
 use Rattle.fuse_spec.specs.declared.Entry.{Entry}
 use Rattle.fuse_spec.specs.declared.Purpose.{Purpose}
-use Rattle.fuse_spec.specs.declared.Purpose.TheVariants.{Call}
 use Rattle.fuse_spec.specs.declared.WriteResult.{WriteResult}
 use Rattle.fuse_spec.specs.declared.WriteResult.TheVariants.{Accepted, Invalid}
 use Rattle.fuse_spec.specs.Kernel.{Kernel}
-use Rattle.fuse_spec.specs.Maps.{get}
 use Rattle.fuse_spec.specs.Messages.{WireReply}
 use Rattle.fuse_spec.specs.Operations as reply
-use Rattle.fuse_spec.specs.Paths.{Name}
 use Rattle.fuse_spec.specs.QueueCalls.{waiting, without}
 use Rattle.fuse_spec.specs.Replies.{reply_written}
-use Rattle.fk_kernel.specs.Said.{Says, SaysNothing, Awaited, nothing, gone, reply_to, awaited, awaited_by, awaited_by_interrupt, awaited_by_call, wrong_body, IsTakenByCall}
+use Rattle.fk_kernel.specs.Said.{Says, SaysNothing, Awaited, nothing, gone, reply_to, awaited, awaited_by, awaited_by_interrupt, wrong_body, IsTakenByCall}
 
 -- A reply that no call awaits is none of these.
 abbrev IsOfNoCall : Awaited → Type 0

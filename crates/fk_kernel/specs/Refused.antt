@@ -1,5 +1,5 @@
 -- Which refusal each call of the kernel gets. The refusals stand in the order in which they are judged; want of memory comes last.
-use Rattle.std.specs.Prelude.{◌≡◌, ℕ, ◌+◌, Bool, ◌||◌, cond, not, Option, Some, None, length, nat_eq, nat_lt, nat_le}
+use Rattle.std.specs.Prelude.{◌≡◌, ℕ, Bool, ◌||◌, cond, not, Option, Some, None, length, nat_eq, nat_lt, nat_le}
 use Rattle.fuse_spec.specs.Numbers.{max_calls, counter_end}
 use Rattle.fuse_spec.specs.Calls.{Call}
 use Rattle.fuse_spec.specs.Kernel.{Kernel, is_live, body_of, call_begun}

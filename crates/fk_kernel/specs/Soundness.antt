@@ -1,5 +1,5 @@
 -- What is true of the kernel after each event.
-use Rattle.std.specs.Prelude.{◌≡◌, ◌≢◌, ◌≤◌, ◌<◌, ◌^◌, ℕ, false, List, [], All, Option, Some, None, length}
+use Rattle.std.specs.Prelude.{◌≡◌, ◌≢◌, ◌≤◌, ◌<◌, ◌^◌, ℕ, false, [], All, Some, None, length}
 use Rattle.fuse_spec.specs.Maps.{Map, get, NameMap, get_name}
 use Rattle.fuse_spec.specs.Numbers.{clock_end}
 use Rattle.fuse_spec.specs.Paths.{Name}

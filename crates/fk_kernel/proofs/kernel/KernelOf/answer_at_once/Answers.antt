@@ -1,10 +1,9 @@
-use Rattle.std.proofs.Common.{rules, ◌≡◌, ◌≢◌, ◌<◌, ap, drop, take, sym, ◌∙◌, refl, length, length-drop, List, ◌∷◌, Ok, [], arith}
+use Rattle.std.proofs.Common.{◌≡◌, ◌≢◌, ◌<◌, ap, drop, take, sym, ◌∙◌, refl, length, length-drop, ◌∷◌, Ok, arith}
 use Rattle.fuse_spec.specs.Maps.{get_name}
 use Rattle.fuse_spec.specs.Paths.{words_of}
 use Rattle.fuse_spec.specs.Vfs.{valid_at}
 use Rattle.fk_kernel.specs.Bound.{found_of}
 use Rattle.fk_kernel.specs.declared.bindings.Found.TheVariants.{Missing}
-use Rattle.fk_kernel.specs.Values.{words_in}
 use Rattle.fk_kernel.proofs.Words.{left_behind, looked_up, words_behind}
 use Rattle.fk_kernel.proofs.Stats.{looks_up, finds_none}
 use Rattle.fk_kernel.proofs.kernel.KernelOf.answer_at_once.Goals as goal

@@ -1,4 +1,4 @@
-use Rattle.std.proofs.Common.{length, ◌≤◌, ◌<◌, ◌+◌, ◌≡◌, true, false, true≢false, sym, ap, ◌∙◌, arith}
+use Rattle.std.proofs.Common.{length, ◌≤◌, ◌<◌, ◌+◌, ◌≡◌, true, false, true≢false, sym, ◌∙◌, arith}
 use Rattle.fuse_spec.specs.Kernel.{is_aborted}
 use Rattle.fuse_spec.specs.Steps.{is_ready}
 use Rattle.fk_kernel.proofs.Phases.{live_if}

@@ -1,5 +1,5 @@
-use Rattle.std.proofs.Common.{rules, refl, sym, ap, ◌∙◌, ◌≡◌, Some, None, ℕ, arith, ◌≤◌, ◌+◌, Bool, if◌then◌else◌, true, false}
-use Rattle.std.specs.Prelude.{is_some, option_map, slice_get}
+use Rattle.std.proofs.Common.{refl, sym, ◌∙◌, Some, None}
+use Rattle.std.specs.Prelude.{is_some}
 use Rattle.fk_kernel.proofs.Sound.{sound_collected, more_room, gone_absent, first_found}
 use Rattle.fk_kernel.proofs.kernel.KernelOf.collect.Goals as goal
 

@@ -1,6 +1,5 @@
-use Rattle.std.proofs.Common.{◌≡◌, true, Some, sym, ap, ◌∙◌}
+use Rattle.std.proofs.Common.{ap}
 use Rattle.std.specs.Prelude.{is_some}
-use Rattle.fk_kernel.specs.Said.{SaysToLookup}
 use Rattle.fk_kernel.proofs.kernel.KernelOf.write_to_lookup.Goals as goal
 
 pub returns-in_default-clause-failed : goal.returns-in_default-clause-failed
