@@ -22,6 +22,7 @@ pub mod Ending
 pub mod Writing
 pub mod Dropping
 pub mod Carrying
+pub mod Narrowing
 pub mod Giving
 pub mod Sweeping
 pub mod SendingAgain
