@@ -35,6 +35,7 @@ pub mod Accepting
 pub mod Noting
 pub mod Signalling
 pub mod Forgetting
+pub mod Evicting
 pub mod Declining
 pub mod AcceptingEintr
 pub mod Marking

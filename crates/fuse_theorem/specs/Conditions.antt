@@ -12,7 +12,8 @@ use Rattle.fuse_spec.specs.Vfs.{CallState, asked}
 use Rattle.fuse_spec.specs.Queues.{pending, request_under, is_unread}
 use Rattle.fuse_spec.specs.Messages.{Request, asks, interrupt, WireReply}
 use Rattle.fuse_spec.specs.Nodes.{NodeTable, HandleTable, is_open}
-use Rattle.fuse_spec.specs.Server.{Server, HeldRequest, Kept}
+use Rattle.std.specs.List.{list_any}
+use Rattle.fuse_spec.specs.Server.{Server, HeldRequest, Kept, nodes_of_body}
 use Rattle.fuse_spec.specs.Replies.{goes_with, usable, use_of_all}
 use Rattle.fuse_spec.specs.Performs.{is_still_held}
 use Rattle.fuse_spec.specs.Worlds.{World, Sent}
@@ -112,3 +113,7 @@ pub record IsInterrupt (w : World) (p : Plain) (k : ℕ) (r : Request) (original
   pub number : r.unique ≡ original + 1
   pub noted : (ask : Ask) → get p.asks original ≡ Some ask → ask.noted ≡ true
   pub once : unperformed w original ≤ 1
+
+-- No request on the link names the node.
+abbrev pub IsUnsent : World → ℕ → Type 0
+IsUnsent w node = All (λ (r : Request). list_any (nat_eq node) (nodes_of_body r.body) ≡ false) w.requests

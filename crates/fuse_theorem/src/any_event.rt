@@ -20,6 +20,7 @@ ghost use Rattle.fuse_spec.specs.Denotes.{MeansIn};
 ghost use Rattle.fuse_spec.specs.Alike.{Alike};
 ghost use Rattle.std.specs.Prelude.{◌++◌, [], ◌∷◌};
 ghost use Rattle.fuse_spec.specs.declared.Binding.{Binding};
+ghost use Rattle.fuse_spec.specs.declared.Counted.{Counted};
 ghost use Rattle.fuse_spec.specs.declared.Opened.{Opened};
 ghost use Rattle.fuse_spec.specs.declared.WriteResult.TheVariants.{Accepted};
 ghost use Rattle.fuse_spec.specs.Maps.{get_name};
@@ -27,8 +28,8 @@ ghost use Rattle.fuse_spec.specs.Paths.{Name};
 ghost use Rattle.fuse_spec.specs.Operations.{Operation, Reply, errno_of, files_in_reply};
 ghost use Rattle.fuse_spec.specs.FileOperations.{reply_by};
 ghost use Rattle.fuse_spec.specs.Vfs.{CallState};
-ghost use Rattle.std.specs.Prelude.{Bool, List};
-ghost use Rattle.fuse_spec.specs.Kernel.{is_live, call_signalled};
+ghost use Rattle.std.specs.Prelude.{Bool, List, false};
+ghost use Rattle.fuse_spec.specs.Kernel.{is_live, is_pinned, is_bound, call_signalled};
 ghost use Rattle.fuse_spec.specs.QueueCalls.{without as without_request};
 ghost use Rattle.fuse_spec.specs.Nodes.{MayChoose};
 ghost use Rattle.fuse_spec.specs.Plain.{Ask};
@@ -36,13 +37,13 @@ ghost use Rattle.fuse_spec.specs.Replies.{replied_to_call};
 ghost use Rattle.fuse_spec.specs.Messages.{Forget};
 ghost use Rattle.fuse_spec.specs.Server.{HeldRequest, Kept, all_taken_back, forgetting};
 ghost use Rattle.fuse_spec.specs.Performs.{served};
-ghost use Rattle.fuse_spec.specs.Worlds.{Sent, after_take, after_perform, after_again, after_write, after_drop, after_abort, after_mount};
+ghost use Rattle.fuse_spec.specs.Worlds.{Sent, after_take, after_perform, after_again, after_write, after_drop, after_evict, after_abort, after_mount};
 ghost use Rattle.std.specs.Prelude.{T};
 ghost use Rattle.fuse_spec.specs.Taking.{taking};
 ghost use Rattle.std.specs.Ordering.{nat_cmp};
 ghost use Rattle.std.specs.FinMap.{is_sorted};
 ghost use Rattle.fuse_theorem.specs.Numbering.{IsNumbered, IsOneToOne};
-ghost use Rattle.fuse_theorem.specs.Conditions.{OneId, KnownAreHeld, TablesSound, CanPerform, CanDecline, IsReply, IsDeclined, UnreadAreUnsent, HoldsAll, IsInterrupt};
+ghost use Rattle.fuse_theorem.specs.Conditions.{OneId, KnownAreHeld, TablesSound, CanPerform, CanDecline, IsReply, IsDeclined, UnreadAreUnsent, HoldsAll, IsInterrupt, IsUnsent};
 
 /// The world before its first mount is alike to the plain world with the root alone.
 pub fn first_worlds()
@@ -131,6 +132,13 @@ pub fn signal()
 pub fn forget()
     ensures { (w : World) (p : Plain) → OneId w.server.nodes → Alike w p → (k : ℕ) (fs : List Forget) → HoldsAll w (all_taken_back w.server.nodes fs) →
         Alike (record w { requests = without w.requests k; server = forgetting w.server fs }) p }
+{}
+
+/// A node goes that no name in force, open file or unanswered call uses, nor a request on the link, and all its lookups are to be forgotten. That
+/// is no step of the plain world.
+pub fn evict()
+    ensures { (w : World) (p : Plain) → Alike w p → (node : ℕ) (counted : Counted) → w.kernel.vfs.root ≡ 1 → is_pinned w.kernel node ≡ false → is_bound w.kernel node ≡ false → IsUnsent w node →
+        Alike (after_evict w node counted) p }
 {}
 
 /// The mount is aborted, where the kernel's root is node 1 and the answers that are not collected stand in rising number.
