@@ -21,53 +21,18 @@ use Rattle.fuse_theorem.specs.Numbering.{IsNumbered}
 use Rattle.fuse_theorem.specs.FirstPath.{OnlyRoot, Goes}
 use Rattle.fuse_theorem.proofs.Accepted.{ok_is}
 use Rattle.fuse_theorem.proofs.FirstServes.{swept_root}
-
--- what is left of a map was there
-left_was : {X : Type 0} (m : Map X) (k q : ℕ) (x : X) → get (maps.remove m k) q ≡ Some x → get m q ≡ Some x
-left_was m k q x at = elim (cases_eq q k) [
-  | inl e ↦ absurd (cc (subst (λ (n : ℕ). get (maps.remove m k) n ≡ Some x) e at, get_gone_here m k))
-  | inr ne ↦ sym (get_gone_there m k q ne) ∙ at
-]
-
--- what is still kept was kept
-kept_was : (kept : Map Kept) (copy : Copy) (o : Option Kept) (q : ℕ) (x : Kept) → get (kept_after kept copy o) q ≡ Some x → get kept q ≡ Some x
-kept_was kept copy None q x at = at
-kept_was kept copy (Some k) q x at = by (nat_eq k.first copy.first) at
-  where
-    by : (b : Bool) → get (cond b (maps.remove kept copy.unique) kept) q ≡ Some x → get kept q ≡ Some x
-    by true at = left_was kept copy.unique q x at
-    by false at = at
+use Rattle.fuse_theorem.proofs.Settling.{left_was, kept_was, kept_fewer_alike}
 
 module _ (w : World) (p : Plain) (numbered : IsNumbered w) (root : OnlyRoot w) (same : Alike w p) (results : List ReplyResult) (kept : Map Kept) (copies : Map Copy)
     (was : (q : ℕ) (x : Kept) → get kept q ≡ Some x → get w.server.kept q ≡ Some x) (copies_were : (n : ℕ) (c : Copy) → get copies n ≡ Some c → get w.server.copies n ≡ Some c) where
   abbrev after : World
   after = record w { results = results; server = record w.server { copies = copies; kept = kept } }
 
-  forgotten_alike : Alike after p
-  forgotten_alike = record {
-    tree = record { names = same.tree.names; next_birth = same.tree.next_birth; next_serial = same.tree.next_serial; files = same.tree.files };
-    vfs = same.vfs;
-    requests = record { pending = same.requests.pending; sent = same.requests.sent; held = same.requests.held };
-    asks = λ live.
-        let old = same.asks live in
-        record {
-          of_calls = λ q state is.
-              let pair = old.of_calls q state is in
-              record { unique = pair.unique; ask = pair.ask; request = pair.request; there = pair.there; by = pair.by; same = pair.same };
-          no_other = old.no_other;
-          signalled = old.signalled;
-          kept = λ u k ask at there. old.kept u k ask (was u k at) there;
-          copies = old.copies;
-        };
-    validity = same.validity;
-    aborted = same.aborted;
-  }
-
   forgotten_goes : (k unique : ℕ) (result : WriteResult) → Goes w p (event.settle k) (event.settled unique result) after
   forgotten_goes k unique result = record {
     plain = p;
     takes = (0, refl);
-    alike = forgotten_alike;
+    alike = kept_fewer_alike w p same results kept copies was;
     numbered = record {
       queues = numbered.queues;
       calls_below = numbered.calls_below;

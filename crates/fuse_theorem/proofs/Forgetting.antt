@@ -28,7 +28,7 @@ use Rattle.fuse_theorem.proofs.Sweeping.{found_any, swept_alike}
 -- ---- a table with fewer lookups
 
 -- the rows of a table, but for one that has fewer lookups or is gone
-less_denotes : (t : NodeTable) (id n : ℕ) (i generation file : ℕ) → Denotes (taken_back t id n) i generation file → Denotes t i generation file
+pub less_denotes : (t : NodeTable) (id n : ℕ) (i generation file : ℕ) → Denotes (taken_back t id n) i generation file → Denotes t i generation file
 less_denotes t id n i generation file d = by (get t.rows id) refl d
   where
     from_row : (rows : Map HeldNode) → ((row : HeldNode) → get rows i ≡ Some row → (old : HeldNode) × (get t.rows i ≡ Some old) × (row.generation ≡ old.generation) × (row.file ≡ old.file))
@@ -75,33 +75,34 @@ all_less_denotes (f ∷ fs) t i generation file d = less_denotes t f.0 f.1 i gen
 
 -- ---- nothing else is held
 
-rows_fewer : (test : HeldNode → Bool) (rows : Map HeldNode) (id n : ℕ) (o : Option HeldNode) → get rows id ≡ o → ((row : HeldNode) → test (record row { count = row.count - n }) ≡ test row) → list_any test (values (rows_less rows id n o)) ≡ true → list_any test (values rows) ≡ true
-rows_fewer test rows id n None at same h = h
-rows_fewer test rows id n (Some row) at same h = by (nat_lt n row.count) h
+-- what passes in a table is in it still where an entry changes, as the test says the same of it, or goes
+pub any_fewer : {X : Type 0} (test : X → Bool) (m : Map X) (k : ℕ) (old new : X) → get m k ≡ Some old → test new ≡ test old → (b : Bool) → list_any test (values (cond b (put m k new) (remove m k))) ≡ true → list_any test (values m) ≡ true
+any_fewer test m k old new at same true h = either (test new) (list_any test (values m)) (any_put_le test m k new h) (λ q. found_any test m k old at (sym same ∙ q))
   where
-    put_any : (a b : Bool) → (a || b) ≡ true → (a ≡ true → b ≡ true) → b ≡ true
-    put_any true b e f = f refl
-    put_any false b e f = e
-
-    gone : (m : Map HeldNode) → list_any test (values (remove m id)) ≡ true → list_any test (values m) ≡ true
+    either : (a b : Bool) → (a || b) ≡ true → (a ≡ true → b ≡ true) → b ≡ true
+    either true b e f = f refl
+    either false b e f = e
+any_fewer {X = X} test m k old new at same false h = gone m h
+  where
+    gone : (n : Map X) → list_any test (values (remove n k)) ≡ true → list_any test (values n) ≡ true
     gone [] e = e
-    gone (x ∷ m) e = cases (nat_eq x.0 id) (test x.1) e (λ k. gone m k)
+    gone (x ∷ n) e = cases (nat_eq x.0 k) e (λ q. gone n q)
       where
-        cases : (b c : Bool) → list_any test (values (cond (not b) (x ∷ remove m id) (remove m id))) ≡ true → (list_any test (values (remove m id)) ≡ true → list_any test (values m) ≡ true) → (test x.1 || list_any test (values m)) ≡ true
-        cases true c e rest = right (test x.1) (rest e)
+        cases : (b : Bool) → list_any test (values (cond (not b) (x ∷ remove n k) (remove n k))) ≡ true → (list_any test (values (remove n k)) ≡ true → list_any test (values n) ≡ true) → (test x.1 || list_any test (values n)) ≡ true
+        cases true e rest = right (test x.1) (rest e)
           where
-            right : (a : Bool) → list_any test (values m) ≡ true → (a || list_any test (values m)) ≡ true
+            right : (a : Bool) → list_any test (values n) ≡ true → (a || list_any test (values n)) ≡ true
             right true q = refl
             right false q = q
-        cases false c e rest = either (test x.1) e rest
+        cases false e rest = either (test x.1) e rest
           where
-            either : (a : Bool) → (a || list_any test (values (remove m id))) ≡ true → (list_any test (values (remove m id)) ≡ true → list_any test (values m) ≡ true) → (a || list_any test (values m)) ≡ true
+            either : (a : Bool) → (a || list_any test (values (remove n k))) ≡ true → (list_any test (values (remove n k)) ≡ true → list_any test (values n) ≡ true) → (a || list_any test (values n)) ≡ true
             either true q f = refl
             either false q f = f q
 
-    by : (b : Bool) → list_any test (values (cond b (put rows id (record row { count = row.count - n })) (remove rows id))) ≡ true → list_any test (values rows) ≡ true
-    by true e = put_any (test (record row { count = row.count - n })) (list_any test (values rows)) (any_put_le test rows id (record row { count = row.count - n }) e) (λ q. found_any test rows id row at (sym (same row) ∙ q))
-    by false e = gone rows e
+pub rows_fewer : (test : HeldNode → Bool) (rows : Map HeldNode) (id n : ℕ) (o : Option HeldNode) → get rows id ≡ o → ((row : HeldNode) → test (record row { count = row.count - n }) ≡ test row) → list_any test (values (rows_less rows id n o)) ≡ true → list_any test (values rows) ≡ true
+rows_fewer test rows id n None at same h = h
+rows_fewer test rows id n (Some row) at same h = any_fewer test rows id row (record row { count = row.count - n }) at (same row) (nat_lt n row.count) h
 
 files_fewer : (file : ℕ) (fs : List Forget) (t : NodeTable) → list_any (λ (row : HeldNode). nat_eq row.file file) (values (all_taken_back t fs).rows) ≡ true → list_any (λ (row : HeldNode). nat_eq row.file file) (values t.rows) ≡ true
 files_fewer file [] t h = h
@@ -111,7 +112,7 @@ files_fewer file (f ∷ fs) t h = rows_fewer (λ (row : HeldNode). nat_eq row.fi
 
 module _ (w : World) (p : Plain) (same : Alike w p) (t : NodeTable) (fewer : (i generation file : ℕ) → Denotes t i generation file → Denotes w.server.nodes i generation file) (one : OneId w.server.nodes) (holds : HoldsAll w t) where
   -- a node that is held still denotes the same file
-  still : (i generation file : ℕ) → (f : ℕ) × Denotes t i generation f → Denotes w.server.nodes i generation file → Denotes t i generation file
+  pub still : (i generation file : ℕ) → (f : ℕ) × Denotes t i generation f → Denotes w.server.nodes i generation file → Denotes t i generation file
   still i generation file there d =
       let same_file = denotes_one w.server.nodes i generation there.0 file (fewer i generation there.0 there.1) d in
       subst (λ (n : ℕ). Denotes t i generation n) same_file there.1
@@ -119,14 +120,14 @@ module _ (w : World) (p : Plain) (same : Alike w p) (t : NodeTable) (fewer : (i 
   one_left : OneId t
   one_left i j g h file d e = one i j g h file (fewer i g file d) (fewer j h file e)
 
-  means : (id file : ℕ) → MeansIn w id file → Means w.kernel.nodes t id file
+  pub means : (id file : ℕ) → MeansIn w id file → Means w.kernel.nodes t id file
   means id file m = record { generation = m.generation; known = m.known; denotes = still id m.generation file (holds.known id m.generation m.known) m.denotes }
 
-  meant : (unique : ℕ) (x : HeldRequest) → get w.server.held unique ≡ Some x → (id file : ℕ) → Meant w.server.nodes x.generations id file → Meant t x.generations id file
+  pub meant : (unique : ℕ) (x : HeldRequest) → get w.server.held unique ≡ Some x → (id file : ℕ) → Meant w.server.nodes x.generations id file → Meant t x.generations id file
   meant unique x at id file m = record { generation = m.generation; then_held = m.then_held; denotes = still id m.generation file (holds.held unique x at id m.generation m.then_held) m.denotes }
 
   -- the request of an ask is unanswered
-  unanswered : is_live w.kernel.phase ≡ true → (unique : ℕ) (ask : Ask) → get p.asks unique ≡ Some ask → request_under w.kernel.queues unique ≢ None
+  pub unanswered : is_live w.kernel.phase ≡ true → (unique : ℕ) (ask : Ask) → get p.asks unique ≡ Some ask → request_under w.kernel.queues unique ≢ None
   unanswered live unique ask at = found_key (λ (e : ℕ × QueuedRequest Purpose). is_for ask.call e.1.kept) w.kernel.queues.requests unique ((same.asks live).no_other unique ask at)
 
   pub carries_fewer : Carries w p w.kernel.nodes t w.server.handles

@@ -36,6 +36,7 @@ pub mod Noting
 pub mod Signalling
 pub mod Forgetting
 pub mod Evicting
+pub mod Settling
 pub mod Declining
 pub mod AcceptingEintr
 pub mod Marking

@@ -7,12 +7,13 @@ use Rattle.fuse_spec.specs.declared.Purpose.TheVariants as purpose
 use Rattle.fuse_spec.specs.declared.QueuedRequest.{QueuedRequest}
 use Rattle.fuse_spec.specs.Maps.{get}
 use Rattle.fuse_spec.specs.Numbers.{eintr}
-use Rattle.fuse_spec.specs.Operations.{Operation, Reply, opening, created, opened, failed, files_in_reply}
+use Rattle.fuse_spec.specs.Operations.{Operation, Reply, opening, created, opened, failed, files_in_reply, opens_in_reply}
 use Rattle.fuse_spec.specs.Vfs.{CallState, asked}
 use Rattle.fuse_spec.specs.Queues.{pending, request_under, is_unread}
 use Rattle.fuse_spec.specs.Messages.{Request, asks, interrupt, WireReply}
 use Rattle.fuse_spec.specs.Nodes.{NodeTable, HandleTable, is_open}
 use Rattle.std.specs.List.{list_any}
+use Rattle.fuse_spec.specs.Counts.{opens_of, opens_of_body}
 use Rattle.fuse_spec.specs.Server.{Server, HeldRequest, Kept, nodes_of_body}
 use Rattle.fuse_spec.specs.Replies.{goes_with, usable, use_of_all}
 use Rattle.fuse_spec.specs.Performs.{is_still_held}
@@ -117,3 +118,17 @@ pub record IsInterrupt (w : World) (p : Plain) (k : ℕ) (r : Request) (original
 -- No request on the link names the node.
 abbrev pub IsUnsent : World → ℕ → Type 0
 IsUnsent w node = All (λ (r : Request). list_any (nat_eq node) (nodes_of_body r.body) ≡ false) w.requests
+
+-- This open number is one of some file.
+abbrev pub IsNumber : HandleTable → ℕ → Type 0
+IsNumber h fh = get h.handles fh ≢ None
+
+-- With this table the server holds the open numbers of the kernel's open files and calls, of the requests on the link and of those that it
+-- holds, and those that copies and kept replies to unanswered requests name.
+pub record HoldsOpens (w : World) (h : HandleTable) : Type 0 where
+  pub opens : (handle : ℕ) (o : Opened) → get w.kernel.vfs.opens handle ≡ Some o → IsNumber h o.fh
+  pub calls : (call : ℕ) (state : CallState Opened) → get w.kernel.vfs.calls call ≡ Some state → (o : Opened) → Contains (opens_of (asked state)) o → IsNumber h o.fh
+  pub sent : All (λ (r : Request). (o : Opened) → Contains (opens_of_body r.body) o → IsNumber h o.fh) w.requests
+  pub held : (unique : ℕ) (x : HeldRequest) → get w.server.held unique ≡ Some x → (o : Opened) → Contains (opens_of_body x.body) o → IsNumber h o.fh
+  pub kept : (unique : ℕ) (k : Kept) → get w.server.kept unique ≡ Some k → request_under w.kernel.queues unique ≢ None → (fh : ℕ) → Contains (opens_in_reply k.wire) fh → IsNumber h fh
+  pub copies : All (λ (s : Sent). request_under w.kernel.queues s.unique ≢ None → (fh : ℕ) → Contains (opens_in_reply s.wire) fh → IsNumber h fh) w.replies

@@ -22,6 +22,7 @@ ghost use Rattle.std.specs.Prelude.{◌++◌, [], ◌∷◌};
 ghost use Rattle.fuse_spec.specs.declared.Binding.{Binding};
 ghost use Rattle.fuse_spec.specs.declared.Counted.{Counted};
 ghost use Rattle.fuse_spec.specs.declared.Opened.{Opened};
+ghost use Rattle.fuse_spec.specs.declared.ReplyResult.{ReplyResult};
 ghost use Rattle.fuse_spec.specs.declared.WriteResult.TheVariants.{Accepted};
 ghost use Rattle.fuse_spec.specs.Maps.{get_name};
 ghost use Rattle.fuse_spec.specs.Paths.{Name};
@@ -35,15 +36,15 @@ ghost use Rattle.fuse_spec.specs.Nodes.{MayChoose};
 ghost use Rattle.fuse_spec.specs.Plain.{Ask};
 ghost use Rattle.fuse_spec.specs.Replies.{replied_to_call};
 ghost use Rattle.fuse_spec.specs.Messages.{Forget};
-ghost use Rattle.fuse_spec.specs.Server.{HeldRequest, Kept, all_taken_back, forgetting};
+ghost use Rattle.fuse_spec.specs.Server.{HeldRequest, Kept, Copy, all_taken_back, forgetting};
 ghost use Rattle.fuse_spec.specs.Performs.{served};
-ghost use Rattle.fuse_spec.specs.Worlds.{Sent, after_take, after_perform, after_again, after_write, after_drop, after_evict, after_abort, after_mount};
+ghost use Rattle.fuse_spec.specs.Worlds.{Sent, after_take, after_perform, after_again, after_write, after_settle, after_drop, after_evict, after_abort, after_mount};
 ghost use Rattle.std.specs.Prelude.{T};
 ghost use Rattle.fuse_spec.specs.Taking.{taking};
 ghost use Rattle.std.specs.Ordering.{nat_cmp};
 ghost use Rattle.std.specs.FinMap.{is_sorted};
 ghost use Rattle.fuse_theorem.specs.Numbering.{IsNumbered, IsOneToOne};
-ghost use Rattle.fuse_theorem.specs.Conditions.{OneId, KnownAreHeld, TablesSound, CanPerform, CanDecline, IsReply, IsDeclined, UnreadAreUnsent, HoldsAll, IsInterrupt, IsUnsent};
+ghost use Rattle.fuse_theorem.specs.Conditions.{OneId, KnownAreHeld, TablesSound, CanPerform, CanDecline, IsReply, IsDeclined, UnreadAreUnsent, HoldsAll, HoldsOpens, IsInterrupt, IsUnsent};
 
 /// The world before its first mount is alike to the plain world with the root alone.
 pub fn first_worlds()
@@ -139,6 +140,14 @@ pub fn forget()
 pub fn evict()
     ensures { (w : World) (p : Plain) → Alike w p → (node : ℕ) (counted : Counted) → w.kernel.vfs.root ≡ 1 → is_pinned w.kernel node ≡ false → is_bound w.kernel node ≡ false → IsUnsent w node →
         Alike (after_evict w node counted) p }
+{}
+
+/// A copy that was sent is settled, and what a refused one carried is given back: where the server holds afterwards what is known, held and on its
+/// way, nodes and open numbers, all is alike. That is no step of the plain world.
+pub fn settle()
+    ensures { (w : World) (p : Plain) → OneId w.server.nodes → Alike w p → (k : ℕ) (result : ReplyResult) (copy : Copy) →
+        HoldsAll (after_settle w k result (Some copy)) (after_settle w k result (Some copy)).server.nodes → HoldsOpens (after_settle w k result (Some copy)) (after_settle w k result (Some copy)).server.handles →
+        Alike (after_settle w k result (Some copy)) p }
 {}
 
 /// The mount is aborted, where the kernel's root is node 1 and the answers that are not collected stand in rising number.
