@@ -41,7 +41,7 @@ number_below s sound u there = by (was_drawn s.next u) refl (sound.requests u)
     by true e le = grind (arith, nat_tests, e)
     by false e le = absurd (omega (arith, le, there))
 
-number_even : (s : QueueState Purpose) → IsSound s → (u : ℕ) → 1 ≤ key_count u s.requests → u % 2 ≡ 0
+pub number_even : (s : QueueState Purpose) → IsSound s → (u : ℕ) → 1 ≤ key_count u s.requests → u % 2 ≡ 0
 number_even s sound u there = by (was_drawn s.next u) refl (sound.requests u)
   where
     by : (b : Bool) → was_drawn s.next u ≡ b → key_count u s.requests ≤ cond b 1 0 → u % 2 ≡ 0

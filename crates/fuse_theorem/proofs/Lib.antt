@@ -37,6 +37,7 @@ pub mod Signalling
 pub mod Forgetting
 pub mod Evicting
 pub mod Settling
+pub mod Unasked
 pub mod Declining
 pub mod AcceptingEintr
 pub mod Marking

@@ -13,7 +13,7 @@ ghost use Rattle.fuse_spec.specs.Server.{holding};
 ghost use Rattle.std.specs.List.{remove as without};
 ghost use Rattle.fuse_spec.specs.Events as event;
 ghost use Rattle.fuse_spec.specs.Steps.{is_ready};
-ghost use Rattle.fuse_spec.specs.Worlds.{World, first_world, after_tick, after_call, after_read_pending};
+ghost use Rattle.fuse_spec.specs.Worlds.{World, first_world, after_tick, after_call, after_read_pending, after_read_interrupt, after_read_forgets};
 ghost use Rattle.fuse_spec.specs.Plain.{Plain, first_plain};
 ghost use Rattle.fuse_spec.specs.PlainSteps.{Takes};
 ghost use Rattle.fuse_spec.specs.Denotes.{MeansIn};
@@ -66,6 +66,16 @@ pub fn call()
 pub fn read_pending()
     ensures { (w : World) (p : Plain) → Alike w p → IsSound w.kernel.queues → (place : ℕ) (e : ℕ × QueuedRequest Purpose) (body : RequestBody) →
         slice_get (pending w.kernel.queues) place ≡ Some e → body_of w.kernel e.1.kept ≡ Some body → Alike (after_read_pending w place e.0 body) p }
+{}
+
+/// The first INTERRUPT of the list is read. That is no step of the plain world.
+pub fn read_interrupt()
+    ensures { (w : World) (p : Plain) → IsSound w.kernel.queues → Alike w p → is_live w.kernel.phase ≡ true → (original : ℕ) → Alike (after_read_interrupt w original) p }
+{}
+
+/// So many forgets are read as one FORGET or BATCH_FORGET. That is no step of the plain world.
+pub fn read_forgets()
+    ensures { (w : World) (p : Plain) → IsSound w.kernel.queues → Alike w p → is_live w.kernel.phase ≡ true → (n : ℕ) (fs : List Forget) → Alike (after_read_forgets w n fs) p }
 {}
 
 /// The server holds any request of the link. That is no step of the plain world.
