@@ -89,7 +89,7 @@ rows_back_files file (g ∷ gs) t h = by (is_held t g.nodeid g.generation) (rows
     by false e = e
 
 -- an open number that is left is one of the same file
-number_back : (t : HandleTable) (q fh : ℕ) (y : OpenNumber) → get (handle_back t q).handles fh ≡ Some y → (x : OpenNumber) × (get t.handles fh ≡ Some x) × (y.file ≡ x.file)
+pub number_back : (t : HandleTable) (q fh : ℕ) (y : OpenNumber) → get (handle_back t q).handles fh ≡ Some y → (x : OpenNumber) × (get t.handles fh ≡ Some x) × (y.file ≡ x.file)
 number_back t q fh y at = by (get t.handles q) refl at
   where
     counted : (x : OpenNumber) (b : Bool) → get t.handles q ≡ Some x → get (cond b (put t.handles q (record x { count = x.count - 1 })) (remove t.handles q)) fh ≡ Some y → (z : OpenNumber) × (get t.handles fh ≡ Some z) × (y.file ≡ z.file)
@@ -112,13 +112,16 @@ numbers_back (q ∷ fhs) t fh y at =
     let x = number_back t q fh z.0 z.1 in
     (x.0, x.1, z.2 ∙ x.2)
 
-handles_back_files : (file : ℕ) (fhs : List ℕ) (t : HandleTable) → list_any (λ (x : OpenNumber). nat_eq x.file file) (values (handles_back t fhs).handles) ≡ true → list_any (λ (x : OpenNumber). nat_eq x.file file) (values t.handles) ≡ true
-handles_back_files file [] t h = h
-handles_back_files file (q ∷ fhs) t h = by (get t.handles q) refl (handles_back_files file fhs (handle_back t q) h)
+pub handle_back_files : (file q : ℕ) (t : HandleTable) → list_any (λ (x : OpenNumber). nat_eq x.file file) (values (handle_back t q).handles) ≡ true → list_any (λ (x : OpenNumber). nat_eq x.file file) (values t.handles) ≡ true
+handle_back_files file q t h = by (get t.handles q) refl h
   where
     by : (o : Option OpenNumber) → get t.handles q ≡ o → list_any (λ (x : OpenNumber). nat_eq x.file file) (values (handles_less t.handles q o)) ≡ true → list_any (λ (x : OpenNumber). nat_eq x.file file) (values t.handles) ≡ true
     by None there e = e
     by (Some x) there e = any_fewer (λ (x : OpenNumber). nat_eq x.file file) t.handles q x (record x { count = x.count - 1 }) there refl (nat_lt 1 x.count) e
+
+handles_back_files : (file : ℕ) (fhs : List ℕ) (t : HandleTable) → list_any (λ (x : OpenNumber). nat_eq x.file file) (values (handles_back t fhs).handles) ≡ true → list_any (λ (x : OpenNumber). nat_eq x.file file) (values t.handles) ≡ true
+handles_back_files file [] t h = h
+handles_back_files file (q ∷ fhs) t h = handle_back_files file q t (handles_back_files file fhs (handle_back t q) h)
 
 -- ---- what is in use is meant still
 

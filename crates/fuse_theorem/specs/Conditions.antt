@@ -10,8 +10,8 @@ use Rattle.fuse_spec.specs.Numbers.{eintr}
 use Rattle.fuse_spec.specs.Operations.{Operation, Reply, opening, created, opened, failed, files_in_reply, opens_in_reply}
 use Rattle.fuse_spec.specs.Vfs.{CallState, asked}
 use Rattle.fuse_spec.specs.Queues.{pending, request_under, is_unread}
-use Rattle.fuse_spec.specs.Messages.{Request, asks, interrupt, WireReply}
-use Rattle.fuse_spec.specs.Nodes.{NodeTable, HandleTable, is_open}
+use Rattle.fuse_spec.specs.Messages.{Request, asks, release, interrupt, WireReply}
+use Rattle.fuse_spec.specs.Nodes.{NodeTable, HandleTable, file_of, is_open}
 use Rattle.std.specs.List.{list_any}
 use Rattle.fuse_spec.specs.Counts.{opens_of, opens_of_body}
 use Rattle.fuse_spec.specs.Server.{Server, HeldRequest, Kept, nodes_of_body}
@@ -61,6 +61,16 @@ pub record CanDecline (w : World) (unique : ℕ) (t : HeldRequest) (operation : 
   pub live : w.server.aborted ≡ false
   pub none_pending : count_by (λ (e : ℕ × QueuedRequest Purpose). nat_eq unique e.0) (pending w.kernel.queues) ≡ 0
   pub none_sent : count_by (λ (r : Request). nat_eq unique r.unique) w.requests ≡ 0
+
+-- A RELEASE that the server can perform: no INTERRUPT marked it, the mount lives, its node is held as it was when it was taken, and its open
+-- number is one of the node's file.
+pub record CanRelease (w : World) (unique : ℕ) (t : HeldRequest) (o : Opened) : Type 0 where
+  pub there : get w.server.held unique ≡ Some t
+  pub body_is : t.body ≡ release o
+  pub unmarked : t.marked ≡ false
+  pub still : is_still_held w.server.nodes t.generations ≡ true
+  pub number : is_open w.server.handles o.fh (file_of w.server.nodes o.nodeid) ≡ true
+  pub live : w.server.aborted ≡ false
 
 -- A copy that replies to the request of an unanswered call, whose ask was performed: it goes with the operation, and its entries can be used.
 pub record IsReply (w : World) (p : Plain) (sent : Sent) (call : ℕ) (state : CallState Opened) (reply : Reply ℕ ℕ) : Type 0 where

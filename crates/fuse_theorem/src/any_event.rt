@@ -2,7 +2,7 @@
 //! are alike again. What each law needs of the world stands as its condition.
 
 ghost use Rattle.std.specs.Prelude.{◌≡◌, ℕ, ◌+◌, Some, All, slice_get, true, None};
-ghost use Rattle.fuse_spec.specs.Maps.{get};
+ghost use Rattle.fuse_spec.specs.Maps.{get, remove};
 ghost use Rattle.fuse_spec.specs.Calls.{Call};
 ghost use Rattle.fuse_spec.specs.declared.Purpose.{Purpose};
 ghost use Rattle.fuse_spec.specs.declared.QueuedRequest.{QueuedRequest};
@@ -32,7 +32,7 @@ ghost use Rattle.fuse_spec.specs.Vfs.{CallState};
 ghost use Rattle.std.specs.Prelude.{Bool, List, false};
 ghost use Rattle.fuse_spec.specs.Kernel.{is_live, is_pinned, is_bound, call_signalled};
 ghost use Rattle.fuse_spec.specs.QueueCalls.{without as without_request};
-ghost use Rattle.fuse_spec.specs.Nodes.{MayChoose};
+ghost use Rattle.fuse_spec.specs.Nodes.{MayChoose, handle_back};
 ghost use Rattle.fuse_spec.specs.Plain.{Ask};
 ghost use Rattle.fuse_spec.specs.Replies.{replied_to_call};
 ghost use Rattle.fuse_spec.specs.Messages.{Forget};
@@ -44,7 +44,7 @@ ghost use Rattle.fuse_spec.specs.Taking.{taking};
 ghost use Rattle.std.specs.Ordering.{nat_cmp};
 ghost use Rattle.std.specs.FinMap.{is_sorted};
 ghost use Rattle.fuse_theorem.specs.Numbering.{IsNumbered, IsOneToOne};
-ghost use Rattle.fuse_theorem.specs.Conditions.{OneId, KnownAreHeld, TablesSound, CanPerform, CanDecline, IsReply, IsDeclined, UnreadAreUnsent, HoldsAll, HoldsOpens, IsInterrupt, IsUnsent};
+ghost use Rattle.fuse_theorem.specs.Conditions.{OneId, KnownAreHeld, TablesSound, CanPerform, CanDecline, CanRelease, IsReply, IsDeclined, UnreadAreUnsent, HoldsAll, HoldsOpens, IsInterrupt, IsUnsent};
 
 /// The world before its first mount is alike to the plain world with the root alone.
 pub fn first_worlds()
@@ -104,6 +104,14 @@ pub fn perform()
 pub fn decline()
     ensures { (w : World) (p : Plain) → Alike w p → (choice : ℕ → ℕ) (unique : ℕ) (t : HeldRequest) (operation : Operation ℕ Opened) → CanDecline w unique t operation →
         (q : Plain) × Takes p (event.perform unique) (event.performed unique (errno_of (served choice w.server unique t).wire) w.server.aborted) q × Alike (after_perform w unique (served choice w.server unique t)) q }
+{}
+
+/// The server performs a RELEASE, where it still holds what is known, held and on its way, nodes and open numbers. That is no step of the plain
+/// world.
+pub fn perform_release()
+    ensures { (w : World) (p : Plain) → OneId w.server.nodes → Alike w p → (choice : ℕ → ℕ) (unique : ℕ) (t : HeldRequest) (o : Opened) → CanRelease w unique t o →
+        HoldsAll (record w { server = record w.server { held = remove w.server.held unique } }) w.server.nodes → HoldsOpens (record w { server = record w.server { held = remove w.server.held unique } }) (handle_back w.server.handles o.fh) →
+        Takes p (event.perform unique) (event.performed unique (errno_of (served choice w.server unique t).wire) w.server.aborted) p × Alike (after_perform w unique (served choice w.server unique t)) p }
 {}
 
 /// One more copy of a kept reply goes out. That is no step of the plain world.
