@@ -100,8 +100,7 @@ module _ (w : World) (p : Plain) (same : Alike w p) where
     open_for (read o offset size) b h = absurd h
     open_for (write o offset bytes) b h = absurd h
 
-module _ (w : World) (p : Plain) (same : Alike w p) (choice : ℕ → ℕ) (unique : ℕ) (t : HeldRequest) (operation : Operation ℕ Opened) (can : CanPerform w unique t operation)
-    (tables : TablesSound w.server) (one : IsOneToOne (MeansIn w)) (known : KnownAreHeld w) where
+module _ (w : World) (p : Plain) (same : Alike w p) (choice : ℕ → ℕ) (unique : ℕ) (t : HeldRequest) (operation : Operation ℕ Opened) (can : CanPerform w unique t operation) where
   pub asked : AskedBy p.asks unique false t.marked (OperationAlike (Meant w.server.nodes t.generations) (MeantOpen w.server.nodes w.server.handles t.generations) operation)
   asked = subst (RequestBodyAsked p.asks unique false t.marked (Meant w.server.nodes t.generations) (MeantOpen w.server.nodes w.server.handles t.generations)) can.body_is (same.requests.held unique t can.there)
 
@@ -148,46 +147,19 @@ module _ (w : World) (p : Plain) (same : Alike w p) (choice : ℕ → ℕ) (uniq
   same_reply : reply_by w.server.validity w.server.tree deed ≡ reply
   same_reply = (λ i. reply_by (same.validity i) (tree_is i) deed) ∙ told_same p.tree w.server.tree.files all_named p.validity deed same_files
 
-  performed_is : performed choice s1 t ≡ record { server = s2; wire = wire2 }
-  performed_is =
+  -- what performing gives, by whether the mount is aborted
+  abbrev Did : Reply ℕ ℕ → Bool → PerformResult
+  Did r aborted = record {
+    server = record s1 { tree = tree2; nodes = cond aborted w.server.nodes (all_given choice w.server.nodes (files_in_reply r)); handles = cond aborted w.server.handles (all_opened w.server.handles (opens_in_reply r)) };
+    wire = cond aborted (failed (errno_of r)) (wire_of choice (all_given choice w.server.nodes (files_in_reply r)) tree2 w.server.handles.next_fh r);
+  }
+
+  performed_is : (aborted : Bool) → w.server.aborted ≡ aborted → performed choice s1 t ≡ Did reply aborted
+  performed_is aborted is =
       ap (λ (b : Bool). cond b (refusing s1 4) (cond (is_still_held w.server.nodes t.generations) (performing choice s1 t.body) (refusing s1 5))) can.unmarked
       ∙ ap (λ (b : Bool). cond b (performing choice s1 t.body) (refusing s1 5)) can.still ∙ ap (performing choice s1) can.body_is
       ∙ ap (λ (b : Bool). cond b (doing choice s1 (file_operation_of w.server.nodes operation)) (refusing s1 9)) (open_for w p same t.generations operation deed asked.same)
-      ∙ ap (doing choice s1) (held_operation w.server.nodes w.server.handles t.generations operation deed asked.same) ∙ ap (λ (r : Reply ℕ ℕ). did r w.server.aborted) same_reply ∙ ap (did reply) can.live
-    where
-      did : Reply ℕ ℕ → Bool → PerformResult
-      did r aborted = record {
-        server = record s1 { tree = tree2; nodes = cond aborted w.server.nodes (all_given choice w.server.nodes (files_in_reply r)); handles = cond aborted w.server.handles (all_opened w.server.handles (opens_in_reply r)) };
-        wire = cond aborted (failed (errno_of r)) (wire_of choice (all_given choice w.server.nodes (files_in_reply r)) tree2 w.server.handles.next_fh r);
-      }
-
-  -- ---- the world afterwards
-
-  abbrev s3 : Server
-  s3 = without_unheld_files s2
-
-  abbrev kept2 : Kept
-  kept2 = record { wire = wire2; first = w.server.next_copy }
-
-  abbrev copies2 : Map Copy
-  copies2 = put w.server.copies w.server.next_copy (record { unique = unique; wire = wire2; first = w.server.next_copy })
-
-  abbrev sent2 : Sent
-  sent2 = record { number = w.server.next_copy; unique = unique; wire = wire2 }
-
-  abbrev after : World
-  after = record w { server = record s3 { kept = put w.server.kept unique kept2; copies = copies2; next_copy = w.server.next_copy + 1 }; replies = w.replies ++ sent2 ∷ [] }
-
-  is_served : after_perform w unique (served choice w.server unique t) ≡ after
-  is_served =
-      ap (λ (d : PerformResult). after_perform w unique (record { server = replying (without_unheld_files d.server) unique d.wire; wire = d.wire })) performed_is
-      ∙ (λ i. worlds.replying (record w {
-        server = record s3 {
-          kept = cond (can.live i) w.server.kept (put w.server.kept unique kept2);
-          copies = cond (can.live i) w.server.copies copies2;
-          next_copy = cond (can.live i) w.server.next_copy (w.server.next_copy + 1);
-        };
-      }) w.server.next_copy unique (cond (can.live i) None (Some wire2)))
+      ∙ ap (doing choice s1) (held_operation w.server.nodes w.server.handles t.generations operation deed asked.same) ∙ ap (λ (r : Reply ℕ ℕ). Did r w.server.aborted) same_reply ∙ ap (Did reply) is
 
   -- ---- the two are alike
 
@@ -218,7 +190,70 @@ module _ (w : World) (p : Plain) (same : Alike w p) (choice : ℕ → ℕ) (uniq
   either S true b q f g = f refl
   either S false b q f g = g q
 
-  module _ (may : MayChoose choice w.server.nodes (files_in_reply reply)) where
+  -- whether a file stands in the plain tree after it, named or held or just made
+  abbrev stood : ℕ → Bool
+  stood file = (is_named p.tree.names file || is_file_held w.server file) || makes_unless p.tree deed file (refusal p.tree deed)
+
+  -- The trees are alike afterwards, where the server holds no other files.
+  trees_alike : (nodes : NodeTable) (handles : HandleTable) → ((file : ℕ) → is_file_held (record s1 { tree = tree2; nodes = nodes; handles = handles }) file ≡ true → stood file ≡ true)
+      → TreeAlike (without_unheld_files (record s1 { tree = tree2; nodes = nodes; handles = handles })) (tree_after p.tree deed)
+  trees_alike nodes handles fewer =
+      let numbers = numbers_same p.tree w.server.tree.files all_named deed same_files in
+      swept_alike (record s1 { tree = tree2; nodes = nodes; handles = handles }) (tree_after p.tree deed) stood (ap (λ (x : Tree). (tree_after x deed).names) tree_is ∙ ap (λ (n : List Named × ℕ × ℕ). n.0) numbers)
+      (ap (λ (x : Tree). (tree_after x deed).next_birth) tree_is ∙ ap (λ (n : List Named × ℕ × ℕ). n.1) numbers) (ap (λ (x : Tree). (tree_after x deed).next_serial) tree_is ∙ ap (λ (n : List Named × ℕ × ℕ). n.2) numbers)
+      (λ file.
+      ap (λ (x : Tree). get (tree_after x deed).files file) tree_is ∙ files_after p.tree w.server.tree.files (λ f. is_file_held w.server f) same.tree.files deed deed_there file
+      ∙ ap (λ (b : Bool). cond b (get (tree_after p.tree deed).files file) None) (sym (absorbed (is_named (tree_after p.tree deed).names file) (stood file) (λ n. named_after p.tree w.server.tree.files (λ f. is_file_held w.server f) same.tree.files deed deed_there file n))))
+      fewer
+    where
+      absorbed : (a b : Bool) → (a ≡ true → b ≡ true) → (a || b) ≡ b
+      absorbed true b f = sym (f refl)
+      absorbed false b f = refl
+
+  -- a file that is held stands
+  held_stood : (file : ℕ) (a b c : Bool) → b ≡ true → ((a || b) || c) ≡ true
+  held_stood file true true c e = refl
+  held_stood file false true c e = refl
+  held_stood file a false c e = absurd (true≢false (sym e))
+
+  -- The plain world takes its step.
+  takes_it : Takes p (event.perform unique) (event.performed unique (errno_of (served choice w.server unique t).wire) w.server.aborted) (ask_performed p unique asked.ask)
+  takes_it =
+      let waits = asked.is_waiting in (
+        0,
+        ap (λ (o : Option Ask). serving p unique o) asked.there ∙ ap (λ (s : Stage). serving_ask p unique asked.ask s) waits.stage
+            ∙ ap (λ (b : Bool). cond b (where_so asked.ask.noted (plain.ask_declined p unique asked.ask)) (Some (ask_performed p unique asked.ask))) (waits.marked_too ∙ can.unmarked),
+      )
+
+  module _ (live : w.server.aborted ≡ false) (tables : TablesSound w.server) (one : IsOneToOne (MeansIn w)) (known : KnownAreHeld w) (may : MayChoose choice w.server.nodes (files_in_reply reply)) where
+    -- ---- in a mount that lives
+
+    abbrev s3 : Server
+    s3 = without_unheld_files s2
+
+    abbrev kept2 : Kept
+    kept2 = record { wire = wire2; first = w.server.next_copy }
+
+    abbrev copies2 : Map Copy
+    copies2 = put w.server.copies w.server.next_copy (record { unique = unique; wire = wire2; first = w.server.next_copy })
+
+    abbrev sent2 : Sent
+    sent2 = record { number = w.server.next_copy; unique = unique; wire = wire2 }
+
+    abbrev after : World
+    after = record w { server = record s3 { kept = put w.server.kept unique kept2; copies = copies2; next_copy = w.server.next_copy + 1 }; replies = w.replies ++ sent2 ∷ [] }
+
+    is_served : after_perform w unique (served choice w.server unique t) ≡ after
+    is_served =
+        ap (λ (d : PerformResult). after_perform w unique (record { server = replying (without_unheld_files d.server) unique d.wire; wire = d.wire })) (performed_is false live)
+        ∙ (λ i. worlds.replying (record w {
+          server = record s3 {
+            kept = cond (live i) w.server.kept (put w.server.kept unique kept2);
+            copies = cond (live i) w.server.copies copies2;
+            next_copy = cond (live i) w.server.next_copy (w.server.next_copy + 1);
+          };
+        }) w.server.next_copy unique (cond (live i) None (Some wire2)))
+
     opens_still : (r : Reply ℕ ℕ) (fh file : ℕ) → is_open w.server.handles fh file ≡ true → is_open (all_opened w.server.handles (opens_in_reply r)) fh file ≡ true
     opens_still (created x v o) fh file h = opened_open w.server.handles o tables.new_number fh file h
     opens_still (opened o) fh file h = opened_open w.server.handles o tables.new_number fh file h
@@ -232,26 +267,9 @@ module _ (w : World) (p : Plain) (same : Alike w p) (choice : ℕ → ℕ) (uniq
     opens_still done fh file h = h
     opens_still (failed e) fh file h = h
 
-    trees_alike : TreeAlike s3 (tree_after p.tree deed)
-    trees_alike =
-        let numbers = numbers_same p.tree w.server.tree.files all_named deed same_files in
-        let stood = λ (file : ℕ). (is_named p.tree.names file || is_file_held w.server file) || makes_unless p.tree deed file (refusal p.tree deed) in
-        swept_alike s2 (tree_after p.tree deed) stood (ap (λ (x : Tree). (tree_after x deed).names) tree_is ∙ ap (λ (n : List Named × ℕ × ℕ). n.0) numbers)
-        (ap (λ (x : Tree). (tree_after x deed).next_birth) tree_is ∙ ap (λ (n : List Named × ℕ × ℕ). n.1) numbers) (ap (λ (x : Tree). (tree_after x deed).next_serial) tree_is ∙ ap (λ (n : List Named × ℕ × ℕ). n.2) numbers)
-        (λ file.
-        ap (λ (x : Tree). get (tree_after x deed).files file) tree_is ∙ files_after p.tree w.server.tree.files (λ f. is_file_held w.server f) same.tree.files deed deed_there file
-        ∙ ap (λ (b : Bool). cond b (get (tree_after p.tree deed).files file) None) (sym (absorbed (is_named (tree_after p.tree deed).names file) (stood file) (λ n. named_after p.tree w.server.tree.files (λ f. is_file_held w.server f) same.tree.files deed deed_there file n))))
-        (λ file h. fewer file h)
+    trees_live : TreeAlike s3 (tree_after p.tree deed)
+    trees_live = trees_alike nodes2 handles2 fewer
       where
-        absorbed : (a b : Bool) → (a ≡ true → b ≡ true) → (a || b) ≡ b
-        absorbed true b f = sym (f refl)
-        absorbed false b f = refl
-
-        held_stood : (file : ℕ) (a b c : Bool) → b ≡ true → ((a || b) || c) ≡ true
-        held_stood file true true c e = refl
-        held_stood file false true c e = refl
-        held_stood file a false c e = absurd (true≢false (sym e))
-
         left_held : (a b : Bool) → a ≡ true → (a || b) ≡ true
         left_held true b e = refl
         left_held false b e = absurd (true≢false (sym e))
@@ -260,17 +278,15 @@ module _ (w : World) (p : Plain) (same : Alike w p) (choice : ℕ → ℕ) (uniq
         right_held true b e = refl
         right_held false b e = e
 
-        fewer : (file : ℕ) → is_file_held s2 file ≡ true → ((is_named p.tree.names file || is_file_held w.server file) || makes_unless p.tree deed file (refusal p.tree deed)) ≡ true
+        fewer : (file : ℕ) → is_file_held s2 file ≡ true → stood file ≡ true
         fewer file h =
             let given = given_stands p.tree w.server.tree.files (λ f. is_file_held w.server f) same.tree.files p.validity deed deed_there in
             let rows = list_any (λ (row : HeldNode). nat_eq row.file file) (values w.server.nodes.rows) in
             let numbers = list_any (λ (x : OpenNumber). nat_eq x.file file) (values w.server.handles.handles) in
             let makes = makes_unless p.tree deed file (refusal p.tree deed) in
-            either (((is_named p.tree.names file || is_file_held w.server file) || makes) ≡ true) (list_any (λ (row : HeldNode). nat_eq row.file file) (values nodes2.rows)) (list_any (λ (x : OpenNumber). nat_eq x.file file) (values handles2.handles)) h
-            (λ q. given_held (λ f. ((is_named p.tree.names f || is_file_held w.server f) || makes_unless p.tree deed f (refusal p.tree deed)) ≡ true) choice (files_in_reply reply) w.server.nodes file given.0 may
-            (λ r. held_stood file (is_named p.tree.names file) (rows || numbers) makes (left_held rows numbers r)) q)
-            (λ q. opened_held (λ f. ((is_named p.tree.names f || is_file_held w.server f) || makes_unless p.tree deed f (refusal p.tree deed)) ≡ true) (opens_in_reply reply) w.server.handles file given.1
-            (λ r. held_stood file (is_named p.tree.names file) (rows || numbers) makes (right_held rows numbers r)) q)
+            either (stood file ≡ true) (list_any (λ (row : HeldNode). nat_eq row.file file) (values nodes2.rows)) (list_any (λ (x : OpenNumber). nat_eq x.file file) (values handles2.handles)) h
+            (λ q. given_held (λ f. stood f ≡ true) choice (files_in_reply reply) w.server.nodes file given.0 may (λ r. held_stood file (is_named p.tree.names file) (rows || numbers) makes (left_held rows numbers r)) q)
+            (λ q. opened_held (λ f. stood f ≡ true) (opens_in_reply reply) w.server.handles file given.1 (λ r. held_stood file (is_named p.tree.names file) (rows || numbers) makes (right_held rows numbers r)) q)
 
     performed_alike : Alike after (ask_performed p unique asked.ask)
     performed_alike =
@@ -278,7 +294,7 @@ module _ (w : World) (p : Plain) (same : Alike w p) (choice : ℕ → ℕ) (uniq
         let now = with_ask p unique new in
         let denotes = λ (id generation file : ℕ) (d : Denotes w.server.nodes id generation file). all_given_denotes choice (files_in_reply reply) w.server.nodes id generation file d in
         let carries = grown w1 now w.kernel.nodes nodes2 handles2 (λ id generation e. e) denotes (opens_still reply) (one_grown w.kernel.nodes w.server.nodes nodes2 known denotes one) in
-        let carried = carried_alike w1 now asked_alike w.kernel.nodes nodes2 handles2 s3.tree (tree_after p.tree deed) carries trees_alike in
+        let carried = carried_alike w1 now asked_alike w.kernel.nodes nodes2 handles2 s3.tree (tree_after p.tree deed) carries trees_live in
         replied_alike (record w1 { server = s3 }) (ask_performed p unique asked.ask) carried unique w.server.next_copy (w.server.next_copy + 1) wire2 kept2 copies2 refl
         (λ alive x at.
         let is_new : new ≡ x = cc (get_put_here p.asks unique new, at) in
@@ -286,13 +302,30 @@ module _ (w : World) (p : Plain) (same : Alike w p) (choice : ℕ → ℕ) (uniq
 
     -- The server performs the request, and the plain world its ask: the two are alike again.
     pub perform_goes : (q : Plain) × Takes p (event.perform unique) (event.performed unique (errno_of (served choice w.server unique t).wire) w.server.aborted) q × Alike (after_perform w unique (served choice w.server unique t)) q
-    perform_goes =
-        let waits = asked.is_waiting in (
-          ask_performed p unique asked.ask,
-          (
-            0,
-            ap (λ (o : Option Ask). serving p unique o) asked.there ∙ ap (λ (s : Stage). serving_ask p unique asked.ask s) waits.stage
-                ∙ ap (λ (b : Bool). cond b (where_so asked.ask.noted (plain.ask_declined p unique asked.ask)) (Some (ask_performed p unique asked.ask))) (waits.marked_too ∙ can.unmarked),
-          ),
-          subst (λ (v : World). Alike v (ask_performed p unique asked.ask)) (sym is_served) performed_alike,
-        )
+    perform_goes = (ask_performed p unique asked.ask, takes_it, subst (λ (v : World). Alike v (ask_performed p unique asked.ask)) (sym is_served) performed_alike)
+
+  -- ---- after an abort: nothing is given, and nothing is replied
+
+  module _ (lost : w.server.aborted ≡ true) (one : IsOneToOne (MeansIn w)) where
+    abbrev left : Server
+    left = without_unheld_files (record s1 { tree = tree2 })
+
+    lost_is : after_perform w unique (served choice w.server unique t) ≡ record w { server = left }
+    lost_is =
+        ap (λ (d : PerformResult). after_perform w unique (record { server = replying (without_unheld_files d.server) unique d.wire; wire = d.wire })) (performed_is true lost)
+        ∙ (λ i. worlds.replying (record w {
+          server = record left {
+            kept = cond (lost i) w.server.kept (put w.server.kept unique (record { wire = failed (errno_of reply); first = w.server.next_copy }));
+            copies = cond (lost i) w.server.copies (put w.server.copies w.server.next_copy (record { unique = unique; wire = failed (errno_of reply); first = w.server.next_copy }));
+            next_copy = cond (lost i) w.server.next_copy (w.server.next_copy + 1);
+          };
+        }) w.server.next_copy unique (cond (lost i) None (Some (failed (errno_of reply)))))
+
+    -- The server performs the request, and the plain world its ask: the two are alike again.
+    pub lost_goes : (q : Plain) × Takes p (event.perform unique) (event.performed unique (errno_of (served choice w.server unique t).wire) w.server.aborted) q × Alike (after_perform w unique (served choice w.server unique t)) q
+    lost_goes =
+        let asked_alike = ask_changed w1 p (unheld_alike w p same unique) unique new may_replace in
+        let trees = trees_alike w.server.nodes w.server.handles (λ file h. held_stood file (is_named p.tree.names file) (is_file_held w.server file) (makes_unless p.tree deed file (refusal p.tree deed)) h) in
+        let carries = grown w1 (with_ask p unique new) w.kernel.nodes w.server.nodes w.server.handles (λ id generation e. e) (λ id generation file d. d) (λ fh file o. o) one in
+        let carried = carried_alike w1 (with_ask p unique new) asked_alike w.kernel.nodes w.server.nodes w.server.handles left.tree (tree_after p.tree deed) carries trees in
+        (ask_performed p unique asked.ask, takes_it, subst (λ (v : World). Alike v (ask_performed p unique asked.ask)) (sym lost_is) carried)

@@ -42,14 +42,13 @@ OpensItsFile t h operation (created g v fh) = (file : ℕ) → Denotes t g.nodei
 OpensItsFile t h (opening node) (opened fh) = (generation file : ℕ) → Denotes t node generation file → is_open h fh file ≡ true
 OpensItsFile t h operation wire = Unit {0}
 
--- A request of a call that the server can perform: it is held alone under its number, no INTERRUPT marked it, the mount lives, and
+-- A request of a call that the server can perform: it is held alone under its number, no INTERRUPT marked it, and
 -- its nodes are held as they were when it was taken.
 pub record CanPerform (w : World) (unique : ℕ) (t : HeldRequest) (operation : Operation ℕ Opened) : Type 0 where
   pub there : get w.server.held unique ≡ Some t
   pub body_is : t.body ≡ asks operation
   pub unmarked : t.marked ≡ false
   pub still : is_still_held w.server.nodes t.generations ≡ true
-  pub live : w.server.aborted ≡ false
   pub none_pending : count_by (λ (e : ℕ × QueuedRequest Purpose). nat_eq unique e.0) (pending w.kernel.queues) ≡ 0
   pub none_sent : count_by (λ (r : Request). nat_eq unique r.unique) w.requests ≡ 0
 

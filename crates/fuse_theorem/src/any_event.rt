@@ -94,9 +94,15 @@ pub fn take_interrupt()
 /// The server performs a held request of a call, whatever its operation and whatever free nodeids it gives: the plain world performs the
 /// ask on the same files, and the reply that goes out says the same of them.
 pub fn perform()
-    ensures { (w : World) (p : Plain) (same : Alike w p) (choice : ℕ → ℕ) (unique : ℕ) (t : HeldRequest) (operation : Operation ℕ Opened) → CanPerform w unique t operation →
+    ensures { (w : World) (p : Plain) (same : Alike w p) (choice : ℕ → ℕ) (unique : ℕ) (t : HeldRequest) (operation : Operation ℕ Opened) → CanPerform w unique t operation → w.server.aborted ≡ false →
         TablesSound w.server → OneId w.server.nodes → KnownAreHeld w →
         ((ask : Ask) → get p.asks unique ≡ Some ask → MayChoose choice w.server.nodes (files_in_reply (reply_by p.validity p.tree ask.operation))) →
+        (q : Plain) × Takes p (event.perform unique) (event.performed unique (errno_of (served choice w.server unique t).wire) w.server.aborted) q × Alike (after_perform w unique (served choice w.server unique t)) q }
+{}
+
+/// The server performs a held request of a call after an abort: the plain world performs the ask too, and nobody hears of it.
+pub fn perform_after_abort()
+    ensures { (w : World) (p : Plain) → Alike w p → (choice : ℕ → ℕ) (unique : ℕ) (t : HeldRequest) (operation : Operation ℕ Opened) → CanPerform w unique t operation → w.server.aborted ≡ true → IsOneToOne (MeansIn w) →
         (q : Plain) × Takes p (event.perform unique) (event.performed unique (errno_of (served choice w.server unique t).wire) w.server.aborted) q × Alike (after_perform w unique (served choice w.server unique t)) q }
 {}
 
