@@ -24,7 +24,8 @@ use Rattle.fuse_theorem.specs.FirstPath.{StatsRoot, looks_up, asks_root, Replies
 use Rattle.fuse_theorem.proofs.Accepted.{going_ok}
 use Rattle.fuse_theorem.proofs.FirstCalls.{missing_at_root, attributes_at_root}
 use Rattle.fuse_theorem.proofs.FirstReplies.{init_reply, replies_to_none, came_missing, came_attributes, none_waits, init_goes, pair, ask_there, hears_reply}
-use Rattle.fuse_theorem.proofs.FirstWrites.{waiting_is}
+use Rattle.fuse_theorem.proofs.Answered.{waiting_is}
+use Rattle.fuse_theorem.proofs.FirstWrites.{}
 use Rattle.fuse_theorem.proofs.Queuing.{All-at}
 
 -- What the kernel's answer to the writer comes to.

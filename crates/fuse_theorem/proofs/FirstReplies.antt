@@ -34,7 +34,8 @@ use Rattle.fuse_theorem.proofs.Ending.{none_left}
 use Rattle.fuse_theorem.proofs.Finding.{same_is, found_one}
 use Rattle.fuse_theorem.proofs.FirstCalls.{StaysAtRoot}
 use Rattle.fuse_theorem.proofs.FirstSteps.{advanced_root}
-use Rattle.fuse_theorem.proofs.FirstWrites.{Waits, waiting_is, unsent_numbered, unsent_root, ended_root, unasked, ended_stay, ready_alike, ready_numbered, ready_root}
+use Rattle.fuse_theorem.proofs.Answered.{Waits, waiting_is, unasked, ended_stay, ready_alike}
+use Rattle.fuse_theorem.proofs.FirstWrites.{unsent_numbered, unsent_root, ended_root, ready_numbered, ready_root}
 use Rattle.fuse_theorem.proofs.Numbered.{ended_numbered, advanced_numbered}
 use Rattle.fuse_theorem.proofs.OnlyRoots.{one_root}
 use Rattle.fuse_theorem.proofs.Queuing.{queues_alike}
@@ -121,11 +122,11 @@ module _ (w : World) (p : Plain) (numbered : IsNumbered w) (root : OnlyRoot w) (
         let w2 = record w { kernel = record k1 { phase = Ready } } in
         let numbered2 = ready_numbered w1 live numbered1 in
         let root2 = ready_root w1 live root1 in
-        let alike1 = queues_alike w p same (without w.kernel.queues sent.unique) w.requests (ended_stay w p numbered root same live sent.unique kept waits no_call) same.requests.sent in
+        let alike1 = queues_alike w p same (without w.kernel.queues sent.unique) w.requests (ended_stay w p numbered same live sent.unique kept waits no_call) same.requests.sent in
         let alike2 = ready_alike w1 live p alike1 in
         record {
           plain = p;
-          takes = (0, ap (λ (o : Option Ask). telling p sent.unique 0 o) (unasked w p numbered root same live sent.unique kept waits no_call));
+          takes = (0, ap (λ (o : Option Ask). telling p sent.unique 0 o) (unasked w p numbered same live sent.unique kept waits no_call));
           alike = unsent_alike w2 p alike2 k (results Accepted);
           numbered = unsent_numbered w2 numbered2 root2 k (results Accepted);
           root = unsent_root w2 numbered2 root2 k (results Accepted) refl;

@@ -57,6 +57,7 @@ pub mod FirstTakes
 pub mod Serving
 pub mod FirstServes
 pub mod FirstPerforms
+pub mod Answered
 pub mod FirstWrites
 pub mod FirstReplies
 pub mod FirstCopies
