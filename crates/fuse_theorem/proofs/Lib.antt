@@ -38,6 +38,7 @@ pub mod Forgetting
 pub mod Evicting
 pub mod Settling
 pub mod Unasked
+pub mod Replied
 pub mod ReleasePerformed
 pub mod Declining
 pub mod AcceptingEintr

@@ -34,7 +34,7 @@ found_counted u (e ∷ es) there = by (nat_eq u e.0) refl there (found_counted u
         omega (arith, same, low)
 
 module _ (w : World) (p : Plain) (sound : IsSound w.kernel.queues) (same : Alike w p) (live : is_live w.kernel.phase ≡ true) where
-  odd_unasked : (u : ℕ) → u % 2 ≢ 0 → get p.asks u ≡ None
+  pub odd_unasked : (u : ℕ) → u % 2 ≢ 0 → get p.asks u ≡ None
   odd_unasked u odd = by (get p.asks u) refl
     where
       by : (o : Option Ask) → get p.asks u ≡ o → o ≡ None

@@ -1,5 +1,5 @@
 -- What the laws on single events need of the world.
-use Rattle.std.specs.Prelude.{Contains, ◌≡◌, ◌≢◌, ◌≤◌, ◌+◌, ℕ, All, true, false, Some, None, nat_eq, count_by, slice_get}
+use Rattle.std.specs.Prelude.{Contains, ◌≡◌, ◌≢◌, ◌≤◌, ◌+◌, ◌-◌, ◌%◌, ℕ, Option, cond, All, true, false, Some, None, nat_eq, count_by, slice_get}
 use Rattle.fuse_spec.specs.declared.Entry.{Entry}
 use Rattle.fuse_spec.specs.declared.Opened.{Opened}
 use Rattle.fuse_spec.specs.declared.Purpose.{Purpose}
@@ -17,6 +17,8 @@ use Rattle.fuse_spec.specs.Counts.{opens_of, opens_of_body}
 use Rattle.fuse_spec.specs.Server.{Server, HeldRequest, Kept, nodes_of_body}
 use Rattle.fuse_spec.specs.Replies.{goes_with, usable, use_of_all}
 use Rattle.fuse_spec.specs.Performs.{is_still_held}
+use Rattle.fuse_spec.specs.Kernel.{Kernel}
+use Rattle.fuse_spec.specs.QueueCalls.{waiting}
 use Rattle.fuse_spec.specs.Worlds.{World, Sent}
 use Rattle.fuse_spec.specs.Plain.{Plain, Ask}
 use Rattle.fuse_spec.specs.Plain as plain
@@ -141,3 +143,7 @@ pub record HoldsOpens (w : World) (h : HandleTable) : Type 0 where
   pub held : (unique : ℕ) (x : HeldRequest) → get w.server.held unique ≡ Some x → (o : Opened) → Contains (opens_of_body x.body) o → IsNumber h o.fh
   pub kept : (unique : ℕ) (k : Kept) → get w.server.kept unique ≡ Some k → request_under w.kernel.queues unique ≢ None → (fh : ℕ) → Contains (opens_in_reply k.wire) fh → IsNumber h fh
   pub copies : All (λ (s : Sent). request_under w.kernel.queues s.unique ≢ None → (fh : ℕ) → Contains (opens_in_reply s.wire) fh → IsNumber h fh) w.replies
+
+-- What awaits a reply under a number: a request that was read, or with an odd number the request whose INTERRUPT it is.
+abbrev pub awaiting : Kernel → ℕ → Option Purpose
+awaiting k unique = cond (nat_eq (unique % 2) 1) (waiting k.queues (unique - 1)) (waiting k.queues unique)

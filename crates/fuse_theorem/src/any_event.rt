@@ -26,15 +26,15 @@ ghost use Rattle.fuse_spec.specs.declared.ReplyResult.{ReplyResult};
 ghost use Rattle.fuse_spec.specs.declared.WriteResult.TheVariants.{Accepted};
 ghost use Rattle.fuse_spec.specs.Maps.{get_name};
 ghost use Rattle.fuse_spec.specs.Paths.{Name};
-ghost use Rattle.fuse_spec.specs.Operations.{Operation, Reply, errno_of, files_in_reply};
+ghost use Rattle.fuse_spec.specs.Operations.{Operation, Reply, agreed, errno_of, files_in_reply};
 ghost use Rattle.fuse_spec.specs.FileOperations.{reply_by};
 ghost use Rattle.fuse_spec.specs.Vfs.{CallState};
-ghost use Rattle.std.specs.Prelude.{Bool, List, false};
+ghost use Rattle.std.specs.Prelude.{Bool, List, false, nat_eq, ◌-◌, ◌%◌};
 ghost use Rattle.fuse_spec.specs.Kernel.{is_live, is_pinned, is_bound, call_signalled};
-ghost use Rattle.fuse_spec.specs.QueueCalls.{without as without_request};
+ghost use Rattle.fuse_spec.specs.QueueCalls.{without as without_request, waiting};
 ghost use Rattle.fuse_spec.specs.Nodes.{MayChoose, handle_back};
 ghost use Rattle.fuse_spec.specs.Plain.{Ask};
-ghost use Rattle.fuse_spec.specs.Replies.{replied_to_call};
+ghost use Rattle.fuse_spec.specs.Replies.{replied_to_call, reply_written};
 ghost use Rattle.fuse_spec.specs.Messages.{Forget};
 ghost use Rattle.fuse_spec.specs.Server.{HeldRequest, Kept, Copy, all_taken_back, forgetting};
 ghost use Rattle.fuse_spec.specs.Performs.{served};
@@ -44,7 +44,7 @@ ghost use Rattle.fuse_spec.specs.Taking.{taking};
 ghost use Rattle.std.specs.Ordering.{nat_cmp};
 ghost use Rattle.std.specs.FinMap.{is_sorted};
 ghost use Rattle.fuse_theorem.specs.Numbering.{IsNumbered, IsOneToOne};
-ghost use Rattle.fuse_theorem.specs.Conditions.{OneId, KnownAreHeld, TablesSound, CanPerform, CanDecline, CanRelease, IsReply, IsDeclined, UnreadAreUnsent, HoldsAll, HoldsOpens, IsInterrupt, IsUnsent};
+ghost use Rattle.fuse_theorem.specs.Conditions.{OneId, KnownAreHeld, TablesSound, CanPerform, CanDecline, CanRelease, IsReply, IsDeclined, UnreadAreUnsent, HoldsAll, HoldsOpens, IsInterrupt, IsUnsent, awaiting};
 
 /// The world before its first mount is alike to the plain world with the root alone.
 pub fn first_worlds()
@@ -138,6 +138,30 @@ pub fn accept_eintr()
     ensures { (w : World) (p : Plain) → IsNumbered w → OneId w.server.nodes → Alike w p → is_live w.kernel.phase ≡ true → (k : ℕ) (sent : Sent) (call : ℕ) (state : CallState Opened) → IsDeclined w p sent call state →
         (q : Plain) × Takes p (event.write k) (event.written sent.unique Accepted) q
         × Alike (after_write w k sent (replied_to_call (record w.kernel { queues = without_request w.kernel.queues sent.unique }) call sent.wire (get w.kernel.vfs.calls call))) q }
+{}
+
+/// A reply comes under a number that nothing awaits: it is NoEntry. That is no step of the plain world.
+pub fn reply_to_nothing()
+    ensures { (w : World) (p : Plain) → Alike w p → (k : ℕ) (sent : Sent) → awaiting w.kernel sent.unique ≡ None →
+        Takes p (event.write k) (event.written sent.unique (reply_written w.kernel sent.unique sent.wire).0) p × Alike (after_write w k sent (reply_written w.kernel sent.unique sent.wire)) p }
+{}
+
+/// A RELEASE is replied to, in whatever words. That is no step of the plain world.
+pub fn reply_to_release()
+    ensures { (w : World) (p : Plain) → Alike w p → (k : ℕ) (sent : Sent) → IsNumbered w → is_live w.kernel.phase ≡ true → nat_eq (sent.unique % 2) 1 ≡ false → (o : Opened) → waiting w.kernel.queues sent.unique ≡ Some (Purpose.Release o) →
+        Takes p (event.write k) (event.written sent.unique (reply_written w.kernel sent.unique sent.wire).0) p × Alike (after_write w k sent (reply_written w.kernel sent.unique sent.wire)) p }
+{}
+
+/// INIT is replied to with 7.31: the mount is ready. That is no step of the plain world.
+pub fn reply_to_init()
+    ensures { (w : World) (p : Plain) → Alike w p → (k : ℕ) (sent : Sent) → IsNumbered w → is_live w.kernel.phase ≡ true → nat_eq (sent.unique % 2) 1 ≡ false → waiting w.kernel.queues sent.unique ≡ Some Purpose.Init → sent.wire ≡ agreed 7 31 →
+        Takes p (event.write k) (event.written sent.unique (reply_written w.kernel sent.unique sent.wire).0) p × Alike (after_write w k sent (reply_written w.kernel sent.unique sent.wire)) p }
+{}
+
+/// An INTERRUPT is replied to, in whatever words. That is no step of the plain world.
+pub fn reply_to_interrupt()
+    ensures { (w : World) (p : Plain) → Alike w p → (k : ℕ) (sent : Sent) → IsNumbered w → is_live w.kernel.phase ≡ true → nat_eq (sent.unique % 2) 1 ≡ true → (kept : Purpose) → waiting w.kernel.queues (sent.unique - 1) ≡ Some kept →
+        Takes p (event.write k) (event.written sent.unique (reply_written w.kernel sent.unique sent.wire).0) p × Alike (after_write w k sent (reply_written w.kernel sent.unique sent.wire)) p }
 {}
 
 /// A name in force is dropped.
