@@ -39,7 +39,7 @@ pub mod Evicting
 pub mod Settling
 pub mod Unasked
 pub mod Replied
-pub mod ReleasePerformed
+pub mod PerformingUnasked
 pub mod Declining
 pub mod AcceptingEintr
 pub mod Marking

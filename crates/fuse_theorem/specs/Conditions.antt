@@ -63,15 +63,14 @@ pub record CanDecline (w : World) (unique : ℕ) (t : HeldRequest) (operation : 
   pub none_pending : count_by (λ (e : ℕ × QueuedRequest Purpose). nat_eq unique e.0) (pending w.kernel.queues) ≡ 0
   pub none_sent : count_by (λ (r : Request). nat_eq unique r.unique) w.requests ≡ 0
 
--- A RELEASE that the server can perform: no INTERRUPT marked it, the mount lives, its node is held as it was when it was taken, and its open
--- number is one of the node's file.
+-- A RELEASE that the server can perform: no INTERRUPT marked it, its node is held as it was when it was taken, and its open number is
+-- one of the node's file.
 pub record CanRelease (w : World) (unique : ℕ) (t : HeldRequest) (o : Opened) : Type 0 where
   pub there : get w.server.held unique ≡ Some t
   pub body_is : t.body ≡ release o
   pub unmarked : t.marked ≡ false
   pub still : is_still_held w.server.nodes t.generations ≡ true
   pub number : is_open w.server.handles o.fh (file_of w.server.nodes o.nodeid) ≡ true
-  pub live : w.server.aborted ≡ false
 
 -- A copy that replies to the request of an unanswered call, whose ask was performed: it goes with the operation, and its entries can be used.
 pub record IsReply (w : World) (p : Plain) (sent : Sent) (call : ℕ) (state : CallState Opened) (reply : Reply ℕ ℕ) : Type 0 where

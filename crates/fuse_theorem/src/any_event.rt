@@ -35,9 +35,9 @@ ghost use Rattle.fuse_spec.specs.QueueCalls.{without as without_request, waiting
 ghost use Rattle.fuse_spec.specs.Nodes.{MayChoose, handle_back};
 ghost use Rattle.fuse_spec.specs.Plain.{Ask};
 ghost use Rattle.fuse_spec.specs.Replies.{replied_to_call, reply_written};
-ghost use Rattle.fuse_spec.specs.Messages.{Forget};
+ghost use Rattle.fuse_spec.specs.Messages.{Forget, init};
 ghost use Rattle.fuse_spec.specs.Server.{HeldRequest, Kept, Copy, all_taken_back, forgetting};
-ghost use Rattle.fuse_spec.specs.Performs.{served};
+ghost use Rattle.fuse_spec.specs.Performs.{served, is_still_held};
 ghost use Rattle.fuse_spec.specs.Worlds.{Sent, after_take, after_perform, after_again, after_write, after_settle, after_drop, after_evict, after_abort, after_mount};
 ghost use Rattle.std.specs.Prelude.{T};
 ghost use Rattle.fuse_spec.specs.Taking.{taking};
@@ -110,6 +110,12 @@ pub fn perform_after_abort()
 pub fn decline()
     ensures { (w : World) (p : Plain) → Alike w p → (choice : ℕ → ℕ) (unique : ℕ) (t : HeldRequest) (operation : Operation ℕ Opened) → CanDecline w unique t operation →
         (q : Plain) × Takes p (event.perform unique) (event.performed unique (errno_of (served choice w.server unique t).wire) w.server.aborted) q × Alike (after_perform w unique (served choice w.server unique t)) q }
+{}
+
+/// The server performs INIT. That is no step of the plain world.
+pub fn perform_init()
+    ensures { (w : World) (p : Plain) → Alike w p → (choice : ℕ → ℕ) (unique : ℕ) (t : HeldRequest) → get w.server.held unique ≡ Some t → t.body ≡ init → t.marked ≡ false → is_still_held w.server.nodes t.generations ≡ true →
+        Takes p (event.perform unique) (event.performed unique (errno_of (served choice w.server unique t).wire) w.server.aborted) p × Alike (after_perform w unique (served choice w.server unique t)) p }
 {}
 
 /// The server performs a RELEASE, where it still holds what is known, held and on its way, nodes and open numbers. That is no step of the plain
@@ -196,6 +202,11 @@ pub fn settle()
     ensures { (w : World) (p : Plain) → OneId w.server.nodes → Alike w p → (k : ℕ) (result : ReplyResult) (copy : Copy) →
         HoldsAll (after_settle w k result (Some copy)) (after_settle w k result (Some copy)).server.nodes → HoldsOpens (after_settle w k result (Some copy)) (after_settle w k result (Some copy)).server.handles →
         Alike (after_settle w k result (Some copy)) p }
+{}
+
+/// A result comes of a copy of which the server knows nothing. That is no step of the plain world.
+pub fn settle_nothing()
+    ensures { (w : World) (p : Plain) → Alike w p → (k : ℕ) (result : ReplyResult) → Alike (after_settle w k result None) p }
 {}
 
 /// The mount is aborted, where the kernel's root is node 1 and the answers that are not collected stand in rising number.
