@@ -46,19 +46,14 @@ module _ (w : World) (p : Plain) (same : Alike w p) (choice : ℕ → ℕ) (uniq
   abbrev copies2 : Map Copy
   copies2 = put w.server.copies w.server.next_copy (record { unique = unique; wire = wire; first = w.server.next_copy })
 
-  abbrev after : World
-  after = record w { server = record s2 { kept = put w.server.kept unique kept2; copies = copies2; next_copy = w.server.next_copy + 1 }; replies = w.replies ++ record { number = w.server.next_copy; unique = unique; wire = wire } ∷ [] }
+  -- the world afterwards, by whether the mount is aborted
+  abbrev After : Bool → World
+  After aborted = worlds.replying (record w {
+    server = record s2 { kept = cond aborted w.server.kept (put w.server.kept unique kept2); copies = cond aborted w.server.copies copies2; next_copy = cond aborted w.server.next_copy (w.server.next_copy + 1) };
+  }) w.server.next_copy unique (cond aborted None (Some wire))
 
-  is_served : after_perform w unique (served choice w.server unique t) ≡ after
-  is_served =
-      (λ i. after_perform w unique (refused (can.marked i)))
-      ∙ (λ i. worlds.replying (record w {
-        server = record s2 {
-          kept = cond (can.live i) w.server.kept (put w.server.kept unique kept2);
-          copies = cond (can.live i) w.server.copies copies2;
-          next_copy = cond (can.live i) w.server.next_copy (w.server.next_copy + 1);
-        };
-      }) w.server.next_copy unique (cond (can.live i) None (Some wire)))
+  is_served : after_perform w unique (served choice w.server unique t) ≡ After w.server.aborted
+  is_served = λ i. after_perform w unique (refused (can.marked i))
     where
       did : Bool → PerformResult
       did marked = cond marked (refusing s1 4) (cond (is_still_held w.server.nodes t.generations) (performing choice s1 t.body) (refusing s1 5))
@@ -110,8 +105,9 @@ module _ (w : World) (p : Plain) (same : Alike w p) (choice : ℕ → ℕ) (uniq
         aborted = changed.aborted;
       }
 
-  declined_alike : Alike after (ask_declined p unique asked.ask)
-  declined_alike =
+  declined_alike : (aborted : Bool) → Alike (After aborted) (ask_declined p unique asked.ask)
+  declined_alike true = swept
+  declined_alike false =
       replied_alike (record w1 { server = s2 }) (with_ask p unique new) swept unique w.server.next_copy (w.server.next_copy + 1) wire kept2 copies2 refl
       (λ alive x at.
       let is_new : new ≡ x = cc (get_put_here p.asks unique new, at) in
@@ -128,5 +124,5 @@ module _ (w : World) (p : Plain) (same : Alike w p) (choice : ℕ → ℕ) (uniq
               ∙ ap (λ (b : Bool). cond b (where_so asked.ask.noted (ask_declined p unique asked.ask)) (Some (plain.ask_performed p unique asked.ask))) (waits.marked_too ∙ can.marked)
               ∙ ap (λ (b : Bool). where_so b (ask_declined p unique asked.ask)) (waits.noted can.marked),
         ),
-        subst (λ (v : World). Alike v (ask_declined p unique asked.ask)) (sym is_served) declined_alike,
+        subst (λ (v : World). Alike v (ask_declined p unique asked.ask)) (sym is_served) (declined_alike w.server.aborted),
       )

@@ -54,12 +54,11 @@ pub record CanPerform (w : World) (unique : ℕ) (t : HeldRequest) (operation : 
   pub none_pending : count_by (λ (e : ℕ × QueuedRequest Purpose). nat_eq unique e.0) (pending w.kernel.queues) ≡ 0
   pub none_sent : count_by (λ (r : Request). nat_eq unique r.unique) w.requests ≡ 0
 
--- A request of a call that an INTERRUPT marked; it is held alone under its number, and the mount lives.
+-- A request of a call that an INTERRUPT marked; it is held alone under its number.
 pub record CanDecline (w : World) (unique : ℕ) (t : HeldRequest) (operation : Operation ℕ Opened) : Type 0 where
   pub there : get w.server.held unique ≡ Some t
   pub body_is : t.body ≡ asks operation
   pub marked : t.marked ≡ true
-  pub live : w.server.aborted ≡ false
   pub none_pending : count_by (λ (e : ℕ × QueuedRequest Purpose). nat_eq unique e.0) (pending w.kernel.queues) ≡ 0
   pub none_sent : count_by (λ (r : Request). nat_eq unique r.unique) w.requests ≡ 0
 

@@ -106,7 +106,7 @@ pub fn perform_after_abort()
         (q : Plain) × Takes p (event.perform unique) (event.performed unique (errno_of (served choice w.server unique t).wire) w.server.aborted) q × Alike (after_perform w unique (served choice w.server unique t)) q }
 {}
 
-/// The server answers a marked request EINTR and performs nothing: the plain world declines the ask.
+/// The server answers a marked request EINTR and performs nothing, nor replies after an abort: the plain world declines the ask.
 pub fn decline()
     ensures { (w : World) (p : Plain) → Alike w p → (choice : ℕ → ℕ) (unique : ℕ) (t : HeldRequest) (operation : Operation ℕ Opened) → CanDecline w unique t operation →
         (q : Plain) × Takes p (event.perform unique) (event.performed unique (errno_of (served choice w.server unique t).wire) w.server.aborted) q × Alike (after_perform w unique (served choice w.server unique t)) q }
