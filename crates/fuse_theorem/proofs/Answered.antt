@@ -1,6 +1,6 @@
 -- A reply ends a request that serves no call, INIT or a RELEASE: that is no step of the plain world. Nor is a reply that nothing awaits, or
 -- one to an INTERRUPT.
-use Rattle.std.proofs.Common.{◌≡◌, ℕ, ◌+◌, ◌<◌, ◌≤◌, ◌%◌, Bool, true, false, true≢false, not, cond, List, [], remove, Option, Some, None, nat_eq, count_by, filter, option_map, get_or, is_some, refl, ap, sym, subst, ◌∙◌, inl, inr, All}
+use Rattle.std.proofs.Common.{◌≡◌, ℕ, Bool, true, false, true≢false, cond, Option, Some, None, option_map, get_or, is_some, refl, ap, sym, subst, ◌∙◌, inl, inr, All}
 use Rattle.std.specs.Prelude.{MatchOption}
 use Rattle.std.specs.Option.{option_map_or}
 use Rattle.std.proofs.lemmas.Bool.{cases_eq}
@@ -8,13 +8,12 @@ use Rattle.fuse_spec.specs.declared.Phase.{Phase}
 use Rattle.fuse_spec.specs.declared.Phase.TheVariants.{Down, Starting, Ready, Aborted}
 use Rattle.fuse_spec.specs.declared.Purpose.{Purpose}
 use Rattle.fuse_spec.specs.declared.QueuedRequest.{QueuedRequest}
-use Rattle.fuse_spec.specs.declared.ReplyResult.{ReplyResult}
 use Rattle.fuse_spec.specs.Maps.{get}
 use Rattle.fuse_spec.specs.Queues.{QueueState, pending, request_under, is_unread, is_signalled}
 use Rattle.fuse_spec.specs.QueueCalls.{without, waiting}
-use Rattle.fuse_spec.specs.Messages.{RequestBody, Request}
-use Rattle.fuse_spec.specs.Kernel.{Kernel, is_live, is_aborted, body_of, is_for}
-use Rattle.fuse_spec.specs.Worlds.{World, Sent}
+use Rattle.fuse_spec.specs.Messages.{RequestBody}
+use Rattle.fuse_spec.specs.Kernel.{Kernel, is_live, is_aborted, is_for}
+use Rattle.fuse_spec.specs.Worlds.{World}
 use Rattle.fuse_spec.specs.Plain.{Plain, Ask}
 use Rattle.fuse_spec.specs.Denotes.{MeansIn, MeansOpenIn}
 use Rattle.fuse_spec.specs.Alike.{RequestBodyAsked, PurposeAsked, Alike}
@@ -118,4 +117,3 @@ module _ (w : World) (live : is_live w.kernel.phase ≡ true) where
     validity = same.validity;
     aborted = sym (not_aborted_live w.kernel.phase live) ∙ same.aborted;
   }
-

@@ -1,5 +1,5 @@
 -- A node that nothing in the kernel uses is evicted: all stays alike.
-use Rattle.std.proofs.Common.{◌≡◌, ◌≢◌, ℕ, zero, suc, Bool, true, false, true≢false, not, ◌||◌, cond, List, [], ◌∷◌, Option, Some, None, nat_eq, option_map, get_or, refl, ap, sym, subst, ◌∙◌, arith, All, inl, inr}
+use Rattle.std.proofs.Common.{◌≡◌, ◌≢◌, ℕ, zero, suc, Bool, true, false, true≢false, not, ◌||◌, cond, List, [], ◌∷◌, Option, Some, None, nat_eq, option_map, get_or, refl, ap, sym, subst, ◌∙◌, arith, inl, inr}
 use Rattle.std.specs.Prelude.{Contains}
 use Rattle.std.specs.List.{list_any}
 use Rattle.std.specs.Ordering.{is_eq}
@@ -11,16 +11,13 @@ use Rattle.fuse_spec.specs.declared.Purpose.{Purpose}
 use Rattle.fuse_spec.specs.declared.QueuedRequest.{QueuedRequest}
 use Rattle.fuse_spec.specs.Maps.{Map, NameMap, place_cmp, get, get_name, remove, values}
 use Rattle.fuse_spec.specs.Vfs.{CallState, asked}
-use Rattle.fuse_spec.specs.Queues.{pending, is_signalled}
 use Rattle.fuse_spec.specs.QueueCalls.{after_forget}
 use Rattle.fuse_spec.specs.Counts.{opens_of, opens_of_body}
 use Rattle.fuse_spec.specs.Kernel.{nodes_of_state, is_pinned, is_bound, is_released_by, leads_to}
 use Rattle.fuse_spec.specs.Server.{nodes_of_body}
-use Rattle.fuse_spec.specs.Messages.{Request}
 use Rattle.fuse_spec.specs.Worlds.{World, after_evict}
 use Rattle.fuse_spec.specs.Plain.{Plain}
-use Rattle.fuse_spec.specs.Nodes.{NodeTable}
-use Rattle.fuse_spec.specs.Denotes.{generation_known, Means, MeansIn, MeansOpenIn}
+use Rattle.fuse_spec.specs.Denotes.{generation_known, Means, MeansIn}
 use Rattle.fuse_spec.specs.Alike.{Alike}
 use Rattle.fuse_spec.proofs.Tables.{get_gone, get_gone_there, place_tie_no}
 use Rattle.fuse_theorem.specs.Conditions.{IsUnsent}
@@ -63,12 +60,14 @@ unbound node (e ∷ names) id name bound none at = by (is_eq (place_cmp (id, nam
     by : (b : Bool) → is_eq (place_cmp (id, name) e.0) ≡ b → cond b (Some e.1) (get_name names (id, name)) ≡ Some bound → (get_name names (id, name) ≡ Some bound → (id ≢ node) × (leads_to node bound.target ≡ false))
         → (id ≢ node) × (leads_to node bound.target ≡ false)
     by true tie f rest =
-        let same : e.1 ≡ bound = cc in
-        (λ q.
-            elim (cases_eq id e.0.0) [
-              | inl is ↦ true≢false (sym (subst (λ (n : ℕ). nat_eq n node ≡ true) is (subst (λ (n : ℕ). nat_eq n node ≡ true) (sym q) (same_is node))) ∙ here.0)
-              | inr ne ↦ true≢false (sym tie ∙ place_tie_no id e.0.0 name e.0.1 ne)
-            ], subst (λ (b : Binding). leads_to node b.target ≡ false) same here.1)
+        let same : e.1 ≡ bound = cc in (
+          λ q.
+              elim (cases_eq id e.0.0) [
+                | inl is ↦ true≢false (sym (subst (λ (n : ℕ). nat_eq n node ≡ true) is (subst (λ (n : ℕ). nat_eq n node ≡ true) (sym q) (same_is node))) ∙ here.0)
+                | inr ne ↦ true≢false (sym tie ∙ place_tie_no id e.0.0 name e.0.1 ne)
+              ],
+          subst (λ (b : Binding). leads_to node b.target ≡ false) same here.1,
+        )
     by false tie f rest = rest f
 
 -- a target that a binding leads to is not the node

@@ -1,6 +1,5 @@
 -- A copy is settled, on the first path.
-use Rattle.std.proofs.Common.{◌≡◌, ℕ, Bool, true, false, cond, List, [], remove, Option, Some, None, Ok, nat_eq, slice_get, refl, sym, subst, ◌∙◌, inl, inr}
-use Rattle.std.proofs.lemmas.Bool.{cases_eq}
+use Rattle.std.proofs.Common.{◌≡◌, ℕ, List, [], remove, Option, Some, None, Ok, slice_get, refl, sym, subst, ◌∙◌}
 use Rattle.fuse_spec.specs.declared.ReplyResult.{ReplyResult}
 use Rattle.fuse_spec.specs.declared.WriteResult.{WriteResult}
 use Rattle.fuse_spec.specs.declared.WriteResult.TheVariants.{Accepted, NoEntry, Invalid}
@@ -16,7 +15,6 @@ use Rattle.fuse_spec.specs.Events as event
 use Rattle.fuse_spec.specs.Steps.{settling, step}
 use Rattle.fuse_spec.specs.Plain.{Plain}
 use Rattle.fuse_spec.specs.Alike.{Alike}
-use Rattle.fuse_spec.proofs.Tables.{get_gone_here, get_gone_there}
 use Rattle.fuse_theorem.specs.Numbering.{IsNumbered}
 use Rattle.fuse_theorem.specs.FirstPath.{OnlyRoot, Goes}
 use Rattle.fuse_theorem.proofs.Accepted.{ok_is}

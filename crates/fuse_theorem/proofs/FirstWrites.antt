@@ -1,30 +1,27 @@
 -- The kernel takes a copy of a reply, on the first path.
-use Rattle.std.proofs.Common.{◌≡◌, ℕ, ◌+◌, ◌<◌, ◌≤◌, ◌%◌, Bool, true, false, true≢false, not, cond, List, [], remove, Option, Some, None, nat_eq, count_by, filter, option_map, get_or, is_some, refl, ap, sym, subst, ◌∙◌, inl, inr, All}
+use Rattle.std.proofs.Common.{◌≡◌, ℕ, ◌+◌, ◌<◌, ◌≤◌, ◌%◌, true, false, not, cond, List, [], remove, Option, Some, None, nat_eq, count_by, filter, option_map, get_or, is_some, refl, ap, sym, subst, inl, inr}
 use Rattle.std.specs.Prelude.{MatchOption}
-use Rattle.std.specs.Option.{option_map_or}
 use Rattle.std.proofs.lemmas.Bool.{cases_eq}
-use Rattle.fuse_spec.specs.declared.Phase.{Phase}
-use Rattle.fuse_spec.specs.declared.Phase.TheVariants.{Down, Starting, Ready, Aborted}
+use Rattle.fuse_spec.specs.declared.Phase.TheVariants.{Ready}
 use Rattle.fuse_spec.specs.declared.Purpose.{Purpose}
 use Rattle.fuse_spec.specs.declared.QueuedRequest.{QueuedRequest}
 use Rattle.fuse_spec.specs.declared.ReplyResult.{ReplyResult}
 use Rattle.fuse_spec.specs.Maps.{get}
-use Rattle.fuse_spec.specs.Queues.{QueueState, pending, request_under, is_unread, is_signalled}
+use Rattle.fuse_spec.specs.Queues.{QueueState, is_signalled}
 use Rattle.fuse_spec.specs.QueueCalls.{without, waiting}
 use Rattle.fuse_spec.specs.Messages.{RequestBody, Request}
-use Rattle.fuse_spec.specs.Kernel.{Kernel, is_live, is_aborted, body_of, is_for}
+use Rattle.fuse_spec.specs.Kernel.{Kernel, is_live, body_of}
 use Rattle.fuse_spec.specs.Worlds.{World, Sent}
-use Rattle.fuse_spec.specs.Plain.{Plain, Ask}
-use Rattle.fuse_spec.specs.Denotes.{MeansIn, MeansOpenIn}
-use Rattle.fuse_spec.specs.Alike.{RequestBodyAsked, PurposeAsked, Alike}
-use Rattle.fuse_spec.proofs.QueueReadings.{pending-answer, request_under-without, request_under-without_other, key_count-le-one}
+use Rattle.fuse_spec.specs.Plain.{Plain}
+use Rattle.fuse_spec.specs.Alike.{Alike}
+use Rattle.fuse_spec.proofs.QueueReadings.{request_under-without, request_under-without_other}
 use Rattle.fuse_theorem.specs.Numbering.{IsNumbered}
 use Rattle.fuse_theorem.specs.FirstPath.{IsFirstBody, kept_under, Replies, OnlyRoot}
 use Rattle.fuse_theorem.proofs.Answered.{same_pending}
 use Rattle.fuse_theorem.proofs.Finding.{other_is, All-removed}
 use Rattle.fuse_theorem.proofs.FirstQueues.{KeptStays, serves_still, requeued_root}
 use Rattle.fuse_theorem.proofs.FirstSteps.{same_asked, serves_in, replies_in}
-use Rattle.fuse_theorem.proofs.Queuing.{All-without, QueuesStay}
+use Rattle.fuse_theorem.proofs.Queuing.{All-without}
 
 -- A copy leaves the link, and its result comes onto the other.
 module _ (w : World) (numbered : IsNumbered w) (root : OnlyRoot w) (k : ℕ) (results : List ReplyResult) where

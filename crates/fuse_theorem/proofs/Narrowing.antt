@@ -1,5 +1,5 @@
 -- The tables of nodes change, and nothing that is in use loses its meaning: all stays alike, though some nodes mean nothing any more.
-use Rattle.std.proofs.Common.{◌≡◌, ◌≢◌, ℕ, suc, Bool, true, false, List, [], ◌∷◌, Option, Some, None, get_or, refl, ap, sym, subst, ◌∙◌, arith, All}
+use Rattle.std.proofs.Common.{◌≡◌, ◌≢◌, ℕ, suc, Bool, true, false, List, [], ◌∷◌, Option, Some, None, get_or, refl, arith, All}
 use Rattle.std.specs.Prelude.{Contains, MatchOption}
 use Rattle.fuse_spec.specs.declared.Binding.{Binding}
 use Rattle.fuse_spec.specs.declared.Counted.{Counted}
@@ -11,10 +11,10 @@ use Rattle.fuse_spec.specs.Operations.{Operation, lookup}
 use Rattle.fuse_spec.specs.Walks.{FinalOperation, WalkPlan, last, files_of_plan}
 use Rattle.fuse_spec.specs.Walks as final
 use Rattle.fuse_spec.specs.Trees.{Tree}
-use Rattle.fuse_spec.specs.Vfs.{CallState, walking, doing, using, asked, Vfs}
+use Rattle.fuse_spec.specs.Vfs.{CallState, walking, doing, using, asked}
 use Rattle.fuse_spec.specs.Queues.{pending, is_signalled}
 use Rattle.fuse_spec.specs.Counts.{opens_of, opens_of_body}
-use Rattle.fuse_spec.specs.Kernel.{is_live, body_of, asked_by, opened_nodes, nodes_of_state}
+use Rattle.fuse_spec.specs.Kernel.{is_live, body_of, asked_by, nodes_of_state}
 use Rattle.fuse_spec.specs.Server.{HeldRequest, Kept, nodes_of_body}
 use Rattle.fuse_spec.specs.Worlds.{World, Sent}
 use Rattle.fuse_spec.specs.Messages.{RequestBody, Request, init, asks, release, forget, batch_forget, interrupt}
@@ -22,7 +22,6 @@ use Rattle.fuse_spec.specs.Plain.{Plain, Ask}
 use Rattle.fuse_spec.specs.Nodes.{NodeTable, HandleTable}
 use Rattle.fuse_spec.specs.Denotes.{OptionAlike, OperationAlike, FinalAlike, WalkPlanAlike, StateAlike, BindingAlike, Means, MeansOpen, MeansIn, MeansOpenIn}
 use Rattle.fuse_spec.specs.Alike.{TreeAlike, VfsAlike, RequestBodyAsked, Meant, MeantOpen, StageTold, Alike}
-use Rattle.fuse_theorem.proofs.Asking.{match_more}
 use Rattle.fuse_theorem.proofs.Meaning.{operation_more, first_of}
 
 -- ---- what is alike under R and S is alike under what they imply of what stands in it

@@ -1,5 +1,5 @@
 -- The server performs a request that is no ask, INIT or a RELEASE: all stays alike, and the plain world takes no step.
-use Rattle.std.proofs.Common.{◌≡◌, ℕ, ◌+◌, Bool, true, false, ◌||◌, cond, [], ◌∷◌, ◌++◌, Option, Some, None, nat_eq, refl, ap, sym, subst, ◌∙◌}
+use Rattle.std.proofs.Common.{◌≡◌, ℕ, ◌+◌, Bool, true, false, ◌||◌, cond, Option, Some, None, nat_eq, refl, ap, sym, subst, ◌∙◌}
 use Rattle.std.specs.List.{list_any}
 use Rattle.fuse_spec.specs.declared.Opened.{Opened}
 use Rattle.fuse_spec.specs.Maps.{Map, get, put, remove, values}
@@ -49,8 +49,8 @@ module _ (w : World) (p : Plain) (same : Alike w p) (choice : ℕ → ℕ) (uniq
   left_alike =
       let trees = swept_alike (record (unheld w unique).server { handles = h }) p.tree (λ file. is_file_held w.server file) same.tree.names same.tree.next_birth same.tree.next_serial same.tree.files
       (λ file held.
-          either (list_any (λ (row : HeldNode). nat_eq row.file file) (values w.server.nodes.rows)) (list_any (λ (x : OpenNumber). nat_eq x.file file) (values h.handles)) (list_any (λ (x : OpenNumber). nat_eq x.file file) (values w.server.handles.handles)) held
-          (fewer file)) in
+      either (list_any (λ (row : HeldNode). nat_eq row.file file) (values w.server.nodes.rows)) (list_any (λ (x : OpenNumber). nat_eq x.file file) (values h.handles)) (list_any (λ (x : OpenNumber). nat_eq x.file file) (values w.server.handles.handles)) held
+      (fewer file)) in
       narrowed_alike (unheld w unique) p (unheld_alike w p same unique) w.kernel.nodes w.server.nodes h left.tree p.tree narrows trees
     where
       either : (a b c : Bool) → (a || b) ≡ true → (b ≡ true → c ≡ true) → (a || c) ≡ true

@@ -1,31 +1,27 @@
 -- A copy is settled, and what a refused one carried is given back: all stays alike.
-use Rattle.std.proofs.Common.{◌≡◌, ◌≢◌, ℕ, ◌-◌, Bool, true, false, true≢false, ◌||◌, cond, List, [], ◌∷◌, Option, Some, None, nat_eq, get_or, refl, ap, sym, subst, ◌∙◌, inl, inr, All}
-use Rattle.std.specs.Prelude.{Contains, nat_lt}
+use Rattle.std.proofs.Common.{◌≡◌, ◌≢◌, ℕ, ◌-◌, Bool, true, false, ◌||◌, cond, List, [], ◌∷◌, Option, Some, None, nat_eq, get_or, refl, ap, sym, subst, ◌∙◌, inl, inr}
+use Rattle.std.specs.Prelude.{nat_lt}
 use Rattle.std.specs.List.{list_any, remove as without}
 use Rattle.std.proofs.lemmas.Bool.{cases_eq}
 use Rattle.fuse_spec.specs.declared.Entry.{Entry}
-use Rattle.fuse_spec.specs.declared.Opened.{Opened}
 use Rattle.fuse_spec.specs.declared.ReplyResult.{ReplyResult}
 use Rattle.fuse_spec.specs.declared.WriteResult.{WriteResult}
 use Rattle.fuse_spec.specs.declared.WriteResult.TheVariants.{Accepted, NoEntry, Invalid}
 use Rattle.fuse_spec.specs.Maps.{Map, get, put, remove, values}
 use Rattle.fuse_spec.specs.Operations.{files_in_reply, opens_in_reply}
-use Rattle.fuse_spec.specs.Messages.{Request, WireReply}
+use Rattle.fuse_spec.specs.Messages.{WireReply}
 use Rattle.fuse_spec.specs.Nodes.{HeldNode, NodeTable, OpenNumber, HandleTable, is_held, taken_back, is_file_of, is_open, handles_less, handle_back}
 use Rattle.fuse_spec.specs.Copies.{row_back, rows_back, handles_back, given_back, kept_after, settled}
-use Rattle.fuse_spec.specs.Server.{Kept, Copy, HeldRequest, is_file_held, without_unheld_files, nodes_of_body}
-use Rattle.fuse_spec.specs.Counts.{opens_of, opens_of_body}
-use Rattle.fuse_spec.specs.Kernel.{nodes_of_state}
-use Rattle.fuse_spec.specs.Vfs.{CallState, asked}
+use Rattle.fuse_spec.specs.Server.{Kept, Copy, is_file_held, without_unheld_files}
 use Rattle.fuse_spec.specs.Worlds.{World, after_settle}
 use Rattle.fuse_spec.specs.Plain.{Plain}
-use Rattle.fuse_spec.specs.Denotes.{Denotes, MeansIn}
+use Rattle.fuse_spec.specs.Denotes.{Denotes}
 use Rattle.fuse_spec.specs.Alike.{Alike}
 use Rattle.fuse_spec.proofs.Tables.{get_put_here, get_put_there, get_gone_here, get_gone_there}
 use Rattle.fuse_theorem.specs.Conditions.{OneId, HoldsAll, HoldsOpens, IsNumber}
 use Rattle.fuse_theorem.proofs.Carrying.{stage_more}
 use Rattle.fuse_theorem.proofs.Forgetting.{less_denotes, any_fewer, rows_fewer, still, means, meant, unanswered}
-use Rattle.fuse_theorem.proofs.Narrowing.{Stay, Narrows, narrowed_alike}
+use Rattle.fuse_theorem.proofs.Narrowing.{Narrows, narrowed_alike}
 use Rattle.fuse_theorem.proofs.Sweeping.{swept_alike}
 
 -- ---- the server knows of fewer kept replies and copies
@@ -177,8 +173,8 @@ given_back_alike w p one same wire holds opens =
     let s = record w.server { nodes = t; handles = h } in
     let trees = swept_alike s p.tree (λ file. is_file_held w.server file) same.tree.names same.tree.next_birth same.tree.next_serial same.tree.files
     (λ file held.
-        both (list_any (λ (row : HeldNode). nat_eq row.file file) (values t.rows)) (list_any (λ (x : OpenNumber). nat_eq x.file file) (values h.handles)) (list_any (λ (row : HeldNode). nat_eq row.file file) (values w.server.nodes.rows))
-        (list_any (λ (x : OpenNumber). nat_eq x.file file) (values w.server.handles.handles)) held (rows_back_files file (files_in_reply wire) w.server.nodes) (handles_back_files file (opens_in_reply wire) w.server.handles)) in
+    both (list_any (λ (row : HeldNode). nat_eq row.file file) (values t.rows)) (list_any (λ (x : OpenNumber). nat_eq x.file file) (values h.handles)) (list_any (λ (row : HeldNode). nat_eq row.file file) (values w.server.nodes.rows))
+    (list_any (λ (x : OpenNumber). nat_eq x.file file) (values w.server.handles.handles)) held (rows_back_files file (files_in_reply wire) w.server.nodes) (handles_back_files file (opens_in_reply wire) w.server.handles)) in
     narrowed_alike w p same w.kernel.nodes t h (without_unheld_files s).tree p.tree
     (narrows_fewer w p same one t h (rows_back_denotes (files_in_reply wire) w.server.nodes) (numbers_back (opens_in_reply wire) w.server.handles) holds opens) trees
   where

@@ -1,5 +1,5 @@
 -- Under the coming number and under odd ones nothing is asked: forgets and INTERRUPTs that are read are no asks.
-use Rattle.std.proofs.Common.{◌≡◌, ◌≢◌, ◌≤◌, ℕ, ◌+◌, ◌-◌, ◌%◌, Bool, true, false, cond, List, [], ◌∷◌, Option, Some, None, nat_eq, count_by, refl, ap, sym, subst, ◌∙◌, arith}
+use Rattle.std.proofs.Common.{◌≡◌, ◌≢◌, ◌≤◌, ℕ, ◌+◌, ◌%◌, Bool, true, false, cond, List, [], ◌∷◌, Option, Some, None, nat_eq, count_by, refl, ap, ◌∙◌, arith}
 use Rattle.std.specs.Map.{lookup}
 use Rattle.fuse_spec.proofs.QueueCounts.{count_by-cons}
 use Rattle.fuse_spec.specs.declared.Purpose.{Purpose}
