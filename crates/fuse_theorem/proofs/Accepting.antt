@@ -91,6 +91,9 @@ module _ (w : World) (p : Plain) (numbered : IsNumbered w) (one : OneId w.server
       ∙ ap (λ (b : Bool). replied (record w.kernel { queues = without w.kernel.queues sent.unique }) call state b sent.wire) is.goes
       ∙ ap (λ (u : Use). (Accepted, after_use (judged (record w.kernel { queues = without w.kernel.queues sent.unique }) call state sent.wire u) state)) is.used
 
+  pub accepts : (replied_to_call (record w.kernel { queues = without w.kernel.queues sent.unique }) call sent.wire (get w.kernel.vfs.calls call)).0 ≡ Accepted
+  accepts = ap (λ (took : WriteResult × Kernel). took.0) replied_is
+
   abbrev results' : List ReplyResult
   results' = w.results ++ record { number = sent.number; unique = sent.unique; result = Accepted } ∷ []
 

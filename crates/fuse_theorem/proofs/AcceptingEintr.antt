@@ -57,6 +57,9 @@ module _ (w : World) (p : Plain) (numbered : IsNumbered w) (one : OneId w.server
       ap (λ (o : Option (CallState Opened)). replied_to_call k1 call sent.wire o) is.state_is ∙ ap (λ (x : WireReply). replied k1 call state (goes_with (asked state) x) x) is.wire_is
       ∙ ap (λ (b : Bool). replied k1 call state b (failed 4)) (goes_failed (asked state) 4) ∙ took_is state
 
+  pub accepts : (replied_to_call k1 call sent.wire (get w.kernel.vfs.calls call)).0 ≡ Accepted
+  accepts = ap (λ (took : WriteResult × Kernel). took.0) replied_is
+
   abbrev results : List ReplyResult
   results = w.results ++ record { number = sent.number; unique = sent.unique; result = Accepted } ∷ []
 

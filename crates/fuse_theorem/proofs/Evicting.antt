@@ -26,7 +26,7 @@ use Rattle.fuse_theorem.proofs.Narrowing.{Stay, Narrows, narrowed_alike}
 use Rattle.fuse_theorem.proofs.Queuing.{queues_alike}
 use Rattle.fuse_theorem.proofs.Sweeping.{found_any}
 
-or_false : (a b : Bool) → (a || b) ≡ false → (a ≡ false) × (b ≡ false)
+pub or_false : (a b : Bool) → (a || b) ≡ false → (a ≡ false) × (b ≡ false)
 or_false true b e = absurd (true≢false e)
 or_false false b e = (refl, e)
 

@@ -66,3 +66,4 @@ pub mod FirstSettles
 pub mod FirstMounts
 pub mod FirstPath
 pub mod Fresh
+pub mod EachEvent

@@ -1,3 +1,4 @@
 pub mod Numbering
 pub mod Conditions
 pub mod FirstPath
+pub mod EachEvent

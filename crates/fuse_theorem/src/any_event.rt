@@ -12,7 +12,10 @@ ghost use Rattle.fuse_spec.specs.Kernel.{body_of};
 ghost use Rattle.fuse_spec.specs.Server.{holding};
 ghost use Rattle.std.specs.List.{remove as without};
 ghost use Rattle.fuse_spec.specs.Events as event;
-ghost use Rattle.fuse_spec.specs.Steps.{is_ready};
+ghost use Rattle.fuse_spec.specs.Steps.{is_ready, step};
+ghost use Rattle.fuse_spec.specs.Events.{Event, Outcome};
+ghost use Rattle.std.specs.Prelude.{Ok};
+ghost use Rattle.fuse_theorem.specs.EachEvent.{Moves, Needs};
 ghost use Rattle.fuse_spec.specs.Worlds.{World, first_world, after_tick, after_call, after_read_pending, after_read_interrupt, after_read_forgets};
 ghost use Rattle.fuse_spec.specs.Plain.{Plain, first_plain};
 ghost use Rattle.fuse_spec.specs.PlainSteps.{Takes};
@@ -49,6 +52,12 @@ ghost use Rattle.fuse_theorem.specs.Conditions.{OneId, KnownAreHeld, TablesSound
 /// The world before its first mount is alike to the plain world with the root alone.
 pub fn first_worlds()
     ensures { Alike first_world first_plain }
+{}
+
+/// Any event that is not refused, where what it needs of the world holds (`EachEvent.antt`): the plain world takes the step of its outcome, and the
+/// two are alike again. The other laws are its cases.
+pub fn step()
+    ensures { (w : World) (p : Plain) → Alike w p → (choice : ℕ → ℕ) (e : Event) (o : Outcome) (after : World) → Needs choice w p e → step choice w e ≡ Ok (o, after) → Moves p e o after }
 {}
 
 /// Time passes.
