@@ -73,7 +73,7 @@ module _ (w : World) (p : Plain) (same : Alike w p) (o : Outcome) (last : World)
   mounts f m choice needs e =
       let timely = unless_ok (nat_lt max_validity (max f m)) refusal.BadTime (unless (is_busy w.kernel) refusal.Busy (accepted event.mounted (after_mount w f m))) o last e in
       let idle = unless_ok (is_busy w.kernel) refusal.Busy (accepted event.mounted (after_mount w f m)) o last timely.rest in
-      led p (event.mount f m) event.mounted (after_mount w f m) o last (ok_is event.mounted (after_mount w f m) o last idle.rest) (mount_goes w f m p needs.0 needs.1 same)
+      led p (event.mount f m) event.mounted (after_mount w f m) o last (ok_is event.mounted (after_mount w f m) o last idle.rest) (mount_goes w f m p needs.root needs.answers same)
 
   calls : (call : Call) (choice : ℕ → ℕ) → Needs choice w p (event.call call) → step choice w (event.call call) ≡ Ok (o, last) → Moves p (event.call call) o last
   calls call choice needs e =
@@ -267,13 +267,14 @@ module _ (w : World) (p : Plain) (same : Alike w p) (o : Outcome) (last : World)
           let outcome = event.evicted node counted.count in
           let after = after_evict w node counted in
           let unused = unless_ok (is_pinned w.kernel node || is_bound w.kernel node) refusal.Busy (accepted outcome after) o last f in
+          let rooted = needs.0 in
           let parts = or_false (is_pinned w.kernel node) (is_bound w.kernel node) unused.passed in
-          led p (event.evict node) outcome after o last (ok_is outcome after o last unused.rest) (stays p (event.evict node) outcome after (0, refl) (evicted_alike w p same node needs.0 parts.0 parts.1 needs.1 counted))
+          led p (event.evict node) outcome after o last (ok_is outcome after o last unused.rest) (stays p (event.evict node) outcome after (0, refl) (evicted_alike w p same node rooted.root parts.0 parts.1 needs.1 counted))
 
   aborts : (choice : ℕ → ℕ) → Needs choice w p event.abort → step choice w event.abort ≡ Ok (o, last) → Moves p event.abort o last
   aborts choice needs e =
       let lives = unless_ok (not (is_live w.kernel.phase)) refusal.NotReady (accepted event.aborted (after_abort w)) o last e in
-      led p event.abort event.aborted (after_abort w) o last (ok_is event.aborted (after_abort w) o last lives.rest) (abort_goes w p needs.0 needs.1 same)
+      led p event.abort event.aborted (after_abort w) o last (ok_is event.aborted (after_abort w) o last lives.rest) (abort_goes w p needs.root needs.answers same)
 
   -- Any event.
   pub each_moves : (choice : ℕ → ℕ) (e : Event) → Needs choice w p e → step choice w e ≡ Ok (o, last) → Moves p e o last

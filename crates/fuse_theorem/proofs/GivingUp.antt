@@ -25,7 +25,7 @@ answer_of answer (e ∷ calls) answers call = get_put (all_answered answer calls
     by true rest = refl
     by false rest = rest
 
-answers_sorted : {X : Type 0} (answer : Answer) (calls : Map X) (answers : Map Answer) → T (is_sorted nat_cmp answers) → T (is_sorted nat_cmp (all_answered answer calls answers))
+pub answers_sorted : {X : Type 0} (answer : Answer) (calls : Map X) (answers : Map Answer) → T (is_sorted nat_cmp answers) → T (is_sorted nat_cmp (all_answered answer calls answers))
 answers_sorted answer [] answers sorted = sorted
 answers_sorted answer (e ∷ calls) answers sorted = is_sorted-put nat_cmp nat_cmp_total e.0 answer (all_answered answer calls answers) (answers_sorted answer calls answers sorted)
 

@@ -67,3 +67,4 @@ pub mod FirstMounts
 pub mod FirstPath
 pub mod Fresh
 pub mod EachEvent
+pub mod Rooted

@@ -9,7 +9,7 @@ use Rattle.fuse_spec.specs.declared.ReplyResult.{ReplyResult}
 use Rattle.fuse_spec.specs.Maps.{get, remove}
 use Rattle.fuse_spec.specs.Operations.{Operation, Reply, agreed, files_in_reply}
 use Rattle.fuse_spec.specs.FileOperations.{reply_by}
-use Rattle.fuse_spec.specs.Vfs.{CallState}
+use Rattle.fuse_spec.specs.Vfs.{CallState, Vfs}
 use Rattle.fuse_spec.specs.Queues.{IsSound}
 use Rattle.fuse_spec.specs.QueueCalls.{waiting}
 use Rattle.fuse_spec.specs.Messages.{Request, RequestBody, init, asks, release, forget, batch_forget, interrupt}
@@ -30,6 +30,11 @@ use Rattle.fuse_theorem.specs.Conditions.{OneId, KnownAreHeld, TablesSound, CanP
 -- The plain world takes the step of the outcome, and is alike to the world after it.
 abbrev pub Moves : Plain → Event → Outcome → World → Type 0
 Moves p e o after = (q : Plain) × Takes p e o q × Alike after q
+
+-- The kernel's root is node 1, and the answers that are not collected stand in rising number.
+pub record IsRooted (c : Vfs Opened) : Type 0 where
+  pub root : c.root ≡ 1
+  pub answers : T (is_sorted nat_cmp c.answers)
 
 -- A request that the server can hold, or an INTERRUPT or forgets that it can take.
 abbrev pub CanTake : World → Plain → ℕ → Request → RequestBody → Type 0
@@ -66,7 +71,7 @@ abbrev pub CanSettle : World → ℕ → ReplyResult → Copy → Type 0
 CanSettle w k result copy = HoldsAll (after_settle w k result (Some copy)) (after_settle w k result (Some copy)).server.nodes × HoldsOpens (after_settle w k result (Some copy)) (after_settle w k result (Some copy)).server.handles
 
 abbrev pub Needs : (ℕ → ℕ) → World → Plain → Event → Type 0
-Needs choice w p (event.mount found_ms missing_ms) = (w.kernel.vfs.root ≡ 1) × T (is_sorted nat_cmp w.kernel.vfs.answers)
+Needs choice w p (event.mount found_ms missing_ms) = IsRooted w.kernel.vfs
 Needs choice w p (event.call call) = IsNumbered w × IsOneToOne (MeansIn w)
 Needs choice w p event.read_interrupt = IsSound w.kernel.queues
 Needs choice w p (event.read_forgets n) = IsSound w.kernel.queues
@@ -79,5 +84,5 @@ Needs choice w p (event.settle k) = OneId w.server.nodes × ((result : ReplyResu
 Needs choice w p (event.intr call fatal) = IsNumbered w × (OneId w.server.nodes × UnreadAreUnsent w)
 Needs choice w p (event.tick ms) = Unit {0}
 Needs choice w p (event.drop_name directory name) = IsOneToOne (MeansIn w)
-Needs choice w p (event.evict node) = (w.kernel.vfs.root ≡ 1) × IsUnsent w node
-Needs choice w p event.abort = (w.kernel.vfs.root ≡ 1) × T (is_sorted nat_cmp w.kernel.vfs.answers)
+Needs choice w p (event.evict node) = IsRooted w.kernel.vfs × IsUnsent w node
+Needs choice w p event.abort = IsRooted w.kernel.vfs

@@ -15,7 +15,7 @@ ghost use Rattle.fuse_spec.specs.Events as event;
 ghost use Rattle.fuse_spec.specs.Steps.{is_ready, step};
 ghost use Rattle.fuse_spec.specs.Events.{Event, Outcome};
 ghost use Rattle.std.specs.Prelude.{Ok};
-ghost use Rattle.fuse_theorem.specs.EachEvent.{Moves, Needs};
+ghost use Rattle.fuse_theorem.specs.EachEvent.{IsRooted, Moves, Needs};
 ghost use Rattle.fuse_spec.specs.Worlds.{World, first_world, after_tick, after_call, after_read_pending, after_read_interrupt, after_read_forgets};
 ghost use Rattle.fuse_spec.specs.Plain.{Plain, first_plain};
 ghost use Rattle.fuse_spec.specs.PlainSteps.{Takes};
@@ -228,6 +228,12 @@ pub fn abort()
 pub fn mount()
     ensures { (w : World) (p : Plain) → w.kernel.vfs.root ≡ 1 → T (is_sorted nat_cmp w.kernel.vfs.answers) → Alike w p → (found_ms missing_ms : ℕ) →
         (q : Plain) × Takes p (event.mount found_ms missing_ms) event.mounted q × Alike (after_mount w found_ms missing_ms) q }
+{}
+
+/// The kernel's root is node 1 at first and stays it, and the answers that are not collected stay in rising number, whatever the event.
+pub fn stays_rooted()
+    ensures at_first { IsRooted first_world.kernel.vfs }
+    ensures always { (choice : ℕ → ℕ) (w : World) → IsRooted w.kernel.vfs → (o : Outcome) (after : World) (e : Event) → step choice w e ≡ Ok (o, after) → IsRooted after.kernel.vfs }
 {}
 
 /// After a mount, and after an abort, no node means anything but the root.

@@ -1,0 +1,322 @@
+-- The kernel's root stays node 1, and the answers that are not collected stay in rising number, whatever happens.
+use Rattle.std.proofs.Common.{◌≡◌, ℕ, ◌+◌, ◌-◌, Bool, true, false, cond, List, [], ◌∷◌, Option, Some, None, Ok, nat_eq, slice_get, subst}
+use Rattle.std.specs.Prelude.{◌%◌}
+use Rattle.std.specs.Ordering.{nat_cmp}
+use Rattle.std.specs.FinMap.Entries.{is_sorted-put}
+use Rattle.fuse_spec.specs.declared.Binding.{Binding}
+use Rattle.fuse_spec.specs.declared.IntrEffect.{IntrEffect}
+use Rattle.fuse_spec.specs.declared.IntrEffect.TheVariants.{Dequeued, Flagged, Queued, None as NoEffect}
+use Rattle.fuse_spec.specs.declared.Opened.{Opened}
+use Rattle.fuse_spec.specs.declared.Phase.TheVariants.{Ready}
+use Rattle.fuse_spec.specs.declared.Purpose.{Purpose}
+use Rattle.fuse_spec.specs.declared.Purpose.TheVariants as purpose
+use Rattle.fuse_spec.specs.Maps.{get, put, remove}
+use Rattle.fuse_spec.specs.Answers.{Answer}
+use Rattle.fuse_spec.specs.Answers as answer
+use Rattle.fuse_spec.specs.Begins.{Beginning, faulty, sets_out, uses, closes, beginning}
+use Rattle.fuse_spec.specs.Calls.{Call}
+use Rattle.fuse_spec.specs.CallReplies.{operation_replied, call_replied}
+use Rattle.fuse_spec.specs.Kernel.{Kernel, kernel_aborted, is_aborted, advanced, asking_for, released, released_if_idle, after_use, closed_by, closing_of, call_begun, after_signal, signalled_at, call_signalled, request_of}
+use Rattle.fuse_spec.specs.Messages.{WireReply}
+use Rattle.fuse_spec.specs.Operations.{Operation, getattr, mkdir, create, unlink, rmdir, rename, link, opening, readdir, read, write, Reply, found, missing, created, opened, attributes, listed, content, written, done, failed, files_in_reply}
+use Rattle.fuse_spec.specs.QueueCalls.{waiting, without, after_interrupt, interrupt_effect}
+use Rattle.fuse_spec.specs.Replies.{kernel_reply, learnt, Use, usable, useless, stale, use_of_all, goes_with, is_agreement, judged, replied, replied_to_call, ended_by, reply_taken, odd_taken, interrupt_replied, reply_written}
+use Rattle.fuse_spec.specs.Vfs.{look, no_more, asked, CallState, walking, doing, using, Vfs, Advance, answered, bound, unbound, opened_by, after_walk, after_beginning, numbered, begun, given_up}
+use Rattle.fuse_spec.specs.Walks.{Walked, looks_up, finds_none, walk}
+use Rattle.fuse_spec.specs.Walks as walked
+use Rattle.std.proofs.Common.{not, ◌||◌, length}
+use Rattle.std.specs.Prelude.{nat_lt, nat_le, max}
+use Rattle.std.specs.List.{remove as without_at}
+use Rattle.fuse_spec.specs.declared.Counted.{Counted}
+use Rattle.fuse_spec.specs.declared.Refusal.TheVariants as refusal
+use Rattle.fuse_spec.specs.declared.ReplyResult.{ReplyResult}
+use Rattle.fuse_spec.specs.Maps.{get_name}
+use Rattle.fuse_spec.specs.Numbers.{max_calls, max_validity, clock_end}
+use Rattle.fuse_spec.specs.Operations.{errno_of}
+use Rattle.fuse_spec.specs.QueueCalls.{pending_at, first_forgets}
+use Rattle.fuse_spec.specs.Messages.{Forget, Request, RequestBody}
+use Rattle.fuse_spec.specs.Kernel.{is_live, body_of, is_pinned, is_bound}
+use Rattle.fuse_spec.specs.Server.{HeldRequest, Kept}
+use Rattle.fuse_spec.specs.Copies.{is_current}
+use Rattle.fuse_spec.specs.Taking.{taking}
+use Rattle.fuse_spec.specs.Performs.{served}
+use Rattle.fuse_spec.specs.Worlds.{World, Sent, after_mount, after_call, after_read_interrupt, after_read_forgets, after_read_pending, after_take, after_perform, after_again, after_write, after_settle, after_tick, after_drop, after_evict, after_abort}
+use Rattle.fuse_spec.specs.Worlds as worlds
+use Rattle.fuse_spec.specs.Events.{Event, Outcome}
+use Rattle.fuse_spec.specs.Events as event
+use Rattle.fuse_spec.specs.Uniques.{interrupt_number}
+use Rattle.fuse_spec.specs.Steps.{unless, going, is_ready, is_busy, when_not_interrupted, reading_interrupt, reading_forgets, reading_body, reading_pending, taking_request, performing_held, sending_again, writing_copy, settling, signalling, dropping, evicting, step}
+use Rattle.fuse_theorem.proofs.Accepted.{Leads, accepted, unless_ok, going_ok, ok_is}
+use Rattle.fuse_theorem.specs.EachEvent.{IsRooted}
+use Rattle.std.specs.Cmp.{nat_cmp_total}
+use Rattle.fuse_theorem.proofs.GivingUp.{answers_sorted}
+
+-- ---- what a call does
+
+answered_rooted : (c : Vfs Opened) (call : ℕ) (a : Answer) → IsRooted c → IsRooted (answered c call a)
+answered_rooted c call a r = record { root = r.root; answers = is_sorted-put nat_cmp nat_cmp_total call a c.answers r.answers }
+
+after_walk_rooted : (c : Vfs Opened) (call : ℕ) (x : Walked ℕ Opened) → IsRooted c → IsRooted (after_walk c call x).vfs
+after_walk_rooted c call (looks_up d word words plan) r = record { root = r.root; answers = r.answers }
+after_walk_rooted c call finds_none r = answered_rooted c call (answer.failed 2) r
+after_walk_rooted c call (walked.asks operation) r = record { root = r.root; answers = r.answers }
+
+begun_rooted : (aborted : Bool) (c : Vfs Opened) (call : Call) → IsRooted c → IsRooted (begun aborted c call).vfs
+begun_rooted aborted c call r = by aborted
+  where
+    next : IsRooted (numbered c)
+    next = record { root = r.root; answers = r.answers }
+
+    begins : (b : Beginning ℕ Opened) → IsRooted (after_beginning (numbered c) c.next_call b).vfs
+    begins (faulty errno) = answered_rooted (numbered c) c.next_call (answer.failed errno) next
+    begins (sets_out words plan) = after_walk_rooted (numbered c) c.next_call (walk (look (numbered c)) c.root c.root words plan) next
+    begins (uses handle operation) = record { root = r.root; answers = r.answers }
+    begins (closes handle o) = answered_rooted (record (numbered c) { opens = remove c.opens handle }) c.next_call answer.done (record { root = r.root; answers = r.answers })
+
+    by : (b : Bool) → IsRooted (cond b (no_more (answered (numbered c) c.next_call (answer.failed 107))) (after_beginning (numbered c) c.next_call (beginning c.opens call))).vfs
+    by true = answered_rooted (numbered c) c.next_call (answer.failed 107) next
+    by false = begins (beginning c.opens call)
+
+operation_rooted : (c : Vfs Opened) (call : ℕ) (operation : Operation ℕ Opened) (reply : Reply ℕ Opened) → IsRooted c → IsRooted (operation_replied c call operation reply)
+operation_rooted c call operation (failed errno) r = answered_rooted c call (answer.failed errno) r
+operation_rooted c call (getattr file) (attributes a) r = answered_rooted c call (answer.attributes a) r
+operation_rooted c call (mkdir d name) (found file valid) r = answered_rooted (bound c d name (Some file) valid) call answer.done (record { root = r.root; answers = r.answers })
+operation_rooted c call (create d name) (created file valid o) r = answered_rooted (opened_by (bound c d name (Some file) valid) call o) call answer.done (record { root = r.root; answers = r.answers })
+operation_rooted c call (link linked d name) (found file valid) r = answered_rooted (bound c d name (Some file) valid) call answer.done (record { root = r.root; answers = r.answers })
+operation_rooted c call (unlink d name) done r = answered_rooted (unbound c d name) call answer.done (record { root = r.root; answers = r.answers })
+operation_rooted c call (rmdir d name) done r = answered_rooted (unbound c d name) call answer.done (record { root = r.root; answers = r.answers })
+operation_rooted c call (rename d old e new) done r = answered_rooted (unbound (unbound c d old) e new) call answer.done (record { root = r.root; answers = r.answers })
+operation_rooted c call (opening file) (opened o) r = answered_rooted (opened_by c call o) call answer.done (record { root = r.root; answers = r.answers })
+operation_rooted c call (readdir d after size) (listed records) r = answered_rooted c call (answer.listing records) r
+operation_rooted c call (read o offset size) (content bytes) r = answered_rooted c call (answer.content bytes) r
+operation_rooted c call (write o offset bytes) (written size) r = answered_rooted c call (answer.written size) r
+operation_rooted c call operation reply r = answered_rooted c call (answer.failed 5) r
+
+replied_rooted : (c : Vfs Opened) (call : ℕ) (state : CallState Opened) (reply : Reply ℕ Opened) → IsRooted c → IsRooted (call_replied c call state reply).vfs
+replied_rooted c call (walking d word words plan) (found file valid) r =
+    let c1 = bound c d word (Some file) valid in
+    after_walk_rooted c1 call (walk (look c1) c1.root file words plan) (record { root = r.root; answers = r.answers })
+replied_rooted c call (walking d word words plan) (missing valid) r = answered_rooted (bound c d word None valid) call (answer.failed 2) (record { root = r.root; answers = r.answers })
+replied_rooted c call (walking d word words plan) (failed errno) r = answered_rooted c call (answer.failed errno) r
+replied_rooted c call (walking d word words plan) reply r = answered_rooted c call (answer.failed 5) r
+replied_rooted c call (doing operation) reply r = operation_rooted c call operation reply r
+replied_rooted c call (using handle operation) reply r = operation_rooted c call operation reply r
+
+-- ---- what the kernel does beside it
+
+advanced_rooted : (k : Kernel) (call : ℕ) (next : Advance Opened) → IsRooted next.vfs → IsRooted (advanced k call next).vfs
+advanced_rooted k call next r = by next.operation
+  where
+    by : (o : Option (Operation ℕ Opened)) → IsRooted (asking_for (record k { vfs = next.vfs }) call o).vfs
+    by None = r
+    by (Some operation) = r
+
+idle_rooted : (k : Kernel) (handle : ℕ) → IsRooted k.vfs → IsRooted (released_if_idle k handle).vfs
+idle_rooted k handle r = by (get k.closing handle)
+  where
+    by : (o : Option Opened) → IsRooted (released k handle o).vfs
+    by None = r
+    by (Some x) = r
+
+used_rooted : (k : Kernel) (state : CallState Opened) → IsRooted k.vfs → IsRooted (after_use k state).vfs
+used_rooted k (walking d word words plan) r = r
+used_rooted k (doing operation) r = r
+used_rooted k (using handle operation) r = idle_rooted k handle r
+
+closing_rooted : (k : Kernel) (file : Option (ℕ × Opened)) → IsRooted k.vfs → IsRooted (closing_of k file).vfs
+closing_rooted k None r = r
+closing_rooted k (Some file) r = idle_rooted (record k { closing = put k.closing file.0 file.1 }) file.0 r
+
+pub begins_rooted : (k : Kernel) (call : Call) → IsRooted k.vfs → IsRooted (call_begun k call).vfs
+begins_rooted k call r =
+    closing_rooted (advanced k k.vfs.next_call (begun (is_aborted k.phase) k.vfs call)) (cond (is_aborted k.phase) None (closed_by k.vfs.opens call))
+    (advanced_rooted k k.vfs.next_call (begun (is_aborted k.phase) k.vfs call) (begun_rooted (is_aborted k.phase) k.vfs call r))
+
+pub given_up_rooted : (c : Vfs Opened) → IsRooted c → IsRooted (given_up c)
+given_up_rooted c r = record { root = r.root; answers = answers_sorted (answer.failed 103) c.calls c.answers r.answers }
+
+-- ---- signals
+
+pub signalled_rooted : (k : Kernel) (call : ℕ) (state : CallState Opened) (fatal : Bool) → IsRooted k.vfs → IsRooted (call_signalled k call state fatal).1.vfs
+signalled_rooted k call state fatal r = by (request_of k call)
+  where
+    effect : (q : Kernel) (x : IntrEffect) → IsRooted q.vfs → IsRooted (after_signal q call state x).vfs
+    effect q Dequeued s = used_rooted (record q { vfs = answered q.vfs call (answer.failed 4) }) state (answered_rooted q.vfs call (answer.failed 4) s)
+    effect q Flagged s = s
+    effect q Queued s = s
+    effect q NoEffect s = s
+
+    by : (o : Option ℕ) → IsRooted (signalled_at k call state fatal o).1.vfs
+    by None = r
+    by (Some unique) = effect (record k { queues = after_interrupt k.queues unique fatal }) (interrupt_effect k.queues unique fatal) r
+
+-- ---- replies
+
+judged_rooted : (k : Kernel) (call : ℕ) (state : CallState Opened) (wire : WireReply) (u : Use) → IsRooted k.vfs → IsRooted (judged k call state wire u).vfs
+judged_rooted k call state wire usable r =
+    let next = call_replied k.vfs call state (kernel_reply (asked state) wire) in
+    advanced_rooted (record k { nodes = learnt k.nodes (files_in_reply wire) }) call next
+    (replied_rooted k.vfs call state (kernel_reply (asked state) wire) r)
+judged_rooted k call state wire useless r = answered_rooted k.vfs call (answer.failed 5) r
+judged_rooted k call state wire (stale node) r = answered_rooted k.vfs call (answer.failed 5) r
+
+to_call_rooted : (k : Kernel) (call : ℕ) (wire : WireReply) (o : Option (CallState Opened)) → IsRooted k.vfs → IsRooted (replied_to_call k call wire o).1.vfs
+to_call_rooted k call wire None r = r
+to_call_rooted k call wire (Some state) r = by (goes_with (asked state) wire)
+  where
+    by : (b : Bool) → IsRooted (replied k call state b wire).1.vfs
+    by true = used_rooted (judged k call state wire (use_of_all k.nodes (files_in_reply wire))) state (judged_rooted k call state wire (use_of_all k.nodes (files_in_reply wire)) r)
+    by false = used_rooted (record k { vfs = answered k.vfs call (answer.failed 5) }) state (answered_rooted k.vfs call (answer.failed 5) r)
+
+pub written_rooted : (k : Kernel) (unique : ℕ) (wire : WireReply) → IsRooted k.vfs → IsRooted (reply_written k unique wire).1.vfs
+written_rooted k unique wire r = by (nat_eq (unique % 2) 1)
+  where
+    ended : (q : Kernel) (kept : Purpose) → IsRooted q.vfs → IsRooted (ended_by q kept wire).1.vfs
+    ended q purpose.Init s = agreed_or (is_agreement wire)
+      where
+        agreed_or : (b : Bool) → IsRooted (cond b (record q { phase = Ready }) (kernel_aborted q)).vfs
+        agreed_or true = s
+        agreed_or false = given_up_rooted q.vfs s
+    ended q (purpose.Release o) s = s
+    ended q (purpose.Call call) s = to_call_rooted q call wire (get q.vfs.calls call) s
+
+    even : (o : Option Purpose) → IsRooted (reply_taken k unique wire o).1.vfs
+    even None = r
+    even (Some kept) = ended (record k { queues = without k.queues unique }) kept r
+
+    interrupts : (x : WireReply) → IsRooted (interrupt_replied k (unique - 1) x).1.vfs
+    interrupts (failed errno) = r
+    interrupts done = r
+    interrupts x = r
+
+    odd : (o : Option Purpose) → IsRooted (odd_taken k unique wire o).1.vfs
+    odd None = r
+    odd (Some kept) = interrupts wire
+
+    by : (b : Bool) → IsRooted (cond b (odd_taken k unique wire (waiting k.queues (unique - 1))) (reply_taken k unique wire (waiting k.queues unique))).1.vfs
+    by true = odd (waiting k.queues (unique - 1))
+    by false = even (waiting k.queues unique)
+
+-- ---- events
+
+module _ (choice : ℕ → ℕ) (w : World) (r : IsRooted w.kernel.vfs) (o : Outcome) (last : World) where
+  -- what comes of an event that is not refused
+  leads_to : (outcome : Outcome) (after : World) → Leads outcome after o last → IsRooted after.kernel.vfs → IsRooted last.kernel.vfs
+  leads_to outcome after leads rooted = subst (λ (v : World). IsRooted v.kernel.vfs) leads.after_is rooted
+
+  goes : (outcome : Outcome) (after : World) → going outcome after ≡ Ok (o, last) → IsRooted after.kernel.vfs → IsRooted last.kernel.vfs
+  goes outcome after e rooted = let went = going_ok outcome after o last e in leads_to outcome after went.leads rooted
+
+  sent_off : (v : World) (number unique : ℕ) (wire : Option WireReply) → IsRooted v.kernel.vfs → IsRooted (worlds.replying v number unique wire).kernel.vfs
+  sent_off v number unique None rooted = rooted
+  sent_off v number unique (Some wire) rooted = rooted
+
+  -- The root and the order of the answers stay, whatever the event.
+  pub stays_rooted : (e : Event) → step choice w e ≡ Ok (o, last) → IsRooted last.kernel.vfs
+  stays_rooted (event.mount f m) s =
+      let timely = unless_ok (nat_lt max_validity (max f m)) refusal.BadTime (unless (is_busy w.kernel) refusal.Busy (accepted event.mounted (after_mount w f m))) o last s in
+      let idle = unless_ok (is_busy w.kernel) refusal.Busy (accepted event.mounted (after_mount w f m)) o last timely.rest in
+      leads_to event.mounted (after_mount w f m) (ok_is event.mounted (after_mount w f m) o last idle.rest) (given_up_rooted w.kernel.vfs r)
+  stays_rooted (event.call call) s =
+      let begun = event.begun w.kernel.vfs.next_call in
+      let ready = unless_ok (not (is_ready w.kernel.phase)) refusal.NotReady (unless (nat_le max_calls (length w.kernel.vfs.calls)) refusal.Full (going begun (after_call w call))) o last s in
+      let room = unless_ok (nat_le max_calls (length w.kernel.vfs.calls)) refusal.Full (going begun (after_call w call)) o last ready.rest in
+      goes begun (after_call w call) room.rest (begins_rooted w.kernel call r)
+  stays_rooted event.read_interrupt s =
+      let lives = unless_ok (not (is_live w.kernel.phase)) refusal.NotReady (reading_interrupt w w.kernel.queues.interrupts) o last s in
+      by w.kernel.queues.interrupts lives.rest
+    where
+      by : (xs : List ℕ) → reading_interrupt w xs ≡ Ok (o, last) → IsRooted last.kernel.vfs
+      by [] f = absurd (cc)
+      by (original ∷ rest) f = goes (event.is_read (interrupt_number original)) (after_read_interrupt w original) f r
+  stays_rooted (event.read_forgets n) s =
+      let read = first_forgets w.kernel.queues n in
+      let lives = unless_ok (not (is_live w.kernel.phase)) refusal.NotReady (when_not_interrupted w (reading_forgets w n read)) o last s in
+      let free = unless_ok (not (nat_eq (length w.kernel.queues.interrupts) 0)) refusal.InterruptFirst (reading_forgets w n read) o last lives.rest in
+      by read free.rest
+    where
+      by : (x : Option (ℕ × List Forget)) → reading_forgets w n x ≡ Ok (o, last) → IsRooted last.kernel.vfs
+      by None f = absurd (cc)
+      by (Some x) f = goes (event.is_read x.0) (after_read_forgets w n x.1) f r
+  stays_rooted (event.read_pending k) s =
+      let at = pending_at w.kernel.queues k in
+      let lives = unless_ok (not (is_live w.kernel.phase)) refusal.NotReady (when_not_interrupted w (reading_pending w k at)) o last s in
+      let free = unless_ok (not (nat_eq (length w.kernel.queues.interrupts) 0)) refusal.InterruptFirst (reading_pending w k at) o last lives.rest in
+      by at free.rest
+    where
+      by_body : (unique : ℕ) (body : Option RequestBody) → reading_body w k unique body ≡ Ok (o, last) → IsRooted last.kernel.vfs
+      by_body unique None f = absurd (cc)
+      by_body unique (Some body) f = goes (event.is_read unique) (after_read_pending w k unique body) f r
+
+      by : (x : Option (ℕ × Purpose)) → reading_pending w k x ≡ Ok (o, last) → IsRooted last.kernel.vfs
+      by None f = absurd (cc)
+      by (Some x) f = by_body x.0 (body_of w.kernel x.1) f
+  stays_rooted (event.take k) s = by (slice_get w.requests k) s
+    where
+      by : (x : Option Request) → taking_request w k x ≡ Ok (o, last) → IsRooted last.kernel.vfs
+      by None f = absurd (cc)
+      by (Some q) f =
+          let took = taking w.server q.unique q.body in
+          goes (event.taken q.unique took.word) (after_take w k q.unique took) f (sent_off (record w { requests = without_at w.requests k; server = took.server }) w.server.next_copy q.unique took.reply r)
+  stays_rooted (event.perform unique) s = by (get w.server.held unique) s
+    where
+      by : (x : Option HeldRequest) → performing_held choice w unique x ≡ Ok (o, last) → IsRooted last.kernel.vfs
+      by None f = absurd (cc)
+      by (Some t) f =
+          let did = served choice w.server unique t in
+          goes (event.performed unique (errno_of did.wire) w.server.aborted) (after_perform w unique did) f (sent_off (record w { server = did.server }) w.server.next_copy unique (cond w.server.aborted None (Some did.wire)) r)
+  stays_rooted (event.again unique) s = by (get w.server.kept unique) s
+    where
+      by : (x : Option Kept) → sending_again w unique x ≡ Ok (o, last) → IsRooted last.kernel.vfs
+      by None f = absurd (cc)
+      by (Some kept) f =
+          let current = unless_ok (not (is_current w.server kept.wire)) refusal.NoCopy (going (event.sent_again unique) (after_again w unique kept)) o last f in
+          goes (event.sent_again unique) (after_again w unique kept) current.rest r
+  stays_rooted (event.write k) s = by (slice_get w.replies k) s
+    where
+      by : (x : Option Sent) → writing_copy w k x ≡ Ok (o, last) → IsRooted last.kernel.vfs
+      by None f = absurd (cc)
+      by (Some sent) f =
+          let took = reply_written w.kernel sent.unique sent.wire in
+          goes (event.written sent.unique took.0) (after_write w k sent took) f (written_rooted w.kernel sent.unique sent.wire r)
+  stays_rooted (event.settle k) s = by (slice_get w.results k) s
+    where
+      by : (x : Option ReplyResult) → settling w k x ≡ Ok (o, last) → IsRooted last.kernel.vfs
+      by None f = absurd (cc)
+      by (Some result) f =
+          let outcome = event.settled result.unique result.result in
+          let after = after_settle w k result (get w.server.copies result.number) in
+          leads_to outcome after (ok_is outcome after o last f) r
+  stays_rooted (event.intr call fatal) s =
+      let lives = unless_ok (not (is_live w.kernel.phase)) refusal.NotReady (signalling w call fatal (get w.kernel.vfs.calls call)) o last s in
+      by (get w.kernel.vfs.calls call) lives.rest
+    where
+      by : (x : Option (CallState Opened)) → signalling w call fatal x ≡ Ok (o, last) → IsRooted last.kernel.vfs
+      by None f = absurd (cc)
+      by (Some state) f =
+          let moved = call_signalled w.kernel call state fatal in
+          goes (event.interrupted call moved.0) (record w { kernel = moved.1 }) f (signalled_rooted w.kernel call state fatal r)
+  stays_rooted (event.tick ms) s =
+      let outcome = event.now (w.kernel.vfs.clock + ms) in
+      let timely = unless_ok (nat_le clock_end (w.kernel.vfs.clock + ms)) refusal.BadTime (accepted outcome (after_tick w ms)) o last s in
+      leads_to outcome (after_tick w ms) (ok_is outcome (after_tick w ms) o last timely.rest) (record { root = r.root; answers = r.answers })
+  stays_rooted (event.drop_name directory name) s =
+      let lives = unless_ok (not (is_live w.kernel.phase)) refusal.NotReady (dropping (after_drop w directory name) (get_name w.kernel.vfs.names (directory, name))) o last s in
+      by (get_name w.kernel.vfs.names (directory, name)) lives.rest
+    where
+      by : (x : Option Binding) → dropping (after_drop w directory name) x ≡ Ok (o, last) → IsRooted last.kernel.vfs
+      by None f = absurd (cc)
+      by (Some b) f = leads_to event.dropped (after_drop w directory name) (ok_is event.dropped (after_drop w directory name) o last f) (record { root = r.root; answers = r.answers })
+  stays_rooted (event.evict node) s =
+      let lives = unless_ok (not (is_live w.kernel.phase)) refusal.NotReady (evicting w node (get w.kernel.nodes node)) o last s in
+      by (get w.kernel.nodes node) lives.rest
+    where
+      by : (x : Option Counted) → evicting w node x ≡ Ok (o, last) → IsRooted last.kernel.vfs
+      by None f = absurd (cc)
+      by (Some counted) f =
+          let outcome = event.evicted node counted.count in
+          let unused = unless_ok (is_pinned w.kernel node || is_bound w.kernel node) refusal.Busy (accepted outcome (after_evict w node counted)) o last f in
+          leads_to outcome (after_evict w node counted) (ok_is outcome (after_evict w node counted) o last unused.rest) r
+  stays_rooted event.abort s =
+      let lives = unless_ok (not (is_live w.kernel.phase)) refusal.NotReady (accepted event.aborted (after_abort w)) o last s in
+      leads_to event.aborted (after_abort w) (ok_is event.aborted (after_abort w) o last lives.rest) (given_up_rooted w.kernel.vfs r)
