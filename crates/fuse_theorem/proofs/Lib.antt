@@ -68,3 +68,4 @@ pub mod FirstPath
 pub mod Fresh
 pub mod EachEvent
 pub mod Rooted
+pub mod QueuesSound

@@ -236,6 +236,13 @@ pub fn stays_rooted()
     ensures always { (choice : ℕ → ℕ) (w : World) → IsRooted w.kernel.vfs → (o : Outcome) (after : World) (e : Event) → step choice w e ≡ Ok (o, after) → IsRooted after.kernel.vfs }
 {}
 
+/// The queues are sound at first and stay it, whatever the event: a number has one request at most, and stands on the list of INTERRUPTs once at
+/// most.
+pub fn queues_stay_sound()
+    ensures at_first { IsSound first_world.kernel.queues }
+    ensures always { (choice : ℕ → ℕ) (w : World) → IsSound w.kernel.queues → (o : Outcome) (after : World) (e : Event) → step choice w e ≡ Ok (o, after) → IsSound after.kernel.queues }
+{}
+
 /// After a mount, and after an abort, no node means anything but the root.
 pub fn root_alone()
     ensures { (w : World) (id file : ℕ) → ((found_ms missing_ms : ℕ) → MeansIn (after_mount w found_ms missing_ms) id file → (id ≡ 1) × (file ≡ 0)) × (MeansIn (after_abort w) id file → (id ≡ 1) × (file ≡ 0)) }
