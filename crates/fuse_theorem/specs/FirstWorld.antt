@@ -1,0 +1,69 @@
+-- The worlds to which events of the first path lead, and what they keep.
+use Rattle.std.specs.Prelude.{◌≡◌, ◌≢◌, ◌≤◌, ◌<◌, ◌+◌, ℕ, true, false, cond, List, [], Option, Some, None, nat_eq, count_by, is_some, All}
+use Rattle.fuse_spec.specs.declared.Opened.{Opened}
+use Rattle.fuse_spec.specs.declared.Purpose.{Purpose}
+use Rattle.fuse_spec.specs.declared.QueuedRequest.{QueuedRequest}
+use Rattle.fuse_spec.specs.declared.ReplyResult.{ReplyResult}
+use Rattle.fuse_spec.specs.declared.WriteResult.TheVariants.{Invalid}
+use Rattle.fuse_spec.specs.Maps.{Map, get, values, remove}
+use Rattle.fuse_spec.specs.Operations.{files_in_reply, opens_in_reply}
+use Rattle.fuse_spec.specs.Answers.{Answer}
+use Rattle.fuse_spec.specs.Vfs.{Vfs}
+use Rattle.fuse_spec.specs.Queues.{request_under, is_unread}
+use Rattle.fuse_spec.specs.Messages.{Request}
+use Rattle.fuse_spec.specs.Server.{HeldRequest, Copy, fault_of}
+use Rattle.fuse_spec.specs.Worlds.{World, Sent}
+use Rattle.fuse_spec.specs.Plain.{Plain}
+use Rattle.fuse_spec.specs.Alike.{Alike}
+use Rattle.fuse_theorem.specs.Numbering.{IsNumbered}
+use Rattle.fuse_theorem.specs.FirstPath.{StatsRoot, IsFirstBody, unperformed, OnlyRoot}
+use Rattle.fuse_theorem.specs.EachEvent.{IsRooted}
+
+-- Each unanswered call is a call of `stat`. A call with an answer has begun, and is not unanswered.
+pub record CallsSound (c : Vfs Opened) : Type 0 where
+  pub states : All StatsRoot (values c.calls)
+  pub answered : (call : ℕ) (a : Answer) → get c.answers call ≡ Some a → (get c.calls call ≡ None) × (call < c.next_call)
+
+-- How often a number stands under way between the kernel's reading of a request and the reply: on the link, held, or on a copy.
+abbrev pub under_way : World → ℕ → ℕ
+under_way w unique =
+    count_by (λ (r : Request). nat_eq unique r.unique) w.requests + cond (is_some (get w.server.held unique)) 1 0 + count_by (λ (sent : Sent). nat_eq unique sent.unique) w.replies
+
+-- A number has one request that is not performed, or one kept reply, or neither. A request that was read and is unanswered is under way.
+pub record RequestsSound (w : World) : Type 0 where
+  pub bodies : All (λ (t : HeldRequest). IsFirstBody t.body) (values w.server.held)
+  pub once : (unique : ℕ) → unperformed w unique + cond (is_some (get w.server.kept unique)) 1 0 ≤ 1
+  pub read : (unique : ℕ) (r : QueuedRequest Purpose) → request_under w.kernel.queues unique ≡ Some r → is_unread r.mark ≡ false → 1 ≤ under_way w unique
+
+-- How often a copy stands under its number: on the reply link, or with its result on the result link.
+abbrev pub outstanding : List Sent → List ReplyResult → ℕ → ℕ
+outstanding replies results number = count_by (λ (sent : Sent). nat_eq number sent.number) replies + count_by (λ (r : ReplyResult). nat_eq number r.number) results
+
+-- The copies that stand on a link are copies of the server's, each under a number of its own. None names a node or an open number, and none
+-- was answered that its body is wrong.
+pub record CopiesSound (replies : List Sent) (results : List ReplyResult) (copies : Map Copy) (next : ℕ) : Type 0 where
+  pub names_none : All (λ (sent : Sent). (files_in_reply sent.wire ≡ []) × (opens_in_reply sent.wire ≡ [])) replies
+  pub none_invalid : All (λ (r : ReplyResult). r.result ≢ Invalid) results
+  pub once : (number : ℕ) → outstanding replies results number ≤ cond (is_some (get copies number)) 1 0
+  pub below : (number : ℕ) (copy : Copy) → get copies number ≡ Some copy → number < next
+
+-- What such a world keeps, beside its numbers and the root.
+pub record FirstKeeps (w : World) : Type 0 where
+  pub no_fault : All (λ (r : Request). fault_of w.server r ≡ None) w.requests
+  pub results : All (λ (r : ReplyResult). is_some (get w.server.copies r.number) ≡ true) w.results
+  pub rooted : IsRooted w.kernel.vfs
+  pub calls : CallsSound w.kernel.vfs
+  pub requests : RequestsSound w
+  pub copies : CopiesSound w.replies w.results w.server.copies w.server.next_copy
+
+-- A world of the first path: the root alone, and alike to a plain world.
+pub record IsFirstWorld (w : World) : Type 0 where
+  pub numbered : IsNumbered w
+  pub root : OnlyRoot w
+  pub more : FirstKeeps w
+  pub plain : Plain
+  pub alike : Alike w plain
+
+-- The world once the answer of one call is collected.
+abbrev pub handed_out : World → ℕ → World
+handed_out w call = record w { kernel = record w.kernel { vfs = record w.kernel.vfs { answers = remove w.kernel.vfs.answers call } } }
