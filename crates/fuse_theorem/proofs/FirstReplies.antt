@@ -173,7 +173,7 @@ module _ (w : World) (p : Plain) (numbered : IsNumbered w) (root : OnlyRoot w) (
           let none_for = none_left w p numbered same sent.unique call is_wait.request pair.ask is_wait.under serves ask_there w1.kernel.queues.interrupts in
           let alone = call_replied_alone w.kernel.vfs call state heard in
           let numbered2 = advanced_numbered w1 numbered1 w.kernel.vfs.next_call call next none_for alone low (omega arith) (λ operation e. absurd (cc (quiet, e))) in
-          let root2 = advanced_root w1 numbered1 root1 live w.kernel.vfs.next_call call next none_for alone (record { stats = stays.stats; names = stays.names; opens = stays.opens; root = stays.root }) in
+          let root2 = advanced_root w1 numbered1 root1 live w.kernel.vfs.next_call call next none_for alone (record { stats = stays.stats; states = stays.states; other_answers = stays.other_answers; answer = stays.answer; names = stays.names; opens = stays.opens; root = stays.root }) in
           let live2 : is_live (advanced k1 call next).phase ≡ true = ap (λ (o : Option (Operation ℕ Opened)). is_live (asking_for (record k1 { vfs = next.vfs }) call o).phase) quiet ∙ live in
           let free = next_unasked w p numbered.queues same live in
           record {

@@ -47,6 +47,7 @@ pub mod OnlyRoots
 pub mod GivingUp
 pub mod Aborting
 pub mod Mounting
+pub mod Values
 pub mod FirstCalls
 pub mod Numbered
 pub mod FirstSteps
