@@ -16,7 +16,7 @@ use Rattle.fuse_spec.specs.Plain.{Plain}
 use Rattle.fuse_spec.specs.Alike.{Alike}
 use Rattle.fuse_theorem.specs.Numbering.{IsNumbered}
 use Rattle.fuse_theorem.specs.FirstPath.{OnlyRoot, Goes}
-use Rattle.fuse_theorem.proofs.Accepted.{is_not, unless_ok, going_ok, next_within, after_next}
+use Rattle.fuse_theorem.proofs.Accepted.{Leads, is_not, unless_ok, going_ok, next_within, after_next}
 use Rattle.fuse_theorem.proofs.Advancing.{begun_alone}
 use Rattle.fuse_theorem.proofs.Calling.{live_if_ready, none_new, call_goes}
 use Rattle.fuse_theorem.proofs.FirstCalls.{begun_at_root}
@@ -25,14 +25,14 @@ use Rattle.fuse_theorem.proofs.Numbered.{advanced_numbered}
 use Rattle.fuse_theorem.proofs.OnlyRoots.{one_root}
 
 module _ (w : World) (p : Plain) (numbered : IsNumbered w) (root : OnlyRoot w) (same : Alike w p) (path : List ℕ) where
-  abbrev next : Advance Opened
+  abbrev pub next : Advance Opened
   next = begun (is_aborted w.kernel.phase) w.kernel.vfs (call.stat path)
 
-  abbrev begun_kernel : Kernel
+  abbrev pub begun_kernel : Kernel
   begun_kernel = advanced w.kernel w.kernel.vfs.next_call next
 
   -- no open file is closed
-  nothing_closed : (b : Bool) → closing_of begun_kernel (cond b None (closed_by w.kernel.vfs.opens (call.stat path))) ≡ begun_kernel
+  pub nothing_closed : (b : Bool) → closing_of begun_kernel (cond b None (closed_by w.kernel.vfs.opens (call.stat path))) ≡ begun_kernel
   nothing_closed true = refl
   nothing_closed false = refl
 
@@ -60,11 +60,21 @@ module _ (w : World) (p : Plain) (numbered : IsNumbered w) (root : OnlyRoot w) (
         root = subst OnlyRoot (sym is_begun) (advanced_root w numbered root live (w.kernel.vfs.next_call + 1) w.kernel.vfs.next_call next none_for alone stays);
       }
 
-  pub first_begins : (choice : ℕ → ℕ) (o : Outcome) (after : World) → step choice w (event.call (call.stat path)) ≡ Ok (o, after) → Goes w p (event.call (call.stat path)) o after
-  first_begins choice o after e =
+  -- An accepted call begins in a ready mount.
+  pub record BeginsCall (o : Outcome) (after : World) : Type 0 where
+    pub ready : is_ready w.kernel.phase ≡ true
+    pub within : is_past (after_call w (call.stat path)) ≡ false
+    pub leads : Leads (event.begun w.kernel.vfs.next_call) (after_call w (call.stat path)) o after
+
+  pub begins_call : (choice : ℕ → ℕ) (o : Outcome) (after : World) → step choice w (event.call (call.stat path)) ≡ Ok (o, after) → BeginsCall o after
+  begins_call choice o after e =
       let begin = going (event.begun w.kernel.vfs.next_call) (after_call w (call.stat path)) in
       let ready = unless_ok (not (is_ready w.kernel.phase)) refusal.NotReady (unless (nat_le max_calls (length w.kernel.vfs.calls)) refusal.Full begin) o after e in
       let room = unless_ok (nat_le max_calls (length w.kernel.vfs.calls)) refusal.Full begin o after ready.rest in
       let went = going_ok (event.begun w.kernel.vfs.next_call) (after_call w (call.stat path)) o after room.rest in
-      let goes = begins (is_not (is_ready w.kernel.phase) ready.passed) went.within in
-      subst (λ (x : Outcome × World). Goes w p (event.call (call.stat path)) x.0 x.1) (λ i. (went.leads.outcome_is i, went.leads.after_is i)) goes
+      record { ready = is_not (is_ready w.kernel.phase) ready.passed; within = went.within; leads = went.leads }
+
+  pub first_begins : (choice : ℕ → ℕ) (o : Outcome) (after : World) → step choice w (event.call (call.stat path)) ≡ Ok (o, after) → Goes w p (event.call (call.stat path)) o after
+  first_begins choice o after e =
+      let did = begins_call choice o after e in
+      subst (λ (x : Outcome × World). Goes w p (event.call (call.stat path)) x.0 x.1) (λ i. (did.leads.outcome_is i, did.leads.after_is i)) (begins did.ready did.within)

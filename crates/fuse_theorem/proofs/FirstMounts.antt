@@ -36,7 +36,7 @@ use Rattle.fuse_spec.proofs.Tables.{cmp_same}
 use Rattle.fuse_spec.proofs.QueueSoundness.{IsSound-enqueue}
 use Rattle.fuse_theorem.specs.Numbering.{IsNumbered}
 use Rattle.fuse_theorem.specs.FirstPath.{IsFirstBody, first_init, Serves, Replies, OnlyRoot, Goes}
-use Rattle.fuse_theorem.proofs.Accepted.{unless_ok, ok_is, accepted}
+use Rattle.fuse_theorem.proofs.Accepted.{Leads, unless_ok, ok_is, accepted}
 use Rattle.fuse_theorem.proofs.FirstServes.{swept_root}
 use Rattle.fuse_theorem.proofs.OnlyRoots.{root_alone}
 
@@ -195,19 +195,28 @@ module _ (w : World) (p : Plain) (numbered : IsNumbered w) (root : OnlyRoot w) (
       (sym (swept_root server root.tree refl) ∙ ap (λ (v : Validity). remounted w.server v) is)
       (record { plain = q; takes = (0, ap (λ (v : Validity). Some (plain_mounted p v)) (sym is)); alike = mounted_alike; numbered = mounted_numbered; root = mounted_root })
 
-pub first_mounts : (w : World) (p : Plain) → IsNumbered w → OnlyRoot w → Alike w p → (found_ms missing_ms : ℕ) (choice : ℕ → ℕ) (o : Outcome) (after : World) → step choice w (event.mount found_ms missing_ms) ≡ Ok (o, after)
-    → Goes w p (event.mount found_ms missing_ms) o after
-first_mounts w p numbered root same found_ms missing_ms choice o after e =
+-- Where a mount is accepted, no call is unanswered.
+pub record MountsAnew (w : World) (found_ms missing_ms : ℕ) (o : Outcome) (after : World) : Type 0 where
+  pub no_calls : w.kernel.vfs.calls ≡ []
+  pub leads : Leads event.mounted (after_mount w found_ms missing_ms) o after
+
+pub mounts_anew : (w : World) → OnlyRoot w → (found_ms missing_ms : ℕ) (choice : ℕ → ℕ) (o : Outcome) (after : World) → step choice w (event.mount found_ms missing_ms) ≡ Ok (o, after) → MountsAnew w found_ms missing_ms o after
+mounts_anew w root found_ms missing_ms choice o after e =
     let mount = accepted event.mounted (after_mount w found_ms missing_ms) in
     let in_time = unless_ok (nat_lt max_validity (max found_ms missing_ms)) refusal.BadTime (unless (is_busy w.kernel) refusal.Busy mount) o after e in
     let free = unless_ok (is_busy w.kernel) refusal.Busy mount o after in_time.rest in
-    let leads = ok_is event.mounted (after_mount w found_ms missing_ms) o after free.rest in
-    subst (λ (y : Outcome × World). Goes w p (event.mount found_ms missing_ms) y.0 y.1) (λ i. (leads.outcome_is i, leads.after_is i))
-    (mounts w p numbered root same (none (is_live w.kernel.phase) refl free.passed) (record { found_ms = found_ms; missing_ms = missing_ms }) found_ms missing_ms refl)
+    record { no_calls = none (is_live w.kernel.phase) refl free.passed; leads = ok_is event.mounted (after_mount w found_ms missing_ms) o after free.rest }
   where
     none : (live : Bool) → is_live w.kernel.phase ≡ live → is_busy w.kernel ≡ false → w.kernel.vfs.calls ≡ []
     none true live passed = no_entries w.kernel.vfs.calls (idle (is_live w.kernel.phase) (length w.kernel.vfs.calls) (length w.kernel.vfs.opens) passed live)
     none false down passed = (root.unmounted down).0
+
+pub first_mounts : (w : World) (p : Plain) → IsNumbered w → OnlyRoot w → Alike w p → (found_ms missing_ms : ℕ) (choice : ℕ → ℕ) (o : Outcome) (after : World) → step choice w (event.mount found_ms missing_ms) ≡ Ok (o, after)
+    → Goes w p (event.mount found_ms missing_ms) o after
+first_mounts w p numbered root same found_ms missing_ms choice o after e =
+    let did = mounts_anew w root found_ms missing_ms choice o after e in
+    subst (λ (y : Outcome × World). Goes w p (event.mount found_ms missing_ms) y.0 y.1) (λ i. (did.leads.outcome_is i, did.leads.after_is i))
+    (mounts w p numbered root same did.no_calls (record { found_ms = found_ms; missing_ms = missing_ms }) found_ms missing_ms refl)
 
 -- The world before its first mount.
 pub first_numbered : IsNumbered first_world

@@ -31,7 +31,7 @@ use Rattle.fuse_spec.specs.Alike.{RequestBodyAsked, Meant, MeantOpen, StageTold,
 use Rattle.fuse_spec.proofs.Tables.{get_put_here, get_put_there, get_gone_here, get_gone_there}
 use Rattle.fuse_theorem.specs.Numbering.{IsNumbered}
 use Rattle.fuse_theorem.specs.FirstPath.{IsFirstBody, first_init, first_lookup, first_getattr, RepliesTo, to_init, to_lookup, to_getattr, kept_under, Serves, Replies, OnlyRoot, Goes}
-use Rattle.fuse_theorem.proofs.Accepted.{going_ok}
+use Rattle.fuse_theorem.proofs.Accepted.{Leads, going_ok}
 use Rattle.fuse_theorem.proofs.Finding.{same_is, none_passes}
 use Rattle.fuse_theorem.proofs.Changing.{with_ask, MayReplace, ask_changed}
 use Rattle.fuse_theorem.proofs.OnlyRoots.{root_is_directory, no_names}
@@ -64,22 +64,22 @@ first_replies s body (first_lookup name) = to_lookup name s.validity.missing_ms
 first_replies s body first_getattr = to_getattr root_attributes
 
 module _ (w : World) (p : Plain) (numbered : IsNumbered w) (root : OnlyRoot w) (same : Alike w p) (unique : ℕ) (t : HeldRequest) (there : get w.server.held unique ≡ Some t) where
-  abbrev wire : WireReply
+  abbrev pub wire : WireReply
   wire = first_reply w.server.validity t.body
 
-  abbrev s1 : Server
+  abbrev pub s1 : Server
   s1 = record w.server { held = remove w.server.held unique }
 
-  abbrev kept : Kept
+  abbrev pub kept : Kept
   kept = record { wire = wire; first = w.server.next_copy }
 
-  abbrev copies : Map Copy
+  abbrev pub copies : Map Copy
   copies = put w.server.copies w.server.next_copy (record { unique = unique; wire = wire; first = w.server.next_copy })
 
-  abbrev sent : Sent
+  abbrev pub sent : Sent
   sent = record { number = w.server.next_copy; unique = unique; wire = wire }
 
-  abbrev after : World
+  abbrev pub after : World
   after = record w { server = record s1 { kept = put w.server.kept unique kept; copies = copies; next_copy = w.server.next_copy + 1 }; replies = w.replies ++ sent ∷ [] }
 
   parts : IsFirstBody t.body × (t.marked ≡ false) × (is_still_held w.server.nodes t.generations ≡ true) × Serves w.kernel unique t.body
@@ -262,14 +262,32 @@ module _ (w : World) (p : Plain) (numbered : IsNumbered w) (root : OnlyRoot w) (
   pub performs : (errno : ℕ) (lost : Bool) → Goes w p (event.perform unique) (event.performed unique errno lost) after
   performs errno lost = by_body errno lost t.body refl parts.0 (same.requests.held unique t there)
 
-pub first_performs : (w : World) (p : Plain) → IsNumbered w → OnlyRoot w → Alike w p → (unique : ℕ) (choice : ℕ → ℕ) (o : Outcome) (after : World) → step choice w (event.perform unique) ≡ Ok (o, after)
-    → Goes w p (event.perform unique) o after
-first_performs w p numbered root same unique choice o last e = by (get w.server.held unique) refl e
+-- An accepted perform serves the request that is held under its number.
+pub record ServesRequest (w : World) (p : Plain) (numbered : IsNumbered w) (root : OnlyRoot w) (same : Alike w p) (unique : ℕ) (o : Outcome) (last : World) : Type 0 where
+  pub request : HeldRequest
+  pub there : get w.server.held unique ≡ Some request
+  pub errno : ℕ
+  pub leads : Leads (event.performed unique errno w.server.aborted) (after w p numbered root same unique request there) o last
+
+pub serves_request : (w : World) (p : Plain) (numbered : IsNumbered w) (root : OnlyRoot w) (same : Alike w p) (unique : ℕ) (choice : ℕ → ℕ) (o : Outcome) (last : World) → step choice w (event.perform unique) ≡ Ok (o, last)
+    → ServesRequest w p numbered root same unique o last
+serves_request w p numbered root same unique choice o last e = by (get w.server.held unique) refl e
   where
-    by : (s : Option HeldRequest) → get w.server.held unique ≡ s → performing_held choice w unique s ≡ Ok (o, last) → Goes w p (event.perform unique) o last
+    by : (s : Option HeldRequest) → get w.server.held unique ≡ s → performing_held choice w unique s ≡ Ok (o, last) → ServesRequest w p numbered root same unique o last
     by None found e = absurd (cc)
     by (Some t) found e =
         let did = served choice w.server unique t in
         let went = going_ok (event.performed unique (errno_of did.wire) w.server.aborted) (after_perform w unique did) o last e in
-        subst (λ (y : Outcome × World). Goes w p (event.perform unique) y.0 y.1) (λ i. (went.leads.outcome_is i, (sym (is_served w p numbered root same unique t found choice) ∙ went.leads.after_is) i))
-        (performs w p numbered root same unique t found (errno_of did.wire) w.server.aborted)
+        record {
+          request = t;
+          there = found;
+          errno = errno_of did.wire;
+          leads = record { outcome_is = went.leads.outcome_is; after_is = sym (is_served w p numbered root same unique t found choice) ∙ went.leads.after_is };
+        }
+
+pub first_performs : (w : World) (p : Plain) → IsNumbered w → OnlyRoot w → Alike w p → (unique : ℕ) (choice : ℕ → ℕ) (o : Outcome) (after : World) → step choice w (event.perform unique) ≡ Ok (o, after)
+    → Goes w p (event.perform unique) o after
+first_performs w p numbered root same unique choice o last e =
+    let did = serves_request w p numbered root same unique choice o last e in
+    subst (λ (y : Outcome × World). Goes w p (event.perform unique) y.0 y.1) (λ i. (did.leads.outcome_is i, did.leads.after_is i))
+    (performs w p numbered root same unique did.request did.there did.errno w.server.aborted)

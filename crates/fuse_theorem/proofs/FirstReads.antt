@@ -27,7 +27,7 @@ use Rattle.fuse_spec.proofs.QueueSoundness.{IsSound-mark, mark_under-pending}
 use Rattle.fuse_spec.proofs.QueueReadings.{pending-mark, kept_under-mark, key_count-le-one}
 use Rattle.fuse_theorem.specs.Numbering.{IsNumbered}
 use Rattle.fuse_theorem.specs.FirstPath.{IsFirstBody, kept_under, Serves, unperformed, OnlyRoot, Goes}
-use Rattle.fuse_theorem.proofs.Accepted.{unless_ok, going_ok, is_not}
+use Rattle.fuse_theorem.proofs.Accepted.{Leads, unless_ok, going_ok, is_not}
 use Rattle.fuse_theorem.proofs.Finding.{All-filter, filtered}
 use Rattle.fuse_theorem.proofs.Queuing.{All-at, same_body}
 use Rattle.fuse_theorem.proofs.Reading.{read_pending_alike}
@@ -77,7 +77,7 @@ module _ (w : World) (p : Plain) (numbered : IsNumbered w) (root : OnlyRoot w) (
       (All-at (λ (x : ℕ × QueuedRequest Purpose). is_unread x.1.mark ≡ true) (pending q0) place e (filtered (λ (x : ℕ × QueuedRequest Purpose). is_unread x.1.mark) q0.requests) found)
       (All-at (λ (x : ℕ × QueuedRequest Purpose). is_signalled x.1.mark ≡ false) (pending q0) place e (All-filter (λ (x : ℕ × QueuedRequest Purpose). is_unread x.1.mark) (λ (x : ℕ × QueuedRequest Purpose). is_signalled x.1.mark ≡ false) q0.requests root.marks) found)
 
-  is_marked : after_read_pending q0 place ≡ q1
+  pub is_marked : after_read_pending q0 place ≡ q1
   is_marked =
       ap (λ (o : Option (ℕ × QueuedRequest Purpose)). option_map_or (λ (x : ℕ × QueuedRequest Purpose). after_reading q0 x.0 x.1.mark) o q0) found ∙ ap (λ (m : Mark). after_reading q0 e.0 m) mark_is
 
@@ -142,9 +142,17 @@ module _ (w : World) (p : Plain) (numbered : IsNumbered w) (root : OnlyRoot w) (
         root = subst OnlyRoot (sym is_read) root_after;
       }
 
-pub first_reads : (w : World) (p : Plain) → IsNumbered w → OnlyRoot w → Alike w p → (place : ℕ) (choice : ℕ → ℕ) (o : Outcome) (after : World) → step choice w (event.read_pending place) ≡ Ok (o, after)
-    → Goes w p (event.read_pending place) o after
-first_reads w p numbered root same place choice o after e =
+-- An accepted read reads the pending request at its place, in a live mount.
+pub record ReadsRequest (w : World) (place : ℕ) (o : Outcome) (after : World) : Type 0 where
+  pub live : is_live w.kernel.phase ≡ true
+  pub entry : ℕ × QueuedRequest Purpose
+  pub body : RequestBody
+  pub found : slice_get (pending w.kernel.queues) place ≡ Some entry
+  pub asks : body_of w.kernel entry.1.kept ≡ Some body
+  pub leads : Leads (event.is_read entry.0) (world_read w place entry.0 body) o after
+
+pub reads_request : (w : World) (place : ℕ) (choice : ℕ → ℕ) (o : Outcome) (after : World) → step choice w (event.read_pending place) ≡ Ok (o, after) → ReadsRequest w place o after
+reads_request w place choice o after e =
     let q0 = w.kernel.queues in
     let reading = reading_pending w place (pending_at q0 place) in
     let live = unless_ok (not (is_live w.kernel.phase)) refusal.NotReady (when_not_interrupted w reading) o after e in
@@ -152,13 +160,19 @@ first_reads w p numbered root same place choice o after e =
     by (is_not (is_live w.kernel.phase) live.passed) (slice_get (pending q0) place) refl quiet.rest
   where
     asked : is_live w.kernel.phase ≡ true → (x : ℕ × QueuedRequest Purpose) → slice_get (pending w.kernel.queues) place ≡ Some x → (b : Option RequestBody) → body_of w.kernel x.1.kept ≡ b → reading_body w place x.0 b ≡ Ok (o, after)
-        → Goes w p (event.read_pending place) o after
+        → ReadsRequest w place o after
     asked alive x found None asks e = absurd (cc)
     asked alive x found (Some body) asks e =
         let went = going_ok (event.is_read x.0) (world_read w place x.0 body) o after e in
-        subst (λ (y : Outcome × World). Goes w p (event.read_pending place) y.0 y.1) (λ i. (went.leads.outcome_is i, went.leads.after_is i)) (reads w p numbered root same place x body found asks alive)
+        record { live = alive; entry = x; body = body; found = found; asks = asks; leads = went.leads }
 
     by : is_live w.kernel.phase ≡ true → (s : Option (ℕ × QueuedRequest Purpose)) → slice_get (pending w.kernel.queues) place ≡ s → reading_pending w place (option_map (λ (x : ℕ × QueuedRequest Purpose). (x.0, x.1.kept)) s) ≡ Ok (o, after)
-        → Goes w p (event.read_pending place) o after
+        → ReadsRequest w place o after
     by alive None found e = absurd (cc)
     by alive (Some x) found e = asked alive x found (body_of w.kernel x.1.kept) refl e
+
+pub first_reads : (w : World) (p : Plain) → IsNumbered w → OnlyRoot w → Alike w p → (place : ℕ) (choice : ℕ → ℕ) (o : Outcome) (after : World) → step choice w (event.read_pending place) ≡ Ok (o, after)
+    → Goes w p (event.read_pending place) o after
+first_reads w p numbered root same place choice o after e =
+    let did = reads_request w place choice o after e in
+    subst (λ (y : Outcome × World). Goes w p (event.read_pending place) y.0 y.1) (λ i. (did.leads.outcome_is i, did.leads.after_is i)) (reads w p numbered root same place did.entry did.body did.found did.asks did.live)

@@ -23,7 +23,7 @@ use Rattle.fuse_spec.specs.Alike.{Alike}
 use Rattle.fuse_spec.proofs.Tables.{get_put_here, get_put_there}
 use Rattle.fuse_theorem.specs.Numbering.{IsNumbered}
 use Rattle.fuse_theorem.specs.FirstPath.{IsFirstBody, first_init, first_lookup, first_getattr, Serves, unperformed, OnlyRoot, Goes}
-use Rattle.fuse_theorem.proofs.Accepted.{going_ok}
+use Rattle.fuse_theorem.proofs.Accepted.{Leads, going_ok}
 use Rattle.fuse_theorem.proofs.Finding.{same_is, other_is}
 use Rattle.fuse_theorem.proofs.Queuing.{All-without, All-at}
 use Rattle.fuse_theorem.proofs.Taking.{held_alike, held_generations}
@@ -136,19 +136,35 @@ module _ (w : World) (p : Plain) (numbered : IsNumbered w) (root : OnlyRoot w) (
   takes_it : Goes w p (event.take k) (event.taken r.unique Held) after
   takes_it = record { plain = p; takes = (0, refl); alike = held_alike w p same k r found; numbered = number_after; root = root_after }
 
-pub first_takes : (w : World) (p : Plain) → IsNumbered w → OnlyRoot w → Alike w p → (k : ℕ) (choice : ℕ → ℕ) (o : Outcome) (after : World) → step choice w (event.take k) ≡ Ok (o, after)
-    → Goes w p (event.take k) o after
-first_takes w p numbered root same k choice o after e = by (slice_get w.requests k) refl e
+-- An accepted take holds the request at its place.
+pub record TakesRequest (w : World) (k : ℕ) (o : Outcome) (after : World) : Type 0 where
+  pub request : Request
+  pub found : slice_get w.requests k ≡ Some request
+  pub leads : Leads (event.taken request.unique Held) (record w { requests = remove w.requests k; server = holding w.server request.unique request.body }) o after
+
+pub takes_request : (w : World) → OnlyRoot w → (k : ℕ) (choice : ℕ → ℕ) (o : Outcome) (after : World) → step choice w (event.take k) ≡ Ok (o, after) → TakesRequest w k o after
+takes_request w root k choice o after e = by (slice_get w.requests k) refl e
   where
-    taken : (r : Request) → slice_get w.requests k ≡ Some r → IsFirstBody r.body → taking_request w k (Some r) ≡ Ok (o, after) → Goes w p (event.take k) o after
+    taken : (r : Request) → slice_get w.requests k ≡ Some r → IsFirstBody r.body → taking_request w k (Some r) ≡ Ok (o, after) → TakesRequest w k o after
     taken r found first e =
         let is = taking_first w.server r.unique r.body first in
         let took = taking w.server r.unique r.body in
         let went = going_ok (event.taken r.unique took.word) (after_take w k r.unique took) o after e in
-        let here : (event.taken r.unique Held, record w { requests = remove w.requests k; server = holding w.server r.unique r.body }) ≡ (o, after) =
-        ap (λ (t : TakeResult). (event.taken r.unique t.word, after_take w k r.unique t)) (sym is) ∙ (λ i. (went.leads.outcome_is i, went.leads.after_is i)) in
-        subst (λ (y : Outcome × World). Goes w p (event.take k) y.0 y.1) here (takes_it w p numbered root same k r found)
+        record {
+          request = r;
+          found = found;
+          leads = record {
+            outcome_is = ap (λ (t : TakeResult). event.taken r.unique t.word) (sym is) ∙ went.leads.outcome_is;
+            after_is = ap (λ (t : TakeResult). after_take w k r.unique t) (sym is) ∙ went.leads.after_is;
+          };
+        }
 
-    by : (s : Option Request) → slice_get w.requests k ≡ s → taking_request w k s ≡ Ok (o, after) → Goes w p (event.take k) o after
+    by : (s : Option Request) → slice_get w.requests k ≡ s → taking_request w k s ≡ Ok (o, after) → TakesRequest w k o after
     by None found e = absurd (cc)
     by (Some r) found e = taken r found (All-at (λ (x : Request). IsFirstBody x.body × Serves w.kernel x.unique x.body) w.requests k r root.sent found).0 e
+
+pub first_takes : (w : World) (p : Plain) → IsNumbered w → OnlyRoot w → Alike w p → (k : ℕ) (choice : ℕ → ℕ) (o : Outcome) (after : World) → step choice w (event.take k) ≡ Ok (o, after)
+    → Goes w p (event.take k) o after
+first_takes w p numbered root same k choice o after e =
+    let did = takes_request w root k choice o after e in
+    subst (λ (y : Outcome × World). Goes w p (event.take k) y.0 y.1) (λ i. (did.leads.outcome_is i, did.leads.after_is i)) (takes_it w p numbered root same k did.request did.found)
