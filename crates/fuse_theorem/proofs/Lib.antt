@@ -66,6 +66,7 @@ pub mod FirstCopies
 pub mod FirstSettles
 pub mod FirstMounts
 pub mod FirstPath
+pub mod FirstWorlds
 pub mod Fresh
 pub mod EachEvent
 pub mod Rooted
