@@ -56,13 +56,13 @@ unread_and_quiet Interrupted u s = absurd (cc)
 
 module _ (w : World) (p : Plain) (numbered : IsNumbered w) (root : OnlyRoot w) (same : Alike w p) (place : ℕ) (e : ℕ × QueuedRequest Purpose) (body : RequestBody)
     (found : slice_get (pending w.kernel.queues) place ≡ Some e) (asks : body_of w.kernel e.1.kept ≡ Some body) (live : is_live w.kernel.phase ≡ true) where
-  abbrev q0 : QueueState Purpose
+  abbrev pub q0 : QueueState Purpose
   q0 = w.kernel.queues
 
-  abbrev q1 : QueueState Purpose
+  abbrev pub q1 : QueueState Purpose
   q1 = with_mark q0 e.0 Read
 
-  abbrev new : Request
+  abbrev pub new : Request
   new = record { unique = e.0; body = body }
 
   once_there : key_count e.0 q0.requests ≤ 1
@@ -98,8 +98,9 @@ module _ (w : World) (p : Plain) (numbered : IsNumbered w) (root : OnlyRoot w) (
   mine : kept_under q1 e.0 ≡ Some e.1.kept
   mine = kept_under-mark q0 e.0 e.0 Read ∙ ap (λ (o : Option (QueuedRequest Purpose)). option_map (λ (r : QueuedRequest Purpose). r.kept) o) (lookup-found (λ (x : ℕ × QueuedRequest Purpose). is_unread x.1.mark) q0.requests place e found once_there)
 
-  once_after : (u : ℕ) → unperformed (record w { kernel = record w.kernel { queues = q1 }; requests = w.requests ++ new ∷ [] }) u ≤ 1
-  once_after u =
+  -- under each number as many requests are not performed as before
+  pub as_many : (u : ℕ) → unperformed (record w { kernel = record w.kernel { queues = q1 }; requests = w.requests ++ new ∷ [] }) u ≡ unperformed w u
+  as_many u =
       let inside : place < length (pending q0) = within (slice_get_cases (pending q0) place) in
       let gone = sum_by-remove (λ (x : ℕ × QueuedRequest Purpose). cond (nat_eq u x.0) 1 0) (pending q0) place e inside in
       let is_e : get_or (pending q0) place e ≡ e = get_or_from_slice_get (pending q0) place e e found in
@@ -108,12 +109,14 @@ module _ (w : World) (p : Plain) (numbered : IsNumbered w) (root : OnlyRoot w) (
       let pushed : count_by (λ (r : Request). nat_eq u r.unique) (w.requests ++ new ∷ []) ≡ count_by (λ (r : Request). nat_eq u r.unique) w.requests + cond (nat_eq u e.0) 1 0 =
       count_by-push (λ (r : Request). nat_eq u r.unique) w.requests new in
       let marked : pending q1 ≡ remove (pending q0) place = pending-mark q0 place e Read numbered.queues found refl in
-      let old = root.once u in
-      rw (marked, pushed) (omega (arith, left, old))
+      rw (marked, pushed) (omega (arith, left))
     where
       within : (slice_get (pending q0) place ≡ slice_get (pending q0) place) × (((x : ℕ × QueuedRequest Purpose) × (place < length (pending q0)) × (slice_get (pending q0) place ≡ Some x) × (get_or (pending q0) place x ≡ x)) ⊎ ((length (pending q0) ≤ place) × (slice_get (pending q0) place ≡ None))) → place < length (pending q0)
       within (e', inl h) = h.1
       within (e', inr h) = absurd (cc (h.1, found))
+
+  once_after : (u : ℕ) → unperformed (record w { kernel = record w.kernel { queues = q1 }; requests = w.requests ++ new ∷ [] }) u ≤ 1
+  once_after u = subst (λ (n : ℕ). n ≤ 1) (sym (as_many u)) (root.once u)
 
   root_after : OnlyRoot (record w { kernel = record w.kernel { queues = q1 }; requests = w.requests ++ new ∷ [] })
   root_after =

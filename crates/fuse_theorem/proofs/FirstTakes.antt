@@ -55,10 +55,10 @@ root_still_held t body (first_lookup name) = refl
 root_still_held t body first_getattr = refl
 
 module _ (w : World) (p : Plain) (numbered : IsNumbered w) (root : OnlyRoot w) (same : Alike w p) (k : ℕ) (r : Request) (found : slice_get w.requests k ≡ Some r) where
-  abbrev after : World
+  abbrev pub after : World
   after = record w { requests = remove w.requests k; server = holding w.server r.unique r.body }
 
-  abbrev new : HeldRequest
+  abbrev pub new : HeldRequest
   new = record { body = r.body; generations = held_generations w p same r.body; marked = false }
 
   first : IsFirstBody r.body × Serves w.kernel r.unique r.body
@@ -83,26 +83,32 @@ module _ (w : World) (p : Plain) (numbered : IsNumbered w) (root : OnlyRoot w) (
     kept_below = numbered.kept_below;
   }
 
-  once_after : (u : ℕ) → unperformed after u ≤ 1
-  once_after u =
+  -- no number has more requests that are not performed
+  pub no_more : (u : ℕ) → unperformed after u ≤ unperformed w u
+  no_more u =
       let left = count_at (λ (x : Request). nat_eq u x.unique) w.requests k r found in
-      let old = root.once u in
       elim (cases_eq u r.unique) [
         | inl e ↦
             let mine : nat_eq u r.unique ≡ true = subst (λ (n : ℕ). nat_eq n r.unique ≡ true) (sym e) (same_is r.unique) in
             let gone = rw mine at left in
-            at_most (is_some (get after.server.held u)) gone old
+            at_most (is_some (get after.server.held u)) gone
         | inr ne ↦
             let other = other_is u r.unique ne in
             let gone = rw other at left in
             let there : get after.server.held u ≡ get w.server.held u = get_put_there w.server.held r.unique new u ne in
-            rw there (omega (arith, gone, old))
+            rw there (omega (arith, gone))
       ]
     where
-      at_most : (b : Bool) → count_by (λ (x : Request). nat_eq u x.unique) (remove w.requests k) + 1 ≡ count_by (λ (x : Request). nat_eq u x.unique) w.requests → unperformed w u ≤ 1
-          → count_by (λ (e : ℕ × QueuedRequest Purpose). nat_eq u e.0) (pending w.kernel.queues) + count_by (λ (x : Request). nat_eq u x.unique) (remove w.requests k) + cond b 1 0 ≤ 1
-      at_most true gone old = omega (arith, gone, old)
-      at_most false gone old = omega (arith, gone, old)
+      at_most : (b : Bool) → count_by (λ (x : Request). nat_eq u x.unique) (remove w.requests k) + 1 ≡ count_by (λ (x : Request). nat_eq u x.unique) w.requests
+          → count_by (λ (e : ℕ × QueuedRequest Purpose). nat_eq u e.0) (pending w.kernel.queues) + count_by (λ (x : Request). nat_eq u x.unique) (remove w.requests k) + cond b 1 0 ≤ unperformed w u
+      at_most true gone = omega (arith, gone)
+      at_most false gone = omega (arith, gone)
+
+  once_after : (u : ℕ) → unperformed after u ≤ 1
+  once_after u =
+      let fewer = no_more u in
+      let old = root.once u in
+      omega (arith, fewer, old)
 
   root_after : OnlyRoot after
   root_after = record {

@@ -67,6 +67,7 @@ pub mod FirstSettles
 pub mod FirstMounts
 pub mod FirstPath
 pub mod FirstWorlds
+pub mod SoundTakes
 pub mod Fresh
 pub mod EachEvent
 pub mod Rooted
