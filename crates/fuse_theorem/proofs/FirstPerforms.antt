@@ -53,7 +53,7 @@ meant_root t generations file m =
     sym m.denotes.same_file ∙ ap (λ (r : HeldNode). r.file) (sym is_row)
 
 -- a wire of the first path names no node and no open number
-first_names_none : (s : Server) (body : RequestBody) → IsFirstBody body → (files_in_reply (first_reply s.validity body) ≡ []) × (opens_in_reply (first_reply s.validity body) ≡ [])
+pub first_names_none : (s : Server) (body : RequestBody) → IsFirstBody body → (files_in_reply (first_reply s.validity body) ≡ []) × (opens_in_reply (first_reply s.validity body) ≡ [])
 first_names_none s body first_init = (refl, refl)
 first_names_none s body (first_lookup name) = (refl, refl)
 first_names_none s body first_getattr = (refl, refl)
@@ -82,7 +82,7 @@ module _ (w : World) (p : Plain) (numbered : IsNumbered w) (root : OnlyRoot w) (
   abbrev pub after : World
   after = record w { server = record s1 { kept = put w.server.kept unique kept; copies = copies; next_copy = w.server.next_copy + 1 }; replies = w.replies ++ sent ∷ [] }
 
-  parts : IsFirstBody t.body × (t.marked ≡ false) × (is_still_held w.server.nodes t.generations ≡ true) × Serves w.kernel unique t.body
+  pub parts : IsFirstBody t.body × (t.marked ≡ false) × (is_still_held w.server.nodes t.generations ≡ true) × Serves w.kernel unique t.body
   parts = root.held unique t there
 
   -- the world after it

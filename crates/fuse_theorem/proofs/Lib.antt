@@ -68,6 +68,7 @@ pub mod FirstMounts
 pub mod FirstPath
 pub mod FirstWorlds
 pub mod SoundTakes
+pub mod SoundPerforms
 pub mod Fresh
 pub mod EachEvent
 pub mod Rooted

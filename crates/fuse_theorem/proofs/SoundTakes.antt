@@ -29,11 +29,6 @@ use Rattle.fuse_theorem.proofs.FirstWorlds.{StaysSound}
 use Rattle.fuse_theorem.proofs.Queuing.{All-at}
 use Rattle.fuse_theorem.proofs.Values.{All-put}
 
--- one more of a number
-one_more : (n : ℕ) (b : Bool) → b ≡ true → 1 ≤ n + cond b 1 0
-one_more n true e = omega arith
-one_more n false e = absurd (cc)
-
 module _ (w : World) (p : Plain) (numbered : IsNumbered w) (root : OnlyRoot w) (same : Alike w p) (more : FirstKeeps w) (place : ℕ) (o : Outcome) (after : World) where
   reads_soundly : (did : ReadsRequest w place o after) → StaysSound w after
   reads_soundly did =
