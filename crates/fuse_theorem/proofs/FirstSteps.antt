@@ -48,6 +48,21 @@ first_body : (state : CallState Opened) → StatsRoot state → IsFirstBody (ask
 first_body state (looks_up word words) = first_lookup word
 first_body state asks_root = first_getattr
 
+-- Nothing has the coming number.
+pub none_next : (w : World) → IsNumbered w → is_live w.kernel.phase ≡ true → unperformed w w.kernel.queues.next ≡ 0
+none_next w numbered live =
+    let q0 = w.kernel.queues in
+    let n = q0.next in
+    let new = lookup-next q0 numbered.queues in
+    let in_pending : count_by (λ (e : ℕ × QueuedRequest Purpose). nat_eq n e.0) (pending q0) ≡ 0 =
+    all_fail (λ (e : ℕ × QueuedRequest Purpose). nat_eq n e.0) (pending q0)
+    (All-filter (λ (e : ℕ × QueuedRequest Purpose). is_unread e.1.mark) (λ (e : ℕ × QueuedRequest Purpose). nat_eq n e.0 ≡ false) q0.requests (λ i e lt. other_is n (get_or q0.requests i e).0 (λ z. no_key n q0.requests new i e lt (sym z)))) in
+    let on_link : count_by (λ (r : Request). nat_eq n r.unique) w.requests ≡ 0 =
+    all_fail (λ (r : Request). nat_eq n r.unique) w.requests
+    (λ i r lt. let low = numbered.sent_below i r lt in other_is n (get_or w.requests i r).unique (λ z. absurd (omega (arith, z, low)))) in
+    let held : get w.server.held n ≡ None = is_get_none (get w.server.held n) (λ t at. let low = numbered.held_below live n t at in absurd (omega (arith, low))) in
+    rw (in_pending, on_link, held) refl
+
 module _ (w : World) (numbered : IsNumbered w) (root : OnlyRoot w) (live : is_live w.kernel.phase ≡ true) (coming call : ℕ) (next : Advance Opened) (none_for : requests_for call w.kernel.queues ≡ 0)
     (alone : StepsAlone w.kernel.vfs.calls coming call next) (stays : StaysAtRoot w.kernel.vfs call next) where
   abbrev q0 : QueueState Purpose
@@ -111,20 +126,6 @@ module _ (w : World) (numbered : IsNumbered w) (root : OnlyRoot w) (live : is_li
         even_copies = root.even_copies;
         once = root.once;
       }
-
-  -- nothing has the coming number
-  none_next : unperformed w q0.next ≡ 0
-  none_next =
-      let n = q0.next in
-      let new = lookup-next q0 numbered.queues in
-      let in_pending : count_by (λ (e : ℕ × QueuedRequest Purpose). nat_eq n e.0) (pending q0) ≡ 0 =
-      all_fail (λ (e : ℕ × QueuedRequest Purpose). nat_eq n e.0) (pending q0)
-      (All-filter (λ (e : ℕ × QueuedRequest Purpose). is_unread e.1.mark) (λ (e : ℕ × QueuedRequest Purpose). nat_eq n e.0 ≡ false) q0.requests (λ i e lt. other_is n (get_or q0.requests i e).0 (λ z. no_key n q0.requests new i e lt (sym z)))) in
-      let on_link : count_by (λ (r : Request). nat_eq n r.unique) w.requests ≡ 0 =
-      all_fail (λ (r : Request). nat_eq n r.unique) w.requests
-      (λ i r lt. let low = numbered.sent_below i r lt in other_is n (get_or w.requests i r).unique (λ z. absurd (omega (arith, z, low)))) in
-      let held : get w.server.held n ≡ None = is_get_none (get w.server.held n) (λ t at. let low = numbered.held_below live n t at in absurd (omega (arith, low))) in
-      rw (in_pending, on_link, held) refl
 
   asking_root : (operation : Operation ℕ Opened) → WaitsFor next.vfs.calls call (Some operation)
       → OnlyRoot (record w { kernel = record w.kernel { vfs = next.vfs; queues = after_enqueue q0 (purpose.Call call) } })
@@ -191,7 +192,7 @@ module _ (w : World) (numbered : IsNumbered w) (root : OnlyRoot w) (live : is_li
             ∙ count_by-push (λ (e : ℕ × QueuedRequest Purpose). nat_eq u e.0) (pending q0) (n, new) in
             elim (cases_eq u n) [
               | inl e ↦
-                  let none : unperformed w u ≡ 0 = subst (λ (m : ℕ). unperformed w m ≡ 0) (sym e) none_next in
+                  let none : unperformed w u ≡ 0 = subst (λ (m : ℕ). unperformed w m ≡ 0) (sym e) (none_next w numbered live) in
                   at_most u (nat_eq u n) pushed none
               | inr ne ↦
                   let other = other_is u n ne in

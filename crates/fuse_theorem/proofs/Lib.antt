@@ -69,6 +69,7 @@ pub mod FirstPath
 pub mod FirstWorlds
 pub mod SoundTakes
 pub mod SoundPerforms
+pub mod SoundCalls
 pub mod Fresh
 pub mod EachEvent
 pub mod Rooted
