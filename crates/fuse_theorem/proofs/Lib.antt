@@ -70,6 +70,9 @@ pub mod FirstWorlds
 pub mod SoundTakes
 pub mod SoundPerforms
 pub mod SoundCalls
+pub mod SoundWrites
+pub mod SoundSettles
+pub mod SoundMounts
 pub mod Fresh
 pub mod EachEvent
 pub mod Rooted
