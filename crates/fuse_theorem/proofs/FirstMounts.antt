@@ -48,7 +48,7 @@ empty_sound = record {
 }
 
 -- a map in which nothing is found is empty
-none_found : {X : Type 0} (m : Map X) → ((k : ℕ) → get m k ≡ None) → m ≡ []
+pub none_found : {X : Type 0} (m : Map X) → ((k : ℕ) → get m k ≡ None) → m ≡ []
 none_found [] h = refl
 none_found (e ∷ m) h = absurd (cc (ap (λ r. cond (is_eq r) (Some e.1) (get m e.0)) (cmp_same e.0), h e.0))
 

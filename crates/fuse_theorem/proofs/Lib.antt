@@ -73,6 +73,7 @@ pub mod SoundCalls
 pub mod SoundWrites
 pub mod SoundSettles
 pub mod SoundMounts
+pub mod FirstKeeps
 pub mod Fresh
 pub mod EachEvent
 pub mod Rooted
