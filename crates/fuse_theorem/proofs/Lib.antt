@@ -65,7 +65,6 @@ pub mod FirstReplies
 pub mod FirstCopies
 pub mod FirstSettles
 pub mod FirstMounts
-pub mod FirstPath
 pub mod FirstWorlds
 pub mod SoundTakes
 pub mod SoundPerforms
@@ -74,6 +73,10 @@ pub mod SoundWrites
 pub mod SoundSettles
 pub mod SoundMounts
 pub mod FirstKeeps
+pub mod FirstPath
+pub mod FirstAnswers
+pub mod AnsweredOnce
+pub mod FirstRuns
 pub mod Fresh
 pub mod EachEvent
 pub mod Rooted

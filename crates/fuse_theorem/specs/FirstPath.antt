@@ -27,7 +27,6 @@ use Rattle.fuse_theorem.specs.Numbering.{IsNumbered}
 use Rattle.fuse_spec.specs.Events as event
 use Rattle.fuse_spec.specs.declared.Refusal.{Refusal}
 use Rattle.fuse_spec.specs.Records.{Record, outcome, refused, answers_of, collected}
-use Rattle.fuse_spec.specs.Runs.{plain_collected}
 use Rattle.fuse_spec.specs.Steps.{Happens}
 
 -- A call of `stat` that looks up a name in the root, or asks for the root's attributes.
@@ -109,16 +108,6 @@ pub record Goes (w : World) (p : Plain) (event : Event) (outcome : Outcome) (aft
   pub alike : Alike after plain
   pub numbered : IsNumbered after
   pub root : OnlyRoot after
-
--- A list of events of the first path leads from the one world to the other, and the plain world beside it: each event is refused and
--- changes nothing, or is accepted, and then the answers are collected. The records are those of both worlds.
-pub data FirstRun : World → Plain → List Event → List Record → World → Plain → Type 0 where
-  ends : (w : World) (p : Plain) → FirstRun w p [] [] w p
-  refuses : (w : World) (p : Plain) (event : Event) (refusal : Refusal) (events : List Event) (records : List Record) (after : World) (plain : Plain)
-      → FirstRun w p events records after plain → FirstRun w p (event ∷ events) (refused refusal ∷ records) after plain
-  accepts : (w : World) (p : Plain) (event : Event) (o : Outcome) (mid : World) (q : Plain) (events : List Event) (records : List Record) (after : World) (plain : Plain)
-      → Happens w event o mid → Takes p event o q → Alike mid q → FirstRun (collected mid) (plain_collected q) events records after plain
-      → FirstRun w p (event ∷ events) (outcome o ∷ answers_of q.vfs.answers ++ records) after plain
 
 -- The records of a list of events, as the machine alone gives them.
 pub data Recorded : World → List Event → List Record → World → Type 0 where
