@@ -17,7 +17,7 @@ use Rattle.fuse_spec.specs.CallReplies.{call_replied}
 use Rattle.fuse_spec.specs.Vfs.{CallState, walking, doing, asked}
 use Rattle.fuse_spec.specs.QueueCalls.{without, waiting}
 use Rattle.fuse_spec.specs.Messages.{RequestBody, asks, release, WireReply}
-use Rattle.fuse_spec.specs.Kernel.{Kernel, is_live, body_of, asked_by, is_for, advanced}
+use Rattle.fuse_spec.specs.Kernel.{Kernel, is_live, body_of, asked_by, advanced}
 use Rattle.fuse_spec.specs.Replies.{reply_written, reply_taken, ended_by, odd_taken, replied_to_call}
 use Rattle.fuse_spec.specs.Worlds.{World, Sent, after_write}
 use Rattle.fuse_spec.specs.Events.{Outcome}

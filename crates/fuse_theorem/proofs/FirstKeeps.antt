@@ -1,10 +1,9 @@
 -- The reference protocol holds in each world of the first path.
-use Rattle.std.proofs.Common.{◌≡◌, ◌≢◌, ℕ, ◌+◌, ◌≤◌, Bool, true, false, not, cond, List, [], ◌∷◌, ◌++◌, filter, find, option_map, Option, Some, None, nat_eq, count_by, get_or, is_some, refl, ap, sym, subst, ◌∙◌, arith, All}
+use Rattle.std.proofs.Common.{◌≡◌, ℕ, Bool, true, false, not, cond, List, [], ◌∷◌, ◌++◌, filter, find, option_map, Option, Some, None, nat_eq, count_by, get_or, is_some, refl, ap, sym, subst, ◌∙◌, arith, All}
 use Rattle.std.specs.Prelude.{MatchOption, sum_by}
 use Rattle.std.specs.Map.{lookup}
 use Rattle.std.proofs.lemmas.List.Elements.{All-nil, All-cons, All-head, All-tail, All-same, All-weaker}
 use Rattle.std.proofs.lemmas.List.Sums.{sum_by-cons}
-use Rattle.fuse_spec.specs.declared.Binding.{Binding}
 use Rattle.fuse_spec.specs.declared.Counted.{Counted}
 use Rattle.fuse_spec.specs.declared.Entry.{Entry}
 use Rattle.fuse_spec.specs.declared.Opened.{Opened}
@@ -15,11 +14,11 @@ use Rattle.fuse_spec.specs.declared.ReplyResult.{ReplyResult}
 use Rattle.fuse_spec.specs.declared.WriteResult.{WriteResult}
 use Rattle.fuse_spec.specs.declared.WriteResult.TheVariants.{Accepted, NoEntry, Invalid}
 use Rattle.fuse_spec.specs.Maps.{Map, get, values}
-use Rattle.fuse_spec.specs.Operations.{files_in_reply, opens_in_reply}
+use Rattle.fuse_spec.specs.Operations.{files_in_reply}
 use Rattle.fuse_spec.specs.Vfs.{CallState}
-use Rattle.fuse_spec.specs.Queues.{pending, processing, request_under, is_unread}
+use Rattle.fuse_spec.specs.Queues.{pending, request_under, is_unread}
 use Rattle.fuse_spec.specs.Messages.{RequestBody, Request, WireReply}
-use Rattle.fuse_spec.specs.Kernel.{Kernel, is_live, body_of, is_for, nodes_of_state}
+use Rattle.fuse_spec.specs.Kernel.{Kernel, body_of, is_for, nodes_of_state}
 use Rattle.fuse_spec.specs.Nodes.{HeldNode, OpenNumber, row_of, file_of, is_open}
 use Rattle.fuse_spec.specs.Server.{Server, HeldRequest, Copy, nodes_of_body, count_in, forgets_of, forgotten}
 use Rattle.fuse_spec.specs.Worlds.{World, Sent}

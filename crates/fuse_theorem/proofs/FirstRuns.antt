@@ -1,5 +1,5 @@
 -- Lists of events of the first path: the plain world has a run with the same records.
-use Rattle.std.proofs.Common.{◌≡◌, List, [], ◌∷◌, ◌++◌, refl, ap, inl, inr, All}
+use Rattle.std.proofs.Common.{List, [], ◌∷◌, refl, ap, inl, inr, All}
 use Rattle.std.proofs.lemmas.List.Elements.{All-head, All-tail}
 use Rattle.fuse_spec.specs.Maps.{Map}
 use Rattle.fuse_spec.specs.Answers.{Answer}

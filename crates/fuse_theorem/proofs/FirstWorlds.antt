@@ -1,5 +1,5 @@
 -- What a world of the first path keeps follows from its calls, its requests and its copies.
-use Rattle.std.proofs.Common.{◌≡◌, ◌≢◌, ℕ, ◌+◌, ◌<◌, ◌≤◌, Bool, true, false, cond, List, [], ◌∷◌, Option, Some, None, nat_eq, count_by, get_or, length, is_some, refl, subst, arith, All}
+use Rattle.std.proofs.Common.{◌≡◌, ◌≢◌, ℕ, ◌<◌, ◌≤◌, Bool, true, false, cond, List, [], Option, Some, None, nat_eq, count_by, get_or, length, is_some, refl, subst, arith}
 use Rattle.std.specs.Prelude.{◌||◌}
 use Rattle.std.proofs.lemmas.List.Elements.{All-nil}
 use Rattle.std.proofs.lemmas.List.Sums.{get_or-le-sum_by}
@@ -10,7 +10,7 @@ use Rattle.fuse_spec.specs.Maps.{get}
 use Rattle.fuse_spec.specs.Operations.{files_in_reply, opens_in_reply}
 use Rattle.fuse_spec.specs.Vfs.{Vfs}
 use Rattle.fuse_spec.specs.Messages.{RequestBody, Request}
-use Rattle.fuse_spec.specs.Server.{Server, HeldRequest, RequestFault, repeated_unique, fault_of}
+use Rattle.fuse_spec.specs.Server.{Server, HeldRequest, repeated_unique, fault_of}
 use Rattle.fuse_spec.specs.Worlds.{World, Sent, first_world}
 use Rattle.fuse_theorem.specs.FirstPath.{StatsRoot, IsFirstBody, first_init, first_lookup, first_getattr, OnlyRoot}
 use Rattle.fuse_theorem.specs.EachEvent.{IsRooted}

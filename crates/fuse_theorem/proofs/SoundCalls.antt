@@ -1,5 +1,5 @@
 -- What is sound stays so as a call begins, on the first path.
-use Rattle.std.proofs.Common.{◌≡◌, ◌≢◌, ℕ, ◌+◌, ◌<◌, ◌≤◌, Bool, true, false, cond, List, [], ◌∷◌, Option, Some, None, Ok, nat_eq, count_by, is_some, refl, ap, sym, subst, ◌∙◌, arith, inl, inr}
+use Rattle.std.proofs.Common.{◌≡◌, ◌≢◌, ℕ, ◌+◌, ◌<◌, ◌≤◌, Bool, true, false, cond, List, Option, Some, None, Ok, nat_eq, count_by, is_some, ap, sym, subst, ◌∙◌, arith, inl, inr}
 use Rattle.std.proofs.lemmas.Bool.{cases_eq}
 use Rattle.fuse_spec.specs.declared.Opened.{Opened}
 use Rattle.fuse_spec.specs.declared.Mark.TheVariants.{Unread}
@@ -13,7 +13,7 @@ use Rattle.fuse_spec.specs.Vfs.{Vfs, Advance}
 use Rattle.fuse_spec.specs.Queues.{QueueState, pending, request_under, is_unread}
 use Rattle.fuse_spec.specs.QueueCalls.{after_enqueue}
 use Rattle.fuse_spec.specs.Kernel.{Kernel, is_live, is_aborted, asking_for}
-use Rattle.fuse_spec.specs.Worlds.{World, after_call}
+use Rattle.fuse_spec.specs.Worlds.{World}
 use Rattle.fuse_spec.specs.Events.{Outcome}
 use Rattle.fuse_spec.specs.Events as event
 use Rattle.fuse_spec.specs.Steps.{step}

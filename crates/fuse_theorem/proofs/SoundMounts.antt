@@ -1,5 +1,5 @@
 -- What is sound stays so at a mount, on the first path.
-use Rattle.std.proofs.Common.{◌≡◌, ◌≢◌, ℕ, ◌+◌, ◌<◌, ◌≤◌, Bool, true, false, cond, List, [], ◌∷◌, Option, Some, None, Ok, nat_eq, refl, ap, sym, subst, ◌∙◌, arith, All}
+use Rattle.std.proofs.Common.{◌≡◌, ◌≢◌, ℕ, ◌+◌, ◌≤◌, Bool, true, false, cond, [], Some, None, Ok, nat_eq, refl, ap, sym, subst, ◌∙◌, arith}
 use Rattle.std.proofs.lemmas.List.Elements.{All-nil}
 use Rattle.fuse_spec.specs.declared.Opened.{Opened}
 use Rattle.fuse_spec.specs.declared.Mark.TheVariants.{Unread}
@@ -21,7 +21,7 @@ use Rattle.fuse_spec.specs.Events as event
 use Rattle.fuse_spec.specs.Steps.{step}
 use Rattle.fuse_theorem.specs.FirstPath.{StatsRoot, IsFirstBody, OnlyRoot}
 use Rattle.fuse_theorem.specs.FirstWorld.{CallsSound, RequestsSound, CopiesSound, FirstKeeps}
-use Rattle.fuse_theorem.proofs.FirstMounts.{MountsAnew, mounts_anew}
+use Rattle.fuse_theorem.proofs.FirstMounts.{mounts_anew}
 use Rattle.fuse_theorem.proofs.FirstWorlds.{IsSpent, StaysSound}
 
 abbrev init : QueuedRequest Purpose

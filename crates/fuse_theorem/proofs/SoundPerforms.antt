@@ -1,5 +1,5 @@
 -- What is sound stays so as the server performs a request, on the first path.
-use Rattle.std.proofs.Common.{◌≡◌, ◌≢◌, ℕ, ◌+◌, ◌<◌, ◌≤◌, Bool, true, false, cond, List, [], ◌∷◌, ◌++◌, Option, Some, None, Ok, nat_eq, count_by, is_some, refl, ap, sym, subst, ◌∙◌, arith, inl, inr}
+use Rattle.std.proofs.Common.{◌≡◌, ℕ, ◌+◌, ◌≤◌, true, false, cond, List, [], ◌∷◌, ◌++◌, Some, None, Ok, nat_eq, is_some, refl, ap, sym, subst, ◌∙◌, arith, inl, inr}
 use Rattle.std.proofs.lemmas.Bool.{cases_eq}
 use Rattle.std.proofs.lemmas.List.Elements.{All-push}
 use Rattle.fuse_spec.specs.declared.ReplyResult.{ReplyResult}
@@ -15,8 +15,8 @@ use Rattle.fuse_spec.specs.Alike.{Alike}
 use Rattle.fuse_spec.proofs.QueueCounts.{count_by-push}
 use Rattle.fuse_spec.proofs.Tables.{get_put_here, get_put_there, get_gone_here, get_gone_there}
 use Rattle.fuse_theorem.specs.Numbering.{IsNumbered}
-use Rattle.fuse_theorem.specs.FirstPath.{IsFirstBody, unperformed, OnlyRoot}
-use Rattle.fuse_theorem.specs.FirstWorld.{under_way, outstanding, RequestsSound, CopiesSound, FirstKeeps}
+use Rattle.fuse_theorem.specs.FirstPath.{IsFirstBody, OnlyRoot}
+use Rattle.fuse_theorem.specs.FirstWorld.{outstanding, RequestsSound, CopiesSound, FirstKeeps}
 use Rattle.fuse_theorem.proofs.Ending.{is_get_none}
 use Rattle.fuse_theorem.proofs.Finding.{same_is, other_is}
 use Rattle.fuse_theorem.proofs.FirstPerforms.{ServesRequest, serves_request, parts, first_names_none}

@@ -1,20 +1,19 @@
 -- What is sound stays so as a copy is settled, on the first path.
-use Rattle.std.proofs.Common.{◌≡◌, ◌≢◌, ℕ, ◌+◌, ◌≤◌, Bool, true, false, cond, List, remove, Option, Some, None, Ok, nat_eq, count_by, slice_get, is_some, refl, ap, sym, subst, ◌∙◌, arith, inl, inr}
+use Rattle.std.proofs.Common.{◌≡◌, ◌≢◌, ℕ, ◌+◌, ◌≤◌, true, cond, remove, Option, Some, None, Ok, nat_eq, count_by, slice_get, is_some, refl, sym, subst, arith, inl, inr}
 use Rattle.std.proofs.lemmas.Bool.{cases_eq}
 use Rattle.fuse_spec.specs.declared.ReplyResult.{ReplyResult}
 use Rattle.fuse_spec.specs.declared.WriteResult.TheVariants.{Invalid}
 use Rattle.fuse_spec.specs.Maps.{Map, get}
-use Rattle.fuse_spec.specs.Maps as maps
 use Rattle.fuse_spec.specs.Server.{Kept, Copy}
-use Rattle.fuse_spec.specs.Worlds.{World, Sent}
+use Rattle.fuse_spec.specs.Worlds.{World}
 use Rattle.fuse_spec.specs.Events.{Outcome}
 use Rattle.fuse_spec.specs.Events as event
 use Rattle.fuse_spec.specs.Steps.{step}
 use Rattle.fuse_spec.proofs.Tables.{get_gone_there}
 use Rattle.fuse_theorem.specs.FirstPath.{OnlyRoot}
-use Rattle.fuse_theorem.specs.FirstWorld.{RequestsSound, CopiesSound, outstanding, FirstKeeps}
+use Rattle.fuse_theorem.specs.FirstWorld.{outstanding, FirstKeeps}
 use Rattle.fuse_theorem.proofs.Finding.{same_is, other_is}
-use Rattle.fuse_theorem.proofs.FirstSettles.{Settles, unknown, known, SettlesResult, settles_result, settled_kept, settled_copies}
+use Rattle.fuse_theorem.proofs.FirstSettles.{Settles, unknown, known, settles_result, settled_kept, settled_copies}
 use Rattle.fuse_theorem.proofs.FirstTakes.{count_at}
 use Rattle.fuse_theorem.proofs.FirstWorlds.{StaysSound}
 use Rattle.fuse_theorem.proofs.Queuing.{All-without}

@@ -1,11 +1,10 @@
 -- What is sound stays so as a pending request is read, and as the server takes one, on the first path.
-use Rattle.std.proofs.Common.{◌≡◌, ◌≢◌, ℕ, ◌+◌, ◌≤◌, Bool, true, false, cond, List, [], ◌∷◌, ◌++◌, remove, Option, Some, None, Ok, nat_eq, count_by, slice_get, is_some, refl, ap, sym, subst, ◌∙◌, arith, inl, inr}
+use Rattle.std.proofs.Common.{◌≡◌, ℕ, true, [], ◌∷◌, ◌++◌, Ok, nat_eq, is_some, ap, sym, subst, ◌∙◌, arith, inl, inr}
 use Rattle.std.proofs.lemmas.Bool.{cases_eq}
 use Rattle.fuse_spec.specs.declared.Mark.TheVariants.{Read}
 use Rattle.fuse_spec.specs.declared.Purpose.{Purpose}
-use Rattle.fuse_spec.specs.declared.QueuedRequest.{QueuedRequest}
 use Rattle.fuse_spec.specs.Maps.{get, put}
-use Rattle.fuse_spec.specs.Queues.{QueueState, request_under, is_unread}
+use Rattle.fuse_spec.specs.Queues.{QueueState}
 use Rattle.fuse_spec.specs.Messages.{Request}
 use Rattle.fuse_spec.specs.Server.{HeldRequest}
 use Rattle.fuse_spec.specs.Worlds.{World}
@@ -18,8 +17,8 @@ use Rattle.fuse_spec.proofs.QueueCounts.{count_by-push}
 use Rattle.fuse_spec.proofs.QueueReadings.{request_under-mark_other}
 use Rattle.fuse_spec.proofs.Tables.{get_put_here, get_put_there}
 use Rattle.fuse_theorem.specs.Numbering.{IsNumbered}
-use Rattle.fuse_theorem.specs.FirstPath.{IsFirstBody, Serves, unperformed, OnlyRoot}
-use Rattle.fuse_theorem.specs.FirstWorld.{under_way, RequestsSound, FirstKeeps}
+use Rattle.fuse_theorem.specs.FirstPath.{IsFirstBody, Serves, OnlyRoot}
+use Rattle.fuse_theorem.specs.FirstWorld.{RequestsSound, FirstKeeps}
 use Rattle.fuse_theorem.proofs.Finding.{same_is, other_is}
 use Rattle.fuse_theorem.proofs.FirstReads.{ReadsRequest, reads_request, is_marked, as_many}
 use Rattle.fuse_theorem.proofs.FirstReads as reads

@@ -32,12 +32,12 @@ use Rattle.fuse_spec.proofs.QueueCounts.{count_by-push}
 use Rattle.fuse_spec.proofs.QueueReadings.{pending-answer, request_under-without, request_under-without_other}
 use Rattle.fuse_theorem.specs.Numbering.{IsNumbered}
 use Rattle.fuse_theorem.specs.FirstPath.{OnlyRoot}
-use Rattle.fuse_theorem.specs.FirstWorld.{CallsSound, RequestsSound, CopiesSound, outstanding, FirstKeeps}
+use Rattle.fuse_theorem.specs.FirstWorld.{CallsSound, RequestsSound, CopiesSound, FirstKeeps}
 use Rattle.fuse_theorem.proofs.Advancing.{call_replied_alone}
 use Rattle.fuse_theorem.proofs.Ending.{is_get_none}
 use Rattle.fuse_theorem.proofs.Finding.{other_is}
 use Rattle.fuse_theorem.proofs.FirstCalls.{StaysAtRoot, missing_at_root, attributes_at_root}
-use Rattle.fuse_theorem.proofs.FirstCopies.{Hears, nothing, of_init, of_missing, of_attributes, WritesCopy, writes_copy}
+use Rattle.fuse_theorem.proofs.FirstCopies.{Hears, nothing, of_init, of_missing, of_attributes, writes_copy}
 use Rattle.fuse_theorem.proofs.FirstTakes.{count_at}
 use Rattle.fuse_theorem.proofs.FirstWorlds.{IsSpent, StaysSound}
 use Rattle.fuse_theorem.proofs.Queuing.{All-without}

@@ -1,5 +1,5 @@
 -- The worlds to which events of the first path lead, and what they keep.
-use Rattle.std.specs.Prelude.{◌≡◌, ◌≢◌, ◌≤◌, ◌<◌, ◌+◌, ℕ, true, false, cond, List, [], Option, Some, None, nat_eq, count_by, is_some, All}
+use Rattle.std.specs.Prelude.{◌≡◌, ◌≢◌, ◌≤◌, ◌<◌, ◌+◌, ℕ, true, false, cond, List, [], Some, None, nat_eq, count_by, is_some, All}
 use Rattle.fuse_spec.specs.declared.Opened.{Opened}
 use Rattle.fuse_spec.specs.declared.Purpose.{Purpose}
 use Rattle.fuse_spec.specs.declared.QueuedRequest.{QueuedRequest}
