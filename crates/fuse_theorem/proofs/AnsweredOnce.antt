@@ -18,7 +18,7 @@ use Rattle.fuse_theorem.specs.FirstPath.{IsFirst, Recorded, none_left, one_refus
 use Rattle.fuse_theorem.specs.FirstWorld.{IsFirstWorld}
 use Rattle.fuse_theorem.proofs.FirstAnswers.{collected_first}
 use Rattle.fuse_theorem.proofs.FirstPath.{stays_sound, first_stays}
-use Rattle.fuse_theorem.proofs.FirstWorlds.{IsSpent}
+use Rattle.fuse_theorem.proofs.FirstWorlds.{IsCollected}
 
 -- ---- maps
 
@@ -80,19 +80,19 @@ apart_then (e ∷ answers) more sorted apart once =
     (All-head (λ (x : ℕ × Answer). Unanswered x.0 x.1 more) e answers apart))
     (apart_then answers more (both_second (below_all nat_cmp e.0 answers) (is_sorted nat_cmp answers) sorted) (All-tail (λ (x : ℕ × Answer). Unanswered x.0 x.1 more) e answers apart) once)
 
--- A call that was answered before is not answered again.
-pub spent_unanswered : (w : World) → IsFirstWorld w → (events : List Event) (records : List Record) (after : World) → All IsFirst events → Recorded w events records after
-    → (call : ℕ) (a : Answer) → IsSpent w.kernel.vfs call → Unanswered call a records
-spent_unanswered w here events records after first (none_left v) call a spent = All-nil (AnswersApart (answered call a))
-spent_unanswered w here events records after first (one_refused v event refusal rest more last recorded) call a spent =
-    All-cons (AnswersApart (answered call a)) (refused refusal) more tt (spent_unanswered w here rest more last (All-tail IsFirst event rest first) recorded call a spent)
-spent_unanswered w here events records after first (one_accepted v event o mid rest more last happens recorded) call a spent =
+-- A call whose answer is collected is not answered again.
+pub collected_unanswered : (w : World) → IsFirstWorld w → (events : List Event) (records : List Record) (after : World) → All IsFirst events → Recorded w events records after
+    → (call : ℕ) (a : Answer) → IsCollected w.kernel.vfs call → Unanswered call a records
+collected_unanswered w here events records after first (none_left v) call a before = All-nil (AnswersApart (answered call a))
+collected_unanswered w here events records after first (one_refused v event refusal rest more last recorded) call a before =
+    All-cons (AnswersApart (answered call a)) (refused refusal) more tt (collected_unanswered w here rest more last (All-tail IsFirst event rest first) recorded call a before)
+collected_unanswered w here events records after first (one_accepted v event o mid rest more last happens recorded) call a before =
     let starts = All-head IsFirst event rest first in
-    let now = (stays_sound w here event starts o mid happens).spent call spent in
+    let now = (stays_sound w here event starts o mid happens).still_collected call before in
     let next = collected_first mid (first_stays w here event starts o mid happens) in
     All-cons (AnswersApart (answered call a)) (outcome o) (answers_of mid.kernel.vfs.answers ++ more) tt
     (All-append (AnswersApart (answered call a)) (answers_of mid.kernel.vfs.answers) more (others_apart call a mid.kernel.vfs.answers (no_entry mid.kernel.vfs.answers call now.no_answer))
-    (spent_unanswered (collected mid) next rest more last (All-tail IsFirst event rest first) recorded call a (record { begun = now.begun; not_waiting = now.not_waiting; no_answer = refl })))
+    (collected_unanswered (collected mid) next rest more last (All-tail IsFirst event rest first) recorded call a (record { begun = now.begun; not_waiting = now.not_waiting; no_answer = refl })))
 
 -- .. so each call is answered at most once.
 pub answers_once : (w : World) → IsFirstWorld w → (events : List Event) (records : List Record) (after : World) → All IsFirst events → Recorded w events records after → AnswersOnce records
@@ -110,4 +110,4 @@ answers_once w here events records after first (one_accepted v event o mid rest 
     let entry = get_or answers i e in
     let there = all_found answers i e lt in
     let old = reached.more.calls.answered entry.0 there.0 there.1 in
-    spent_unanswered (collected mid) next rest more last following recorded entry.0 entry.1 (record { begun = old.1; not_waiting = old.0; no_answer = refl })) (answers_once (collected mid) next rest more last following recorded))
+    collected_unanswered (collected mid) next rest more last following recorded entry.0 entry.1 (record { begun = old.1; not_waiting = old.0; no_answer = refl })) (answers_once (collected mid) next rest more last following recorded))

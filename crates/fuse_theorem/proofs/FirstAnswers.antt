@@ -19,7 +19,7 @@ use Rattle.fuse_spec.specs.Denotes.{MeansIn, MeansOpenIn}
 use Rattle.fuse_spec.specs.Alike.{RequestBodyAsked, Alike}
 use Rattle.fuse_theorem.specs.Numbering.{IsNumbered}
 use Rattle.fuse_theorem.specs.FirstPath.{IsFirstBody, kept_under, OnlyRoot}
-use Rattle.fuse_theorem.specs.FirstWorld.{FirstKeeps, IsFirstWorld, handed_out}
+use Rattle.fuse_theorem.specs.FirstWorld.{FirstKeeps, IsFirstWorld}
 use Rattle.fuse_theorem.proofs.FirstSteps.{serves_in, replies_in}
 use Rattle.fuse_theorem.proofs.FirstWorlds.{first_keeps}
 use Rattle.fuse_theorem.proofs.Settling.{left_was}
@@ -147,6 +147,6 @@ pub collected_alike : (w : World) (p : Plain) → Alike w p → Alike (collected
 collected_alike w p same = answers_alike w [] p same [] refl
 
 -- The answer of one call is collected.
-pub handed_out_first : (w : World) (call : ℕ) → IsFirstWorld w → IsFirstWorld (handed_out w call)
+pub handed_out_first : (w : World) (call : ℕ) → IsFirstWorld w → IsFirstWorld (with_answers w (remove w.kernel.vfs.answers call))
 handed_out_first w call here =
     answers_first w (remove w.kernel.vfs.answers call) here (is_sorted-where_key nat_cmp (λ k. not (nat_eq k call)) w.kernel.vfs.answers here.more.rooted.answers) (λ k a at. left_was w.kernel.vfs.answers call k a at)

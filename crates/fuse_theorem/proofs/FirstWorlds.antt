@@ -29,18 +29,18 @@ some_counted : (b : Bool) → 1 ≤ cond b 1 0 → b ≡ true
 some_counted true le = refl
 some_counted false le = absurd (omega (arith, le))
 
--- A call that was answered, and whose answer was collected.
-pub record IsSpent (c : Vfs Opened) (call : ℕ) : Type 0 where
+-- A call that was answered, and whose answer is collected.
+pub record IsCollected (c : Vfs Opened) (call : ℕ) : Type 0 where
   pub begun : call < c.next_call
   pub not_waiting : get c.calls call ≡ None
   pub no_answer : get c.answers call ≡ None
 
--- What an event of the first path keeps: what is sound stays so, and what is spent.
+-- An event of the first path keeps what is sound, and a call whose answer was collected stays so.
 pub record StaysSound (w after : World) : Type 0 where
   pub calls : CallsSound after.kernel.vfs
   pub requests : RequestsSound after
   pub copies : CopiesSound after.replies after.results after.server.copies after.server.next_copy
-  pub spent : (call : ℕ) → IsSpent w.kernel.vfs call → IsSpent after.kernel.vfs call
+  pub still_collected : (call : ℕ) → IsCollected w.kernel.vfs call → IsCollected after.kernel.vfs call
 
 -- a request for the root has no fault, where none is held and no reply is kept under its number
 no_fault_at : (s : Server) (unique : ℕ) (body : RequestBody) → IsFirstBody body → get s.held unique ≡ None → get s.kept unique ≡ None → fault_of s (record { unique = unique; body = body }) ≡ None

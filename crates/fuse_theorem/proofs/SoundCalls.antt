@@ -32,7 +32,7 @@ use Rattle.fuse_theorem.proofs.FirstBegins.{begun_kernel, nothing_closed, Begins
 use Rattle.fuse_theorem.proofs.FirstBegins as begins
 use Rattle.fuse_theorem.proofs.FirstCalls.{StaysAtRoot, begun_at_root}
 use Rattle.fuse_theorem.proofs.FirstSteps.{none_next}
-use Rattle.fuse_theorem.proofs.FirstWorlds.{IsSpent, StaysSound}
+use Rattle.fuse_theorem.proofs.FirstWorlds.{IsCollected, StaysSound}
 
 -- A call that has no answer takes a step.
 module _ (c : Vfs Opened) (sound : CallsSound c) (coming call : ℕ) (next : Advance Opened) (alone : StepsAlone c.calls coming call next) (stays : StaysAtRoot c call next)
@@ -53,8 +53,8 @@ module _ (c : Vfs Opened) (sound : CallsSound c) (coming call : ℕ) (next : Adv
         ];
   }
 
-  pub advanced_spent : (q : ℕ) → q ≢ call → IsSpent c q → IsSpent next.vfs q
-  advanced_spent q ne old =
+  pub advanced_collected : (q : ℕ) → q ≢ call → IsCollected c q → IsCollected next.vfs q
+  advanced_collected q ne old =
       let coming_is = alone.coming_call in
       let below = old.begun in
       record { begun = omega (arith, below, later, coming_is); not_waiting = alone.others q ne ∙ old.not_waiting; no_answer = stays.other_answers q ne ∙ old.no_answer }
@@ -129,14 +129,14 @@ module _ (w : World) (p : Plain) (numbered : IsNumbered w) (root : OnlyRoot w) (
       calls : CallsSound next.vfs
       calls = advanced_calls c more.calls (c.next_call + 1) c.next_call next alone stays (omega arith) (omega arith) unanswered
 
-      spent : (q : ℕ) → IsSpent c q → IsSpent next.vfs q
-      spent q old =
+      still_collected : (q : ℕ) → IsCollected c q → IsCollected next.vfs q
+      still_collected q old =
           let low = old.begun in
-          advanced_spent c more.calls (c.next_call + 1) c.next_call next alone stays (omega arith) (omega arith) unanswered q (λ e. absurd (omega (arith, e, low))) old
+          advanced_collected c more.calls (c.next_call + 1) c.next_call next alone stays (omega arith) (omega arith) unanswered q (λ e. absurd (omega (arith, e, low))) old
 
       by : (x : Option (Operation ℕ Opened)) → StaysSound w (record w { kernel = asking_for (record w.kernel { vfs = next.vfs }) c.next_call x })
-      by None = record { calls = calls; requests = record { bodies = more.requests.bodies; once = more.requests.once; read = more.requests.read }; copies = more.copies; spent = spent }
-      by (Some x) = record { calls = calls; requests = queued_sound w numbered live more.requests next.vfs (purpose.Call c.next_call); copies = more.copies; spent = spent }
+      by None = record { calls = calls; requests = record { bodies = more.requests.bodies; once = more.requests.once; read = more.requests.read }; copies = more.copies; still_collected = still_collected }
+      by (Some x) = record { calls = calls; requests = queued_sound w numbered live more.requests next.vfs (purpose.Call c.next_call); copies = more.copies; still_collected = still_collected }
 
   -- A call begins.
   pub begins_sound : (choice : ℕ → ℕ) → step choice w (event.call (call.stat path)) ≡ Ok (o, after) → StaysSound w after

@@ -22,7 +22,7 @@ use Rattle.fuse_spec.specs.Steps.{step}
 use Rattle.fuse_theorem.specs.FirstPath.{StatsRoot, IsFirstBody, OnlyRoot}
 use Rattle.fuse_theorem.specs.FirstWorld.{CallsSound, RequestsSound, CopiesSound, FirstKeeps}
 use Rattle.fuse_theorem.proofs.FirstMounts.{mounts_anew}
-use Rattle.fuse_theorem.proofs.FirstWorlds.{IsSpent, StaysSound}
+use Rattle.fuse_theorem.proofs.FirstWorlds.{IsCollected, StaysSound}
 
 abbrev init : QueuedRequest Purpose
 init = record { mark = Unread; kept = purpose.Init }
@@ -38,8 +38,8 @@ module _ (c : Vfs Opened) (no_calls : c.calls ≡ []) where
   pub given_up_sound : CallsSound c → CallsSound (given_up c)
   given_up_sound sound = record { states = All-nil StatsRoot; answered = λ call a at. (refl, (sound.answered call a (sym (answer_at call) ∙ at)).1) }
 
-  pub given_up_spent : (call : ℕ) → IsSpent c call → IsSpent (given_up c) call
-  given_up_spent call old = record { begun = old.begun; not_waiting = refl; no_answer = answer_at call ∙ old.no_answer }
+  pub given_up_collected : (call : ℕ) → IsCollected c call → IsCollected (given_up c) call
+  given_up_collected call old = record { begun = old.begun; not_waiting = refl; no_answer = answer_at call ∙ old.no_answer }
 
 module _ (w : World) (found_ms missing_ms : ℕ) where
   abbrev mounted : World
@@ -76,7 +76,7 @@ module _ (w : World) (found_ms missing_ms : ℕ) where
     calls = given_up_sound w.kernel.vfs no_calls calls;
     requests = init_queued;
     copies = no_copies;
-    spent = given_up_spent w.kernel.vfs no_calls;
+    still_collected = given_up_collected w.kernel.vfs no_calls;
   }
 
 -- A mount.

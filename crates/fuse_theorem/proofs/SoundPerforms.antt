@@ -107,7 +107,7 @@ module _ (w : World) (p : Plain) (numbered : IsNumbered w) (root : OnlyRoot w) (
     calls = more.calls;
     requests = performed_requests;
     copies = sent_sound w.replies w.results w.server.copies w.server.next_copy more.copies sent _ refl (first_names_none w.server t.body (parts w p numbered root same unique t there).0);
-    spent = λ call old. old;
+    still_collected = λ call old. old;
   }
 
 -- A request is performed.

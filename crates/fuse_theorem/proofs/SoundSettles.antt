@@ -65,7 +65,7 @@ module _ (w : World) (more : FirstKeeps w) (k : ℕ) (result : ReplyResult) (fou
       once = once_settled kept copies settles;
       below = λ n c at. more.copies.below n c (settled_copies w result kept copies settles n c at);
     };
-    spent = λ call old. old;
+    still_collected = λ call old. old;
   }
 
 -- A copy is settled.

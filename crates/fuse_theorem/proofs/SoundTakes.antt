@@ -56,7 +56,7 @@ module _ (w : World) (p : Plain) (numbered : IsNumbered w) (root : OnlyRoot w) (
                   omega (arith, there, old)
             ];
       } in
-      subst (StaysSound w) is_here (record { calls = more.calls; requests = sound; copies = more.copies; spent = λ call old. old })
+      subst (StaysSound w) is_here (record { calls = more.calls; requests = sound; copies = more.copies; still_collected = λ call old. old })
 
   takes_soundly : (did : TakesRequest w place o after) → StaysSound w after
   takes_soundly did =
@@ -81,7 +81,7 @@ module _ (w : World) (p : Plain) (numbered : IsNumbered w) (root : OnlyRoot w) (
               rw there (omega (arith, gone, old))
         ];
       } in
-      subst (StaysSound w) did.leads.after_is (record { calls = more.calls; requests = sound; copies = more.copies; spent = λ call old. old })
+      subst (StaysSound w) did.leads.after_is (record { calls = more.calls; requests = sound; copies = more.copies; still_collected = λ call old. old })
 
   -- A request is read, or taken.
   pub reads_sound : (choice : ℕ → ℕ) → step choice w (event.read_pending place) ≡ Ok (o, after) → StaysSound w after

@@ -39,9 +39,9 @@ use Rattle.fuse_theorem.proofs.Finding.{other_is}
 use Rattle.fuse_theorem.proofs.FirstCalls.{StaysAtRoot, missing_at_root, attributes_at_root}
 use Rattle.fuse_theorem.proofs.FirstCopies.{Hears, nothing, of_init, of_missing, of_attributes, writes_copy}
 use Rattle.fuse_theorem.proofs.FirstTakes.{count_at}
-use Rattle.fuse_theorem.proofs.FirstWorlds.{IsSpent, StaysSound}
+use Rattle.fuse_theorem.proofs.FirstWorlds.{IsCollected, StaysSound}
 use Rattle.fuse_theorem.proofs.Queuing.{All-without}
-use Rattle.fuse_theorem.proofs.SoundCalls.{advanced_calls, advanced_spent}
+use Rattle.fuse_theorem.proofs.SoundCalls.{advanced_calls, advanced_collected}
 
 -- A copy leaves its link, and its result comes onto the other.
 module _ (replies : List Sent) (results : List ReplyResult) (copies : Map Copy) (next : ℕ) (sound : CopiesSound replies results copies next) (k : ℕ) (sent : Sent) (found : slice_get replies k ≡ Some sent) where
@@ -112,7 +112,7 @@ module _ (w : World) (numbered : IsNumbered w) (root : OnlyRoot w) (more : First
     calls = subst CallsSound (sym same_vfs) more.calls;
     requests = requests_after kernel x same before;
     copies = copy_heard w.replies w.results w.server.copies w.server.next_copy more.copies k sent found x valid;
-    spent = λ call old. subst (λ (c : Vfs Opened). IsSpent c call) (sym same_vfs) old;
+    still_collected = λ call old. subst (λ (c : Vfs Opened). IsCollected c call) (sym same_vfs) old;
   }
 
   -- a call hears the reply
@@ -128,8 +128,8 @@ module _ (w : World) (numbered : IsNumbered w) (root : OnlyRoot w) (more : First
         calls = advanced_calls c more.calls c.next_call call next alone stays low (omega arith) unanswered;
         requests = requests_after (record w.kernel { queues = q1; vfs = next.vfs }) Accepted (pending_without (purpose.Call call) waits) read_without;
         copies = copy_heard w.replies w.results w.server.copies w.server.next_copy more.copies k sent found Accepted (λ e. cc);
-        spent = λ q old.
-            advanced_spent c more.calls c.next_call call next alone stays low (omega arith) unanswered q
+        still_collected = λ q old.
+            advanced_collected c more.calls c.next_call call next alone stays low (omega arith) unanswered q
             (λ e. let gone : get c.calls call ≡ None = subst (λ (n : ℕ). get c.calls n ≡ None) e old.not_waiting in absurd (cc (there, gone))) old;
       }
     where

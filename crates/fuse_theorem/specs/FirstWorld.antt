@@ -5,7 +5,7 @@ use Rattle.fuse_spec.specs.declared.Purpose.{Purpose}
 use Rattle.fuse_spec.specs.declared.QueuedRequest.{QueuedRequest}
 use Rattle.fuse_spec.specs.declared.ReplyResult.{ReplyResult}
 use Rattle.fuse_spec.specs.declared.WriteResult.TheVariants.{Invalid}
-use Rattle.fuse_spec.specs.Maps.{Map, get, values, remove}
+use Rattle.fuse_spec.specs.Maps.{Map, get, values}
 use Rattle.fuse_spec.specs.Operations.{files_in_reply, opens_in_reply}
 use Rattle.fuse_spec.specs.Answers.{Answer}
 use Rattle.fuse_spec.specs.Vfs.{Vfs}
@@ -24,12 +24,13 @@ pub record CallsSound (c : Vfs Opened) : Type 0 where
   pub states : All StatsRoot (values c.calls)
   pub answered : (call : ℕ) (a : Answer) → get c.answers call ≡ Some a → (get c.calls call ≡ None) × (call < c.next_call)
 
--- How often a number stands under way between the kernel's reading of a request and the reply: on the link, held, or on a copy.
+-- How often a request that was read stands under a number, or a copy of its reply: on the request link, held, or on the reply link.
 abbrev pub under_way : World → ℕ → ℕ
 under_way w unique =
     count_by (λ (r : Request). nat_eq unique r.unique) w.requests + cond (is_some (get w.server.held unique)) 1 0 + count_by (λ (sent : Sent). nat_eq unique sent.unique) w.replies
 
--- A number has one request that is not performed, or one kept reply, or neither. A request that was read and is unanswered is under way.
+-- A number has one request that is not performed, or one kept reply, or neither. A request that was read and is unanswered is on the
+-- request link, held, or performed with a copy on the reply link.
 pub record RequestsSound (w : World) : Type 0 where
   pub bodies : All (λ (t : HeldRequest). IsFirstBody t.body) (values w.server.held)
   pub once : (unique : ℕ) → unperformed w unique + cond (is_some (get w.server.kept unique)) 1 0 ≤ 1
@@ -39,8 +40,8 @@ pub record RequestsSound (w : World) : Type 0 where
 abbrev pub outstanding : List Sent → List ReplyResult → ℕ → ℕ
 outstanding replies results number = count_by (λ (sent : Sent). nat_eq number sent.number) replies + count_by (λ (r : ReplyResult). nat_eq number r.number) results
 
--- The copies that stand on a link are copies of the server's, each under a number of its own. None names a node or an open number, and none
--- was answered that its body is wrong.
+-- The server knows each copy that stands on a link, and each has a number of its own, below the coming one. No copy names a node or an open
+-- number, and no result says that a body is wrong.
 pub record CopiesSound (replies : List Sent) (results : List ReplyResult) (copies : Map Copy) (next : ℕ) : Type 0 where
   pub names_none : All (λ (sent : Sent). (files_in_reply sent.wire ≡ []) × (opens_in_reply sent.wire ≡ [])) replies
   pub none_invalid : All (λ (r : ReplyResult). r.result ≢ Invalid) results
@@ -63,7 +64,3 @@ pub record IsFirstWorld (w : World) : Type 0 where
   pub more : FirstKeeps w
   pub plain : Plain
   pub alike : Alike w plain
-
--- The world once the answer of one call is collected.
-abbrev pub handed_out : World → ℕ → World
-handed_out w call = record w { kernel = record w.kernel { vfs = record w.kernel.vfs { answers = remove w.kernel.vfs.answers call } } }
