@@ -1,15 +1,29 @@
-//! What the bytes of a reply to a call say.
+//! What the bytes of a reply say.
 
 ghost use Rattle.std.specs.Prelude.{◌≡◌, pos, MatchOption};
 ghost use Rattle.fk_wire.specs.declared.opcode.Opcode.TheVariants as op;
 ghost use Rattle.fk_wire.specs.Replies.{ReplyContent, IsErrorNumber};
 ghost use Rattle.fuse_spec.specs.Operations as reply;
 ghost use Rattle.fuse_frames.specs.ReplyTies.{wire_said};
-ghost use Rattle.fk_kernel.specs.Said.{SaysNothing, SaysToGetattr, SaysToLookup};
+ghost use Rattle.fk_kernel.specs.Said.{SaysNothing, SaysToInit, SaysToInterrupt, SaysToGetattr, SaysToLookup};
 
 use fk_wire::{Opcode, ReplyBody, read_reply};
 use fuse_frames::{attributes_of, milliseconds};
 use fuse_spec::Attributes;
+
+/// What a reply to INIT says.
+#[derive(Drop)]
+pub(crate) enum InitSaid {
+    Failed { errno: u32 },
+    /// The version that the server states.
+    Agreed { major: u32, minor: u32 },
+}
+
+/// What a reply to an INTERRUPT says.
+pub(crate) enum InterruptSaid {
+    Failed { errno: u32 },
+    Done,
+}
 
 /// What a reply to a GETATTR says.
 pub(crate) enum GetattrSaid {
@@ -35,6 +49,38 @@ fn failure(error: i32) -> Option<u32>
         return None;
     }
     Some(error.unsigned_abs())
+}
+
+/// What the bytes say to INIT, if they are a reply to it.
+pub(crate) fn said_to_init(bytes: &[u8]) -> Option<InitSaid>
+    ensures { MatchOption result (SaysNothing op.Init bytes.now) (SaysToInit bytes.now) }
+{
+    let Ok(reply) = read_reply(Opcode::Init, bytes) else {
+        return None;
+    };
+    if let Some(errno) = failure(reply.error) {
+        return Some(InitSaid::Failed { errno });
+    }
+    let ReplyBody::Init { major, minor, .. } = reply.body else {
+        return None;
+    };
+    Some(InitSaid::Agreed { major, minor })
+}
+
+/// What the bytes say to an INTERRUPT, if they are a reply to it.
+pub(crate) fn said_to_interrupt(bytes: &[u8]) -> Option<InterruptSaid>
+    ensures { MatchOption result (SaysNothing op.Interrupt bytes.now) (SaysToInterrupt bytes.now) }
+{
+    let Ok(reply) = read_reply(Opcode::Interrupt, bytes) else {
+        return None;
+    };
+    if let Some(errno) = failure(reply.error) {
+        return Some(InterruptSaid::Failed { errno });
+    }
+    let ReplyBody::Empty = reply.body else {
+        return None;
+    };
+    Some(InterruptSaid::Done)
 }
 
 /// What the bytes say to a GETATTR, if they are a reply to it.
