@@ -13,7 +13,7 @@ use Rattle.fuse_spec.specs.Messages.{WireReply}
 use Rattle.fuse_spec.specs.Operations as reply
 use Rattle.fuse_spec.specs.QueueCalls.{waiting, without}
 use Rattle.fuse_spec.specs.Replies.{reply_written, reply_taken, odd_taken, interrupt_replied, is_agreement}
-use Rattle.fk_kernel.specs.Said.{Says, SaysNothing, Awaited, gone, reply_to, awaited, awaited_by, awaited_by_interrupt, wrong_body, IsTaken}
+use Rattle.fk_kernel.specs.Said.{Says, SaysNothing, Awaited, nothing, gone, reply_to, awaited, awaited_by, awaited_by_interrupt, wrong_body, IsAwaited, IsTaken}
 
 -- The cases of a reply, where it is known what awaits it.
 abbrev pub TakenBy : Kernel → ℕ → List ℕ → WriteResult → Kernel → Awaited → Type 0
@@ -33,11 +33,22 @@ TakenBy k unique bytes result after (reply_to op.Init) =
 TakenBy k unique bytes result after (reply_to op.Interrupt) =
     ((wire : WireReply) → Says op.Interrupt bytes wire → reply_written k unique wire ≡ (result, after))
     × (SaysNothing op.Interrupt bytes → reply_written k unique wrong_body ≡ (result, after))
-TakenBy k unique bytes result after awaits = Unit {0}
+TakenBy k unique bytes result after nothing = Unit {0}
+TakenBy k unique bytes result after awaits = ⊥
 
 module _ (k : Kernel) (unique : ℕ) (bytes : List ℕ) (result : WriteResult) (after : Kernel) where
+  kinds : (awaits : Awaited) → TakenBy k unique bytes result after awaits → IsAwaited awaits
+  kinds nothing h = tt
+  kinds gone h = tt
+  kinds (reply_to op.Init) h = tt
+  kinds (reply_to op.Lookup) h = tt
+  kinds (reply_to op.Getattr) h = tt
+  kinds (reply_to op.Interrupt) h = tt
+  kinds awaits h = h
+
   pub taken : (awaits : Awaited) → TakenBy k unique bytes result after awaits → IsTaken k unique bytes awaits result after
   taken awaits h = record {
+    kinds = kinds awaits h;
     gone = λ e. under gone e;
     getattr = λ e. (under (reply_to op.Getattr) e).0;
     no_getattr = λ e. (under (reply_to op.Getattr) e).1;

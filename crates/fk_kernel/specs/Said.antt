@@ -105,9 +105,20 @@ awaited k unique = cond (nat_eq (unique % 2) 1) (awaited_by_interrupt (waiting k
 abbrev pub wrong_body : WireReply
 wrong_body = reply.agreed 0 0
 
+-- The kinds that await a reply so far: no file is opened, and a call asks a LOOKUP or a GETATTR alone.
+abbrev pub IsAwaited : Awaited → Type 0
+IsAwaited nothing = Unit {0}
+IsAwaited gone = Unit {0}
+IsAwaited (reply_to op.Init) = Unit {0}
+IsAwaited (reply_to op.Lookup) = Unit {0}
+IsAwaited (reply_to op.Getattr) = Unit {0}
+IsAwaited (reply_to op.Interrupt) = Unit {0}
+IsAwaited awaits = ⊥
+
 -- What becomes of a reply with a head, by what awaits it. Two kinds of reply are put off so far: one to a LOOKUP that names a node,
 -- and one to INIT that is no agreement. They are refused, and change nothing.
 pub record IsTaken (k : Kernel) (unique : ℕ) (bytes : List ℕ) (awaits : Awaited) (result : WriteResult) (after : Kernel) : Type 0 where
+  pub kinds : IsAwaited awaits
   -- the call is not unanswered: the request just ends
   pub gone : awaits ≡ gone → (result ≡ Accepted) × (after ≡ record k { queues = without k.queues unique })
   pub getattr : awaits ≡ reply_to op.Getattr → (wire : WireReply) → Says op.Getattr bytes wire → reply_written k unique wire ≡ (result, after)

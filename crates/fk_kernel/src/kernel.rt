@@ -381,6 +381,7 @@ impl<Q: QueueTable<Purpose> + Drop> KernelOf<Q> {
         };
         match *purpose {
             Purpose::Init => Ok(self.write_to_init(unique, bytes)),
+            // No file is opened so far, so that none is a RELEASE.
             Purpose::Release(_) => Ok(WriteResult::Invalid),
             Purpose::Call(call) => self.write_to_call(unique, call, bytes),
         }

@@ -1,11 +1,13 @@
 //! What the bytes of a reply say.
 
-ghost use Rattle.std.specs.Prelude.{◌≡◌, pos, MatchOption};
+ghost use Rattle.std.specs.Prelude.{◌≡◌, ℕ, List, pos, MatchOption};
 ghost use Rattle.fk_wire.specs.declared.opcode.Opcode.TheVariants as op;
 ghost use Rattle.fk_wire.specs.Replies.{ReplyContent, IsErrorNumber};
+ghost use Rattle.fuse_spec.specs.Messages.{WireReply};
 ghost use Rattle.fuse_spec.specs.Operations as reply;
 ghost use Rattle.fuse_frames.specs.ReplyTies.{wire_said};
-ghost use Rattle.fk_kernel.specs.Said.{SaysNothing, SaysToInit, SaysToInterrupt, SaysToGetattr, SaysToLookup};
+ghost use Rattle.fk_kernel.specs.ReplyCases.{IsLookupReply, IsGetattrReply, IsInitReply, IsInterruptReply};
+ghost use Rattle.fk_kernel.specs.Said.{Says, SaysNothing, SaysToInit, SaysToInterrupt, SaysToGetattr, SaysToLookup};
 
 use fk_wire::{Opcode, ReplyBody, read_reply};
 use fuse_frames::{attributes_of, milliseconds};
@@ -119,3 +121,11 @@ pub(crate) fn said_to_lookup(bytes: &[u8]) -> Option<LookupSaid>
         valid_ms: milliseconds(entry.entry_valid, entry.entry_valid_nsec),
     })
 }
+
+/// Bytes that are a reply to a request of the kernel say one of these to it. The function does nothing: its contract is a law.
+pub fn reply_cases()
+    ensures lookup { (bytes : List ℕ) (wire : WireReply) → Says op.Lookup bytes wire → IsLookupReply wire }
+    ensures getattr { (bytes : List ℕ) (wire : WireReply) → Says op.Getattr bytes wire → IsGetattrReply wire }
+    ensures init { (bytes : List ℕ) (wire : WireReply) → Says op.Init bytes wire → IsInitReply wire }
+    ensures interrupt { (bytes : List ℕ) (wire : WireReply) → Says op.Interrupt bytes wire → IsInterruptReply wire }
+{}

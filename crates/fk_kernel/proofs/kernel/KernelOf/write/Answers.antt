@@ -1,11 +1,12 @@
 use Rattle.std.proofs.Common.{rules, ◌≡◌, ℕ, ◌-◌, Some, None, sym, ap, ◌∙◌}
 use Rattle.fuse_spec.specs.QueueCalls.{waiting}
-use Rattle.fuse_spec.specs.declared.Purpose.TheVariants.{Init, Release}
+use Rattle.fuse_spec.specs.declared.Purpose.TheVariants.{Init}
 use Rattle.fk_kernel.specs.Said.{head_unique}
 use Rattle.fk_kernel.proofs.Taken.{odd_test, even_test, taken_odd, taken_even, taken_by_init}
 use Rattle.fk_wire.specs.declared.opcode.Opcode.TheVariants as op
 use Rattle.fk_wire.specs.Opcodes.{served}
 use Rattle.fk_kernel.proofs.Heads.{no_head}
+use Rattle.fk_kernel.proofs.Requests.{waiting_purpose}
 use Rattle.fk_kernel.proofs.kernel.KernelOf.write.Goals as goal
 
 pub returns-in_default-clause-unawaited : goal.returns-in_default-clause-unawaited
@@ -48,8 +49,5 @@ returns-in-Init-clause-taken g c = λ head.
 pub returns-in-Release-clause-taken : goal.returns-in-Release-clause-taken
 returns-in-Release-clause-taken g c = λ head.
     let queues = g.Q.QueueTable.state c.self.inside.queues in
-    let unique = head_unique c.args.bytes.now in
-    let same = c.in-Ok.ensures.ok.3 in
     let at : waiting queues c.in-Ok.unique ≡ Some c.in-Some.purpose.now = search rules in
-    let waits : waiting c.args.self.now.queues unique ≡ Some (Release c.in-Release.field-0) = rw (← c.self.view_is) (ap (waiting queues) (sym same) ∙ at ∙ ap Some c.in-Release.is) in
-    taken_even _ unique _ _ _ (even_test c.in-Ok.unique unique same c.if-unique-eq1.false) (Some (Release c.in-Release.field-0)) waits tt
+    absurd (waiting_purpose queues c.in-Ok.unique c.in-Some.purpose.now c.self.invariant.releases at c.in-Release.field-0 c.in-Release.is)
