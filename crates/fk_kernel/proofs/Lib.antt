@@ -7,6 +7,7 @@ pub mod Requests
 pub mod Stats
 pub mod Phases
 pub mod Sayings
+pub mod ReplyCases
 pub mod Replied
 pub mod Heads
 pub mod Taken

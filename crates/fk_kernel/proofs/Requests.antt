@@ -2,7 +2,8 @@
 use Rattle.std.proofs.Common.{◌≡◌, ◌≢◌, ℕ, zero, suc, Bool, true, false, cond, List, [], ◌∷◌, Option, Some, None, nat_eq, refl, ap, ◌∙◌, subst, All}
 use Rattle.std.specs.Prelude.{slice_get, is_some, option_map, not, ◌&&◌}
 use Rattle.std.specs.List.{list_any}
-use Rattle.std.specs.Map.{remove_entry}
+use Rattle.std.specs.Map.{lookup, remove_entry}
+use Rattle.std.specs.Option.{option_map_or}
 use Rattle.std.proofs.lemmas.List.Elements.{All-nil, All-cons, All-head, All-tail, All-push, All-filter}
 use Rattle.fuse_spec.specs.declared.Mark.{Mark}
 use Rattle.fuse_spec.specs.declared.Mark.TheVariants.{Unread, Flagged, Read, Interrupted}
@@ -11,7 +12,7 @@ use Rattle.fuse_spec.specs.declared.Opened.{Opened}
 use Rattle.fuse_spec.specs.declared.Purpose.{Purpose}
 use Rattle.fuse_spec.specs.declared.Purpose.TheVariants.{Init, Release, Call}
 use Rattle.fuse_spec.specs.declared.QueuedRequest.{QueuedRequest}
-use Rattle.fuse_spec.specs.Queues.{QueueState, pending, is_interrupted, is_unread}
+use Rattle.fuse_spec.specs.Queues.{QueueState, pending, request_under, is_interrupted, is_unread}
 use Rattle.fuse_spec.specs.QueueCalls.{after_enqueue, pending_at, set_mark, after_reading, after_read_pending, waiting, after_answer, with_interrupt, after_interrupt_reply}
 use Rattle.fuse_spec.proofs.QueueReadings.{after_interrupt_reply-again}
 use Rattle.fk_kernel.specs.Soundness.{IsNoRelease}
@@ -96,3 +97,33 @@ pending_purpose s place unique purpose h at = by (slice_get (pending s) place) r
     by (Some x) e is = λ opened r.
         let both : shown x ≡ (unique, purpose) = cc is in
         at_place (pending s) place x (All-filter (λ (y : Entry). is_unread y.1.mark) IsNoRelease s.requests h) e opened (ap (λ (q : ℕ × Purpose). q.1) both ∙ r)
+
+-- nor is the request that an answer ends
+under_number : (es : List Entry) (unique : ℕ) (r : QueuedRequest Purpose) → All IsNoRelease es → lookup (nat_eq unique) es ≡ Some r → (opened : Opened) → r.kept ≢ Release opened
+under_number [] unique r h there =
+    let none : None ≡ Some r = there in
+    cc
+under_number (e ∷ es) unique r h there = by (nat_eq unique e.0) there (λ is. under_number es unique r (All-tail IsNoRelease e es h) is)
+  where
+    by : (b : Bool) → cond b (Some e.1) (lookup (nat_eq unique) es) ≡ Some r → (lookup (nat_eq unique) es ≡ Some r → (opened : Opened) → r.kept ≢ Release opened) → (opened : Opened) → r.kept ≢ Release opened
+    by true is rest = λ opened q.
+        let same : e.1 ≡ r = cc is in
+        All-head IsNoRelease e es h opened (ap (λ (x : QueuedRequest Purpose). x.kept) same ∙ q)
+    by false is rest = rest is
+
+pub waiting_purpose : (s : QueueState Purpose) (unique : ℕ) (purpose : Purpose) → All IsNoRelease s.requests → waiting s unique ≡ Some purpose → (opened : Opened) → purpose ≢ Release opened
+waiting_purpose s unique purpose h waits = by (request_under s unique) refl waits
+  where
+    kept : (r : QueuedRequest Purpose) (b : Bool) → request_under s unique ≡ Some r → cond b None (Some r.kept) ≡ Some purpose → (opened : Opened) → purpose ≢ Release opened
+    kept r true there is =
+        let none : None ≡ Some purpose = is in
+        cc
+    kept r false there is = λ opened q.
+        let same : r.kept ≡ purpose = cc is in
+        under_number s.requests unique r h there opened (same ∙ q)
+
+    by : (o : Option (QueuedRequest Purpose)) → request_under s unique ≡ o → option_map_or (λ r. cond (is_unread r.mark) None (Some r.kept)) o None ≡ Some purpose → (opened : Opened) → purpose ≢ Release opened
+    by None e is =
+        let none : None ≡ Some purpose = is in
+        cc
+    by (Some r) e is = kept r (is_unread r.mark) e is

@@ -3,3 +3,4 @@ pub mod Bound
 pub mod Soundness
 pub mod Refused
 pub mod Said
+pub mod ReplyCases

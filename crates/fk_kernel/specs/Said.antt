@@ -1,5 +1,5 @@
 -- What the bytes of a reply say to the request that awaits it.
-use Rattle.std.specs.Prelude.{◌≡◌, ℕ, ◌-◌, ◌%◌, cond, List, Option, Some, None, nat_eq}
+use Rattle.std.specs.Prelude.{◌≡◌, ℕ, ◌-◌, ◌%◌, ◌≤◌, false, cond, List, Option, Some, None, nat_eq}
 use Rattle.fk_wire.specs.declared.opcode.Opcode.{Opcode}
 use Rattle.fk_wire.specs.declared.opcode.Opcode.TheVariants as op
 use Rattle.fk_wire.specs.Fields.{number_at}
@@ -14,11 +14,15 @@ use Rattle.fuse_spec.specs.Messages.{WireReply}
 use Rattle.fuse_spec.specs.Maps.{get}
 use Rattle.fuse_spec.specs.Vfs.{CallState, asked}
 use Rattle.fuse_spec.specs.QueueCalls.{waiting, without}
-use Rattle.fuse_spec.specs.Replies.{reply_written}
+use Rattle.fuse_spec.specs.Replies.{reply_written, is_agreement}
 use Rattle.fuse_spec.specs.declared.WriteResult.{WriteResult}
 use Rattle.fuse_spec.specs.declared.WriteResult.TheVariants.{Accepted, Invalid}
 use Rattle.fuse_spec.specs.Kernel.{Kernel}
 use Rattle.fuse_frames.specs.ReplyTies.{SaysReply}
+use Rattle.fk_kernel.specs.declared.said.InitSaid.{InitSaid}
+use Rattle.fk_kernel.specs.declared.said.InitSaid.TheVariants as init_said
+use Rattle.fk_kernel.specs.declared.said.InterruptSaid.{InterruptSaid}
+use Rattle.fk_kernel.specs.declared.said.InterruptSaid.TheVariants as interrupt_said
 use Rattle.fk_kernel.specs.declared.said.GetattrSaid.{GetattrSaid}
 use Rattle.fk_kernel.specs.declared.said.GetattrSaid.TheVariants as getattr_said
 use Rattle.fk_kernel.specs.declared.said.LookupSaid.{LookupSaid}
@@ -42,6 +46,14 @@ abbrev pub SaysNothing : Opcode → List ℕ → Type 0
 SaysNothing o bytes = (wire : WireReply) → Says o bytes wire → ⊥
 
 -- They say what was made out of them.
+abbrev pub SaysToInit : List ℕ → InitSaid → Type 0
+SaysToInit bytes (init_said.Failed errno) = Says op.Init bytes (reply.failed errno)
+SaysToInit bytes (init_said.Agreed major minor) = Says op.Init bytes (reply.agreed major minor)
+
+abbrev pub SaysToInterrupt : List ℕ → InterruptSaid → Type 0
+SaysToInterrupt bytes (interrupt_said.Failed errno) = Says op.Interrupt bytes (reply.failed errno)
+SaysToInterrupt bytes interrupt_said.Done = Says op.Interrupt bytes reply.done
+
 abbrev pub SaysToGetattr : List ℕ → GetattrSaid → Type 0
 SaysToGetattr bytes (getattr_said.Failed errno) = Says op.Getattr bytes (reply.failed errno)
 SaysToGetattr bytes (getattr_said.Attributes attributes) = Says op.Getattr bytes (reply.attributes attributes)
@@ -93,9 +105,20 @@ awaited k unique = cond (nat_eq (unique % 2) 1) (awaited_by_interrupt (waiting k
 abbrev pub wrong_body : WireReply
 wrong_body = reply.agreed 0 0
 
--- What becomes of a reply under the unique of a call's request, with a head, by what awaits it. A reply to a LOOKUP that names
--- a node is put off so far: it is refused, and changes nothing.
-pub record IsTakenByCall (k : Kernel) (unique : ℕ) (bytes : List ℕ) (awaits : Awaited) (result : WriteResult) (after : Kernel) : Type 0 where
+-- The kinds that await a reply so far: no file is opened, and a call asks a LOOKUP or a GETATTR alone.
+abbrev pub IsAwaited : Awaited → Type 0
+IsAwaited nothing = Unit {0}
+IsAwaited gone = Unit {0}
+IsAwaited (reply_to op.Init) = Unit {0}
+IsAwaited (reply_to op.Lookup) = Unit {0}
+IsAwaited (reply_to op.Getattr) = Unit {0}
+IsAwaited (reply_to op.Interrupt) = Unit {0}
+IsAwaited awaits = ⊥
+
+-- What becomes of a reply with a head, by what awaits it. Two kinds of reply are put off so far: one to a LOOKUP that names a node,
+-- and one to INIT that is no agreement. They are refused, and change nothing.
+pub record IsTaken (k : Kernel) (unique : ℕ) (bytes : List ℕ) (awaits : Awaited) (result : WriteResult) (after : Kernel) : Type 0 where
+  pub kinds : IsAwaited awaits
   -- the call is not unanswered: the request just ends
   pub gone : awaits ≡ gone → (result ≡ Accepted) × (after ≡ record k { queues = without k.queues unique })
   pub getattr : awaits ≡ reply_to op.Getattr → (wire : WireReply) → Says op.Getattr bytes wire → reply_written k unique wire ≡ (result, after)
@@ -104,3 +127,8 @@ pub record IsTakenByCall (k : Kernel) (unique : ℕ) (bytes : List ℕ) (awaits 
   pub missing : awaits ≡ reply_to op.Lookup → (valid : ℕ) → Says op.Lookup bytes (reply.missing valid) → reply_written k unique (reply.missing valid) ≡ (result, after)
   pub found : awaits ≡ reply_to op.Lookup → (entry : Entry) (valid : ℕ) → Says op.Lookup bytes (reply.found entry valid) → (result ≡ Invalid) × (after ≡ k)
   pub no_lookup : awaits ≡ reply_to op.Lookup → SaysNothing op.Lookup bytes → reply_written k unique wrong_body ≡ (result, after)
+  pub init : awaits ≡ reply_to op.Init → (minor : ℕ) → 31 ≤ minor → Says op.Init bytes (reply.agreed 7 minor) → reply_written k unique (reply.agreed 7 minor) ≡ (result, after)
+  pub init_refused : awaits ≡ reply_to op.Init → (wire : WireReply) → is_agreement wire ≡ false → Says op.Init bytes wire → (result ≡ Invalid) × (after ≡ k)
+  pub no_init : awaits ≡ reply_to op.Init → SaysNothing op.Init bytes → (result ≡ Invalid) × (after ≡ k)
+  pub interrupt : awaits ≡ reply_to op.Interrupt → (wire : WireReply) → Says op.Interrupt bytes wire → reply_written k unique wire ≡ (result, after)
+  pub no_interrupt : awaits ≡ reply_to op.Interrupt → SaysNothing op.Interrupt bytes → reply_written k unique wrong_body ≡ (result, after)

@@ -15,20 +15,23 @@ ghost use Rattle.fuse_spec.specs.Messages.{WireReply};
 ghost use Rattle.fuse_spec.specs.Numbers.{max_validity};
 ghost use Rattle.fuse_spec.specs.Operations as reply;
 ghost use Rattle.fuse_spec.specs.Paths.{Name};
-ghost use Rattle.fuse_spec.specs.Replies.{reply_written};
+ghost use Rattle.fuse_spec.specs.Replies.{reply_written, is_agreement, interrupt_reply_of, interrupt_replied};
 ghost use Rattle.fuse_spec.specs.declared.Entry.{Entry};
-ghost use Rattle.fk_kernel.specs.Said.{Says, SaysNothing, HasReplyHead, head_unique, awaited, awaited_by_call, nothing, wrong_body, IsTakenByCall};
-ghost use Rattle.fk_kernel.specs.Refused.{or_no_memory, begin_refusal, mount_refusal, read_refusal, IsPendingRequest};
+ghost use Rattle.fk_kernel.specs.Said.{Says, SaysNothing, HasReplyHead, head_unique, awaited, awaited_by_call, nothing, wrong_body, IsTaken};
+ghost use Rattle.fk_kernel.specs.Refused.{is_past_end, or_no_memory, begin_refusal, mount_refusal, read_refusal, IsPendingRequest};
 ghost use Rattle.fuse_spec.specs.Queues.{empty_queues};
-ghost use Rattle.fuse_spec.specs.QueueCalls.{after_enqueue, after_read_pending, waiting, without};
+ghost use Rattle.fuse_spec.specs.QueueCalls.{after_enqueue, after_read_pending, after_interrupt_reply, waiting, without};
 
 use crate::bindings::{Bindings, Found};
 use crate::call::{Answer, Call};
 use crate::path::{path_fault, word_len};
-use crate::said::{GetattrSaid, LookupSaid, said_to_getattr, said_to_lookup};
+use crate::said::{
+    GetattrSaid, InitSaid, InterruptSaid, LookupSaid, said_to_getattr, said_to_init,
+    said_to_interrupt, said_to_lookup,
+};
 use crate::waiting::{StoredAnswer, WaitingCall};
 use fk_queues::{QueueTable, Queues};
-use fk_wire::{Opcode, ReplyBody, read_reply, read_reply_head};
+use fk_wire::{Opcode, read_reply_head};
 use fuse_frames::RequestFrame;
 use fuse_spec::{Binding, Phase, Purpose, Refusal, WriteResult};
 use fuse_tables::Table;
@@ -47,6 +50,10 @@ const COUNTER_END: u64 = 0x4000_0000_0000_0000;
 const ENOENT: u32 = 2;
 
 const EIO: u32 = 5;
+
+const EAGAIN: u32 = 11;
+
+const ENOSYS: u32 = 38;
 
 const ENOTCONN: u32 = 107;
 
@@ -97,6 +104,13 @@ impl<Q: QueueTable<Purpose> + Drop> KernelOf<Q> {
             next_call: 1,
             clock: 0,
         }
+    }
+
+    /// No counter is past its end.
+    pub fn within(&self)
+        ensures { is_past_end self.now ≡ false }
+    {
+        let _ = &self.next_call;
     }
 
     fn is_live(&self) -> bool
@@ -354,59 +368,73 @@ impl<Q: QueueTable<Purpose> + Drop> KernelOf<Q> {
         ensures refusal { IfErr result (λ refusal. refusal ≡ Refusal.NoMemory) }
         ensures headless { (HasReplyHead bytes.now → ⊥) → (result ≡ Ok WriteResult.Invalid) × (self.new ≡ self.old) }
         ensures unawaited { HasReplyHead bytes.now → awaited self.old (head_unique bytes.now) ≡ nothing → (result ≡ Ok WriteResult.NoEntry) × (self.new ≡ self.old) }
-        ensures taken { HasReplyHead bytes.now → IfOk result (λ written. IsTakenByCall self.old (head_unique bytes.now) bytes.now (awaited self.old (head_unique bytes.now)) written self.new) }
+        ensures taken { HasReplyHead bytes.now → IfOk result (λ written. IsTaken self.old (head_unique bytes.now) bytes.now (awaited self.old (head_unique bytes.now)) written self.new) }
     {
-        let Ok((error, unique)) = read_reply_head(bytes) else {
+        let Ok((_, unique)) = read_reply_head(bytes) else {
             return Ok(WriteResult::Invalid);
         };
         if unique % 2 == 1 {
-            return Ok(self.write_to_interrupt(unique - 1, error, bytes));
+            return Ok(self.write_to_interrupt(unique - 1, bytes));
         }
         let Some(purpose) = self.queues.waiting(unique) else {
             return Ok(WriteResult::NoEntry);
         };
         match *purpose {
             Purpose::Init => Ok(self.write_to_init(unique, bytes)),
+            // No file is opened so far, so that none is a RELEASE.
             Purpose::Release(_) => Ok(WriteResult::Invalid),
             Purpose::Call(call) => self.write_to_call(unique, call, bytes),
         }
     }
 
     /// A reply to the INTERRUPT of a request: it counts while that request is read and unanswered.
-    fn write_to_interrupt(&mut self, original: u64, error: i32, bytes: &[u8]) -> WriteResult
+    fn write_to_interrupt(&mut self, original: u64, bytes: &[u8]) -> WriteResult
         ensures unawaited { waiting self.old.queues original ≡ None → (result ≡ WriteResult.NoEntry) × (self.new ≡ self.old) }
+        ensures said { is_some (waiting self.old.queues original) ≡ true → (wire : WireReply) → Says Opcode.Interrupt bytes.now wire → interrupt_replied self.old original wire ≡ (result, self.new) }
+        ensures unsaid { is_some (waiting self.old.queues original) ≡ true → SaysNothing Opcode.Interrupt bytes.now → interrupt_replied self.old original wrong_body ≡ (result, self.new) }
     {
         if self.queues.waiting(original).is_none() {
             return WriteResult::NoEntry;
         }
-        if bytes.len() != 16 {
+        let Some(said) = said_to_interrupt(bytes) else {
             return WriteResult::Invalid;
-        }
-        match error {
-            -11 => self.queues.again(original),
-            -38 => self.queues.no_interrupts(),
-            _ => {}
+        };
+        match said {
+            InterruptSaid::Failed { errno } => self.interrupt_failed(original, errno),
+            InterruptSaid::Done => {}
         }
         WriteResult::Accepted
     }
 
-    /// A well-formed answer of 7.31 or later makes the mount ready. For now any other is refused and changes nothing.
-    fn write_to_init(&mut self, unique: u64, bytes: &[u8]) -> WriteResult {
-        match read_reply(Opcode::Init, bytes) {
-            Ok(reply) => match reply.body {
-                ReplyBody::Init {
-                    major: 7,
-                    minor,
-                    ..
-                } if minor >= 31 => {
-                    let _kept = self.queues.answer(unique);
-                    self.phase = Phase::Ready;
-                    WriteResult::Accepted
-                }
-                _ => WriteResult::Invalid,
-            },
-            Err(_) => WriteResult::Invalid,
+    /// An INTERRUPT was answered an error: EAGAIN queues it again, and after ENOSYS none is queued any more.
+    fn interrupt_failed(&mut self, original: u64, errno: u32)
+        requires { is_some (waiting self.old.queues original) ≡ true }
+        ensures { self.new ≡ record self.old { queues = after_interrupt_reply self.old.queues original (interrupt_reply_of errno) } }
+    {
+        match errno {
+            EAGAIN => self.queues.again(original),
+            ENOSYS => self.queues.no_interrupts(),
+            _ => {}
         }
+    }
+
+    /// An agreement on 7.31 or later makes the mount ready. For now any other reply is refused and changes nothing.
+    fn write_to_init(&mut self, unique: u64, bytes: &[u8]) -> WriteResult
+        requires even { nat_eq (unique % 2) 1 ≡ false }
+        requires waits { waiting self.old.queues unique ≡ Some Purpose.Init }
+        ensures agreed { (minor : ℕ) → 31 ≤ minor → Says Opcode.Init bytes.now (reply.agreed 7 minor) → reply_written self.old unique (reply.agreed 7 minor) ≡ (result, self.new) }
+        ensures refused { (wire : WireReply) → is_agreement wire ≡ false → Says Opcode.Init bytes.now wire → (result ≡ WriteResult.Invalid) × (self.new ≡ self.old) }
+        ensures unsaid { SaysNothing Opcode.Init bytes.now → (result ≡ WriteResult.Invalid) × (self.new ≡ self.old) }
+    {
+        let Some(InitSaid::Agreed { major, minor }) = said_to_init(bytes) else {
+            return WriteResult::Invalid;
+        };
+        if major != 7 || minor < 31 {
+            return WriteResult::Invalid;
+        }
+        let _kept = self.queues.answer(unique);
+        self.phase = Phase::Ready;
+        WriteResult::Accepted
     }
 
     /// A reply to the LOOKUP or GETATTR of a call. Where the call is not unanswered, its request just ends.
@@ -420,7 +448,7 @@ impl<Q: QueueTable<Purpose> + Drop> KernelOf<Q> {
         requires waits { waiting self.old.queues unique ≡ Some (Purpose.Call call) }
         ensures err { OnErr result (self.new ≡ self.old) }
         ensures refusal { IfErr result (λ refusal. refusal ≡ Refusal.NoMemory) }
-        ensures taken { IfOk result (λ written. IsTakenByCall self.old unique bytes.now (awaited_by_call (get self.old.vfs.calls call)) written self.new) }
+        ensures taken { IfOk result (λ written. IsTaken self.old unique bytes.now (awaited_by_call (get self.old.vfs.calls call)) written self.new) }
     {
         let Some(waiting) = self.calls.get(call) else {
             let _kept = self.queues.answer(unique);

@@ -10,3 +10,4 @@ mod waiting;
 
 pub use call::{Answer, Call};
 pub use kernel::Kernel;
+pub use said::reply_cases;

@@ -1,15 +1,31 @@
-//! What the bytes of a reply to a call say.
+//! What the bytes of a reply say.
 
-ghost use Rattle.std.specs.Prelude.{◌≡◌, pos, MatchOption};
+ghost use Rattle.std.specs.Prelude.{◌≡◌, ℕ, List, pos, MatchOption};
 ghost use Rattle.fk_wire.specs.declared.opcode.Opcode.TheVariants as op;
 ghost use Rattle.fk_wire.specs.Replies.{ReplyContent, IsErrorNumber};
+ghost use Rattle.fuse_spec.specs.Messages.{WireReply};
 ghost use Rattle.fuse_spec.specs.Operations as reply;
 ghost use Rattle.fuse_frames.specs.ReplyTies.{wire_said};
-ghost use Rattle.fk_kernel.specs.Said.{SaysNothing, SaysToGetattr, SaysToLookup};
+ghost use Rattle.fk_kernel.specs.ReplyCases.{IsLookupReply, IsGetattrReply, IsInitReply, IsInterruptReply};
+ghost use Rattle.fk_kernel.specs.Said.{Says, SaysNothing, SaysToInit, SaysToInterrupt, SaysToGetattr, SaysToLookup};
 
 use fk_wire::{Opcode, ReplyBody, read_reply};
 use fuse_frames::{attributes_of, milliseconds};
 use fuse_spec::Attributes;
+
+/// What a reply to INIT says.
+#[derive(Drop)]
+pub(crate) enum InitSaid {
+    Failed { errno: u32 },
+    /// The version that the server states.
+    Agreed { major: u32, minor: u32 },
+}
+
+/// What a reply to an INTERRUPT says.
+pub(crate) enum InterruptSaid {
+    Failed { errno: u32 },
+    Done,
+}
 
 /// What a reply to a GETATTR says.
 pub(crate) enum GetattrSaid {
@@ -35,6 +51,38 @@ fn failure(error: i32) -> Option<u32>
         return None;
     }
     Some(error.unsigned_abs())
+}
+
+/// What the bytes say to INIT, if they are a reply to it.
+pub(crate) fn said_to_init(bytes: &[u8]) -> Option<InitSaid>
+    ensures { MatchOption result (SaysNothing op.Init bytes.now) (SaysToInit bytes.now) }
+{
+    let Ok(reply) = read_reply(Opcode::Init, bytes) else {
+        return None;
+    };
+    if let Some(errno) = failure(reply.error) {
+        return Some(InitSaid::Failed { errno });
+    }
+    let ReplyBody::Init { major, minor, .. } = reply.body else {
+        return None;
+    };
+    Some(InitSaid::Agreed { major, minor })
+}
+
+/// What the bytes say to an INTERRUPT, if they are a reply to it.
+pub(crate) fn said_to_interrupt(bytes: &[u8]) -> Option<InterruptSaid>
+    ensures { MatchOption result (SaysNothing op.Interrupt bytes.now) (SaysToInterrupt bytes.now) }
+{
+    let Ok(reply) = read_reply(Opcode::Interrupt, bytes) else {
+        return None;
+    };
+    if let Some(errno) = failure(reply.error) {
+        return Some(InterruptSaid::Failed { errno });
+    }
+    let ReplyBody::Empty = reply.body else {
+        return None;
+    };
+    Some(InterruptSaid::Done)
 }
 
 /// What the bytes say to a GETATTR, if they are a reply to it.
@@ -73,3 +121,11 @@ pub(crate) fn said_to_lookup(bytes: &[u8]) -> Option<LookupSaid>
         valid_ms: milliseconds(entry.entry_valid, entry.entry_valid_nsec),
     })
 }
+
+/// Bytes that are a reply to a request of the kernel say one of these to it. The function does nothing: its contract is a law.
+pub fn reply_cases()
+    ensures lookup { (bytes : List ℕ) (wire : WireReply) → Says op.Lookup bytes wire → IsLookupReply wire }
+    ensures getattr { (bytes : List ℕ) (wire : WireReply) → Says op.Getattr bytes wire → IsGetattrReply wire }
+    ensures init { (bytes : List ℕ) (wire : WireReply) → Says op.Init bytes wire → IsInitReply wire }
+    ensures interrupt { (bytes : List ℕ) (wire : WireReply) → Says op.Interrupt bytes wire → IsInterruptReply wire }
+{}

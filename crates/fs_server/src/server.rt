@@ -1,6 +1,6 @@
 //! The server.
 
-ghost use Rattle.std.specs.Prelude.{◌≡◌, ◌≢◌, ◌<◌, ◌≤◌, ◌^◌, OnErr, IfOk, IfErr, MatchResult};
+ghost use Rattle.std.specs.Prelude.{◌≡◌, ◌≢◌, ◌<◌, ◌≤◌, ◌^◌, false, OnErr, IfOk, IfErr, MatchResult};
 ghost use Rattle.fuse_spec.specs.Maps.{get};
 ghost use Rattle.fuse_spec.specs.Numbers.{max_validity};
 ghost use Rattle.fuse_spec.specs.Worlds.{first_server};
@@ -8,7 +8,7 @@ ghost use Rattle.fuse_spec.specs.Copies.{remounted};
 ghost use Rattle.fs_server.specs.Effects.{Settles, HasNoCopy, is_of_copy, performing_refusal, or_no_memory, AnswersHeld, PerformsHeld, TakesFrame, RefusesFrame, request_fault, held_for};
 ghost use Rattle.fuse_frames.specs.RequestTies.{body_in};
 ghost use Rattle.fk_wire.specs.Requests.{request_content};
-ghost use Rattle.fs_server.specs.Values.{root_alone, wire_of};
+ghost use Rattle.fs_server.specs.Values.{root_alone, no_nodes, no_handles, wire_of};
 ghost use Rattle.fuse_spec.specs.Trees.{attributes_of};
 ghost use Rattle.fuse_spec.specs.declared.Refusal.TheVariants.{NoMemory};
 
@@ -94,6 +94,18 @@ impl<A: Allocator + Copy> Server<A> {
                 missing_ms: 0,
             },
         }
+    }
+
+    /// The copy numbers are within their range. The tree is the root alone, no node and no open number is given, and no mount is
+    /// aborted.
+    pub fn within(&self)
+        ensures numbers { self.now.next_copy ≤ 2 ^ 62 }
+        ensures tree { self.now.tree ≡ root_alone }
+        ensures nodes { self.now.nodes ≡ no_nodes }
+        ensures handles { self.now.handles ≡ no_handles }
+        ensures aborted { self.now.aborted ≡ false }
+    {
+        let _ = &self.next_copy;
     }
 
     /// A new mount: held requests, kept replies and copies go; copy numbers go on. Validities are in milliseconds.

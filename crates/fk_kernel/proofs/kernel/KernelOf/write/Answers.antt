@@ -1,11 +1,12 @@
-use Rattle.std.proofs.Common.{rules, ◌≡◌, Some, None, sym, ap, ◌∙◌}
+use Rattle.std.proofs.Common.{rules, ◌≡◌, ℕ, ◌-◌, Some, None, sym, ap, ◌∙◌}
 use Rattle.fuse_spec.specs.QueueCalls.{waiting}
-use Rattle.fuse_spec.specs.declared.Purpose.TheVariants.{Init, Release}
+use Rattle.fuse_spec.specs.declared.Purpose.TheVariants.{Init}
 use Rattle.fk_kernel.specs.Said.{head_unique}
-use Rattle.fk_kernel.proofs.Taken.{odd_test, even_test, taken_odd, taken_even, of_nothing, of_init, of_release}
+use Rattle.fk_kernel.proofs.Taken.{odd_test, even_test, taken_odd, taken_even, taken_by_init}
 use Rattle.fk_wire.specs.declared.opcode.Opcode.TheVariants as op
 use Rattle.fk_wire.specs.Opcodes.{served}
 use Rattle.fk_kernel.proofs.Heads.{no_head}
+use Rattle.fk_kernel.proofs.Requests.{waiting_purpose}
 use Rattle.fk_kernel.proofs.kernel.KernelOf.write.Goals as goal
 
 pub returns-in_default-clause-unawaited : goal.returns-in_default-clause-unawaited
@@ -20,7 +21,10 @@ returns-in_default-clause-taken g c = λ head.
 
 pub returns-then-unique-eq1-clause-taken : goal.returns-then-unique-eq1-clause-taken
 returns-then-unique-eq1-clause-taken g c = λ head.
-    taken_odd _ (head_unique c.args.bytes.now) _ _ _ (odd_test c.in-Ok.unique (head_unique c.args.bytes.now) c.in-Ok.ensures.ok.3 c.if-unique-eq1.true)
+    let unique = head_unique c.args.bytes.now in
+    let same = c.in-Ok.ensures.ok.3 in
+    let say = c.write_to_interrupt.ensures in
+    taken_odd c.args.self.now unique c.args.bytes.now _ _ (odd_test c.in-Ok.unique unique same c.if-unique-eq1.true) (c.in-Ok.unique - 1) (ap (λ (n : ℕ). n - 1) same) say.said say.unsaid
 
 pub returns-in_default-waiting-clause-taken : goal.returns-in_default-waiting-clause-taken
 returns-in_default-waiting-clause-taken g c = λ head.
@@ -29,7 +33,7 @@ returns-in_default-waiting-clause-taken g c = λ head.
     let same = c.in-Ok.ensures.ok.3 in
     let at : waiting queues c.in-Ok.unique ≡ None = search rules in
     let waits : waiting c.args.self.now.queues unique ≡ None = rw (← c.self.view_is) (ap (waiting queues) (sym same) ∙ at) in
-    taken_even _ unique _ _ _ None (even_test c.in-Ok.unique unique same c.if-unique-eq1.false) waits of_nothing
+    taken_even _ unique _ _ _ (even_test c.in-Ok.unique unique same c.if-unique-eq1.false) None waits tt
 
 pub returns-in-Init-clause-taken : goal.returns-in-Init-clause-taken
 returns-in-Init-clause-taken g c = λ head.
@@ -38,13 +42,12 @@ returns-in-Init-clause-taken g c = λ head.
     let same = c.in-Ok.ensures.ok.3 in
     let at : waiting queues c.in-Ok.unique ≡ Some c.in-Some.purpose.now = search rules in
     let waits : waiting c.args.self.now.queues unique ≡ Some Init = rw (← c.self.view_is) (ap (waiting queues) (sym same) ∙ at ∙ ap Some c.in-Init.is) in
-    taken_even _ unique _ _ _ (Some Init) (even_test c.in-Ok.unique unique same c.if-unique-eq1.false) waits of_init
+    let say = c.write_to_init.ensures in
+    taken_even c.args.self.now unique c.args.bytes.now _ _ (even_test c.in-Ok.unique unique same c.if-unique-eq1.false) (Some Init) waits
+    (taken_by_init c.args.self.now unique c.args.bytes.now _ _ c.in-Ok.unique same say.agreed say.refused say.unsaid)
 
 pub returns-in-Release-clause-taken : goal.returns-in-Release-clause-taken
 returns-in-Release-clause-taken g c = λ head.
     let queues = g.Q.QueueTable.state c.self.inside.queues in
-    let unique = head_unique c.args.bytes.now in
-    let same = c.in-Ok.ensures.ok.3 in
     let at : waiting queues c.in-Ok.unique ≡ Some c.in-Some.purpose.now = search rules in
-    let waits : waiting c.args.self.now.queues unique ≡ Some (Release c.in-Release.field-0) = rw (← c.self.view_is) (ap (waiting queues) (sym same) ∙ at ∙ ap Some c.in-Release.is) in
-    taken_even _ unique _ _ _ (Some (Release c.in-Release.field-0)) (even_test c.in-Ok.unique unique same c.if-unique-eq1.false) waits of_release
+    absurd (waiting_purpose queues c.in-Ok.unique c.in-Some.purpose.now c.self.invariant.releases at c.in-Release.field-0 c.in-Release.is)

@@ -1,0 +1,18 @@
+use Rattle.std.proofs.Common.{refl, sym, ap, ◌∙◌}
+use Rattle.fk_wire.specs.Replies.{reply_content}
+use Rattle.fk_wire.specs.declared.opcode.Opcode.TheVariants as op
+use Rattle.fuse_frames.specs.ReplyTies.{wire_said}
+use Rattle.fk_kernel.proofs.Sayings.{says_read, same_error}
+use Rattle.fk_kernel.proofs.said.said_to_init.Goals as goal
+
+pub returns-in-Some : goal.returns-in-Some
+returns-in-Some c =
+    let r = c.in-Ok.reply in
+    let same = same_error r.error c.in-Ok.ensures.ok.1 in
+    says_read op.Init c.args.bytes.now r _ c.in-Ok.ensures.ok (ap (λ z. wire_said z (reply_content r.body)) (sym same) ∙ c.in-Some.ensures (reply_content r.body))
+
+pub returns : goal.returns
+returns c =
+    let r = c.in-Ok.reply in
+    let no_error = sym (same_error r.error c.in-Ok.ensures.ok.1) ∙ c.in_default-failure.ensures in
+    says_read op.Init c.args.bytes.now r _ c.in-Ok.ensures.ok (rw (no_error, c.in-Init.is) refl)
