@@ -1,12 +1,15 @@
 -- Bytes say one request, and what is written is said.
-use Rattle.std.proofs.Common.{◌≡◌, ℕ, List, [], ◌++◌, Some, refl, sym, ap, subst, ◌∙◌}
-use Rattle.fk_wire.specs.Requests.{RequestMessage, Spells, Written}
+use Rattle.std.proofs.Common.{◌≡◌, ℕ, List, [], ◌++◌, Option, Some, Result, Ok, Err, refl, sym, ap, subst, ◌∙◌}
+use Rattle.std.specs.Prelude.{IsOkAnd}
+use Rattle.fk_wire.specs.declared.fault.WireFault.{WireFault}
+use Rattle.fk_wire.specs.declared.request.Request.{Request as View}
+use Rattle.fk_wire.specs.Requests as wire
+use Rattle.fk_wire.specs.Requests.{RequestContent, RequestMessage, request_content, request_message, opcode_of, Spells, Written}
 use Rattle.fk_wire.specs.Opcodes.{served}
-use Rattle.fk_wire.specs.Decoded.{decoded}
 use Rattle.fk_wire.proofs.OneRequest.{decoded_is}
 use Rattle.fk_wire.proofs.Frames.{spells}
 use Rattle.fuse_spec.specs.Messages.{RequestBody, Request}
-use Rattle.fuse_frames.specs.RequestTies.{SaysRequest, IsRequestFrame, request_in, body_in, body_or}
+use Rattle.fuse_frames.specs.RequestTies.{SaysRequest, IsRequestFrame, request_in, body_in, body_or, asked_opcode}
 
 pub frame_says : (bytes : List ℕ) (request : Request) → IsRequestFrame bytes request → SaysRequest bytes request
 frame_says bytes request h = record { message = h.message; spells = spells served h.message bytes h.written; unique = h.unique; says = h.says }
@@ -33,3 +36,43 @@ is_framed message bytes body w e =
 -- what was appended to an empty vector is all that it has
 pub all_written : {P : List ℕ → Type 0} (old items : List ℕ) → old ≡ [] → (frame : List ℕ) × P frame × (items ≡ old ++ frame) → P items
 all_written {P} old items none w = subst P (sym (w.2 ∙ ap (λ (xs : List ℕ). xs ++ w.0) none)) w.1
+
+-- ---- the head of a frame
+
+-- the opcode of what a request asks
+pub opcode_is : (n : ℕ) (content : RequestContent) (body : RequestBody) → body_in n content ≡ Some body → opcode_of content ≡ asked_opcode body
+opcode_is n (wire.lookup name) body e = ap (λ (b : Option RequestBody). asked_opcode (body_or b)) e
+opcode_is n (wire.forget nlookup) body e = ap (λ (b : Option RequestBody). asked_opcode (body_or b)) e
+opcode_is n wire.getattr body e = ap (λ (b : Option RequestBody). asked_opcode (body_or b)) e
+opcode_is n (wire.mkdir name) body e = ap (λ (b : Option RequestBody). asked_opcode (body_or b)) e
+opcode_is n (wire.unlink name) body e = ap (λ (b : Option RequestBody). asked_opcode (body_or b)) e
+opcode_is n (wire.rmdir name) body e = ap (λ (b : Option RequestBody). asked_opcode (body_or b)) e
+opcode_is n (wire.rename newdir old new) body e = ap (λ (b : Option RequestBody). asked_opcode (body_or b)) e
+opcode_is n (wire.link oldnodeid name) body e = ap (λ (b : Option RequestBody). asked_opcode (body_or b)) e
+opcode_is n wire.opening body e = ap (λ (b : Option RequestBody). asked_opcode (body_or b)) e
+opcode_is n (wire.read fh offset size) body e = ap (λ (b : Option RequestBody). asked_opcode (body_or b)) e
+opcode_is n (wire.write fh offset bytes) body e = ap (λ (b : Option RequestBody). asked_opcode (body_or b)) e
+opcode_is n (wire.release fh) body e = ap (λ (b : Option RequestBody). asked_opcode (body_or b)) e
+opcode_is n (wire.init major minor flags) body e = ap (λ (b : Option RequestBody). asked_opcode (body_or b)) e
+opcode_is n (wire.readdir offset size) body e = ap (λ (b : Option RequestBody). asked_opcode (body_or b)) e
+opcode_is n (wire.readdirplus offset size) body e = absurd (cc e)
+opcode_is n (wire.create name) body e = ap (λ (b : Option RequestBody). asked_opcode (body_or b)) e
+opcode_is n (wire.interrupt unique) body e = ap (λ (b : Option RequestBody). asked_opcode (body_or b)) e
+opcode_is n (wire.batch_forget forgets) body e = ap (λ (b : Option RequestBody). asked_opcode (body_or b)) e
+
+-- What was read of a frame is what it was written for.
+module _ (bytes read : List ℕ) (request : Request) (r : Result View WireFault) (frame : IsRequestFrame bytes (request_in bytes)) (is_view : request ≡ request_in bytes) (same : read ≡ bytes) (only : (m : RequestMessage) → Spells read m → IsOkAnd r (λ v. request_message v ≡ m)) where
+  reads : IsOkAnd r (λ v. request_message v ≡ frame.message)
+  reads = only frame.message (subst (λ (x : List ℕ). Spells x frame.message) (sym same) (spells served frame.message bytes frame.written))
+
+  pub is_read : (v : View) → r ≡ Ok v → request_message v ≡ frame.message
+  is_read v e = rw e at reads
+
+  pub unique_read : (v : View) → r ≡ Ok v → v.unique ≡ request.unique
+  unique_read v e = ap (λ (m : RequestMessage). m.unique) (is_read v e) ∙ frame.unique ∙ sym (ap (λ (q : Request). q.unique) is_view)
+
+  pub opcode_read : (v : View) → r ≡ Ok v → opcode_of (request_content v.body) ≡ asked_opcode request.body
+  opcode_read v e = ap (λ (m : RequestMessage). opcode_of m.content) (is_read v e) ∙ opcode_is frame.message.nodeid frame.message.content (request_in bytes).body frame.says ∙ sym (ap (λ (q : Request). asked_opcode q.body) is_view)
+
+  pub no_fault : (f : WireFault) → r ≡ Err f → ⊥
+  no_fault f e = rw e at reads

@@ -3,7 +3,7 @@ use Rattle.std.specs.Prelude.{◌≡◌, ℕ, ℤ, pos, negsuc, ◌+◌, ◌*◌
 use Rattle.std.specs.Int.RustNames.{bit_and}
 use Rattle.fk_wire.specs.declared.opcode.Opcode.{Opcode}
 use Rattle.fk_wire.specs.declared.entry.Attr.{Attr}
-use Rattle.fk_wire.specs.Entries.{EntryContent, missing, found}
+use Rattle.fk_wire.specs.Entries.{missing, found}
 use Rattle.fk_wire.specs.Dirents.{DirentContent}
 use Rattle.fk_wire.specs.Replies.{ReplyContent, empty_reply, entry_reply, attr_reply, open_reply, bytes_reply, write_reply, init_reply, create_reply, records_reply, plus_reply, ReplyMessage, GoesWith, SpellsReply, WrittenReply}
 use Rattle.fk_wire.specs.Opcodes.{served}

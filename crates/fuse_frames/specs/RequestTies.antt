@@ -1,5 +1,7 @@
 -- A request as its frame spells it, and as the machine of kernel and server has it.
 use Rattle.std.specs.Prelude.{◌≡◌, ℕ, List, Option, Some, None}
+use Rattle.fk_wire.specs.declared.opcode.Opcode.{Opcode}
+use Rattle.fk_wire.specs.declared.opcode.Opcode.TheVariants as op
 use Rattle.fk_wire.specs.Requests as wire
 use Rattle.fk_wire.specs.Requests.{RequestContent, RequestMessage, Spells, Written}
 use Rattle.fk_wire.specs.Decoded.{decoded}
@@ -26,6 +28,26 @@ body_in nodeid (wire.readdirplus offset size) = None
 body_in nodeid (wire.create name) = Some (asks (operation.create nodeid name))
 body_in nodeid (wire.interrupt unique) = Some (interrupt unique)
 body_in nodeid (wire.batch_forget forgets) = Some (batch_forget forgets)
+
+-- the opcode of a request that asks this
+abbrev pub asked_opcode : RequestBody → Opcode
+asked_opcode init = op.Init
+asked_opcode (asks (operation.lookup d name)) = op.Lookup
+asked_opcode (asks (operation.getattr x)) = op.Getattr
+asked_opcode (asks (operation.mkdir d name)) = op.Mkdir
+asked_opcode (asks (operation.create d name)) = op.Create
+asked_opcode (asks (operation.unlink d name)) = op.Unlink
+asked_opcode (asks (operation.rmdir d name)) = op.Rmdir
+asked_opcode (asks (operation.rename d old e new)) = op.Rename
+asked_opcode (asks (operation.link x d name)) = op.Link
+asked_opcode (asks (operation.opening x)) = op.Open
+asked_opcode (asks (operation.readdir d after size)) = op.Readdir
+asked_opcode (asks (operation.read o offset size)) = op.Read
+asked_opcode (asks (operation.write o offset bytes)) = op.Write
+asked_opcode (release o) = op.Release
+asked_opcode (forget f) = op.Forget
+asked_opcode (batch_forget fs) = op.BatchForget
+asked_opcode (interrupt original) = op.Interrupt
 
 -- The bytes spell this request.
 pub record SaysRequest (bytes : List ℕ) (request : Request) : Type 0 where

@@ -1,13 +1,13 @@
 //! Copies of replies in their frames.
 
-ghost use Rattle.std.specs.Prelude.{◌≡◌, ◌≢◌, ◌≤◌, ◌<◌, IfOk, ℤ, negsuc, ◌-◌};
+ghost use Rattle.std.specs.Prelude.{◌≡◌, ◌≢◌, ◌≤◌, ◌<◌, IfOk, ℕ, ℤ, negsuc, ◌-◌};
 ghost use Rattle.fk_wire.specs.Opcodes.{served};
 ghost use Rattle.fk_wire.specs.Replies.{GoesWith, reply_message, reply_content};
 ghost use Rattle.fuse_spec.specs.Numbers.{max_validity};
 ghost use Rattle.fuse_spec.specs.Operations as reply;
-ghost use Rattle.fuse_frames.specs.ReplyTies.{IsReplyFrame, wire_said, wire_in, unique_in, attributes_in};
+ghost use Rattle.fuse_frames.specs.ReplyTies.{SaysReply, IsReplyFrame, wire_said, wire_in, unique_in, attributes_in};
 
-use fk_wire::{Attr, Entry, InitFlags, Opcode, Reply, ReplyBody, write_reply};
+use fk_wire::{Attr, Entry, InitFlags, Opcode, Reply, ReplyBody, read_reply_head, write_reply};
 use fuse_spec::{Attributes, Kind};
 use std::alloc::{AllocError, Allocator, Global};
 use std::marker::Model;
@@ -63,9 +63,23 @@ impl<A: Allocator> ReplyCopy<A> {
         self.number
     }
 
-    /// The frame's bytes.
+    /// The unique of the request that it replies to.
+    pub fn unique(&self) -> u64
+        ensures { result ≡ self.now.unique }
+    {
+        match read_reply_head(&self.bytes) {
+            Ok((_, unique)) => unique,
+            // The invariant rules this out.
+            Err(_) => 0,
+        }
+    }
+
+    /// The frame's bytes. They say what the copy says, to the requests that it may reply to.
     pub fn bytes(&self) -> &[u8]
-        ensures { (opcode : Opcode) × IsReplyFrame opcode result.now × (self.now.unique ≡ unique_in opcode result.now) × (self.now.wire ≡ wire_in opcode result.now) }
+        ensures frame { (opcode : Opcode) × SaysReply opcode result.now self.now.unique self.now.wire }
+        ensures agreed { (major minor : ℕ) → self.now.wire ≡ reply.agreed major minor → SaysReply Opcode.Init result.now self.now.unique self.now.wire }
+        ensures missing { (valid : ℕ) → self.now.wire ≡ reply.missing valid → SaysReply Opcode.Lookup result.now self.now.unique self.now.wire }
+        ensures attributes { (attributes : Attributes) → self.now.wire ≡ reply.attributes attributes → SaysReply Opcode.Getattr result.now self.now.unique self.now.wire }
     {
         &self.bytes
     }

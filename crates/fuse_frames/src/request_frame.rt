@@ -4,10 +4,10 @@ ghost use Rattle.std.specs.Prelude.{◌≡◌, IfOk, Some};
 ghost use Rattle.fk_wire.specs.Requests.{request_content};
 ghost use Rattle.fuse_spec.specs.Messages.{RequestBody as Asked, init, asks};
 ghost use Rattle.fuse_spec.specs.Operations.{lookup, getattr};
-ghost use Rattle.fuse_frames.specs.RequestTies.{IsRequestFrame, body_in};
+ghost use Rattle.fuse_frames.specs.RequestTies.{IsRequestFrame, body_in, asked_opcode};
 
 use bitflags::Flags;
-use fk_wire::{InitFlags, RequestBody, write_request};
+use fk_wire::{InitFlags, Opcode, RequestBody, read_request, write_request};
 use std::alloc::{AllocError, Allocator, Global};
 use std::marker::Model;
 
@@ -47,6 +47,18 @@ fn framed<A: Allocator>(
 }
 
 impl<A: Allocator> RequestFrame<A> {
+    /// The unique of the request, and its opcode.
+    pub fn head(&self) -> (u64, Opcode)
+        ensures unique { result.0 ≡ self.now.unique }
+        ensures opcode { result.1 ≡ asked_opcode self.now.body }
+    {
+        match read_request(&self.bytes) {
+            Ok(request) => (request.unique, request.body.opcode()),
+            // The invariant rules this out.
+            Err(_) => (0, Opcode::Init),
+        }
+    }
+
     /// The frame's bytes.
     pub fn bytes(&self) -> &[u8]
         ensures { IsRequestFrame result.now self.now }

@@ -1,4 +1,3 @@
-use Rattle.std.proofs.Common.{List, ℕ}
 use Rattle.fk_wire.specs.Requests.{Written, request_message}
 use Rattle.fuse_frames.proofs.RequestLemmas.{all_written, framed_is, is_framed}
 use Rattle.fuse_frames.proofs.request_frame.framed.Goals as goal
