@@ -1,14 +1,22 @@
 //! The world.
 
-ghost use Rattle.std.specs.Prelude.{◌≡◌};
+ghost use Rattle.std.specs.Prelude.{◌≡◌, ◌≤◌, ◌<◌, ◌++◌, ◌∷◌, [], ℕ, false, OnErr, IfOk, IfErr, IfNone, IfSome, option_map, slice_get};
+ghost use Rattle.std.specs.Vec.{vec_len, vec_capacity};
+ghost use Rattle.fuse_spec.specs.Events as event;
+ghost use Rattle.fuse_spec.specs.Maps.{remove};
+ghost use Rattle.fuse_spec.specs.Steps.{Happens, is_past};
+ghost use Rattle.fuse_spec.specs.Worlds.{World as WorldState, first_world};
+ghost use Rattle.fk_kernel.specs.Values.{call_of, answer_of};
+ghost use Rattle.fw_world.specs.Values.{event_of, outcome_of, result_of};
+ghost use Rattle.fw_world.specs.Steps.{RefusedWith};
 
 use crate::event::{Event, Outcome};
 use fk_kernel::{Answer, Call, Kernel};
-use fk_wire::{Opcode, read_reply_head, read_request};
 use fs_server::{Server, ServerFault};
 use fuse_frames::{ReplyCopy, RequestFrame};
 use fuse_spec::{Refusal, ReplyResult, WriteResult};
 use std::alloc::{Allocator, Global};
+use std::marker::Model;
 
 /// The longest validity of a name, a day in milliseconds (this project's rule).
 const MAX_VALIDITY: u64 = 86_400_000;
@@ -39,13 +47,29 @@ pub struct WorldIn<A: Allocator + Copy = Global> {
 /// The world of the program.
 pub type World = WorldIn<Global>;
 
+impl<A: Allocator + Copy> Model for WorldIn<A> {
+    ghost use Rattle.std.specs.Coded.{codes};
+    ghost use Rattle.fuse_spec.specs.Worlds.{World as WorldState};
+    ghost use Rattle.fuse_theorem.specs.FirstWorld.{IsFirstWorld};
+
+    ghost Value = { WorldState };
+
+    ghost coded = { Prim.hlevel (codes) };
+
+    ghost view = { λ w. record { kernel = w.kernel; server = w.server; requests = w.requests.items; replies = w.replies.items; results = w.results.items } };
+
+    ghost invariant = { λ w. IsFirstWorld (record { kernel = w.kernel; server = w.server; requests = w.requests.items; replies = w.replies.items; results = w.results.items }) };
+}
+
 impl<A: Allocator + Copy> WorldIn<A> {
     /// A world before its first mount, whose tree is the root alone.
     ///
     /// # Errors
     ///
     /// None so far: nothing is allocated yet.
-    pub fn new(alloc: A) -> Result<WorldIn<A>, Refusal> {
+    pub fn new(alloc: A) -> Result<WorldIn<A>, Refusal>
+        ensures { IfOk result (λ world. world ≡ first_world) }
+    {
         Ok(WorldIn {
             kernel: Kernel::new(alloc),
             server: Server::new(alloc),
@@ -61,7 +85,11 @@ impl<A: Allocator + Copy> WorldIn<A> {
     /// # Errors
     ///
     /// Each event has its refusals in the order of their numbers, with `NoMemory` last.
-    pub fn step(&mut self, event: &Event<'_>) -> Result<Outcome, Refusal> {
+    pub fn step(&mut self, event: &Event<'_>) -> Result<Outcome, Refusal>
+        ensures err { OnErr result (self.new ≡ self.old) }
+        ensures refusal { IfErr result (RefusedWith self.old (event_of event.now)) }
+        ensures happens { IfOk result (λ outcome. Happens self.old (event_of event.now) (outcome_of outcome) self.new) }
+    {
         self.last_put = LastPut::Nothing;
         match event {
             Event::Mount {
@@ -78,7 +106,11 @@ impl<A: Allocator + Copy> WorldIn<A> {
     }
 
     /// Hands out, once, the answer of the lowest answered call.
-    pub fn collect(&mut self) -> Option<(u64, Answer)> {
+    pub fn collect(&mut self) -> Option<(u64, Answer)>
+        ensures answer { option_map (λ r. (r.0, answer_of r.1)) result ≡ slice_get self.old.kernel.vfs.answers 0 }
+        ensures none { IfNone result (self.new ≡ self.old) }
+        ensures taken { IfSome result (λ r. self.new ≡ record self.old { kernel = record self.old.kernel { vfs = record self.old.kernel.vfs { answers = remove self.old.kernel.vfs.answers r.0 } } }) }
+    {
         self.kernel.collect()
     }
 
@@ -91,11 +123,17 @@ impl<A: Allocator + Copy> WorldIn<A> {
         }
     }
 
-    fn mount(&mut self, found_ms: u64, missing_ms: u64) -> Result<Outcome, Refusal> {
+    fn mount(&mut self, found_ms: u64, missing_ms: u64) -> Result<Outcome, Refusal>
+        ensures err { OnErr result (self.new ≡ self.old) }
+        ensures refusal { IfErr result (RefusedWith self.old (event.mount found_ms missing_ms)) }
+        ensures happens { IfOk result (λ outcome. Happens self.old (event.mount found_ms missing_ms) (outcome_of outcome) self.new) }
+    {
         if found_ms > MAX_VALIDITY || missing_ms > MAX_VALIDITY {
             return Err(Refusal::BadTime);
         }
-        self.kernel.mount()?;
+        if let Err(refusal) = self.kernel.mount() {
+            return Err(refusal);
+        }
         self.server.remount(found_ms, missing_ms);
         self.requests.clear();
         self.replies.clear();
@@ -103,23 +141,35 @@ impl<A: Allocator + Copy> WorldIn<A> {
         Ok(Outcome::Mounted)
     }
 
-    fn call(&mut self, call: &Call<'_>) -> Result<Outcome, Refusal> {
-        let call = self.kernel.begin(call)?;
+    fn call(&mut self, call: &Call<'_>) -> Result<Outcome, Refusal>
+        ensures err { OnErr result (self.new ≡ self.old) }
+        ensures refusal { IfErr result (RefusedWith self.old (event.call (call_of call.now))) }
+        ensures happens { IfOk result (λ outcome. Happens self.old (event.call (call_of call.now)) (outcome_of outcome) self.new) }
+    {
+        let call = match self.kernel.begin(call) {
+            Ok(call) => call,
+            Err(refusal) => return Err(refusal),
+        };
+        within(&self.kernel, &self.server);
         Ok(Outcome::Begun { call })
     }
 
-    fn read_pending(&mut self, place: u64) -> Result<Outcome, Refusal> {
+    fn read_pending(&mut self, place: u64) -> Result<Outcome, Refusal>
+        ensures err { OnErr result (self.new ≡ self.old) }
+        ensures refusal { IfErr result (RefusedWith self.old (event.read_pending place)) }
+        ensures happens { IfOk result (λ outcome. Happens self.old (event.read_pending place) (outcome_of outcome) self.new) }
+    {
         if self.requests.reserve(1).is_err() {
             return Err(self.kernel.read_refusal(place).unwrap_or(Refusal::NoMemory));
         }
-        let frame = self.kernel.read_pending(place)?;
-        let bytes = frame.bytes();
-        let len = bytes.len();
-        let (unique, opcode) = match read_request(bytes) {
-            Ok(request) => (request.unique, request.body.opcode()),
-            Err(_) => (0, Opcode::Init),
+        let frame = match self.kernel.read_pending(place) {
+            Ok(frame) => frame,
+            Err(refusal) => return Err(refusal),
         };
-        let _ = self.requests.push(frame);
+        let (unique, opcode) = frame.head();
+        let len = frame.bytes().len();
+        append(&mut self.requests, frame);
+        within(&self.kernel, &self.server);
         self.last_put = LastPut::Request;
         Ok(Outcome::Read {
             unique,
@@ -128,7 +178,11 @@ impl<A: Allocator + Copy> WorldIn<A> {
         })
     }
 
-    fn take(&mut self, place: u64) -> Result<Outcome, Refusal> {
+    fn take(&mut self, place: u64) -> Result<Outcome, Refusal>
+        ensures err { OnErr result (self.new ≡ self.old) }
+        ensures refusal { IfErr result (RefusedWith self.old (event.take place)) }
+        ensures happens { IfOk result (λ outcome. Happens self.old (event.take place) (outcome_of outcome) self.new) }
+    {
         let place = place as usize;
         let Some(frame) = self.requests.get(place) else {
             return Err(Refusal::NoSuch);
@@ -136,13 +190,18 @@ impl<A: Allocator + Copy> WorldIn<A> {
         match self.server.take(frame.bytes()) {
             Ok((unique, word)) => {
                 let _frame = self.requests.remove(place);
+                within(&self.kernel, &self.server);
                 Ok(Outcome::Taken { unique, word })
             }
             Err(fault) => Err(refusal_of(fault)),
         }
     }
 
-    fn perform(&mut self, unique: u64) -> Result<Outcome, Refusal> {
+    fn perform(&mut self, unique: u64) -> Result<Outcome, Refusal>
+        ensures err { OnErr result (self.new ≡ self.old) }
+        ensures refusal { IfErr result (RefusedWith self.old (event.perform unique)) }
+        ensures happens { IfOk result (λ outcome. Happens self.old (event.perform unique) (outcome_of outcome) self.new) }
+    {
         if self.replies.reserve(1).is_err() {
             return Err(
                 self.server
@@ -150,15 +209,23 @@ impl<A: Allocator + Copy> WorldIn<A> {
                     .unwrap_or(Refusal::NoMemory),
             );
         }
-        let done = self.server.perform(unique)?;
+        let done = match self.server.perform(unique) {
+            Ok(done) => done,
+            Err(refusal) => return Err(refusal),
+        };
         let errno = done.errno;
         let len = done.copy.bytes().len();
-        let _ = self.replies.push(done.copy);
+        append(&mut self.replies, done.copy);
+        within(&self.kernel, &self.server);
         self.last_put = LastPut::Reply;
         Ok(Outcome::Done { unique, errno, len })
     }
 
-    fn write(&mut self, place: u64) -> Result<Outcome, Refusal> {
+    fn write(&mut self, place: u64) -> Result<Outcome, Refusal>
+        ensures err { OnErr result (self.new ≡ self.old) }
+        ensures refusal { IfErr result (RefusedWith self.old (event.write place)) }
+        ensures happens { IfOk result (λ outcome. Happens self.old (event.write place) (outcome_of outcome) self.new) }
+    {
         let place = place as usize;
         if place >= self.replies.len() {
             return Err(Refusal::NoSuch);
@@ -167,31 +234,41 @@ impl<A: Allocator + Copy> WorldIn<A> {
             return Err(Refusal::NoMemory);
         }
         let copy = &self.replies[place];
-        let unique = match read_reply_head(copy.bytes()) {
-            Ok((_, unique)) => unique,
-            Err(_) => 0,
-        };
         let number = copy.number();
-        let written = self.kernel.write(copy.bytes())?;
+        let unique = copy.unique();
+        let written = match self.kernel.write(copy.bytes()) {
+            Ok(written) => written,
+            Err(refusal) => return Err(refusal),
+        };
         let _copy = self.replies.remove(place);
-        let _ = self.results.push(ReplyResult {
-            number,
-            unique,
-            result: written,
-        });
+        within(&self.kernel, &self.server);
+        append(
+            &mut self.results,
+            ReplyResult {
+                number,
+                unique,
+                result: written,
+            },
+        );
         Ok(Outcome::Written {
             unique,
             errno: errno_of(written),
         })
     }
 
-    fn settle(&mut self, place: u64) -> Result<Outcome, Refusal> {
+    fn settle(&mut self, place: u64) -> Result<Outcome, Refusal>
+        ensures err { OnErr result (self.new ≡ self.old) }
+        ensures refusal { IfErr result (RefusedWith self.old (event.settle place)) }
+        ensures happens { IfOk result (λ outcome. Happens self.old (event.settle place) (outcome_of outcome) self.new) }
+    {
         let place = place as usize;
         if place >= self.results.len() {
             return Err(Refusal::NoSuch);
         }
         let settled = self.results[place];
-        self.server.settle(settled)?;
+        if let Err(refusal) = self.server.settle(settled) {
+            return Err(refusal);
+        }
         let _settled = self.results.remove(place);
         Ok(Outcome::Settled {
             unique: settled.unique,
@@ -200,8 +277,26 @@ impl<A: Allocator + Copy> WorldIn<A> {
     }
 }
 
+/// Appends a value where there is room for it.
+fn append<T: Drop, A: Allocator>(list: &mut Vec<T, A>, value: T)
+    requires { vec_len list.old < vec_capacity list.old }
+    ensures { list.new.items ≡ list.old.items ++ value ∷ [] }
+{
+    let _ = list.push(value);
+}
+
+/// No counter of a world with this kernel and this server is past its end.
+fn within<A: Allocator + Copy>(kernel: &Kernel<A>, server: &Server<A>)
+    ensures { (world : WorldState) → world.kernel ≡ kernel.now → world.server ≡ server.now → is_past world ≡ false }
+{
+    kernel.within();
+    server.within();
+}
+
 /// The error number of a reply's result: 0, ENOENT or EINVAL.
-fn errno_of(written: WriteResult) -> u32 {
+fn errno_of(written: WriteResult) -> u32
+    ensures { result_of result ≡ written }
+{
     match written {
         WriteResult::Accepted => 0,
         WriteResult::NoEntry => ENOENT,
@@ -210,7 +305,9 @@ fn errno_of(written: WriteResult) -> u32 {
 }
 
 /// A fault of the server as the refusal of the event that met it.
-fn refusal_of(fault: ServerFault) -> Refusal {
+fn refusal_of(fault: ServerFault) -> Refusal
+    ensures { fault ≡ ServerFault.Memory → result ≡ Refusal.NoMemory }
+{
     match fault {
         ServerFault::Exhausted => Refusal::Exhausted,
         ServerFault::Memory => Refusal::NoMemory,

@@ -1,0 +1,88 @@
+-- Where kernel and server accept an event, and nothing is past its end, it happens so in the machine.
+use Rattle.std.proofs.Common.{◌≡◌, ℕ, Bool, true, false, not, cond, Option, Some, None, Ok, Err, nat_eq, nat_lt, nat_le, max, length, slice_get, refl, ap, ◌∙◌}
+use Rattle.fuse_spec.specs.declared.Refusal.{Refusal}
+use Rattle.fuse_spec.specs.declared.Refusal.TheVariants as refusal
+use Rattle.fuse_spec.specs.declared.ReplyResult.{ReplyResult}
+use Rattle.fuse_spec.specs.declared.WriteResult.{WriteResult}
+use Rattle.fuse_spec.specs.Maps.{get}
+use Rattle.fuse_spec.specs.Numbers.{max_validity, max_calls}
+use Rattle.fuse_spec.specs.Operations.{errno_of}
+use Rattle.fuse_spec.specs.Calls.{Call}
+use Rattle.fuse_spec.specs.Messages.{Request}
+use Rattle.fuse_spec.specs.Kernel.{Kernel, is_live, call_begun}
+use Rattle.fuse_spec.specs.QueueCalls.{pending_at}
+use Rattle.fuse_spec.specs.Replies.{reply_written}
+use Rattle.fuse_spec.specs.Server.{HeldRequest, Copy}
+use Rattle.fuse_spec.specs.Taking.{taking}
+use Rattle.fuse_spec.specs.Performs.{PerformResult, served}
+use Rattle.fuse_spec.specs.Worlds.{World, Sent, after_mount, after_call, after_read_pending, after_take, after_perform, after_write, after_settle}
+use Rattle.fuse_spec.specs.Events.{Event, Outcome}
+use Rattle.fuse_spec.specs.Events as event
+use Rattle.fuse_spec.specs.Steps.{Stepped, going, is_past, is_busy, is_ready, unless, reading_pending, taking_request, performing_held, writing_copy, settling, MayStep, Happens}
+use Rattle.fk_kernel.specs.Refused.{begin_refusal, mount_refusal, read_refusal, place_refusal, is_past_end, IsPendingRequest}
+
+-- any ids will do, where none is given
+abbrev any_id : ℕ → ℕ
+any_id file = file
+
+pub accepted : (o : Outcome) (after : World) → is_past after ≡ false → going o after ≡ Ok (o, after)
+accepted o after within = ap (λ (b : Bool). cond b (Err refusal.Exhausted) (Ok (o, after))) within
+
+none_refused : (b : Bool) (r : Refusal) → ◌≡◌ {A = Option Refusal} (cond b (Some r) None) None → b ≡ false
+none_refused true r e = absurd (cc e)
+none_refused false r e = refl
+
+pub mounts : (w : World) (found_ms missing_ms : ℕ) → nat_lt max_validity (max found_ms missing_ms) ≡ false → mount_refusal w.kernel ≡ None
+    → Happens w (event.mount found_ms missing_ms) event.mounted (after_mount w found_ms missing_ms)
+mounts w found_ms missing_ms day judged =
+    (any_id, tt, rw (day, none_refused (is_busy w.kernel) refusal.Busy judged) refl)
+
+begins : (not_ready full past : Bool) (s : Stepped) (x : Outcome × World) → ◌≡◌ {A = Option Refusal} (cond not_ready (Some refusal.NotReady) (cond full (Some refusal.Full) (cond past (Some refusal.Exhausted) None))) None → s ≡ Ok x
+    → unless not_ready refusal.NotReady (unless full refusal.Full s) ≡ Ok x
+begins true full past s x e h = absurd (cc e)
+begins false true past s x e h = absurd (cc e)
+begins false false past s x e h = h
+
+pub calls : (w : World) (call : Call) → begin_refusal w.kernel call ≡ None → is_past (after_call w call) ≡ false → Happens w (event.call call) (event.begun w.kernel.vfs.next_call) (after_call w call)
+calls w call judged within =
+    let o = event.begun w.kernel.vfs.next_call in
+    (any_id, tt, begins (not (is_ready w.kernel.phase)) (nat_le max_calls (length w.kernel.vfs.calls)) (is_past_end (call_begun w.kernel call)) (going o (after_call w call)) (o, after_call w call) judged (accepted o (after_call w call) within))
+
+live_judged : (a b : Bool) (o : Option Refusal) → cond a (Some refusal.NotReady) (cond b (Some refusal.InterruptFirst) o) ≡ None → (s : Stepped) (x : Outcome × World) → s ≡ Ok x
+    → unless a refusal.NotReady (unless b refusal.InterruptFirst s) ≡ Ok x
+live_judged true b o e s x h = absurd (cc e)
+live_judged false true o e s x h = absurd (cc e)
+live_judged false false o e s x h = h
+
+pub reads : (w : World) (place : ℕ) (request : Request) → read_refusal w.kernel place ≡ None → IsPendingRequest w.kernel place request → is_past (after_read_pending w place request.unique request.body) ≡ false
+    → Happens w (event.read_pending place) (event.is_read request.unique) (after_read_pending w place request.unique request.body)
+reads w place request judged is within =
+    let after = after_read_pending w place request.unique request.body in (
+      any_id,
+      tt,
+      live_judged (not (is_live w.kernel.phase)) (not (nat_eq (length w.kernel.queues.interrupts) 0)) (place_refusal w.kernel (pending_at w.kernel.queues place)) judged
+          (reading_pending w place (pending_at w.kernel.queues place)) (event.is_read request.unique, after) (rw (is.pending, is.body) (accepted (event.is_read request.unique) after within)),
+    )
+
+pub takes : (w : World) (place : ℕ) (request : Request) → slice_get w.requests place ≡ Some request → is_past (after_take w place request.unique (taking w.server request.unique request.body)) ≡ false
+    → Happens w (event.take place) (event.taken request.unique (taking w.server request.unique request.body).word) (after_take w place request.unique (taking w.server request.unique request.body))
+takes w place request there within =
+    let took = taking w.server request.unique request.body in
+    (any_id, tt, ap (taking_request w place) there ∙ accepted (event.taken request.unique took.word) (after_take w place request.unique took) within)
+
+pub performs : (choice : ℕ → ℕ) (w : World) (unique : ℕ) (held : HeldRequest) → get w.server.held unique ≡ Some held → MayStep choice w (event.perform unique) → (did : PerformResult) → served choice w.server unique held ≡ did
+    → is_past (after_perform w unique did) ≡ false → Happens w (event.perform unique) (event.performed unique (errno_of did.wire) w.server.aborted) (after_perform w unique did)
+performs choice w unique held there may did is within =
+    let outcome = event.performed unique (errno_of did.wire) w.server.aborted in
+    (choice, may, ap (performing_held choice w unique) there ∙ ap (λ (d : PerformResult). going (event.performed unique (errno_of d.wire) w.server.aborted) (after_perform w unique d)) is ∙ accepted outcome (after_perform w unique did) within)
+
+pub writes : (w : World) (place : ℕ) (sent : Sent) (took : WriteResult × Kernel) → slice_get w.replies place ≡ Some sent → reply_written w.kernel sent.unique sent.wire ≡ took → is_past (after_write w place sent took) ≡ false
+    → Happens w (event.write place) (event.written sent.unique took.0) (after_write w place sent took)
+writes w place sent took there is within =
+    let outcome = event.written sent.unique took.0 in
+    (any_id, tt, ap (writing_copy w place) there ∙ ap (λ (t : WriteResult × Kernel). going (event.written sent.unique t.0) (after_write w place sent t)) is ∙ accepted outcome (after_write w place sent took) within)
+
+pub settles : (w : World) (place : ℕ) (result : ReplyResult) (copy : Copy) → slice_get w.results place ≡ Some result → get w.server.copies result.number ≡ Some copy
+    → Happens w (event.settle place) (event.settled result.unique result.result) (after_settle w place result (Some copy))
+settles w place result copy there known =
+    (any_id, tt, ap (settling w place) there ∙ ap (λ (o : Option Copy). Ok (event.settled result.unique result.result, after_settle w place result o)) known)

@@ -1,0 +1,43 @@
+-- What contracts see of events and records.
+use Rattle.std.specs.Prelude.{ℕ, false, cond, nat_eq}
+use Rattle.fuse_spec.specs.declared.WriteResult.{WriteResult}
+use Rattle.fuse_spec.specs.declared.WriteResult.TheVariants.{Accepted, NoEntry, Invalid}
+use Rattle.fuse_spec.specs.Events as event
+use Rattle.fuse_spec.specs.Records as record_of_run
+use Rattle.fk_kernel.specs.Values.{call_of, answer_of}
+use Rattle.fw_world.specs.declared.event.Event.{Event}
+use Rattle.fw_world.specs.declared.event.Event.TheVariants.{Mount, Call, ReadPending, Take, Do, Write, Settle}
+use Rattle.fw_world.specs.declared.event.Outcome.{Outcome}
+use Rattle.fw_world.specs.declared.event.Outcome.TheVariants as outcome
+use Rattle.fw_world.specs.declared.record.Record.{Record}
+use Rattle.fw_world.specs.declared.record.Record.TheVariants as recorded
+
+-- the event of the definitions
+abbrev pub event_of : Event → event.Event
+event_of (Mount found_ms missing_ms) = event.mount found_ms missing_ms
+event_of (Call call) = event.call (call_of call)
+event_of (ReadPending place) = event.read_pending place
+event_of (Take place) = event.take place
+event_of (Do unique) = event.perform unique
+event_of (Write place) = event.write place
+event_of (Settle place) = event.settle place
+
+-- the result of a reply, by its error number
+abbrev pub result_of : ℕ → WriteResult
+result_of errno = cond (nat_eq errno 0) Accepted (cond (nat_eq errno 2) NoEntry Invalid)
+
+-- the outcome of the definitions, which has no opcode and no length
+abbrev pub outcome_of : Outcome → event.Outcome
+outcome_of outcome.Mounted = event.mounted
+outcome_of (outcome.Begun call) = event.begun call
+outcome_of (outcome.Read unique opcode len) = event.is_read unique
+outcome_of (outcome.Taken unique word) = event.taken unique word
+outcome_of (outcome.Done unique errno len) = event.performed unique errno false
+outcome_of (outcome.Written unique errno) = event.written unique (result_of errno)
+outcome_of (outcome.Settled unique errno) = event.settled unique (result_of errno)
+
+-- the record of the definitions
+abbrev pub record_of : Record → record_of_run.Record
+record_of (recorded.Outcome outcome) = record_of_run.outcome (outcome_of outcome)
+record_of (recorded.Refused refusal) = record_of_run.refused refusal
+record_of (recorded.Answered call answer) = record_of_run.answered call (answer_of answer)
