@@ -51,6 +51,7 @@ pub mod FirstCalls
 pub mod Numbered
 pub mod FirstSteps
 pub mod Accepted
+pub mod Happened
 pub mod FirstBegins
 pub mod FirstQueues
 pub mod FirstReads
