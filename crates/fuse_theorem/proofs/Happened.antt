@@ -1,5 +1,5 @@
 -- What an accepted event did: what stood where it looked, and the world that it made.
-use Rattle.std.proofs.Common.{◌≡◌, ℕ, ◌+◌, Bool, true, false, cond, not, ◌||◌, List, [], ◌∷◌, length, take, Option, Some, None, Ok, nat_eq, slice_get, subst, refl, ap, sym, ◌∙◌, true≢false, arith}
+use Rattle.std.proofs.Common.{◌≡◌, ℕ, ◌+◌, Bool, true, false, not, ◌||◌, List, [], ◌∷◌, length, take, Option, Some, None, Ok, nat_eq, slice_get, subst, refl, ap, sym, ◌∙◌, true≢false, arith}
 use Rattle.std.specs.Prelude.{if◌then◌else◌, nat_lt, nat_le, max}
 use Rattle.fuse_spec.specs.declared.Binding.{Binding}
 use Rattle.fuse_spec.specs.declared.Counted.{Counted}
@@ -15,11 +15,11 @@ use Rattle.fuse_spec.specs.Calls.{Call}
 use Rattle.fuse_spec.specs.Vfs.{CallState}
 use Rattle.fuse_spec.specs.QueueCalls.{pending_at, can_read_forgets, first_forgets}
 use Rattle.fuse_spec.specs.Uniques.{interrupt_number}
-use Rattle.fuse_spec.specs.Messages.{Forget, Request, RequestBody}
+use Rattle.fuse_spec.specs.Messages.{Request, RequestBody}
 use Rattle.fuse_spec.specs.Kernel.{is_live, body_of, call_signalled, is_pinned, is_bound}
 use Rattle.fuse_spec.specs.Replies.{reply_written}
 use Rattle.fuse_spec.specs.Server.{HeldRequest, Kept}
-use Rattle.fuse_spec.specs.Taking.{TakeResult, taking}
+use Rattle.fuse_spec.specs.Taking.{taking}
 use Rattle.fuse_spec.specs.Performs.{served}
 use Rattle.fuse_spec.specs.Copies.{is_current}
 use Rattle.fuse_spec.specs.Worlds.{World, Sent, after_mount, after_call, after_read_interrupt, after_read_forgets, after_read_pending, after_take, after_perform, after_again, after_write, after_settle, after_tick, after_drop, after_evict, after_abort}

@@ -52,6 +52,9 @@ pub mod Numbered
 pub mod FirstSteps
 pub mod Accepted
 pub mod Happened
+pub mod TreeSound
+pub mod NodesSound
+pub mod ServerSound
 pub mod FirstBegins
 pub mod FirstQueues
 pub mod FirstReads

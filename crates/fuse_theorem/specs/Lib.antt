@@ -1,4 +1,5 @@
 pub mod Numbering
+pub mod ServerTables
 pub mod Conditions
 pub mod FirstPath
 pub mod EachEvent

@@ -12,7 +12,7 @@ ghost use Rattle.fuse_spec.specs.Kernel.{body_of};
 ghost use Rattle.fuse_spec.specs.Server.{holding};
 ghost use Rattle.std.specs.List.{remove as without};
 ghost use Rattle.fuse_spec.specs.Events as event;
-ghost use Rattle.fuse_spec.specs.Steps.{is_ready, step};
+ghost use Rattle.fuse_spec.specs.Steps.{is_ready, step, Happens};
 ghost use Rattle.fuse_spec.specs.Events.{Event, Outcome};
 ghost use Rattle.std.specs.Prelude.{Ok};
 ghost use Rattle.fuse_theorem.specs.EachEvent.{IsRooted, Moves, Needs};
@@ -39,7 +39,7 @@ ghost use Rattle.fuse_spec.specs.Nodes.{MayChoose, handle_back};
 ghost use Rattle.fuse_spec.specs.Plain.{Ask};
 ghost use Rattle.fuse_spec.specs.Replies.{replied_to_call, reply_written};
 ghost use Rattle.fuse_spec.specs.Messages.{Forget, init};
-ghost use Rattle.fuse_spec.specs.Server.{HeldRequest, Kept, Copy, all_taken_back, forgetting};
+ghost use Rattle.fuse_spec.specs.Server.{Server, HeldRequest, Kept, Copy, all_taken_back, forgetting};
 ghost use Rattle.fuse_spec.specs.Performs.{served, is_still_held};
 ghost use Rattle.fuse_spec.specs.Worlds.{Sent, after_take, after_perform, after_again, after_write, after_settle, after_drop, after_evict, after_abort, after_mount};
 ghost use Rattle.std.specs.Prelude.{T};
@@ -47,6 +47,7 @@ ghost use Rattle.fuse_spec.specs.Taking.{taking};
 ghost use Rattle.std.specs.Ordering.{nat_cmp};
 ghost use Rattle.std.specs.FinMap.{is_sorted};
 ghost use Rattle.fuse_theorem.specs.Numbering.{IsNumbered, IsOneToOne};
+ghost use Rattle.fuse_theorem.specs.ServerTables.{ServerSound};
 ghost use Rattle.fuse_theorem.specs.Conditions.{OneId, KnownAreHeld, TablesSound, CanPerform, CanDecline, CanRelease, IsReply, IsDeclined, UnreadAreUnsent, HoldsAll, HoldsOpens, IsInterrupt, IsUnsent, awaiting};
 
 /// The world before its first mount is alike to the plain world with the root alone.
@@ -241,6 +242,14 @@ pub fn stays_rooted()
 pub fn queues_stay_sound()
     ensures at_first { IsSound first_world.kernel.queues }
     ensures always { (choice : ℕ → ℕ) (w : World) → IsSound w.kernel.queues → (o : Outcome) (after : World) (e : Event) → step choice w e ≡ Ok (o, after) → IsSound after.kernel.queues }
+{}
+
+/// The server's tree and tables are sound at first and stay it, whatever the event and whatever free nodeids the server gives. So no two nodes have
+/// one file, the root stands in no table, and the coming open number is new.
+pub fn server_stays_sound()
+    ensures at_first { ServerSound first_world.server }
+    ensures always { (w : World) → ServerSound w.server → (e : Event) (o : Outcome) (after : World) → Happens w e o after → ServerSound after.server }
+    ensures tables { (s : Server) → ServerSound s → OneId s.nodes × TablesSound s }
 {}
 
 /// After a mount, and after an abort, no node means anything but the root.
