@@ -49,6 +49,7 @@ pub mod Aborting
 pub mod Mounting
 pub mod FirstCalls
 pub mod Numbered
+pub mod CallNumbers
 pub mod FirstSteps
 pub mod Accepted
 pub mod Happened
