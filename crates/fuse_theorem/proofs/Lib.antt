@@ -50,6 +50,9 @@ pub mod Mounting
 pub mod FirstCalls
 pub mod Numbered
 pub mod CallNumbers
+pub mod GoingOn
+pub mod PerformedRest
+pub mod NumbersStay
 pub mod FirstSteps
 pub mod Accepted
 pub mod Happened

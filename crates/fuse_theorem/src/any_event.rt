@@ -46,7 +46,7 @@ ghost use Rattle.std.specs.Prelude.{T};
 ghost use Rattle.fuse_spec.specs.Taking.{taking};
 ghost use Rattle.std.specs.Ordering.{nat_cmp};
 ghost use Rattle.std.specs.FinMap.{is_sorted};
-ghost use Rattle.fuse_theorem.specs.Numbering.{IsNumbered, IsOneToOne};
+ghost use Rattle.fuse_theorem.specs.Numbering.{IsNumbered, IsNumberedWhileLive, IsOneToOne};
 ghost use Rattle.fuse_theorem.specs.ServerTables.{ServerSound};
 ghost use Rattle.fuse_theorem.specs.Conditions.{OneId, KnownAreHeld, TablesSound, CanPerform, CanDecline, CanRelease, IsReply, IsDeclined, UnreadAreUnsent, HoldsAll, HoldsOpens, IsInterrupt, IsUnsent, awaiting};
 
@@ -250,6 +250,13 @@ pub fn server_stays_sound()
     ensures at_first { ServerSound first_world.server }
     ensures always { (w : World) → ServerSound w.server → (e : Event) (o : Outcome) (after : World) → Happens w e o after → ServerSound after.server }
     ensures tables { (s : Server) → ServerSound s → OneId s.nodes × TablesSound s }
+{}
+
+/// The numbers of a live mount are in order, whatever the event: which were drawn, that a call has one request at most, and that what is on the
+/// links, held or kept bears a number that was drawn.
+pub fn numbers_stay_in_order()
+    ensures at_first { IsNumberedWhileLive first_world }
+    ensures always { (choice : ℕ → ℕ) (w : World) → IsNumberedWhileLive w → (o : Outcome) (after : World) (e : Event) → step choice w e ≡ Ok (o, after) → IsNumberedWhileLive after }
 {}
 
 /// After a mount, and after an abort, no node means anything but the root.
