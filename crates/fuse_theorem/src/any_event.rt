@@ -66,9 +66,9 @@ pub fn tick()
     ensures { (w : World) (p : Plain) → Alike w p → (ms : ℕ) → (q : Plain) × Takes p (event.tick ms) (event.now (w.kernel.vfs.clock + ms)) q × Alike (after_tick w ms) q }
 {}
 
-/// Any of the twelve calls begins, where no two nodes mean the same file.
+/// Any of the twelve calls begins, live or after an abort, where no two nodes mean the same file.
 pub fn call()
-    ensures { (w : World) (p : Plain) → IsNumbered w → IsOneToOne (MeansIn w) → Alike w p → (call : Call) → is_ready w.kernel.phase ≡ true →
+    ensures { (w : World) (p : Plain) → IsNumberedWhileLive w → IsOneToOne (MeansIn w) → Alike w p → (call : Call) → is_ready w.kernel.phase ≡ true →
         (q : Plain) × Takes p (event.call call) (event.begun w.kernel.vfs.next_call) q × Alike (after_call w call) q }
 {}
 
