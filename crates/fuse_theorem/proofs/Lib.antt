@@ -52,6 +52,9 @@ pub mod Numbered
 pub mod CallNumbers
 pub mod GoingOn
 pub mod PerformedRest
+pub mod LinkSums
+pub mod RowCounts
+pub mod CopiesSound
 pub mod NumbersStay
 pub mod FirstSteps
 pub mod Accepted

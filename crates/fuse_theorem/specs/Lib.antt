@@ -1,5 +1,6 @@
 pub mod Numbering
 pub mod ServerTables
+pub mod Copies
 pub mod Conditions
 pub mod FirstPath
 pub mod EachEvent

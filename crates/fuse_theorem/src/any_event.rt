@@ -48,6 +48,7 @@ ghost use Rattle.std.specs.Ordering.{nat_cmp};
 ghost use Rattle.std.specs.FinMap.{is_sorted};
 ghost use Rattle.fuse_theorem.specs.Numbering.{IsNumbered, IsNumberedWhileLive, IsOneToOne};
 ghost use Rattle.fuse_theorem.specs.ServerTables.{ServerSound};
+ghost use Rattle.fuse_theorem.specs.Copies.{CopiesSound};
 ghost use Rattle.fuse_theorem.specs.Conditions.{OneId, KnownAreHeld, TablesSound, CanPerform, CanDecline, CanRelease, IsReply, IsDeclined, UnreadAreUnsent, HoldsAll, HoldsOpens, IsInterrupt, IsUnsent, awaiting};
 
 /// The world before its first mount is alike to the plain world with the root alone.
@@ -257,6 +258,13 @@ pub fn server_stays_sound()
 pub fn numbers_stay_in_order()
     ensures at_first { IsNumberedWhileLive first_world }
     ensures always { (choice : ℕ → ℕ) (w : World) → IsNumberedWhileLive w → (o : Outcome) (after : World) (e : Event) → step choice w e ≡ Ok (o, after) → IsNumberedWhileLive after }
+{}
+
+/// The server knows each copy that is on its way to the kernel, as it was sent, and each whose result is on its way back, whatever the event; and
+/// none is on both ways or twice on one.
+pub fn copies_stay_known()
+    ensures at_first { CopiesSound first_world }
+    ensures always { (choice : ℕ → ℕ) (w : World) → CopiesSound w → ServerSound w.server → (o : Outcome) (after : World) (e : Event) → step choice w e ≡ Ok (o, after) → CopiesSound after }
 {}
 
 /// After a mount, and after an abort, no node means anything but the root.
