@@ -54,6 +54,7 @@ pub mod GoingOn
 pub mod PerformedRest
 pub mod LinkSums
 pub mod RowCounts
+pub mod Lookups
 pub mod CopiesSound
 pub mod NumbersStay
 pub mod FirstSteps
