@@ -55,6 +55,8 @@ pub mod PerformedRest
 pub mod LinkSums
 pub mod RowCounts
 pub mod Lookups
+pub mod WireCounts
+pub mod PerformedCounts
 pub mod CopiesSound
 pub mod NumbersStay
 pub mod FirstSteps

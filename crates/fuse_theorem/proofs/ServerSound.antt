@@ -225,7 +225,7 @@ happens_sound w sound e o after h = stays_sound h.0 w sound e o after h.1 (happe
 -- ---- what follows
 
 module _ (t : NodeTable) (sound : NodesSound t) where
-  no_node : (id : ℕ) → id < 2 → get t.rows id ≡ None
+  pub no_node : (id : ℕ) → id < 2 → get t.rows id ≡ None
   no_node id low = by (get t.rows id) refl
     where
       by : (o : Option HeldNode) → get t.rows id ≡ o → o ≡ None
