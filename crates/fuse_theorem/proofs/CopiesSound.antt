@@ -114,6 +114,10 @@ module _ (w : World) (sound : CopiesSound w) where
             rw (pushed, other) (omega (arith, old))
       ]
 
+      -- A result's copy is the same one still.
+      pub results_still : All (λ (r : ReplyResult). get more r.number ≡ get w.server.copies r.number) w.results
+      results_still i r lt = let n = (get_or w.results i r).number in get_put_there w.server.copies w.server.next_copy copy n (apart n (sound.results i r lt))
+
       -- One more copy goes out.
       copy_sent : (v : World) → v.server.copies ≡ more → v.replies ≡ w.replies ++ sent ∷ [] → v.results ≡ w.results → CopiesSound v
       copy_sent v copies replies results = record {
@@ -164,42 +168,45 @@ module _ (w : World) (sound : CopiesSound w) where
         omega (arith, gone, pushed, old);
   }
 
-  -- A copy is settled.
-  copy_settled : (k : ℕ) (result : ReplyResult) → slice_get w.results k ≡ Some result → (v : World) → v.server.copies ≡ remove w.server.copies result.number → v.replies ≡ w.replies → v.results ≡ without_at w.results k → CopiesSound v
-  copy_settled k result there v copies replies results = record {
-    sent = subst (λ (xs : List Sent). All (IsKnownCopy v.server.copies) xs) (sym replies)
-        (subst (λ (m : Map Copy). All (IsKnownCopy m) w.replies) (sym copies)
-        (λ i s lt.
-        let known = sound.sent i s lt in
-        let n = (get_or w.replies i s).number in
-        let other = apart_from n (none_passes (λ (x : Sent). nat_eq result.number x.number) w.replies none_sent i s lt) in
-        record { copy = known.copy; there = get_gone_there w.server.copies result.number n other ∙ known.there; same_unique = known.same_unique; same_wire = known.same_wire }));
-    results = subst (λ (xs : List ReplyResult). All (λ (r : ReplyResult). get v.server.copies r.number ≢ None) xs) (sym results)
-        (subst (λ (m : Map Copy). All (λ (r : ReplyResult). get m r.number ≢ None) (without_at w.results k)) (sym copies)
-        (λ i r lt e.
-        let n = (get_or (without_at w.results k) i r).number in
-        let other = apart_from n (none_passes (λ (x : ReplyResult). nat_eq result.number x.number) (without_at w.results k) none_left i r lt) in
-        All-without (λ (x : ReplyResult). get w.server.copies x.number ≢ None) w.results k sound.results i r lt (sym (get_gone_there w.server.copies result.number n other) ∙ e)));
-    once = λ number. subst (λ (xs : List Sent). sent_under number xs + results_under number v.results ≤ 1) (sym replies) (subst (λ (xs : List ReplyResult). sent_under number w.replies + results_under number xs ≤ 1) (sym results) (fewer number));
-  }
-    where
-      fewer : (number : ℕ) → sent_under number w.replies + results_under number (without_at w.results k) ≤ 1
-      fewer number =
-          let gone = sum_removed (λ (r : ReplyResult). cond (nat_eq number r.number) 1 0) w.results k result there in
-          let old = sound.once number in
-          omega (arith, gone, old)
+  -- A copy is settled: no other result, and no copy on the reply link, bears its number.
+  module _ (k : ℕ) (result : ReplyResult) (there : slice_get w.results k ≡ Some result) where
+    gone_here : results_under result.number (without_at w.results k) + 1 ≡ results_under result.number w.results
+    gone_here = subst (λ (b : Bool). results_under result.number (without_at w.results k) + cond b 1 0 ≡ results_under result.number w.results) (same_is result.number) (sum_removed (λ (r : ReplyResult). cond (nat_eq result.number r.number) 1 0) w.results k result there)
 
-      gone_here : results_under result.number (without_at w.results k) + 1 ≡ results_under result.number w.results
-      gone_here = subst (λ (b : Bool). results_under result.number (without_at w.results k) + cond b 1 0 ≡ results_under result.number w.results) (same_is result.number) (sum_removed (λ (r : ReplyResult). cond (nat_eq result.number r.number) 1 0) w.results k result there)
+    apart_from : (n : ℕ) → nat_eq result.number n ≡ false → n ≢ result.number
+    apart_from n no_tie e = true≢false (sym (same_is result.number) ∙ ap (nat_eq result.number) (sym e) ∙ no_tie)
 
-      none_sent : sent_under result.number w.replies ≡ 0
-      none_sent = let old = sound.once result.number in let gone = gone_here in omega (arith, gone, old)
+    sent_apart : All (λ (s : Sent). s.number ≢ result.number) w.replies
+    sent_apart i s lt =
+        let old = sound.once result.number in
+        let gone = gone_here in
+        apart_from (get_or w.replies i s).number (none_passes (λ (x : Sent). nat_eq result.number x.number) w.replies (omega (arith, gone, old)) i s lt)
 
-      none_left : results_under result.number (without_at w.results k) ≡ 0
-      none_left = let old = sound.once result.number in let gone = gone_here in omega (arith, gone, old)
+    pub results_apart : All (λ (r : ReplyResult). r.number ≢ result.number) (without_at w.results k)
+    results_apart i r lt =
+        let old = sound.once result.number in
+        let gone = gone_here in
+        apart_from (get_or (without_at w.results k) i r).number (none_passes (λ (x : ReplyResult). nat_eq result.number x.number) (without_at w.results k) (omega (arith, gone, old)) i r lt)
 
-      apart_from : (n : ℕ) → nat_eq result.number n ≡ false → n ≢ result.number
-      apart_from n no_tie e = true≢false (sym (same_is result.number) ∙ ap (nat_eq result.number) (sym e) ∙ no_tie)
+    fewer : (number : ℕ) → sent_under number w.replies + results_under number (without_at w.results k) ≤ 1
+    fewer number =
+        let gone = sum_removed (λ (r : ReplyResult). cond (nat_eq number r.number) 1 0) w.results k result there in
+        let old = sound.once number in
+        omega (arith, gone, old)
+
+    copy_settled : (v : World) → v.server.copies ≡ remove w.server.copies result.number → v.replies ≡ w.replies → v.results ≡ without_at w.results k → CopiesSound v
+    copy_settled v copies replies results = record {
+      sent = subst (λ (xs : List Sent). All (IsKnownCopy v.server.copies) xs) (sym replies)
+          (subst (λ (m : Map Copy). All (IsKnownCopy m) w.replies) (sym copies)
+          (λ i s lt.
+          let known = sound.sent i s lt in
+          record { copy = known.copy; there = get_gone_there w.server.copies result.number (get_or w.replies i s).number (sent_apart i s lt) ∙ known.there; same_unique = known.same_unique; same_wire = known.same_wire }));
+      results = subst (λ (xs : List ReplyResult). All (λ (r : ReplyResult). get v.server.copies r.number ≢ None) xs) (sym results)
+          (subst (λ (m : Map Copy). All (λ (r : ReplyResult). get m r.number ≢ None) (without_at w.results k)) (sym copies)
+          (λ i r lt e.
+          All-without (λ (x : ReplyResult). get w.server.copies x.number ≢ None) w.results k sound.results i r lt (sym (get_gone_there w.server.copies result.number (get_or (without_at w.results k) i r).number (results_apart i r lt)) ∙ e)));
+      once = λ number. subst (λ (xs : List Sent). sent_under number xs + results_under number v.results ≤ 1) (sym replies) (subst (λ (xs : List ReplyResult). sent_under number w.replies + results_under number xs ≤ 1) (sym results) (fewer number));
+    }
 
   settled_copies : (k : ℕ) (result : ReplyResult) → slice_get w.results k ≡ Some result → (o : Option Copy) → CopiesSound (after_settle w k result o)
   settled_copies k result there None = record {

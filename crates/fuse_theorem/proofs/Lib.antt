@@ -57,6 +57,7 @@ pub mod RowCounts
 pub mod Lookups
 pub mod WireCounts
 pub mod PerformedCounts
+pub mod LookupsServed
 pub mod CopiesSound
 pub mod NumbersStay
 pub mod FirstSteps

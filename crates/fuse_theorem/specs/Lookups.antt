@@ -9,7 +9,7 @@ use Rattle.fuse_spec.specs.Messages.{WireReply}
 use Rattle.fuse_spec.specs.Operations.{files_in_reply}
 use Rattle.fuse_spec.specs.Kernel.{is_live}
 use Rattle.fuse_spec.specs.Nodes.{NodeTable}
-use Rattle.fuse_spec.specs.Server.{Copy}
+use Rattle.fuse_spec.specs.Server.{Kept, Copy}
 use Rattle.fuse_spec.specs.Counts.{Balance}
 use Rattle.fuse_spec.specs.Denotes.{Denotes}
 use Rattle.fuse_spec.specs.Worlds.{World, Sent}
@@ -36,10 +36,11 @@ pub record LookupsBalanced (w : World) : Type 0 where
   pub copies : All (λ (s : Sent). EntriesHeld w.server.nodes s.wire) w.replies
   pub refused : All (RefusedHeld w.server.nodes w.server.copies) w.results
 
--- While the mount is live the lookups are balanced; else the kernel counts no node. The rest is what keeps it so.
+-- While the mount is live the lookups are balanced; else the kernel counts no node. The rest is what keeps it so: no entry of a kept reply names the root.
 pub record LookupsSound (w : World) : Type 0 where
   pub server : ServerSound w.server
   pub numbers : IsNumberedWhileLive w
   pub copies : CopiesSound w
+  pub kept : (unique : ℕ) (k : Kept) → get w.server.kept unique ≡ Some k → All (λ (g : Entry). 2 ≤ g.nodeid) (files_in_reply k.wire)
   pub balanced : is_live w.kernel.phase ≡ true → LookupsBalanced w
   pub uncounted : is_live w.kernel.phase ≡ false → w.kernel.nodes ≡ []
