@@ -58,6 +58,8 @@ pub mod Lookups
 pub mod WireCounts
 pub mod PerformedCounts
 pub mod LookupsServed
+pub mod CountsStay
+pub mod LookupsHeard
 pub mod CopiesSound
 pub mod NumbersStay
 pub mod FirstSteps

@@ -28,12 +28,12 @@ use Rattle.fuse_theorem.proofs.RowCounts.{count_of, taken_count, given_count, mo
 use Rattle.fuse_theorem.proofs.ServerSound.{no_node}
 
 -- A list of one element at most.
-data OneAtMost {X : Type 0} : List X → Type 0 where
+pub data OneAtMost {X : Type 0} : List X → Type 0 where
   nothing : OneAtMost []
   one : (x : X) → OneAtMost (x ∷ [])
 
 -- A reply names one file at most.
-names_one : {F O : Type 0} → (reply : Reply F O) → OneAtMost (files_in_reply reply)
+pub names_one : {F O : Type 0} → (reply : Reply F O) → OneAtMost (files_in_reply reply)
 names_one (found x v) = one x
 names_one (created x v o) = one x
 names_one (missing v) = nothing
@@ -46,7 +46,7 @@ names_one (agreed a b) = nothing
 names_one done = nothing
 names_one (failed e) = nothing
 
-abbrev entries_of : ℕ → List Entry → ℕ
+abbrev pub entries_of : ℕ → List Entry → ℕ
 entries_of id gs = count_by (λ (g : Entry). nat_eq g.nodeid id) gs
 
 -- ---- held nodes
