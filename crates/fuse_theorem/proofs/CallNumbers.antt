@@ -1,5 +1,5 @@
 -- What the kernel does keeps its calls and their requests in order.
-use Rattle.std.proofs.Common.{◌≡◌, ℕ, ◌+◌, ◌-◌, ◌≤◌, ◌<◌, Bool, true, false, cond, List, [], ◌∷◌, ◌++◌, Option, Some, None, nat_eq, is_some, count_by, refl, ap, sym, subst, ◌∙◌, arith, inl, inr}
+use Rattle.std.proofs.Common.{◌≡◌, ℕ, ◌+◌, ◌≤◌, ◌<◌, Bool, true, false, cond, Option, Some, None, nat_eq, is_some, count_by, refl, ap, sym, subst, ◌∙◌, arith, inl, inr}
 use Rattle.std.specs.Prelude.{nat_lt}
 use Rattle.std.specs.List.{list_any}
 use Rattle.std.specs.Map.{remove_entry}
@@ -23,10 +23,10 @@ use Rattle.fuse_spec.specs.Calls.{Call}
 use Rattle.fuse_spec.specs.CallReplies.{call_replied}
 use Rattle.fuse_spec.specs.Maps.{get, put}
 use Rattle.fuse_spec.specs.Messages.{WireReply}
-use Rattle.fuse_spec.specs.Operations.{Operation, files_in_reply}
-use Rattle.fuse_spec.specs.Vfs.{CallState, walking, doing, using, asked, answered, begun, no_more}
+use Rattle.fuse_spec.specs.Operations.{files_in_reply}
+use Rattle.fuse_spec.specs.Vfs.{CallState, walking, doing, using, asked, answered, begun}
 use Rattle.fuse_spec.specs.Queues.{QueueState, IsSound, request_under, mark_under}
-use Rattle.fuse_spec.specs.QueueCalls.{after_enqueue, after_forget, after_effect, after_interrupt, after_reading, after_reply_effect, after_interrupt_reply, interrupt_effect, pending_at, without}
+use Rattle.fuse_spec.specs.QueueCalls.{after_enqueue, after_effect, after_reading, after_reply_effect, after_interrupt_reply, interrupt_effect, without}
 use Rattle.fuse_spec.specs.Signals.{reply_effect}
 use Rattle.fuse_spec.specs.Kernel.{Kernel, is_aborted, is_for, is_used, request_of, advanced, released, released_if_idle, after_use, closed_by, closing_of, call_begun, after_signal, signalled_at, call_signalled}
 use Rattle.fuse_spec.specs.Replies.{kernel_reply, learnt, Use, usable, useless, stale, use_of_all, goes_with, judged, replied, replied_to_call}
@@ -34,8 +34,8 @@ use Rattle.fuse_spec.proofs.QueueCounts.{count_by-push}
 use Rattle.fuse_spec.proofs.QueueReadings.{key_count-le-one}
 use Rattle.fuse_spec.proofs.Tables.{get_gone_here, get_gone_there}
 use Rattle.fuse_theorem.specs.Numbering.{requests_for}
-use Rattle.fuse_theorem.proofs.Advancing.{answered_alone, begun_alone, call_replied_alone}
-use Rattle.fuse_theorem.proofs.Finding.{same_is, count_left, count_less, found_entry}
+use Rattle.fuse_theorem.proofs.Advancing.{begun_alone, call_replied_alone}
+use Rattle.fuse_theorem.proofs.Finding.{count_left, count_less, found_entry}
 use Rattle.fuse_theorem.proofs.FirstQueues.{count_marked}
 use Rattle.fuse_theorem.proofs.Numbered.{CallsNumbered, calls_advanced}
 

@@ -162,8 +162,7 @@ module _ (w : World) (p : Plain) (one : IsOneToOne (MeansIn w)) (same : Alike w 
   answered_goes : (q : Plain) × Takes p (event.call call) (event.begun w.kernel.vfs.next_call) q × Alike (after_call w call) q
   answered_goes =
       let free = absent p.asks in
-      let plain_aborted : p.aborted ≡ true = sym same.aborted ∙ aborted in
-      (
+      let plain_aborted : p.aborted ≡ true = sym same.aborted ∙ aborted in (
         call_begun p free.0 call,
         (free.0, ap (λ (b : Bool). where_so b (call_begun p free.0 call)) (may_begin w p same free.0 free.1)),
         subst (λ (b : Bool). Alike (after_call w call) (going_on p free.0 p.vfs.next_call (begun b p.vfs call))) (sym plain_aborted)

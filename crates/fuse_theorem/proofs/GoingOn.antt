@@ -1,10 +1,8 @@
 -- As calls go on, the mount stays as it stands, and the coming number never falls.
-use Rattle.std.proofs.Common.{◌≡◌, ℕ, ◌+◌, ◌≤◌, Bool, true, false, cond, Option, Some, None, refl, ◌∙◌, arith}
+use Rattle.std.proofs.Common.{◌≡◌, ℕ, ◌≤◌, Bool, true, false, cond, Option, Some, None, refl, ◌∙◌, arith}
 use Rattle.fuse_spec.specs.declared.IntrEffect.{IntrEffect}
 use Rattle.fuse_spec.specs.declared.IntrEffect.TheVariants.{Dequeued, Flagged, Queued, None as NoEffect}
 use Rattle.fuse_spec.specs.declared.Opened.{Opened}
-use Rattle.fuse_spec.specs.declared.Phase.{Phase}
-use Rattle.fuse_spec.specs.declared.Purpose.{Purpose}
 use Rattle.fuse_spec.specs.declared.Purpose.TheVariants as purpose
 use Rattle.fuse_spec.specs.Answers as answer
 use Rattle.fuse_spec.specs.Calls.{Call}
@@ -13,8 +11,7 @@ use Rattle.fuse_spec.specs.Maps.{get, put}
 use Rattle.fuse_spec.specs.Messages.{WireReply}
 use Rattle.fuse_spec.specs.Operations.{Operation, files_in_reply}
 use Rattle.fuse_spec.specs.Vfs.{CallState, walking, doing, using, asked, Advance, answered, begun}
-use Rattle.fuse_spec.specs.Queues.{QueueState}
-use Rattle.fuse_spec.specs.QueueCalls.{after_enqueue, after_forget, after_effect, interrupt_effect}
+use Rattle.fuse_spec.specs.QueueCalls.{after_enqueue, after_effect, interrupt_effect}
 use Rattle.fuse_spec.specs.Kernel.{Kernel, is_aborted, is_used, request_of, asking_for, advanced, released, released_if_idle, after_use, closed_by, closing_of, call_begun, after_signal, signalled_at, call_signalled}
 use Rattle.fuse_spec.specs.Replies.{kernel_reply, learnt, Use, usable, useless, stale, use_of_all, goes_with, judged, replied, replied_to_call}
 

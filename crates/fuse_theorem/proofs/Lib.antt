@@ -60,6 +60,7 @@ pub mod PerformedCounts
 pub mod LookupsServed
 pub mod CountsStay
 pub mod LookupsHeard
+pub mod LookupsStay
 pub mod CopiesSound
 pub mod NumbersStay
 pub mod FirstSteps

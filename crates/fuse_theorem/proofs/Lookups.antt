@@ -1,8 +1,6 @@
 -- Lookups stay balanced where requests are read and calls go on, and nodes that are counted stay held.
-use Rattle.std.proofs.Common.{◌≡◌, ◌≢◌, ℕ, ◌+◌, ◌≤◌, ◌<◌, Bool, true, false, true≢false, cond, List, [], ◌∷◌, ◌++◌, length, take, drop, Option, Some, None, nat_eq, get_or, count_by, refl, ap, sym, subst, ◌∙◌, arith, inl, inr, All}
+use Rattle.std.proofs.Common.{◌≡◌, ◌≢◌, ℕ, ◌+◌, ◌≤◌, ◌<◌, Bool, cond, List, length, Option, Some, None, nat_eq, get_or, refl, ap, sym, subst, ◌∙◌, arith, All}
 use Rattle.std.specs.Prelude.{sum_by}
-use Rattle.std.proofs.lemmas.Bool.{cases_eq}
-use Rattle.std.proofs.lemmas.List.Elements.{All-nil}
 use Rattle.std.proofs.lemmas.List.Sums.{get_or-le-sum_by}
 use Rattle.fuse_spec.specs.declared.Counted.{Counted}
 use Rattle.fuse_spec.specs.declared.Entry.{Entry}
@@ -15,7 +13,7 @@ use Rattle.fuse_spec.specs.Operations.{files_in_reply}
 use Rattle.fuse_spec.specs.Kernel.{Kernel}
 use Rattle.fuse_spec.specs.Nodes.{HeldNode, NodeTable, row_of, root_row}
 use Rattle.fuse_spec.specs.Server.{Copy, count_in, forgotten, forgets_of}
-use Rattle.fuse_spec.specs.Counts.{Balance, in_flight, counted, names_in, carried, refused, result_carries}
+use Rattle.fuse_spec.specs.Counts.{Balance, counted, names_in, carried, refused}
 use Rattle.fuse_spec.specs.Denotes.{Denotes}
 use Rattle.fuse_spec.specs.Worlds.{World, Sent}
 use Rattle.fuse_theorem.specs.Lookups.{IsHeldAs, EntriesHeld, RefusedHeld, LookupsBalanced}

@@ -1,8 +1,7 @@
 -- Lookups stay balanced as the kernel takes a reply.
-use Rattle.std.proofs.Common.{◌≡◌, ◌≢◌, ℕ, ◌+◌, ◌-◌, ◌≤◌, ◌<◌, Bool, true, false, true≢false, cond, List, [], ◌∷◌, ◌++◌, Option, Some, None, nat_eq, is_some, slice_get, get_or, refl, ap, sym, subst, ◌∙◌, arith, inl, inr, All}
-use Rattle.std.specs.Prelude.{◌%◌, nat_lt, sum_by}
+use Rattle.std.proofs.Common.{◌≡◌, ◌≢◌, ℕ, ◌+◌, ◌-◌, ◌≤◌, Bool, true, false, true≢false, cond, List, [], ◌∷◌, ◌++◌, Option, Some, None, nat_eq, is_some, slice_get, refl, ap, sym, subst, ◌∙◌, arith, inl, inr, All}
+use Rattle.std.specs.Prelude.{◌%◌, nat_lt}
 use Rattle.std.specs.List.{remove as without_at}
-use Rattle.std.proofs.lemmas.Bool.{cases_eq}
 use Rattle.std.proofs.lemmas.Bool.Decides.{nat_tests}
 use Rattle.std.proofs.lemmas.List.Elements.{All-push, All-head}
 use Rattle.std.proofs.lemmas.List.Sums.{sum_by_push}
@@ -18,9 +17,9 @@ use Rattle.fuse_spec.specs.declared.WriteResult.{WriteResult}
 use Rattle.fuse_spec.specs.declared.WriteResult.TheVariants.{Accepted, NoEntry, Invalid}
 use Rattle.fuse_spec.specs.Answers as answer
 use Rattle.fuse_spec.specs.CallReplies.{call_replied}
-use Rattle.fuse_spec.specs.Maps.{Map, get, put}
+use Rattle.fuse_spec.specs.Maps.{Map, get}
 use Rattle.fuse_spec.specs.Messages.{WireReply}
-use Rattle.fuse_spec.specs.Operations.{found, missing, created, opened, attributes, listed, content, written, agreed, done, failed, files_in_reply}
+use Rattle.fuse_spec.specs.Operations.{agreed, done, failed, files_in_reply}
 use Rattle.fuse_spec.specs.Vfs.{CallState, asked, answered}
 use Rattle.fuse_spec.specs.QueueCalls.{waiting, without}
 use Rattle.fuse_spec.specs.Kernel.{Kernel, is_live, is_for, kernel_aborted, after_use}
@@ -28,7 +27,6 @@ use Rattle.fuse_spec.specs.Nodes.{HeldNode, NodeTable}
 use Rattle.fuse_spec.specs.Server.{Copy, forgotten}
 use Rattle.fuse_spec.specs.Replies.{kernel_reply, counted_more, learnt, Use, usable, useless, stale, use_counted, use_of, use_of_all, first_use, goes_with, is_empty_reply, is_init_reply, is_agreement, write_result_of, judged, replied, replied_to_call, ended_by, reply_taken, odd_taken, interrupt_replied, interrupt_reply_of, reply_written}
 use Rattle.fuse_spec.specs.Counts.{counted, names_in, carried, refused}
-use Rattle.fuse_spec.specs.Denotes.{Denotes}
 use Rattle.fuse_spec.specs.Worlds.{World, Sent, after_write}
 use Rattle.fuse_spec.proofs.QueueCounts.{count_by-cons}
 use Rattle.fuse_theorem.specs.Copies.{IsKnownCopy, CopiesSound}
@@ -36,7 +34,7 @@ use Rattle.fuse_theorem.specs.Lookups.{IsHeldAs, EntriesHeld, RefusedHeld, Looku
 use Rattle.fuse_theorem.specs.Numbering.{IsNumbered, requests_for}
 use Rattle.fuse_theorem.proofs.Answered.{waiting_is}
 use Rattle.fuse_theorem.proofs.CountsStay.{SameCounts, then_same, advanced_same, used_same, interrupt_reply_same}
-use Rattle.fuse_theorem.proofs.Finding.{same_is, other_is, count_left}
+use Rattle.fuse_theorem.proofs.Finding.{same_is, count_left}
 use Rattle.fuse_theorem.proofs.LinkSums.{sum_removed}
 use Rattle.fuse_theorem.proofs.Lookups.{copies_name, refused_name}
 use Rattle.fuse_theorem.proofs.NodesSound.{put_found}

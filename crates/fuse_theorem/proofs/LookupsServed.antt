@@ -1,6 +1,5 @@
 -- Lookups stay balanced as the server takes requests, performs them, sends copies and settles them.
-use Rattle.std.proofs.Common.{◌≡◌, ◌≢◌, ℕ, ◌+◌, ◌≤◌, Bool, true, false, true≢false, ◌&&◌, cond, List, [], ◌∷◌, ◌++◌, Option, Some, None, nat_eq, slice_get, get_or, refl, ap, sym, subst, ◌∙◌, arith, All}
-use Rattle.std.specs.Prelude.{sum_by}
+use Rattle.std.proofs.Common.{◌≡◌, ◌≢◌, ℕ, ◌+◌, ◌≤◌, Bool, true, false, ◌&&◌, cond, List, [], ◌∷◌, ◌++◌, Option, Some, None, slice_get, get_or, refl, ap, sym, subst, ◌∙◌, arith, All}
 use Rattle.std.specs.List.{list_all, remove as without_at}
 use Rattle.std.proofs.lemmas.List.Elements.{All-nil, All-push}
 use Rattle.std.proofs.lemmas.List.Sums.{sum_by_push}
@@ -9,13 +8,13 @@ use Rattle.fuse_spec.specs.declared.ReplyResult.{ReplyResult}
 use Rattle.fuse_spec.specs.declared.WriteResult.{WriteResult}
 use Rattle.fuse_spec.specs.declared.WriteResult.TheVariants.{Accepted, NoEntry, Invalid}
 use Rattle.fuse_spec.specs.Maps.{Map, get, put, remove}
-use Rattle.fuse_spec.specs.Messages.{Forget, Request, RequestBody, init, asks, release, forget, batch_forget, interrupt, WireReply}
-use Rattle.fuse_spec.specs.Operations.{failed, files_in_reply, opens_in_reply}
+use Rattle.fuse_spec.specs.Messages.{Request, RequestBody, init, asks, release, forget, batch_forget, interrupt}
+use Rattle.fuse_spec.specs.Operations.{failed, files_in_reply}
 use Rattle.fuse_spec.specs.Nodes.{NodeTable, is_held, MayChoose}
-use Rattle.fuse_spec.specs.Server.{Server, HeldRequest, Kept, Copy, forgotten, forgets_of, all_taken_back, forgetting}
+use Rattle.fuse_spec.specs.Server.{Server, HeldRequest, Kept, Copy, forgotten, forgets_of, forgetting}
 use Rattle.fuse_spec.specs.Taking.{taking, interrupting}
 use Rattle.fuse_spec.specs.Performs.{performed, served, files_given}
-use Rattle.fuse_spec.specs.Copies.{is_current, rows_back, sent_again, kept_after, after_result, given_back}
+use Rattle.fuse_spec.specs.Copies.{is_current, sent_again, kept_after, after_result, given_back}
 use Rattle.fuse_spec.specs.Counts.{names_in, carried, refused}
 use Rattle.fuse_spec.specs.Denotes.{Denotes}
 use Rattle.fuse_spec.specs.Worlds.{World, Sent, replying, after_take, after_perform, after_again, after_settle}
@@ -26,7 +25,7 @@ use Rattle.fuse_theorem.specs.ServerTables.{ServerSound}
 use Rattle.fuse_theorem.proofs.CopiesSound.{served_copies, results_still, results_apart}
 use Rattle.fuse_theorem.proofs.Forgetting.{all_less_denotes}
 use Rattle.fuse_theorem.proofs.Giving.{counted_denotes}
-use Rattle.fuse_theorem.proofs.LinkSums.{sum_removed, term_le, sum_same}
+use Rattle.fuse_theorem.proofs.LinkSums.{sum_removed, sum_same}
 use Rattle.fuse_theorem.proofs.Lookups.{sent_forgets, copies_name, refused_name, shrunk, grown}
 use Rattle.fuse_theorem.proofs.PerformedCounts.{Counts, performed_counts}
 use Rattle.fuse_theorem.proofs.Queuing.{All-without, All-at}

@@ -1,11 +1,10 @@
 -- The numbers of a live mount stay in order, whatever happens.
-use Rattle.std.proofs.Common.{◌≡◌, ℕ, ◌+◌, ◌-◌, ◌≤◌, ◌<◌, Bool, true, false, true≢false, cond, List, [], ◌∷◌, ◌++◌, take, drop, Option, Some, None, Ok, ◌⊎◌, nat_eq, is_some, slice_get, count_by, option_map, refl, ap, sym, subst, ◌∙◌, arith, inl, inr, All}
+use Rattle.std.proofs.Common.{◌≡◌, ℕ, ◌+◌, ◌-◌, ◌≤◌, ◌<◌, Bool, true, false, true≢false, cond, List, [], ◌∷◌, ◌++◌, take, drop, Option, Some, None, Ok, nat_eq, slice_get, count_by, option_map, refl, ap, sym, subst, ◌∙◌, arith, inl, inr, All}
 use Rattle.std.specs.Prelude.{◌%◌, nat_lt}
 use Rattle.std.specs.List.{list_any, remove as without_at}
 use Rattle.std.specs.Option.{option_map_or}
-use Rattle.std.proofs.lemmas.Bool.{cases_eq}
 use Rattle.std.proofs.lemmas.Bool.Decides.{nat_tests}
-use Rattle.std.proofs.lemmas.List.Elements.{All-nil, All-push}
+use Rattle.std.proofs.lemmas.List.Elements.{All-push}
 use Rattle.fuse_spec.specs.declared.InterruptReply.{InterruptReply}
 use Rattle.fuse_spec.specs.declared.InterruptReplyEffect.{InterruptReplyEffect}
 use Rattle.fuse_spec.specs.declared.InterruptReplyEffect.TheVariants.{QueuedAgain, TurnedOff, None as NoReplyEffect}
@@ -13,7 +12,6 @@ use Rattle.fuse_spec.specs.declared.Mark.{Mark}
 use Rattle.fuse_spec.specs.declared.Mark.TheVariants as mark
 use Rattle.fuse_spec.specs.declared.Phase.{Phase}
 use Rattle.fuse_spec.specs.declared.Phase.TheVariants.{Down, Starting, Ready, Aborted}
-use Rattle.fuse_spec.specs.declared.Opened.{Opened}
 use Rattle.fuse_spec.specs.declared.Purpose.{Purpose}
 use Rattle.fuse_spec.specs.declared.Purpose.TheVariants as purpose
 use Rattle.fuse_spec.specs.declared.QueuedRequest.{QueuedRequest}
@@ -39,15 +37,12 @@ use Rattle.fuse_spec.specs.Replies.{is_agreement, ended_by, reply_taken, odd_tak
 use Rattle.fuse_spec.specs.Worlds.{World, Sent, first_world, forget_body, after_call, after_read_interrupt, after_read_forgets, after_read_pending, after_take, after_perform, after_again, after_write, after_settle, after_drop, after_evict}
 use Rattle.fuse_spec.specs.Worlds as worlds
 use Rattle.fuse_spec.specs.Events.{Event, Outcome}
-use Rattle.fuse_spec.specs.Events as event
 use Rattle.fuse_spec.specs.Steps.{is_ready, step}
 use Rattle.fuse_spec.proofs.QueueCounts.{count_by-cons, key_count, key_count-found, lookup-no_key}
-use Rattle.fuse_spec.proofs.Tables.{get_put_here, get_put_there}
-use Rattle.fuse_theorem.specs.Numbering.{IsNumbered, IsNumberedWhileLive, requests_for}
+use Rattle.fuse_theorem.specs.Numbering.{IsNumbered, IsNumberedWhileLive}
 use Rattle.fuse_theorem.proofs.Answered.{waiting_is}
 use Rattle.fuse_theorem.proofs.CallNumbers.{none_left, without_numbered, read_numbered, interrupt_replied_numbered, begun_numbered, signalled_numbered, replied_numbered}
 use Rattle.fuse_theorem.proofs.Finding.{same_is}
-use Rattle.fuse_theorem.proofs.FirstMounts.{empty_sound}
 use Rattle.fuse_theorem.proofs.FirstReads.{number_below, number_even}
 use Rattle.fuse_theorem.proofs.Fresh.{mounted_numbered}
 use Rattle.fuse_theorem.proofs.GoingOn.{GoesOn, begun_goes_on, signalled_goes_on, replied_goes_on}
@@ -61,7 +56,7 @@ use Rattle.fuse_theorem.proofs.Settling.{kept_was, left_was}
 
 -- ---- a kernel that goes on
 
-calls_of : (w : World) → IsNumbered w → CallsNumbered w.kernel
+pub calls_of : (w : World) → IsNumbered w → CallsNumbered w.kernel
 calls_of w numbered = record { calls_below = numbered.calls_below; one_request = numbered.one_request }
 
 -- The kernel moves, and its coming number does not fall.
@@ -264,9 +259,9 @@ module _ (w : World) (numbered : IsNumbered w) where
 -- ---- replies
 
 -- What a reply makes of a live kernel: it goes on, or the mount is aborted.
-data Hears (k : Kernel) (l : Kernel) : Type 0 where
+pub data Hears (k : Kernel) (l : Kernel) : Type 0 where
   goes_on : is_live l.phase ≡ true → k.queues.next ≤ l.queues.next → CallsNumbered l → Hears k l
-  ends : is_live l.phase ≡ false → l.queues ≡ empty_queues → Hears k l
+  ends : is_live l.phase ≡ false → l.queues ≡ empty_queues → l.nodes ≡ [] → Hears k l
 
 module _ (k : Kernel) (live : is_live k.phase ≡ true) (sound : IsSound k.queues) (numbered : CallsNumbered k) (unique : ℕ) (wire : WireReply) where
   went : (l : Kernel) → GoesOn k l → CallsNumbered l → Hears k l
@@ -280,7 +275,7 @@ module _ (k : Kernel) (live : is_live k.phase ≡ true) (sound : IsSound k.queue
 
       by : (b : Bool) → Hears k (cond b (record k1 { phase = Ready }) (kernel_aborted k1))
       by true = let calls = without_numbered k numbered unique in goes_on refl (omega arith) (record { calls_below = calls.calls_below; one_request = calls.one_request })
-      by false = ends refl refl
+      by false = ends refl refl refl
   ended_heard (purpose.Release o) waits = went _ (record { phase = refl; rises = omega arith }) (without_numbered k numbered unique)
   ended_heard (purpose.Call call) waits =
       let k1 = record k { queues = without k.queues unique } in
@@ -290,7 +285,7 @@ module _ (k : Kernel) (live : is_live k.phase ≡ true) (sound : IsSound k.queue
       went _ (record { phase = goes.phase; rises = goes.rises })
       (replied_numbered k1 (without_numbered k numbered unique) call wire (get k.vfs.calls call) refl (none_left k numbered call unique request.request request.under mine))
 
-  written_heard : Hears k (reply_written k unique wire).1
+  pub written_heard : Hears k (reply_written k unique wire).1
   written_heard = by (nat_eq (unique % 2) 1)
     where
       even : (o : Option Purpose) → waiting k.queues unique ≡ o → Hears k (reply_taken k unique wire o).1
@@ -325,7 +320,7 @@ module _ (k : Kernel) (live : is_live k.phase ≡ true) (sound : IsSound k.queue
       by false = even (waiting k.queues unique) refl
 
 -- A kernel without requests hears nothing.
-unheard : (k : Kernel) → k.queues ≡ empty_queues → (unique : ℕ) (wire : WireReply) → (reply_written k unique wire).1 ≡ k
+pub unheard : (k : Kernel) → k.queues ≡ empty_queues → (unique : ℕ) (wire : WireReply) → (reply_written k unique wire).1 ≡ k
 unheard k idle unique wire = by (nat_eq (unique % 2) 1)
   where
     none : (u : ℕ) → waiting k.queues u ≡ None
@@ -343,7 +338,7 @@ aborted_if_ready Starting ready dead = sym dead
 aborted_if_ready Ready ready dead = sym dead
 aborted_if_ready Aborted ready dead = refl
 
-replying_kernel : (w : World) (number unique : ℕ) (o : Option WireReply) → (worlds.replying w number unique o).kernel ≡ w.kernel
+pub replying_kernel : (w : World) (number unique : ℕ) (o : Option WireReply) → (worlds.replying w number unique o).kernel ≡ w.kernel
 replying_kernel w number unique None = refl
 replying_kernel w number unique (Some wire) = refl
 
@@ -366,7 +361,7 @@ module _ (w : World) (numbered : IsNumberedWhileLive w) where
           let moved = kernel_numbered w (numbered.live live) live after.kernel rises (sound live) calls in
           still_live after still (links_numbered (record w { kernel = after.kernel }) moved w.requests w.server (without_at w.replies k) after.results moved.sent_below
           (All-without (λ (s : Sent). s.unique < after.kernel.queues.next) w.replies k moved.replies_below) moved.held_below moved.kept_below)
-      heard live (ends dead idle) = record { live = λ still. absurd (true≢false (sym still ∙ dead)); idle = λ _. idle }
+      heard live (ends dead idle uncounted) = record { live = λ still. absurd (true≢false (sym still ∙ dead)); idle = λ _. idle }
 
       by : (b : Bool) → is_live w.kernel.phase ≡ b → IsNumberedWhileLive after
       by true live = let old = numbered.live live in heard live (written_heard w.kernel live old.queues (calls_of w old) sent.unique sent.wire)

@@ -1,12 +1,11 @@
 -- What a performed request's reply names is counted, where the reply goes out.
-use Rattle.std.proofs.Common.{◌≡◌, ◌≢◌, ℕ, ◌+◌, ◌≤◌, Bool, true, false, true≢false, not, ◌||◌, cond, List, [], ◌∷◌, Option, Some, None, nat_eq, refl, ap, sym, subst, ◌∙◌, arith, All}
+use Rattle.std.proofs.Common.{◌≡◌, ℕ, ◌+◌, ◌≤◌, Bool, true, false, not, ◌||◌, cond, [], Option, Some, None, refl, ap, sym, subst, arith}
 use Rattle.std.specs.Prelude.{MatchOption}
 use Rattle.std.proofs.lemmas.List.Elements.{All-nil, All-cons}
 use Rattle.fuse_spec.specs.declared.Entry.{Entry}
-use Rattle.fuse_spec.specs.declared.Opened.{Opened}
-use Rattle.fuse_spec.specs.Maps.{Map, get}
+use Rattle.fuse_spec.specs.Maps.{get}
 use Rattle.fuse_spec.specs.Messages.{RequestBody, init, asks, release, forget, batch_forget, interrupt, WireReply}
-use Rattle.fuse_spec.specs.Operations.{Operation, Reply, found, missing, created, opened, attributes, listed, content, written, agreed, done, failed, files_in_reply, errno_of}
+use Rattle.fuse_spec.specs.Operations.{Reply, found, missing, created, opened, attributes, listed, content, written, agreed, done, failed, files_in_reply, errno_of}
 use Rattle.fuse_spec.specs.FileOperations.{FileOperation, reply_by, tree_after}
 use Rattle.fuse_spec.specs.Trees.{Tree}
 use Rattle.fuse_spec.specs.Nodes.{HeldNode, NodeTable, file_of, is_open, MayName, IsUnheld, MayChoose, given, all_given, handle_back}

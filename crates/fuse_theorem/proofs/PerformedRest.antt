@@ -1,12 +1,9 @@
 -- To perform a request changes the tree and the tables of nodes and open files alone.
 use Rattle.std.proofs.Common.{◌≡◌, ℕ, Bool, true, false, cond, refl}
-use Rattle.fuse_spec.specs.declared.Opened.{Opened}
-use Rattle.fuse_spec.specs.declared.Validity.{Validity}
-use Rattle.fuse_spec.specs.Maps.{Map}
 use Rattle.fuse_spec.specs.Messages.{RequestBody, init, asks, release, forget, batch_forget, interrupt}
 use Rattle.fuse_spec.specs.Operations.{done}
 use Rattle.fuse_spec.specs.Nodes.{file_of, is_open, handle_back}
-use Rattle.fuse_spec.specs.Server.{Server, HeldRequest, Kept, Copy}
+use Rattle.fuse_spec.specs.Server.{Server, HeldRequest}
 use Rattle.fuse_spec.specs.Performs.{file_operation_of, is_open_for, is_still_held, doing, refusing, performing, performed}
 
 -- What else there is of a server is the same.

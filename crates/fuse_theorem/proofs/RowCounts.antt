@@ -1,5 +1,5 @@
 -- How the lookup counts of the server's nodes change, and those of the kernel.
-use Rattle.std.proofs.Common.{◌≡◌, ◌≢◌, ℕ, ◌+◌, ◌-◌, ◌≤◌, ◌<◌, Bool, true, false, true≢false, cond, List, [], ◌∷◌, Option, Some, None, nat_eq, count_by, refl, ap, sym, subst, ◌∙◌, arith, inl, inr}
+use Rattle.std.proofs.Common.{◌≡◌, ◌≢◌, ℕ, ◌+◌, ◌-◌, ◌≤◌, Bool, true, false, cond, List, [], ◌∷◌, Option, Some, None, nat_eq, refl, ap, sym, subst, ◌∙◌, arith, inl, inr}
 use Rattle.std.specs.Prelude.{nat_lt}
 use Rattle.std.proofs.lemmas.Bool.{cases_eq}
 use Rattle.std.proofs.lemmas.Bool.Decides.{nat_tests}
@@ -8,11 +8,10 @@ use Rattle.fuse_spec.specs.declared.Counted.{Counted}
 use Rattle.fuse_spec.specs.declared.Entry.{Entry}
 use Rattle.fuse_spec.specs.Maps.{Map, get, put, remove}
 use Rattle.fuse_spec.specs.Messages.{Forget}
-use Rattle.fuse_spec.specs.Nodes.{HeldNode, NodeTable, row_of, root_row, is_row_of, is_held, given, given_row, generation_after, all_given, rows_less, taken_back, rows_more, row_more}
+use Rattle.fuse_spec.specs.Nodes.{HeldNode, NodeTable, given, given_row, rows_less, taken_back, rows_more, row_more}
 use Rattle.fuse_spec.specs.Server.{count_in, forgotten, all_taken_back}
 use Rattle.fuse_spec.specs.Replies.{counted_more}
 use Rattle.fuse_spec.specs.Counts.{counted}
-use Rattle.fuse_spec.proofs.QueueCounts.{count_by-cons}
 use Rattle.fuse_spec.proofs.Tables.{get_put_here, get_put_there, get_gone_here, get_gone_there}
 use Rattle.fuse_theorem.proofs.Finding.{same_is, other_is}
 

@@ -1,31 +1,19 @@
 -- What a reply names is counted as its copy goes out, and given back as the copy comes back refused.
-use Rattle.std.proofs.Common.{◌≡◌, ◌≢◌, ℕ, ◌+◌, ◌-◌, ◌≤◌, Bool, true, false, true≢false, ◌&&◌, cond, List, [], ◌∷◌, Option, Some, None, nat_eq, count_by, refl, ap, sym, subst, ◌∙◌, arith, inl, inr, All}
-use Rattle.std.specs.Prelude.{MatchOption, not, ◌||◌}
+use Rattle.std.proofs.Common.{◌≡◌, ◌≢◌, ℕ, ◌+◌, ◌-◌, ◌≤◌, Bool, true, false, true≢false, ◌&&◌, cond, List, [], ◌∷◌, Option, Some, None, nat_eq, count_by, refl, ap, sym, subst, ◌∙◌, arith, All}
 use Rattle.std.specs.List.{list_all}
-use Rattle.std.proofs.lemmas.Bool.{cases_eq}
 use Rattle.std.proofs.lemmas.Bool.Decides.{nat_tests}
-use Rattle.std.proofs.lemmas.List.Elements.{All-nil, All-cons, All-head, All-tail}
+use Rattle.std.proofs.lemmas.List.Elements.{All-nil, All-cons, All-head}
 use Rattle.fuse_spec.specs.declared.Entry.{Entry}
-use Rattle.fuse_spec.specs.declared.Opened.{Opened}
-use Rattle.fuse_spec.specs.Maps.{Map, get}
-use Rattle.fuse_spec.specs.Messages.{RequestBody, init, asks, release, forget, batch_forget, interrupt, WireReply}
-use Rattle.fuse_spec.specs.Operations.{Operation, Reply, found, missing, created, opened, attributes, listed, content, written, agreed, done, failed, files_in_reply}
-use Rattle.fuse_spec.specs.FileOperations.{FileOperation, reply_by, tree_after}
-use Rattle.fuse_spec.specs.Trees.{Tree}
-use Rattle.fuse_spec.specs.Nodes.{HeldNode, NodeTable, taken_back, row_of, root_row, is_row_of, is_held, file_of, is_open, MayName, IsUnheld, MayChoose, given, all_given, handle_back}
-use Rattle.fuse_spec.specs.Server.{Server, HeldRequest}
-use Rattle.fuse_spec.specs.Performs.{file_operation_of, is_open_for, doing, wire_of, refusing, performing, performed, is_still_held, files_by, files_given}
+use Rattle.fuse_spec.specs.Maps.{get}
+use Rattle.fuse_spec.specs.Messages.{WireReply}
+use Rattle.fuse_spec.specs.Operations.{Reply, found, missing, created, opened, attributes, listed, content, written, agreed, done, failed, files_in_reply}
+use Rattle.fuse_spec.specs.Nodes.{HeldNode, NodeTable, taken_back, row_of, root_row, is_row_of, is_held}
 use Rattle.fuse_spec.specs.Copies.{rows_counted, row_back, rows_back}
 use Rattle.fuse_spec.specs.Counts.{names_in}
-use Rattle.fuse_spec.specs.Denotes.{Denotes}
 use Rattle.fuse_spec.proofs.QueueCounts.{count_by-cons}
 use Rattle.fuse_theorem.specs.Lookups.{IsHeldAs, EntriesHeld}
-use Rattle.fuse_theorem.specs.ServerTables.{NodesSound}
 use Rattle.fuse_theorem.proofs.Finding.{same_is, other_is}
-use Rattle.fuse_theorem.proofs.Giving.{all_given_denotes}
-use Rattle.fuse_theorem.proofs.Naming.{given_node}
-use Rattle.fuse_theorem.proofs.RowCounts.{count_of, taken_count, given_count, more_count}
-use Rattle.fuse_theorem.proofs.ServerSound.{no_node}
+use Rattle.fuse_theorem.proofs.RowCounts.{count_of, taken_count, more_count}
 
 -- A list of one element at most.
 pub data OneAtMost {X : Type 0} : List X → Type 0 where

@@ -49,6 +49,7 @@ ghost use Rattle.std.specs.FinMap.{is_sorted};
 ghost use Rattle.fuse_theorem.specs.Numbering.{IsNumbered, IsNumberedWhileLive, IsOneToOne};
 ghost use Rattle.fuse_theorem.specs.ServerTables.{ServerSound};
 ghost use Rattle.fuse_theorem.specs.Copies.{CopiesSound};
+ghost use Rattle.fuse_theorem.specs.Lookups.{LookupsSound};
 ghost use Rattle.fuse_theorem.specs.Conditions.{OneId, KnownAreHeld, TablesSound, CanPerform, CanDecline, CanRelease, IsReply, IsDeclined, UnreadAreUnsent, HoldsAll, HoldsOpens, IsInterrupt, IsUnsent, awaiting};
 
 /// The world before its first mount is alike to the plain world with the root alone.
@@ -265,6 +266,14 @@ pub fn numbers_stay_in_order()
 pub fn copies_stay_known()
     ensures at_first { CopiesSound first_world }
     ensures always { (choice : ℕ → ℕ) (w : World) → CopiesSound w → ServerSound w.server → (o : Outcome) (after : World) (e : Event) → step choice w e ≡ Ok (o, after) → CopiesSound after }
+{}
+
+/// The server's count of each node is the kernel's count and whatever is in flight, while the mount is live and whatever the event (`Lookups.antt`
+/// has that and all that keeps it). So the server holds what the kernel knows.
+pub fn lookups_stay_balanced()
+    ensures at_first { LookupsSound first_world }
+    ensures always { (w : World) → LookupsSound w → (e : Event) (o : Outcome) (after : World) → Happens w e o after → LookupsSound after }
+    ensures known { (w : World) → LookupsSound w → KnownAreHeld w }
 {}
 
 /// After a mount, and after an abort, no node means anything but the root.
