@@ -61,6 +61,7 @@ pub mod LookupsServed
 pub mod CountsStay
 pub mod LookupsHeard
 pub mod LookupsStay
+pub mod QueueMoves
 pub mod CopiesSound
 pub mod NumbersStay
 pub mod FirstSteps
