@@ -62,6 +62,8 @@ pub mod CountsStay
 pub mod LookupsHeard
 pub mod LookupsStay
 pub mod QueueMoves
+pub mod PendingCounts
+pub mod StandsOnce
 pub mod CopiesSound
 pub mod NumbersStay
 pub mod FirstSteps

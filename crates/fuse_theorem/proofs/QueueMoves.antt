@@ -1,5 +1,5 @@
 -- What the kernel does moves its requests in few ways: one is queued, one ends, or one gets another mark.
-use Rattle.std.proofs.Common.{◌≡◌, ℕ, ◌+◌, ◌-◌, ◌≤◌, Bool, true, false, true≢false, cond, Option, Some, None, nat_eq, slice_get, option_map, refl, ap, sym, subst, ◌∙◌, arith}
+use Rattle.std.proofs.Common.{◌≡◌, ℕ, ◌-◌, Bool, true, false, true≢false, cond, Option, Some, None, nat_eq, slice_get, option_map, refl, ap, sym}
 use Rattle.std.specs.Prelude.{◌%◌}
 use Rattle.std.specs.List.{list_any}
 use Rattle.std.specs.Map.{remove_entry}
@@ -24,10 +24,10 @@ use Rattle.fuse_spec.specs.Messages.{WireReply}
 use Rattle.fuse_spec.specs.Operations.{Operation, done, failed, files_in_reply}
 use Rattle.fuse_spec.specs.Vfs.{CallState, walking, doing, using, asked, Advance, answered, begun}
 use Rattle.fuse_spec.specs.Queues.{QueueState, IsSound, is_unread, pending, request_under, mark_under}
-use Rattle.fuse_spec.specs.QueueCalls.{after_enqueue, after_forget, after_effect, after_reading, after_reply_effect, after_interrupt_reply, after_read_pending, interrupt_effect, set_mark, waiting, without}
+use Rattle.fuse_spec.specs.QueueCalls.{after_enqueue, after_forget, after_effect, after_reading, after_reply_effect, after_read_pending, set_mark, waiting, without}
 use Rattle.fuse_spec.specs.Signals.{signal_effect, reply_effect}
 use Rattle.fuse_spec.specs.Kernel.{Kernel, is_live, is_aborted, is_used, request_of, kernel_aborted, asking_for, advanced, released, released_if_idle, after_use, closed_by, closing_of, call_begun, after_signal, signalled_at, call_signalled}
-use Rattle.fuse_spec.specs.Replies.{kernel_reply, learnt, Use, usable, useless, stale, use_of_all, goes_with, is_agreement, judged, replied, replied_to_call, ended_by, reply_taken, odd_taken, interrupt_replied, interrupt_reply_of, reply_written}
+use Rattle.fuse_spec.specs.Replies.{kernel_reply, learnt, Use, usable, useless, stale, use_of_all, goes_with, is_agreement, judged, replied, replied_to_call, reply_taken, odd_taken, interrupt_replied, interrupt_reply_of, reply_written}
 use Rattle.fuse_spec.proofs.QueueSoundness.{mark_under-pending}
 
 pub data QueueMoves : QueueState Purpose → QueueState Purpose → Type 0 where

@@ -5,3 +5,4 @@ pub mod Lookups
 pub mod Conditions
 pub mod FirstPath
 pub mod EachEvent
+pub mod Unperformed

@@ -50,6 +50,7 @@ ghost use Rattle.fuse_theorem.specs.Numbering.{IsNumbered, IsNumberedWhileLive, 
 ghost use Rattle.fuse_theorem.specs.ServerTables.{ServerSound};
 ghost use Rattle.fuse_theorem.specs.Copies.{CopiesSound};
 ghost use Rattle.fuse_theorem.specs.Lookups.{LookupsSound};
+ghost use Rattle.fuse_theorem.specs.Unperformed.{StandsOnce};
 ghost use Rattle.fuse_theorem.specs.Conditions.{OneId, KnownAreHeld, TablesSound, CanPerform, CanDecline, CanRelease, IsReply, IsDeclined, UnreadAreUnsent, HoldsAll, HoldsOpens, IsInterrupt, IsUnsent, awaiting};
 
 /// The world before its first mount is alike to the plain world with the root alone.
@@ -274,6 +275,13 @@ pub fn lookups_stay_balanced()
     ensures at_first { LookupsSound first_world }
     ensures always { (w : World) → LookupsSound w → (e : Event) (o : Outcome) (after : World) → Happens w e o after → LookupsSound after }
     ensures known { (w : World) → LookupsSound w → KnownAreHeld w }
+{}
+
+/// A request that is not performed stands once, whatever the event: pending, on the link, or held. So what is unread is neither on the link nor held.
+pub fn requests_stand_once()
+    ensures at_first { StandsOnce first_world }
+    ensures always { (choice : ℕ → ℕ) (w : World) → StandsOnce w → IsNumberedWhileLive w → (o : Outcome) (after : World) (e : Event) → step choice w e ≡ Ok (o, after) → StandsOnce after }
+    ensures unread { (w : World) → StandsOnce w → IsSound w.kernel.queues → UnreadAreUnsent w }
 {}
 
 /// After a mount, and after an abort, no node means anything but the root.
