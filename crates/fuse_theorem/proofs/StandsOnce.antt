@@ -1,6 +1,6 @@
 -- A request that is not performed stands once, whatever happens.
 use Rattle.std.proofs.Common.{◌≡◌, ℕ, ◌+◌, ◌≤◌, Bool, true, false, true≢false, cond, List, [], ◌∷◌, ◌++◌, take, drop, Option, Some, None, Ok, nat_eq, is_some, slice_get, get_or, count_by, option_map, refl, ap, sym, subst, ◌∙◌, arith, inl, inr}
-use Rattle.std.specs.Prelude.{nat_lt}
+use Rattle.std.specs.Prelude.{◌%◌, nat_lt}
 use Rattle.std.specs.List.{remove as without_at}
 use Rattle.std.proofs.lemmas.Bool.{cases_eq}
 use Rattle.std.proofs.lemmas.Bool.Decides.{nat_tests}
@@ -83,27 +83,36 @@ none_later w numbered live u later =
     none_held None at = ap one_held at
     none_held (Some t) at = let low = numbered.held_below live u t at in absurd (omega (arith, low, later))
 
+-- A bound on how often a number that is not performed stands, which leaves room for numbers that are not drawn yet.
+abbrev pub AtMost : (ℕ → ℕ) → World → Type 0
+AtMost b w = (u : ℕ) → u % 2 ≡ 0 → unperformed w u ≤ b u
+
+abbrev pub HasRoom : (ℕ → ℕ) → World → Type 0
+HasRoom b w = is_live w.kernel.phase ≡ true → (u : ℕ) → w.kernel.queues.next ≤ u → 1 ≤ b u
+
 -- ---- the kernel moves
 
-kernel_once : (w : World) → StandsOnce w → IsNumbered w → is_live w.kernel.phase ≡ true → (k : Kernel) → Fewer w.kernel.queues k.queues → IsSound k.queues → StandsOnce (record w { kernel = k })
-kernel_once w once numbered live k fewer sound u even = by (nat_lt u w.kernel.queues.next) refl
+kernel_once : (b : ℕ → ℕ) (w : World) → HasRoom b w → AtMost b w → IsNumbered w → is_live w.kernel.phase ≡ true → (k : Kernel) → Fewer w.kernel.queues k.queues → IsSound k.queues → AtMost b (record w { kernel = k })
+kernel_once b w room once numbered live k fewer sound u even = by (nat_lt u w.kernel.queues.next) refl
   where
-    by : (b : Bool) → nat_lt u w.kernel.queues.next ≡ b → unperformed (record w { kernel = k }) u ≤ 1
+    by : (c : Bool) → nat_lt u w.kernel.queues.next ≡ c → unperformed (record w { kernel = k }) u ≤ b u
     by true e =
         let few = fewer.fewer u (grind (arith, nat_tests, e)) in
         let old = once u even in
         omega (arith, few, old)
     by false e =
-        let none = none_later w numbered live u (grind (arith, nat_tests, e)) in
+        let later : w.kernel.queues.next ≤ u = grind (arith, nat_tests, e) in
+        let none = none_later w numbered live u later in
         let one = pending_once u k.queues sound in
-        omega (arith, none, one)
+        let enough = room live u later in
+        omega (arith, none, one, enough)
 
 -- ---- the links and the server
 
-module _ (w : World) (once : StandsOnce w) where
+module _ (b : ℕ → ℕ) (w : World) (once : AtMost b w) where
   -- A request leaves the link, and may be held.
   taken_once : (k unique : ℕ) (body : RequestBody) → slice_get w.requests k ≡ Some (record { unique = unique; body = body }) → (v : World) → v.kernel ≡ w.kernel → v.requests ≡ without_at w.requests k
-      → ((u : ℕ) → held_under u v.server.held ≤ held_under u w.server.held + cond (nat_eq u unique) 1 0) → StandsOnce v
+      → ((u : ℕ) → held_under u v.server.held ≤ held_under u w.server.held + cond (nat_eq u unique) 1 0) → AtMost b v
   taken_once k unique body there v kernel requests held u even =
       let old = once u even in
       let gone : sent_under u (without_at w.requests k) + cond (nat_eq u unique) 1 0 ≡ sent_under u w.requests = sum_removed (λ (r : Request). cond (nat_eq u r.unique) 1 0) w.requests k (record { unique = unique; body = body }) there in
@@ -113,7 +122,7 @@ module _ (w : World) (once : StandsOnce w) where
       omega (arith, old, gone, sent, pending_same, few)
 
   -- Nothing more is sent or held.
-  fewer_once : (v : World) → v.kernel ≡ w.kernel → v.requests ≡ w.requests → ((u : ℕ) → held_under u v.server.held ≤ held_under u w.server.held) → StandsOnce v
+  fewer_once : (v : World) → v.kernel ≡ w.kernel → v.requests ≡ w.requests → ((u : ℕ) → held_under u v.server.held ≤ held_under u w.server.held) → AtMost b v
   fewer_once v kernel requests held u even =
       let old = once u even in
       let sent = ap (sent_under u) requests in
@@ -165,9 +174,9 @@ settled_held w result (Some copy) u = by result.result
     by NoEntry = omega arith
     by Invalid = omega arith
 
-module _ (w : World) (once : StandsOnce w) (numbered : IsNumberedWhileLive w) where
+module _ (b : ℕ → ℕ) (w : World) (room : HasRoom b w) (once : AtMost b w) (numbered : IsNumberedWhileLive w) where
   -- An INTERRUPT is read: its number is odd.
-  interrupt_once : (original : ℕ) → StandsOnce (after_read_interrupt w original)
+  interrupt_once : (original : ℕ) → AtMost b (after_read_interrupt w original)
   interrupt_once original u even =
       let old = once u even in
       let pushed = count_by-push (λ (r : Request). nat_eq u r.unique) w.requests (record { unique = interrupt_number original; body = interrupt original }) in
@@ -175,7 +184,7 @@ module _ (w : World) (once : StandsOnce w) (numbered : IsNumberedWhileLive w) wh
       omega (arith, old, pushed, other)
 
   -- Forgets are read: they bear the coming number.
-  forgets_once : is_live w.kernel.phase ≡ true → (n : ℕ) (fs : List Forget) → queues.can_read_forgets w.kernel.queues n ≡ true → StandsOnce (after_read_forgets w n fs)
+  forgets_once : is_live w.kernel.phase ≡ true → (n : ℕ) (fs : List Forget) → queues.can_read_forgets w.kernel.queues n ≡ true → AtMost b (after_read_forgets w n fs)
   forgets_once live n fs can u even = by (queues.can_read_forgets w.kernel.queues n) can
     where
       pushed : sent_under u (w.requests ++ record { unique = w.kernel.queues.next; body = forget_body fs } ∷ []) ≡ sent_under u w.requests + cond (nat_eq u w.kernel.queues.next) 1 0
@@ -184,18 +193,19 @@ module _ (w : World) (once : StandsOnce w) (numbered : IsNumberedWhileLive w) wh
       none_pending : u ≡ w.kernel.queues.next → pending_under u w.kernel.queues ≡ 0
       none_pending e = let now = numbered.live live in subst (λ (m : ℕ). pending_under m w.kernel.queues ≡ 0) (sym e) (next_unpending w.kernel.queues now.queues)
 
-      by : (b : Bool) → b ≡ true
+      by : (c : Bool) → c ≡ true
           → unperformed (record w {
-            kernel = record w.kernel { queues = cond b (record w.kernel.queues { forgets = drop n w.kernel.queues.forgets; next = w.kernel.queues.next + 2 }) w.kernel.queues };
+            kernel = record w.kernel { queues = cond c (record w.kernel.queues { forgets = drop n w.kernel.queues.forgets; next = w.kernel.queues.next + 2 }) w.kernel.queues };
             requests = w.requests ++ record { unique = w.kernel.queues.next; body = forget_body fs } ∷ [];
-          }) u ≤ 1
+          }) u ≤ b u
       by false e = absurd (true≢false (sym e))
       by true e = elim (cases_eq u w.kernel.queues.next) [
         | inl same ↦
             let none = none_later w (numbered.live live) live u (omega (arith, same)) in
             let unread = none_pending same in
             let one = at_most_one (nat_eq u w.kernel.queues.next) in
-            omega (arith, pushed, none, unread, one)
+            let enough = room live u (omega (arith, same)) in
+            omega (arith, pushed, none, unread, one, enough)
         | inr ne ↦
             let old = once u even in
             let other = ap one_if (other_is u w.kernel.queues.next ne) in
@@ -203,10 +213,10 @@ module _ (w : World) (once : StandsOnce w) (numbered : IsNumberedWhileLive w) wh
       ]
 
   -- A pending request is read.
-  read_once : is_live w.kernel.phase ≡ true → (k unique : ℕ) (kept : Purpose) (body : RequestBody) → queues.pending_at w.kernel.queues k ≡ Some (unique, kept) → StandsOnce (after_read_pending w k unique body)
+  read_once : is_live w.kernel.phase ≡ true → (k unique : ℕ) (kept : Purpose) (body : RequestBody) → queues.pending_at w.kernel.queues k ≡ Some (unique, kept) → AtMost b (after_read_pending w k unique body)
   read_once live k unique kept body there = by (slice_get (pending w.kernel.queues) k) refl there
     where
-      by : (o : Option (ℕ × QueuedRequest Purpose)) → slice_get (pending w.kernel.queues) k ≡ o → option_map {U = ℕ × Purpose} (λ (e : ℕ × QueuedRequest Purpose). (e.0, e.1.kept)) o ≡ Some (unique, kept) → StandsOnce (after_read_pending w k unique body)
+      by : (o : Option (ℕ × QueuedRequest Purpose)) → slice_get (pending w.kernel.queues) k ≡ o → option_map {U = ℕ × Purpose} (λ (e : ℕ × QueuedRequest Purpose). (e.0, e.1.kept)) o ≡ Some (unique, kept) → AtMost b (after_read_pending w k unique body)
       by None at e u even = absurd (cc)
       by (Some x) at e u even =
           let old = once u even in
@@ -220,27 +230,27 @@ module _ (w : World) (once : StandsOnce w) (numbered : IsNumberedWhileLive w) wh
           omega (arith, old, left, gone, pushed, tie)
 
   -- The server takes a request.
-  taken : (k unique : ℕ) (body : RequestBody) → slice_get w.requests k ≡ Some (record { unique = unique; body = body }) → StandsOnce (after_take w k unique (taking w.server unique body))
+  taken : (k unique : ℕ) (body : RequestBody) → slice_get w.requests k ≡ Some (record { unique = unique; body = body }) → AtMost b (after_take w k unique (taking w.server unique body))
   taken k unique body there = by body there
     where
       none_more : (held : Map HeldRequest) → ((u : ℕ) → held_under u held ≤ held_under u w.server.held) → (u : ℕ) → held_under u held ≤ held_under u w.server.held + cond (nat_eq u unique) 1 0
       none_more held few u = let le = few u in omega (arith, le)
 
-      interrupts : (original : ℕ) → slice_get w.requests k ≡ Some (record { unique = unique; body = interrupt original }) → (h : Option HeldRequest) → get w.server.held original ≡ h → (o : Option Kept) → StandsOnce (after_take w k unique (interrupting w.server unique original h o))
+      interrupts : (original : ℕ) → slice_get w.requests k ≡ Some (record { unique = unique; body = interrupt original }) → (h : Option HeldRequest) → get w.server.held original ≡ h → (o : Option Kept) → AtMost b (after_take w k unique (interrupting w.server unique original h o))
       interrupts original at (Some t) held o =
-          taken_once w once k unique (interrupt original) at (after_take w k unique (interrupting w.server unique original (Some t) o)) refl refl (none_more (put w.server.held original (record t { marked = true })) (put_held_again w.server.held original t (record t { marked = true }) held))
-      interrupts original at None held (Some x) = taken_once w once k unique (interrupt original) at (after_take w k unique (interrupting w.server unique original None (Some x))) refl refl (none_more w.server.held (λ u. omega arith))
-      interrupts original at None held None = taken_once w once k unique (interrupt original) at (after_take w k unique (interrupting w.server unique original None None)) refl refl (none_more w.server.held (λ u. omega arith))
+          taken_once b w once k unique (interrupt original) at (after_take w k unique (interrupting w.server unique original (Some t) o)) refl refl (none_more (put w.server.held original (record t { marked = true })) (put_held_again w.server.held original t (record t { marked = true }) held))
+      interrupts original at None held (Some x) = taken_once b w once k unique (interrupt original) at (after_take w k unique (interrupting w.server unique original None (Some x))) refl refl (none_more w.server.held (λ u. omega arith))
+      interrupts original at None held None = taken_once b w once k unique (interrupt original) at (after_take w k unique (interrupting w.server unique original None None)) refl refl (none_more w.server.held (λ u. omega arith))
 
-      by : (b : RequestBody) → slice_get w.requests k ≡ Some (record { unique = unique; body = b }) → StandsOnce (after_take w k unique (taking w.server unique b))
-      by init at = taken_once w once k unique init at (after_take w k unique (taking w.server unique init)) refl refl (put_held w.server.held unique _)
-      by (asks operation) at = taken_once w once k unique (asks operation) at (after_take w k unique (taking w.server unique (asks operation))) refl refl (put_held w.server.held unique _)
-      by (release o) at = taken_once w once k unique (release o) at (after_take w k unique (taking w.server unique (release o))) refl refl (put_held w.server.held unique _)
-      by (forget f) at = taken_once w once k unique (forget f) at (after_take w k unique (taking w.server unique (forget f))) refl refl (none_more w.server.held (λ u. omega arith))
-      by (batch_forget fs) at = taken_once w once k unique (batch_forget fs) at (after_take w k unique (taking w.server unique (batch_forget fs))) refl refl (none_more w.server.held (λ u. omega arith))
+      by : (x : RequestBody) → slice_get w.requests k ≡ Some (record { unique = unique; body = x }) → AtMost b (after_take w k unique (taking w.server unique x))
+      by init at = taken_once b w once k unique init at (after_take w k unique (taking w.server unique init)) refl refl (put_held w.server.held unique _)
+      by (asks operation) at = taken_once b w once k unique (asks operation) at (after_take w k unique (taking w.server unique (asks operation))) refl refl (put_held w.server.held unique _)
+      by (release o) at = taken_once b w once k unique (release o) at (after_take w k unique (taking w.server unique (release o))) refl refl (put_held w.server.held unique _)
+      by (forget f) at = taken_once b w once k unique (forget f) at (after_take w k unique (taking w.server unique (forget f))) refl refl (none_more w.server.held (λ u. omega arith))
+      by (batch_forget fs) at = taken_once b w once k unique (batch_forget fs) at (after_take w k unique (taking w.server unique (batch_forget fs))) refl refl (none_more w.server.held (λ u. omega arith))
       by (interrupt original) at = interrupts original at (get w.server.held original) refl (get w.server.kept original)
 
-  performed : (choice : ℕ → ℕ) (unique : ℕ) (t : HeldRequest) → StandsOnce (after_perform w unique (served choice w.server unique t))
+  performed : (choice : ℕ → ℕ) (unique : ℕ) (t : HeldRequest) → AtMost b (after_perform w unique (served choice w.server unique t))
   performed choice unique t = by (cond w.server.aborted None (Some (served choice w.server unique t).wire))
     where
       held : (u : ℕ) → held_under u (served choice w.server unique t).server.held ≤ held_under u w.server.held
@@ -250,64 +260,73 @@ module _ (w : World) (once : StandsOnce w) (numbered : IsNumberedWhileLive w) wh
           let few = gone_held w.server.held unique u in
           omega (arith, same, few)
 
-      by : (o : Option WireReply) → StandsOnce (replying (record w { server = (served choice w.server unique t).server }) w.server.next_copy unique o)
-      by None = fewer_once w once (replying (record w { server = (served choice w.server unique t).server }) w.server.next_copy unique None) refl refl held
-      by (Some wire) = fewer_once w once (replying (record w { server = (served choice w.server unique t).server }) w.server.next_copy unique (Some wire)) refl refl held
+      by : (o : Option WireReply) → AtMost b (replying (record w { server = (served choice w.server unique t).server }) w.server.next_copy unique o)
+      by None = fewer_once b w once (replying (record w { server = (served choice w.server unique t).server }) w.server.next_copy unique None) refl refl held
+      by (Some wire) = fewer_once b w once (replying (record w { server = (served choice w.server unique t).server }) w.server.next_copy unique (Some wire)) refl refl held
 
   -- The kernel takes a reply.
-  written : (k : ℕ) (sent : Sent) → (is_live w.kernel.phase ≡ true → IsSound (reply_written w.kernel sent.unique sent.wire).1.queues) → StandsOnce (after_write w k sent (reply_written w.kernel sent.unique sent.wire))
+  written : (k : ℕ) (sent : Sent) → (is_live w.kernel.phase ≡ true → IsSound (reply_written w.kernel sent.unique sent.wire).1.queues) → AtMost b (after_write w k sent (reply_written w.kernel sent.unique sent.wire))
   written k sent sound = by (is_live w.kernel.phase) refl
     where
-      heard : is_live w.kernel.phase ≡ true → Hears w.kernel (reply_written w.kernel sent.unique sent.wire).1 → StandsOnce (record w { kernel = (reply_written w.kernel sent.unique sent.wire).1 })
+      heard : is_live w.kernel.phase ≡ true → Hears w.kernel (reply_written w.kernel sent.unique sent.wire).1 → AtMost b (record w { kernel = (reply_written w.kernel sent.unique sent.wire).1 })
       heard live (goes_on still rises calls) u even =
-          kernel_once w once (numbered.live live) live (reply_written w.kernel sent.unique sent.wire).1
+          kernel_once b w room once (numbered.live live) live (reply_written w.kernel sent.unique sent.wire).1
           (moves_fewer w.kernel.queues (reply_written w.kernel sent.unique sent.wire).1.queues (written_moves w.kernel sent.unique sent.wire still)) (sound live) u even
       heard live (ends dead idle uncounted) u even =
           let old = once u even in
           let none : pending_under u (reply_written w.kernel sent.unique sent.wire).1.queues ≡ 0 = ap (pending_under u) idle in
           omega (arith, old, none)
 
-      by : (b : Bool) → is_live w.kernel.phase ≡ b → StandsOnce (record w { kernel = (reply_written w.kernel sent.unique sent.wire).1 })
+      by : (c : Bool) → is_live w.kernel.phase ≡ c → AtMost b (record w { kernel = (reply_written w.kernel sent.unique sent.wire).1 })
       by true live = let now = numbered.live live in heard live (written_heard w.kernel live now.queues (calls_of w now) sent.unique sent.wire)
-      by false dead = fewer_once w once (record w { kernel = (reply_written w.kernel sent.unique sent.wire).1 }) (unheard w.kernel (numbered.idle dead) sent.unique sent.wire) refl (λ u. omega arith)
+      by false dead = fewer_once b w once (record w { kernel = (reply_written w.kernel sent.unique sent.wire).1 }) (unheard w.kernel (numbered.idle dead) sent.unique sent.wire) refl (λ u. omega arith)
 
   -- A call begins.
-  called : (call : Call) → (is_live w.kernel.phase ≡ true → IsSound (call_begun w.kernel call).queues) → IsNumberedWhileLive (after_call w call) → StandsOnce (after_call w call)
+  called : (call : Call) → (is_live w.kernel.phase ≡ true → IsSound (call_begun w.kernel call).queues) → IsNumberedWhileLive (after_call w call) → AtMost b (after_call w call)
   called call sound after = by (is_live w.kernel.phase) refl
     where
-      by : (b : Bool) → is_live w.kernel.phase ≡ b → StandsOnce (after_call w call)
-      by true live u even = kernel_once w once (numbered.live live) live (call_begun w.kernel call) (moves_fewer w.kernel.queues (call_begun w.kernel call).queues (begun_moves w.kernel call)) (sound live) u even
+      by : (c : Bool) → is_live w.kernel.phase ≡ c → AtMost b (after_call w call)
+      by true live u even = kernel_once b w room once (numbered.live live) live (call_begun w.kernel call) (moves_fewer w.kernel.queues (call_begun w.kernel call).queues (begun_moves w.kernel call)) (sound live) u even
       by false dead u even =
           let old = once u even in
           let goes = begun_goes_on w.kernel call in
           let none : pending_under u (call_begun w.kernel call).queues ≡ 0 = ap (pending_under u) (after.idle (ap is_live goes.phase ∙ dead)) in
           omega (arith, old, none)
 
-  stay : (choice : ℕ → ℕ) (e : Event) (o : Outcome) (after : World) → IsNumberedWhileLive after → (is_live w.kernel.phase ≡ true → IsSound after.kernel.queues) → Happened choice w e o after → StandsOnce after
-  stay choice e o after coming sound (by_mount f m idle) = λ u even. mounted_once u
-    where
-      mounted_once : (u : ℕ) → unperformed (after_mount w f m) u ≤ 1
-      mounted_once u = let one = at_most_one (nat_eq u 2) in omega (arith, one)
-  stay choice e o after coming sound (by_call call ready room within) = called call sound coming
-  stay choice e o after coming sound (by_read_interrupt original rest live there within) = interrupt_once original
-  stay choice e o after coming sound (by_read_forgets n live free can within) = forgets_once live n (take n w.kernel.queues.forgets) can
-  stay choice e o after coming sound (by_read_pending k unique kept body live free there says within) = read_once live k unique kept body there
-  stay choice e o after coming sound (by_take k r there within) = taken k r.unique r.body there
-  stay choice e o after coming sound (by_perform unique t there within) = performed choice unique t
-  stay choice e o after coming sound (by_again unique kept there current within) = fewer_once w once after refl refl (λ u. omega arith)
-  stay choice e o after coming sound (by_write k sent there within) = written k sent sound
-  stay choice e o after coming sound (by_settle k result there) = fewer_once w once after refl refl (λ u. settled_held w result (get w.server.copies result.number) u)
-  stay choice e o after coming sound (by_signal call fatal state live there within) =
-      kernel_once w once (numbered.live live) live after.kernel (moves_fewer w.kernel.queues after.kernel.queues (signalled_moves w.kernel call state fatal)) (sound live)
-  stay choice e o after coming sound (by_tick ms timely) = once
-  stay choice e o after coming sound (by_drop directory name bound live there) = once
-  stay choice e o after coming sound (by_evict node counted live there unused) = once
-  stay choice e o after coming sound (by_abort live) = λ u even. let old = once u even in omega (arith, old)
+  -- INIT is pending after a mount.
+  mounted_once : (f m : ℕ) → 1 ≤ b 2 → (u : ℕ) → unperformed (after_mount w f m) u ≤ b u
+  mounted_once f m first u = elim (cases_eq u 2) [
+    | inl e ↦ let one = at_most_one (nat_eq u 2) in let enough : 1 ≤ b u = subst (λ (n : ℕ). 1 ≤ b n) (sym e) first in omega (arith, one, enough)
+    | inr ne ↦ let none = ap one_if (other_is u 2 ne) in omega (arith, none)
+  ]
+
+  stay : 1 ≤ b 2 → (choice : ℕ → ℕ) (e : Event) (o : Outcome) (after : World) → IsNumberedWhileLive after → (is_live w.kernel.phase ≡ true → IsSound after.kernel.queues) → Happened choice w e o after → AtMost b after
+  stay first choice e o after coming sound (by_mount f m idle) = λ u even. mounted_once f m first u
+  stay first choice e o after coming sound (by_call call ready room within) = called call sound coming
+  stay first choice e o after coming sound (by_read_interrupt original rest live there within) = interrupt_once original
+  stay first choice e o after coming sound (by_read_forgets n live free can within) = forgets_once live n (take n w.kernel.queues.forgets) can
+  stay first choice e o after coming sound (by_read_pending k unique kept body live free there says within) = read_once live k unique kept body there
+  stay first choice e o after coming sound (by_take k r there within) = taken k r.unique r.body there
+  stay first choice e o after coming sound (by_perform unique t there within) = performed choice unique t
+  stay first choice e o after coming sound (by_again unique kept there current within) = fewer_once b w once after refl refl (λ u. omega arith)
+  stay first choice e o after coming sound (by_write k sent there within) = written k sent sound
+  stay first choice e o after coming sound (by_settle k result there) = fewer_once b w once after refl refl (λ u. settled_held w result (get w.server.copies result.number) u)
+  stay first choice e o after coming sound (by_signal call fatal state live there within) =
+      kernel_once b w room once (numbered.live live) live after.kernel (moves_fewer w.kernel.queues after.kernel.queues (signalled_moves w.kernel call state fatal)) (sound live)
+  stay first choice e o after coming sound (by_tick ms timely) = once
+  stay first choice e o after coming sound (by_drop directory name bound live there) = once
+  stay first choice e o after coming sound (by_evict node counted live there unused) = once
+  stay first choice e o after coming sound (by_abort live) = λ u even. let old = once u even in omega (arith, old)
+
+-- A bound that leaves room stays one, whatever the event.
+pub bounded_stays : (b : ℕ → ℕ) (choice : ℕ → ℕ) (w : World) → HasRoom b w → AtMost b w → IsNumberedWhileLive w → 1 ≤ b 2 → (e : Event) (o : Outcome) (after : World) → step choice w e ≡ Ok (o, after) → AtMost b after
+bounded_stays b choice w room once numbered first e o after stepped =
+    stay b w room once numbered first choice e o after (numbers_stay choice w numbered e o after stepped) (λ live. let now = numbered.live live in stays_sound choice w now.queues o after e stepped) (happened choice w o after e stepped)
 
 -- A request that is not performed stands once, whatever the event.
 pub stands_once : (choice : ℕ → ℕ) (w : World) → StandsOnce w → IsNumberedWhileLive w → (e : Event) (o : Outcome) (after : World) → step choice w e ≡ Ok (o, after) → StandsOnce after
 stands_once choice w once numbered e o after stepped =
-    stay w once numbered choice e o after (numbers_stay choice w numbered e o after stepped) (λ live. let now = numbered.live live in stays_sound choice w now.queues o after e stepped) (happened choice w o after e stepped)
+    bounded_stays (λ u. 1) choice w (λ live u later. omega arith) once numbered (omega arith) e o after stepped
 
 pub first_once : StandsOnce first_world
 first_once u even = omega arith
