@@ -64,6 +64,7 @@ pub mod LookupsStay
 pub mod QueueMoves
 pub mod PendingCounts
 pub mod StandsOnce
+pub mod RequestsSound
 pub mod CopiesSound
 pub mod NumbersStay
 pub mod FirstSteps

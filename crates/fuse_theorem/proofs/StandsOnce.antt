@@ -24,6 +24,7 @@ use Rattle.fuse_spec.specs.Performs.{served}
 use Rattle.fuse_spec.specs.Replies.{reply_written}
 use Rattle.fuse_spec.specs.Worlds.{World, Sent, replying, first_world, forget_body, server_settled, after_mount, after_call, after_read_interrupt, after_read_forgets, after_read_pending, after_take, after_perform, after_write}
 use Rattle.fuse_spec.specs.Events.{Event, Outcome}
+use Rattle.fuse_spec.specs.Events as event
 use Rattle.fuse_spec.specs.Steps.{step}
 use Rattle.fuse_spec.proofs.QueueCounts.{key_count, count_by-push}
 use Rattle.fuse_spec.proofs.QueueReadings.{pending-read_pending}
@@ -46,7 +47,7 @@ use Rattle.fuse_theorem.proofs.QueuesSound.{stays_sound}
 abbrev sent_under : ℕ → List Request → ℕ
 sent_under u requests = count_by (λ (r : Request). nat_eq u r.unique) requests
 
-abbrev one_held : Option HeldRequest → ℕ
+abbrev pub one_held : Option HeldRequest → ℕ
 one_held o = cond (is_some o) 1 0
 
 abbrev held_under : ℕ → Map HeldRequest → ℕ
@@ -82,6 +83,10 @@ none_later w numbered live u later =
     none_held : (o : Option HeldRequest) → get w.server.held u ≡ o → held_under u w.server.held ≡ 0
     none_held None at = ap one_held at
     none_held (Some t) at = let low = numbered.held_below live u t at in absurd (omega (arith, low, later))
+
+abbrev pub is_mount : Event → Bool
+is_mount (event.mount found_ms missing_ms) = true
+is_mount e = false
 
 -- A bound on how often a number that is not performed stands, which leaves room for numbers that are not drawn yet.
 abbrev pub AtMost : (ℕ → ℕ) → World → Type 0
@@ -300,33 +305,33 @@ module _ (b : ℕ → ℕ) (w : World) (room : HasRoom b w) (once : AtMost b w) 
     | inr ne ↦ let none = ap one_if (other_is u 2 ne) in omega (arith, none)
   ]
 
-  stay : 1 ≤ b 2 → (choice : ℕ → ℕ) (e : Event) (o : Outcome) (after : World) → IsNumberedWhileLive after → (is_live w.kernel.phase ≡ true → IsSound after.kernel.queues) → Happened choice w e o after → AtMost b after
-  stay first choice e o after coming sound (by_mount f m idle) = λ u even. mounted_once f m first u
-  stay first choice e o after coming sound (by_call call ready room within) = called call sound coming
-  stay first choice e o after coming sound (by_read_interrupt original rest live there within) = interrupt_once original
-  stay first choice e o after coming sound (by_read_forgets n live free can within) = forgets_once live n (take n w.kernel.queues.forgets) can
-  stay first choice e o after coming sound (by_read_pending k unique kept body live free there says within) = read_once live k unique kept body there
-  stay first choice e o after coming sound (by_take k r there within) = taken k r.unique r.body there
-  stay first choice e o after coming sound (by_perform unique t there within) = performed choice unique t
-  stay first choice e o after coming sound (by_again unique kept there current within) = fewer_once b w once after refl refl (λ u. omega arith)
-  stay first choice e o after coming sound (by_write k sent there within) = written k sent sound
-  stay first choice e o after coming sound (by_settle k result there) = fewer_once b w once after refl refl (λ u. settled_held w result (get w.server.copies result.number) u)
-  stay first choice e o after coming sound (by_signal call fatal state live there within) =
+  stay : (choice : ℕ → ℕ) (e : Event) (o : Outcome) (after : World) → (is_mount e ≡ true → 1 ≤ b 2) → IsNumberedWhileLive after → (is_live w.kernel.phase ≡ true → IsSound after.kernel.queues) → Happened choice w e o after → AtMost b after
+  stay choice e o after first coming sound (by_mount f m idle) = λ u even. mounted_once f m (first refl) u
+  stay choice e o after first coming sound (by_call call ready room within) = called call sound coming
+  stay choice e o after first coming sound (by_read_interrupt original rest live there within) = interrupt_once original
+  stay choice e o after first coming sound (by_read_forgets n live free can within) = forgets_once live n (take n w.kernel.queues.forgets) can
+  stay choice e o after first coming sound (by_read_pending k unique kept body live free there says within) = read_once live k unique kept body there
+  stay choice e o after first coming sound (by_take k r there within) = taken k r.unique r.body there
+  stay choice e o after first coming sound (by_perform unique t there within) = performed choice unique t
+  stay choice e o after first coming sound (by_again unique kept there current within) = fewer_once b w once after refl refl (λ u. omega arith)
+  stay choice e o after first coming sound (by_write k sent there within) = written k sent sound
+  stay choice e o after first coming sound (by_settle k result there) = fewer_once b w once after refl refl (λ u. settled_held w result (get w.server.copies result.number) u)
+  stay choice e o after first coming sound (by_signal call fatal state live there within) =
       kernel_once b w room once (numbered.live live) live after.kernel (moves_fewer w.kernel.queues after.kernel.queues (signalled_moves w.kernel call state fatal)) (sound live)
-  stay first choice e o after coming sound (by_tick ms timely) = once
-  stay first choice e o after coming sound (by_drop directory name bound live there) = once
-  stay first choice e o after coming sound (by_evict node counted live there unused) = once
-  stay first choice e o after coming sound (by_abort live) = λ u even. let old = once u even in omega (arith, old)
+  stay choice e o after first coming sound (by_tick ms timely) = once
+  stay choice e o after first coming sound (by_drop directory name bound live there) = once
+  stay choice e o after first coming sound (by_evict node counted live there unused) = once
+  stay choice e o after first coming sound (by_abort live) = λ u even. let old = once u even in omega (arith, old)
 
 -- A bound that leaves room stays one, whatever the event.
-pub bounded_stays : (b : ℕ → ℕ) (choice : ℕ → ℕ) (w : World) → HasRoom b w → AtMost b w → IsNumberedWhileLive w → 1 ≤ b 2 → (e : Event) (o : Outcome) (after : World) → step choice w e ≡ Ok (o, after) → AtMost b after
-bounded_stays b choice w room once numbered first e o after stepped =
-    stay b w room once numbered first choice e o after (numbers_stay choice w numbered e o after stepped) (λ live. let now = numbered.live live in stays_sound choice w now.queues o after e stepped) (happened choice w o after e stepped)
+pub bounded_stays : (b : ℕ → ℕ) (choice : ℕ → ℕ) (w : World) → HasRoom b w → AtMost b w → IsNumberedWhileLive w → (e : Event) (o : Outcome) (after : World) → (is_mount e ≡ true → 1 ≤ b 2) → step choice w e ≡ Ok (o, after) → AtMost b after
+bounded_stays b choice w room once numbered e o after first stepped =
+    stay b w room once numbered choice e o after first (numbers_stay choice w numbered e o after stepped) (λ live. let now = numbered.live live in stays_sound choice w now.queues o after e stepped) (happened choice w o after e stepped)
 
 -- A request that is not performed stands once, whatever the event.
 pub stands_once : (choice : ℕ → ℕ) (w : World) → StandsOnce w → IsNumberedWhileLive w → (e : Event) (o : Outcome) (after : World) → step choice w e ≡ Ok (o, after) → StandsOnce after
 stands_once choice w once numbered e o after stepped =
-    bounded_stays (λ u. 1) choice w (λ live u later. omega arith) once numbered (omega arith) e o after stepped
+    bounded_stays (λ u. 1) choice w (λ live u later. omega arith) once numbered e o after (λ mount. omega arith) stepped
 
 pub first_once : StandsOnce first_world
 first_once u even = omega arith
