@@ -237,9 +237,10 @@ module _ (w : World) (p : Plain) (same : Alike w p) (o : Outcome) (last : World)
       by None at live f = absurd (cc)
       by (Some state) at live f =
           let moved = call_signalled w.kernel call state fatal in
+          let numbers = needs.0.live in
           let went = going_ok (event.interrupted call moved.0) (record w { kernel = moved.1 }) o last f in
           led p (event.intr call fatal) (event.interrupted call moved.0) (record w { kernel = moved.1 }) o last went.leads
-          (signal_goes w p needs.0 (one_to_one w.kernel.nodes w.server.nodes needs.1.0) same live call state at fatal needs.1.1)
+          (signal_goes w p (numbers live) (one_to_one w.kernel.nodes w.server.nodes needs.1.0) same live call state at fatal needs.1.1)
 
   ticks : (ms : ℕ) (choice : ℕ → ℕ) → step choice w (event.tick ms) ≡ Ok (o, last) → Moves p (event.tick ms) o last
   ticks ms choice e =

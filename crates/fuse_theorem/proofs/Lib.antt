@@ -65,6 +65,7 @@ pub mod QueueMoves
 pub mod PendingCounts
 pub mod StandsOnce
 pub mod RequestsSound
+pub mod WorldSound
 pub mod CopiesSound
 pub mod NumbersStay
 pub mod FirstSteps

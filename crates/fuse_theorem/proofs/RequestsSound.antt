@@ -1,8 +1,7 @@
 -- A request that is not performed has no reply, whatever happens.
-use Rattle.std.proofs.Common.{◌≡◌, ◌≢◌, ℕ, ◌+◌, ◌≤◌, ◌<◌, Bool, true, false, true≢false, ◌&&◌, cond, List, [], ◌∷◌, ◌++◌, take, Option, Some, None, Ok, nat_eq, is_some, slice_get, get_or, option_map, refl, ap, sym, subst, ◌∙◌, arith, inl, inr, All}
+use Rattle.std.proofs.Common.{◌≡◌, ◌≢◌, ℕ, ◌≤◌, Bool, true, false, true≢false, ◌&&◌, cond, List, [], ◌∷◌, ◌++◌, take, Option, Some, None, Ok, nat_eq, slice_get, option_map, refl, ap, sym, subst, ◌∙◌, arith, All}
 use Rattle.std.specs.Prelude.{◌%◌, nat_le}
 use Rattle.std.specs.List.{remove as without_at}
-use Rattle.std.proofs.lemmas.Bool.{cases_eq}
 use Rattle.std.proofs.lemmas.Bool.Decides.{nat_tests}
 use Rattle.std.proofs.lemmas.List.Elements.{All-nil, All-push}
 use Rattle.fuse_spec.specs.declared.Opened.{Opened}
@@ -18,21 +17,20 @@ use Rattle.fuse_spec.specs.Messages.{Forget, Request, RequestBody, init, asks, r
 use Rattle.fuse_spec.specs.Operations.{failed}
 use Rattle.fuse_spec.specs.Uniques.{interrupt_number}
 use Rattle.fuse_spec.specs.Vfs.{CallState, asked}
-use Rattle.fuse_spec.specs.Queues.{QueueState, IsSound, is_unread, pending}
+use Rattle.fuse_spec.specs.Queues.{is_unread, pending}
 use Rattle.fuse_spec.specs.QueueCalls.{pending_at}
 use Rattle.fuse_spec.specs.Kernel.{Kernel, is_live, asked_by, body_of}
-use Rattle.fuse_spec.specs.Server.{Server, HeldRequest, Kept, Copy}
-use Rattle.fuse_spec.specs.Taking.{TakeResult, taking, interrupting}
+use Rattle.fuse_spec.specs.Server.{HeldRequest, Kept, Copy}
+use Rattle.fuse_spec.specs.Taking.{taking, interrupting}
 use Rattle.fuse_spec.specs.Performs.{performed, served}
-use Rattle.fuse_spec.specs.Worlds.{World, Sent, replying, first_world, forget_body, server_settled, after_take, after_perform, after_again, after_write, after_settle}
+use Rattle.fuse_spec.specs.Worlds.{World, Sent, replying, first_world, forget_body, after_take, after_perform, after_settle}
 use Rattle.fuse_spec.specs.Events.{Event, Outcome}
 use Rattle.fuse_spec.specs.Steps.{step}
 use Rattle.fuse_spec.proofs.QueueCounts.{key_count-found}
 use Rattle.fuse_spec.proofs.Tables.{get_put_there, get_gone_here}
 use Rattle.fuse_theorem.specs.FirstPath.{unperformed}
-use Rattle.fuse_theorem.specs.Numbering.{IsNumbered, IsNumberedWhileLive}
-use Rattle.fuse_theorem.specs.Unperformed.{StandsOnce, BearsNumber, IsUnanswered, RequestsSound}
-use Rattle.fuse_theorem.proofs.Finding.{other_is}
+use Rattle.fuse_theorem.specs.Numbering.{IsNumberedWhileLive}
+use Rattle.fuse_theorem.specs.Unperformed.{BearsNumber, IsUnanswered, RequestsSound}
 use Rattle.fuse_theorem.proofs.FirstReads.{number_even}
 use Rattle.fuse_theorem.proofs.Happened.{Happened, by_mount, by_call, by_read_interrupt, by_read_forgets, by_read_pending, by_take, by_perform, by_again, by_write, by_settle, by_signal, by_tick, by_drop, by_evict, by_abort, happened}
 use Rattle.fuse_theorem.proofs.NodesSound.{left_none}

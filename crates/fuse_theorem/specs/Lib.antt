@@ -6,3 +6,4 @@ pub mod Conditions
 pub mod FirstPath
 pub mod EachEvent
 pub mod Unperformed
+pub mod WorldSound

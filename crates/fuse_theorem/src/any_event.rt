@@ -50,7 +50,8 @@ ghost use Rattle.fuse_theorem.specs.Numbering.{IsNumbered, IsNumberedWhileLive, 
 ghost use Rattle.fuse_theorem.specs.ServerTables.{ServerSound};
 ghost use Rattle.fuse_theorem.specs.Copies.{CopiesSound};
 ghost use Rattle.fuse_theorem.specs.Lookups.{LookupsSound};
-ghost use Rattle.fuse_theorem.specs.Unperformed.{StandsOnce};
+ghost use Rattle.fuse_theorem.specs.Unperformed.{StandsOnce, RequestsSound};
+ghost use Rattle.fuse_theorem.specs.WorldSound.{WorldSound, NeedsNoMore};
 ghost use Rattle.fuse_theorem.specs.Conditions.{OneId, KnownAreHeld, TablesSound, CanPerform, CanDecline, CanRelease, IsReply, IsDeclined, UnreadAreUnsent, HoldsAll, HoldsOpens, IsInterrupt, IsUnsent, awaiting};
 
 /// The world before its first mount is alike to the plain world with the root alone.
@@ -277,11 +278,20 @@ pub fn lookups_stay_balanced()
     ensures known { (w : World) → LookupsSound w → KnownAreHeld w }
 {}
 
-/// A request that is not performed stands once, whatever the event: pending, on the link, or held. So what is unread is neither on the link nor held.
-pub fn requests_stand_once()
-    ensures at_first { StandsOnce first_world }
-    ensures always { (choice : ℕ → ℕ) (w : World) → StandsOnce w → IsNumberedWhileLive w → (o : Outcome) (after : World) (e : Event) → step choice w e ≡ Ok (o, after) → StandsOnce after }
+/// A request that is not performed stands once, whatever the event: pending, on the link, or held; and no reply to it is on the link or kept. So
+/// what is unread is neither on the link nor held.
+pub fn requests_stay_sound()
+    ensures at_first { RequestsSound first_world }
+    ensures always { (choice : ℕ → ℕ) (w : World) → RequestsSound w → IsNumberedWhileLive w → (o : Outcome) (after : World) (e : Event) → step choice w e ≡ Ok (o, after) → RequestsSound after }
     ensures unread { (w : World) → StandsOnce w → IsSound w.kernel.queues → UnreadAreUnsent w }
+{}
+
+/// All of that together, as one that every event keeps; and most events need no more (`WorldSound.antt`): the law for any event holds of them with
+/// no condition but that the worlds are alike.
+pub fn worlds_stay_sound()
+    ensures at_first { WorldSound first_world }
+    ensures always { (w : World) → WorldSound w → (e : Event) (o : Outcome) (after : World) → Happens w e o after → WorldSound after }
+    ensures needs { (w : World) → WorldSound w → (choice : ℕ → ℕ) (p : Plain) (e : Event) → NeedsNoMore e → Needs choice w p e }
 {}
 
 /// After a mount, and after an abort, no node means anything but the root.
