@@ -66,6 +66,7 @@ pub mod PendingCounts
 pub mod StandsOnce
 pub mod RequestsSound
 pub mod WorldSound
+pub mod AtRest
 pub mod CopiesSound
 pub mod NumbersStay
 pub mod FirstSteps

@@ -52,7 +52,7 @@ is_held_if t id generation held =
     let d = held.1 in
     ap (is_row_of generation) d.there ∙ subst (λ (n : ℕ). nat_eq n generation ≡ true) (sym d.same_generation) (same_is generation)
 
-row_there : (t : NodeTable) (id generation : ℕ) → 2 ≤ id → IsHeldAs t id generation → get t.rows id ≢ None
+pub row_there : (t : NodeTable) (id generation : ℕ) → 2 ≤ id → IsHeldAs t id generation → get t.rows id ≢ None
 row_there t id generation low held none =
     let d = held.1 in
     let unknown : row_of t id ≡ None = ap (λ (b : Bool). cond b (Some root_row) (get t.rows id)) (other_is id 1 (λ e. absurd (omega (arith, e, low)))) ∙ none in

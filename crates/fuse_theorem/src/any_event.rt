@@ -49,6 +49,7 @@ ghost use Rattle.std.specs.FinMap.{is_sorted};
 ghost use Rattle.fuse_theorem.specs.Numbering.{IsNumbered, IsNumberedWhileLive, IsOneToOne};
 ghost use Rattle.fuse_theorem.specs.ServerTables.{ServerSound};
 ghost use Rattle.fuse_theorem.specs.Copies.{CopiesSound};
+ghost use Rattle.fuse_spec.specs.Counts.{AtRest, SameNode};
 ghost use Rattle.fuse_theorem.specs.Lookups.{LookupsSound};
 ghost use Rattle.fuse_theorem.specs.Unperformed.{StandsOnce, RequestsSound};
 ghost use Rattle.fuse_theorem.specs.WorldSound.{WorldSound, NeedsNoMore};
@@ -276,6 +277,11 @@ pub fn lookups_stay_balanced()
     ensures at_first { LookupsSound first_world }
     ensures always { (w : World) → LookupsSound w → (e : Event) (o : Outcome) (after : World) → Happens w e o after → LookupsSound after }
     ensures known { (w : World) → LookupsSound w → KnownAreHeld w }
+{}
+
+/// Where nothing is under way, the kernel and the server count the same nodes, as often and under the same generations.
+pub fn same_nodes_at_rest()
+    ensures { (w : World) → LookupsSound w → AtRest w → (id : ℕ) → SameNode (get w.kernel.nodes id) (get w.server.nodes.rows id) }
 {}
 
 /// A request that is not performed stands once, whatever the event: pending, on the link, or held; and no reply to it is on the link or kept. So
