@@ -67,6 +67,7 @@ pub mod StandsOnce
 pub mod RequestsSound
 pub mod WorldSound
 pub mod AtRest
+pub mod KeptOnLink
 pub mod CopiesSound
 pub mod NumbersStay
 pub mod FirstSteps

@@ -120,7 +120,7 @@ signalled_moves k call state fatal = by (request_of k call)
 
 -- ---- replies
 
-replied_moves : (k : Kernel) (call : ℕ) (wire : WireReply) (o : Option (CallState Opened)) → QueueMoves k.queues (replied_to_call k call wire o).1.queues
+pub replied_moves : (k : Kernel) (call : ℕ) (wire : WireReply) (o : Option (CallState Opened)) → QueueMoves k.queues (replied_to_call k call wire o).1.queues
 replied_moves k call wire None = stays k.queues k.queues refl refl
 replied_moves k call wire (Some state) = by (goes_with (asked state) wire)
   where

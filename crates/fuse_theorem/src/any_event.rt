@@ -48,7 +48,7 @@ ghost use Rattle.std.specs.Ordering.{nat_cmp};
 ghost use Rattle.std.specs.FinMap.{is_sorted};
 ghost use Rattle.fuse_theorem.specs.Numbering.{IsNumbered, IsNumberedWhileLive, IsOneToOne};
 ghost use Rattle.fuse_theorem.specs.ServerTables.{ServerSound};
-ghost use Rattle.fuse_theorem.specs.Copies.{CopiesSound};
+ghost use Rattle.fuse_theorem.specs.Copies.{CopiesSound, KeptAreSent};
 ghost use Rattle.fuse_spec.specs.Counts.{AtRest, SameNode};
 ghost use Rattle.fuse_theorem.specs.Lookups.{LookupsSound};
 ghost use Rattle.fuse_theorem.specs.Unperformed.{StandsOnce, RequestsSound};
@@ -298,6 +298,12 @@ pub fn worlds_stay_sound()
     ensures at_first { WorldSound first_world }
     ensures always { (w : World) → WorldSound w → (e : Event) (o : Outcome) (after : World) → Happens w e o after → WorldSound after }
     ensures needs { (w : World) → WorldSound w → (choice : ℕ → ℕ) (p : Plain) (e : Event) → NeedsNoMore e → Needs choice w p e }
+{}
+
+/// While its request is unanswered, a kept reply has a copy on the link, whatever the event.
+pub fn kept_replies_stay_sent()
+    ensures at_first { KeptAreSent first_world }
+    ensures always { (w : World) → WorldSound w → KeptAreSent w → (e : Event) (o : Outcome) (after : World) → Happens w e o after → KeptAreSent after }
 {}
 
 /// After a mount, and after an abort, no node means anything but the root.
