@@ -1,6 +1,8 @@
 -- A call begins in both worlds.
-use Rattle.std.proofs.Common.{◌≡◌, ℕ, ◌+◌, ◌≤◌, Bool, true, false, true≢false, not, ◌&&◌, cond, Option, Some, None, nat_eq, is_some, refl, ap, sym, subst, ◌∙◌, arith}
+use Rattle.std.proofs.Common.{◌≡◌, ℕ, ◌+◌, ◌≤◌, Bool, true, false, true≢false, not, ◌&&◌, cond, Option, Some, None, nat_eq, is_some, refl, ap, sym, subst, ◌∙◌, arith, All}
 use Rattle.fuse_spec.specs.declared.Opened.{Opened}
+use Rattle.std.proofs.lemmas.List.Elements.{All-nil}
+use Rattle.fuse_spec.specs.declared.Purpose.{Purpose}
 use Rattle.fuse_spec.specs.declared.Phase.{Phase}
 use Rattle.fuse_spec.specs.declared.Phase.TheVariants.{Down, Starting, Ready, Aborted}
 use Rattle.fuse_spec.specs.Maps.{get, put}
@@ -9,7 +11,7 @@ use Rattle.fuse_spec.specs.Calls.{Call}
 use Rattle.fuse_spec.specs.Calls as call
 use Rattle.fuse_spec.specs.Vfs.{Vfs, Advance, begun, after_beginning, numbered}
 use Rattle.fuse_spec.specs.Begins.{closing}
-use Rattle.fuse_spec.specs.Queues.{IsSound}
+use Rattle.fuse_spec.specs.Queues.{QueueState, IsSound, empty_queues, pending}
 use Rattle.fuse_spec.specs.Kernel.{Kernel, is_live, is_aborted, asking_for, advanced, closing_of, closed_by}
 use Rattle.fuse_spec.specs.Worlds.{World, after_call}
 use Rattle.fuse_spec.specs.Steps.{is_ready}
@@ -17,8 +19,8 @@ use Rattle.fuse_spec.specs.Events as event
 use Rattle.fuse_spec.specs.Plain.{Plain, Ask, going_on, call_begun}
 use Rattle.fuse_spec.specs.PlainSteps.{Takes, where_so}
 use Rattle.fuse_spec.specs.Denotes.{MeansIn, MeansOpenIn}
-use Rattle.fuse_spec.specs.Alike.{Alike}
-use Rattle.fuse_theorem.specs.Numbering.{IsOneToOne, IsNumbered, requests_for}
+use Rattle.fuse_spec.specs.Alike.{PurposeAsked, Alike}
+use Rattle.fuse_theorem.specs.Numbering.{IsOneToOne, IsNumbered, IsNumberedWhileLive, requests_for}
 use Rattle.fuse_theorem.proofs.Finding.{same_is, absent}
 use Rattle.fuse_theorem.proofs.Starting.{begun_alike}
 use Rattle.fuse_theorem.proofs.Advancing.{begun_alone}
@@ -45,6 +47,14 @@ live_if_ready Down r a = cc
 live_if_ready Starting r a = refl
 live_if_ready Ready r a = refl
 live_if_ready Aborted r a = absurd (cc)
+
+abbrev vfs_of : {O : Type 0} → Advance O → Vfs O
+vfs_of next = next.vfs
+
+-- the plain world has the call's number too, and this label is free
+may_begin : (w : World) (p : Plain) → Alike w p → (label : ℕ) → get p.asks label ≡ None → (nat_eq w.kernel.vfs.next_call p.vfs.next_call && not (is_some (get p.asks label))) ≡ true
+may_begin w p same label fresh = ap (λ (n : ℕ). nat_eq w.kernel.vfs.next_call n && not (is_some (get p.asks label))) (sym same.vfs.next_call)
+    ∙ ap (λ (b : Bool). b && not (is_some (get p.asks label))) (same_is w.kernel.vfs.next_call) ∙ ap (λ (o : Option Ask). not (is_some o)) fresh
 
 module _ (w : World) (p : Plain) (numbering : IsNumbered w) (one : IsOneToOne (MeansIn w)) (same : Alike w p) where
   pub none_new : requests_for w.kernel.vfs.next_call w.kernel.queues ≡ 0
@@ -99,15 +109,11 @@ module _ (w : World) (p : Plain) (numbering : IsNumbered w) (one : IsOneToOne (M
           subst (λ (l : Kernel). Alike (record w { kernel = closing_of l (Some f) }) q) (sym quiet)
           (closed_alike (record w { kernel = record k { vfs = next.vfs } }) q numbering.queues live (subst (λ (l : Kernel). Alike (record w { kernel = l }) q) quiet went) f)
 
-  both_hold : (label : ℕ) → get p.asks label ≡ None → (nat_eq w.kernel.vfs.next_call p.vfs.next_call && not (is_some (get p.asks label))) ≡ true
-  both_hold label fresh = ap (λ (n : ℕ). nat_eq w.kernel.vfs.next_call n && not (is_some (get p.asks label))) (sym same.vfs.next_call)
-      ∙ ap (λ (b : Bool). b && not (is_some (get p.asks label))) (same_is w.kernel.vfs.next_call) ∙ ap (λ (o : Option Ask). not (is_some o)) fresh
-
   goes_under : (call : Call) (label : ℕ) → is_ready w.kernel.phase ≡ true → get p.asks label ≡ None → (is_aborted w.kernel.phase ≡ false → label ≡ w.kernel.queues.next)
       → (q : Plain) × Takes p (event.call call) (event.begun w.kernel.vfs.next_call) q × Alike (after_call w call) q
   goes_under call label ready fresh labelled = (
     call_begun p label call,
-    (label, ap (λ (b : Bool). where_so b (call_begun p label call)) (both_hold label fresh)),
+    (label, ap (λ (b : Bool). where_so b (call_begun p label call)) (may_begin w p same label fresh)),
     subst (λ (b : Bool). Alike (after_call w call) (going_on p label p.vfs.next_call (begun b p.vfs call))) same.aborted
         (subst (λ (n : ℕ). Alike (after_call w call) (going_on p label n (begun (is_aborted w.kernel.phase) p.vfs call))) same.vfs.next_call
         (call_alike call label (is_aborted w.kernel.phase) ready refl labelled)),
@@ -120,3 +126,54 @@ module _ (w : World) (p : Plain) (numbering : IsNumbered w) (one : IsOneToOne (M
       by : (b : Bool) → is_aborted w.kernel.phase ≡ b → (q : Plain) × Takes p (event.call call) (event.begun w.kernel.vfs.next_call) q × Alike (after_call w call) q
       by false e = goes_under call w.kernel.queues.next ready (next_unasked w p numbering.queues same (live_if_ready w.kernel.phase ready e)) (λ z. refl)
       by true e = let free = absent p.asks in goes_under call free.0 ready free.1 (λ z. absurd (true≢false (sym e ∙ z)))
+
+-- ---- after an abort
+
+not_live : (phase : Phase) → is_aborted phase ≡ true → is_live phase ≡ false
+not_live Down aborted = refl
+not_live Starting aborted = sym aborted
+not_live Ready aborted = sym aborted
+not_live Aborted aborted = refl
+
+module _ (w : World) (p : Plain) (one : IsOneToOne (MeansIn w)) (same : Alike w p) (call : Call) (aborted : is_aborted w.kernel.phase ≡ true) (idle : w.kernel.queues ≡ empty_queues) where
+  abbrev answered_kernel : Kernel
+  answered_kernel = record w.kernel { vfs = vfs_of (begun true w.kernel.vfs call) }
+
+  abbrev answered_plain : Plain
+  answered_plain = record p { vfs = vfs_of (begun true p.vfs call) }
+
+  -- The call is answered at once, in both worlds.
+  answered_alike : Alike (record w { kernel = answered_kernel }) answered_plain
+  answered_alike =
+      let begins = begun_alike (MeansIn w) (MeansOpenIn w) one w.kernel.vfs p.vfs same.vfs true call in
+      record {
+        tree = same.tree;
+        vfs = begins.vfs;
+        requests = record {
+          pending = subst (λ (q : QueueState Purpose). All (PurposeAsked (record w { kernel = answered_kernel }) answered_plain) (pending q)) (sym idle) (All-nil (PurposeAsked (record w { kernel = answered_kernel }) answered_plain));
+          sent = same.requests.sent;
+          held = same.requests.held;
+        };
+        asks = λ live. absurd (true≢false (sym live ∙ not_live w.kernel.phase aborted));
+        validity = same.validity;
+        aborted = same.aborted;
+      }
+
+  answered_goes : (q : Plain) × Takes p (event.call call) (event.begun w.kernel.vfs.next_call) q × Alike (after_call w call) q
+  answered_goes =
+      let free = absent p.asks in
+      let plain_aborted : p.aborted ≡ true = sym same.aborted ∙ aborted in (
+        call_begun p free.0 call,
+        (free.0, ap (λ (b : Bool). where_so b (call_begun p free.0 call)) (may_begin w p same free.0 free.1)),
+        subst (λ (b : Bool). Alike (after_call w call) (going_on p free.0 p.vfs.next_call (begun b p.vfs call))) (sym plain_aborted)
+            (subst (λ (b : Bool). Alike (record w { kernel = closing_of (advanced w.kernel w.kernel.vfs.next_call (begun b w.kernel.vfs call)) (cond b None (closed_by w.kernel.vfs.opens call)) }) answered_plain) (sym aborted) answered_alike),
+      )
+
+-- A call begins, live or after an abort: after that the two are alike again.
+pub call_goes_always : (w : World) (p : Plain) → IsNumberedWhileLive w → IsOneToOne (MeansIn w) → Alike w p → (call : Call) → is_ready w.kernel.phase ≡ true
+    → (q : Plain) × Takes p (event.call call) (event.begun w.kernel.vfs.next_call) q × Alike (after_call w call) q
+call_goes_always w p numbered one same call ready = by (is_aborted w.kernel.phase) refl
+  where
+    by : (b : Bool) → is_aborted w.kernel.phase ≡ b → (q : Plain) × Takes p (event.call call) (event.begun w.kernel.vfs.next_call) q × Alike (after_call w call) q
+    by true e = answered_goes w p one same call e (numbered.idle (not_live w.kernel.phase e))
+    by false e = call_goes w p (numbered.live (live_if_ready w.kernel.phase ready e)) one same call ready

@@ -41,7 +41,7 @@ use Rattle.fuse_theorem.proofs.Aborting.{abort_goes}
 use Rattle.fuse_theorem.proofs.Accepted.{Leads, accepted, unless_ok, going_ok, ok_is, is_not}
 use Rattle.fuse_theorem.proofs.Accepting.{accept_goes, accepts}
 use Rattle.fuse_theorem.proofs.AcceptingEintr.{eintr_goes, accepts as eintr_accepts}
-use Rattle.fuse_theorem.proofs.Calling.{call_goes}
+use Rattle.fuse_theorem.proofs.Calling.{call_goes_always}
 use Rattle.fuse_theorem.proofs.Declining.{decline_goes}
 use Rattle.fuse_theorem.proofs.Dropping.{drop_goes}
 use Rattle.fuse_theorem.proofs.Evicting.{or_false, evicted_alike}
@@ -81,7 +81,7 @@ module _ (w : World) (p : Plain) (same : Alike w p) (o : Outcome) (last : World)
       let ready = unless_ok (not (is_ready w.kernel.phase)) refusal.NotReady (unless (nat_le max_calls (length w.kernel.vfs.calls)) refusal.Full (going begun (after_call w call))) o last e in
       let room = unless_ok (nat_le max_calls (length w.kernel.vfs.calls)) refusal.Full (going begun (after_call w call)) o last ready.rest in
       let went = going_ok begun (after_call w call) o last room.rest in
-      led p (event.call call) begun (after_call w call) o last went.leads (call_goes w p needs.0 needs.1 same call (is_not (is_ready w.kernel.phase) ready.passed))
+      led p (event.call call) begun (after_call w call) o last went.leads (call_goes_always w p needs.0 needs.1 same call (is_not (is_ready w.kernel.phase) ready.passed))
 
   reads_interrupt : (choice : ℕ → ℕ) → Needs choice w p event.read_interrupt → step choice w event.read_interrupt ≡ Ok (o, last) → Moves p event.read_interrupt o last
   reads_interrupt choice sound e =
@@ -237,9 +237,10 @@ module _ (w : World) (p : Plain) (same : Alike w p) (o : Outcome) (last : World)
       by None at live f = absurd (cc)
       by (Some state) at live f =
           let moved = call_signalled w.kernel call state fatal in
+          let numbers = needs.0.live in
           let went = going_ok (event.interrupted call moved.0) (record w { kernel = moved.1 }) o last f in
           led p (event.intr call fatal) (event.interrupted call moved.0) (record w { kernel = moved.1 }) o last went.leads
-          (signal_goes w p needs.0 (one_to_one w.kernel.nodes w.server.nodes needs.1.0) same live call state at fatal needs.1.1)
+          (signal_goes w p (numbers live) (one_to_one w.kernel.nodes w.server.nodes needs.1.0) same live call state at fatal needs.1.1)
 
   ticks : (ms : ℕ) (choice : ℕ → ℕ) → step choice w (event.tick ms) ≡ Ok (o, last) → Moves p (event.tick ms) o last
   ticks ms choice e =

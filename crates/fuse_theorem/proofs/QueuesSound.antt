@@ -1,7 +1,6 @@
 -- The queues stay sound, whatever happens.
-use Rattle.std.proofs.Common.{◌≡◌, ℕ, ◌+◌, ◌-◌, Bool, true, false, cond, List, [], ◌∷◌, Option, Some, None, Ok, nat_eq, slice_get, subst}
+use Rattle.std.proofs.Common.{◌≡◌, ℕ, ◌+◌, ◌-◌, Bool, true, false, cond, Option, Some, None, Ok, nat_eq, slice_get}
 use Rattle.std.specs.Prelude.{◌%◌}
-use Rattle.fuse_spec.specs.declared.Binding.{Binding}
 use Rattle.fuse_spec.specs.declared.IntrEffect.{IntrEffect}
 use Rattle.fuse_spec.specs.declared.IntrEffect.TheVariants.{Dequeued, Flagged, Queued, None as NoEffect}
 use Rattle.fuse_spec.specs.declared.Opened.{Opened}
@@ -19,30 +18,15 @@ use Rattle.fuse_spec.specs.Operations.{Operation, done, failed, files_in_reply}
 use Rattle.fuse_spec.specs.QueueCalls.{waiting, without, after_interrupt, interrupt_effect}
 use Rattle.fuse_spec.specs.Replies.{kernel_reply, learnt, Use, usable, useless, stale, use_of_all, goes_with, is_agreement, judged, replied, replied_to_call, ended_by, reply_taken, odd_taken, interrupt_replied, reply_written}
 use Rattle.fuse_spec.specs.Vfs.{asked, CallState, walking, doing, using, Advance, answered, begun}
-use Rattle.std.proofs.Common.{not, ◌||◌, length}
-use Rattle.std.specs.Prelude.{nat_lt, nat_le, max}
 use Rattle.std.specs.List.{remove as without_at}
-use Rattle.fuse_spec.specs.declared.Counted.{Counted}
-use Rattle.fuse_spec.specs.declared.Refusal.TheVariants as refusal
-use Rattle.fuse_spec.specs.declared.ReplyResult.{ReplyResult}
-use Rattle.fuse_spec.specs.Maps.{get_name}
-use Rattle.fuse_spec.specs.Numbers.{max_calls, max_validity, clock_end}
-use Rattle.fuse_spec.specs.Operations.{errno_of}
 use Rattle.fuse_spec.specs.QueueCalls.{pending_at, first_forgets}
-use Rattle.fuse_spec.specs.Messages.{Forget, Request, RequestBody}
-use Rattle.fuse_spec.specs.Kernel.{is_live, body_of, is_pinned, is_bound}
-use Rattle.fuse_spec.specs.Server.{HeldRequest, Kept}
-use Rattle.fuse_spec.specs.Copies.{is_current}
 use Rattle.fuse_spec.specs.Taking.{taking}
 use Rattle.fuse_spec.specs.Performs.{served}
 use Rattle.fuse_spec.specs.Worlds.{World, Sent, after_mount, after_call, after_read_interrupt, after_read_forgets, after_read_pending, after_take, after_perform, after_again, after_write, after_settle, after_tick, after_drop, after_evict, after_abort}
 use Rattle.fuse_spec.specs.Worlds as worlds
 use Rattle.fuse_spec.specs.Events.{Event, Outcome}
-use Rattle.fuse_spec.specs.Events as event
-use Rattle.fuse_spec.specs.Uniques.{interrupt_number}
-use Rattle.fuse_spec.specs.Steps.{unless, going, is_ready, is_busy, when_not_interrupted, reading_interrupt, reading_forgets, reading_body, reading_pending, taking_request, performing_held, sending_again, writing_copy, settling, signalling, dropping, evicting, step}
-use Rattle.fuse_theorem.proofs.Accepted.{Leads, accepted, unless_ok, going_ok, ok_is}
-use Rattle.std.proofs.Common.{◌≤◌, ◌^◌, option_map, drop, arith, ap, refl}
+use Rattle.fuse_spec.specs.Steps.{step}
+use Rattle.std.proofs.Common.{◌≤◌, ◌^◌, option_map, drop, take, arith, ap, refl}
 use Rattle.std.specs.List.{list_any}
 use Rattle.std.specs.Option.{option_map_or}
 use Rattle.fuse_spec.specs.declared.InterruptReply.{InterruptReply}
@@ -58,6 +42,7 @@ use Rattle.fuse_spec.specs.Replies.{interrupt_reply_of}
 use Rattle.fuse_spec.specs.Signals.{signal_effect, reply_effect}
 use Rattle.fuse_spec.proofs.QueueSoundness.{IsSound-enqueue, IsSound-mark, IsSound-interrupt, IsSound-without, IsSound-dequeue, IsSound-read_interrupt, IsSound-draw, IsSound-mark_interrupted, mark_under-pending, is_interrupted-marked, count_by-absent}
 use Rattle.fuse_theorem.proofs.Accepted.{next_within, after_next}
+use Rattle.fuse_theorem.proofs.Happened.{Happened, by_mount, by_call, by_read_interrupt, by_read_forgets, by_read_pending, by_take, by_perform, by_again, by_write, by_settle, by_signal, by_tick, by_drop, by_evict, by_abort, happened}
 use Rattle.fuse_theorem.proofs.FirstMounts.{empty_sound}
 
 -- ---- the queues by themselves
@@ -226,129 +211,38 @@ written_sound k unique wire s = by (nat_eq (unique % 2) 1)
 
 -- ---- events
 
-module _ (choice : ℕ → ℕ) (w : World) (r : IsSound w.kernel.queues) (o : Outcome) (last : World) where
-  -- what comes of an event that is not refused
-  leads_to : (outcome : Outcome) (after : World) → Leads outcome after o last → IsSound after.kernel.queues → IsSound last.kernel.queues
-  leads_to outcome after leads sound = subst (λ (v : World). IsSound v.kernel.queues) leads.after_is sound
+-- a reply that goes out leaves the queues as they are
+sent_off : (w : World) (number unique : ℕ) (wire : Option WireReply) → IsSound w.kernel.queues → IsSound (worlds.replying w number unique wire).kernel.queues
+sent_off w number unique None sound = sound
+sent_off w number unique (Some wire) sound = sound
 
-  goes : (outcome : Outcome) (after : World) → going outcome after ≡ Ok (o, last) → (after.kernel.queues.next ≤ 2 ^ 62 → IsSound after.kernel.queues) → IsSound last.kernel.queues
-  goes outcome after e sound = let went = going_ok outcome after o last e in leads_to outcome after went.leads (sound (next_within after went.within))
+-- forgets are read under the coming number
+forgets_sound : (q : QueueState Purpose) (n : ℕ) → IsSound q → (queues.after_read_forgets q n).next ≤ 2 ^ 62 → IsSound (queues.after_read_forgets q n)
+forgets_sound q n r = drawn (queues.can_read_forgets q n)
+  where
+    drawn : (b : Bool) → (cond b (record q { forgets = drop n q.forgets; next = q.next + 2 }) q).next ≤ 2 ^ 62 → IsSound (cond b (record q { forgets = drop n q.forgets; next = q.next + 2 }) q)
+    drawn true high = IsSound-draw q (drop n q.forgets) r (after_next q.next r.next high)
+    drawn false high = r
 
-  sent_off : (v : World) (number unique : ℕ) (wire : Option WireReply) → IsSound v.kernel.queues → IsSound (worlds.replying v number unique wire).kernel.queues
-  sent_off v number unique None sound = sound
-  sent_off v number unique (Some wire) sound = sound
+by_event : (choice : ℕ → ℕ) (w : World) → IsSound w.kernel.queues → (e : Event) (o : Outcome) (after : World) → Happened choice w e o after → IsSound after.kernel.queues
+by_event choice w r e o after (by_mount f m idle) = IsSound-enqueue empty_queues purpose.Init empty_sound (record { even = refl; low = omega arith; high = omega arith })
+by_event choice w r e o after (by_call call ready room within) = let grows = begun_grows w.kernel call in grows.sound (next_within (after_call w call) within) r
+by_event choice w r e o after (by_read_interrupt original rest live there within) = IsSound-read_interrupt w.kernel.queues r
+by_event choice w r e o after (by_read_forgets n live free can within) = forgets_sound w.kernel.queues n r (next_within (after_read_forgets w n (take n w.kernel.queues.forgets)) within)
+by_event choice w r e o after (by_read_pending k unique kept body live free there says within) = reading_sound w.kernel.queues k r
+by_event choice w r e o after (by_take k q there within) =
+    let took = taking w.server q.unique q.body in sent_off (record w { requests = without_at w.requests k; server = took.server }) w.server.next_copy q.unique took.reply r
+by_event choice w r e o after (by_perform unique t there within) =
+    let did = served choice w.server unique t in sent_off (record w { server = did.server }) w.server.next_copy unique (cond w.server.aborted None (Some did.wire)) r
+by_event choice w r e o after (by_again unique kept there current within) = r
+by_event choice w r e o after (by_write k sent there within) = written_sound w.kernel sent.unique sent.wire r (next_within (after_write w k sent (reply_written w.kernel sent.unique sent.wire)) within)
+by_event choice w r e o after (by_settle k result there) = r
+by_event choice w r e o after (by_signal call fatal state live there within) = signalled_sound w.kernel call state fatal r (next_within (record w { kernel = (call_signalled w.kernel call state fatal).1 }) within)
+by_event choice w r e o after (by_tick ms timely) = r
+by_event choice w r e o after (by_drop directory name bound live there) = r
+by_event choice w r e o after (by_evict node counted live there unused) = record { next = r.next; requests = r.requests; interrupts = r.interrupts }
+by_event choice w r e o after (by_abort live) = empty_sound
 
-  -- The queues stay sound, whatever the event.
-  pub stays_sound : (e : Event) → step choice w e ≡ Ok (o, last) → IsSound last.kernel.queues
-  stays_sound (event.mount f m) s =
-      let timely = unless_ok (nat_lt max_validity (max f m)) refusal.BadTime (unless (is_busy w.kernel) refusal.Busy (accepted event.mounted (after_mount w f m))) o last s in
-      let idle = unless_ok (is_busy w.kernel) refusal.Busy (accepted event.mounted (after_mount w f m)) o last timely.rest in
-      leads_to event.mounted (after_mount w f m) (ok_is event.mounted (after_mount w f m) o last idle.rest) (IsSound-enqueue empty_queues purpose.Init empty_sound (record { even = refl; low = omega arith; high = omega arith }))
-  stays_sound (event.call call) s =
-      let begun = event.begun w.kernel.vfs.next_call in
-      let ready = unless_ok (not (is_ready w.kernel.phase)) refusal.NotReady (unless (nat_le max_calls (length w.kernel.vfs.calls)) refusal.Full (going begun (after_call w call))) o last s in
-      let room = unless_ok (nat_le max_calls (length w.kernel.vfs.calls)) refusal.Full (going begun (after_call w call)) o last ready.rest in
-      let grows = begun_grows w.kernel call in goes begun (after_call w call) room.rest (λ high. grows.sound high r)
-  stays_sound event.read_interrupt s =
-      let lives = unless_ok (not (is_live w.kernel.phase)) refusal.NotReady (reading_interrupt w w.kernel.queues.interrupts) o last s in
-      by w.kernel.queues.interrupts lives.rest
-    where
-      by : (xs : List ℕ) → reading_interrupt w xs ≡ Ok (o, last) → IsSound last.kernel.queues
-      by [] f = absurd (cc)
-      by (original ∷ rest) f = goes (event.is_read (interrupt_number original)) (after_read_interrupt w original) f (λ high. IsSound-read_interrupt w.kernel.queues r)
-  stays_sound (event.read_forgets n) s =
-      let read = first_forgets w.kernel.queues n in
-      let lives = unless_ok (not (is_live w.kernel.phase)) refusal.NotReady (when_not_interrupted w (reading_forgets w n read)) o last s in
-      let free = unless_ok (not (nat_eq (length w.kernel.queues.interrupts) 0)) refusal.InterruptFirst (reading_forgets w n read) o last lives.rest in
-      by read free.rest
-    where
-      drawn : (b : Bool) → (cond b (record w.kernel.queues { forgets = drop n w.kernel.queues.forgets; next = w.kernel.queues.next + 2 }) w.kernel.queues).next ≤ 2 ^ 62
-          → IsSound (cond b (record w.kernel.queues { forgets = drop n w.kernel.queues.forgets; next = w.kernel.queues.next + 2 }) w.kernel.queues)
-      drawn true high = IsSound-draw w.kernel.queues (drop n w.kernel.queues.forgets) r (after_next w.kernel.queues.next r.next high)
-      drawn false high = r
-
-      by : (x : Option (ℕ × List Forget)) → reading_forgets w n x ≡ Ok (o, last) → IsSound last.kernel.queues
-      by None f = absurd (cc)
-      by (Some x) f = goes (event.is_read x.0) (after_read_forgets w n x.1) f (drawn (queues.can_read_forgets w.kernel.queues n))
-  stays_sound (event.read_pending k) s =
-      let at = pending_at w.kernel.queues k in
-      let lives = unless_ok (not (is_live w.kernel.phase)) refusal.NotReady (when_not_interrupted w (reading_pending w k at)) o last s in
-      let free = unless_ok (not (nat_eq (length w.kernel.queues.interrupts) 0)) refusal.InterruptFirst (reading_pending w k at) o last lives.rest in
-      by at free.rest
-    where
-      by_body : (unique : ℕ) (body : Option RequestBody) → reading_body w k unique body ≡ Ok (o, last) → IsSound last.kernel.queues
-      by_body unique None f = absurd (cc)
-      by_body unique (Some body) f = goes (event.is_read unique) (after_read_pending w k unique body) f (λ high. reading_sound w.kernel.queues k r)
-
-      by : (x : Option (ℕ × Purpose)) → reading_pending w k x ≡ Ok (o, last) → IsSound last.kernel.queues
-      by None f = absurd (cc)
-      by (Some x) f = by_body x.0 (body_of w.kernel x.1) f
-  stays_sound (event.take k) s = by (slice_get w.requests k) s
-    where
-      by : (x : Option Request) → taking_request w k x ≡ Ok (o, last) → IsSound last.kernel.queues
-      by None f = absurd (cc)
-      by (Some q) f =
-          let took = taking w.server q.unique q.body in
-          goes (event.taken q.unique took.word) (after_take w k q.unique took) f (λ high. sent_off (record w { requests = without_at w.requests k; server = took.server }) w.server.next_copy q.unique took.reply r)
-  stays_sound (event.perform unique) s = by (get w.server.held unique) s
-    where
-      by : (x : Option HeldRequest) → performing_held choice w unique x ≡ Ok (o, last) → IsSound last.kernel.queues
-      by None f = absurd (cc)
-      by (Some t) f =
-          let did = served choice w.server unique t in
-          goes (event.performed unique (errno_of did.wire) w.server.aborted) (after_perform w unique did) f (λ high. sent_off (record w { server = did.server }) w.server.next_copy unique (cond w.server.aborted None (Some did.wire)) r)
-  stays_sound (event.again unique) s = by (get w.server.kept unique) s
-    where
-      by : (x : Option Kept) → sending_again w unique x ≡ Ok (o, last) → IsSound last.kernel.queues
-      by None f = absurd (cc)
-      by (Some kept) f =
-          let current = unless_ok (not (is_current w.server kept.wire)) refusal.NoCopy (going (event.sent_again unique) (after_again w unique kept)) o last f in
-          goes (event.sent_again unique) (after_again w unique kept) current.rest (λ high. r)
-  stays_sound (event.write k) s = by (slice_get w.replies k) s
-    where
-      by : (x : Option Sent) → writing_copy w k x ≡ Ok (o, last) → IsSound last.kernel.queues
-      by None f = absurd (cc)
-      by (Some sent) f =
-          let took = reply_written w.kernel sent.unique sent.wire in
-          goes (event.written sent.unique took.0) (after_write w k sent took) f (written_sound w.kernel sent.unique sent.wire r)
-  stays_sound (event.settle k) s = by (slice_get w.results k) s
-    where
-      by : (x : Option ReplyResult) → settling w k x ≡ Ok (o, last) → IsSound last.kernel.queues
-      by None f = absurd (cc)
-      by (Some result) f =
-          let outcome = event.settled result.unique result.result in
-          let after = after_settle w k result (get w.server.copies result.number) in
-          leads_to outcome after (ok_is outcome after o last f) r
-  stays_sound (event.intr call fatal) s =
-      let lives = unless_ok (not (is_live w.kernel.phase)) refusal.NotReady (signalling w call fatal (get w.kernel.vfs.calls call)) o last s in
-      by (get w.kernel.vfs.calls call) lives.rest
-    where
-      by : (x : Option (CallState Opened)) → signalling w call fatal x ≡ Ok (o, last) → IsSound last.kernel.queues
-      by None f = absurd (cc)
-      by (Some state) f =
-          let moved = call_signalled w.kernel call state fatal in
-          goes (event.interrupted call moved.0) (record w { kernel = moved.1 }) f (signalled_sound w.kernel call state fatal r)
-  stays_sound (event.tick ms) s =
-      let outcome = event.now (w.kernel.vfs.clock + ms) in
-      let timely = unless_ok (nat_le clock_end (w.kernel.vfs.clock + ms)) refusal.BadTime (accepted outcome (after_tick w ms)) o last s in
-      leads_to outcome (after_tick w ms) (ok_is outcome (after_tick w ms) o last timely.rest) r
-  stays_sound (event.drop_name directory name) s =
-      let lives = unless_ok (not (is_live w.kernel.phase)) refusal.NotReady (dropping (after_drop w directory name) (get_name w.kernel.vfs.names (directory, name))) o last s in
-      by (get_name w.kernel.vfs.names (directory, name)) lives.rest
-    where
-      by : (x : Option Binding) → dropping (after_drop w directory name) x ≡ Ok (o, last) → IsSound last.kernel.queues
-      by None f = absurd (cc)
-      by (Some b) f = leads_to event.dropped (after_drop w directory name) (ok_is event.dropped (after_drop w directory name) o last f) r
-  stays_sound (event.evict node) s =
-      let lives = unless_ok (not (is_live w.kernel.phase)) refusal.NotReady (evicting w node (get w.kernel.nodes node)) o last s in
-      by (get w.kernel.nodes node) lives.rest
-    where
-      by : (x : Option Counted) → evicting w node x ≡ Ok (o, last) → IsSound last.kernel.queues
-      by None f = absurd (cc)
-      by (Some counted) f =
-          let outcome = event.evicted node counted.count in
-          let unused = unless_ok (is_pinned w.kernel node || is_bound w.kernel node) refusal.Busy (accepted outcome (after_evict w node counted)) o last f in
-          leads_to outcome (after_evict w node counted) (ok_is outcome (after_evict w node counted) o last unused.rest) (record { next = r.next; requests = r.requests; interrupts = r.interrupts })
-  stays_sound event.abort s =
-      let lives = unless_ok (not (is_live w.kernel.phase)) refusal.NotReady (accepted event.aborted (after_abort w)) o last s in
-      leads_to event.aborted (after_abort w) (ok_is event.aborted (after_abort w) o last lives.rest) empty_sound
+-- The queues stay sound, whatever the event.
+pub stays_sound : (choice : ℕ → ℕ) (w : World) → IsSound w.kernel.queues → (o : Outcome) (last : World) (e : Event) → step choice w e ≡ Ok (o, last) → IsSound last.kernel.queues
+stays_sound choice w r o last e stepped = by_event choice w r e o last (happened choice w o last e stepped)

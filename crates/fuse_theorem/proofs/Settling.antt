@@ -72,7 +72,7 @@ back_denotes t g i generation file d = by (is_held t g.nodeid g.generation) d
     by true e = less_denotes t g.nodeid 1 i generation file e
     by false e = e
 
-rows_back_denotes : (gs : List Entry) (t : NodeTable) (i generation file : ℕ) → Denotes (rows_back t gs) i generation file → Denotes t i generation file
+pub rows_back_denotes : (gs : List Entry) (t : NodeTable) (i generation file : ℕ) → Denotes (rows_back t gs) i generation file → Denotes t i generation file
 rows_back_denotes [] t i generation file d = d
 rows_back_denotes (g ∷ gs) t i generation file d = back_denotes t g i generation file (rows_back_denotes gs (row_back t g) i generation file d)
 

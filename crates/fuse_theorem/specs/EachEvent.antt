@@ -24,7 +24,7 @@ use Rattle.fuse_spec.specs.Plain.{Plain, Ask}
 use Rattle.fuse_spec.specs.PlainSteps.{Takes}
 use Rattle.fuse_spec.specs.Denotes.{MeansIn}
 use Rattle.fuse_spec.specs.Alike.{Alike}
-use Rattle.fuse_theorem.specs.Numbering.{IsNumbered, IsOneToOne}
+use Rattle.fuse_theorem.specs.Numbering.{IsNumbered, IsNumberedWhileLive, IsOneToOne}
 use Rattle.fuse_theorem.specs.Conditions.{OneId, KnownAreHeld, TablesSound, CanPerform, CanDecline, CanRelease, IsReply, IsDeclined, UnreadAreUnsent, HoldsAll, HoldsOpens, IsInterrupt, IsUnsent, awaiting}
 
 -- The plain world takes the step of the outcome, and is alike to the world after it.
@@ -72,7 +72,7 @@ CanSettle w k result copy = HoldsAll (after_settle w k result (Some copy)) (afte
 
 abbrev pub Needs : (ℕ → ℕ) → World → Plain → Event → Type 0
 Needs choice w p (event.mount found_ms missing_ms) = IsRooted w.kernel.vfs
-Needs choice w p (event.call call) = IsNumbered w × IsOneToOne (MeansIn w)
+Needs choice w p (event.call call) = IsNumberedWhileLive w × IsOneToOne (MeansIn w)
 Needs choice w p event.read_interrupt = IsSound w.kernel.queues
 Needs choice w p (event.read_forgets n) = IsSound w.kernel.queues
 Needs choice w p (event.read_pending k) = IsSound w.kernel.queues
@@ -81,7 +81,7 @@ Needs choice w p (event.perform unique) = (t : HeldRequest) → get w.server.hel
 Needs choice w p (event.again unique) = OneId w.server.nodes × KnownAreHeld w
 Needs choice w p (event.write k) = (sent : Sent) → slice_get w.replies k ≡ Some sent → CanHear w p sent
 Needs choice w p (event.settle k) = OneId w.server.nodes × ((result : ReplyResult) (copy : Copy) → slice_get w.results k ≡ Some result → get w.server.copies result.number ≡ Some copy → CanSettle w k result copy)
-Needs choice w p (event.intr call fatal) = IsNumbered w × (OneId w.server.nodes × UnreadAreUnsent w)
+Needs choice w p (event.intr call fatal) = IsNumberedWhileLive w × (OneId w.server.nodes × UnreadAreUnsent w)
 Needs choice w p (event.tick ms) = Unit {0}
 Needs choice w p (event.drop_name directory name) = IsOneToOne (MeansIn w)
 Needs choice w p (event.evict node) = IsRooted w.kernel.vfs × IsUnsent w node

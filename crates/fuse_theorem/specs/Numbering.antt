@@ -1,9 +1,9 @@
 -- What every world keeps of its numbers: which were drawn, and which request serves which call.
-use Rattle.std.specs.Prelude.{◌≡◌, ◌≤◌, ◌<◌, ℕ, true, cond, Some, None, All, count_by, is_some}
+use Rattle.std.specs.Prelude.{◌≡◌, ◌≤◌, ◌<◌, ℕ, true, false, cond, Some, None, All, count_by, is_some}
 use Rattle.fuse_spec.specs.declared.Purpose.{Purpose}
 use Rattle.fuse_spec.specs.declared.QueuedRequest.{QueuedRequest}
 use Rattle.fuse_spec.specs.Maps.{get}
-use Rattle.fuse_spec.specs.Queues.{QueueState, IsSound}
+use Rattle.fuse_spec.specs.Queues.{QueueState, IsSound, empty_queues}
 use Rattle.fuse_spec.specs.Messages.{Request}
 use Rattle.fuse_spec.specs.Kernel.{is_live, is_for}
 use Rattle.fuse_spec.specs.Server.{HeldRequest, Kept}
@@ -23,6 +23,12 @@ pub record IsNumbered (w : World) : Type 0 where
   pub replies_below : All (λ (sent : Sent). sent.unique < w.kernel.queues.next) w.replies
   pub held_below : is_live w.kernel.phase ≡ true → (unique : ℕ) (t : HeldRequest) → get w.server.held unique ≡ Some t → unique < w.kernel.queues.next
   pub kept_below : is_live w.kernel.phase ≡ true → (unique : ℕ) (k : Kept) → get w.server.kept unique ≡ Some k → unique < w.kernel.queues.next
+
+-- The numbers are in order while the mount is live, and else no request is unanswered. More cannot be kept then: after an abort the server holds what
+-- it held under the numbers of the mount that ended, and where INIT is not agreed on, the links stay full, until the next mount empties all.
+pub record IsNumberedWhileLive (w : World) : Type 0 where
+  pub live : is_live w.kernel.phase ≡ true → IsNumbered w
+  pub idle : is_live w.kernel.phase ≡ false → w.kernel.queues ≡ empty_queues
 
 -- No two nodes mean the same file, and no node means two.
 abbrev pub IsOneToOne : (ℕ → ℕ → Type 0) → Type 0

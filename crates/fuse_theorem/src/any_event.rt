@@ -12,7 +12,7 @@ ghost use Rattle.fuse_spec.specs.Kernel.{body_of};
 ghost use Rattle.fuse_spec.specs.Server.{holding};
 ghost use Rattle.std.specs.List.{remove as without};
 ghost use Rattle.fuse_spec.specs.Events as event;
-ghost use Rattle.fuse_spec.specs.Steps.{is_ready, step};
+ghost use Rattle.fuse_spec.specs.Steps.{is_ready, step, Happens};
 ghost use Rattle.fuse_spec.specs.Events.{Event, Outcome};
 ghost use Rattle.std.specs.Prelude.{Ok};
 ghost use Rattle.fuse_theorem.specs.EachEvent.{IsRooted, Moves, Needs};
@@ -39,14 +39,20 @@ ghost use Rattle.fuse_spec.specs.Nodes.{MayChoose, handle_back};
 ghost use Rattle.fuse_spec.specs.Plain.{Ask};
 ghost use Rattle.fuse_spec.specs.Replies.{replied_to_call, reply_written};
 ghost use Rattle.fuse_spec.specs.Messages.{Forget, init};
-ghost use Rattle.fuse_spec.specs.Server.{HeldRequest, Kept, Copy, all_taken_back, forgetting};
+ghost use Rattle.fuse_spec.specs.Server.{Server, HeldRequest, Kept, Copy, all_taken_back, forgetting};
 ghost use Rattle.fuse_spec.specs.Performs.{served, is_still_held};
 ghost use Rattle.fuse_spec.specs.Worlds.{Sent, after_take, after_perform, after_again, after_write, after_settle, after_drop, after_evict, after_abort, after_mount};
 ghost use Rattle.std.specs.Prelude.{T};
 ghost use Rattle.fuse_spec.specs.Taking.{taking};
 ghost use Rattle.std.specs.Ordering.{nat_cmp};
 ghost use Rattle.std.specs.FinMap.{is_sorted};
-ghost use Rattle.fuse_theorem.specs.Numbering.{IsNumbered, IsOneToOne};
+ghost use Rattle.fuse_theorem.specs.Numbering.{IsNumbered, IsNumberedWhileLive, IsOneToOne};
+ghost use Rattle.fuse_theorem.specs.ServerTables.{ServerSound};
+ghost use Rattle.fuse_theorem.specs.Copies.{CopiesSound, KeptAreSent};
+ghost use Rattle.fuse_spec.specs.Counts.{AtRest, SameNode};
+ghost use Rattle.fuse_theorem.specs.Lookups.{LookupsSound};
+ghost use Rattle.fuse_theorem.specs.Unperformed.{StandsOnce, RequestsSound};
+ghost use Rattle.fuse_theorem.specs.WorldSound.{WorldSound, NeedsNoMore};
 ghost use Rattle.fuse_theorem.specs.Conditions.{OneId, KnownAreHeld, TablesSound, CanPerform, CanDecline, CanRelease, IsReply, IsDeclined, UnreadAreUnsent, HoldsAll, HoldsOpens, IsInterrupt, IsUnsent, awaiting};
 
 /// The world before its first mount is alike to the plain world with the root alone.
@@ -65,9 +71,9 @@ pub fn tick()
     ensures { (w : World) (p : Plain) → Alike w p → (ms : ℕ) → (q : Plain) × Takes p (event.tick ms) (event.now (w.kernel.vfs.clock + ms)) q × Alike (after_tick w ms) q }
 {}
 
-/// Any of the twelve calls begins, where no two nodes mean the same file.
+/// Any of the twelve calls begins, live or after an abort, where no two nodes mean the same file.
 pub fn call()
-    ensures { (w : World) (p : Plain) → IsNumbered w → IsOneToOne (MeansIn w) → Alike w p → (call : Call) → is_ready w.kernel.phase ≡ true →
+    ensures { (w : World) (p : Plain) → IsNumberedWhileLive w → IsOneToOne (MeansIn w) → Alike w p → (call : Call) → is_ready w.kernel.phase ≡ true →
         (q : Plain) × Takes p (event.call call) (event.begun w.kernel.vfs.next_call) q × Alike (after_call w call) q }
 {}
 
@@ -241,6 +247,63 @@ pub fn stays_rooted()
 pub fn queues_stay_sound()
     ensures at_first { IsSound first_world.kernel.queues }
     ensures always { (choice : ℕ → ℕ) (w : World) → IsSound w.kernel.queues → (o : Outcome) (after : World) (e : Event) → step choice w e ≡ Ok (o, after) → IsSound after.kernel.queues }
+{}
+
+/// The server's tree and tables are sound at first and stay it, whatever the event and whatever free nodeids the server gives. So no two nodes have
+/// one file, the root stands in no table, and the coming open number is new.
+pub fn server_stays_sound()
+    ensures at_first { ServerSound first_world.server }
+    ensures always { (w : World) → ServerSound w.server → (e : Event) (o : Outcome) (after : World) → Happens w e o after → ServerSound after.server }
+    ensures tables { (s : Server) → ServerSound s → OneId s.nodes × TablesSound s }
+{}
+
+/// The numbers of a live mount are in order, whatever the event: which were drawn, that a call has one request at most, and that what is on the
+/// links, held or kept bears a number that was drawn.
+pub fn numbers_stay_in_order()
+    ensures at_first { IsNumberedWhileLive first_world }
+    ensures always { (choice : ℕ → ℕ) (w : World) → IsNumberedWhileLive w → (o : Outcome) (after : World) (e : Event) → step choice w e ≡ Ok (o, after) → IsNumberedWhileLive after }
+{}
+
+/// The server knows each copy that is on its way to the kernel, as it was sent, and each whose result is on its way back, whatever the event; and
+/// none is on both ways or twice on one.
+pub fn copies_stay_known()
+    ensures at_first { CopiesSound first_world }
+    ensures always { (choice : ℕ → ℕ) (w : World) → CopiesSound w → ServerSound w.server → (o : Outcome) (after : World) (e : Event) → step choice w e ≡ Ok (o, after) → CopiesSound after }
+{}
+
+/// The server's count of each node is the kernel's count and whatever is in flight, while the mount is live and whatever the event (`Lookups.antt`
+/// has that and all that keeps it). So the server holds what the kernel knows.
+pub fn lookups_stay_balanced()
+    ensures at_first { LookupsSound first_world }
+    ensures always { (w : World) → LookupsSound w → (e : Event) (o : Outcome) (after : World) → Happens w e o after → LookupsSound after }
+    ensures known { (w : World) → LookupsSound w → KnownAreHeld w }
+{}
+
+/// Where nothing is under way, the kernel and the server count the same nodes, as often and under the same generations.
+pub fn same_nodes_at_rest()
+    ensures { (w : World) → LookupsSound w → AtRest w → (id : ℕ) → SameNode (get w.kernel.nodes id) (get w.server.nodes.rows id) }
+{}
+
+/// A request that is not performed stands once, whatever the event: pending, on the link, or held; and no reply to it is on the link or kept. So
+/// what is unread is neither on the link nor held.
+pub fn requests_stay_sound()
+    ensures at_first { RequestsSound first_world }
+    ensures always { (choice : ℕ → ℕ) (w : World) → RequestsSound w → IsNumberedWhileLive w → (o : Outcome) (after : World) (e : Event) → step choice w e ≡ Ok (o, after) → RequestsSound after }
+    ensures unread { (w : World) → StandsOnce w → IsSound w.kernel.queues → UnreadAreUnsent w }
+{}
+
+/// All of that together, as one that every event keeps; and most events need no more (`WorldSound.antt`): the law for any event holds of them with
+/// no condition but that the worlds are alike.
+pub fn worlds_stay_sound()
+    ensures at_first { WorldSound first_world }
+    ensures always { (w : World) → WorldSound w → (e : Event) (o : Outcome) (after : World) → Happens w e o after → WorldSound after }
+    ensures needs { (w : World) → WorldSound w → (choice : ℕ → ℕ) (p : Plain) (e : Event) → NeedsNoMore e → Needs choice w p e }
+{}
+
+/// While its request is unanswered, a kept reply has a copy on the link, whatever the event.
+pub fn kept_replies_stay_sent()
+    ensures at_first { KeptAreSent first_world }
+    ensures always { (w : World) → WorldSound w → KeptAreSent w → (e : Event) (o : Outcome) (after : World) → Happens w e o after → KeptAreSent after }
 {}
 
 /// After a mount, and after an abort, no node means anything but the root.
