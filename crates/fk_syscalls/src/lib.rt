@@ -1,0 +1,7 @@
+//! System calls: how a path spells words, how far names in force lead along them, and what a call then asks.
+#![tactic(auto)]
+
+mod call;
+mod words;
+
+pub use call::{Answer, Asked, Call};
