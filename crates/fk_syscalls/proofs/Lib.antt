@@ -1,2 +1,5 @@
 pub mod Positions
 pub mod Splits
+pub mod Faults
+pub mod Parents
+pub mod Steps

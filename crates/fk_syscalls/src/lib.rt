@@ -2,6 +2,8 @@
 #![tactic(auto)]
 
 mod call;
+mod path;
+mod walk;
 mod words;
 
 pub use call::{Answer, Asked, Call};
