@@ -2,4 +2,5 @@ pub mod Positions
 pub mod Splits
 pub mod Faults
 pub mod Parents
-pub mod Steps
+pub mod BytesLeft
+pub mod Advances

@@ -1,5 +1,5 @@
 -- Words with one slash between each two, from a place on.
-use Rattle.std.specs.Prelude.{◌≡◌, ℕ, ◌-◌, ◌<◌, ◌≤◌, cond, List, [], ◌∷◌, Option, Some, None, length, nat_eq, drop}
+use Rattle.std.specs.Prelude.{◌≡◌, ℕ, ◌-◌, ◌<◌, ◌≤◌, List, [], ◌∷◌, Option, Some, None, length, drop}
 use Rattle.fuse_spec.specs.Paths.{Name, split}
 
 -- The words that are left. With no place there is none.
@@ -17,6 +17,7 @@ abbrev pub IsBehindSlash : List ℕ → ℕ → Option ℕ → Type 0
 IsBehindSlash bytes place None = Unit {0}
 IsBehindSlash bytes place (Some next) = (place < next) × (drop (next - 1) bytes ≡ 47 ∷ drop next bytes)
 
--- Where the words before the last one begin, if there are some.
-abbrev pub place_of_parent : ℕ → ℕ → Option ℕ
-place_of_parent first last = cond (nat_eq first last) None (Some first)
+-- All words but the first.
+abbrev pub behind_first : List Name → List Name
+behind_first [] = []
+behind_first (word ∷ words) = words

@@ -68,6 +68,7 @@ pub(crate) fn first_word(path: &[u8]) -> Result<Option<usize>, u32>
 }
 
 /// The words before the last one, and the last one.
+#[derive(Drop)]
 pub(crate) struct Parent<'a> {
     pub words: &'a [u8],
     /// Where the words begin, if there are some.

@@ -1,9 +1,8 @@
 //! Words with one slash between each two, read from a place on. Where there is no place, no word is left.
 
-ghost use Rattle.std.specs.Prelude.{◌≡◌, ◌≤◌, ◌-◌, ◌∷◌, Some, length, nat_eq, drop, take};
+ghost use Rattle.std.specs.Prelude.{◌≡◌, ◌≤◌, ◌∷◌, Some, length, nat_eq};
 ghost use Rattle.std.specs.List.{position};
-ghost use Rattle.fuse_spec.specs.Paths.{parent_and_last};
-ghost use Rattle.fk_syscalls.specs.Words.{words_from, IsPlace, IsBehindSlash, place_of_parent};
+ghost use Rattle.fk_syscalls.specs.Words.{words_from, IsPlace, IsBehindSlash, behind_first};
 
 /// Where the first slash stands.
 fn first_slash(bytes: &[u8]) -> Option<usize>
@@ -23,5 +22,17 @@ pub(crate) fn word_at(words: &[u8], place: usize) -> (&[u8], Option<usize>)
     match first_slash(rest) {
         Some(len) => (&rest[..len], Some(place + len + 1)),
         None => (rest, None),
+    }
+}
+
+/// The place of the word behind that at a place, if there is one.
+pub(crate) fn next_place(words: &[u8], at: Option<usize>) -> Option<usize>
+    requires { IsPlace words.now at }
+    ensures words { words_from words.now result ≡ behind_first (words_from words.now at) }
+    ensures place { IsPlace words.now result }
+{
+    match at {
+        Some(place) => word_at(words, place).1,
+        None => None,
     }
 }

@@ -2,7 +2,7 @@ use Rattle.std.proofs.Common.{◌≡◌}
 use Rattle.fuse_spec.specs.Walks.{go}
 use Rattle.fk_syscalls.specs.Words.{words_from, IsPlace}
 use Rattle.fk_syscalls.specs.Walks.{known}
-use Rattle.fk_syscalls.proofs.Steps.{bytes_left}
+use Rattle.fk_syscalls.proofs.BytesLeft.{bytes_left}
 use Rattle.fk_syscalls.proofs.walk.walk.Given as goal
 
 abbrev pub invariant-loop-stop : goal.invariant-loop-stop
