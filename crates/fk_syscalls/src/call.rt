@@ -20,7 +20,7 @@ pub enum Answer {
 }
 
 /// The operation that an unanswered call asks. Its names are lent.
-#[derive(Clone, Copy, Debug)]
+#[derive(Clone, Copy, Debug, PartialEq, Eq)]
 pub enum Asked<'a> {
     Lookup { directory: u64, name: &'a [u8] },
     Getattr { node: u64 },

@@ -11,3 +11,6 @@ mod words;
 pub use beginning::begin;
 pub use call::{Answer, Asked, Call};
 pub use state::{CallState, Next};
+
+#[cfg(test)]
+mod tests;

@@ -12,7 +12,7 @@ returns-in-Some g c = λ vfs call directory word words plan has walks.
     let then = left_to_walk self.node left operation directory word words plan (c.self.view_is ∙ walks) in
     let next = rw c.deref.ensures.value at c.next_place-next.ensures.words in
     let stop = rw c.deref-2.ensures.value at c.in-Some.ensures.stop in
-    rw (then.0, then.1, ← next) (waits vfs c.args.names.now.names c.args.clock has call c.args.node (words_from self.words.items c.next_place-next.result) operation c.in-Some.stop.node (words_from self.words.items c.in-Some.stop.at) stop)
+    rw (then.0, then.1, ← next) (waits vfs c.args.names.now.names c.args.clock has call (words_from self.words.items c.next_place-next.result) operation c.args.node c.in-Some.stop.node (words_from self.words.items c.in-Some.stop.at) stop)
 
 pub returns-in-None : goal.returns-in-None
 returns-in-None g c = λ vfs call directory word words plan has walks.
@@ -22,4 +22,4 @@ returns-in-None g c = λ vfs call directory word words plan has walks.
     let then = left_to_walk self.node left operation directory word words plan (c.self.view_is ∙ walks) in
     let next = rw c.deref.ensures.value at c.next_place-next.ensures.words in
     let stop = rw c.deref-2.ensures.value at c.in-None.ensures.stop in
-    rw (then.0, then.1, ← next) (finds_none vfs c.args.names.now.names c.args.clock has call c.args.node (words_from self.words.items c.next_place-next.result) operation stop)
+    rw (then.0, then.1, ← next) (finds_none vfs c.args.names.now.names c.args.clock has call (words_from self.words.items c.next_place-next.result) operation c.args.node stop)
