@@ -57,52 +57,59 @@ fn the_first_fault_from_the_left_decides(rt: HostRuntime) -> Result<(), Fail> {
     Ok(())
 }
 
+/// A path of one long word, with more behind it.
+fn long_word(alloc: Global, len: usize, tail: &[u8]) -> Result<Vec<u8>, AllocError> {
+    let mut path = vec![in alloc; b'n'; len]?;
+    path.insert(0, b'/')?;
+    path.extend_from_slice(tail)?;
+    Ok(path)
+}
+
 #[test]
 fn a_word_has_at_most_255_bytes(rt: HostRuntime) -> Result<(), Fail> {
     let alloc = rt.alloc();
     let names: Bindings<Global> = Bindings::new(alloc);
-    let mut path = [b'n'; 260];
-    path[0] = b'/';
-    judged(&rt, &names, alloc, &path[..256], None)?;
-    judged(&rt, &names, alloc, &path[..257], Some(ENAMETOOLONG))?;
-    path[256] = b'/';
-    judged(&rt, &names, alloc, &path, None)?;
-    judged(&rt, &names, alloc, &path[..257], Some(EINVAL))?;
-    path[256] = b'n';
-    path[257] = b'/';
-    path[258] = b'/';
-    judged(&rt, &names, alloc, &path, Some(ENAMETOOLONG))?;
-    path[200] = 0;
-    judged(&rt, &names, alloc, &path[..257], Some(EINVAL))?;
-    path[2] = b'/';
-    path[3] = b'/';
-    judged(&rt, &names, alloc, &path, Some(EINVAL))?;
-    path[0] = b'n';
-    judged(&rt, &names, alloc, &path[..257], Some(EINVAL))?;
+    for (len, tail, fault) in [
+        (255, b"".as_slice(), None),
+        (255, b"/a".as_slice(), None),
+        (255, b"/".as_slice(), Some(EINVAL)),
+        (256, b"".as_slice(), Some(ENAMETOOLONG)),
+        (256, b"//".as_slice(), Some(ENAMETOOLONG)),
+        (256, b"\0".as_slice(), Some(EINVAL)),
+    ] {
+        let path = long_word(alloc, len, tail)?;
+        judged(&rt, &names, alloc, &path, fault)?;
+    }
     Ok(())
+}
+
+/// A path of so many words of one byte, with more behind them.
+fn many_words(alloc: Global, words: usize, tail: &[u8]) -> Result<Vec<u8>, AllocError> {
+    let mut path = Vec::new(alloc);
+    for _word in 0..words {
+        path.extend_from_slice(b"/a")?;
+    }
+    path.extend_from_slice(tail)?;
+    Ok(path)
 }
 
 #[test]
 fn of_the_33rd_word_its_place_alone_is_judged(rt: HostRuntime) -> Result<(), Fail> {
     let alloc = rt.alloc();
     let names: Bindings<Global> = Bindings::new(alloc);
-    let mut path = [b'a'; 68];
-    for place in 0..34usize {
-        path[2 * place] = b'/';
+    for (words, tail, fault) in [
+        (32, b"".as_slice(), None),
+        (32, b"/".as_slice(), Some(ENAMETOOLONG)),
+        (32, b"/.".as_slice(), Some(ENAMETOOLONG)),
+        (32, b"/\0".as_slice(), Some(ENAMETOOLONG)),
+        (33, b"".as_slice(), Some(ENAMETOOLONG)),
+        (34, b"".as_slice(), Some(ENAMETOOLONG)),
+        (31, b"/..".as_slice(), Some(EINVAL)),
+        (31, b"//a".as_slice(), Some(EINVAL)),
+    ] {
+        let path = many_words(alloc, words, tail)?;
+        judged(&rt, &names, alloc, &path, fault)?;
     }
-    judged(&rt, &names, alloc, &path[..64], None)?;
-    judged(&rt, &names, alloc, &path[..65], Some(ENAMETOOLONG))?;
-    judged(&rt, &names, alloc, &path[..66], Some(ENAMETOOLONG))?;
-    judged(&rt, &names, alloc, &path, Some(ENAMETOOLONG))?;
-    path[65] = b'.';
-    judged(&rt, &names, alloc, &path[..66], Some(ENAMETOOLONG))?;
-    path[65] = 0;
-    judged(&rt, &names, alloc, &path[..66], Some(ENAMETOOLONG))?;
-    path[63] = b'.';
-    judged(&rt, &names, alloc, &path[..66], Some(EINVAL))?;
-    judged(&rt, &names, alloc, &path[..64], Some(EINVAL))?;
-    path[63] = b'/';
-    judged(&rt, &names, alloc, &path, Some(EINVAL))?;
     Ok(())
 }
 
