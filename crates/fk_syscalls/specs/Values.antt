@@ -6,6 +6,7 @@ use Rattle.fuse_spec.specs.Calls as call
 use Rattle.fuse_spec.specs.Operations as op
 use Rattle.fuse_spec.specs.Vfs.{Vfs, Advance, asking, no_more, answered}
 use Rattle.fuse_spec.specs.declared.Opened.{Opened}
+use Rattle.fk_syscalls.specs.Words.{IsWord}
 use Rattle.fk_syscalls.specs.declared.call.Answer.{Answer}
 use Rattle.fk_syscalls.specs.declared.call.Answer.TheVariants.{Done, Attributes, Failed}
 use Rattle.fk_syscalls.specs.declared.call.Asked.{Asked}
@@ -31,6 +32,12 @@ abbrev pub operation_of : Asked → op.Operation ℕ Opened
 operation_of (Lookup directory name) = op.lookup directory name.now
 operation_of (Getattr node) = op.getattr node
 operation_of (AsksMkdir directory name) = op.mkdir directory name.now
+
+-- The name that is asked for or given, if there is one, is a word of a path without a fault.
+abbrev pub AsksWord : Asked → Type 0
+AsksWord (Lookup directory name) = IsWord name.now
+AsksWord (Getattr node) = Unit {0}
+AsksWord (AsksMkdir directory name) = IsWord name.now
 
 -- Where a step leaves a call.
 abbrev pub comes_to : {A : Type 0} → Vfs Opened → ℕ → Next A → Advance Opened

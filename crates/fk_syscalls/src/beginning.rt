@@ -5,8 +5,8 @@ ghost use Rattle.fuse_spec.specs.Calls as call;
 ghost use Rattle.fuse_spec.specs.Vfs.{Vfs, numbered, begun, walks_on};
 ghost use Rattle.fuse_spec.specs.Walks.{last};
 ghost use Rattle.fuse_spec.specs.declared.Opened.{Opened};
-ghost use Rattle.fk_syscalls.specs.Words.{words_from, IsPlace};
-ghost use Rattle.fk_syscalls.specs.States.{final_of, HasNames};
+ghost use Rattle.fk_syscalls.specs.Words.{words_from};
+ghost use Rattle.fk_syscalls.specs.States.{final_of, IsSoundCall, HasNames};
 ghost use Rattle.fk_syscalls.specs.Values.{call_of, comes_to};
 
 use crate::call::Call;
@@ -82,7 +82,7 @@ fn set_out<A: Allocator + Copy>(
     at: Option<usize>,
     operation: FinalOperation<A>,
 ) -> Result<Next<A>, AllocError>
-    requires { IsPlace words.now at }
+    requires { IsSoundCall words.now at operation }
     ensures { IfOk result (λ next. (c : Vfs Opened) (call : ℕ) → HasNames c names.now.names clock → walks_on c call c.root (words_from words.now at) (last (final_of operation)) ≡ comes_to c call next) }
 {
     match walk(names, clock, ROOT, words, at) {

@@ -2,7 +2,7 @@
 
 ghost use Rattle.std.specs.Prelude.{◌≡◌, ◌≤◌, Some, Ok, Err, length, IfOk, MatchResult};
 ghost use Rattle.fuse_spec.specs.Paths.{word_fault, first_fault, words_of, parent_and_last};
-ghost use Rattle.fk_syscalls.specs.Words.{words_from, IsPlace};
+ghost use Rattle.fk_syscalls.specs.Words.{words_from, IsWord, AreWords};
 
 use crate::words::word_at;
 
@@ -55,7 +55,7 @@ fn words_fault(words: &[u8], first: usize) -> Option<u32>
 /// and has no words.
 pub(crate) fn first_word(path: &[u8]) -> Result<Option<usize>, u32>
     ensures words { MatchResult result (λ at. words_of path.now ≡ Ok (words_from path.now at)) (λ errno. words_of path.now ≡ Err errno) }
-    ensures place { IfOk result (λ at. IsPlace path.now at) }
+    ensures left { IfOk result (λ at. AreWords path.now at) }
 {
     match path {
         [b'/'] => Ok(None),
@@ -78,9 +78,10 @@ pub(crate) struct Parent<'a> {
 
 /// Parts the last word from those before it, of the words from a place on.
 pub(crate) fn split_last_word(words: &[u8], first: usize) -> Parent<'_>
-    requires { first ≤ length words.now }
+    requires { AreWords words.now (Some first) }
     ensures parts { parent_and_last (words_from words.now (Some first)) ≡ Some (words_from result.words.now result.at, result.name.now) }
-    ensures place { IsPlace result.words.now result.at }
+    ensures left { AreWords result.words.now result.at }
+    ensures name { IsWord result.name.now }
 {
     let mut last = first;
     loop {

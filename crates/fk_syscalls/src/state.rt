@@ -7,9 +7,9 @@ ghost use Rattle.fuse_spec.specs.Paths.{Name};
 ghost use Rattle.fuse_spec.specs.Vfs.{Vfs, walking, asked, walks_on};
 ghost use Rattle.fuse_spec.specs.Walks.{WalkPlan};
 ghost use Rattle.fuse_spec.specs.declared.Opened.{Opened};
-ghost use Rattle.fk_syscalls.specs.Words.{words_from, IsPlace};
-ghost use Rattle.fk_syscalls.specs.States.{final_of, state_of, HasNames};
-ghost use Rattle.fk_syscalls.specs.Values.{operation_of, comes_to};
+ghost use Rattle.fk_syscalls.specs.Words.{words_from};
+ghost use Rattle.fk_syscalls.specs.States.{final_of, state_of, IsSoundCall, HasNames};
+ghost use Rattle.fk_syscalls.specs.Values.{operation_of, AsksWord, comes_to};
 
 use crate::call::Asked;
 use crate::walk::walk;
@@ -42,8 +42,8 @@ impl<A: Allocator> Model for CallState<A> {
     ghost use Rattle.std.specs.Coded.{codes};
     ghost use Rattle.fuse_spec.specs.Vfs.{CallState as State};
     ghost use Rattle.fuse_spec.specs.declared.Opened.{Opened};
-    ghost use Rattle.fk_syscalls.specs.Words.{words_from, IsPlace};
-    ghost use Rattle.fk_syscalls.specs.States.{final_of, state_of};
+    ghost use Rattle.fk_syscalls.specs.Words.{words_from};
+    ghost use Rattle.fk_syscalls.specs.States.{final_of, state_of, IsSoundCall};
 
     ghost Value = { State Opened };
 
@@ -51,7 +51,7 @@ impl<A: Allocator> Model for CallState<A> {
 
     ghost view = { λ s. state_of s.node (words_from s.words.items s.at) (final_of s.operation) };
 
-    ghost invariant = { λ s. IsPlace s.words.items s.at };
+    ghost invariant = { λ s. IsSoundCall s.words.items s.at s.operation };
 }
 
 /// Where a step leaves a call.
@@ -72,7 +72,7 @@ impl<A: Allocator + Copy> CallState<A> {
         at: Option<usize>,
         operation: FinalOperation<A>,
     ) -> Result<Self, AllocError>
-        requires { IsPlace words.now at }
+        requires { IsSoundCall words.now at operation }
         ensures { IfOk result (λ state. state ≡ state_of node (words_from words.now at) (final_of operation)) }
     {
         match at {
@@ -116,7 +116,8 @@ impl<A: Allocator + Copy> CallState<A> {
 
     /// The operation that it asks.
     pub fn asks(&self) -> Asked<'_>
-        ensures { operation_of result ≡ asked self.now }
+        ensures operation { operation_of result ≡ asked self.now }
+        ensures word { AsksWord result }
     {
         if let Some(place) = self.at {
             let (name, _) = word_at(&self.words, place);

@@ -2,7 +2,7 @@
 
 ghost use Rattle.std.specs.Prelude.{◌≡◌, IfSome, MatchOption};
 ghost use Rattle.fuse_spec.specs.Walks.{go, missing};
-ghost use Rattle.fk_syscalls.specs.Words.{words_from, IsPlace};
+ghost use Rattle.fk_syscalls.specs.Words.{words_from, AreWords};
 ghost use Rattle.fk_syscalls.specs.Walks.{known, stop_at};
 
 use crate::words::word_at;
@@ -25,9 +25,9 @@ pub(crate) fn walk<A: Allocator + Copy>(
     words: &[u8],
     at: Option<usize>,
 ) -> Option<Stop>
-    requires { IsPlace words.now at }
+    requires { AreWords words.now at }
     ensures stop { MatchOption result (go (known names.now.names clock) from (words_from words.now at) ≡ missing) (λ stop. go (known names.now.names clock) from (words_from words.now at) ≡ stop_at stop.node (words_from words.now stop.at)) }
-    ensures place { IfSome result (λ stop. IsPlace words.now stop.at) }
+    ensures left { IfSome result (λ stop. AreWords words.now stop.at) }
 {
     let mut stop = Stop { node: from, at };
     while let Some(place) = stop.at {

@@ -2,7 +2,7 @@
 
 ghost use Rattle.std.specs.Prelude.{◌≡◌, ◌≤◌, ◌∷◌, Some, length, nat_eq};
 ghost use Rattle.std.specs.List.{position};
-ghost use Rattle.fk_syscalls.specs.Words.{words_from, IsPlace, IsBehindSlash, behind_first};
+ghost use Rattle.fk_syscalls.specs.Words.{words_from, IsPlace, IsBehindSlash, AreWords, behind_first};
 
 /// Where the first slash stands.
 fn first_slash(bytes: &[u8]) -> Option<usize>
@@ -27,9 +27,9 @@ pub(crate) fn word_at(words: &[u8], place: usize) -> (&[u8], Option<usize>)
 
 /// The place of the word behind that at a place, if there is one.
 pub(crate) fn next_place(words: &[u8], at: Option<usize>) -> Option<usize>
-    requires { IsPlace words.now at }
+    requires { AreWords words.now at }
     ensures words { words_from words.now result ≡ behind_first (words_from words.now at) }
-    ensures place { IsPlace words.now result }
+    ensures left { AreWords words.now result }
 {
     match at {
         Some(place) => word_at(words, place).1,
