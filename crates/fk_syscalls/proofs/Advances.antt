@@ -3,7 +3,7 @@ use Rattle.std.proofs.Common.{◌≡◌, ℕ, List, [], ◌∷◌, ap, ◌∙◌
 use Rattle.fuse_spec.specs.Answers.{failed}
 use Rattle.fuse_spec.specs.Maps.{NameMap}
 use Rattle.fuse_spec.specs.Paths.{Name}
-use Rattle.fuse_spec.specs.Vfs.{CallState, walking, Vfs, Advance, look, asking, no_more, answered, after_walk, walks_on}
+use Rattle.fuse_spec.specs.Vfs.{walking, Vfs, Advance, look, asking, no_more, answered, after_walk, walks_on}
 use Rattle.fuse_spec.specs.Walks.{WalkPlan, WalkStop, FinalOperation, last, go, after_stop, missing}
 use Rattle.fuse_spec.specs.declared.Binding.{Binding}
 use Rattle.fuse_spec.specs.declared.Opened.{Opened}

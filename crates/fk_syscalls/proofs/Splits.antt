@@ -1,5 +1,5 @@
 -- Words of bytes: `split` gives the word before the first slash, and then the words behind that slash.
-use Rattle.std.proofs.Common.{◌≡◌, ℕ, suc, ◌+◌, ◌<◌, ◌≤◌, ◌-◌, Bool, true, false, List, [], ◌∷◌, ◌++◌, Option, Some, None, take, drop, length, get_or, nat_eq, refl, ap, sym, ◌∙◌, append_assoc, one-add, add-one, drop-cons, arith}
+use Rattle.std.proofs.Common.{◌≡◌, ℕ, suc, ◌+◌, ◌<◌, ◌-◌, Bool, true, false, List, [], ◌∷◌, ◌++◌, Some, None, take, drop, length, get_or, nat_eq, refl, ap, sym, ◌∙◌, append_assoc, one-add, add-one, drop-cons, arith}
 use Rattle.std.proofs.lemmas.Bool.{eqb-true}
 use Rattle.std.proofs.lemmas.List.{append-nil, drop_all, take_all, take_rest, drop-drop}
 use Rattle.std.proofs.lemmas.List.Quantifiers.{position-Some}

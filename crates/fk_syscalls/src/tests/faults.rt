@@ -18,8 +18,16 @@ fn judged(
     path: &[u8],
     fault: Option<u32>,
 ) -> Result<(), AllocError> {
-    assert_eq!(rt; errno_of(&stat(alloc, names, 0, path)?), fault, "stat {path:?}");
-    assert_eq!(rt; errno_of(&mkdir(alloc, names, 0, path)?), fault, "mkdir {path:?}");
+    assert_eq!(rt;
+        errno_of(&stat(alloc, names, 0, path)?),
+        fault,
+        "stat {path:?}"
+    );
+    assert_eq!(rt;
+        errno_of(&mkdir(alloc, names, 0, path)?),
+        fault,
+        "mkdir {path:?}"
+    );
     Ok(())
 }
 

@@ -44,11 +44,27 @@ fn each_refused<A: Allocator + Copy>(
     assert_eq!(rt; growths, 2);
     heap.refuse(1);
     let stat = found(stat, &names, 0, 3);
-    assert!(rt; asks(&stat, Asked::Lookup { directory: 3, name: b"c" }));
+    assert!(rt;
+        asks(
+            &stat,
+            Asked::Lookup {
+                directory: 3,
+                name: b"c"
+            }
+        )
+    );
     let stat = found(stat, &names, 0, 4);
     assert!(rt; asks(&stat, Asked::Getattr { node: 4 }));
     let mkdir = found(mkdir, &names, 0, 3);
-    assert!(rt; asks(&mkdir, Asked::Mkdir { directory: 3, name: b"c" }));
+    assert!(rt;
+        asks(
+            &mkdir,
+            Asked::Mkdir {
+                directory: 3,
+                name: b"c"
+            }
+        )
+    );
     assert_eq!(rt; heap.left(), 1);
     heap.refuse(0);
     Ok(())

@@ -29,7 +29,12 @@ fn known_names_are_not_looked_up(rt: HostRuntime) -> Result<(), Fail> {
     let alloc = rt.alloc();
     let names = some_names(alloc)?;
     assert!(rt; asks(&stat(alloc, &names, 0, b"/a")?, Asked::Getattr { node: 2 }));
-    assert!(rt; asks(&stat(alloc, &names, 499, b"/a/b")?, Asked::Getattr { node: 3 }));
+    assert!(rt;
+        asks(
+            &stat(alloc, &names, 499, b"/a/b")?,
+            Asked::Getattr { node: 3 }
+        )
+    );
     assert!(rt; asks(&stat(alloc, &names, 499, b"/a/b/c")?, lookup(3, b"c")));
     assert!(rt; asks(&stat(alloc, &names, 500, b"/a/b/c")?, lookup(2, b"b")));
     assert!(rt; asks(&stat(alloc, &names, 1000, b"/a/b")?, lookup(1, b"a")));
@@ -41,9 +46,18 @@ fn known_names_are_not_looked_up(rt: HostRuntime) -> Result<(), Fail> {
 fn a_missing_name_answers_at_once(rt: HostRuntime) -> Result<(), Fail> {
     let alloc = rt.alloc();
     let mut names = some_names(alloc)?;
-    assert_eq!(rt; errno_of(&stat(alloc, &names, 999, b"/gone")?), Some(ENOENT));
-    assert_eq!(rt; errno_of(&stat(alloc, &names, 999, b"/gone/b")?), Some(ENOENT));
-    assert_eq!(rt; errno_of(&mkdir(alloc, &names, 999, b"/gone/b")?), Some(ENOENT));
+    assert_eq!(rt;
+        errno_of(&stat(alloc, &names, 999, b"/gone")?),
+        Some(ENOENT)
+    );
+    assert_eq!(rt;
+        errno_of(&stat(alloc, &names, 999, b"/gone/b")?),
+        Some(ENOENT)
+    );
+    assert_eq!(rt;
+        errno_of(&mkdir(alloc, &names, 999, b"/gone/b")?),
+        Some(ENOENT)
+    );
     assert!(rt; asks(&stat(alloc, &names, 1000, b"/gone")?, lookup(1, b"gone")));
     bind(&mut names, 7, b"y", None, 1000)?;
     let next = found(stat(alloc, &names, 0, b"/x/y/z")?, &names, 0, 7);

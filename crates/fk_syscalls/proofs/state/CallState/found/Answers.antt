@@ -1,6 +1,6 @@
 use Rattle.std.proofs.Common.{◌∙◌}
 use Rattle.fk_syscalls.specs.States.{final_of}
-use Rattle.fk_syscalls.specs.Words.{words_from, behind_first}
+use Rattle.fk_syscalls.specs.Words.{words_from}
 use Rattle.fk_syscalls.proofs.Advances.{waits, finds_none, left_to_walk}
 use Rattle.fk_syscalls.proofs.state.CallState.found.Goals as goal
 

@@ -1,4 +1,4 @@
-use Rattle.std.proofs.Common.{Some, subst, ap, sym, ◌∙◌}
+use Rattle.std.proofs.Common.{subst}
 use Rattle.fk_syscalls.specs.Words.{AreWords}
 use Rattle.fk_syscalls.proofs.FaultlessWords.{copied_are_words}
 use Rattle.fk_syscalls.proofs.state.CallState.new.Goals as goal
