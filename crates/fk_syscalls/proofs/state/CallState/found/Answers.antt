@@ -1,0 +1,25 @@
+use Rattle.std.proofs.Common.{◌∙◌}
+use Rattle.fk_syscalls.specs.States.{final_of}
+use Rattle.fk_syscalls.specs.Words.{words_from}
+use Rattle.fk_syscalls.proofs.Advances.{waits, finds_none, left_to_walk}
+use Rattle.fk_syscalls.proofs.state.CallState.found.Goals as goal
+
+pub returns-in-Some : goal.returns-in-Some
+returns-in-Some g c = λ vfs call directory word words plan has walks.
+    let self = c.self.inside in
+    let left = words_from self.words.items self.at in
+    let operation = final_of self.operation in
+    let then = left_to_walk self.node left operation directory word words plan (c.self.view_is ∙ walks) in
+    let next = rw c.deref.ensures.value at c.next_place-next.ensures.words in
+    let stop = rw c.deref-2.ensures.value at c.in-Some.ensures.stop in
+    rw (then.0, then.1, ← next) (waits vfs c.args.names.now.names c.args.clock has call (words_from self.words.items c.next_place-next.result) operation c.args.node c.in-Some.stop.node (words_from self.words.items c.in-Some.stop.at) stop)
+
+pub returns-in-None : goal.returns-in-None
+returns-in-None g c = λ vfs call directory word words plan has walks.
+    let self = c.self.inside in
+    let left = words_from self.words.items self.at in
+    let operation = final_of self.operation in
+    let then = left_to_walk self.node left operation directory word words plan (c.self.view_is ∙ walks) in
+    let next = rw c.deref.ensures.value at c.next_place-next.ensures.words in
+    let stop = rw c.deref-2.ensures.value at c.in-None.ensures.stop in
+    rw (then.0, then.1, ← next) (finds_none vfs c.args.names.now.names c.args.clock has call (words_from self.words.items c.next_place-next.result) operation c.args.node stop)

@@ -1,0 +1,4 @@
+pub mod Words
+pub mod Walks
+pub mod States
+pub mod Values

@@ -1,0 +1,16 @@
+-- Walks along names in force.
+use Rattle.std.specs.Prelude.{ℕ, List, [], ◌∷◌, Option}
+use Rattle.fuse_spec.specs.declared.Binding.{Binding}
+use Rattle.fuse_spec.specs.Maps.{NameMap, get_name}
+use Rattle.fuse_spec.specs.Paths.{Name}
+use Rattle.fuse_spec.specs.Vfs.{valid_at}
+use Rattle.fuse_spec.specs.Walks.{WalkStop, unknown, arrived}
+
+-- What a name leads to at a time, where it is valid.
+abbrev pub known : NameMap Binding → ℕ → ℕ → Name → Option (Option ℕ)
+known names clock directory name = valid_at clock (get_name names (directory, name))
+
+-- A walk stands at a node, with these words still to be walked.
+abbrev pub stop_at : ℕ → List Name → WalkStop ℕ
+stop_at node [] = arrived node
+stop_at node (word ∷ words) = unknown node word words

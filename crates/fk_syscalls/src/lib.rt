@@ -1,0 +1,16 @@
+//! System calls: how a path spells words, how far names in force lead along them, and what a call then asks.
+#![tactic(auto)]
+
+mod beginning;
+mod call;
+mod path;
+mod state;
+mod walk;
+mod words;
+
+pub use beginning::begin;
+pub use call::{Answer, Asked, Call};
+pub use state::{CallState, Next};
+
+#[cfg(test)]
+mod tests;
