@@ -7,7 +7,7 @@ use std::alloc::{AllocError, Allocator, Global};
 use std::process::Abort;
 use std::test::Fail;
 
-/// Begins a call with the nth growth refused, if it comes. Says how many growths came before it.
+/// Begins a call with each of its growths refused once, and then with none refused. Says how many growths it has.
 fn begun<A: Allocator + Copy>(
     rt: &impl Abort,
     alloc: A,
