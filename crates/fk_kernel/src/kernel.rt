@@ -552,6 +552,13 @@ impl<Q: QueueTable<Purpose> + Drop> KernelOf<Q> {
         self.answers.put(call, StoredAnswer::new(answer));
     }
 
+    /// How many answers wait to be collected.
+    pub fn answered(&self) -> usize
+        ensures { result ≡ length self.now.vfs.answers }
+    {
+        self.answers.len()
+    }
+
     /// Hands out, once, the answer of the lowest answered call.
     pub fn collect(&mut self) -> Option<(u64, Answer)>
         ensures answer { option_map (λ r. (r.0, answer_of r.1)) result ≡ slice_get self.old.vfs.answers 0 }

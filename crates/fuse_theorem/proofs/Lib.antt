@@ -99,6 +99,7 @@ pub mod SoundSettles
 pub mod SoundMounts
 pub mod FirstKeeps
 pub mod FirstPath
+pub mod FirstAnswered
 pub mod FirstAnswers
 pub mod AnsweredOnce
 pub mod FirstRuns

@@ -100,7 +100,9 @@ fn run_events<A: Allocator + Copy, W: Write>(
             continue;
         }
         if let Ok(event) = read_event(line) {
-            run_event(&mut world, event, &mut records, hex, out)?;
+            if let Err(stop) = run_event(&mut world, event, &mut records, hex, out) {
+                return Err(stop);
+            }
         }
     }
     flush(out)

@@ -5,3 +5,5 @@ pub mod Parts
 pub mod Serving
 pub mod Made
 pub mod Copies
+pub mod Collecting
+pub mod Recording

@@ -1,14 +1,17 @@
 //! Whole lists of events.
 
-ghost use Rattle.std.specs.Prelude.{◌≤◌, length, IfErr};
+ghost use Rattle.std.specs.Prelude.{◌≡◌, ◌+◌, ◌<◌, ◌≤◌, ◌++◌, ◌∷◌, [], false, List, IsTrue, IfErr, length, map};
+ghost use Rattle.std.specs.Vec.{vec_len, vec_capacity};
+ghost use Rattle.fuse_spec.specs.Records.{answers_of, collected};
+ghost use Rattle.fuse_theorem.specs.FirstPath.{Recorded};
+ghost use Rattle.fw_world.specs.declared.record.Record.{Record as RecordValue};
+ghost use Rattle.fw_world.specs.Values.{event_of, record_of};
+ghost use Rattle.fw_world.specs.Runs.{RunsAs, events_run};
 
 use crate::event::Event;
 use crate::record::Record;
 use crate::world::WorldIn;
 use std::alloc::Allocator;
-
-/// The most calls that one event answers.
-const MAX_ANSWERS: usize = 64;
 
 /// Runs the events one after another. The records of each are its outcome or refusal, and then the answers that it
 /// gave, in rising call number.
@@ -21,24 +24,62 @@ pub fn run<A: Allocator + Copy>(
     events: &[Event<'_>],
     records: &mut Vec<Record, A>,
 ) -> Result<(), usize>
-    ensures { IfErr result (λ k. k ≤ length events.now) }
+    ensures ran { (added : List RecordValue) × (records.new.items ≡ records.old.items ++ added) × RunsAs world.old (map event_of (events_run result events.now)) (map record_of added) world.new }
+    ensures err { IfErr result (λ k. k < length events.now) }
 {
-    for k in 0..events.len() {
-        if records.reserve(1 + MAX_ANSWERS).is_err() {
+    world.is_first();
+    for (k, event) in events.iter().enumerate() {
+        if !run_one(world, event, records) {
             return Err(k);
-        }
-        let event = &events[k];
-        let record = match world.step(event) {
-            Ok(outcome) => Record::Outcome(outcome),
-            Err(refusal) => Record::Refused(refusal),
-        };
-        let _ = records.push(record);
-        for _answer in 0..MAX_ANSWERS {
-            let Some((call, answer)) = world.collect() else {
-                break;
-            };
-            let _ = records.push(Record::Answered { call, answer });
         }
     }
     Ok(())
+}
+
+/// Runs one event and records what it came to, or does nothing where there is no memory for the records.
+fn run_one<A: Allocator + Copy>(
+    world: &mut WorldIn<A>,
+    event: &Event<'_>,
+    records: &mut Vec<Record, A>,
+) -> bool
+    ensures not_run { result ≡ false → (world.new ≡ world.old) × (records.new.items ≡ records.old.items) }
+    ensures ran { IsTrue result → (added : List RecordValue) × (records.new.items ≡ records.old.items ++ added) × Recorded world.old (event_of event.now ∷ []) (map record_of added) world.new }
+{
+    world.is_first();
+    let Some(room) = world.answered().checked_add(2) else {
+        return false;
+    };
+    if records.reserve(room).is_err() {
+        return false;
+    }
+    match world.step(event) {
+        Ok(outcome) => {
+            add(records, Record::Outcome(outcome));
+            collect_all(world, records);
+        }
+        Err(refusal) => add(records, Record::Refused(refusal)),
+    }
+    true
+}
+
+/// Collects and records every answer that waits.
+fn collect_all<A: Allocator + Copy>(world: &mut WorldIn<A>, records: &mut Vec<Record, A>)
+    requires { vec_len records.old + length world.old.kernel.vfs.answers ≤ vec_capacity records.old }
+    ensures world { world.new ≡ collected world.old }
+    ensures records { (added : List RecordValue) × (records.new.items ≡ records.old.items ++ added) × (map record_of added ≡ answers_of world.old.kernel.vfs.answers) }
+{
+    world.is_first();
+    while let Some((call, answer)) = world.collect() {
+        add(records, Record::Answered { call, answer });
+    }
+}
+
+/// Appends a record where there is room for it.
+fn add<A: Allocator>(records: &mut Vec<Record, A>, value: Record)
+    requires { vec_len records.old < vec_capacity records.old }
+    ensures items { records.new.items ≡ records.old.items ++ value ∷ [] }
+    ensures len { vec_len records.new ≡ vec_len records.old + 1 }
+    ensures capacity { vec_capacity records.old ≤ vec_capacity records.new }
+{
+    let _ = records.push(value);
 }

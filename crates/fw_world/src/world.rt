@@ -1,11 +1,14 @@
 //! The world.
 
-ghost use Rattle.std.specs.Prelude.{◌≡◌, ◌≤◌, ◌<◌, ◌++◌, ◌∷◌, [], ℕ, false, OnErr, IfOk, IfErr, IfNone, IfSome, option_map, slice_get};
+ghost use Rattle.std.specs.Prelude.{◌≡◌, ◌≤◌, ◌<◌, ◌++◌, ◌∷◌, [], ℕ, false, OnErr, IfOk, IfErr, IfNone, IfSome, length, option_map, slice_get};
 ghost use Rattle.std.specs.Vec.{vec_len, vec_capacity};
 ghost use Rattle.fuse_spec.specs.Events as event;
 ghost use Rattle.fuse_spec.specs.Maps.{remove};
 ghost use Rattle.fuse_spec.specs.Steps.{Happens, is_past};
 ghost use Rattle.fuse_spec.specs.Worlds.{World as WorldState, first_world};
+ghost use Rattle.fuse_spec.specs.Plain.{first_plain};
+ghost use Rattle.fuse_spec.specs.Alike.{Alike};
+ghost use Rattle.fuse_theorem.specs.FirstWorld.{IsFirstWorld};
 ghost use Rattle.fk_kernel.specs.Values.{call_of, answer_of};
 ghost use Rattle.fw_world.specs.Values.{event_of, outcome_of, result_of};
 ghost use Rattle.fw_world.specs.Steps.{RefusedWith};
@@ -68,7 +71,8 @@ impl<A: Allocator + Copy> WorldIn<A> {
     ///
     /// None so far: nothing is allocated yet.
     pub fn new(alloc: A) -> Result<WorldIn<A>, Refusal>
-        ensures { IfOk result (λ world. world ≡ first_world) }
+        ensures first { IfOk result (λ world. world ≡ first_world) }
+        ensures alike { IfOk result (λ world. Alike world first_plain) }
     {
         Ok(WorldIn {
             kernel: Kernel::new(alloc),
@@ -112,6 +116,20 @@ impl<A: Allocator + Copy> WorldIn<A> {
         ensures taken { IfSome result (λ r. self.new ≡ record self.old { kernel = record self.old.kernel { vfs = record self.old.kernel.vfs { answers = remove self.old.kernel.vfs.answers r.0 } } }) }
     {
         self.kernel.collect()
+    }
+
+    /// How many answers wait to be collected.
+    pub fn answered(&self) -> usize
+        ensures { result ≡ length self.now.kernel.vfs.answers }
+    {
+        self.kernel.answered()
+    }
+
+    /// The world is one of the first path.
+    pub(crate) fn is_first(&self)
+        ensures { IsFirstWorld self.now }
+    {
+        let _ = &self.kernel;
     }
 
     /// The request or reply frame that the last step put, if its link still has it.

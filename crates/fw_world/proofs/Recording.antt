@@ -1,0 +1,133 @@
+-- Lists of events, and what is recorded of each.
+use Rattle.std.proofs.Common.{◌≡◌, ℕ, ◌+◌, ◌<◌, ◌≤◌, List, [], ◌∷◌, ◌++◌, Result, Ok, Err, OnOk, is_err, false, length, map, take, get_or, slice_index_or, refl, ap, sym, subst, ◌∙◌, arith, All}
+use Rattle.std.proofs.lemmas.List.{append_assoc, append-nil, map-append, take_more, take_all}
+use Rattle.std.proofs.lemmas.List.Elements.{All-nil, All-cons, All-map}
+use Rattle.fuse_spec.specs.declared.Refusal.{Refusal}
+use Rattle.fuse_spec.specs.Worlds.{World}
+use Rattle.fuse_spec.specs.Events.{Event, Outcome}
+use Rattle.fuse_spec.specs.Events as event
+use Rattle.fuse_spec.specs.Records as records
+use Rattle.fuse_spec.specs.Records.{answers_of, collected}
+use Rattle.fuse_spec.specs.Steps.{Happens}
+use Rattle.fuse_spec.specs.Plain.{Plain}
+use Rattle.fuse_spec.specs.Alike.{Alike}
+use Rattle.fuse_theorem.specs.FirstPath.{IsFirst, first_mount, first_call, first_read, first_take, first_perform, first_write, first_settle, Recorded, none_left, one_refused, one_accepted}
+use Rattle.fuse_theorem.specs.FirstWorld.{IsFirstWorld}
+use Rattle.fuse_theorem.proofs.FirstRuns.{first_runs}
+use Rattle.fuse_theorem.proofs.FirstAnswered.{first_answered}
+use Rattle.fk_kernel.specs.declared.call.Call.TheVariants.{Stat}
+use Rattle.fw_world.specs.declared.event.Event.{Event as EventValue}
+use Rattle.fw_world.specs.declared.event.Event.TheVariants.{Mount, Call, ReadPending, Take, Do, Write, Settle}
+use Rattle.fw_world.specs.declared.event.Outcome.{Outcome as OutcomeValue}
+use Rattle.fw_world.specs.declared.record.Record.{Record}
+use Rattle.fw_world.specs.declared.record.Record.TheVariants as recorded
+use Rattle.fw_world.specs.Values.{event_of, outcome_of, record_of}
+use Rattle.fw_world.specs.Runs.{RunsAs}
+
+-- Every event is one of the first path.
+pub is_first : (e : EventValue) → IsFirst (event_of e)
+is_first (Mount found_ms missing_ms) = first_mount found_ms missing_ms
+is_first (Call (Stat path)) = first_call path.now
+is_first (ReadPending place) = first_read place
+is_first (Take place) = first_take place
+is_first (Do unique) = first_perform unique
+is_first (Write place) = first_write place
+is_first (Settle place) = first_settle place
+
+all_first : (events : List EventValue) → All IsFirst (map event_of events)
+all_first [] = All-nil IsFirst
+all_first (e ∷ events) = All-cons IsFirst (event_of e) (map event_of events) (is_first e) (all_first events)
+
+-- ---- lists one after another
+
+pub then_recorded : (w mid after : World) (events more : List Event) (rs ss : List records.Record) → Recorded w events rs mid → Recorded mid more ss after → Recorded w (events ++ more) (rs ++ ss) after
+then_recorded w mid after events more rs ss (none_left v) next = next
+then_recorded w mid after events more rs ss (one_refused v e refusal rest records last old) next =
+    one_refused v e refusal (rest ++ more) (records ++ ss) after (then_recorded v last after rest more records ss old next)
+then_recorded w mid after events more rs ss (one_accepted v e o moved rest records last happens old) next =
+    rw append_assoc
+    (one_accepted v e o moved (rest ++ more) (records ++ ss) after happens (then_recorded (collected moved) last after rest more records ss old next))
+
+-- The events ran one after another, and these records were added.
+pub record RanSo (old : World) (events : List EventValue) (had : List Record) (new : World) (has : List Record) : Type 0 where
+  pub added : List Record
+  pub items : has ≡ had ++ added
+  pub recorded : Recorded old (map event_of events) (map record_of added) new
+
+pub none_ran : (w : World) (events : List EventValue) (had : List Record) → RanSo w (take 0 events) had w had
+none_ran w events had = record { added = []; items = sym (append-nil had); recorded = none_left w }
+
+-- What is added of one event.
+abbrev pub AddsOne : World → EventValue → List Record → World → List Record → Type 0
+AddsOne old e had new has = (added : List Record) × (has ≡ had ++ added) × Recorded old (event_of e ∷ []) (map record_of added) new
+
+pub one_more : (old : World) (events : List EventValue) (had : List Record) (w : World) (has : List Record) (k : ℕ) (d : EventValue) (new : World) (more : List Record)
+    → k < length events → RanSo old (take k events) had w has → AddsOne w (get_or events k d) has new more → RanSo old (take (k + 1) events) had new more
+one_more old events had w has k d new more within ran adds =
+    let whole : take (k + 1) events ≡ take k events ++ get_or events k d ∷ [] = take_more events k d within in
+    let joined = then_recorded old w new (map event_of (take k events)) (event_of (get_or events k d) ∷ []) (map record_of ran.added) (map record_of adds.0) ran.recorded adds.2 in
+    let events_are : map event_of (take k events) ++ event_of (get_or events k d) ∷ [] ≡ map event_of (take (k + 1) events) =
+    sym (map-append event_of (take k events) (get_or events k d ∷ [])) ∙ ap (λ (es : List EventValue). map event_of es) (sym whole) in
+    let records_are : map record_of ran.added ++ map record_of adds.0 ≡ map record_of (ran.added ++ adds.0) = sym (map-append record_of ran.added adds.0) in
+    record {
+      added = ran.added ++ adds.0;
+      items = adds.1 ∙ ap (λ (xs : List Record). xs ++ adds.0) ran.items ∙ append_assoc had ran.added adds.0;
+      recorded = subst (λ (x : List Event × List records.Record). Recorded old x.0 x.1 new) (λ i. (events_are i, records_are i)) joined;
+    }
+
+-- ---- what one event adds
+
+pub adds_refusal : (w : World) (e : EventValue) (refusal : Refusal) (had made has : List Record) (new : World) → new ≡ w → made ≡ had → has ≡ made ++ recorded.Refused refusal ∷ [] → AddsOne w e had new has
+adds_refusal w e refusal had made has new same kept has_is =
+    (
+      recorded.Refused refusal ∷ [],
+      has_is ∙ ap (λ (xs : List Record). xs ++ recorded.Refused refusal ∷ []) kept,
+      subst (λ (v : World). Recorded w (event_of e ∷ []) (records.refused refusal ∷ []) v) (sym same) (one_refused w (event_of e) refusal [] [] w (none_left w)),
+    )
+
+pub adds_outcome : (w : World) (e : EventValue) (o : OutcomeValue) (mid : World) → Happens w (event_of e) (outcome_of o) mid → (had made begun has answers : List Record) (new : World) → new ≡ collected mid → made ≡ had
+    → begun ≡ made ++ recorded.Outcome o ∷ [] → has ≡ begun ++ answers → map record_of answers ≡ answers_of mid.kernel.vfs.answers → AddsOne w e had new has
+adds_outcome w e o mid happens had made begun has answers new after kept begun_is has_is answers_are =
+    let one : Recorded w (event_of e ∷ []) (records.outcome (outcome_of o) ∷ answers_of mid.kernel.vfs.answers ++ []) (collected mid) = one_accepted w (event_of e) (outcome_of o) mid [] [] (collected mid) happens (none_left (collected mid)) in
+    let same : records.outcome (outcome_of o) ∷ answers_of mid.kernel.vfs.answers ++ [] ≡ records.outcome (outcome_of o) ∷ map record_of answers =
+    append-nil (records.outcome (outcome_of o) ∷ answers_of mid.kernel.vfs.answers) ∙ ap (λ (xs : List records.Record). records.outcome (outcome_of o) ∷ xs) (sym answers_are) in
+    (
+      recorded.Outcome o ∷ answers,
+      has_is ∙ ap (λ (xs : List Record). xs ++ answers) (begun_is ∙ ap (λ (xs : List Record). xs ++ recorded.Outcome o ∷ []) kept) ∙ append_assoc had (recorded.Outcome o ∷ []) answers,
+      subst (λ (x : List records.Record × World). Recorded w (event_of e ∷ []) x.0 x.1) (λ i. (same i, sym after i)) one,
+    )
+
+-- Where a list made room it has room.
+pub made_room : {T E : Type 0} (r : Result T E) (len more capacity : ℕ) → OnOk r (len + more ≤ capacity) → is_err r ≡ false → len + more ≤ capacity
+made_room (Ok x) len more capacity made e = made
+made_room (Err x) len more capacity made e = absurd (cc e)
+
+-- How many answers wait after an event that happens.
+pub few_answers : (w : World) → IsFirstWorld w → (e : EventValue) (o : Outcome) (after : World) → Happens w (event_of e) o after → length after.kernel.vfs.answers ≤ length w.kernel.vfs.answers + 1
+few_answers w here e o after happens = first_answered w here (event_of e) (is_first e) o after happens
+
+-- ---- the whole run
+
+module _ (old : World) (here : IsFirstWorld old) (events : List EventValue) (had : List Record) where
+  -- What is said of the events that ran.
+  abbrev pub Comes : World → List Record → Type 0
+  Comes new has = (added : List Record) × (has ≡ had ++ added) × RunsAs old (map event_of events) (map record_of added) new
+
+  pub comes_to : (new : World) (has : List Record) → RanSo old events had new has → Comes new has
+  comes_to new has ran =
+      let run = λ (p : Plain) (same : Alike old p). first_runs old p here same (map event_of events) (map record_of ran.added) new (all_first events) ran.recorded in
+      (
+        ran.added,
+        ran.items,
+        record {
+          plain_run = λ p same. let at = run p same in (at.0, at.1, at.2);
+          once = (run here.plain here.alike).4;
+        },
+      )
+
+  pub comes_as_before : (new now : World) (has holds : List Record) → RanSo old events had new has → now ≡ new → holds ≡ has → Comes now holds
+  comes_as_before new now has holds ran now_is holds_is = subst (λ (x : World × List Record). Comes x.0 x.1) (λ i. (sym now_is i, sym holds_is i)) (comes_to new has ran)
+
+-- Once k is past the events, all of them ran.
+pub all_ran : (old : World) (events : List EventValue) (k : ℕ) → length events ≤ k → (had : List Record) (new : World) (has : List Record) → RanSo old (take k events) had new has → RanSo old events had new has
+all_ran old events k past had new has ran = subst (λ (es : List EventValue). RanSo old es had new has) (take_all k events past) ran

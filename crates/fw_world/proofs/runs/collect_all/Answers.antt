@@ -1,0 +1,26 @@
+use Rattle.std.proofs.Common.{◌≡◌, ◌+◌, length, arith, ◌∙◌}
+use Rattle.fw_world.proofs.Collecting.{none_yet, collects_one, collects_all}
+use Rattle.fw_world.proofs.runs.collect_all.Goals as goal
+
+pub loop-call-init : goal.loop-call-init
+loop-call-init g c = (none_yet c.args.world.now c.args.records.now.items c.is_first.ensures.more.rooted.answers, c.requires)
+
+pub loop-call-smaller : goal.loop-call-smaller
+loop-call-smaller g c =
+    let one = collects_one c.args.world.now c.args.records.now.items c.loop-call.world c.loop-call.records.items c.loop-call.invariant.0 c.in-Some.call c.in-Some.answer c.in-Some.ensures.answer c.collect.new.self c.add.new.records.items c.in-Some.ensures.taken c.add.ensures.items in
+    omega (arith, one.fewer)
+
+pub loop-call-preserved : goal.loop-call-preserved
+loop-call-preserved g c =
+    let one = collects_one c.args.world.now c.args.records.now.items c.loop-call.world c.loop-call.records.items c.loop-call.invariant.0 c.in-Some.call c.in-Some.answer c.in-Some.ensures.answer c.collect.new.self c.add.new.records.items c.in-Some.ensures.taken c.add.ensures.items in
+    (one.collects, omega (arith, one.fewer, c.loop-call.invariant.1, c.add.ensures.len, c.add.ensures.capacity))
+
+pub returns-clause-world : goal.returns-clause-world
+returns-clause-world g c =
+    let all = collects_all c.args.world.now c.args.records.now.items c.loop-call.world c.loop-call.records.items c.loop-call.invariant.0 c.in_default.ensures.answer in
+    c.in_default.ensures.none ∙ all.0
+
+pub returns-clause-records : goal.returns-clause-records
+returns-clause-records g c =
+    let all = collects_all c.args.world.now c.args.records.now.items c.loop-call.world c.loop-call.records.items c.loop-call.invariant.0 c.in_default.ensures.answer in
+    (all.1, all.2, all.3)

@@ -1,0 +1,20 @@
+use Rattle.std.proofs.Common.{◌≡◌, ◌+◌, ◌≤◌, length, sym, ◌∙◌, arith}
+use Rattle.std.specs.Vec.{vec_len, vec_capacity}
+use Rattle.fw_world.specs.Values.{outcome_of}
+use Rattle.fw_world.proofs.Recording.{adds_refusal, adds_outcome, made_room, few_answers}
+use Rattle.fw_world.proofs.runs.run_one.Goals as goal
+
+pub collect_all-requires : goal.collect_all-requires
+collect_all-requires g c =
+    let room : vec_len c.reserve.new.self + c.in-Some.room ≤ vec_capacity c.reserve.new.self = made_room c.reserve.result _ _ _ c.reserve.ensures.ok (sym c.is_err.ensures.value ∙ c.if-is_err.false) in
+    let few = few_answers c.args.world.now c.is_first.ensures c.args.event.now (outcome_of c.in-Ok.outcome) c.step.new.self c.in-Ok.ensures.happens in
+    omega (arith, room, few, c.in-Some.ensures.0, c.in-Some.ensures.1, c.answered.ensures, c.add.ensures.len, c.add.ensures.capacity)
+
+pub returns-in-Ok-clause-ran : goal.returns-in-Ok-clause-ran
+returns-in-Ok-clause-ran g c ran =
+    let all = c.collect_all.ensures.records in
+    adds_outcome c.args.world.now c.args.event.now c.in-Ok.outcome c.step.new.self c.in-Ok.ensures.happens c.args.records.now.items c.reserve.new.self.items c.add.new.records.items c.collect_all.new.records.items all.0 c.collect_all.new.world c.collect_all.ensures.world c.reserve.ensures.items c.add.ensures.items all.1 all.2
+
+pub returns-in-Err-clause-ran : goal.returns-in-Err-clause-ran
+returns-in-Err-clause-ran g c ran =
+    adds_refusal c.args.world.now c.args.event.now c.in-Err.refusal c.args.records.now.items c.reserve.new.self.items c.add-in-Err.new.records.items c.step.new.self c.in-Err.ensures.err c.reserve.ensures.items c.add-in-Err.ensures.items
