@@ -1,6 +1,6 @@
 -- The answers that wait are collected one after another, and recorded.
-use Rattle.std.proofs.Common.{◌≡◌, ℕ, ◌+◌, ◌<◌, ◌≤◌, Bool, true, false, true≢false, not, cond, ◌&&◌, List, [], ◌∷◌, ◌++◌, Option, Some, None, length, map, option_map, slice_get, refl, ap, sym, subst, ◌∙◌, arith, inl, inr}
-use Rattle.std.specs.Prelude.{T, nat_eq}
+use Rattle.std.proofs.Common.{◌≡◌, ℕ, ◌+◌, Bool, true, false, not, cond, ◌&&◌, List, [], ◌∷◌, ◌++◌, Option, Some, None, length, map, slice_get, refl, ap, sym, subst, ◌∙◌, arith, inl, inr}
+use Rattle.std.specs.Prelude.{T}
 use Rattle.std.specs.declared.cmp.Ordering.{Ordering}
 use Rattle.std.specs.Ordering.{nat_cmp, is_lt}
 use Rattle.std.specs.FinMap.{is_sorted}
@@ -103,8 +103,7 @@ module _ (old : World) (had : List Record) (was : World) (has : List Record) (so
   -- Where no answer waits, all are recorded.
   pub collects_all : None ≡ slice_get was.kernel.vfs.answers 0 → (was ≡ collected old) × (added : List Record) × (has ≡ had ++ added) × (map record_of added ≡ answers_of old.kernel.vfs.answers)
   collects_all none =
-      let is = empty was.kernel.vfs.answers none in
-      (
+      let is = empty was.kernel.vfs.answers none in (
         (λ i. with_answers was (is i)) ∙ so_far.others,
         so_far.added,
         so_far.items,

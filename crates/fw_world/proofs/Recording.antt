@@ -1,11 +1,10 @@
 -- Lists of events, and what is recorded of each.
-use Rattle.std.proofs.Common.{◌≡◌, ℕ, ◌+◌, ◌<◌, ◌≤◌, List, [], ◌∷◌, ◌++◌, Result, Ok, Err, OnOk, is_err, false, length, map, take, get_or, slice_index_or, refl, ap, sym, subst, ◌∙◌, arith, All}
+use Rattle.std.proofs.Common.{◌≡◌, ℕ, ◌+◌, ◌<◌, ◌≤◌, List, [], ◌∷◌, ◌++◌, Result, Ok, Err, OnOk, is_err, false, length, map, take, get_or, ap, sym, subst, ◌∙◌, All}
 use Rattle.std.proofs.lemmas.List.{append_assoc, append-nil, map-append, take_more, take_all}
-use Rattle.std.proofs.lemmas.List.Elements.{All-nil, All-cons, All-map}
+use Rattle.std.proofs.lemmas.List.Elements.{All-nil, All-cons}
 use Rattle.fuse_spec.specs.declared.Refusal.{Refusal}
 use Rattle.fuse_spec.specs.Worlds.{World}
 use Rattle.fuse_spec.specs.Events.{Event, Outcome}
-use Rattle.fuse_spec.specs.Events as event
 use Rattle.fuse_spec.specs.Records as records
 use Rattle.fuse_spec.specs.Records.{answers_of, collected}
 use Rattle.fuse_spec.specs.Steps.{Happens}
@@ -78,20 +77,18 @@ one_more old events had w has k d new more within ran adds =
 -- ---- what one event adds
 
 pub adds_refusal : (w : World) (e : EventValue) (refusal : Refusal) (had made has : List Record) (new : World) → new ≡ w → made ≡ had → has ≡ made ++ recorded.Refused refusal ∷ [] → AddsOne w e had new has
-adds_refusal w e refusal had made has new same kept has_is =
-    (
-      recorded.Refused refusal ∷ [],
-      has_is ∙ ap (λ (xs : List Record). xs ++ recorded.Refused refusal ∷ []) kept,
-      subst (λ (v : World). Recorded w (event_of e ∷ []) (records.refused refusal ∷ []) v) (sym same) (one_refused w (event_of e) refusal [] [] w (none_left w)),
-    )
+adds_refusal w e refusal had made has new same kept has_is = (
+  recorded.Refused refusal ∷ [],
+  has_is ∙ ap (λ (xs : List Record). xs ++ recorded.Refused refusal ∷ []) kept,
+  subst (λ (v : World). Recorded w (event_of e ∷ []) (records.refused refusal ∷ []) v) (sym same) (one_refused w (event_of e) refusal [] [] w (none_left w)),
+)
 
 pub adds_outcome : (w : World) (e : EventValue) (o : OutcomeValue) (mid : World) → Happens w (event_of e) (outcome_of o) mid → (had made begun has answers : List Record) (new : World) → new ≡ collected mid → made ≡ had
     → begun ≡ made ++ recorded.Outcome o ∷ [] → has ≡ begun ++ answers → map record_of answers ≡ answers_of mid.kernel.vfs.answers → AddsOne w e had new has
 adds_outcome w e o mid happens had made begun has answers new after kept begun_is has_is answers_are =
     let one : Recorded w (event_of e ∷ []) (records.outcome (outcome_of o) ∷ answers_of mid.kernel.vfs.answers ++ []) (collected mid) = one_accepted w (event_of e) (outcome_of o) mid [] [] (collected mid) happens (none_left (collected mid)) in
     let same : records.outcome (outcome_of o) ∷ answers_of mid.kernel.vfs.answers ++ [] ≡ records.outcome (outcome_of o) ∷ map record_of answers =
-    append-nil (records.outcome (outcome_of o) ∷ answers_of mid.kernel.vfs.answers) ∙ ap (λ (xs : List records.Record). records.outcome (outcome_of o) ∷ xs) (sym answers_are) in
-    (
+    append-nil (records.outcome (outcome_of o) ∷ answers_of mid.kernel.vfs.answers) ∙ ap (λ (xs : List records.Record). records.outcome (outcome_of o) ∷ xs) (sym answers_are) in (
       recorded.Outcome o ∷ answers,
       has_is ∙ ap (λ (xs : List Record). xs ++ answers) (begun_is ∙ ap (λ (xs : List Record). xs ++ recorded.Outcome o ∷ []) kept) ∙ append_assoc had (recorded.Outcome o ∷ []) answers,
       subst (λ (x : List records.Record × World). Recorded w (event_of e ∷ []) x.0 x.1) (λ i. (same i, sym after i)) one,
@@ -115,8 +112,7 @@ module _ (old : World) (here : IsFirstWorld old) (events : List EventValue) (had
 
   pub comes_to : (new : World) (has : List Record) → RanSo old events had new has → Comes new has
   comes_to new has ran =
-      let run = λ (p : Plain) (same : Alike old p). first_runs old p here same (map event_of events) (map record_of ran.added) new (all_first events) ran.recorded in
-      (
+      let run = λ (p : Plain) (same : Alike old p). first_runs old p here same (map event_of events) (map record_of ran.added) new (all_first events) ran.recorded in (
         ran.added,
         ran.items,
         record {

@@ -1,4 +1,4 @@
-use Rattle.std.proofs.Common.{◌≡◌, ◌+◌, length, arith, ◌∙◌}
+use Rattle.std.proofs.Common.{arith, ◌∙◌}
 use Rattle.fw_world.proofs.Collecting.{none_yet, collects_one, collects_all}
 use Rattle.fw_world.proofs.runs.collect_all.Goals as goal
 
