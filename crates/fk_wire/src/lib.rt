@@ -50,6 +50,3 @@ pub use request::{Request, RequestBody};
 pub use result_frame::{read_result, write_result};
 pub use writing::{put_pair, write_request, write_request_at, written_is_spelled};
 pub use writing_reply::{write_reply, write_reply_at, written_reply_is_spelled};
-
-#[cfg(test)]
-mod tests;

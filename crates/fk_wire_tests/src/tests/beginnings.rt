@@ -3,7 +3,7 @@
 use super::replies::{ANSWERS, Answer};
 use super::requests::{SAMPLES, Sample};
 use super::unhex;
-use crate::*;
+use fk_wire::*;
 use std::alloc::Global;
 use std::process::Abort;
 use std::test::*;

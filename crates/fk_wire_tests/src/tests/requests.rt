@@ -1,8 +1,8 @@
 //! Requests: a frame of each opcode, laid out by hand from linux/fuse.h.
 
 use super::unhex;
-use crate::*;
 use bitflags::Flags;
+use fk_wire::*;
 use std::alloc::Global;
 use std::process::Abort;
 use std::test::*;
@@ -204,26 +204,36 @@ fn are_read_and_written(rt: HostRuntime) -> Result<(), Fail> {
     Ok(())
 }
 
+/// The request with a node is refused, and nothing is written.
+fn write_about_node(rt: &impl Abort, out: &mut Vec<u8>, request: Request<'_>) {
+    let about_node = Request {
+        nodeid: 7,
+        ..request
+    };
+    assert!(rt; write_request(out, &about_node) == Err(WireFault::Body));
+    assert!(rt; out.is_empty());
+}
+
 #[test]
 fn free_fields_are_dropped(rt: HostRuntime) -> Result<(), Fail> {
-    // An INTERRUPT with a node, and an INIT with a flag that is not known.
+    // An INTERRUPT with a node.
     let written =
         "30000000 24000000 0500000000000000 0000000000000000 00000000 00000000 00000000 00000000 0400000000000000";
     let read =
         "30000000 24000000 0500000000000000 0700000000000000 01000000 02000000 03000000 04000000 0400000000000000";
     let frame = unhex(rt.alloc(), read)?;
     let request = read_request(&frame)?;
-    assert_eq!(rt; request.nodeid, 0);
+    assert!(rt; request.nodeid == 0);
     let mut out = Vec::new(rt.alloc());
-    let about_node = Request {
-        nodeid: 7,
-        ..request
-    };
-    assert_eq!(rt; write_request(&mut out, &about_node), Err(WireFault::Body));
-    assert!(rt; out.is_empty());
+    write_about_node(&rt, &mut out, request);
     write_request(&mut out, &request)?;
-    assert!(rt; out == unhex(rt.alloc(), written)?);
+    let wanted = unhex(rt.alloc(), written)?;
+    assert!(rt; out == wanted);
+    Ok(())
+}
 
+#[test]
+fn unknown_flags_are_dropped(rt: HostRuntime) -> Result<(), Fail> {
     let offer = unhex(
         rt.alloc(),
         "38000000 1a000000 0200000000000000 0000000000000000 00000000 00000000 00000000 00000000 07000000 1f000000 00000000 01200400",

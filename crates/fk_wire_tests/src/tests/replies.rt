@@ -1,8 +1,8 @@
 //! Replies: a frame for each opcode that has replies, laid out by hand from linux/fuse.h.
 
 use super::unhex;
-use crate::*;
 use bitflags::Flags;
+use fk_wire::*;
 use std::alloc::Global;
 use std::process::Abort;
 use std::test::*;
@@ -204,12 +204,17 @@ fn are_read_and_written(rt: HostRuntime) -> Result<(), Fail> {
 #[test]
 fn results_are_read_and_written(rt: HostRuntime) -> Result<(), Fail> {
     let frame = unhex(rt.alloc(), "10000000 feffffff 0600000000000000")?;
-    assert_eq!(rt; read_result(&frame), Ok((-2, 6)));
-    assert_eq!(rt; read_reply_head(&frame), Ok((-2, 6)));
+    assert!(rt; read_result(&frame) == Ok((-2, 6)));
+    assert!(rt; read_reply_head(&frame) == Ok((-2, 6)));
     let mut out = Vec::new(rt.alloc());
     write_result(&mut out, -2, 6)?;
     assert!(rt; out == frame);
-    assert_eq!(rt; write_result(&mut out, 1, 6), Err(WireFault::ErrorRange));
+    assert!(rt; write_result(&mut out, 1, 6) == Err(WireFault::ErrorRange));
+    Ok(())
+}
+
+#[test]
+fn errors_are_read_and_written(rt: HostRuntime) -> Result<(), Fail> {
     frame_is_an_error(
         &rt,
         rt.alloc(),
@@ -229,7 +234,7 @@ fn frame_is_an_error(
 ) -> Result<(), Fail> {
     let frame = unhex(alloc, hex)?;
     let reply = read_reply(opcode, &frame)?;
-    assert_eq!(rt; reply.error, error);
+    assert!(rt; reply.error == error);
     assert!(rt; matches!(reply.body, ReplyBody::Empty));
     let mut out = Vec::new(alloc);
     write_reply(&mut out, &reply)?;

@@ -4,8 +4,8 @@
 use super::replies::{ANSWERS, LISTING};
 use super::requests::SAMPLES;
 use super::{rest, unhex};
-use crate::*;
 use fail_at::FailAt;
+use fk_wire::*;
 use std::alloc::{Allocator, Global};
 use std::process::Abort;
 use std::test::*;
@@ -80,7 +80,7 @@ fn reply_refused_at<A: Allocator + Copy>(
     Ok(())
 }
 
-fn lists_refused<A: Allocator + Copy>(
+fn record_refused<A: Allocator + Copy>(
     rt: &impl Abort,
     alloc: A,
     heap: &FailAt<Global>,
@@ -94,13 +94,27 @@ fn lists_refused<A: Allocator + Copy>(
     assert!(rt; is_right(&out, &first, &[], true));
     put_record(&mut out, &dirent)?;
     assert!(rt; out.get(FRONT.len()..) == bytes.get(..32));
+    Ok(())
+}
 
+fn pair_refused<A: Allocator + Copy>(
+    rt: &impl Abort,
+    alloc: A,
+    heap: &FailAt<Global>,
+) -> Result<(), Fail> {
     let mut out = front(alloc)?;
     heap.refuse(1);
     let first = put_pair(&mut out, 2, 1);
     assert!(rt; is_right(&out, &first, &[], true));
     put_pair(&mut out, 2, 1)?;
+    Ok(())
+}
 
+fn result_refused<A: Allocator + Copy>(
+    rt: &impl Abort,
+    alloc: A,
+    heap: &FailAt<Global>,
+) -> Result<(), Fail> {
     let mut out = front(alloc)?;
     heap.refuse(1);
     let first = write_result(&mut out, -2, 6);
@@ -123,5 +137,12 @@ fn writes(rt: HostRuntime) -> Result<(), Fail> {
         }
     }
     let frame = unhex(rt.alloc(), LISTING)?;
-    lists_refused(&rt, &heap, &heap, rest(&frame, 16))
+    record_refused(&rt, &heap, &heap, rest(&frame, 16))
+}
+
+#[test]
+fn pairs_and_results(rt: HostRuntime) -> Result<(), Fail> {
+    let heap = FailAt::new(rt.alloc());
+    pair_refused(&rt, &heap, &heap)?;
+    result_refused(&rt, &heap, &heap)
 }
