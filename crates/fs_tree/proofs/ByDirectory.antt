@@ -1,5 +1,5 @@
 -- The names by directory, as names come and go.
-use Rattle.std.proofs.Common.{◌≡◌, ◌≢◌, ℕ, suc, ◌+◌, Bool, true, false, not, cond, ◌&&◌, List, [], ◌∷◌, ◌++◌, map, filter, find, Option, Some, None, refl, sym, ap, subst, ◌∙◌, nat_eq, nat_lt, length, arith}
+use Rattle.std.proofs.Common.{◌≡◌, ℕ, suc, Bool, true, false, not, cond, ◌&&◌, List, [], ◌∷◌, ◌++◌, map, filter, find, Some, None, refl, sym, ap, subst, ◌∙◌, nat_eq, nat_lt, length, arith}
 use Rattle.std.specs.Option.{option_map}
 use Rattle.std.proofs.lemmas.List.{map-append, append-nil}
 use Rattle.std.proofs.lemmas.Grind.{common_steps}
@@ -9,7 +9,7 @@ use Rattle.fs_tree.specs.Stored.{Entry, in_directory, dirent_in, listed, AreByDi
 use Rattle.fs_tree.proofs.ListLemmas.{filter-map}
 
 module _ {E : Type 0} where
-  filter-append : (p : E → Bool) (xs ys : List E) → filter p (xs ++ ys) ≡ filter p xs ++ filter p ys
+  pub filter-append : (p : E → Bool) (xs ys : List E) → filter p (xs ++ ys) ≡ filter p xs ++ filter p ys
   filter-append p [] ys = refl
   filter-append p (x ∷ xs) ys = by (p x) (filter-append p xs ys)
     where
@@ -17,7 +17,7 @@ module _ {E : Type 0} where
       by true rest = ap (λ l. x ∷ l) rest
       by false rest = rest
 
-  filter-swap : (p q : E → Bool) (xs : List E) → filter p (filter q xs) ≡ filter q (filter p xs)
+  pub filter-swap : (p q : E → Bool) (xs : List E) → filter p (filter q xs) ≡ filter q (filter p xs)
   filter-swap p q [] = refl
   filter-swap p q (x ∷ xs) = by (p x) (q x) refl refl (filter-swap p q xs)
     where
@@ -55,7 +55,16 @@ find-mapped dir name (e ∷ es) = by (same_name e.name name) (find-mapped dir na
     by true rest = refl
     by false rest = rest
 
-length-map : {E F : Type 0} (f : E → F) (es : List E) → length (map f es) ≡ length es
+serial-mapped : (dir : ℕ) (name : List ℕ) (es : List Entry) → option_map (λ n. n.serial) (find (λ n. same_name n.name name) (map (in_directory dir) es)) ≡ option_map (λ e. e.serial) (find (λ e. same_name e.name name) es)
+serial-mapped dir name [] = refl
+serial-mapped dir name (e ∷ es) = by (same_name e.name name) (serial-mapped dir name es)
+  where
+    by : (b : Bool) → option_map (λ n. n.serial) (find (λ n. same_name n.name name) (map (in_directory dir) es)) ≡ option_map (λ e. e.serial) (find (λ e. same_name e.name name) es)
+        → option_map (λ n. n.serial) (cond b (Some (in_directory dir e)) (find (λ n. same_name n.name name) (map (in_directory dir) es))) ≡ option_map (λ e. e.serial) (cond b (Some e) (find (λ e. same_name e.name name) es))
+    by true rest = refl
+    by false rest = rest
+
+pub length-map : {E F : Type 0} (f : E → F) (es : List E) → length (map f es) ≡ length es
 length-map f [] = refl
 length-map f (e ∷ es) = ap (λ n. suc n) (length-map f es)
 
@@ -75,6 +84,11 @@ module _ (entries : ℕ → List Entry) (names : List Named) (by_dir : AreByDire
   file-in dir name =
       sym (find-mapped dir name (entries dir)) ∙ ap (λ l. option_map (λ n. n.file) (find (λ n. same_name n.name name) l)) (by_dir dir)
       ∙ ap (option_map (λ n. n.file)) (sym (find-filter (λ n. nat_eq n.directory dir) (λ n. same_name n.name name) names))
+
+  pub serial-in : (dir : ℕ) (name : List ℕ) → option_map (λ e. e.serial) (find (λ e. same_name e.name name) (entries dir)) ≡ option_map (λ n. n.serial) (find (is_at dir name) names)
+  serial-in dir name =
+      sym (serial-mapped dir name (entries dir)) ∙ ap (λ l. option_map (λ n. n.serial) (find (λ n. same_name n.name name) l)) (by_dir dir)
+      ∙ ap (option_map (λ n. n.serial)) (sym (find-filter (λ n. nat_eq n.directory dir) (λ n. same_name n.name name) names))
 
   pub length-in : (dir : ℕ) → length (entries dir) ≡ length (filter (λ n. nat_eq n.directory dir) names)
   length-in dir = sym (length-map (in_directory dir) (entries dir)) ∙ ap length (by_dir dir)

@@ -5,3 +5,7 @@ pub mod Climbing
 pub mod EntryRows
 pub mod ByDirectory
 pub mod OpenDirectories
+pub mod SerialRows
+pub mod BySerial
+pub mod ByFile
+pub mod NameLinks

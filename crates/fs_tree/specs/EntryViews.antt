@@ -1,8 +1,28 @@
 -- What the stored names of a directory stand for.
-use Rattle.std.specs.Prelude.{ℕ, Vec}
+use Rattle.std.specs.Prelude.{◌≡◌, ℕ, List, Option, Vec, find, nat_eq}
+use Rattle.std.specs.Option.{option_map}
+use Rattle.std.specs.Map.{lookup}
+use Rattle.std.specs.Cmp.Lexicographic.{pointwise}
+use Rattle.fuse_spec.specs.Trees.{same_name}
 use Rattle.fs_tree.specs.Stored.{Entry}
+use Rattle.fs_tree.specs.declared.entries.Leaf.{Leaf}
 use Rattle.fs_tree.specs.declared.entries.Link.{Link}
 
+-- The file to which a name leads, and its serial.
+abbrev pub link_of : Link → ℕ × ℕ
+link_of l = (l.file, l.serial)
+
+abbrev pub entry_link : Entry → ℕ × ℕ
+entry_link e = (e.file, e.serial)
+
 module _ {A : Type 0} where
-  abbrev pub entry_of : Vec ℕ A × Link → Entry
-  entry_of e = record { name = e.0.items; file = e.1.file; serial = e.1.serial }
+  abbrev pub entry_of : ℕ × Leaf A → Entry
+  entry_of e = record { name = e.1.name.items; file = e.1.file; serial = e.0 }
+
+  -- The file to which a name leads, and its serial, among links by name.
+  abbrev pub link_in : List (Vec ℕ A × Link) → List ℕ → Option (ℕ × ℕ)
+  link_in links name = option_map link_of (lookup (λ k. pointwise nat_eq name k.items) links)
+
+  -- The links by name are those of the entries.
+  abbrev pub AreLinked : List (Vec ℕ A × Link) → List Entry → Type 0
+  AreLinked links entries = (name : List ℕ) → link_in links name ≡ option_map entry_link (find (λ e. same_name e.name name) entries)

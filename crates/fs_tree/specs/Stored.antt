@@ -1,10 +1,10 @@
 -- What is true of a stored tree, beside what it shows.
-use Rattle.std.specs.Prelude.{◌≡◌, ℕ, ◌+◌, ◌<◌, ◌≤◌, ◌^◌, List, [], ◌∷◌, length, map, filter, nat_eq, nat_lt}
+use Rattle.std.specs.Prelude.{◌≡◌, ℕ, ◌+◌, ◌<◌, ◌≤◌, ◌^◌, List, [], ◌∷◌, Option, Some, None, length, map, filter, find, not, nat_eq, nat_lt}
 use Rattle.std.specs.Map.{lookup}
 use Rattle.std.specs.Option.{unwrap_or}
 use Rattle.fuse_spec.specs.Maps.{Map, get}
 use Rattle.fuse_spec.specs.Operations.{Dirent}
-use Rattle.fuse_spec.specs.Trees.{Content, Named, kind_of}
+use Rattle.fuse_spec.specs.Trees.{Content, Named, is_at, kind_of, same_name}
 
 -- The files by birth, and how many more are put without memory.
 pub record StoredFiles : Type 0 where
@@ -43,9 +43,50 @@ pub record Entry : Type 0 where
   pub file : ℕ
   pub serial : ℕ
 
+-- No name is twice in a directory.
+abbrev pub AreNamedOnce : List Entry → Type 0
+AreNamedOnce [] = Unit {0}
+AreNamedOnce (e ∷ entries) = (find (λ d. same_name d.name e.name) entries ≡ None) × AreNamedOnce entries
+
+-- Every serial is below this number.
+abbrev pub AreBefore : ℕ → List Entry → Type 0
+AreBefore next [] = Unit {0}
+AreBefore next (e ∷ entries) = (e.serial < next) × AreBefore next entries
+
 -- The names in a directory, where the directories that have any are listed.
 abbrev pub entries_in : List (ℕ × List Entry) → ℕ → List Entry
 entries_in directories dir = unwrap_or (lookup (nat_eq dir) directories) []
+
+-- The directories of the names that lead to a file, by serial, where the files that have any are listed.
+abbrev pub parents_in : List (ℕ × List (ℕ × ℕ)) → ℕ → List (ℕ × ℕ)
+parents_in files file = unwrap_or (lookup (nat_eq file) files) []
+
+-- The directory of a name, by its serial.
+abbrev pub parent_of : Named → ℕ × ℕ
+parent_of n = (n.serial, n.directory)
+
+-- The directories of the names that lead to each file are these, in rising serial.
+abbrev pub AreByFile : (ℕ → List (ℕ × ℕ)) → List Named → Type 0
+AreByFile parents names = (file : ℕ) → parents file ≡ map parent_of (filter (λ n. nat_eq n.file file) names)
+
+-- No name is twice in a directory.
+abbrev pub AreOnce : List Named → Type 0
+AreOnce [] = Unit {0}
+AreOnce (n ∷ names) = (find (is_at n.directory n.name) names ≡ None) × AreOnce names
+
+-- The serials rise from name to name.
+abbrev pub AreRising : List Named → Type 0
+AreRising names = (next : ℕ) × IsRising 1 names next
+
+-- The names without the one of this serial, if there is one.
+abbrev pub without_serial : Option ℕ → List Named → List Named
+without_serial None names = names
+without_serial (Some serial) names = filter (λ n. not (nat_eq n.serial serial)) names
+
+-- The rows without the one at this key, if there is one.
+abbrev pub without_key : {V : Type 0} → Option ℕ → List (ℕ × V) → List (ℕ × V)
+without_key None rows = rows
+without_key (Some key) rows = filter (λ e. not (nat_eq e.0 key)) rows
 
 -- A name, by its directory.
 abbrev pub in_directory : ℕ → Entry → Named

@@ -3,14 +3,14 @@ use Rattle.std.specs.Prelude.{ℕ, ◌+◌}
 use Rattle.fuse_spec.specs.Trees as plain
 use Rattle.fuse_spec.specs.Trees.{Named, a_directory, a_file}
 use Rattle.fuse_spec.specs.Operations.{Dirent}
-use Rattle.fs_tree.specs.declared.names.Name.{Name}
+use Rattle.fs_tree.specs.declared.rows.Row.{Row}
 use Rattle.fs_tree.specs.declared.files.Content.{Content}
 use Rattle.fs_tree.specs.declared.files.Content.TheVariants.{Directory, Regular}
 use Rattle.fs_tree.specs.declared.listing.Record.{Record}
 
 module _ {A : Type 0} where
-  abbrev pub named_of : Name A → Named
-  named_of n = record { directory = n.directory; name = n.name.items; file = n.file; serial = n.serial }
+  abbrev pub named_of : ℕ × Row A → Named
+  named_of e = record { directory = e.1.directory; name = e.1.name.items; file = e.1.file; serial = e.0 }
 
   abbrev pub content_in : Content A → plain.Content
   content_in Directory = a_directory

@@ -3,7 +3,7 @@
 ghost use Rattle.std.specs.Prelude.{◌≡◌, ℕ, ◌++◌, ◌∷◌, [], not, filter, nat_eq, cond, IsSome, OnErr, OnOk};
 ghost use Rattle.std.specs.Map.{lookup};
 ghost use Rattle.fuse_spec.specs.Trees.{same_name};
-ghost use Rattle.fs_tree.specs.Stored.{entries_in};
+ghost use Rattle.fs_tree.specs.Stored.{AreBefore, entries_in};
 
 use crate::entries::{Entries, Link};
 use indexmap::IndexMap;
@@ -36,6 +36,7 @@ pub(crate) fn put_last_in<A: Allocator + Copy>(
     link: Link,
 ) -> Result<(), AllocError>
     requires there { IsSome (lookup (nat_eq directory) directories.old.entries) }
+    requires last { AreBefore link.serial (entries_in directories.old.entries directory) }
     ensures ok { OnOk result ((k : ℕ) → entries_in directories.new.entries k ≡ cond (nat_eq directory k) (filter (λ e. not (same_name e.name name.items)) (entries_in directories.old.entries k) ++ record { name = name.items; file = link.file; serial = link.serial } ∷ []) (entries_in directories.old.entries k)) }
     ensures unchanged { OnErr result ((k : ℕ) → entries_in directories.new.entries k ≡ entries_in directories.old.entries k) }
 {

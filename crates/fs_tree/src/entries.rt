@@ -2,15 +2,19 @@
 
 ghost use Rattle.std.specs.Prelude.{◌≡◌, ◌++◌, ◌∷◌, [], not, filter, find, map, nat_eq, nat_lt, length, option_map, IfOk, OnErr, OnOk};
 ghost use Rattle.fuse_spec.specs.Trees.{same_name, fitting};
-ghost use Rattle.fs_tree.specs.Stored.{in_directory, dirent_in};
+ghost use Rattle.std.specs.Ordering.{nat_cmp};
+ghost use Rattle.std.specs.BTreeMap.{IsOrdered};
+ghost use Rattle.fs_tree.specs.Stored.{AreBefore, in_directory, dirent_in, without_key};
 ghost use Rattle.fs_tree.specs.Views.{dirent_of};
 
 use crate::files::Files;
 use crate::listing::{Record, record_len};
 use indexmap::IndexMap;
 use std::alloc::{AllocError, Allocator};
+use std::collections::BTreeMap;
 use std::hash::{BuildHasherDefault, FoldHasher};
 use std::marker::Model;
+use std::ops::Bound;
 
 /// The file to which a name leads, and the name's serial.
 #[derive(Clone, Copy)]
@@ -19,9 +23,17 @@ pub(crate) struct Link {
     pub(crate) serial: u64,
 }
 
-/// The names in a directory, in rising serial.
+/// A name, and the file to which it leads.
+#[derive(Drop)]
+pub(crate) struct Leaf<A: Allocator> {
+    pub(crate) name: Vec<u8, A>,
+    pub(crate) file: u64,
+}
+
+/// The names in a directory by serial, and their links by name.
 #[derive(Drop)]
 pub(crate) struct Entries<A: Allocator> {
+    names: BTreeMap<u64, Leaf<A>, A>,
     links: IndexMap<Vec<u8, A>, Link, BuildHasherDefault<FoldHasher>, A>,
 }
 
@@ -31,9 +43,12 @@ impl<A: Allocator> Model for Entries<A> {
 
     ghost Value = { List Entry };
 
-    ghost use Rattle.fs_tree.specs.EntryViews.{entry_of};
+    ghost use Rattle.fs_tree.specs.Stored.{AreNamedOnce};
+    ghost use Rattle.fs_tree.specs.EntryViews.{entry_of, AreLinked};
 
-    ghost view = { λ e. map entry_of e.links.entries };
+    ghost view = { λ e. map entry_of e.names.entries };
+
+    ghost invariant = { λ e. AreLinked e.links.entries (map entry_of e.names.entries) × AreNamedOnce (map entry_of e.names.entries) };
 }
 
 impl<A: Allocator + Copy> Entries<A> {
@@ -41,6 +56,7 @@ impl<A: Allocator + Copy> Entries<A> {
         ensures { result ≡ [] }
     {
         Entries {
+            names: BTreeMap::new(alloc),
             links: IndexMap::new(alloc),
         }
     }
@@ -49,7 +65,7 @@ impl<A: Allocator + Copy> Entries<A> {
     pub(crate) fn is_empty(&self) -> bool
         ensures { result ≡ nat_eq (length self.now) 0 }
     {
-        self.links.len() == 0
+        self.names.len() == 0
     }
 
     /// The file to which a name leads.
@@ -62,23 +78,41 @@ impl<A: Allocator + Copy> Entries<A> {
         }
     }
 
+    /// The serial of a name.
+    pub(crate) fn serial_at(&self, name: &[u8]) -> Option<u64>
+        ensures { result ≡ option_map (λ e. e.serial) (find (λ e. same_name e.name name.now) self.now) }
+    {
+        match self.links.get(name) {
+            Some(link) => Some(link.serial),
+            None => None,
+        }
+    }
+
     /// Takes a name away.
     pub(crate) fn remove(&mut self, name: &[u8])
         ensures { self.new ≡ filter (λ e. not (same_name e.name name.now)) self.old }
     {
-        let _len = self.links.len();
-        let _link = self.links.shift_remove(name);
+        let serial = self.serial_at(name);
+        let _link = self.links.swap_remove(name);
+        take_away(&mut self.names, serial);
     }
 
-    /// Takes a name away and puts it anew, last. Where memory is refused nothing changes.
+    /// Takes a name away and puts it anew, last, under a serial over all others. Where memory is refused nothing changes.
     pub(crate) fn put_last(&mut self, name: Vec<u8, A>, link: Link) -> Result<(), AllocError>
+        requires { AreBefore link.serial self.old }
         ensures ok { OnOk result (self.new ≡ filter (λ e. not (same_name e.name name.items)) self.old ++ record { name = name.items; file = link.file; serial = link.serial } ∷ []) }
         ensures unchanged { OnErr result (self.new ≡ self.old) }
     {
+        let replaced = self.serial_at(&name);
+        let copy = copy_of(&name, *self.links.allocator())?;
         self.links.reserve(1)?;
-        let _len = self.links.len();
-        let _old = self.links.shift_remove(name.as_slice());
-        let _none = self.links.insert(name, link).unwrap();
+        let leaf = Leaf {
+            name: copy,
+            file: link.file,
+        };
+        let _none = self.names.insert(link.serial, leaf)?;
+        let _old = self.links.insert(name, link).unwrap();
+        take_away(&mut self.names, replaced);
         Ok(())
     }
 
@@ -93,21 +127,37 @@ impl<A: Allocator + Copy> Entries<A> {
     {
         let mut records = Vec::new(*self.links.allocator());
         let mut room = size;
-        for (name, link) in self.links.iter() {
-            if after < link.serial {
-                let len = record_len(name);
-                if len > room {
-                    break;
-                }
-                records.push(Record {
-                    name,
-                    serial: link.serial,
-                    kind: files.kind(link.file),
-                    file: link.file,
-                })?;
-                room -= len;
+        for (serial, leaf) in self.names.range((Bound::Excluded(after), Bound::Unbounded)) {
+            let len = record_len(&leaf.name);
+            if len > room {
+                break;
             }
+            records.push(Record {
+                name: &leaf.name,
+                serial: *serial,
+                kind: files.kind(leaf.file),
+                file: leaf.file,
+            })?;
+            room -= len;
         }
         Ok(records)
     }
+}
+
+/// Takes the name with this serial away, if there is one.
+fn take_away<A: Allocator>(names: &mut BTreeMap<u64, Leaf<A>, A>, serial: Option<u64>)
+    ensures entries { names.new.entries ≡ without_key serial names.old.entries }
+    ensures was_ordered { IsOrdered nat_cmp names.old }
+{
+    let _len = names.len();
+    if let Some(serial) = serial {
+        let _leaf = names.remove(&serial);
+    }
+}
+
+/// A copy of a name.
+pub(crate) fn copy_of<A: Allocator + Copy>(name: &[u8], alloc: A) -> Result<Vec<u8, A>, AllocError>
+    ensures { IfOk result (λ copy. copy.items ≡ name.now) }
+{
+    name.to_vec(alloc)
 }

@@ -14,7 +14,9 @@ mod files;
 mod listing;
 mod names;
 mod operations;
+mod parents;
 mod refusals;
+mod rows;
 #[cfg(test)]
 mod tests;
 mod tree;

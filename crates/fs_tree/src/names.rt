@@ -1,55 +1,38 @@
 //! The names of a tree.
 
-ghost use Rattle.std.specs.Prelude.{◌≡◌, ◌++◌, ◌∷◌, [], ◌<◌, ◌^◌, not, filter, find, map, length, count_by, nat_eq, option_map, OnOk, OnErr, IfOk, ◌≤◌, ◌&&◌, false, None, vec_len, vec_capacity};
+ghost use Rattle.std.specs.Prelude.{◌≡◌, ◌++◌, ◌∷◌, [], ◌<◌, ◌^◌, not, filter, find, map, length, count_by, nat_eq, option_map, OnOk, OnErr, IfOk, ◌≤◌, ◌&&◌, false, None};
 ghost use Rattle.fuse_spec.specs.Trees.{is_at, is_within, fitting, same_name};
-ghost use Rattle.fs_tree.specs.Views.{named_of, dirent_of};
-ghost use Rattle.fs_tree.specs.Stored.{listed};
+ghost use Rattle.fs_tree.specs.Views.{dirent_of};
+ghost use Rattle.fs_tree.specs.Stored.{listed, AreRising, IsRising};
 
 use crate::directories::{Directories, close, close_empty, open, put_last_in, remove_from};
-use crate::entries::Link;
+use crate::entries::{Link, copy_of};
 use crate::files::Files;
 use crate::listing::Record;
+use crate::rows::Rows;
 use indexmap::IndexMap;
 use std::alloc::{AllocError, Allocator};
 use std::marker::Model;
 
-/// A name in a directory, and the file to which it leads.
-#[derive(Drop)]
-pub(crate) struct Name<A: Allocator> {
-    pub(crate) directory: u64,
-    pub(crate) name: Vec<u8, A>,
-    pub(crate) file: u64,
-    pub(crate) serial: u64,
-}
-
-impl<A: Allocator> Name<A> {
-    /// Whether this is the name in the directory.
-    pub(crate) fn is_at(&self, directory: u64, name: &[u8]) -> bool
-        ensures { result ≡ is_at directory name.now (named_of self.now) }
-    {
-        self.directory == directory && self.name.as_slice() == name
-    }
-}
-
 /// The names, in rising serial, and again by directory.
 #[derive(Drop)]
 pub(crate) struct Names<A: Allocator> {
-    rows: Vec<Name<A>, A>,
+    rows: Rows<A>,
     directories: Directories<A>,
+    alloc: A,
 }
 
 impl<A: Allocator> Model for Names<A> {
-    ghost use Rattle.std.specs.Prelude.{List, map};
+    ghost use Rattle.std.specs.Prelude.{List};
     ghost use Rattle.fuse_spec.specs.Trees.{Named};
 
     ghost Value = { List Named };
 
-    ghost use Rattle.fs_tree.specs.Views.{named_of};
-    ghost use Rattle.fs_tree.specs.Stored.{entries_in, AreByDirectory};
+    ghost use Rattle.fs_tree.specs.Stored.{entries_in, AreByDirectory, AreOnce};
 
-    ghost view = { λ n. map named_of n.rows.items };
+    ghost view = { λ n. n.rows };
 
-    ghost invariant = { λ n. AreByDirectory (entries_in n.directories.entries) (map named_of n.rows.items) };
+    ghost invariant = { λ n. AreByDirectory (entries_in n.directories.entries) n.rows × AreOnce n.rows };
 }
 
 impl<A: Allocator + Copy> Names<A> {
@@ -57,8 +40,9 @@ impl<A: Allocator + Copy> Names<A> {
         ensures { result ≡ [] }
     {
         Names {
-            rows: Vec::new(alloc),
+            rows: Rows::new(alloc),
             directories: IndexMap::new(alloc),
+            alloc,
         }
     }
 
@@ -79,23 +63,28 @@ impl<A: Allocator + Copy> Names<A> {
         }
     }
 
+    /// The serial of a name in a directory.
+    fn serial_at(&self, directory: u64, name: &[u8]) -> Option<u64>
+        ensures { result ≡ option_map (λ n. n.serial) (find (is_at directory name.now) self.now) }
+    {
+        match self.directories.get(&directory) {
+            Some(entries) => entries.serial_at(name),
+            None => None,
+        }
+    }
+
     /// How many names lead to a file.
     pub(crate) fn count_of(&self, file: u64) -> usize
         ensures { result ≡ count_by (λ n. nat_eq n.file file) self.now }
     {
-        self.rows.iter().filter(|row| row.file == file).count()
+        self.rows.count_of(file)
     }
 
     /// The directory of the first name that leads to a file.
     pub(crate) fn parent_of(&self, file: u64) -> Option<u64>
         ensures { result ≡ option_map (λ n. n.directory) (find (λ n. nat_eq n.file file) self.now) }
     {
-        for row in &self.rows {
-            if row.file == file {
-                return Some(row.directory);
-            }
-        }
-        None
+        self.rows.parent_of(file)
     }
 
     /// Whether no name is in a directory.
@@ -117,30 +106,32 @@ impl<A: Allocator + Copy> Names<A> {
         serial: u64,
     ) -> Result<(), AllocError>
         requires absent { find (is_at directory name.now) self.old ≡ None }
+        requires last { IsRising 1 self.old serial }
         ensures ok { OnOk result (self.new ≡ self.old ++ record { directory = directory; name = name.now; file = file; serial = serial } ∷ []) }
         ensures unchanged { OnErr result (self.new ≡ self.old) }
     {
-        let alloc = *self.rows.allocator();
-        let key = copy_of(name, alloc)?;
-        let name = copy_of(name, alloc)?;
-        self.rows.reserve(1)?;
-        open(&mut self.directories, directory, alloc)?;
-        put_last_in(&mut self.directories, directory, key, Link { file, serial })?;
-        self.rows.push_reserved(Name {
-            directory,
-            name,
-            file,
-            serial,
-        });
-        Ok(())
+        let key = copy_of(name, self.alloc)?;
+        let name = copy_of(name, self.alloc)?;
+        open(&mut self.directories, directory, self.alloc)?;
+        self.rows.push(directory, name, file, serial)?;
+        let link = Link { file, serial };
+        match put_last_in(&mut self.directories, directory, key, link) {
+            Ok(()) => Ok(()),
+            Err(error) => {
+                self.rows.remove(Some(serial));
+                Err(error)
+            }
+        }
     }
 
     /// Takes the name in a directory away.
     pub(crate) fn remove(&mut self, directory: u64, name: &[u8])
+        requires { AreRising self.old }
         ensures { self.new ≡ filter (λ n. not (is_at directory name.now n)) self.old }
     {
+        let serial = self.serial_at(directory, name);
         remove_from(&mut self.directories, directory, name);
-        take_away(&mut self.rows, directory, name);
+        self.rows.remove(serial);
     }
 
     /// Lets go what is kept for a directory, if no name is in it.
@@ -168,25 +159,24 @@ impl<A: Allocator + Copy> Names<A> {
         serial: u64,
     ) -> Result<(), AllocError>
         requires other { (nat_eq new_directory directory && same_name new.now old.now) ≡ false }
+        requires last { IsRising 1 self.old serial }
         ensures ok { OnOk result (self.new ≡ filter (λ n. not (is_at new_directory new.now n)) (filter (λ n. not (is_at directory old.now n)) self.old) ++ record { directory = new_directory; name = new.now; file = file; serial = serial } ∷ []) }
         ensures unchanged { OnErr result (self.new ≡ self.old) }
     {
-        let alloc = *self.rows.allocator();
-        let key = copy_of(new, alloc)?;
-        let name = copy_of(new, alloc)?;
-        self.rows.reserve(1)?;
-        open(&mut self.directories, new_directory, alloc)?;
+        let moved = self.serial_at(directory, old);
+        let replaced = self.serial_at(new_directory, new);
+        let key = copy_of(new, self.alloc)?;
+        let name = copy_of(new, self.alloc)?;
+        open(&mut self.directories, new_directory, self.alloc)?;
+        self.rows.push(new_directory, name, file, serial)?;
         let link = Link { file, serial };
-        put_last_in(&mut self.directories, new_directory, key, link)?;
+        if let Err(error) = put_last_in(&mut self.directories, new_directory, key, link) {
+            self.rows.remove(Some(serial));
+            return Err(error);
+        }
         remove_from(&mut self.directories, directory, old);
-        take_away(&mut self.rows, directory, old);
-        take_away(&mut self.rows, new_directory, new);
-        self.rows.push_reserved(Name {
-            directory: new_directory,
-            name,
-            file,
-            serial,
-        });
+        self.rows.remove(moved);
+        self.rows.remove(replaced);
         Ok(())
     }
 
@@ -219,22 +209,7 @@ impl<A: Allocator + Copy> Names<A> {
     {
         match self.directories.get(&directory) {
             Some(entries) => entries.list(files, after, size),
-            None => Ok(Vec::new(*self.rows.allocator())),
+            None => Ok(Vec::new(self.alloc)),
         }
     }
-}
-
-/// Takes the name in a directory out of the rows. Their room stays.
-fn take_away<A: Allocator>(rows: &mut Vec<Name<A>, A>, directory: u64, name: &[u8])
-    ensures names { map named_of rows.new.items ≡ filter (λ n. not (is_at directory name.now n)) (map named_of rows.old.items) }
-    ensures len { vec_len rows.new ≤ vec_len rows.old }
-    ensures capacity { vec_capacity rows.new ≡ vec_capacity rows.old }
-{
-    rows.retain(|row| !row.is_at(directory, name));
-}
-
-fn copy_of<A: Allocator + Copy>(name: &[u8], alloc: A) -> Result<Vec<u8, A>, AllocError>
-    ensures { IfOk result (λ copy. copy.items ≡ name.now) }
-{
-    name.to_vec(alloc)
 }

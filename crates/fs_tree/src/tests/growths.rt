@@ -74,13 +74,13 @@ fn refused_at<A: Allocator + Copy>(
 fn each_growth_refused(rt: HostRuntime) -> Result<(), Fail> {
     let heap = FailAt::new(rt.alloc());
     let mut last = 0u64;
-    for n in 1..40u64 {
+    for n in 1..80u64 {
         if refused_at(&rt, &heap, &heap, n)? {
             last = n;
         }
     }
     // some growths came, and the run ended without one more
-    assert!(rt; 5 <= last && last < 39);
+    assert!(rt; 9 <= last && last < 79);
     Ok(())
 }
 

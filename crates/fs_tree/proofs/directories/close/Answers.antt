@@ -1,4 +1,4 @@
-use Rattle.std.proofs.Common.{◌≡◌, ℕ, sym, ◌∙◌}
+use Rattle.std.proofs.Common.{sym, ◌∙◌}
 use Rattle.fs_tree.proofs.OpenDirectories.{entries_in-closed}
 use Rattle.fs_tree.proofs.directories.close.Goals as goal
 

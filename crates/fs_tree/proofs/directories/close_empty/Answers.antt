@@ -1,4 +1,4 @@
-use Rattle.std.proofs.Common.{rules, ◌≡◌, ℕ, ap, ◌∙◌, filter}
+use Rattle.std.proofs.Common.{rules, ap, ◌∙◌}
 use Rattle.indexmap.proofs.CallerLemmas.{filter-RetainsPairs}
 use Rattle.fs_tree.specs.Stored.{entries_in}
 use Rattle.fs_tree.proofs.OpenDirectories.{has_names, entries_in-filter}

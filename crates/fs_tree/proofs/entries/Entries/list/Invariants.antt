@@ -5,6 +5,6 @@ use Rattle.fs_tree.specs.Views.{dirent_of}
 use Rattle.fs_tree.specs.EntryViews.{entry_of}
 use Rattle.fs_tree.proofs.entries.Entries.list.Given as goal
 
-abbrev pub invariant-loop-name : goal.invariant-loop-name
-invariant-loop-name g l =
-    map dirent_of l.records.items ++ fitting l.room (map (dirent_in l.files.contents) (filter (λ n. nat_lt l.after n.serial) (map (in_directory 0) (map entry_of l.name-iterator)))) ≡ fitting l.size (map (dirent_in l.files.contents) (filter (λ n. nat_lt l.after n.serial) (map (in_directory 0) l.self)))
+abbrev pub invariant-loop-serial : goal.invariant-loop-serial
+invariant-loop-serial g l =
+    map dirent_of l.records.items ++ fitting l.room (map (dirent_in l.files.contents) (map (in_directory 0) (map entry_of l.serial-iterator))) ≡ fitting l.size (map (dirent_in l.files.contents) (filter (λ n. nat_lt l.after n.serial) (map (in_directory 0) l.self)))

@@ -1,10 +1,23 @@
-use Rattle.std.proofs.Common.{rules, ◌≡◌, ℕ, refl, sym, ap, ◌∙◌, map}
-use Rattle.fs_tree.proofs.EntryRows.{put-rows}
+use Rattle.std.proofs.Common.{ap, ◌∙◌, map, refl}
+use Rattle.fs_tree.specs.Stored.{Entry}
+use Rattle.fs_tree.specs.EntryViews.{entry_of}
+use Rattle.fs_tree.proofs.NameLinks.{AreLinked-put, AreNamedOnce-put, put-entries}
 use Rattle.fs_tree.proofs.entries.Entries.put_last.Goals as goal
+
+pub invariant_of-self-2 : goal.invariant_of-self-2
+invariant_of-self-2 g c =
+    let before = rw (← c.self.view_is) at c.requires in
+    let replaced = rw (← c.self.view_is, c.deref.ensures.value) at c.serial_at-replaced.ensures in
+    let updates = rw (c.unwrap-old.ensures, c.reserve.ensures.entries) at c.insert-2.ensures.updates in
+    let x : Entry = record { name = c.args.name.items; file = c.args.link.file; serial = c.args.link.serial } in
+    rw (c.take_away.ensures.entries, c.in_ok-_none.ensures.entries, replaced, put-entries c.args.name.items c.self.inside.names.entries c.self.invariant.1 c.in_ok-_none.ensures.was_ordered c.args.link.serial _ before, c.in_ok-copy.ensures, c.deref-2.ensures.value)
+    (AreLinked-put x c.args.link c.self.inside.links.entries _ (map entry_of c.self.inside.names.entries) refl refl updates.3 updates.1 c.self.invariant.0,
+      AreNamedOnce-put (map entry_of c.self.inside.names.entries) x c.self.invariant.1)
 
 pub returns-clause-ok : goal.returns-clause-ok
 returns-clause-ok g c =
-    let inserted = rw c.unwrap-none.ensures at c.insert.ensures.entries in
-    let put = put-rows c.as_slice.result.now c.reserve.new.self.entries c.shift_remove-old.new.self.entries c.insert.new.self.entries c.args.name c.args.link (sym c.as_slice.ensures.value)
-    c.len-len.ensures.unique c.shift_remove-old.ensures.entries c.shift_remove-old.ensures.updates.1 inserted in
-    rw (← c.self.view_is) (rw (c.as_slice.ensures.value, c.reserve.ensures.entries) at put)
+    let before = rw (← c.self.view_is) at c.requires in
+    let replaced = rw (← c.self.view_is, c.deref.ensures.value) at c.serial_at-replaced.ensures in
+    rw (← c.self.view_is)
+    (ap (map entry_of) c.take_away.ensures.entries
+    ∙ rw (c.in_ok-_none.ensures.entries, replaced, put-entries c.args.name.items c.self.inside.names.entries c.self.invariant.1 c.in_ok-_none.ensures.was_ordered c.args.link.serial _ before, c.in_ok-copy.ensures, c.deref-2.ensures.value) refl)

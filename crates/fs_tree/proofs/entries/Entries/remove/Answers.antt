@@ -1,9 +1,20 @@
-use Rattle.std.proofs.Common.{rules, ◌≡◌, None, Some, ℕ, refl, sym, ap, ◌∙◌, map}
-use Rattle.std.specs.Option.{option_map}
-use Rattle.std.specs.Map.{lookup}
+use Rattle.std.proofs.Common.{ap, ◌∙◌, map, not}
+use Rattle.fuse_spec.specs.Trees.{same_name}
+use Rattle.fs_tree.specs.Stored.{without_key}
 use Rattle.fs_tree.specs.EntryViews.{entry_of}
-use Rattle.fs_tree.proofs.EntryRows.{found-lookup, removed-rows}
+use Rattle.fs_tree.proofs.NameLinks.{AreLinked-removed, AreNamedOnce-where, removed-entries}
 use Rattle.fs_tree.proofs.entries.Entries.remove.Goals as goal
 
+pub invariant_of-self : goal.invariant_of-self
+invariant_of-self g c =
+    let serial = rw (← c.self.view_is) at c.serial_at-serial.ensures in
+    rw (c.take_away.ensures.entries, serial, removed-entries c.args.name.now c.self.inside.names.entries c.self.invariant.1 c.take_away.ensures.was_ordered)
+    (AreLinked-removed c.args.name.now c.self.inside.links.entries _ (map entry_of c.self.inside.names.entries) c.swap_remove-link.ensures.updates.3 c.swap_remove-link.ensures.updates.1 c.self.invariant.0,
+      AreNamedOnce-where (λ e. not (same_name e.name c.args.name.now)) (map entry_of c.self.inside.names.entries) c.self.invariant.1)
+
 pub returns : goal.returns
-returns g c = rw (← c.self.view_is) (ap (map entry_of) c.shift_remove-link.ensures.entries ∙ removed-rows c.args.name.now c.self.inside.links.entries c.len-len.ensures.unique)
+returns g c =
+    let serial = rw (← c.self.view_is) at c.serial_at-serial.ensures in
+    rw (← c.self.view_is)
+    (ap (map entry_of) (c.take_away.ensures.entries ∙ ap (λ o. without_key o c.self.inside.names.entries) serial)
+    ∙ removed-entries c.args.name.now c.self.inside.names.entries c.self.invariant.1 c.take_away.ensures.was_ordered)

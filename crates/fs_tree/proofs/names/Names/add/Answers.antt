@@ -1,15 +1,42 @@
-use Rattle.std.proofs.Common.{rules, ◌≡◌, None, Some, ℕ, refl, sym, ap, ◌∙◌, map, nat_eq, nat_lt, length, filter, not, ◌&&◌}
-use Rattle.std.proofs.lemmas.List.{map-append}
-use Rattle.std.specs.Option.{unwrap_or, option_map}
-use Rattle.fuse_spec.specs.Trees.{is_at, fitting}
-use Rattle.fs_tree.specs.Stored.{entries_in, AreByDirectory}
-use Rattle.fs_tree.specs.Views.{named_of}
-use Rattle.fs_tree.proofs.ByDirectory.{file-in, length-in, listed-in, AreByDirectory-same, AreByDirectory-added, AreByDirectory-removed, AreByDirectory-moved}
+use Rattle.std.proofs.Common.{◌≡◌, ◌+◌, ap, ◌∙◌, refl, Some, nat_eq}
+use Rattle.fuse_spec.specs.Trees.{Named}
+use Rattle.fs_tree.specs.Stored.{without_serial, entries_in}
+use Rattle.fs_tree.proofs.ByDirectory.{AreByDirectory-same, AreByDirectory-added}
+use Rattle.fs_tree.proofs.BySerial.{AreOnce-push, push-undone}
+use Rattle.fs_tree.proofs.Keeping.{IsRising-push, IsRising-where}
+use Rattle.fs_tree.proofs.NameLinks.{before-rising}
 use Rattle.fs_tree.proofs.names.Names.add.Goals as goal
 
-pub invariant_of-self-2 : goal.invariant_of-self-2
-invariant_of-self-2 g c =
-    let absent = rw (← c.self.view_is) at c.requires.absent in
-    let opened = AreByDirectory-same _ _ _ c.open.ensures.same c.self.invariant in
-    rw (c.push_reserved.ensures.items, map-append, c.reserve.ensures.items, c.in_ok-name.ensures, ← c.in_ok-key.ensures)
-    (AreByDirectory-added c.args.directory c.in_ok-key.key.items c.args.file c.args.serial _ _ _ c.in_ok-put_last_in.ensures.ok opened (rw (← c.in_ok-key.ensures) at absent))
+pub invariant_of-self-in-Ok : goal.invariant_of-self-in-Ok
+invariant_of-self-in-Ok g c =
+    let absent = rw (← c.self.view_is, ← c.in_ok-key.ensures) at c.requires.absent in
+    let opened = AreByDirectory-same _ _ _ c.open.ensures.same c.self.invariant.0 in
+    rw (c.in_ok-push.ensures.ok, c.in_ok-name.ensures, ← c.in_ok-key.ensures)
+    (AreByDirectory-added c.args.directory c.in_ok-key.key.items c.args.file c.args.serial _ _ _ c.in-Ok.ensures.ok opened absent,
+      AreOnce-push c.self.inside.rows (record { directory = c.args.directory; name = c.in_ok-key.key.items; file = c.args.file; serial = c.args.serial }) c.self.invariant.1 absent)
+
+pub remove-requires : goal.remove-requires
+remove-requires g c =
+    let last = rw (← c.self.view_is) at c.requires.last in
+    rw c.in_ok-push.ensures.ok (c.args.serial + 1, IsRising-push 1 c.args.serial c.self.inside.rows _ refl last)
+
+pub invariant_of-self-in-Err : goal.invariant_of-self-in-Err
+invariant_of-self-in-Err g c =
+    let last = rw (← c.self.view_is) at c.requires.last in
+    let n : Named = record { directory = c.args.directory; name = c.in_ok-name.name.items; file = c.args.file; serial = c.args.serial } in
+    let undone : c.remove.new.self ≡ c.self.inside.rows = c.remove.ensures ∙ ap (without_serial (Some c.args.serial)) c.in_ok-push.ensures.ok ∙ push-undone 1 c.self.inside.rows n last in
+    let opened = AreByDirectory-same _ _ _ c.open.ensures.same c.self.invariant.0 in
+    rw undone (AreByDirectory-same _ _ _ c.in-Err.ensures.unchanged opened, c.self.invariant.1)
+
+pub returns-in-Err-clause-unchanged : goal.returns-in-Err-clause-unchanged
+returns-in-Err-clause-unchanged g c =
+    let last = rw (← c.self.view_is) at c.requires.last in
+    let n : Named = record { directory = c.args.directory; name = c.in_ok-name.name.items; file = c.args.file; serial = c.args.serial } in
+    rw (← c.self.view_is) (c.remove.ensures ∙ ap (without_serial (Some c.args.serial)) c.in_ok-push.ensures.ok ∙ push-undone 1 c.self.inside.rows n last)
+
+pub put_last_in-requires-clause-last : goal.put_last_in-requires-clause-last
+put_last_in-requires-clause-last g c =
+    let last = rw (← c.self.view_is) at c.requires.last in
+    let rising = IsRising-where (λ n. nat_eq n.directory c.args.directory) 1 c.args.serial c.self.inside.rows last in
+    rw (c.open.ensures.same c.args.directory)
+    (before-rising c.args.directory 1 c.args.serial (entries_in c.self.inside.directories.entries c.args.directory) (rw (← c.self.invariant.0 c.args.directory) at rising))

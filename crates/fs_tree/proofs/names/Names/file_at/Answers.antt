@@ -1,18 +1,16 @@
-use Rattle.std.proofs.Common.{rules, ◌≡◌, None, Some, ℕ, refl, sym, ap, ◌∙◌, map, nat_eq, nat_lt, length, filter, not, ◌&&◌, find, []}
-use Rattle.std.proofs.lemmas.List.{map-append}
+use Rattle.std.proofs.Common.{ap, ◌∙◌, find, []}
 use Rattle.std.specs.Option.{unwrap_or, option_map}
-use Rattle.fuse_spec.specs.Trees.{is_at, fitting, same_name}
-use Rattle.fs_tree.specs.Stored.{entries_in, AreByDirectory, dirent_in, in_directory}
-use Rattle.fs_tree.specs.Views.{named_of}
-use Rattle.fs_tree.proofs.ByDirectory.{file-in, length-in, listed-in, AreByDirectory-same, AreByDirectory-added, AreByDirectory-removed, AreByDirectory-moved}
+use Rattle.fuse_spec.specs.Trees.{same_name}
+use Rattle.fs_tree.specs.Stored.{entries_in}
+use Rattle.fs_tree.proofs.ByDirectory.{file-in}
 use Rattle.fs_tree.proofs.names.Names.file_at.Goals as goal
 
 pub returns-in-Some : goal.returns-in-Some
 returns-in-Some g c =
     let there = ap (λ o. option_map (λ e. e.file) (find (λ e. same_name e.name c.args.name.now) (unwrap_or o []))) c.in-Some.ensures.value in
-    rw (← c.self.view_is) (c.file_at.ensures ∙ there ∙ file-in (entries_in c.self.inside.directories.entries) (map named_of c.self.inside.rows.items) c.self.invariant c.args.directory c.args.name.now)
+    rw (← c.self.view_is) (c.file_at.ensures ∙ there ∙ file-in (entries_in c.self.inside.directories.entries) c.self.inside.rows c.self.invariant.0 c.args.directory c.args.name.now)
 
 pub returns-in-None : goal.returns-in-None
 returns-in-None g c =
     let there = ap (λ o. option_map (λ e. e.file) (find (λ e. same_name e.name c.args.name.now) (unwrap_or o []))) c.in-None.ensures.value in
-    rw (← c.self.view_is) (there ∙ file-in (entries_in c.self.inside.directories.entries) (map named_of c.self.inside.rows.items) c.self.invariant c.args.directory c.args.name.now)
+    rw (← c.self.view_is) (there ∙ file-in (entries_in c.self.inside.directories.entries) c.self.inside.rows c.self.invariant.0 c.args.directory c.args.name.now)

@@ -1,11 +1,20 @@
-use Rattle.std.proofs.Common.{rules, ◌≡◌, None, Some, ℕ, refl, sym, ap, ◌∙◌, map, nat_eq, nat_lt, length, filter, not, ◌&&◌}
-use Rattle.std.proofs.lemmas.List.{map-append}
-use Rattle.std.specs.Option.{unwrap_or, option_map}
-use Rattle.fuse_spec.specs.Trees.{is_at, fitting}
-use Rattle.fs_tree.specs.Stored.{entries_in, AreByDirectory}
-use Rattle.fs_tree.specs.Views.{named_of}
-use Rattle.fs_tree.proofs.ByDirectory.{file-in, length-in, listed-in, AreByDirectory-same, AreByDirectory-added, AreByDirectory-removed, AreByDirectory-moved}
+use Rattle.std.proofs.Common.{ap, ◌∙◌, refl, not}
+use Rattle.fuse_spec.specs.Trees.{is_at}
+use Rattle.fs_tree.specs.Stored.{without_serial}
+use Rattle.fs_tree.proofs.ByDirectory.{AreByDirectory-removed}
+use Rattle.fs_tree.proofs.BySerial.{without-found, AreOnce-where}
 use Rattle.fs_tree.proofs.names.Names.remove.Goals as goal
 
 pub invariant_of-self : goal.invariant_of-self
-invariant_of-self g c = rw c.take_away.ensures.names (AreByDirectory-removed c.args.directory c.args.name.now _ _ _ c.remove_from.ensures c.self.invariant)
+invariant_of-self g c =
+    let rising = rw (← c.self.view_is) at c.requires in
+    let serial = rw (← c.self.view_is) at c.serial_at-serial.ensures in
+    rw (c.remove.ensures, serial, without-found c.args.directory c.args.name.now 1 rising.0 c.self.inside.rows _ rising.1 c.self.invariant.1 refl)
+    (AreByDirectory-removed c.args.directory c.args.name.now _ _ _ c.remove_from.ensures c.self.invariant.0, AreOnce-where (λ n. not (is_at c.args.directory c.args.name.now n)) c.self.inside.rows c.self.invariant.1)
+
+pub returns : goal.returns
+returns g c =
+    let rising = rw (← c.self.view_is) at c.requires in
+    let serial = rw (← c.self.view_is) at c.serial_at-serial.ensures in
+    rw (← c.self.view_is)
+    (c.remove.ensures ∙ ap (λ o. without_serial o c.self.inside.rows) serial ∙ without-found c.args.directory c.args.name.now 1 rising.0 c.self.inside.rows _ rising.1 c.self.invariant.1 refl)

@@ -1,18 +1,66 @@
-use Rattle.std.proofs.Common.{rules, ◌≡◌, None, Some, ℕ, refl, sym, ap, ◌∙◌, map, nat_eq, nat_lt, length, filter, not, ◌&&◌}
-use Rattle.std.proofs.lemmas.List.{map-append}
-use Rattle.std.specs.Option.{unwrap_or, option_map}
-use Rattle.fuse_spec.specs.Trees.{is_at, fitting}
-use Rattle.fs_tree.specs.Stored.{entries_in, AreByDirectory}
-use Rattle.fs_tree.specs.Views.{named_of}
-use Rattle.fs_tree.proofs.ByDirectory.{file-in, length-in, listed-in, AreByDirectory-same, AreByDirectory-added, AreByDirectory-removed, AreByDirectory-moved}
+use Rattle.std.proofs.Common.{◌≡◌, ◌+◌, ap, ◌∙◌, refl, not, Some, nat_eq}
+use Rattle.fuse_spec.specs.Trees.{Named, is_at}
+use Rattle.fs_tree.specs.Stored.{without_serial, entries_in}
+use Rattle.fs_tree.proofs.ByDirectory.{AreByDirectory-same, AreByDirectory-moved}
+use Rattle.fs_tree.proofs.BySerial.{AreOnce-moved, IsRising-without, push-undone, moved-serials}
+use Rattle.fs_tree.proofs.Keeping.{IsRising-push, IsRising-where}
+use Rattle.fs_tree.proofs.NameLinks.{before-rising}
 use Rattle.fs_tree.proofs.names.Names.rename.Goals as goal
+
+pub remove-requires : goal.remove-requires
+remove-requires g c =
+    let last = rw (← c.self.view_is) at c.requires.last in
+    rw c.in_ok-push.ensures.ok (c.args.serial + 1, IsRising-push 1 c.args.serial c.self.inside.rows _ refl last)
+
+pub invariant_of-self-in-Err : goal.invariant_of-self-in-Err
+invariant_of-self-in-Err g c =
+    let last = rw (← c.self.view_is) at c.requires.last in
+    let n : Named = record { directory = c.args.new_directory; name = c.in_ok-name.name.items; file = c.args.file; serial = c.args.serial } in
+    let undone : c.remove.new.self ≡ c.self.inside.rows = c.remove.ensures ∙ ap (without_serial (Some c.args.serial)) c.in_ok-push.ensures.ok ∙ push-undone 1 c.self.inside.rows n last in
+    let opened = AreByDirectory-same _ _ _ c.open.ensures.same c.self.invariant.0 in
+    rw undone (AreByDirectory-same _ _ _ c.in-Err.ensures.unchanged opened, c.self.invariant.1)
+
+pub returns-in-Err-clause-unchanged : goal.returns-in-Err-clause-unchanged
+returns-in-Err-clause-unchanged g c =
+    let last = rw (← c.self.view_is) at c.requires.last in
+    let n : Named = record { directory = c.args.new_directory; name = c.in_ok-name.name.items; file = c.args.file; serial = c.args.serial } in
+    rw (← c.self.view_is) (c.remove.ensures ∙ ap (without_serial (Some c.args.serial)) c.in_ok-push.ensures.ok ∙ push-undone 1 c.self.inside.rows n last)
+
+pub remove-requires-2 : goal.remove-requires-2
+remove-requires-2 g c =
+    let last = rw (← c.self.view_is) at c.requires.last in
+    rw c.in_ok-push.ensures.ok (c.args.serial + 1, IsRising-push 1 c.args.serial c.self.inside.rows _ refl last)
+
+pub remove-requires-3 : goal.remove-requires-3
+remove-requires-3 g c =
+    let last = rw (← c.self.view_is) at c.requires.last in
+    rw (c.remove-2.ensures, c.in_ok-push.ensures.ok)
+    (c.args.serial + 1, IsRising-without c.serial_at-moved.result 1 (c.args.serial + 1) _ (IsRising-push 1 c.args.serial c.self.inside.rows _ refl last))
 
 pub invariant_of-self-2 : goal.invariant_of-self-2
 invariant_of-self-2 g c =
-    let opened = AreByDirectory-same _ _ _ c.open.ensures.same c.self.invariant in
-    rw (c.push_reserved.ensures.items, map-append, c.take_away-2.ensures.names, c.take_away.ensures.names, c.reserve.ensures.items, c.in_ok-name.ensures, ← c.in_ok-key.ensures)
-    (AreByDirectory-moved c.args.directory c.args.old.now c.args.new_directory c.in_ok-key.key.items c.args.file c.args.serial _ _ _ _ c.in_ok-put_last_in.ensures.ok c.remove_from.ensures opened
-    (rw (← c.in_ok-key.ensures) at c.requires.other))
+    let last = rw (← c.self.view_is) at c.requires.last in
+    let moved = rw (← c.self.view_is) at c.serial_at-moved.ensures in
+    let replaced = rw (← c.self.view_is) at c.serial_at-replaced.ensures in
+    let other = rw (← c.in_ok-key.ensures) at c.requires.other in
+    let opened = AreByDirectory-same _ _ _ c.open.ensures.same c.self.invariant.0 in
+    let n : Named = record { directory = c.args.new_directory; name = c.in_ok-key.key.items; file = c.args.file; serial = c.args.serial } in
+    rw (c.remove-3.ensures, c.remove-2.ensures, c.in_ok-push.ensures.ok, replaced, moved, c.in_ok-name.ensures, ← c.in_ok-key.ensures, moved-serials c.args.directory c.args.old.now c.args.new_directory c.in_ok-key.key.items c.self.inside.rows n last c.self.invariant.1)
+    (AreByDirectory-moved c.args.directory c.args.old.now c.args.new_directory c.in_ok-key.key.items c.args.file c.args.serial _ _ _ _ c.in_default.ensures.ok c.remove_from.ensures opened other,
+      AreOnce-moved (λ m. not (is_at c.args.directory c.args.old.now m)) c.self.inside.rows n c.self.invariant.1)
 
 pub returns-clause-ok : goal.returns-clause-ok
-returns-clause-ok g c = rw (← c.self.view_is, c.push_reserved.ensures.items, map-append, c.take_away-2.ensures.names, c.take_away.ensures.names, c.reserve.ensures.items) (search rules)
+returns-clause-ok g c =
+    let last = rw (← c.self.view_is) at c.requires.last in
+    let moved = rw (← c.self.view_is) at c.serial_at-moved.ensures in
+    let replaced = rw (← c.self.view_is) at c.serial_at-replaced.ensures in
+    let n : Named = record { directory = c.args.new_directory; name = c.args.new.now; file = c.args.file; serial = c.args.serial } in
+    rw (← c.self.view_is, c.remove-3.ensures, c.remove-2.ensures, c.in_ok-push.ensures.ok, replaced, moved, c.in_ok-name.ensures)
+    (moved-serials c.args.directory c.args.old.now c.args.new_directory c.args.new.now c.self.inside.rows n last c.self.invariant.1)
+
+pub put_last_in-requires-clause-last : goal.put_last_in-requires-clause-last
+put_last_in-requires-clause-last g c =
+    let last = rw (← c.self.view_is) at c.requires.last in
+    let rising = IsRising-where (λ n. nat_eq n.directory c.args.new_directory) 1 c.args.serial c.self.inside.rows last in
+    rw (c.open.ensures.same c.args.new_directory)
+    (before-rising c.args.new_directory 1 c.args.serial (entries_in c.self.inside.directories.entries c.args.new_directory) (rw (← c.self.invariant.0 c.args.new_directory) at rising))

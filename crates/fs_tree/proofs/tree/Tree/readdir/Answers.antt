@@ -1,0 +1,9 @@
+use Rattle.std.proofs.Common.{rules, ap, sym}
+use Rattle.fuse_spec.specs.Operations.{listed}
+use Rattle.fs_tree.proofs.tree.Tree.readdir.Goals as goal
+
+pub returns-clause-ok : goal.returns-clause-ok
+returns-clause-ok g c =
+    let room = c.min-room.ensures in
+    let records = c.in_ok-list.ensures in
+    (rw (← c.is_directory.ensures) (search rules), λ valid. ap listed (rw (← c.self.view_is) (sym (rw room at records))))

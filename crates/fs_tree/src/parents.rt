@@ -1,0 +1,131 @@
+//! The directories of the names that lead to a file, by file.
+
+ghost use Rattle.std.specs.Prelude.{◌≡◌, ℕ, ◌++◌, ◌∷◌, [], not, filter, length, nat_eq, cond, slice_get, option_map, IsSome, OnErr, OnOk};
+ghost use Rattle.std.specs.Map.{lookup};
+ghost use Rattle.fs_tree.specs.Stored.{AreBelow, parents_in};
+
+use indexmap::IndexMap;
+use std::alloc::{AllocError, Allocator};
+use std::collections::BTreeMap;
+use std::hash::{BuildHasherDefault, FoldHasher};
+use std::marker::Model;
+
+/// The directories of the names that lead to a file, by the serials of the names.
+#[derive(Drop)]
+pub(crate) struct Parents<A: Allocator> {
+    directories: BTreeMap<u64, u64, A>,
+}
+
+impl<A: Allocator> Model for Parents<A> {
+    ghost use Rattle.std.specs.Prelude.{List, ℕ};
+
+    ghost Value = { List (ℕ × ℕ) };
+
+    ghost view = { λ p. p.directories.entries };
+}
+
+pub(crate) type ParentsByFile<A> = IndexMap<u64, Parents<A>, BuildHasherDefault<FoldHasher>, A>;
+
+impl<A: Allocator + Copy> Parents<A> {
+    fn new(alloc: A) -> Self
+        ensures { result ≡ [] }
+    {
+        Parents {
+            directories: BTreeMap::new(alloc),
+        }
+    }
+
+    /// How many names lead to the file.
+    pub(crate) fn len(&self) -> usize
+        ensures { result ≡ length self.now }
+    {
+        self.directories.len()
+    }
+
+    /// The directory of the first name.
+    pub(crate) fn first(&self) -> Option<u64>
+        ensures { result ≡ option_map (λ e. e.1) (slice_get self.now 0) }
+    {
+        match self.directories.first_key_value() {
+            Some((_, directory)) => Some(*directory),
+            None => None,
+        }
+    }
+
+    /// Puts a name last.
+    fn put_last(&mut self, serial: u64, directory: u64) -> Result<(), AllocError>
+        requires { AreBelow serial self.old }
+        ensures ok { OnOk result (self.new ≡ self.old ++ (serial, directory) ∷ []) }
+        ensures unchanged { OnErr result (self.new ≡ self.old) }
+    {
+        let _none = self.directories.insert(serial, directory)?;
+        Ok(())
+    }
+
+    /// Takes a name away.
+    fn remove(&mut self, serial: u64)
+        ensures { self.new ≡ filter (λ e. not (nat_eq e.0 serial)) self.old }
+    {
+        let _len = self.directories.len();
+        let _directory = self.directories.remove(&serial);
+    }
+}
+
+/// Sees to it that a file is there, with no names if it is new.
+pub(crate) fn open<A: Allocator + Copy>(
+    parents: &mut ParentsByFile<A>,
+    file: u64,
+    alloc: A,
+) -> Result<(), AllocError>
+    ensures there { OnOk result (IsSome (lookup (nat_eq file) parents.new.entries)) }
+    ensures same { (k : ℕ) → parents_in parents.new.entries k ≡ parents_in parents.old.entries k }
+{
+    if parents.get(&file).is_some() {
+        return Ok(());
+    }
+    let _none = parents.insert(file, Parents::new(alloc))?;
+    Ok(())
+}
+
+/// Puts a name of a file that is there, last. Where memory is refused nothing changes.
+pub(crate) fn put_last_in<A: Allocator + Copy>(
+    parents: &mut ParentsByFile<A>,
+    file: u64,
+    serial: u64,
+    directory: u64,
+) -> Result<(), AllocError>
+    requires there { IsSome (lookup (nat_eq file) parents.old.entries) }
+    requires last { AreBelow serial (parents_in parents.old.entries file) }
+    ensures ok { OnOk result ((k : ℕ) → parents_in parents.new.entries k ≡ cond (nat_eq file k) (parents_in parents.old.entries k ++ (serial, directory) ∷ []) (parents_in parents.old.entries k)) }
+    ensures unchanged { OnErr result ((k : ℕ) → parents_in parents.new.entries k ≡ parents_in parents.old.entries k) }
+{
+    match parents.get_mut(&file) {
+        Some(of_file) => of_file.put_last(serial, directory),
+        None => Err(AllocError),
+    }
+}
+
+/// Takes a name of a file away.
+pub(crate) fn remove_from<A: Allocator + Copy>(
+    parents: &mut ParentsByFile<A>,
+    file: u64,
+    serial: u64,
+)
+    ensures { (k : ℕ) → parents_in parents.new.entries k ≡ cond (nat_eq file k) (filter (λ e. not (nat_eq e.0 serial)) (parents_in parents.old.entries k)) (parents_in parents.old.entries k) }
+{
+    if let Some(of_file) = parents.get_mut(&file) {
+        of_file.remove(serial);
+    }
+}
+
+/// Lets a file without names go.
+pub(crate) fn close<A: Allocator + Copy>(parents: &mut ParentsByFile<A>, file: u64)
+    ensures { (k : ℕ) → parents_in parents.new.entries k ≡ parents_in parents.old.entries k }
+{
+    let Some(of_file) = parents.get(&file) else {
+        return;
+    };
+    if of_file.len() == 0 {
+        let _parents = parents.swap_remove(&file);
+    }
+}
