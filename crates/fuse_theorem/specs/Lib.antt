@@ -8,3 +8,5 @@ pub mod EachEvent
 pub mod FirstWorld
 pub mod Unperformed
 pub mod WorldSound
+pub mod PlainCalls
+pub mod PlainWords
