@@ -107,3 +107,8 @@ pub mod Fresh
 pub mod EachEvent
 pub mod Rooted
 pub mod QueuesSound
+pub mod PlainWalks
+pub mod PlainBegins
+pub mod PlainReplies
+pub mod PlainGivesUp
+pub mod PlainWorld

@@ -1,13 +1,12 @@
 -- The plain world's steps in words of its own: which it takes with an event and its outcome.
-use Rattle.std.specs.Prelude.{◌≡◌, ◌≢◌, ℕ, ◌+◌, ◌-◌, Bool, true, false, [], ◌∷◌, Option, Some, None}
+use Rattle.std.specs.Prelude.{◌≡◌, ◌≢◌, ℕ, ◌+◌, ◌-◌, Bool, true, false, [], Option, Some, None}
 use Rattle.fuse_spec.specs.declared.IntrEffect.{IntrEffect}
 use Rattle.fuse_spec.specs.declared.IntrEffect.TheVariants as effect
 use Rattle.fuse_spec.specs.declared.Taken.{Taken}
-use Rattle.fuse_spec.specs.declared.Taken.TheVariants.{Held, Forgot, Marked, Ignored, Again}
-use Rattle.fuse_spec.specs.declared.Validity.{Validity}
+use Rattle.fuse_spec.specs.declared.Taken.TheVariants.{Marked}
 use Rattle.fuse_spec.specs.declared.WriteResult.{WriteResult}
 use Rattle.fuse_spec.specs.declared.WriteResult.TheVariants.{Accepted, NoEntry, Invalid}
-use Rattle.fuse_spec.specs.Maps.{Map, get, put, remove, remove_name}
+use Rattle.fuse_spec.specs.Maps.{Map, get, put, remove}
 use Rattle.fuse_spec.specs.Numbers.{econnaborted, eintr, enotconn}
 use Rattle.fuse_spec.specs.Paths.{Name}
 use Rattle.fuse_spec.specs.Operations.{Operation, Reply}
