@@ -5,7 +5,6 @@ use Rattle.std.proofs.lemmas.Bool.Decides.{nat_tests}
 use Rattle.fuse_spec.specs.Maps.{get}
 use Rattle.fuse_spec.specs.Numbers.{einval, max_file, max_transfer}
 use Rattle.fuse_spec.specs.Paths.{Name, words_of, parent_and_last}
-use Rattle.fuse_spec.specs.Operations.{Operation}
 use Rattle.fuse_spec.specs.Operations as op
 use Rattle.fuse_spec.specs.Walks.{WalkPlan, last, rename, link}
 use Rattle.fuse_spec.specs.Walks as final

@@ -14,7 +14,7 @@ use Rattle.fuse_spec.specs.Plain.{Plain, Ask, Stage, waiting, performed, decline
 use Rattle.fuse_spec.specs.PlainSteps.{where_so, serving_ask, serving, telling_call, telling_ask, telling, signalled_ask, signalling, marking, takes, Takes}
 use Rattle.fuse_spec.specs.Events.{Event, Outcome}
 use Rattle.fuse_spec.specs.Events as event
-use Rattle.fuse_theorem.specs.PlainWords.{one_more, Asks, AllAnswered, GivesUp, Steps}
+use Rattle.fuse_theorem.specs.PlainWords.{one_more, Asks, Steps}
 use Rattle.fuse_theorem.specs.PlainWords as plain
 use Rattle.fuse_theorem.proofs.PlainBegins.{begins}
 use Rattle.fuse_theorem.proofs.PlainGivesUp.{gives_up}
@@ -35,7 +35,7 @@ is_free : (o : Option Ask) → not (is_some o) ≡ true → o ≡ None
 is_free None e = refl
 is_free (Some ask) e = absurd (cc)
 
--- Two tests that both hold.
+-- two tests that both hold
 record Both (a b : Bool) : Type 0 where
   pub first : a ≡ true
   pub second : b ≡ true
@@ -53,7 +53,14 @@ asks : (p : Plain) (label number : ℕ) (after : Vfs ℕ) (asked : Option (Opera
 asks p label number after None = plain.nothing
 asks p label number after (Some operation) = plain.puts_ask operation
 
-module _ (p : Plain) where
+module _ (p q : Plain) where
+  -- A step to r is one to q, which is r.
+  goes : (e : Event) (o : Outcome) (r : Plain) → r ≡ q → Steps p e o r → Steps p e o q
+  goes e o r same step = subst (λ (s : Plain). Steps p e o s) same step
+
+  some_goes : (e : Event) (o : Outcome) (r : Plain) → ◌≡◌ {A = Option Plain} (Some r) (Some q) → Steps p e o r → Steps p e o q
+  some_goes e o r same step = goes e o r (cc) step
+
   call_begins : (x : Call) (label : ℕ) → get p.asks label ≡ None → Steps p (event.call x) (event.begun p.vfs.next_call) (call_begun p label x)
   call_begins x label free = by p.aborted refl
     where
@@ -63,46 +70,43 @@ module _ (p : Plain) where
           let went = begun false p.vfs x in
           plain.begins x label went.vfs went.operation (going_on p label p.vfs.next_call went) live free (begins (one_more p.vfs) p.vfs.next_call x) (asks p label p.vfs.next_call went.vfs went.operation)
 
-  performs : (unique u errno : ℕ) (lost : Bool) (q : Plain) (o : Option Ask) → get p.asks unique ≡ o → serving p unique o ≡ Some q → Steps p (event.perform unique) (event.performed u errno lost) q
-  performs unique u errno lost q None there e = subst (λ (r : Plain). Steps p (event.perform unique) (event.performed u errno lost) r) (cc) (plain.performs_none unique u errno lost there)
-  performs unique u errno lost q (Some ask) there e = by ask.stage refl e
+  performs : (unique u errno : ℕ) (lost : Bool) (o : Option Ask) → get p.asks unique ≡ o → serving p unique o ≡ Some q → Steps p (event.perform unique) (event.performed u errno lost) q
+  performs unique u errno lost None there e = some_goes _ _ p e (plain.performs_none unique u errno lost there)
+  performs unique u errno lost (Some ask) there e = by ask.stage refl e
     where
       by_mark : (marked : Bool) → ask.stage ≡ waiting → ask.marked ≡ marked → cond marked (where_so ask.noted (ask_declined p unique ask)) (Some (ask_performed p unique ask)) ≡ Some q → Steps p (event.perform unique) (event.performed u errno lost) q
-      by_mark true stage mark f =
-          let did = taken_so ask.noted (ask_declined p unique ask) q f in
-          subst (λ (r : Plain). Steps p (event.perform unique) (event.performed u errno lost) r) did.leads (plain.declines unique u errno lost ask there stage mark did.so)
-      by_mark false stage mark f = subst (λ (r : Plain). Steps p (event.perform unique) (event.performed u errno lost) r) (cc) (plain.performs unique u errno lost ask there stage mark)
+      by_mark true stage mark f = let did = taken_so ask.noted (ask_declined p unique ask) q f in goes _ _ _ did.leads (plain.declines unique u errno lost ask there stage mark did.so)
+      by_mark false stage mark f = some_goes _ _ _ f (plain.performs unique u errno lost ask there stage mark)
 
       by : (stage : Stage) → ask.stage ≡ stage → serving_ask p unique ask stage ≡ Some q → Steps p (event.perform unique) (event.performed u errno lost) q
       by waiting stage f = by_mark ask.marked stage refl f
       by (performed reply) stage f = absurd (cc)
       by declined stage f = absurd (cc)
 
-  tells : (k unique label : ℕ) (q : Plain) (o : Option Ask) → get p.asks unique ≡ o → telling p unique label o ≡ Some q → Steps p (event.write k) (event.written unique Accepted) q
-  tells k unique label q None there e = subst (λ (r : Plain). Steps p (event.write k) (event.written unique Accepted) r) (cc) (plain.tells_none k unique there)
-  tells k unique label q (Some ask) there e = by ask.stage refl e
+  tells : (k unique label : ℕ) (o : Option Ask) → get p.asks unique ≡ o → telling p unique label o ≡ Some q → Steps p (event.write k) (event.written unique Accepted) q
+  tells k unique label None there e = some_goes _ _ p e (plain.tells_none k unique there)
+  tells k unique label (Some ask) there e = by ask.stage refl e
     where
-      by_call : (reply : Reply ℕ ℕ) → ask.stage ≡ performed reply → (standing : Option (CallState ℕ)) → get p.vfs.calls ask.call ≡ standing → telling_call p unique label ask reply standing ≡ Some q → Steps p (event.write k) (event.written unique Accepted) q
+      by_call : (reply : Reply ℕ ℕ) → ask.stage ≡ performed reply → (standing : Option (CallState ℕ)) → get p.vfs.calls ask.call ≡ standing → telling_call p unique label ask reply standing ≡ Some q
+          → Steps p (event.write k) (event.written unique Accepted) q
       by_call reply stage None stands f = absurd (cc)
       by_call reply stage (Some state) stands f =
           let did = taken_so (not (is_some (get p.asks label))) (ask_told p unique label ask reply state) q f in
           let went = call_replied p.vfs ask.call state reply in
-          subst (λ (r : Plain). Steps p (event.write k) (event.written unique Accepted) r) did.leads
+          goes _ _ _ did.leads
           (plain.tells k unique label ask reply state went.vfs went.operation (ask_told p unique label ask reply state) there stage stands (is_free (get p.asks label) did.so) (hears p.vfs ask.call state reply)
           (asks (record p { asks = remove p.asks unique }) label ask.call went.vfs went.operation))
 
       by : (stage : Stage) → ask.stage ≡ stage → telling_ask p unique label ask stage ≡ Some q → Steps p (event.write k) (event.written unique Accepted) q
       by waiting stage f = absurd (cc)
       by (performed reply) stage f = by_call reply stage (get p.vfs.calls ask.call) refl f
-      by declined stage f =
-          let did = taken_so ask.noted (ask_interrupted p unique ask) q f in
-          subst (λ (r : Plain). Steps p (event.write k) (event.written unique Accepted) r) did.leads (plain.tells_eintr k unique ask there stage did.so)
+      by declined stage f = let did = taken_so ask.noted (ask_interrupted p unique ask) q f in goes _ _ _ did.leads (plain.tells_eintr k unique ask there stage did.so)
 
-  signals : (number label : ℕ) (fatal : Bool) (c : ℕ) (signal : IntrEffect) (q : Plain) (o : Option Ask) → get p.asks label ≡ o → signalling p signal number label o ≡ Some q → Steps p (event.intr number fatal) (event.interrupted c signal) q
-  signals number label fatal c signal q None there e = absurd (cc)
-  signals number label fatal c signal q (Some ask) there e =
+  signals : (number label : ℕ) (fatal : Bool) (c : ℕ) (signal : IntrEffect) (o : Option Ask) → get p.asks label ≡ o → signalling p signal number label o ≡ Some q → Steps p (event.intr number fatal) (event.interrupted c signal) q
+  signals number label fatal c signal None there e = absurd (cc)
+  signals number label fatal c signal (Some ask) there e =
       let did = taken_so (nat_eq ask.call number) (signalled_ask p signal label ask) q e in
-      subst (λ (r : Plain). Steps p (event.intr number fatal) (event.interrupted c signal) r) did.leads (by signal (sym (same_number ask.call number did.so)))
+      goes _ _ _ did.leads (by signal (sym (same_number ask.call number did.so)))
     where
       by : (x : IntrEffect) → ask.call ≡ number → Steps p (event.intr number fatal) (event.interrupted c x) (signalled_ask p x label ask)
       by effect.Dequeued of = plain.interrupts number label fatal c ask there of
@@ -110,45 +114,38 @@ module _ (p : Plain) where
       by effect.Queued of = plain.notes number label fatal c effect.Queued ask (λ is. cc) there of
       by effect.None of = plain.notes number label fatal c effect.None ask (λ is. cc) there of
 
-  marks : (k unique : ℕ) (q : Plain) (o : Option Ask) → get p.asks (unique - 1) ≡ o → marking p (unique - 1) o ≡ Some q → Steps p (event.take k) (event.taken unique Marked) q
-  marks k unique q None there e = subst (λ (r : Plain). Steps p (event.take k) (event.taken unique Marked) r) (cc) (plain.marks_none k unique there)
-  marks k unique q (Some ask) there e = subst (λ (r : Plain). Steps p (event.take k) (event.taken unique Marked) r) (cc) (plain.marks k unique ask there)
+  marks : (k unique : ℕ) (o : Option Ask) → get p.asks (unique - 1) ≡ o → marking p (unique - 1) o ≡ Some q → Steps p (event.take k) (event.taken unique Marked) q
+  marks k unique None there e = some_goes _ _ p e (plain.marks_none k unique there)
+  marks k unique (Some ask) there e = some_goes _ _ _ e (plain.marks k unique ask there)
 
-  module _ (q : Plain) where
-    -- A step that leads where the plain world is known to go.
-    leads : (e : Event) (o : Outcome) (r : Plain) → Steps p e o r → ◌≡◌ {A = Option Plain} (Some r) (Some q) → Steps p e o q
-    leads e o r step is = subst (λ (s : Plain). Steps p e o s) (cc) step
-
-    steps : (chosen : ℕ) (e : Event) (o : Outcome) → takes chosen p e o ≡ Some q → Steps p e o q
-    steps chosen (event.call x) (event.begun number) e =
-        let did = taken_so (nat_eq number p.vfs.next_call && not (is_some (get p.asks chosen))) (call_begun p chosen x) q e in
-        let tests = both (nat_eq number p.vfs.next_call) (not (is_some (get p.asks chosen))) did.so in
-        subst (λ (n : ℕ). Steps p (event.call x) (event.begun n) q) (same_number number p.vfs.next_call tests.first)
-        (subst (λ (r : Plain). Steps p (event.call x) (event.begun p.vfs.next_call) r) did.leads (call_begins x chosen (is_free (get p.asks chosen) tests.second)))
-    steps chosen (event.perform unique) (event.performed u errno lost) e = performs unique u errno lost q (get p.asks unique) refl e
-    steps chosen (event.write k) (event.written unique Accepted) e = tells k unique chosen q (get p.asks unique) refl e
-    steps chosen (event.write k) (event.written unique NoEntry) e = leads _ _ p (plain.no_entry k unique) e
-    steps chosen (event.write k) (event.written unique Invalid) e = leads _ _ p (plain.is_wrong k unique) e
-    steps chosen (event.intr number fatal) (event.interrupted c signal) e = signals number chosen fatal c signal q (get p.asks chosen) refl e
-    steps chosen (event.take k) (event.taken unique Marked) e = marks k unique q (get p.asks (unique - 1)) refl e
-    steps chosen (event.take k) (event.taken unique Held) e = leads _ _ p (plain.takes_other k unique Held (λ is. cc)) e
-    steps chosen (event.take k) (event.taken unique Forgot) e = leads _ _ p (plain.takes_other k unique Forgot (λ is. cc)) e
-    steps chosen (event.take k) (event.taken unique Ignored) e = leads _ _ p (plain.takes_other k unique Ignored (λ is. cc)) e
-    steps chosen (event.take k) (event.taken unique Again) e = leads _ _ p (plain.takes_other k unique Again (λ is. cc)) e
-    steps chosen (event.tick ms) (event.now clock) e =
-        let did = taken_so (nat_eq clock (p.vfs.clock + ms)) (plain_later p ms) q e in
-        subst (λ (n : ℕ). Steps p (event.tick ms) (event.now n) q) (same_number clock (p.vfs.clock + ms) did.so)
-        (subst (λ (r : Plain). Steps p (event.tick ms) (event.now (p.vfs.clock + ms)) r) did.leads (plain.time_passes ms))
-    steps chosen (event.drop_name node name) event.dropped e = leads _ _ _ (plain.drops node chosen name) e
-    steps chosen event.abort event.aborted e = leads _ _ _ (plain.aborts (given_up p.vfs) (gives_up p.vfs)) e
-    steps chosen (event.mount found_ms missing_ms) event.mounted e = leads _ _ _ (plain.mounts found_ms missing_ms (given_up p.vfs) (gives_up p.vfs)) e
-    steps chosen event.read_interrupt (event.is_read unique) e = leads _ _ p (plain.reads_interrupt unique) e
-    steps chosen (event.read_forgets n) (event.is_read unique) e = leads _ _ p (plain.reads_forgets n unique) e
-    steps chosen (event.read_pending k) (event.is_read unique) e = leads _ _ p (plain.reads_pending k unique) e
-    steps chosen (event.again unique) (event.sent_again u) e = leads _ _ p (plain.sends_again unique u) e
-    steps chosen (event.settle k) (event.settled unique result) e = leads _ _ p (plain.settles k unique result) e
-    steps chosen (event.evict node) (event.evicted n count) e = leads _ _ p (plain.evicts node n count) e
-    steps chosen e o is = absurd (cc)
+  steps : (chosen : ℕ) (e : Event) (o : Outcome) → takes chosen p e o ≡ Some q → Steps p e o q
+  steps chosen (event.call x) (event.begun number) e =
+      let did = taken_so (nat_eq number p.vfs.next_call && not (is_some (get p.asks chosen))) (call_begun p chosen x) q e in
+      let tests = both (nat_eq number p.vfs.next_call) (not (is_some (get p.asks chosen))) did.so in
+      subst (λ (n : ℕ). Steps p (event.call x) (event.begun n) q) (same_number number p.vfs.next_call tests.first) (goes _ _ _ did.leads (call_begins x chosen (is_free (get p.asks chosen) tests.second)))
+  steps chosen (event.perform unique) (event.performed u errno lost) e = performs unique u errno lost (get p.asks unique) refl e
+  steps chosen (event.write k) (event.written unique Accepted) e = tells k unique chosen (get p.asks unique) refl e
+  steps chosen (event.write k) (event.written unique NoEntry) e = some_goes _ _ p e (plain.no_entry k unique)
+  steps chosen (event.write k) (event.written unique Invalid) e = some_goes _ _ p e (plain.is_wrong k unique)
+  steps chosen (event.intr number fatal) (event.interrupted c signal) e = signals number chosen fatal c signal (get p.asks chosen) refl e
+  steps chosen (event.take k) (event.taken unique Marked) e = marks k unique (get p.asks (unique - 1)) refl e
+  steps chosen (event.take k) (event.taken unique Held) e = some_goes _ _ p e (plain.takes_other k unique Held (λ is. cc))
+  steps chosen (event.take k) (event.taken unique Forgot) e = some_goes _ _ p e (plain.takes_other k unique Forgot (λ is. cc))
+  steps chosen (event.take k) (event.taken unique Ignored) e = some_goes _ _ p e (plain.takes_other k unique Ignored (λ is. cc))
+  steps chosen (event.take k) (event.taken unique Again) e = some_goes _ _ p e (plain.takes_other k unique Again (λ is. cc))
+  steps chosen (event.tick ms) (event.now clock) e =
+      let did = taken_so (nat_eq clock (p.vfs.clock + ms)) (plain_later p ms) q e in
+      subst (λ (n : ℕ). Steps p (event.tick ms) (event.now n) q) (same_number clock (p.vfs.clock + ms) did.so) (goes _ _ _ did.leads (plain.time_passes ms))
+  steps chosen (event.drop_name node name) event.dropped e = some_goes _ _ _ e (plain.drops node chosen name)
+  steps chosen event.abort event.aborted e = some_goes _ _ _ e (plain.aborts (given_up p.vfs) (gives_up p.vfs))
+  steps chosen (event.mount found_ms missing_ms) event.mounted e = some_goes _ _ _ e (plain.mounts found_ms missing_ms (given_up p.vfs) (gives_up p.vfs))
+  steps chosen event.read_interrupt (event.is_read unique) e = some_goes _ _ p e (plain.reads_interrupt unique)
+  steps chosen (event.read_forgets n) (event.is_read unique) e = some_goes _ _ p e (plain.reads_forgets n unique)
+  steps chosen (event.read_pending k) (event.is_read unique) e = some_goes _ _ p e (plain.reads_pending k unique)
+  steps chosen (event.again unique) (event.sent_again u) e = some_goes _ _ p e (plain.sends_again unique u)
+  steps chosen (event.settle k) (event.settled unique result) e = some_goes _ _ p e (plain.settles k unique result)
+  steps chosen (event.evict node) (event.evicted n count) e = some_goes _ _ p e (plain.evicts node n count)
+  steps chosen e o is = absurd (cc)
 
 -- Each step of the plain world, as the theorem has it, is one in its own words.
 pub steps_in_words : (p q : Plain) (e : Event) (o : Outcome) → Takes p e o q → Steps p e o q
