@@ -106,3 +106,4 @@ pub mod Fresh
 pub mod EachEvent
 pub mod Rooted
 pub mod QueuesSound
+pub mod StillAsked

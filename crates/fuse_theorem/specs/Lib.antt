@@ -8,3 +8,4 @@ pub mod EachEvent
 pub mod FirstWorld
 pub mod Unperformed
 pub mod WorldSound
+pub mod AskedRequests
