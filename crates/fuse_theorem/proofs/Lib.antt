@@ -107,3 +107,4 @@ pub mod EachEvent
 pub mod Rooted
 pub mod QueuesSound
 pub mod StillAsked
+pub mod StillAwaited

@@ -16,6 +16,7 @@ use Rattle.fuse_spec.specs.declared.Opened.{Opened}
 use Rattle.fuse_spec.specs.declared.Purpose.{Purpose}
 use Rattle.fuse_spec.specs.declared.Purpose.TheVariants as purpose
 use Rattle.fuse_spec.specs.declared.QueuedRequest.{QueuedRequest}
+use Rattle.fuse_spec.specs.Answers.{Answer}
 use Rattle.fuse_spec.specs.Answers as answer
 use Rattle.fuse_spec.specs.Calls.{Call}
 use Rattle.fuse_spec.specs.CallReplies.{call_replied}
@@ -34,11 +35,12 @@ use Rattle.fuse_spec.proofs.QueueSoundness.{mark_under-pending}
 use Rattle.fuse_spec.proofs.Tables.{get_gone_there}
 use Rattle.fuse_theorem.specs.Numbering.{requests_for}
 use Rattle.fuse_theorem.specs.AskedRequests.{serves_call, SignalsReachCalls}
-use Rattle.fuse_theorem.proofs.Advancing.{StepsAlone, begun_alone, call_replied_alone}
+use Rattle.fuse_theorem.proofs.Advancing.{StepsAlone, answered_alone, begun_alone, call_replied_alone}
 use Rattle.fuse_theorem.proofs.Asking.{body_beside}
 use Rattle.fuse_theorem.proofs.CallNumbers.{none_left}
 use Rattle.fuse_theorem.proofs.Finding.{same_is, other_is, none_passes, found_entry, All-found, All-removed}
 use Rattle.fuse_theorem.proofs.Numbered.{CallsNumbered}
+use Rattle.fuse_theorem.proofs.Signalling.{serves_call as is_call, dequeues_unread, flags_unread}
 
 -- The request is there still, no less read or signalled, and asks what it asked.
 pub record StillThere (k l : Kernel) (unique : ℕ) (r : QueuedRequest Purpose) : Type 0 where
@@ -71,13 +73,13 @@ then_follows k l m first rest = record {
 }
 
 -- what a request asks depends on the calls alone
-asks_same : (k l : Kernel) (kept : Purpose) → l.vfs.calls ≡ k.vfs.calls → body_of l kept ≡ body_of k kept
+pub asks_same : (k l : Kernel) (kept : Purpose) → l.vfs.calls ≡ k.vfs.calls → body_of l kept ≡ body_of k kept
 asks_same k l purpose.Init calls = refl
 asks_same k l (purpose.Release o) calls = refl
 asks_same k l (purpose.Call call) calls = ap (λ (m : Map (CallState Opened)). asked_by (get m call)) calls
 
 -- a signal reaches a call by this entry, if it bears one
-abbrev ReachesCall : ℕ × QueuedRequest Purpose → Type 0
+abbrev pub ReachesCall : ℕ × QueuedRequest Purpose → Type 0
 ReachesCall e = is_signalled e.1.mark ≡ true → serves_call e.1.kept ≡ true
 
 -- The same calls and requests.
@@ -220,10 +222,14 @@ idle_follows k handle = by (get k.closing handle)
     by None = unmoved k k refl refl
     by (Some o) = unless_used (is_used k handle) o
 
-used_follows : (k : Kernel) (state : CallState Opened) → Follows k (after_use k state)
+pub used_follows : (k : Kernel) (state : CallState Opened) → Follows k (after_use k state)
 used_follows k (walking d word words plan) = unmoved k k refl refl
 used_follows k (doing operation) = unmoved k k refl refl
 used_follows k (using handle operation) = idle_follows k handle
+
+-- A call for which no request is queued is answered.
+pub answered_follows : (k : Kernel) (call : ℕ) (a : Answer) → requests_for call k.queues ≡ 0 → Follows k (record k { vfs = answered k.vfs call a })
+answered_follows k call a none = advanced_follows k call k.vfs.next_call (record { vfs = answered k.vfs call a; operation = None }) none (answered_alone k.vfs call a)
 
 -- A call begins.
 pub begun_follows : (k : Kernel) → CallsNumbered k → (call : Call) → Follows k (call_begun k call)
@@ -268,3 +274,44 @@ read_follows k sound place = by (slice_get (pending k.queues) place) refl
     by : (o : Option (ℕ × QueuedRequest Purpose)) → slice_get (pending k.queues) place ≡ o → Follows k (record k { queues = option_map_or (λ e. after_reading k.queues e.0 e.1.mark) o k.queues })
     by None at = unmoved k k refl refl
     by (Some e) at = read_as e.0 e.1.mark (mark_under-pending k.queues place e sound at)
+
+-- ---- a signal reaches a call
+
+pub signalled_follows : (k : Kernel) → IsSound k.queues → CallsNumbered k → (call : ℕ) (state : CallState Opened) (fatal : Bool) → Follows k (call_signalled k call state fatal).1
+signalled_follows k sound numbered call state fatal = by (request_of k call) refl
+  where
+    of_call : (unique : ℕ) (r : QueuedRequest Purpose) → request_under k.queues unique ≡ Some r → is_for call r.kept ≡ true → (x : QueuedRequest Purpose) → request_under k.queues unique ≡ Some x → serves_call x.kept ≡ true
+    of_call unique r under mine x also =
+        let same : r ≡ x = cc in
+        subst (λ (y : QueuedRequest Purpose). serves_call y.kept ≡ true) same (ap serves_call (is_call call r.kept mine))
+
+    marked_under : (unique : ℕ) (r : QueuedRequest Purpose) → request_under k.queues unique ≡ Some r → mark_under k.queues unique ≡ Some r.mark
+    marked_under unique r under = ap (option_map (λ (x : QueuedRequest Purpose). x.mark)) under
+
+    effect : (unique : ℕ) (r : QueuedRequest Purpose) → request_under k.queues unique ≡ Some r → is_for call r.kept ≡ true → (x : IntrEffect) → signal_effect r.mark fatal k.queues.interrupts_off ≡ x
+        → Follows k (after_signal (record k { queues = after_effect k.queues unique x }) call state x)
+    effect unique r under mine Dequeued is =
+        let k1 = record k { queues = after_effect k.queues unique Dequeued } in
+        let k2 = record k1 { vfs = answered k.vfs call (answer.failed 4) } in
+        let gone = dequeued k k1 unique r under (dequeues_unread r.mark fatal k.queues.interrupts_off is) refl refl in
+        let alone = answered_follows k1 call (answer.failed 4) (none_left k numbered call unique r under mine) in
+        then_follows k k2 (after_use k2 state) (then_follows k k1 k2 gone alone) (used_follows k2 state)
+    effect unique r under mine Flagged is =
+        let unread = flags_unread r.mark fatal k.queues.interrupts_off is in
+        remarked k (record k { queues = after_effect k.queues unique Flagged }) unique r.mark mark.Flagged (record {
+          found = marked_under unique r under;
+          read = λ e. absurd (true≢false (sym unread ∙ e));
+          marked = λ e h. absurd (true≢false (sym unread ∙ e));
+          serves = λ x also signals e. of_call unique r under mine x also;
+        }) refl refl
+    effect unique r under mine Queued is =
+        remarked k (record k { queues = after_effect k.queues unique Queued }) unique r.mark mark.Interrupted
+        (record { found = marked_under unique r under; read = λ e. refl; marked = λ e h. refl; serves = λ x also signals e. of_call unique r under mine x also }) refl refl
+    effect unique r under mine NoEffect is = unmoved k k refl refl
+
+    by : (o : Option ℕ) → request_of k call ≡ o → Follows k (signalled_at k call state fatal o).1
+    by None e = unmoved k k refl refl
+    by (Some unique) e =
+        let found = found_entry (λ (x : ℕ × QueuedRequest Purpose). is_for call x.1.kept) k.queues.requests unique (key_count-le-one k.queues unique sound) e in
+        let effect_is : interrupt_effect k.queues unique fatal ≡ signal_effect found.0.mark fatal k.queues.interrupts_off = ap (λ (o : Option (QueuedRequest Purpose)). option_map_or (λ r. signal_effect r.mark fatal k.queues.interrupts_off) o NoEffect) found.1 in
+        effect unique found.0 found.1 found.2 (interrupt_effect k.queues unique fatal) (sym effect_is)
