@@ -108,3 +108,4 @@ pub mod Rooted
 pub mod QueuesSound
 pub mod StillAsked
 pub mod StillAwaited
+pub mod RequestsAsked

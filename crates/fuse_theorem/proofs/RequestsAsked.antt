@@ -1,0 +1,103 @@
+-- What is on the request link or held is what the kernel asks, whatever happens.
+use Rattle.std.proofs.Common.{◌≡◌, ◌≢◌, ℕ, ◌+◌, ◌≤◌, ◌<◌, Bool, true, false, true≢false, cond, List, [], ◌∷◌, ◌++◌, drop, Option, Some, None, ◌⊎◌, nat_eq, slice_get, get_or, count_by, option_map, length, refl, ap, sym, subst, ◌∙◌, arith, inl, inr, All}
+use Rattle.std.specs.Prelude.{◌%◌, nat_lt}
+use Rattle.std.specs.List.{remove as without_at}
+use Rattle.std.specs.Map.{lookup}
+use Rattle.std.proofs.lemmas.Bool.Decides.{nat_tests}
+use Rattle.std.proofs.lemmas.List.Elements.{All-nil, All-cons, All-push}
+use Rattle.fuse_spec.specs.declared.Mark.{Mark}
+use Rattle.fuse_spec.specs.declared.Mark.TheVariants as mark
+use Rattle.fuse_spec.specs.declared.Purpose.{Purpose}
+use Rattle.fuse_spec.specs.declared.QueuedRequest.{QueuedRequest}
+use Rattle.fuse_spec.specs.declared.ReplyResult.{ReplyResult}
+use Rattle.fuse_spec.specs.declared.WriteResult.{WriteResult}
+use Rattle.fuse_spec.specs.declared.WriteResult.TheVariants.{Accepted, NoEntry, Invalid}
+use Rattle.fuse_spec.specs.Calls.{Call}
+use Rattle.fuse_spec.specs.Copies.{kept_after, after_result}
+use Rattle.fuse_spec.specs.Maps.{Map, get, put, remove}
+use Rattle.fuse_spec.specs.Messages.{Forget, Request, RequestBody, init, asks, release, forget, batch_forget, interrupt, WireReply}
+use Rattle.fuse_spec.specs.Queues.{QueueState, IsSound, is_unread, has_interrupt, is_signalled, is_interrupted, pending, request_under}
+use Rattle.fuse_spec.specs.QueueCalls.{can_read_forgets}
+use Rattle.fuse_spec.specs.Kernel.{Kernel, is_live, body_of, call_begun, call_signalled}
+use Rattle.fuse_spec.specs.Replies.{reply_written}
+use Rattle.fuse_spec.specs.Server.{HeldRequest, Kept, Copy}
+use Rattle.fuse_spec.specs.Taking.{taking, interrupting}
+use Rattle.fuse_spec.specs.Performs.{served}
+use Rattle.fuse_spec.specs.Worlds.{World, Sent, first_world, forget_body, replying, after_mount, after_take, after_perform, after_write, after_settle}
+use Rattle.fuse_spec.proofs.QueueCounts.{lookup-no_key, key_count}
+use Rattle.fuse_theorem.specs.AskedRequests.{serves_call, IsAsked, IsInterrupted, SentAsked, HeldAsked, RequestsAsked}
+use Rattle.fuse_theorem.specs.FirstPath.{unperformed}
+use Rattle.fuse_theorem.specs.Unperformed.{RequestsSound}
+use Rattle.fuse_theorem.proofs.Finding.{same_is, none_passes}
+use Rattle.fuse_theorem.proofs.FirstReads.{number_even}
+use Rattle.fuse_theorem.proofs.NodesSound.{put_found, left_found}
+use Rattle.fuse_theorem.proofs.PerformedRest.{performed_rest}
+use Rattle.fuse_theorem.proofs.Queuing.{All-without, All-at}
+use Rattle.fuse_theorem.proofs.StandsOnce.{one_held}
+use Rattle.fuse_theorem.proofs.StillAsked.{StillThere, Follows}
+
+-- ---- one request
+
+-- It is asked still where it is there still.
+asked_if : (k l : Kernel) (unique : ℕ) (body : RequestBody) → (old : IsAsked k unique body) → StillThere k l unique old.request → IsAsked l unique body
+asked_if k l unique body old x = record { request = x.now; under = x.under; read = x.read; asks = ap (body_of l) x.same_kept ∙ x.asks ∙ old.asks }
+
+-- a request whose INTERRUPT was queued was read
+interrupted_read : (m : Mark) → has_interrupt m ≡ true → is_unread m ≡ false
+interrupted_read mark.Unread e = absurd (true≢false (sym e))
+interrupted_read mark.Flagged e = absurd (true≢false (sym e))
+interrupted_read mark.Read e = refl
+interrupted_read mark.Interrupted e = refl
+
+-- How what is interrupted stays so: numbers rise, none comes again, and what was read is there still or gone.
+pub record Keeps (k l : Kernel) : Type 0 where
+  pub rises : k.queues.next ≤ l.queues.next
+  pub absent : (unique : ℕ) → unique < k.queues.next → request_under k.queues unique ≡ None → request_under l.queues unique ≡ None
+  pub still : (unique : ℕ) (r : QueuedRequest Purpose) → request_under k.queues unique ≡ Some r → is_unread r.mark ≡ false → StillThere k l unique r ⊎ (request_under l.queues unique ≡ None)
+
+interrupted_still : (k l : Kernel) → Keeps k l → (unique : ℕ) → IsInterrupted k unique → IsInterrupted l unique
+interrupted_still k l keeps unique old =
+    let rises = keeps.rises in
+    let low = old.drawn in
+    record { even = old.even; drawn = omega (arith, rises, low); marked = λ r under. (both r under (request_under k.queues unique) refl).0; of_call = λ r under. (both r under (request_under k.queues unique) refl).1 }
+  where
+    both : (r : QueuedRequest Purpose) → request_under l.queues unique ≡ Some r → (o : Option (QueuedRequest Purpose)) → request_under k.queues unique ≡ o → (has_interrupt r.mark ≡ true) × (serves_call r.kept ≡ true)
+    both r under None was = absurd (cc (under, keeps.absent unique old.drawn was))
+    both r under (Some x) was = elim (keeps.still unique x was (interrupted_read x.mark (old.marked x was))) [
+      | inl there ↦
+          let same : there.now ≡ r = let at = there.under in cc in (
+            subst (λ (y : QueuedRequest Purpose). has_interrupt y.mark ≡ true) same (there.marked (old.marked x was)),
+            subst (λ (y : QueuedRequest Purpose). serves_call y.kept ≡ true) same (ap serves_call there.same_kept ∙ old.of_call x was),
+          )
+      | inr gone ↦ absurd (cc (under, gone))
+    ]
+
+-- What is on the link stays so.
+sent_still : (k l : Kernel) → Keeps k l → (unique : ℕ) (body : RequestBody) → ((old : IsAsked k unique body) → StillThere k l unique old.request) → SentAsked k unique body → SentAsked l unique body
+sent_still k l keeps unique init there old = asked_if k l unique init old (there old)
+sent_still k l keeps unique (asks operation) there old = asked_if k l unique (asks operation) old (there old)
+sent_still k l keeps unique (release o) there old = asked_if k l unique (release o) old (there old)
+sent_still k l keeps unique (forget f) there old = tt
+sent_still k l keeps unique (batch_forget fs) there old = tt
+sent_still k l keeps unique (interrupt original) there old = interrupted_still k l keeps original old
+
+-- ---- the kernel goes on
+
+module _ (w : World) (old : RequestsAsked w) where
+  -- What the server holds stays so.
+  held_still : (l : Kernel) → Keeps w.kernel l → ((unique : ℕ) (t : HeldRequest) → get w.server.held unique ≡ Some t → (x : IsAsked w.kernel unique t.body) → StillThere w.kernel l unique x.request)
+      → (unique : ℕ) (t : HeldRequest) → get w.server.held unique ≡ Some t → HeldAsked l unique t
+  held_still l keeps there unique t at =
+      let x = old.held unique t at in
+      record { is_asked = asked_if w.kernel l unique t.body x.is_asked (there unique t at x.is_asked); interrupted = λ e. interrupted_still w.kernel l keeps unique (x.interrupted e) }
+
+  pub moved_asked : (l : Kernel) → Follows w.kernel l → w.kernel.queues.next ≤ l.queues.next → ((unique : ℕ) → unique < w.kernel.queues.next → request_under w.kernel.queues unique ≡ None → request_under l.queues unique ≡ None)
+      → RequestsAsked (record w { kernel = l })
+  moved_asked l follows rises absent = record {
+    sent = λ i d lt. let r = get_or w.requests i d in sent_still w.kernel l keeps r.unique r.body (λ x. follows.still r.unique x.request x.under x.read) (old.sent i d lt);
+    held = held_still l keeps (λ unique t at x. follows.still unique x.request x.under x.read);
+    signals = follows.signals old.signals;
+  }
+    where
+      keeps : Keeps w.kernel l
+      keeps = record { rises = rises; absent = absent; still = λ unique r under read. inl (follows.still unique r under read) }
