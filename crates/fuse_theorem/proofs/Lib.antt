@@ -109,3 +109,4 @@ pub mod QueuesSound
 pub mod StillAsked
 pub mod StillAwaited
 pub mod RequestsAsked
+pub mod StayAsked

@@ -35,6 +35,7 @@ use Rattle.fuse_theorem.proofs.PerformedRest.{performed_rest}
 use Rattle.fuse_theorem.proofs.Queuing.{All-without, All-at}
 use Rattle.fuse_theorem.proofs.StandsOnce.{one_held}
 use Rattle.fuse_theorem.proofs.StillAsked.{StillThere, Follows}
+use Rattle.fuse_theorem.proofs.StillAwaited.{Answers}
 
 -- ---- one request
 
@@ -101,3 +102,47 @@ module _ (w : World) (old : RequestsAsked w) where
     where
       keeps : Keeps w.kernel l
       keeps = record { rises = rises; absent = absent; still = λ unique r under read. inl (follows.still unique r under read) }
+
+-- ---- a reply is written
+
+-- a number that has a request is even
+pub request_even : (q : QueueState Purpose) → IsSound q → (unique : ℕ) (r : QueuedRequest Purpose) → request_under q unique ≡ Some r → unique % 2 ≡ 0
+request_even q sound unique r under = by (nat_lt 0 (key_count unique q.requests)) refl
+  where
+    by : (b : Bool) → nat_lt 0 (key_count unique q.requests) ≡ b → unique % 2 ≡ 0
+    by true e = number_even q sound unique (grind (arith, nat_tests, e))
+    by false e = absurd (cc (under, lookup-no_key unique q.requests (grind (arith, nat_tests, e))))
+
+-- one that stands is counted
+stands_counted : (unique : ℕ) (xs : List Request) (i : ℕ) (d : Request) → i < length xs → (get_or xs i d).unique ≡ unique → 1 ≤ count_by (λ (r : Request). nat_eq unique r.unique) xs
+stands_counted unique xs i d lt is = by (nat_lt 0 (count_by (λ (r : Request). nat_eq unique r.unique) xs)) refl
+  where
+    by : (b : Bool) → nat_lt 0 (count_by (λ (r : Request). nat_eq unique r.unique) xs) ≡ b → 1 ≤ count_by (λ (r : Request). nat_eq unique r.unique) xs
+    by true e = grind (arith, nat_tests, e)
+    by false e =
+        let fails = none_passes (λ (r : Request). nat_eq unique r.unique) xs (grind (arith, nat_tests, e)) i d lt in
+        absurd (true≢false (sym (same_is unique) ∙ ap (nat_eq unique) (sym is) ∙ fails))
+
+module _ (w : World) (old : RequestsAsked w) (queues : IsSound w.kernel.queues) (requests : RequestsSound w) (k : ℕ) (sent : Sent) (at_k : slice_get w.replies k ≡ Some sent) where
+  -- what is not performed has no copy
+  not_performed : (unique : ℕ) → unique % 2 ≡ 0 → 1 ≤ unperformed w unique → unique ≢ sent.unique
+  not_performed unique even stands e = let none = requests.unanswered unique even stands in All-at (λ (s : Sent). s.unique ≢ unique) w.replies k sent none.copies at_k (sym e)
+
+  pub written_asked : (l : Kernel) → Answers w.kernel l sent.unique → w.kernel.queues.next ≤ l.queues.next → ((unique : ℕ) → unique < w.kernel.queues.next → request_under w.kernel.queues unique ≡ None → request_under l.queues unique ≡ None)
+      → RequestsAsked (record w { kernel = l })
+  written_asked l answers rises absent = record {
+    sent = λ i d lt.
+        let r = get_or w.requests i d in
+        sent_still w.kernel l keeps r.unique r.body (λ x. there r.unique x.request x.under x.read (let counted = stands_counted r.unique w.requests i d lt refl in omega (arith, counted))) (old.sent i d lt);
+    held = held_still w old l keeps (λ unique t at x. there unique x.request x.under x.read (let one : one_held (get w.server.held unique) ≡ 1 = ap one_held at in omega (arith, one)));
+    signals = answers.signals old.signals;
+  }
+    where
+      keeps : Keeps w.kernel l
+      keeps = record { rises = rises; absent = absent; still = λ unique r under read. elim (answers.still unique r under read) [ inl x ↦ inl x | inr gone ↦ inr gone.1 ] }
+
+      there : (unique : ℕ) (r : QueuedRequest Purpose) → request_under w.kernel.queues unique ≡ Some r → is_unread r.mark ≡ false → 1 ≤ unperformed w unique → StillThere w.kernel l unique r
+      there unique r under read stands = elim (answers.still unique r under read) [
+        | inl x ↦ x
+        | inr gone ↦ absurd (not_performed unique (request_even w.kernel.queues queues unique r under) stands gone.0)
+      ]

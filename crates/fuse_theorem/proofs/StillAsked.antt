@@ -137,7 +137,7 @@ marked_all v m (e ∷ es) serves h = by (nat_eq v e.0) refl (λ f. marked_all v 
     by true is rest = All-cons ReachesCall (e.0, record { mark = m; kept = e.1.kept }) es (serves e.1 (rw is refl)) (All-tail ReachesCall e es h)
     by false is rest = All-cons ReachesCall e (set_mark v es m) (All-head ReachesCall e es h) (rest (λ r under. serves r (rw is under)))
 
-lookup_marked : (v : ℕ) (m : Mark) (r : QueuedRequest Purpose) (es : List (ℕ × QueuedRequest Purpose)) → lookup (nat_eq v) es ≡ Some r → lookup (nat_eq v) (set_mark v es m) ≡ Some (record { mark = m; kept = r.kept })
+pub lookup_marked : (v : ℕ) (m : Mark) (r : QueuedRequest Purpose) (es : List (ℕ × QueuedRequest Purpose)) → lookup (nat_eq v) es ≡ Some r → lookup (nat_eq v) (set_mark v es m) ≡ Some (record { mark = m; kept = r.kept })
 lookup_marked v m r [] found = absurd (cc)
 lookup_marked v m r (e ∷ es) found = by (nat_eq v e.0) refl found (λ f. lookup_marked v m r es f)
   where
