@@ -29,7 +29,7 @@ use Rattle.fuse_theorem.specs.AskedRequests.{serves_call, IsAsked, IsInterrupted
 use Rattle.fuse_theorem.specs.FirstPath.{unperformed}
 use Rattle.fuse_theorem.specs.Unperformed.{RequestsSound}
 use Rattle.fuse_theorem.proofs.Finding.{same_is, none_passes}
-use Rattle.fuse_theorem.proofs.FirstReads.{number_even}
+use Rattle.fuse_theorem.proofs.FirstReads.{number_below, number_even}
 use Rattle.fuse_theorem.proofs.NodesSound.{put_found, left_found}
 use Rattle.fuse_theorem.proofs.PerformedRest.{performed_rest}
 use Rattle.fuse_theorem.proofs.Queuing.{All-without, All-at}
@@ -111,6 +111,14 @@ request_even q sound unique r under = by (nat_lt 0 (key_count unique q.requests)
   where
     by : (b : Bool) → nat_lt 0 (key_count unique q.requests) ≡ b → unique % 2 ≡ 0
     by true e = number_even q sound unique (grind (arith, nat_tests, e))
+    by false e = absurd (cc (under, lookup-no_key unique q.requests (grind (arith, nat_tests, e))))
+
+-- and was drawn
+pub request_below : (q : QueueState Purpose) → IsSound q → (unique : ℕ) (r : QueuedRequest Purpose) → request_under q unique ≡ Some r → unique < q.next
+request_below q sound unique r under = by (nat_lt 0 (key_count unique q.requests)) refl
+  where
+    by : (b : Bool) → nat_lt 0 (key_count unique q.requests) ≡ b → unique < q.next
+    by true e = number_below q sound unique (grind (arith, nat_tests, e))
     by false e = absurd (cc (under, lookup-no_key unique q.requests (grind (arith, nat_tests, e))))
 
 -- one that stands is counted

@@ -48,8 +48,8 @@ use Rattle.fuse_theorem.proofs.PendingCounts.{moves_fewer}
 use Rattle.fuse_theorem.proofs.PerformedRest.{performed_rest}
 use Rattle.fuse_theorem.proofs.QueueMoves.{QueueMoves, read_moves, begun_moves, signalled_moves, written_moves}
 use Rattle.fuse_theorem.proofs.Queuing.{All-without, All-at}
-use Rattle.fuse_theorem.proofs.RequestsAsked.{request_even, moved_asked, written_asked}
-use Rattle.fuse_theorem.proofs.StillAsked.{Follows, ReachesCall, lookup_marked, unmoved, begun_follows, read_follows, signalled_follows}
+use Rattle.fuse_theorem.proofs.RequestsAsked.{request_even, request_below, moved_asked, written_asked}
+use Rattle.fuse_theorem.proofs.StillAsked.{Follows, ReachesCall, asks_same, lookup_marked, unmoved, begun_follows, read_follows, signalled_follows}
 use Rattle.fuse_theorem.proofs.StillAwaited.{written_answers}
 
 -- The kernel is the same, no request is new, and what is held is asked.
@@ -59,6 +59,10 @@ same_kernel w v old kernel sent held = record {
   held = λ unique t at. subst (λ (k : Kernel). HeldAsked k unique t) (sym kernel) (held unique t at);
   signals = subst (λ (k : Kernel). All ReachesCall k.queues.requests) (sym kernel) old.signals;
 }
+
+replying_kernel : (w : World) (number unique : ℕ) (o : Option WireReply) → (replying w number unique o).kernel ≡ w.kernel
+replying_kernel w number unique None = refl
+replying_kernel w number unique (Some wire) = refl
 
 -- One more request is on the link.
 pushed : (w : World) → RequestsAsked w → (unique : ℕ) (body : RequestBody) → SentAsked w.kernel unique body → RequestsAsked (record w { requests = w.requests ++ record { unique = unique; body = body } ∷ [] })
@@ -130,3 +134,169 @@ settled_asked w old k result (Some copy) = by result.result
     by Accepted = record { sent = old.sent; held = old.held; signals = old.signals }
     by NoEntry = record { sent = old.sent; held = old.held; signals = old.signals }
     by Invalid = record { sent = old.sent; held = old.held; signals = old.signals }
+
+-- ---- the kernel's requests are read
+
+-- what the kernel asks of its own is neither a FORGET nor an INTERRUPT
+sent_of : (l : Kernel) (unique : ℕ) (kept : Purpose) (body : RequestBody) → body_of l kept ≡ Some body → IsAsked l unique body → SentAsked l unique body
+sent_of l unique kept init says new = new
+sent_of l unique kept (asks operation) says new = new
+sent_of l unique kept (release o) says new = new
+sent_of l unique kept (forget f) says new = tt
+sent_of l unique kept (batch_forget fs) says new = tt
+sent_of l unique purpose.Init (interrupt original) says new = absurd (cc)
+sent_of l unique (purpose.Release o) (interrupt original) says new = absurd (cc)
+sent_of l unique (purpose.Call call) (interrupt original) says new = by (get l.vfs.calls call) says
+  where
+    by : (o : Option (CallState Opened)) → asked_by o ≡ Some (interrupt original) → IsInterrupted l original
+    by None e = absurd (cc)
+    by (Some state) e = absurd (cc)
+
+module _ (w : World) (old : RequestsAsked w) (sound : IsSound w.kernel.queues) where
+  -- the INTERRUPT at the head of the list is one of a request of a call
+  first_interrupted : (original : ℕ) (rest : List ℕ) → w.kernel.queues.interrupts ≡ original ∷ rest → IsInterrupted w.kernel original
+  first_interrupted original rest there = by (request_under w.kernel.queues original) refl (bears (is_interrupted w.kernel.queues original) (sound.interrupts original))
+    where
+      bears : (b : Bool) → count_by (nat_eq original) w.kernel.queues.interrupts ≤ cond b 1 0 → b ≡ true
+      bears true le = refl
+      bears false le =
+          let first = count_by-cons (nat_eq original) original rest in
+          let here = same_is original in
+          let counted : count_by (nat_eq original) w.kernel.queues.interrupts ≡ cond (nat_eq original original) 1 0 + count_by (nat_eq original) rest = ap (count_by (nat_eq original)) there ∙ first in
+          let one : ◌≡◌ {A = ℕ} (cond (nat_eq original original) 1 0) 1 = ap (λ (b : Bool). cond b 1 0) here in
+          absurd (omega (arith, counted, one, le))
+
+      signals : (m : Mark) → has_interrupt m ≡ true → is_signalled m ≡ true
+      signals mark.Unread e = absurd (true≢false (sym e))
+      signals mark.Flagged e = refl
+      signals mark.Read e = absurd (true≢false (sym e))
+      signals mark.Interrupted e = refl
+
+      by : (o : Option (QueuedRequest Purpose)) → request_under w.kernel.queues original ≡ o → option_map_or has_interrupt (option_map (λ (x : QueuedRequest Purpose). x.mark) o) false ≡ true → IsInterrupted w.kernel original
+      by None under e = absurd (true≢false (sym e))
+      by (Some x) under e =
+          let serves = All-found ReachesCall original w.kernel.queues.requests x old.signals under (signals x.mark e) in
+          record {
+            even = request_even w.kernel.queues sound original x under;
+            drawn = request_below w.kernel.queues sound original x under;
+            marked = λ r at. let same : x ≡ r = cc in subst (λ (y : QueuedRequest Purpose). has_interrupt y.mark ≡ true) same e;
+            of_call = λ r at. let same : x ≡ r = cc in subst (λ (y : QueuedRequest Purpose). serves_call y.kept ≡ true) same serves;
+          }
+
+  read_one : (e : ℕ × QueuedRequest Purpose) (body : RequestBody) (m : Mark) → request_under w.kernel.queues e.0 ≡ Some e.1 → e.1.mark ≡ m → body_of w.kernel e.1.kept ≡ Some body → IsAsked (record w.kernel { queues = after_reading w.kernel.queues e.0 m }) e.0 body
+  read_one e body mark.Unread under is says =
+      let k = record w.kernel { queues = after_reading w.kernel.queues e.0 mark.Unread } in
+      record { request = record { mark = mark.Read; kept = e.1.kept }; under = lookup_marked e.0 mark.Read e.1 w.kernel.queues.requests under; read = refl; asks = asks_same w.kernel k e.1.kept refl ∙ says }
+  read_one e body mark.Flagged under is says =
+      let k = record w.kernel { queues = after_reading w.kernel.queues e.0 mark.Flagged } in
+      record { request = record { mark = mark.Interrupted; kept = e.1.kept }; under = lookup_marked e.0 mark.Interrupted e.1 w.kernel.queues.requests under; read = refl; asks = asks_same w.kernel k e.1.kept refl ∙ says }
+  read_one e body mark.Read under is says = record { request = e.1; under = under; read = ap is_unread is; asks = says }
+  read_one e body mark.Interrupted under is says = record { request = e.1; under = under; read = ap is_unread is; asks = says }
+
+  -- What is read is asked: it was pending, and its mark says now that it was read.
+  now_read : (place unique : ℕ) (kept : Purpose) (body : RequestBody) → pending_at w.kernel.queues place ≡ Some (unique, kept) → body_of w.kernel kept ≡ Some body → SentAsked (record w.kernel { queues = after_read_pending w.kernel.queues place }) unique body
+  now_read place unique kept body there says = sent_of (record w.kernel { queues = after_read_pending w.kernel.queues place }) unique kept body (asks_same w.kernel (record w.kernel { queues = after_read_pending w.kernel.queues place }) kept refl ∙ says) (by (slice_get (pending w.kernel.queues) place) refl there)
+    where
+      by : (o : Option (ℕ × QueuedRequest Purpose)) → slice_get (pending w.kernel.queues) place ≡ o → option_map {U = ℕ × Purpose} (λ (e : ℕ × QueuedRequest Purpose). (e.0, e.1.kept)) o ≡ Some (unique, kept)
+          → IsAsked (record w.kernel { queues = option_map_or (λ e. after_reading w.kernel.queues e.0 e.1.mark) o w.kernel.queues }) unique body
+      by None at f = absurd (cc)
+      by (Some e) at f =
+          let both : (e.0, e.1.kept) ≡ (unique, kept) = cc (f) in
+          let under = lookup-found (λ (x : ℕ × QueuedRequest Purpose). is_unread x.1.mark) w.kernel.queues.requests place e at (key_count-le-one w.kernel.queues e.0 sound) in
+          subst (λ (n : ℕ). IsAsked (record w.kernel { queues = after_reading w.kernel.queues e.0 e.1.mark }) n body) (ap (λ (x : ℕ × Purpose). x.0) both)
+          (read_one e body e.1.mark under refl (ap (λ (x : ℕ × Purpose). body_of w.kernel x.1) both ∙ says))
+
+-- ---- every event
+
+module _ (choice : ℕ → ℕ) (w : World) (sound : WorldSound w) (before : RequestsAskedWhileLive w) where
+  -- The kernel moves its requests.
+  moved : is_live w.kernel.phase ≡ true → (l : Kernel) → Follows w.kernel l → QueueMoves w.kernel.queues l.queues → RequestsAsked (record w { kernel = l })
+  moved live l follows moves =
+      let fewer = moves_fewer w.kernel.queues l.queues moves in
+      moved_asked w (before live) l follows fewer.rises (λ unique low none. stays_absent w.kernel.queues l.queues moves unique low none)
+
+  numbered : is_live w.kernel.phase ≡ true → IsNumbered w
+  numbered live = let lookups = sound.lookups in let numbers = lookups.numbers in numbers.live live
+
+  -- the same requests of the same calls, under numbers that rise
+  quiet : is_live w.kernel.phase ≡ true → (l : Kernel) → l.queues.requests ≡ w.kernel.queues.requests → l.vfs.calls ≡ w.kernel.vfs.calls → w.kernel.queues.next ≤ l.queues.next → RequestsAsked (record w { kernel = l })
+  quiet live l requests calls rises = moved_asked w (before live) l (unmoved w.kernel l requests calls) rises (λ unique low none. ap (lookup (nat_eq unique)) requests ∙ none)
+
+  written : (k : ℕ) (sent : Sent) → slice_get w.replies k ≡ Some sent → RequestsAskedWhileLive (after_write w k sent (reply_written w.kernel sent.unique sent.wire))
+  written k sent at_k alive = by (is_live w.kernel.phase) refl
+    where
+      l : Kernel
+      l = (reply_written w.kernel sent.unique sent.wire).1
+
+      by : (b : Bool) → is_live w.kernel.phase ≡ b → RequestsAsked (after_write w k sent (reply_written w.kernel sent.unique sent.wire))
+      by true live =
+          let now = numbered live in
+          let low = All-at (λ (s : Sent). s.unique < w.kernel.queues.next) w.replies k sent now.replies_below at_k in
+          let moves = written_moves w.kernel sent.unique sent.wire alive in
+          let fewer = moves_fewer w.kernel.queues l.queues moves in
+          let asked_after = written_asked w (before live) sound.queues sound.requests k sent at_k l (written_answers w.kernel sound.queues (calls_of w now) sent.unique low sent.wire alive) fewer.rises
+          (λ unique below none. stays_absent w.kernel.queues l.queues moves unique below none) in
+          record { sent = asked_after.sent; held = asked_after.held; signals = asked_after.signals }
+      by false dead =
+          let lookups = sound.lookups in
+          let numbers = lookups.numbers in
+          absurd (true≢false (sym alive ∙ ap (λ (q : Kernel). is_live q.phase) (unheard w.kernel (numbers.idle dead) sent.unique sent.wire) ∙ dead))
+
+  forgets_requests : (n : ℕ) (b : Bool) → (cond b (record w.kernel.queues { forgets = drop n w.kernel.queues.forgets; next = w.kernel.queues.next + 2 }) w.kernel.queues).requests ≡ w.kernel.queues.requests
+  forgets_requests n true = refl
+  forgets_requests n false = refl
+
+  forgets_rise : (n : ℕ) (b : Bool) → w.kernel.queues.next ≤ (cond b (record w.kernel.queues { forgets = drop n w.kernel.queues.forgets; next = w.kernel.queues.next + 2 }) w.kernel.queues).next
+  forgets_rise n true = omega arith
+  forgets_rise n false = omega arith
+
+  forgets_asked : (k : Kernel) (unique : ℕ) (fs : List Forget) → SentAsked k unique (forget_body fs)
+  forgets_asked k unique [] = tt
+  forgets_asked k unique (f ∷ []) = tt
+  forgets_asked k unique (f ∷ g ∷ fs) = tt
+
+  by_event : (e : Event) (o : Outcome) (after : World) → Happened choice w e o after → RequestsAskedWhileLive after
+  by_event e o after (by_mount f m idle) live = record {
+    sent = All-nil (λ (r : Request). SentAsked after.kernel r.unique r.body);
+    held = λ unique t at. absurd (cc);
+    signals = All-cons ReachesCall _ [] (λ e. absurd (true≢false (sym e))) (All-nil ReachesCall);
+  }
+  by_event e o after (by_call call ready room within) live =
+      let goes = begun_goes_on w.kernel call in
+      let lives : is_live w.kernel.phase ≡ true = ap is_live (sym goes.phase) ∙ live in
+      moved lives after.kernel (begun_follows w.kernel (calls_of w (numbered lives)) call) (begun_moves w.kernel call)
+  by_event e o after (by_read_interrupt original rest lives there within) live =
+      let k1 = record w.kernel { queues = record w.kernel.queues { interrupts = drop 1 w.kernel.queues.interrupts } } in
+      let w1 = record w { kernel = k1 } in
+      let new = first_interrupted w (before lives) sound.queues original rest there in
+      pushed w1 (quiet lives k1 refl refl (omega arith)) (interrupt_number original) (interrupt original) (record { even = new.even; drawn = new.drawn; marked = new.marked; of_call = new.of_call })
+  by_event e o after (by_read_forgets n lives free can within) live =
+      let w1 = record w { kernel = after.kernel } in
+      pushed w1 (quiet lives after.kernel (forgets_requests n (can_read_forgets w.kernel.queues n)) refl (forgets_rise n (can_read_forgets w.kernel.queues n))) w.kernel.queues.next (forget_body (take n w.kernel.queues.forgets))
+      (forgets_asked after.kernel w.kernel.queues.next (take n w.kernel.queues.forgets))
+  by_event e o after (by_read_pending k unique kept body lives free there says within) live =
+      let w1 = record w { kernel = after.kernel } in
+      pushed w1 (moved lives after.kernel (read_follows w.kernel sound.queues k) (read_moves w.kernel.queues sound.queues k)) unique body (now_read w (before lives) sound.queues k unique kept body there says)
+  by_event e o after (by_take k r there within) live = taken_asked w (before (taken_live live)) k r there
+    where
+      taken_live : is_live (after_take w k r.unique (taking w.server r.unique r.body)).kernel.phase ≡ true → is_live w.kernel.phase ≡ true
+      taken_live h = subst (λ (q : Kernel). is_live q.phase ≡ true) (replying_kernel (record w { requests = without_at w.requests k; server = (taking w.server r.unique r.body).server }) w.server.next_copy r.unique (taking w.server r.unique r.body).reply) h
+  by_event e o after (by_perform unique t there within) live =
+      performed_asked choice w
+      (before (subst (λ (q : Kernel). is_live q.phase ≡ true) (replying_kernel (record w { server = (served choice w.server unique t).server }) w.server.next_copy unique (cond w.server.aborted None (Some (served choice w.server unique t).wire))) live)) unique t
+  by_event e o after (by_again unique kept there current within) live = let old = before live in record { sent = old.sent; held = old.held; signals = old.signals }
+  by_event e o after (by_write k sent there within) live = written k sent there live
+  by_event e o after (by_settle k result there) live = settled_asked w (before live) k result (get w.server.copies result.number)
+  by_event e o after (by_signal call fatal state lives there within) live =
+      moved lives after.kernel (signalled_follows w.kernel sound.queues (calls_of w (numbered lives)) call state fatal) (signalled_moves w.kernel call state fatal)
+  by_event e o after (by_tick ms timely) live = quiet live after.kernel refl refl (omega arith)
+  by_event e o after (by_drop directory name bound lives there) live = quiet lives after.kernel refl refl (omega arith)
+  by_event e o after (by_evict node counted lives there unused) live = quiet lives after.kernel refl refl (omega arith)
+  by_event e o after (by_abort lives) live = absurd (true≢false (sym live))
+
+-- What is on the link or held is what the kernel asks, whatever the event.
+pub requests_stay_asked : (w : World) → WorldSound w → RequestsAskedWhileLive w → (e : Event) (o : Outcome) (after : World) → Happens w e o after → RequestsAskedWhileLive after
+requests_stay_asked w sound before e o after h = by_event h.0 w sound before e o after (happened h.0 w o after e h.2)
+
+pub first_asked : RequestsAskedWhileLive first_world
+first_asked live = absurd (true≢false (sym live))
