@@ -39,7 +39,7 @@ not_among node (y ∷ xs) id none (zero, lt, is) = λ e.
 not_among node (y ∷ xs) id none (suc k, lt, is) = not_among node xs id (or_false (nat_eq node y) (list_any (nat_eq node) xs) none).1 (k, omega (arith, lt), is)
 
 -- what is found fails a test that nothing passes
-found_fails : {X : Type 0} (test : X → Bool) (m : Map X) (k : ℕ) (x : X) → list_any test (values m) ≡ false → get m k ≡ Some x → test x ≡ false
+pub found_fails : {X : Type 0} (test : X → Bool) (m : Map X) (k : ℕ) (x : X) → list_any test (values m) ≡ false → get m k ≡ Some x → test x ≡ false
 found_fails test m k x none at = by (test x) refl
   where
     by : (b : Bool) → test x ≡ b → test x ≡ false

@@ -110,3 +110,4 @@ pub mod StillAsked
 pub mod StillAwaited
 pub mod RequestsAsked
 pub mod StayAsked
+pub mod UnsentNodes

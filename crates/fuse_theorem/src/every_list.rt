@@ -1,0 +1,20 @@
+//! What holds of every world to which a list of events leads, and what single events need that follows from it. Each law says that the
+//! first world has it and that each event keeps it.
+
+ghost use Rattle.std.specs.Prelude.{◌≡◌, ℕ, Ok};
+ghost use Rattle.fuse_spec.specs.Events as event;
+ghost use Rattle.fuse_spec.specs.Events.{Event, Outcome};
+ghost use Rattle.fuse_spec.specs.Plain.{Plain};
+ghost use Rattle.fuse_spec.specs.Steps.{Happens, step};
+ghost use Rattle.fuse_spec.specs.Worlds.{World, first_world};
+ghost use Rattle.fuse_theorem.specs.AskedRequests.{RequestsAskedWhileLive};
+ghost use Rattle.fuse_theorem.specs.EachEvent.{Needs};
+ghost use Rattle.fuse_theorem.specs.WorldSound.{WorldSound};
+
+/// What is on the request link or held is what the kernel asks, under the same number, while the mount is live and whatever the event; what bears an
+/// INTERRUPT was signalled. So no request on the link names a node that is evicted.
+pub fn requests_stay_asked()
+    ensures at_first { RequestsAskedWhileLive first_world }
+    ensures always { (w : World) → WorldSound w → RequestsAskedWhileLive w → (e : Event) (o : Outcome) (after : World) → Happens w e o after → RequestsAskedWhileLive after }
+    ensures evict { (w : World) → WorldSound w → RequestsAskedWhileLive w → (choice : ℕ → ℕ) (p : Plain) (node : ℕ) (o : Outcome) (after : World) → step choice w (event.evict node) ≡ Ok (o, after) → Needs choice w p (event.evict node) }
+{}
