@@ -98,6 +98,7 @@ module _ (w : World) (old : RequestsAsked w) where
     sent = λ i d lt. let r = get_or w.requests i d in sent_still w.kernel l keeps r.unique r.body (λ x. follows.still r.unique x.request x.under x.read) (old.sent i d lt);
     held = held_still l keeps (λ unique t at x. follows.still unique x.request x.under x.read);
     signals = follows.signals old.signals;
+    first = follows.first old.first;
   }
     where
       keeps : Keeps w.kernel l
@@ -144,6 +145,7 @@ module _ (w : World) (old : RequestsAsked w) (queues : IsSound w.kernel.queues) 
         sent_still w.kernel l keeps r.unique r.body (λ x. there r.unique x.request x.under x.read (let counted = stands_counted r.unique w.requests i d lt refl in omega (arith, counted))) (old.sent i d lt);
     held = held_still w old l keeps (λ unique t at x. there unique x.request x.under x.read (let one : one_held (get w.server.held unique) ≡ 1 = ap one_held at in omega (arith, one)));
     signals = answers.signals old.signals;
+    first = answers.first old.first;
   }
     where
       keeps : Keeps w.kernel l

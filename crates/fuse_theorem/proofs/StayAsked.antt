@@ -34,7 +34,7 @@ use Rattle.fuse_spec.specs.Events.{Event, Outcome}
 use Rattle.fuse_spec.specs.Steps.{Happens}
 use Rattle.fuse_spec.proofs.QueueCounts.{count_by-cons, lookup-found}
 use Rattle.fuse_spec.proofs.QueueReadings.{key_count-le-one}
-use Rattle.fuse_theorem.specs.AskedRequests.{serves_call, IsAsked, IsInterrupted, SentAsked, HeldAsked, RequestsAsked, RequestsAskedWhileLive}
+use Rattle.fuse_theorem.specs.AskedRequests.{serves_call, IsAsked, IsInterrupted, SentAsked, HeldAsked, InitIsFirst, RequestsAsked, RequestsAskedWhileLive}
 use Rattle.fuse_theorem.specs.Numbering.{IsNumbered, IsNumberedWhileLive}
 use Rattle.fuse_theorem.specs.Unperformed.{RequestsSound}
 use Rattle.fuse_theorem.specs.WorldSound.{WorldSound}
@@ -49,7 +49,7 @@ use Rattle.fuse_theorem.proofs.PerformedRest.{performed_rest}
 use Rattle.fuse_theorem.proofs.QueueMoves.{QueueMoves, read_moves, begun_moves, signalled_moves, written_moves}
 use Rattle.fuse_theorem.proofs.Queuing.{All-without, All-at}
 use Rattle.fuse_theorem.proofs.RequestsAsked.{request_even, request_below, moved_asked, written_asked}
-use Rattle.fuse_theorem.proofs.StillAsked.{Follows, ReachesCall, asks_same, lookup_marked, unmoved, begun_follows, read_follows, signalled_follows}
+use Rattle.fuse_theorem.proofs.StillAsked.{Follows, ReachesCall, IsNumberedFor, asks_same, lookup_marked, unmoved, begun_follows, read_follows, signalled_follows}
 use Rattle.fuse_theorem.proofs.StillAwaited.{written_answers}
 
 -- The kernel is the same, no request is new, and what is held is asked.
@@ -58,6 +58,7 @@ same_kernel w v old kernel sent held = record {
   sent = subst (λ (k : Kernel). All (λ (r : Request). SentAsked k r.unique r.body) v.requests) (sym kernel) sent;
   held = λ unique t at. subst (λ (k : Kernel). HeldAsked k unique t) (sym kernel) (held unique t at);
   signals = subst (λ (k : Kernel). All ReachesCall k.queues.requests) (sym kernel) old.signals;
+  first = subst (λ (k : Kernel). InitIsFirst k.queues) (sym kernel) old.first;
 }
 
 replying_kernel : (w : World) (number unique : ℕ) (o : Option WireReply) → (replying w number unique o).kernel ≡ w.kernel
@@ -66,7 +67,7 @@ replying_kernel w number unique (Some wire) = refl
 
 -- One more request is on the link.
 pushed : (w : World) → RequestsAsked w → (unique : ℕ) (body : RequestBody) → SentAsked w.kernel unique body → RequestsAsked (record w { requests = w.requests ++ record { unique = unique; body = body } ∷ [] })
-pushed w old unique body new = record { sent = All-push (λ (r : Request). SentAsked w.kernel r.unique r.body) w.requests (record { unique = unique; body = body }) old.sent new; held = old.held; signals = old.signals }
+pushed w old unique body new = record { sent = All-push (λ (r : Request). SentAsked w.kernel r.unique r.body) w.requests (record { unique = unique; body = body }) old.sent new; held = old.held; signals = old.signals; first = old.first }
 
 -- ---- the server takes a request
 
@@ -131,9 +132,9 @@ settled_asked w old k result None = same_kernel w (after_settle w k result None)
 settled_asked w old k result (Some copy) = by result.result
   where
     by : (r : WriteResult) → RequestsAsked (record w { results = without_at w.results k; server = after_result (record w.server { copies = remove w.server.copies result.number; kept = kept_after w.server.kept copy (get w.server.kept copy.unique) }) copy.wire r })
-    by Accepted = record { sent = old.sent; held = old.held; signals = old.signals }
-    by NoEntry = record { sent = old.sent; held = old.held; signals = old.signals }
-    by Invalid = record { sent = old.sent; held = old.held; signals = old.signals }
+    by Accepted = record { sent = old.sent; held = old.held; signals = old.signals; first = old.first }
+    by NoEntry = record { sent = old.sent; held = old.held; signals = old.signals; first = old.first }
+    by Invalid = record { sent = old.sent; held = old.held; signals = old.signals; first = old.first }
 
 -- ---- the kernel's requests are read
 
@@ -220,7 +221,7 @@ module _ (choice : ℕ → ℕ) (w : World) (sound : WorldSound w) (before : Req
 
   -- the same requests of the same calls, under numbers that rise
   quiet : is_live w.kernel.phase ≡ true → (l : Kernel) → l.queues.requests ≡ w.kernel.queues.requests → l.vfs.calls ≡ w.kernel.vfs.calls → w.kernel.queues.next ≤ l.queues.next → RequestsAsked (record w { kernel = l })
-  quiet live l requests calls rises = moved_asked w (before live) l (unmoved w.kernel l requests calls) rises (λ unique low none. ap (lookup (nat_eq unique)) requests ∙ none)
+  quiet live l requests calls rises = moved_asked w (before live) l (unmoved w.kernel l requests calls rises) rises (λ unique low none. ap (lookup (nat_eq unique)) requests ∙ none)
 
   written : (k : ℕ) (sent : Sent) → slice_get w.replies k ≡ Some sent → RequestsAskedWhileLive (after_write w k sent (reply_written w.kernel sent.unique sent.wire))
   written k sent at_k alive = by (is_live w.kernel.phase) refl
@@ -236,7 +237,7 @@ module _ (choice : ℕ → ℕ) (w : World) (sound : WorldSound w) (before : Req
           let fewer = moves_fewer w.kernel.queues l.queues moves in
           let asked_after = written_asked w (before live) sound.queues sound.requests k sent at_k l (written_answers w.kernel sound.queues (calls_of w now) sent.unique low sent.wire alive) fewer.rises
           (λ unique below none. stays_absent w.kernel.queues l.queues moves unique below none) in
-          record { sent = asked_after.sent; held = asked_after.held; signals = asked_after.signals }
+          record { sent = asked_after.sent; held = asked_after.held; signals = asked_after.signals; first = asked_after.first }
       by false dead =
           let lookups = sound.lookups in
           let numbers = lookups.numbers in
@@ -260,6 +261,7 @@ module _ (choice : ℕ → ℕ) (w : World) (sound : WorldSound w) (before : Req
     sent = All-nil (λ (r : Request). SentAsked after.kernel r.unique r.body);
     held = λ unique t at. absurd (cc);
     signals = All-cons ReachesCall _ [] (λ e. absurd (true≢false (sym e))) (All-nil ReachesCall);
+    first = record { next = omega arith; entries = All-cons IsNumberedFor _ [] refl (All-nil IsNumberedFor) };
   }
   by_event e o after (by_call call ready room within) live =
       let goes = begun_goes_on w.kernel call in
@@ -284,7 +286,7 @@ module _ (choice : ℕ → ℕ) (w : World) (sound : WorldSound w) (before : Req
   by_event e o after (by_perform unique t there within) live =
       performed_asked choice w
       (before (subst (λ (q : Kernel). is_live q.phase ≡ true) (replying_kernel (record w { server = (served choice w.server unique t).server }) w.server.next_copy unique (cond w.server.aborted None (Some (served choice w.server unique t).wire))) live)) unique t
-  by_event e o after (by_again unique kept there current within) live = let old = before live in record { sent = old.sent; held = old.held; signals = old.signals }
+  by_event e o after (by_again unique kept there current within) live = let old = before live in record { sent = old.sent; held = old.held; signals = old.signals; first = old.first }
   by_event e o after (by_write k sent there within) live = written k sent there live
   by_event e o after (by_settle k result there) live = settled_asked w (before live) k result (get w.server.copies result.number)
   by_event e o after (by_signal call fatal state lives there within) live =

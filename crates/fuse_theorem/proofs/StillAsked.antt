@@ -34,7 +34,7 @@ use Rattle.fuse_spec.proofs.QueueReadings.{key_count-le-one}
 use Rattle.fuse_spec.proofs.QueueSoundness.{mark_under-pending}
 use Rattle.fuse_spec.proofs.Tables.{get_gone_there}
 use Rattle.fuse_theorem.specs.Numbering.{requests_for}
-use Rattle.fuse_theorem.specs.AskedRequests.{serves_call, SignalsReachCalls}
+use Rattle.fuse_theorem.specs.AskedRequests.{serves_call, SignalsReachCalls, BearsFirst, InitIsFirst}
 use Rattle.fuse_theorem.proofs.Advancing.{StepsAlone, answered_alone, begun_alone, call_replied_alone}
 use Rattle.fuse_theorem.proofs.Asking.{body_beside}
 use Rattle.fuse_theorem.proofs.CallNumbers.{none_left}
@@ -55,6 +55,7 @@ pub record StillThere (k l : Kernel) (unique : ℕ) (r : QueuedRequest Purpose) 
 pub record Follows (k l : Kernel) : Type 0 where
   pub still : (unique : ℕ) (r : QueuedRequest Purpose) → request_under k.queues unique ≡ Some r → is_unread r.mark ≡ false → StillThere k l unique r
   pub signals : SignalsReachCalls k.queues → SignalsReachCalls l.queues
+  pub first : InitIsFirst k.queues → InitIsFirst l.queues
 
 pub then_follows : (k l m : Kernel) → Follows k l → Follows l m → Follows k m
 then_follows k l m first rest = record {
@@ -70,6 +71,7 @@ then_follows k l m first rest = record {
         asks = ap (body_of m) (sym x.same_kept) ∙ y.asks ∙ ap (body_of l) x.same_kept ∙ x.asks;
       };
   signals = λ h. rest.signals (first.signals h);
+  first = λ h. rest.first (first.first h);
 }
 
 -- what a request asks depends on the calls alone
@@ -82,18 +84,23 @@ asks_same k l (purpose.Call call) calls = ap (λ (m : Map (CallState Opened)). a
 abbrev pub ReachesCall : ℕ × QueuedRequest Purpose → Type 0
 ReachesCall e = is_signalled e.1.mark ≡ true → serves_call e.1.kept ≡ true
 
+-- INIT bears the first number alone
+abbrev pub IsNumberedFor : ℕ × QueuedRequest Purpose → Type 0
+IsNumberedFor e = BearsFirst e.0 e.1.kept
+
 -- The same calls and requests.
-pub unmoved : (k l : Kernel) → l.queues.requests ≡ k.queues.requests → l.vfs.calls ≡ k.vfs.calls → Follows k l
-unmoved k l requests calls = record {
+pub unmoved : (k l : Kernel) → l.queues.requests ≡ k.queues.requests → l.vfs.calls ≡ k.vfs.calls → k.queues.next ≤ l.queues.next → Follows k l
+unmoved k l requests calls rises = record {
   still = λ u r under read. record { now = r; under = ap (lookup (nat_eq u)) requests ∙ under; same_kept = refl; read = read; marked = λ h. h; asks = asks_same k l r.kept calls };
   signals = subst (All ReachesCall) (sym requests);
+  first = λ h. let low = h.next in record { next = omega (arith, low, rises); entries = subst (All IsNumberedFor) (sym requests) h.entries };
 }
 
 -- ---- the requests alone
 
 -- One more request.
-pub enqueued : (k : Kernel) (kept : Purpose) → Follows k (record k { queues = after_enqueue k.queues kept })
-enqueued k kept = record {
+pub enqueued : (k : Kernel) (kept : Purpose) → ((unique : ℕ) → 4 ≤ unique → BearsFirst unique kept) → Follows k (record k { queues = after_enqueue k.queues kept })
+enqueued k kept bears = record {
   still = λ u r under read. record {
     now = r;
     under = lookup-push u k.queues.requests (k.queues.next, record { mark = mark.Unread; kept = kept }) r under;
@@ -103,6 +110,7 @@ enqueued k kept = record {
     asks = asks_same k (record k { queues = after_enqueue k.queues kept }) r.kept refl;
   };
   signals = λ old. All-push ReachesCall k.queues.requests (k.queues.next, record { mark = mark.Unread; kept = kept }) old (λ e. absurd (cc));
+  first = λ h. let low = h.next in record { next = omega (arith, low); entries = All-push IsNumberedFor k.queues.requests (k.queues.next, record { mark = mark.Unread; kept = kept }) h.entries (bears k.queues.next low) };
 }
 
 -- ---- one request ends
@@ -113,8 +121,8 @@ is_unread_in (Some r) = is_unread r.mark
 
 -- An unread request ends.
 pub dequeued : (k l : Kernel) (v : ℕ) (old : QueuedRequest Purpose) → request_under k.queues v ≡ Some old → is_unread old.mark ≡ true → l.queues.requests ≡ remove_entry (nat_eq v) k.queues.requests → l.vfs.calls ≡ k.vfs.calls
-    → Follows k l
-dequeued k l v old found unread requests calls = record {
+    → k.queues.next ≤ l.queues.next → Follows k l
+dequeued k l v old found unread requests calls rises = record {
   still = λ u r under read. record {
     now = r;
     under = ap (lookup (nat_eq u)) requests ∙ lookup-remove_entry_other u v k.queues.requests (other_is u v (λ e. true≢false (sym unread ∙ ap is_unread_in (sym found ∙ ap (request_under k.queues) (sym e) ∙ under) ∙ read))) ∙ under;
@@ -124,6 +132,7 @@ dequeued k l v old found unread requests calls = record {
     asks = asks_same k l r.kept calls;
   };
   signals = λ h. subst (All ReachesCall) (sym requests) (All-removed ReachesCall v k.queues.requests h);
+  first = λ h. let low = h.next in record { next = omega (arith, low, rises); entries = subst (All IsNumberedFor) (sym requests) (All-removed IsNumberedFor v k.queues.requests h.entries) };
 }
 
 -- ---- one request gets another mark
@@ -136,6 +145,14 @@ marked_all v m (e ∷ es) serves h = by (nat_eq v e.0) refl (λ f. marked_all v 
         → All ReachesCall (cond b ((e.0, record { mark = m; kept = e.1.kept }) ∷ es) (e ∷ set_mark v es m))
     by true is rest = All-cons ReachesCall (e.0, record { mark = m; kept = e.1.kept }) es (serves e.1 (rw is refl)) (All-tail ReachesCall e es h)
     by false is rest = All-cons ReachesCall e (set_mark v es m) (All-head ReachesCall e es h) (rest (λ r under. serves r (rw is under)))
+
+numbered_marked : (v : ℕ) (m : Mark) (es : List (ℕ × QueuedRequest Purpose)) → All IsNumberedFor es → All IsNumberedFor (set_mark v es m)
+numbered_marked v m [] h = h
+numbered_marked v m (e ∷ es) h = by (nat_eq v e.0) (numbered_marked v m es (All-tail IsNumberedFor e es h))
+  where
+    by : (b : Bool) → All IsNumberedFor (set_mark v es m) → All IsNumberedFor (cond b ((e.0, record { mark = m; kept = e.1.kept }) ∷ es) (e ∷ set_mark v es m))
+    by true rest = All-cons IsNumberedFor (e.0, record { mark = m; kept = e.1.kept }) es (All-head IsNumberedFor e es h) (All-tail IsNumberedFor e es h)
+    by false rest = All-cons IsNumberedFor e (set_mark v es m) (All-head IsNumberedFor e es h) rest
 
 pub lookup_marked : (v : ℕ) (m : Mark) (r : QueuedRequest Purpose) (es : List (ℕ × QueuedRequest Purpose)) → lookup (nat_eq v) es ≡ Some r → lookup (nat_eq v) (set_mark v es m) ≡ Some (record { mark = m; kept = r.kept })
 lookup_marked v m r [] found = absurd (cc)
@@ -153,8 +170,8 @@ pub record MayMark (k : Kernel) (v : ℕ) (old m : Mark) : Type 0 where
   pub marked : is_unread old ≡ false → has_interrupt old ≡ true → has_interrupt m ≡ true
   pub serves : (r : QueuedRequest Purpose) → request_under k.queues v ≡ Some r → SignalsReachCalls k.queues → is_signalled m ≡ true → serves_call r.kept ≡ true
 
-pub remarked : (k l : Kernel) (v : ℕ) (old m : Mark) → MayMark k v old m → l.queues.requests ≡ set_mark v k.queues.requests m → l.vfs.calls ≡ k.vfs.calls → Follows k l
-remarked k l v old m may requests calls = record {
+pub remarked : (k l : Kernel) (v : ℕ) (old m : Mark) → MayMark k v old m → l.queues.requests ≡ set_mark v k.queues.requests m → l.vfs.calls ≡ k.vfs.calls → k.queues.next ≤ l.queues.next → Follows k l
+remarked k l v old m may requests calls rises = record {
   still = λ u r under read. elim (cases_eq u v) [
     | inl e ↦ here u r (subst (λ (n : ℕ). request_under k.queues n ≡ Some r) e under) read e
     | inr ne ↦ record {
@@ -167,6 +184,7 @@ remarked k l v old m may requests calls = record {
       }
   ];
   signals = λ h. subst (All ReachesCall) (sym requests) (marked_all v m k.queues.requests (λ r under. may.serves r under h) h);
+  first = λ h. let low = h.next in record { next = omega (arith, low, rises); entries = subst (All IsNumberedFor) (sym requests) (numbered_marked v m k.queues.requests h.entries) };
 }
   where
     here : (u : ℕ) (r : QueuedRequest Purpose) → request_under k.queues v ≡ Some r → is_unread r.mark ≡ false → u ≡ v → StillThere k l u r
@@ -201,30 +219,31 @@ advanced_follows k call coming next none alone = by next.operation
             (All-found (λ (e : ℕ × QueuedRequest Purpose). is_for call e.1.kept ≡ false) u k.queues.requests r (none_passes (λ (e : ℕ × QueuedRequest Purpose). is_for call e.1.kept) k.queues.requests none) under);
       };
       signals = λ h. h;
+      first = λ h. record { next = h.next; entries = h.entries };
     }
 
     by : (o : Option (Operation ℕ Opened)) → Follows k (asking_for (record k { vfs = next.vfs }) call o)
     by None = stepped
     by (Some operation) =
         let k1 = record k { vfs = next.vfs } in
-        then_follows k k1 (record k1 { queues = after_enqueue k1.queues (purpose.Call call) }) stepped (enqueued k1 (purpose.Call call))
+        then_follows k k1 (record k1 { queues = after_enqueue k1.queues (purpose.Call call) }) stepped (enqueued k1 (purpose.Call call) (λ n low e. absurd (omega (arith, low, e))))
 
 idle_follows : (k : Kernel) (handle : ℕ) → Follows k (released_if_idle k handle)
 idle_follows k handle = by (get k.closing handle)
   where
     unless_used : (b : Bool) (o : Opened) → Follows k (record k { closing = cond b k.closing (remove k.closing handle); queues = cond b k.queues (after_enqueue k.queues (purpose.Release o)) })
-    unless_used true o = unmoved k k refl refl
+    unless_used true o = unmoved k k refl refl (omega arith)
     unless_used false o =
         let k1 = record k { queues = after_enqueue k.queues (purpose.Release o) } in
-        then_follows k k1 (record k1 { closing = remove k.closing handle }) (enqueued k (purpose.Release o)) (unmoved k1 (record k1 { closing = remove k.closing handle }) refl refl)
+        then_follows k k1 (record k1 { closing = remove k.closing handle }) (enqueued k (purpose.Release o) (λ n low e. absurd (omega (arith, low, e)))) (unmoved k1 (record k1 { closing = remove k.closing handle }) refl refl (omega arith))
 
     by : (o : Option Opened) → Follows k (released k handle o)
-    by None = unmoved k k refl refl
+    by None = unmoved k k refl refl (omega arith)
     by (Some o) = unless_used (is_used k handle) o
 
 pub used_follows : (k : Kernel) (state : CallState Opened) → Follows k (after_use k state)
-used_follows k (walking d word words plan) = unmoved k k refl refl
-used_follows k (doing operation) = unmoved k k refl refl
+used_follows k (walking d word words plan) = unmoved k k refl refl (omega arith)
+used_follows k (doing operation) = unmoved k k refl refl (omega arith)
 used_follows k (using handle operation) = idle_follows k handle
 
 -- A call for which no request is queued is answered.
@@ -245,10 +264,10 @@ begun_follows k numbered call =
         omega (arith, few)
 
     closes_one : (q : Kernel) (file : Option (ℕ × Opened)) → Follows q (closing_of q file)
-    closes_one q None = unmoved q q refl refl
+    closes_one q None = unmoved q q refl refl (omega arith)
     closes_one q (Some file) =
         let put_off = record q { closing = put q.closing file.0 file.1 } in
-        then_follows q put_off (closing_of q (Some file)) (unmoved q put_off refl refl) (idle_follows put_off file.0)
+        then_follows q put_off (closing_of q (Some file)) (unmoved q put_off refl refl (omega arith)) (idle_follows put_off file.0)
 
 -- ---- requests are read
 
@@ -264,15 +283,15 @@ read_follows k sound place = by (slice_get (pending k.queues) place) refl
     read_as : (unique : ℕ) (m : Mark) → mark_under k.queues unique ≡ Some m → Follows k (record k { queues = after_reading k.queues unique m })
     read_as unique mark.Unread at =
         remarked k (record k { queues = after_reading k.queues unique mark.Unread }) unique mark.Unread mark.Read
-        (record { found = at; read = λ e. refl; marked = λ e h. absurd (true≢false e); serves = λ r under signals e. absurd (true≢false (sym e)) }) refl refl
+        (record { found = at; read = λ e. refl; marked = λ e h. absurd (true≢false e); serves = λ r under signals e. absurd (true≢false (sym e)) }) refl refl (omega arith)
     read_as unique mark.Flagged at =
         remarked k (record k { queues = after_reading k.queues unique mark.Flagged }) unique mark.Flagged mark.Interrupted
-        (record { found = at; read = λ e. refl; marked = λ e h. refl; serves = λ r under signals e. serves_flagged unique at r under signals }) refl refl
-    read_as unique mark.Read at = unmoved k k refl refl
-    read_as unique mark.Interrupted at = unmoved k k refl refl
+        (record { found = at; read = λ e. refl; marked = λ e h. refl; serves = λ r under signals e. serves_flagged unique at r under signals }) refl refl (omega arith)
+    read_as unique mark.Read at = unmoved k k refl refl (omega arith)
+    read_as unique mark.Interrupted at = unmoved k k refl refl (omega arith)
 
     by : (o : Option (ℕ × QueuedRequest Purpose)) → slice_get (pending k.queues) place ≡ o → Follows k (record k { queues = option_map_or (λ e. after_reading k.queues e.0 e.1.mark) o k.queues })
-    by None at = unmoved k k refl refl
+    by None at = unmoved k k refl refl (omega arith)
     by (Some e) at = read_as e.0 e.1.mark (mark_under-pending k.queues place e sound at)
 
 -- ---- a signal reaches a call
@@ -293,7 +312,7 @@ signalled_follows k sound numbered call state fatal = by (request_of k call) ref
     effect unique r under mine Dequeued is =
         let k1 = record k { queues = after_effect k.queues unique Dequeued } in
         let k2 = record k1 { vfs = answered k.vfs call (answer.failed 4) } in
-        let gone = dequeued k k1 unique r under (dequeues_unread r.mark fatal k.queues.interrupts_off is) refl refl in
+        let gone = dequeued k k1 unique r under (dequeues_unread r.mark fatal k.queues.interrupts_off is) refl refl (omega arith) in
         let alone = answered_follows k1 call (answer.failed 4) (none_left k numbered call unique r under mine) in
         then_follows k k2 (after_use k2 state) (then_follows k k1 k2 gone alone) (used_follows k2 state)
     effect unique r under mine Flagged is =
@@ -303,14 +322,14 @@ signalled_follows k sound numbered call state fatal = by (request_of k call) ref
           read = λ e. absurd (true≢false (sym unread ∙ e));
           marked = λ e h. absurd (true≢false (sym unread ∙ e));
           serves = λ x also signals e. of_call unique r under mine x also;
-        }) refl refl
+        }) refl refl (omega arith)
     effect unique r under mine Queued is =
         remarked k (record k { queues = after_effect k.queues unique Queued }) unique r.mark mark.Interrupted
-        (record { found = marked_under unique r under; read = λ e. refl; marked = λ e h. refl; serves = λ x also signals e. of_call unique r under mine x also }) refl refl
-    effect unique r under mine NoEffect is = unmoved k k refl refl
+        (record { found = marked_under unique r under; read = λ e. refl; marked = λ e h. refl; serves = λ x also signals e. of_call unique r under mine x also }) refl refl (omega arith)
+    effect unique r under mine NoEffect is = unmoved k k refl refl (omega arith)
 
     by : (o : Option ℕ) → request_of k call ≡ o → Follows k (signalled_at k call state fatal o).1
-    by None e = unmoved k k refl refl
+    by None e = unmoved k k refl refl (omega arith)
     by (Some unique) e =
         let found = found_entry (λ (x : ℕ × QueuedRequest Purpose). is_for call x.1.kept) k.queues.requests unique (key_count-le-one k.queues unique sound) e in
         let effect_is : interrupt_effect k.queues unique fatal ≡ signal_effect found.0.mark fatal k.queues.interrupts_off = ap (λ (o : Option (QueuedRequest Purpose)). option_map_or (λ r. signal_effect r.mark fatal k.queues.interrupts_off) o NoEffect) found.1 in

@@ -1,5 +1,5 @@
 -- What is true of the requests that were read and are not performed, while their mount is live.
-use Rattle.std.specs.Prelude.{◌≡◌, ◌<◌, ◌%◌, ℕ, Bool, true, false, Some, All}
+use Rattle.std.specs.Prelude.{◌≡◌, ◌≢◌, ◌<◌, ◌≤◌, ◌%◌, ℕ, Bool, true, false, Some, All}
 use Rattle.fuse_spec.specs.declared.Opened.{Opened}
 use Rattle.fuse_spec.specs.declared.Purpose.{Purpose}
 use Rattle.fuse_spec.specs.declared.Purpose.TheVariants as purpose
@@ -49,11 +49,22 @@ pub record HeldAsked (k : Kernel) (unique : ℕ) (t : HeldRequest) : Type 0 wher
 abbrev pub SignalsReachCalls : QueueState Purpose → Type 0
 SignalsReachCalls q = All (λ (e : ℕ × QueuedRequest Purpose). is_signalled e.1.mark ≡ true → serves_call e.1.kept ≡ true) q.requests
 
+-- INIT bears the first number of a mount, and nothing else does.
+abbrev pub BearsFirst : ℕ → Purpose → Type 0
+BearsFirst unique purpose.Init = unique ≡ 2
+BearsFirst unique (purpose.Release o) = unique ≢ 2
+BearsFirst unique (purpose.Call call) = unique ≢ 2
+
+pub record InitIsFirst (q : QueueState Purpose) : Type 0 where
+  pub next : 4 ≤ q.next
+  pub entries : All (λ (e : ℕ × QueuedRequest Purpose). BearsFirst e.0 e.1.kept) q.requests
+
 -- What is on the link or held is what the kernel asks.
 pub record RequestsAsked (w : World) : Type 0 where
   pub sent : All (λ (r : Request). SentAsked w.kernel r.unique r.body) w.requests
   pub held : (unique : ℕ) (t : HeldRequest) → get w.server.held unique ≡ Some t → HeldAsked w.kernel unique t
   pub signals : SignalsReachCalls w.kernel.queues
+  pub first : InitIsFirst w.kernel.queues
 
 -- So it is while the mount is live. After an abort the server holds requests of which the kernel knows no more.
 abbrev pub RequestsAskedWhileLive : World → Type 0
