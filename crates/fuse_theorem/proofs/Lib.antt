@@ -111,3 +111,5 @@ pub mod StillAwaited
 pub mod RequestsAsked
 pub mod StayAsked
 pub mod UnsentNodes
+pub mod LinksSound
+pub mod InterruptsNoted

@@ -9,3 +9,4 @@ pub mod FirstWorld
 pub mod Unperformed
 pub mod WorldSound
 pub mod AskedRequests
+pub mod Links

@@ -1,7 +1,11 @@
 //! What holds of every world to which a list of events leads, and what single events need that follows from it. Each law says that the
 //! first world has it and that each event keeps it.
 
-ghost use Rattle.std.specs.Prelude.{◌≡◌, ℕ, Ok};
+ghost use Rattle.std.specs.Prelude.{◌≡◌, ℕ, Ok, Some, slice_get};
+ghost use Rattle.fuse_spec.specs.Alike.{Alike};
+ghost use Rattle.fuse_spec.specs.Messages.{Request, interrupt};
+ghost use Rattle.fuse_theorem.specs.Conditions.{IsInterrupt};
+ghost use Rattle.fuse_theorem.specs.Links.{LinksSound};
 ghost use Rattle.fuse_spec.specs.Events as event;
 ghost use Rattle.fuse_spec.specs.Events.{Event, Outcome};
 ghost use Rattle.fuse_spec.specs.Plain.{Plain};
@@ -17,4 +21,12 @@ pub fn requests_stay_asked()
     ensures at_first { RequestsAskedWhileLive first_world }
     ensures always { (w : World) → WorldSound w → RequestsAskedWhileLive w → (e : Event) (o : Outcome) (after : World) → Happens w e o after → RequestsAskedWhileLive after }
     ensures evict { (w : World) → WorldSound w → RequestsAskedWhileLive w → (choice : ℕ → ℕ) (p : Plain) (node : ℕ) (o : Outcome) (after : World) → step choice w (event.evict node) ≡ Ok (o, after) → Needs choice w p (event.evict node) }
+{}
+
+/// While no mount is live, the links are empty, whatever the event; a live one has INIT answered 7.31, so that it stays live until it is aborted. An
+/// INTERRUPT that is taken bears its original's number and one, and a signal was noted on its ask.
+pub fn links_stay_sound()
+    ensures at_first { LinksSound first_world }
+    ensures always { (w : World) → WorldSound w → RequestsAskedWhileLive w → LinksSound w → (e : Event) (o : Outcome) (after : World) → Happens w e o after → LinksSound after }
+    ensures interrupt { (w : World) (p : Plain) → WorldSound w → RequestsAskedWhileLive w → LinksSound w → Alike w p → (k : ℕ) (r : Request) (original : ℕ) → slice_get w.requests k ≡ Some r → r.body ≡ interrupt original → IsInterrupt w p k r original }
 {}
