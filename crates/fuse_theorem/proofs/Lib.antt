@@ -113,3 +113,5 @@ pub mod StayAsked
 pub mod UnsentNodes
 pub mod LinksSound
 pub mod InterruptsNoted
+pub mod PlainAsks
+pub mod RepliesGo

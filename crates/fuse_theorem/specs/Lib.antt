@@ -10,3 +10,4 @@ pub mod Unperformed
 pub mod WorldSound
 pub mod AskedRequests
 pub mod Links
+pub mod AsksServed
