@@ -115,3 +115,4 @@ pub mod LinksSound
 pub mod InterruptsNoted
 pub mod PlainAsks
 pub mod RepliesGo
+pub mod WriteNeeds

@@ -42,7 +42,7 @@ use Rattle.fuse_theorem.proofs.Queuing.{All-without, All-at}
 use Rattle.fuse_theorem.proofs.Settling.{kept_was}
 use Rattle.fuse_theorem.proofs.StillAsked.{IsNumberedFor}
 
-abbrev AgreesToInit : Sent → Type 0
+abbrev pub AgreesToInit : Sent → Type 0
 AgreesToInit s = s.unique ≡ 2 → s.wire ≡ agreed 7 31
 
 -- nothing stands on an empty link
@@ -63,7 +63,7 @@ first_is_init k first r under = by r.kept (All-found IsNumberedFor 2 k.queues.re
     by (purpose.Release o) ne = absurd (ne refl)
     by (purpose.Call call) ne = absurd (ne refl)
 
-init_is_first : (k : Kernel) → InitIsFirst k.queues → (unique : ℕ) (r : QueuedRequest Purpose) → request_under k.queues unique ≡ Some r → r.kept ≡ purpose.Init → unique ≡ 2
+pub init_is_first : (k : Kernel) → InitIsFirst k.queues → (unique : ℕ) (r : QueuedRequest Purpose) → request_under k.queues unique ≡ Some r → r.kept ≡ purpose.Init → unique ≡ 2
 init_is_first k first unique r under is = subst (BearsFirst unique) is (All-found IsNumberedFor unique k.queues.requests r first.entries under)
 
 -- What is held under the first number is INIT, and performed so.

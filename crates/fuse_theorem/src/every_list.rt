@@ -8,10 +8,12 @@ ghost use Rattle.fuse_theorem.specs.Conditions.{IsInterrupt};
 ghost use Rattle.fuse_theorem.specs.Links.{LinksSound};
 ghost use Rattle.fuse_spec.specs.Events as event;
 ghost use Rattle.fuse_spec.specs.Events.{Event, Outcome};
-ghost use Rattle.fuse_spec.specs.Plain.{Plain};
+ghost use Rattle.fuse_spec.specs.Plain.{Plain, first_plain};
+ghost use Rattle.fuse_spec.specs.PlainSteps.{Takes};
 ghost use Rattle.fuse_spec.specs.Steps.{Happens, step};
 ghost use Rattle.fuse_spec.specs.Worlds.{World, first_world};
 ghost use Rattle.fuse_theorem.specs.AskedRequests.{RequestsAskedWhileLive};
+ghost use Rattle.fuse_theorem.specs.AsksServed.{AsksServed};
 ghost use Rattle.fuse_theorem.specs.EachEvent.{Needs};
 ghost use Rattle.fuse_theorem.specs.WorldSound.{WorldSound};
 
@@ -29,4 +31,12 @@ pub fn links_stay_sound()
     ensures at_first { LinksSound first_world }
     ensures always { (w : World) → WorldSound w → RequestsAskedWhileLive w → LinksSound w → (e : Event) (o : Outcome) (after : World) → Happens w e o after → LinksSound after }
     ensures interrupt { (w : World) (p : Plain) → WorldSound w → RequestsAskedWhileLive w → LinksSound w → Alike w p → (k : ℕ) (r : Request) (original : ℕ) → slice_get w.requests k ≡ Some r → r.body ≡ interrupt original → IsInterrupt w p k r original }
+{}
+
+/// What the plain world performs is replied to as its operation asks, and a signal is noted on what it declines, whatever step it takes. So any copy
+/// that the kernel takes says what its request's ask came to.
+pub fn asks_stay_served()
+    ensures at_first { AsksServed first_plain }
+    ensures always { (p : Plain) → AsksServed p → (e : Event) (o : Outcome) (q : Plain) → Takes p e o q → AsksServed q }
+    ensures write { (w : World) (p : Plain) → WorldSound w → RequestsAskedWhileLive w → LinksSound w → AsksServed p → Alike w p → (choice : ℕ → ℕ) (k : ℕ) → Needs choice w p (event.write k) }
 {}
