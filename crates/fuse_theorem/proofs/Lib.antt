@@ -116,3 +116,4 @@ pub mod InterruptsNoted
 pub mod PlainAsks
 pub mod RepliesGo
 pub mod WriteNeeds
+pub mod KnownWalks

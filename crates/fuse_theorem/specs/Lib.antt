@@ -11,3 +11,4 @@ pub mod WorldSound
 pub mod AskedRequests
 pub mod Links
 pub mod AsksServed
+pub mod KnownNodes
