@@ -19,10 +19,10 @@ use Rattle.fuse_spec.proofs.Tables.{name_put, name_gone, name_put_there}
 use Rattle.fuse_theorem.specs.KnownNodes.{IsKnown, NamesKnown, VfsKnown}
 use Rattle.fuse_theorem.proofs.Values.{All-put, All-gone}
 
-abbrev StateKnown : Map Counted → CallState Opened → Type 0
+abbrev pub StateKnown : Map Counted → CallState Opened → Type 0
 StateKnown nodes state = All (IsKnown nodes) (nodes_of_state state)
 
-abbrev OpenKnown : Map Counted → Opened → Type 0
+abbrev pub OpenKnown : Map Counted → Opened → Type 0
 OpenKnown nodes o = IsKnown nodes o.nodeid
 
 module _ (nodes : Map Counted) where

@@ -117,3 +117,5 @@ pub mod PlainAsks
 pub mod RepliesGo
 pub mod WriteNeeds
 pub mod KnownWalks
+pub mod KnownReplies
+pub mod NodesKnown

@@ -27,7 +27,7 @@ use Rattle.fuse_theorem.proofs.Finding.{All-found}
 use Rattle.fuse_theorem.proofs.Happened.{Happened, by_evict, happened}
 
 -- what nothing passes, each fails
-each_fails : {X : Type 0} (test : X → Bool) (xs : List X) → list_any test xs ≡ false → All (λ x. test x ≡ false) xs
+pub each_fails : {X : Type 0} (test : X → Bool) (xs : List X) → list_any test xs ≡ false → All (λ x. test x ≡ false) xs
 each_fails test [] none = All-nil (λ x. test x ≡ false)
 each_fails test (x ∷ xs) none =
     let parts = or_false (test x) (list_any test xs) none in

@@ -15,6 +15,7 @@ ghost use Rattle.fuse_spec.specs.Worlds.{World, first_world};
 ghost use Rattle.fuse_theorem.specs.AskedRequests.{RequestsAskedWhileLive};
 ghost use Rattle.fuse_theorem.specs.AsksServed.{AsksServed};
 ghost use Rattle.fuse_theorem.specs.EachEvent.{Needs};
+ghost use Rattle.fuse_theorem.specs.KnownNodes.{NodesKnown};
 ghost use Rattle.fuse_theorem.specs.WorldSound.{WorldSound};
 
 /// What is on the request link or held is what the kernel asks, under the same number, while the mount is live and whatever the event; what bears an
@@ -39,4 +40,11 @@ pub fn asks_stay_served()
     ensures at_first { AsksServed first_plain }
     ensures always { (p : Plain) → AsksServed p → (e : Event) (o : Outcome) (q : Plain) → Takes p e o q → AsksServed q }
     ensures write { (w : World) (p : Plain) → WorldSound w → RequestsAskedWhileLive w → LinksSound w → AsksServed p → Alike w p → (choice : ℕ → ℕ) (k : ℕ) → Needs choice w p (event.write k) }
+{}
+
+/// The kernel knows each node that an unanswered call stands on or names, that an open file is of, or that a name in force stands in or leads to,
+/// whatever the event: it counts it, or it is the root.
+pub fn nodes_stay_known()
+    ensures at_first { NodesKnown first_world.kernel }
+    ensures always { (w : World) → WorldSound w → NodesKnown w.kernel → (e : Event) (o : Outcome) (after : World) → Happens w e o after → NodesKnown after.kernel }
 {}
