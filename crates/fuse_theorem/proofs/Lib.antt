@@ -119,3 +119,4 @@ pub mod WriteNeeds
 pub mod KnownWalks
 pub mod KnownReplies
 pub mod NodesKnown
+pub mod EveryList

@@ -12,3 +12,4 @@ pub mod AskedRequests
 pub mod Links
 pub mod AsksServed
 pub mod KnownNodes
+pub mod EveryList

@@ -15,6 +15,7 @@ ghost use Rattle.fuse_spec.specs.Worlds.{World, first_world};
 ghost use Rattle.fuse_theorem.specs.AskedRequests.{RequestsAskedWhileLive};
 ghost use Rattle.fuse_theorem.specs.AsksServed.{AsksServed};
 ghost use Rattle.fuse_theorem.specs.EachEvent.{Needs};
+ghost use Rattle.fuse_theorem.specs.EveryList.{BothSound, NeedsBothAlone};
 ghost use Rattle.fuse_theorem.specs.KnownNodes.{NodesKnown};
 ghost use Rattle.fuse_theorem.specs.WorldSound.{WorldSound};
 
@@ -47,4 +48,12 @@ pub fn asks_stay_served()
 pub fn nodes_stay_known()
     ensures at_first { NodesKnown first_world.kernel }
     ensures always { (w : World) → WorldSound w → NodesKnown w.kernel → (e : Event) (o : Outcome) (after : World) → Happens w e o after → NodesKnown after.kernel }
+{}
+
+/// All of that together: at first the world and the plain world are alike and sound. An event whose needs hold takes the plain world a step, and the two
+/// are alike and sound again. Those needs hold of every event but the taking of forgets, the performing of a request, and the settling of a copy.
+pub fn both_stay_sound()
+    ensures at_first { BothSound first_world first_plain }
+    ensures always { (w : World) (p : Plain) → BothSound w p → (e : Event) (o : Outcome) (after : World) → (h : Happens w e o after) → Needs h.0 w p e → (q : Plain) × Takes p e o q × BothSound after q }
+    ensures needs { (w : World) (p : Plain) → BothSound w p → (choice : ℕ → ℕ) (e : Event) (o : Outcome) (after : World) → step choice w e ≡ Ok (o, after) → NeedsBothAlone w e → Needs choice w p e }
 {}
