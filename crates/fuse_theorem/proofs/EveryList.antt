@@ -1,5 +1,5 @@
 -- The world and the plain world stay sound and alike, and what most events need of them holds.
-use Rattle.std.proofs.Common.{◌≡◌, ℕ, Some, None, Ok, slice_get, refl}
+use Rattle.std.proofs.Common.{◌≡◌, ℕ, Some, Ok, slice_get, refl}
 use Rattle.fuse_spec.specs.Messages.{Request, RequestBody, init, asks, release, forget, batch_forget, interrupt}
 use Rattle.fuse_spec.specs.Worlds.{World, first_world}
 use Rattle.fuse_spec.specs.Plain.{Plain, first_plain}

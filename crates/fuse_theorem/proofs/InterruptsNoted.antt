@@ -1,11 +1,11 @@
 -- An INTERRUPT on the link is one whose original's ask a signal was noted on.
-use Rattle.std.proofs.Common.{◌≡◌, ℕ, ◌+◌, ◌≤◌, Bool, true, false, true≢false, Option, Some, None, slice_get, refl, ap, sym, subst, ◌∙◌, arith}
+use Rattle.std.proofs.Common.{◌≡◌, ℕ, Bool, true, false, true≢false, Some, slice_get, refl, sym, subst, arith}
 use Rattle.fuse_spec.specs.declared.Mark.{Mark}
 use Rattle.fuse_spec.specs.declared.Mark.TheVariants as mark
 use Rattle.fuse_spec.specs.declared.Purpose.{Purpose}
 use Rattle.fuse_spec.specs.declared.QueuedRequest.{QueuedRequest}
 use Rattle.fuse_spec.specs.Maps.{get}
-use Rattle.fuse_spec.specs.Messages.{Request, RequestBody, interrupt}
+use Rattle.fuse_spec.specs.Messages.{Request, interrupt}
 use Rattle.fuse_spec.specs.Queues.{has_interrupt, is_signalled}
 use Rattle.fuse_spec.specs.Kernel.{is_live, is_for}
 use Rattle.fuse_spec.specs.Worlds.{World}

@@ -1,5 +1,5 @@
 -- What a call begins with, and what it hears, names known nodes.
-use Rattle.std.proofs.Common.{◌≡◌, ◌≢◌, ℕ, ◌+◌, Bool, true, false, not, cond, List, [], ◌∷◌, Option, Some, None, Result, Ok, Err, length, map, refl, ap, sym, subst, ◌∙◌, inl, inr, All}
+use Rattle.std.proofs.Common.{◌≡◌, ℕ, Bool, true, false, cond, List, [], ◌∷◌, Option, Some, None, Result, Ok, Err, length, refl, subst, All}
 use Rattle.std.specs.Prelude.{nat_lt, ◌||◌}
 use Rattle.std.proofs.lemmas.List.Elements.{All-nil, All-cons, All-head, All-tail}
 use Rattle.fuse_spec.specs.declared.Counted.{Counted}
@@ -10,17 +10,17 @@ use Rattle.fuse_spec.specs.Begins as begins
 use Rattle.fuse_spec.specs.Calls.{Call}
 use Rattle.fuse_spec.specs.Calls as call
 use Rattle.fuse_spec.specs.CallReplies.{operation_replied, call_replied}
-use Rattle.fuse_spec.specs.Maps.{Map, get, remove, values}
+use Rattle.fuse_spec.specs.Maps.{Map, get, remove}
 use Rattle.fuse_spec.specs.Messages.{WireReply}
 use Rattle.fuse_spec.specs.Operations.{Operation, Reply, files_in, files_in_reply}
 use Rattle.fuse_spec.specs.Operations as op
 use Rattle.fuse_spec.specs.Paths.{Name, words_of, parent_and_last}
 use Rattle.fuse_spec.specs.Replies.{kernel_reply}
 use Rattle.fuse_spec.specs.Walks.{files_of_plan}
-use Rattle.fuse_spec.specs.Vfs.{CallState, walking, doing, using, asked, Vfs, Advance, answered, begun, bound, unbound, opened_by, walks_on, after_beginning, numbered}
+use Rattle.fuse_spec.specs.Vfs.{CallState, walking, doing, using, asked, Vfs, begun, bound, unbound, after_beginning, numbered}
 use Rattle.fuse_spec.specs.Kernel.{opened_nodes, nodes_of_state}
 use Rattle.fuse_theorem.specs.KnownNodes.{IsKnown, VfsKnown}
-use Rattle.fuse_theorem.proofs.KnownWalks.{StateKnown, OpenKnown, answered_known, asking_known, opened_known, bound_known, unbound_known, walks_on_known}
+use Rattle.fuse_theorem.proofs.KnownWalks.{OpenKnown, answered_known, asking_known, opened_known, bound_known, unbound_known, walks_on_known}
 use Rattle.fuse_theorem.proofs.Values.{All-gone, All-get}
 
 module _ (nodes : Map Counted) where

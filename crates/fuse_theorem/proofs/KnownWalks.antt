@@ -1,22 +1,21 @@
 -- A step of a call leads from known nodes to known nodes.
-use Rattle.std.proofs.Common.{◌≡◌, ◌≢◌, ℕ, ◌+◌, Bool, true, false, not, cond, List, [], ◌∷◌, Option, Some, None, Result, Ok, Err, length, refl, ap, sym, subst, ◌∙◌, inl, inr, All}
-use Rattle.std.specs.Prelude.{nat_lt, ◌||◌}
+use Rattle.std.proofs.Common.{◌≡◌, ℕ, ◌+◌, Bool, true, false, not, cond, List, [], ◌∷◌, Option, Some, None, refl, ap, sym, subst, ◌∙◌, inl, inr, All}
+use Rattle.std.specs.Prelude.{nat_lt}
 use Rattle.std.specs.Ordering.{eq_by_cmp}
 use Rattle.std.proofs.lemmas.Bool.{cases_eq}
-use Rattle.std.proofs.lemmas.List.Elements.{All-nil, All-cons, All-head, All-tail}
+use Rattle.std.proofs.lemmas.List.Elements.{All-nil, All-cons, All-head}
 use Rattle.fuse_spec.specs.declared.Binding.{Binding}
 use Rattle.fuse_spec.specs.declared.Counted.{Counted}
-use Rattle.fuse_spec.specs.declared.Entry.{Entry}
 use Rattle.fuse_spec.specs.declared.Opened.{Opened}
 use Rattle.fuse_spec.specs.Answers.{Answer}
-use Rattle.fuse_spec.specs.Maps.{Map, NameMap, place_cmp, get, put, get_name, put_name, remove_name, values}
-use Rattle.fuse_spec.specs.Operations.{Operation, files_in}
+use Rattle.fuse_spec.specs.Maps.{Map, place_cmp, get_name}
+use Rattle.fuse_spec.specs.Operations.{files_in}
 use Rattle.fuse_spec.specs.Paths.{Name}
 use Rattle.fuse_spec.specs.Walks.{FinalOperation, stat, list, opening, mkdir, create, unlink, rmdir, rename_from, link_to, WalkPlan, last, rename, link, operation_at, WalkStop, unknown, missing, arrived, go, Walked, looks_up, finds_none, asks, after_last, after_stop, walk, files_of_plan}
-use Rattle.fuse_spec.specs.Vfs.{CallState, walking, doing, using, Vfs, Advance, answered, asking, bound, unbound, opened_by, valid_at, look, after_walk, walks_on}
+use Rattle.fuse_spec.specs.Vfs.{CallState, walking, doing, Vfs, answered, asking, bound, unbound, opened_by, valid_at, look, after_walk, walks_on}
 use Rattle.fuse_spec.specs.Kernel.{opened_nodes, nodes_of_state}
 use Rattle.fuse_spec.proofs.Tables.{name_put, name_gone, name_put_there}
-use Rattle.fuse_theorem.specs.KnownNodes.{IsKnown, NamesKnown, VfsKnown}
+use Rattle.fuse_theorem.specs.KnownNodes.{IsKnown, VfsKnown}
 use Rattle.fuse_theorem.proofs.Values.{All-put, All-gone}
 
 abbrev pub StateKnown : Map Counted → CallState Opened → Type 0

@@ -1,12 +1,8 @@
 -- Without a live mount the links are empty, and INIT is answered 7.31, whatever happens.
-use Rattle.std.proofs.Common.{◌≡◌, ◌≢◌, ℕ, ◌+◌, ◌-◌, Bool, true, false, true≢false, cond, List, [], ◌∷◌, ◌++◌, Option, Some, None, ◌⊎◌, nat_eq, slice_get, option_map, refl, ap, sym, subst, ◌∙◌, arith, inl, inr, All}
+use Rattle.std.proofs.Common.{◌≡◌, ℕ, ◌-◌, Bool, true, false, true≢false, cond, List, [], Option, Some, None, nat_eq, slice_get, refl, ap, sym, subst, ◌∙◌, arith, inl, inr}
 use Rattle.std.specs.Prelude.{◌%◌}
-use Rattle.std.specs.List.{list_any, remove as without_at}
-use Rattle.std.specs.Option.{option_map_or}
+use Rattle.std.specs.List.{remove as without_at}
 use Rattle.std.proofs.lemmas.List.Elements.{All-nil, All-push}
-use Rattle.fuse_spec.specs.declared.InterruptReply.{InterruptReply}
-use Rattle.fuse_spec.specs.declared.Mark.{Mark}
-use Rattle.fuse_spec.specs.declared.Phase.{Phase}
 use Rattle.fuse_spec.specs.declared.Phase.TheVariants.{Ready}
 use Rattle.fuse_spec.specs.declared.Purpose.{Purpose}
 use Rattle.fuse_spec.specs.declared.Purpose.TheVariants as purpose
@@ -21,7 +17,7 @@ use Rattle.fuse_spec.specs.Operations.{agreed, done, failed}
 use Rattle.fuse_spec.specs.Queues.{request_under}
 use Rattle.fuse_spec.specs.QueueCalls.{waiting, without}
 use Rattle.fuse_spec.specs.Kernel.{Kernel, is_live, kernel_aborted, body_of}
-use Rattle.fuse_spec.specs.Replies.{is_agreement, ended_by, reply_taken, odd_taken, interrupt_replied, replied_to_call, reply_written}
+use Rattle.fuse_spec.specs.Replies.{is_agreement, reply_taken, odd_taken, interrupt_replied, reply_written}
 use Rattle.fuse_spec.specs.Server.{Server, HeldRequest, Kept, Copy}
 use Rattle.fuse_spec.specs.Taking.{taking, interrupting}
 use Rattle.fuse_spec.specs.Performs.{performed, served}
@@ -30,7 +26,7 @@ use Rattle.fuse_spec.specs.Events.{Event, Outcome}
 use Rattle.fuse_spec.specs.Steps.{Happens}
 use Rattle.fuse_theorem.specs.AskedRequests.{serves_call, BearsFirst, InitIsFirst, IsAsked, RequestsAsked, RequestsAskedWhileLive}
 use Rattle.fuse_theorem.specs.Links.{InitAgreed, IsIdle, LinksSound}
-use Rattle.fuse_theorem.specs.Unperformed.{BearsNumber, RequestsSound}
+use Rattle.fuse_theorem.specs.Unperformed.{BearsNumber}
 use Rattle.fuse_theorem.specs.WorldSound.{WorldSound}
 use Rattle.fuse_theorem.proofs.Answered.{waiting_is}
 use Rattle.fuse_theorem.proofs.Finding.{All-found}

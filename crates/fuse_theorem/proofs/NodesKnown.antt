@@ -1,11 +1,8 @@
 -- The kernel knows each node that it uses, whatever happens.
-use Rattle.std.proofs.Common.{◌≡◌, ◌≢◌, ℕ, ◌-◌, ◌≤◌, Bool, true, false, true≢false, ◌||◌, cond, List, [], ◌∷◌, Option, Some, None, nat_eq, option_map, get_or, arith, refl, ap, sym, subst, ◌∙◌, inl, inr, All}
+use Rattle.std.proofs.Common.{◌≡◌, ◌≢◌, ℕ, ◌-◌, ◌≤◌, Bool, true, false, true≢false, ◌||◌, cond, List, [], ◌∷◌, Option, Some, None, nat_eq, option_map, get_or, arith, refl, ap, sym, subst, ◌∙◌, All}
 use Rattle.std.specs.Prelude.{◌%◌}
 use Rattle.std.specs.List.{list_any, remove as without_at}
-use Rattle.std.specs.Option.{option_map_or}
-use Rattle.std.proofs.lemmas.Bool.{cases_eq}
-use Rattle.std.proofs.lemmas.List.Elements.{All-nil, All-cons, All-head, All-tail}
-use Rattle.fuse_spec.specs.declared.Binding.{Binding}
+use Rattle.std.proofs.lemmas.List.Elements.{All-nil, All-cons}
 use Rattle.fuse_spec.specs.declared.Counted.{Counted}
 use Rattle.fuse_spec.specs.declared.Entry.{Entry}
 use Rattle.fuse_spec.specs.declared.IntrEffect.{IntrEffect}
@@ -21,11 +18,10 @@ use Rattle.fuse_spec.specs.CallReplies.{call_replied}
 use Rattle.fuse_spec.specs.Maps.{Map, get, put, remove, values}
 use Rattle.fuse_spec.specs.Messages.{WireReply}
 use Rattle.fuse_spec.specs.Operations.{Operation, done, failed, files_in_reply}
-use Rattle.fuse_spec.specs.Queues.{request_under}
 use Rattle.fuse_spec.specs.QueueCalls.{after_effect, interrupt_effect, waiting, without}
 use Rattle.fuse_spec.specs.Vfs.{CallState, walking, doing, using, asked, Vfs, Advance, answered, begun, given_up}
-use Rattle.fuse_spec.specs.Kernel.{Kernel, is_live, is_aborted, is_used, request_of, nodes_of_state, is_released_by, is_pinned, is_bound, kernel_aborted, asking_for, advanced, released, released_if_idle, after_use, closed_by, closing_of, call_begun, after_signal, signalled_at, call_signalled}
-use Rattle.fuse_spec.specs.Replies.{kernel_reply, learnt, counted_more, Use, usable, useless, stale, use_of_all, goes_with, is_agreement, judged, replied, replied_to_call, ended_by, reply_taken, odd_taken, interrupt_replied, reply_written}
+use Rattle.fuse_spec.specs.Kernel.{Kernel, is_aborted, request_of, nodes_of_state, is_released_by, is_pinned, is_bound, kernel_aborted, asking_for, advanced, released, released_if_idle, after_use, closed_by, closing_of, call_begun, after_signal, signalled_at, call_signalled}
+use Rattle.fuse_spec.specs.Replies.{kernel_reply, learnt, counted_more, Use, usable, useless, stale, use_of_all, goes_with, is_agreement, judged, replied, replied_to_call, reply_taken, odd_taken, interrupt_replied, reply_written}
 use Rattle.fuse_spec.specs.Denotes.{generation_known}
 use Rattle.fuse_spec.proofs.Tables.{get_put_here}
 use Rattle.fuse_spec.specs.Taking.{taking}
@@ -36,7 +32,7 @@ use Rattle.fuse_spec.specs.Steps.{Happens}
 use Rattle.fuse_theorem.specs.WorldSound.{WorldSound}
 use Rattle.fuse_theorem.proofs.Finding.{same_is}
 use Rattle.fuse_theorem.proofs.Happened.{Happened, by_mount, by_call, by_read_interrupt, by_read_forgets, by_read_pending, by_take, by_perform, by_again, by_write, by_settle, by_signal, by_tick, by_drop, by_evict, by_abort, happened}
-use Rattle.fuse_theorem.specs.KnownNodes.{IsKnown, NamesKnown, VfsKnown, NodesKnown}
+use Rattle.fuse_theorem.specs.KnownNodes.{IsKnown, VfsKnown, NodesKnown}
 use Rattle.fuse_theorem.proofs.Evicting.{or_false, unbound, not_target, known_still}
 use Rattle.fuse_theorem.proofs.KnownReplies.{begun_known, replied_known}
 use Rattle.fuse_theorem.proofs.KnownWalks.{StateKnown, OpenKnown, answered_known, unbound_known}

@@ -1,12 +1,11 @@
 -- What the plain world performs is replied to as its operation asks, whatever step it takes.
-use Rattle.std.proofs.Common.{◌≡◌, ℕ, ◌+◌, ◌-◌, ◌≤◌, Bool, true, false, true≢false, cond, List, [], ◌∷◌, Option, Some, None, length, take, drop, nat_eq, refl, ap, sym, subst, ◌∙◌, arith, inl, inr}
+use Rattle.std.proofs.Common.{◌≡◌, ℕ, ◌-◌, ◌≤◌, Bool, true, false, cond, List, [], ◌∷◌, Option, Some, None, refl, ap, sym, subst, ◌∙◌, arith, inl, inr}
 use Rattle.std.specs.Prelude.{nat_le, min, sum_by}
 use Rattle.std.proofs.lemmas.List.{length-take}
 use Rattle.std.proofs.lemmas.Bool.Decides.{nat_tests}
 use Rattle.std.proofs.lemmas.List.Sums.{sum_by-cons}
 use Rattle.fuse_spec.specs.declared.IntrEffect.{IntrEffect}
 use Rattle.fuse_spec.specs.declared.IntrEffect.TheVariants as effect
-use Rattle.fuse_spec.specs.declared.Taken.{Taken}
 use Rattle.fuse_spec.specs.declared.Taken.TheVariants as word
 use Rattle.fuse_spec.specs.declared.Validity.{Validity}
 use Rattle.fuse_spec.specs.declared.WriteResult.TheVariants.{Accepted, NoEntry, Invalid}
@@ -14,11 +13,11 @@ use Rattle.fuse_spec.specs.Events.{Event, Outcome}
 use Rattle.fuse_spec.specs.Events as event
 use Rattle.fuse_spec.specs.FileOperations.{FileOperation, refusal, reply_unrefused, reply_or, looked_up, reply_by}
 use Rattle.fuse_spec.specs.Maps.{Map, get, put, remove}
-use Rattle.fuse_spec.specs.Operations.{Operation, lookup, getattr, mkdir, create, unlink, rmdir, rename, link, opening, readdir, read, write, Reply, Dirent, failed}
+use Rattle.fuse_spec.specs.Operations.{lookup, getattr, mkdir, create, unlink, rmdir, rename, link, opening, readdir, read, write, Dirent, failed}
 use Rattle.fuse_spec.specs.Trees.{Tree, record_length, fitting, records_after, file_at}
 use Rattle.fuse_spec.specs.CallReplies.{call_replied}
 use Rattle.fuse_spec.specs.Vfs.{CallState, begun}
-use Rattle.fuse_spec.specs.Plain.{Plain, Ask, Stage, waiting, performed, declined, asking, going_on, call_begun, ask_performed, ask_declined, ask_told, ask_interrupted, ask_noted, ask_marked, plain_later, name_dropped, plain_aborted, plain_mounted, first_plain}
+use Rattle.fuse_spec.specs.Plain.{Plain, Ask, Stage, waiting, performed, declined, asking, call_begun, ask_performed, ask_declined, ask_told, ask_interrupted, ask_noted, ask_marked, plain_later, name_dropped, plain_aborted, plain_mounted, first_plain}
 use Rattle.fuse_spec.specs.PlainSteps.{where_so, serving_ask, serving, telling_call, telling_ask, telling, signalled_ask, signalling, marking, takes, Takes}
 use Rattle.fuse_theorem.specs.AsksServed.{RepliesTo, AskServed, AsksServed}
 use Rattle.fuse_theorem.proofs.NodesSound.{put_found, left_found}

@@ -1,5 +1,5 @@
 -- A copy that says what a performed ask came to goes with its request's operation.
-use Rattle.std.proofs.Common.{◌≡◌, ℕ, ◌≤◌, ◌<◌, Bool, true, false, true≢false, cond, List, [], ◌∷◌, Option, Some, None, length, nat_eq, refl, ap, sym, subst, ◌∙◌, arith, All}
+use Rattle.std.proofs.Common.{◌≡◌, ℕ, ◌≤◌, ◌<◌, Bool, true, false, List, [], ◌∷◌, Option, Some, None, length, nat_eq, refl, ap, sym, subst, ◌∙◌, arith, All}
 use Rattle.std.specs.Prelude.{nat_le, nat_lt, sum_by}
 use Rattle.std.proofs.lemmas.Bool.Decides.{nat_tests}
 use Rattle.std.proofs.lemmas.List.Elements.{All-head, All-tail}
@@ -8,7 +8,7 @@ use Rattle.fuse_spec.specs.declared.Entry.{Entry}
 use Rattle.fuse_spec.specs.declared.Opened.{Opened}
 use Rattle.fuse_spec.specs.Maps.{Map, get}
 use Rattle.fuse_spec.specs.Messages.{WireReply}
-use Rattle.fuse_spec.specs.Operations.{Operation, lookup, getattr, mkdir, create, unlink, rmdir, rename, link, opening, readdir, read, write, Reply, Dirent, found, missing, created, opened, attributes, listed, content, written, agreed, done, failed, files_in_reply}
+use Rattle.fuse_spec.specs.Operations.{Operation, Reply, Dirent}
 use Rattle.fuse_spec.specs.FileOperations.{FileOperation}
 use Rattle.fuse_spec.specs.Nodes.{NodeTable, HandleTable, HeldNode, is_open}
 use Rattle.fuse_spec.specs.Trees.{record_length}
@@ -16,7 +16,7 @@ use Rattle.fuse_spec.specs.Denotes.{Denotes, generation_known, Means, Names, Ope
 use Rattle.fuse_spec.specs.Replies.{goes_with, Use, usable, first_use, use_of, use_counted, use_of_all}
 use Rattle.fuse_theorem.specs.AsksServed.{RepliesTo}
 use Rattle.fuse_theorem.specs.Conditions.{OpensItsFile}
-use Rattle.fuse_theorem.specs.Lookups.{IsHeldAs, EntriesHeld}
+use Rattle.fuse_theorem.specs.Lookups.{IsHeldAs}
 use Rattle.fuse_theorem.proofs.Cases.{SameOperation, both_lookup, both_getattr, both_mkdir, both_create, both_unlink, both_rmdir, both_rename, both_link, both_opening, both_readdir, both_read, both_write, same_operation, SameReply, same_found, same_missing, same_created, same_opened, same_attributes, same_listed, same_content, same_written, same_done, same_failed, same_reply}
 use Rattle.fuse_theorem.proofs.Giving.{denotes_one}
 

@@ -1,38 +1,24 @@
 -- What is on the request link or held is what the kernel asks, whatever happens.
-use Rattle.std.proofs.Common.{◌≡◌, ◌≢◌, ℕ, ◌+◌, ◌≤◌, ◌<◌, Bool, true, false, true≢false, cond, List, [], ◌∷◌, ◌++◌, drop, Option, Some, None, ◌⊎◌, nat_eq, slice_get, get_or, count_by, option_map, length, refl, ap, sym, subst, ◌∙◌, arith, inl, inr, All}
+use Rattle.std.proofs.Common.{◌≡◌, ◌≢◌, ℕ, ◌≤◌, ◌<◌, Bool, true, false, true≢false, List, Option, Some, None, ◌⊎◌, nat_eq, slice_get, get_or, count_by, length, refl, ap, sym, subst, ◌∙◌, arith, inl, inr}
 use Rattle.std.specs.Prelude.{◌%◌, nat_lt}
-use Rattle.std.specs.List.{remove as without_at}
-use Rattle.std.specs.Map.{lookup}
 use Rattle.std.proofs.lemmas.Bool.Decides.{nat_tests}
-use Rattle.std.proofs.lemmas.List.Elements.{All-nil, All-cons, All-push}
 use Rattle.fuse_spec.specs.declared.Mark.{Mark}
 use Rattle.fuse_spec.specs.declared.Mark.TheVariants as mark
 use Rattle.fuse_spec.specs.declared.Purpose.{Purpose}
 use Rattle.fuse_spec.specs.declared.QueuedRequest.{QueuedRequest}
-use Rattle.fuse_spec.specs.declared.ReplyResult.{ReplyResult}
-use Rattle.fuse_spec.specs.declared.WriteResult.{WriteResult}
-use Rattle.fuse_spec.specs.declared.WriteResult.TheVariants.{Accepted, NoEntry, Invalid}
-use Rattle.fuse_spec.specs.Calls.{Call}
-use Rattle.fuse_spec.specs.Copies.{kept_after, after_result}
-use Rattle.fuse_spec.specs.Maps.{Map, get, put, remove}
-use Rattle.fuse_spec.specs.Messages.{Forget, Request, RequestBody, init, asks, release, forget, batch_forget, interrupt, WireReply}
-use Rattle.fuse_spec.specs.Queues.{QueueState, IsSound, is_unread, has_interrupt, is_signalled, is_interrupted, pending, request_under}
-use Rattle.fuse_spec.specs.QueueCalls.{can_read_forgets}
-use Rattle.fuse_spec.specs.Kernel.{Kernel, is_live, body_of, call_begun, call_signalled}
-use Rattle.fuse_spec.specs.Replies.{reply_written}
-use Rattle.fuse_spec.specs.Server.{HeldRequest, Kept, Copy}
-use Rattle.fuse_spec.specs.Taking.{taking, interrupting}
-use Rattle.fuse_spec.specs.Performs.{served}
-use Rattle.fuse_spec.specs.Worlds.{World, Sent, first_world, forget_body, replying, after_mount, after_take, after_perform, after_write, after_settle}
+use Rattle.fuse_spec.specs.Maps.{get}
+use Rattle.fuse_spec.specs.Messages.{Request, RequestBody, init, asks, release, forget, batch_forget, interrupt}
+use Rattle.fuse_spec.specs.Queues.{QueueState, IsSound, is_unread, has_interrupt, request_under}
+use Rattle.fuse_spec.specs.Kernel.{Kernel, body_of}
+use Rattle.fuse_spec.specs.Server.{HeldRequest}
+use Rattle.fuse_spec.specs.Worlds.{World, Sent}
 use Rattle.fuse_spec.proofs.QueueCounts.{lookup-no_key, key_count}
 use Rattle.fuse_theorem.specs.AskedRequests.{serves_call, IsAsked, IsInterrupted, SentAsked, HeldAsked, RequestsAsked}
 use Rattle.fuse_theorem.specs.FirstPath.{unperformed}
 use Rattle.fuse_theorem.specs.Unperformed.{RequestsSound}
 use Rattle.fuse_theorem.proofs.Finding.{same_is, none_passes}
 use Rattle.fuse_theorem.proofs.FirstReads.{number_below, number_even}
-use Rattle.fuse_theorem.proofs.NodesSound.{put_found, left_found}
-use Rattle.fuse_theorem.proofs.PerformedRest.{performed_rest}
-use Rattle.fuse_theorem.proofs.Queuing.{All-without, All-at}
+use Rattle.fuse_theorem.proofs.Queuing.{All-at}
 use Rattle.fuse_theorem.proofs.StandsOnce.{one_held}
 use Rattle.fuse_theorem.proofs.StillAsked.{StillThere, Follows}
 use Rattle.fuse_theorem.proofs.StillAwaited.{Answers}

@@ -1,10 +1,8 @@
 -- What is on the request link or held stays what the kernel asks, whatever the event.
-use Rattle.std.proofs.Common.{◌≡◌, ◌≢◌, ℕ, ◌+◌, ◌≤◌, ◌<◌, Bool, true, false, true≢false, cond, List, [], ◌∷◌, ◌++◌, drop, take, Option, Some, None, ◌⊎◌, nat_eq, slice_get, get_or, count_by, option_map, refl, ap, sym, subst, ◌∙◌, arith, inl, inr, All}
-use Rattle.std.specs.Prelude.{◌%◌, nat_lt}
+use Rattle.std.proofs.Common.{◌≡◌, ℕ, ◌+◌, ◌≤◌, ◌<◌, Bool, true, false, true≢false, cond, List, [], ◌∷◌, ◌++◌, drop, take, Option, Some, None, nat_eq, slice_get, count_by, option_map, refl, ap, sym, subst, ◌∙◌, arith, inl, inr, All}
 use Rattle.std.specs.List.{remove as without_at}
 use Rattle.std.specs.Option.{option_map_or}
 use Rattle.std.specs.Map.{lookup}
-use Rattle.std.proofs.lemmas.Bool.Decides.{nat_tests}
 use Rattle.std.proofs.lemmas.List.Elements.{All-nil, All-cons, All-push}
 use Rattle.fuse_spec.specs.declared.Mark.{Mark}
 use Rattle.fuse_spec.specs.declared.Mark.TheVariants as mark
@@ -15,31 +13,28 @@ use Rattle.fuse_spec.specs.declared.QueuedRequest.{QueuedRequest}
 use Rattle.fuse_spec.specs.declared.ReplyResult.{ReplyResult}
 use Rattle.fuse_spec.specs.declared.WriteResult.{WriteResult}
 use Rattle.fuse_spec.specs.declared.WriteResult.TheVariants.{Accepted, NoEntry, Invalid}
-use Rattle.fuse_spec.specs.Calls.{Call}
 use Rattle.fuse_spec.specs.Copies.{kept_after, after_result}
 use Rattle.fuse_spec.specs.Maps.{Map, get, put, remove}
 use Rattle.fuse_spec.specs.Messages.{Forget, Request, RequestBody, init, asks, release, forget, batch_forget, interrupt, WireReply}
-use Rattle.fuse_spec.specs.Queues.{QueueState, IsSound, is_unread, has_interrupt, is_signalled, is_interrupted, pending, request_under, mark_under}
+use Rattle.fuse_spec.specs.Queues.{IsSound, is_unread, has_interrupt, is_signalled, is_interrupted, pending, request_under}
 use Rattle.fuse_spec.specs.QueueCalls.{after_reading, after_read_pending, can_read_forgets, pending_at}
 use Rattle.fuse_spec.specs.Uniques.{interrupt_number}
-use Rattle.fuse_spec.specs.Vfs.{CallState, asked}
-use Rattle.fuse_spec.specs.Kernel.{Kernel, is_live, asked_by, body_of, call_begun, call_signalled}
+use Rattle.fuse_spec.specs.Vfs.{CallState}
+use Rattle.fuse_spec.specs.Kernel.{Kernel, is_live, asked_by, body_of}
 use Rattle.fuse_spec.specs.Replies.{reply_written}
-use Rattle.fuse_spec.specs.Server.{HeldRequest, Kept, Copy, holding}
-use Rattle.fuse_spec.specs.Taking.{TakeResult, taking, interrupting}
+use Rattle.fuse_spec.specs.Server.{HeldRequest, Kept, Copy}
+use Rattle.fuse_spec.specs.Taking.{taking, interrupting}
 use Rattle.fuse_spec.specs.Performs.{served}
-use Rattle.fuse_spec.specs.Worlds.{World, Sent, first_world, forget_body, replying, after_mount, after_call, after_read_interrupt, after_read_forgets, after_take, after_perform, after_write, after_settle}
-use Rattle.fuse_spec.specs.Worlds as worlds
+use Rattle.fuse_spec.specs.Worlds.{World, Sent, first_world, forget_body, replying, after_take, after_perform, after_write, after_settle}
 use Rattle.fuse_spec.specs.Events.{Event, Outcome}
 use Rattle.fuse_spec.specs.Steps.{Happens}
 use Rattle.fuse_spec.proofs.QueueCounts.{count_by-cons, lookup-found}
 use Rattle.fuse_spec.proofs.QueueReadings.{key_count-le-one}
 use Rattle.fuse_theorem.specs.AskedRequests.{serves_call, IsAsked, IsInterrupted, SentAsked, HeldAsked, InitIsFirst, RequestsAsked, RequestsAskedWhileLive}
-use Rattle.fuse_theorem.specs.Numbering.{IsNumbered, IsNumberedWhileLive}
-use Rattle.fuse_theorem.specs.Unperformed.{RequestsSound}
+use Rattle.fuse_theorem.specs.Numbering.{IsNumbered}
 use Rattle.fuse_theorem.specs.WorldSound.{WorldSound}
 use Rattle.fuse_theorem.proofs.Finding.{same_is, All-found}
-use Rattle.fuse_theorem.proofs.GoingOn.{begun_goes_on, signalled_goes_on}
+use Rattle.fuse_theorem.proofs.GoingOn.{begun_goes_on}
 use Rattle.fuse_theorem.proofs.Happened.{Happened, by_mount, by_call, by_read_interrupt, by_read_forgets, by_read_pending, by_take, by_perform, by_again, by_write, by_settle, by_signal, by_tick, by_drop, by_evict, by_abort, happened}
 use Rattle.fuse_theorem.proofs.KeptOnLink.{stays_absent}
 use Rattle.fuse_theorem.proofs.NodesSound.{put_found, left_found}

@@ -1,15 +1,11 @@
 -- As the kernel goes on, a request that was read stays what it is until it is answered.
-use Rattle.std.proofs.Common.{◌≡◌, ◌≢◌, ℕ, ◌+◌, Bool, true, false, true≢false, cond, List, [], ◌∷◌, ◌++◌, Option, Some, None, nat_eq, slice_get, count_by, option_map, is_some, ◌≤◌, get_or, refl, ap, sym, subst, ◌∙◌, arith, inl, inr, All}
-use Rattle.std.specs.List.{list_any}
+use Rattle.std.proofs.Common.{◌≡◌, ℕ, ◌+◌, Bool, true, false, true≢false, cond, List, [], ◌∷◌, Option, Some, None, nat_eq, slice_get, option_map, is_some, ◌≤◌, refl, ap, sym, subst, ◌∙◌, arith, inl, inr, All}
 use Rattle.std.specs.Map.{lookup, remove_entry}
 use Rattle.std.specs.Option.{option_map_or}
 use Rattle.std.proofs.lemmas.Bool.{cases_eq}
-use Rattle.std.proofs.lemmas.List.Elements.{All-nil, All-cons, All-head, All-tail, All-push}
+use Rattle.std.proofs.lemmas.List.Elements.{All-cons, All-head, All-tail, All-push}
 use Rattle.fuse_spec.specs.declared.IntrEffect.{IntrEffect}
 use Rattle.fuse_spec.specs.declared.IntrEffect.TheVariants.{Dequeued, Flagged, Queued, None as NoEffect}
-use Rattle.fuse_spec.specs.declared.InterruptReply.{InterruptReply}
-use Rattle.fuse_spec.specs.declared.InterruptReplyEffect.{InterruptReplyEffect}
-use Rattle.fuse_spec.specs.declared.InterruptReplyEffect.TheVariants.{QueuedAgain, TurnedOff, None as NoReplyEffect}
 use Rattle.fuse_spec.specs.declared.Mark.{Mark}
 use Rattle.fuse_spec.specs.declared.Mark.TheVariants as mark
 use Rattle.fuse_spec.specs.declared.Opened.{Opened}
@@ -19,26 +15,22 @@ use Rattle.fuse_spec.specs.declared.QueuedRequest.{QueuedRequest}
 use Rattle.fuse_spec.specs.Answers.{Answer}
 use Rattle.fuse_spec.specs.Answers as answer
 use Rattle.fuse_spec.specs.Calls.{Call}
-use Rattle.fuse_spec.specs.CallReplies.{call_replied}
 use Rattle.fuse_spec.specs.Maps.{Map, get, put, remove}
-use Rattle.fuse_spec.specs.Messages.{WireReply}
-use Rattle.fuse_spec.specs.Operations.{Operation, files_in_reply}
-use Rattle.fuse_spec.specs.Vfs.{CallState, walking, doing, using, asked, Advance, answered, begun}
-use Rattle.fuse_spec.specs.Queues.{QueueState, IsSound, is_unread, has_interrupt, is_signalled, pending, request_under, mark_under}
-use Rattle.fuse_spec.specs.QueueCalls.{after_enqueue, after_forget, after_effect, after_interrupt, after_interrupt_reply, after_reading, after_reply_effect, after_read_pending, interrupt_effect, set_mark, with_mark, without}
-use Rattle.fuse_spec.specs.Signals.{signal_effect, reply_effect}
+use Rattle.fuse_spec.specs.Operations.{Operation}
+use Rattle.fuse_spec.specs.Vfs.{CallState, walking, doing, using, Advance, answered, begun}
+use Rattle.fuse_spec.specs.Queues.{IsSound, is_unread, has_interrupt, is_signalled, pending, request_under, mark_under}
+use Rattle.fuse_spec.specs.QueueCalls.{after_enqueue, after_effect, after_reading, after_read_pending, interrupt_effect, set_mark}
+use Rattle.fuse_spec.specs.Signals.{signal_effect}
 use Rattle.fuse_spec.specs.Kernel.{Kernel, is_aborted, is_for, is_used, request_of, asked_by, body_of, asking_for, advanced, released, released_if_idle, after_use, closed_by, closing_of, call_begun, after_signal, signalled_at, call_signalled}
-use Rattle.fuse_spec.specs.Replies.{kernel_reply, learnt, Use, usable, useless, stale, use_of_all, goes_with, judged, replied, replied_to_call}
-use Rattle.fuse_spec.proofs.QueueCounts.{lookup-push, lookup-set_mark_other, lookup-set_mark_same, lookup-remove_entry_other}
+use Rattle.fuse_spec.proofs.QueueCounts.{lookup-push, lookup-set_mark_other, lookup-remove_entry_other}
 use Rattle.fuse_spec.proofs.QueueReadings.{key_count-le-one}
 use Rattle.fuse_spec.proofs.QueueSoundness.{mark_under-pending}
-use Rattle.fuse_spec.proofs.Tables.{get_gone_there}
 use Rattle.fuse_theorem.specs.Numbering.{requests_for}
 use Rattle.fuse_theorem.specs.AskedRequests.{serves_call, SignalsReachCalls, BearsFirst, InitIsFirst}
-use Rattle.fuse_theorem.proofs.Advancing.{StepsAlone, answered_alone, begun_alone, call_replied_alone}
+use Rattle.fuse_theorem.proofs.Advancing.{StepsAlone, answered_alone, begun_alone}
 use Rattle.fuse_theorem.proofs.Asking.{body_beside}
 use Rattle.fuse_theorem.proofs.CallNumbers.{none_left}
-use Rattle.fuse_theorem.proofs.Finding.{same_is, other_is, none_passes, found_entry, All-found, All-removed}
+use Rattle.fuse_theorem.proofs.Finding.{other_is, none_passes, found_entry, All-found, All-removed}
 use Rattle.fuse_theorem.proofs.Numbered.{CallsNumbered}
 use Rattle.fuse_theorem.proofs.Signalling.{serves_call as is_call, dequeues_unread, flags_unread}
 
@@ -175,13 +167,13 @@ remarked k l v old m may requests calls rises = record {
   still = λ u r under read. elim (cases_eq u v) [
     | inl e ↦ here u r (subst (λ (n : ℕ). request_under k.queues n ≡ Some r) e under) read e
     | inr ne ↦ record {
-        now = r;
-        under = ap (lookup (nat_eq u)) requests ∙ lookup-set_mark_other u v k.queues.requests m (other_is u v ne) ∙ under;
-        same_kept = refl;
-        read = read;
-        marked = λ h. h;
-        asks = asks_same k l r.kept calls;
-      }
+      now = r;
+      under = ap (lookup (nat_eq u)) requests ∙ lookup-set_mark_other u v k.queues.requests m (other_is u v ne) ∙ under;
+      same_kept = refl;
+      read = read;
+      marked = λ h. h;
+      asks = asks_same k l r.kept calls;
+    }
   ];
   signals = λ h. subst (All ReachesCall) (sym requests) (marked_all v m k.queues.requests (λ r under. may.serves r under h) h);
   first = λ h. let low = h.next in record { next = omega (arith, low, rises); entries = subst (All IsNumberedFor) (sym requests) (numbered_marked v m k.queues.requests h.entries) };

@@ -1,5 +1,5 @@
 -- As a reply is written, each request but that which it answers stays what it is.
-use Rattle.std.proofs.Common.{◌≡◌, ◌≢◌, ℕ, ◌+◌, ◌-◌, ◌<◌, Bool, true, false, true≢false, cond, List, ◌∷◌, Option, Some, None, ◌⊎◌, nat_eq, option_map, refl, ap, sym, subst, ◌∙◌, arith, inl, inr, All}
+use Rattle.std.proofs.Common.{◌≡◌, ℕ, ◌-◌, ◌<◌, Bool, true, false, true≢false, cond, Option, Some, None, ◌⊎◌, nat_eq, refl, ap, sym, subst, ◌∙◌, arith, inl, inr}
 use Rattle.std.specs.Prelude.{◌%◌}
 use Rattle.std.specs.List.{list_any}
 use Rattle.std.specs.Option.{option_map_or}
@@ -19,8 +19,8 @@ use Rattle.fuse_spec.specs.Maps.{get}
 use Rattle.fuse_spec.specs.Messages.{WireReply}
 use Rattle.fuse_spec.specs.Operations.{done, failed, files_in_reply}
 use Rattle.fuse_spec.specs.Vfs.{CallState, asked, answered}
-use Rattle.fuse_spec.specs.Queues.{QueueState, IsSound, is_unread, request_under, mark_under}
-use Rattle.fuse_spec.specs.QueueCalls.{after_forget, after_reply_effect, after_interrupt_reply, waiting, without}
+use Rattle.fuse_spec.specs.Queues.{IsSound, is_unread, request_under, mark_under}
+use Rattle.fuse_spec.specs.QueueCalls.{after_reply_effect, waiting, without}
 use Rattle.fuse_spec.specs.Signals.{reply_effect}
 use Rattle.fuse_spec.specs.Kernel.{Kernel, is_live, is_for, kernel_aborted, after_use}
 use Rattle.fuse_spec.specs.Replies.{kernel_reply, learnt, Use, usable, useless, stale, use_of_all, goes_with, is_agreement, judged, replied, replied_to_call, ended_by, reply_taken, odd_taken, interrupt_replied, interrupt_reply_of, reply_written}

@@ -1,14 +1,12 @@
 -- What the kernel needs to take a copy holds: it says what its request's ask came to.
-use Rattle.std.proofs.Common.{◌≡◌, ℕ, ◌+◌, ◌-◌, ◌≤◌, Bool, true, false, true≢false, cond, Option, Some, None, nat_eq, count_by, is_some, slice_get, refl, ap, sym, subst, ◌∙◌, arith, All}
+use Rattle.std.proofs.Common.{◌≡◌, ℕ, ◌-◌, ◌≤◌, Bool, true, false, true≢false, cond, Option, Some, None, nat_eq, is_some, slice_get, refl, ap, sym, subst, ◌∙◌, arith}
 use Rattle.std.specs.Prelude.{◌%◌}
-use Rattle.fuse_spec.specs.declared.Counted.{Counted}
 use Rattle.fuse_spec.specs.declared.Opened.{Opened}
 use Rattle.fuse_spec.specs.declared.Purpose.{Purpose}
 use Rattle.fuse_spec.specs.declared.Purpose.TheVariants as purpose
 use Rattle.fuse_spec.specs.declared.QueuedRequest.{QueuedRequest}
 use Rattle.fuse_spec.specs.Maps.{get}
-use Rattle.fuse_spec.specs.Operations.{Reply, failed, files_in_reply}
-use Rattle.fuse_spec.specs.Numbers.{eintr}
+use Rattle.fuse_spec.specs.Operations.{Reply, files_in_reply}
 use Rattle.fuse_spec.specs.Vfs.{CallState, asked}
 use Rattle.fuse_spec.specs.QueueCalls.{waiting}
 use Rattle.fuse_spec.specs.Kernel.{is_live, is_for}
@@ -21,19 +19,17 @@ use Rattle.fuse_spec.specs.Denotes.{Denotes, MeansIn, MeansOpenIn, generation_kn
 use Rattle.fuse_spec.specs.Alike.{Alike, StageTold, IsPaired}
 use Rattle.fuse_theorem.specs.AskedRequests.{RequestsAskedWhileLive}
 use Rattle.fuse_theorem.specs.AsksServed.{AskServed, AsksServed}
-use Rattle.fuse_theorem.specs.Conditions.{IsReply, IsDeclined, awaiting}
+use Rattle.fuse_theorem.specs.Conditions.{IsReply, IsDeclined}
 use Rattle.fuse_theorem.specs.EachEvent.{CanHear, Needs}
 use Rattle.fuse_theorem.specs.EachEvent as each
 use Rattle.fuse_theorem.specs.Links.{LinksSound}
-use Rattle.fuse_theorem.specs.Lookups.{IsHeldAs, EntriesHeld, LookupsBalanced}
+use Rattle.fuse_theorem.specs.Lookups.{EntriesHeld, LookupsBalanced}
 use Rattle.fuse_theorem.specs.Numbering.{IsNumbered, requests_for}
 use Rattle.fuse_theorem.specs.WorldSound.{WorldSound}
 use Rattle.fuse_theorem.proofs.Answered.{Waits, waiting_is}
 use Rattle.fuse_theorem.proofs.Cases.{same_operation, same_reply}
 use Rattle.fuse_theorem.proofs.Finding.{same_is, none_passes, found_one, All-found}
-use Rattle.fuse_theorem.proofs.Giving.{denotes_one}
 use Rattle.fuse_theorem.proofs.LinksSound.{AgreesToInit, none_at, init_is_first}
-use Rattle.fuse_theorem.proofs.LookupsStay.{known_held}
 use Rattle.fuse_theorem.proofs.Queuing.{All-at}
 use Rattle.fuse_theorem.proofs.RepliesGo.{wire_goes, wire_opens, all_usable}
 use Rattle.fuse_theorem.proofs.ServerSound.{one_id}
