@@ -120,3 +120,4 @@ pub mod KnownWalks
 pub mod KnownReplies
 pub mod NodesKnown
 pub mod EveryList
+pub mod HeldKnown

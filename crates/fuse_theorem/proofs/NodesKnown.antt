@@ -57,7 +57,7 @@ known_more nodes nodes' more c old = record {
 some_known : (nodes : Map Counted) (id generation : ℕ) → generation_known nodes id ≡ Some generation → IsKnown nodes id
 some_known nodes id generation e none = absurd (cc (e, none))
 
-known_some : (nodes : Map Counted) (id : ℕ) → IsKnown nodes id → (generation : ℕ) × (generation_known nodes id ≡ Some generation)
+pub known_some : (nodes : Map Counted) (id : ℕ) → IsKnown nodes id → (generation : ℕ) × (generation_known nodes id ≡ Some generation)
 known_some nodes id known = by (generation_known nodes id) refl
   where
     by : (o : Option ℕ) → generation_known nodes id ≡ o → (generation : ℕ) × (generation_known nodes id ≡ Some generation)

@@ -13,3 +13,4 @@ pub mod Links
 pub mod AsksServed
 pub mod KnownNodes
 pub mod EveryList
+pub mod HeldKnown
