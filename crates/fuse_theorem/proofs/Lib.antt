@@ -121,3 +121,4 @@ pub mod KnownReplies
 pub mod NodesKnown
 pub mod EveryList
 pub mod HeldKnown
+pub mod HeldStays

@@ -42,7 +42,7 @@ use Rattle.fuse_theorem.proofs.Values.{All-get}
 
 -- ---- more nodes, or fewer
 
-All-more : {X : Type 0} {P Q : X → Type 0} (xs : List X) → ((x : X) → P x → Q x) → All P xs → All Q xs
+pub All-more : {X : Type 0} {P Q : X → Type 0} (xs : List X) → ((x : X) → P x → Q x) → All P xs → All Q xs
 All-more xs more h = λ i d lt. more _ (h i d lt)
 
 -- What is known stays so where more is known.

@@ -67,7 +67,7 @@ module _ (k : Kernel) (node : ℕ) (unpinned : is_pinned k node ≡ false) where
           let is : asks (asked state) ≡ body = cc in
           subst (λ (b : RequestBody). list_any (nat_eq node) (nodes_of_body b) ≡ false) is (asked_fewer node state (found_fails OfCalls k.vfs.calls call state unnamed.0 at))
 
-  of_asked : (unique : ℕ) (body : RequestBody) → IsAsked k unique body → list_any (nat_eq node) (nodes_of_body body) ≡ false
+  pub of_asked : (unique : ℕ) (body : RequestBody) → IsAsked k unique body → list_any (nat_eq node) (nodes_of_body body) ≡ false
   of_asked unique body x = of_kept x.request.kept body (All-found (λ (e : ℕ × QueuedRequest Purpose). OfReleases e ≡ false) unique k.queues.requests x.request (each_fails OfReleases k.queues.requests unnamed.1) x.under) x.asks
 
   of_sent : (unique : ℕ) (body : RequestBody) → SentAsked k unique body → list_any (nat_eq node) (nodes_of_body body) ≡ false

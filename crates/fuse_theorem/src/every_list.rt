@@ -1,9 +1,15 @@
 //! What holds of every world to which a list of events leads, and what single events need that follows from it. Each law says that the
 //! first world has it and that each event keeps it.
 
-ghost use Rattle.std.specs.Prelude.{◌≡◌, ℕ, Ok, Some, slice_get};
+ghost use Rattle.std.specs.Prelude.{◌≡◌, ℕ, Ok, Some, slice_get, true};
+ghost use Rattle.fuse_spec.specs.Kernel.{is_live};
+ghost use Rattle.fuse_spec.specs.Maps.{get};
+ghost use Rattle.fuse_spec.specs.Operations.{Operation};
+ghost use Rattle.fuse_spec.specs.Performs.{is_still_held};
+ghost use Rattle.fuse_spec.specs.Server.{HeldRequest};
+ghost use Rattle.fuse_spec.specs.declared.Opened.{Opened};
 ghost use Rattle.fuse_spec.specs.Alike.{Alike};
-ghost use Rattle.fuse_spec.specs.Messages.{Request, interrupt};
+ghost use Rattle.fuse_spec.specs.Messages.{Request, asks, interrupt};
 ghost use Rattle.fuse_theorem.specs.Conditions.{IsInterrupt};
 ghost use Rattle.fuse_theorem.specs.Links.{LinksSound};
 ghost use Rattle.fuse_spec.specs.Events as event;
@@ -16,6 +22,7 @@ ghost use Rattle.fuse_theorem.specs.AskedRequests.{RequestsAskedWhileLive};
 ghost use Rattle.fuse_theorem.specs.AsksServed.{AsksServed};
 ghost use Rattle.fuse_theorem.specs.EachEvent.{Needs};
 ghost use Rattle.fuse_theorem.specs.EveryList.{BothSound, NeedsBothAlone};
+ghost use Rattle.fuse_theorem.specs.HeldKnown.{HeldKnownWhileLive};
 ghost use Rattle.fuse_theorem.specs.KnownNodes.{NodesKnown};
 ghost use Rattle.fuse_theorem.specs.WorldSound.{WorldSound};
 
@@ -56,4 +63,13 @@ pub fn both_stay_sound()
     ensures at_first { BothSound first_world first_plain }
     ensures always { (w : World) (p : Plain) → BothSound w p → (e : Event) (o : Outcome) (after : World) → (h : Happens w e o after) → Needs h.0 w p e → (q : Plain) × Takes p e o q × BothSound after q }
     ensures needs { (w : World) (p : Plain) → BothSound w p → (choice : ℕ → ℕ) (e : Event) (o : Outcome) (after : World) → step choice w e ≡ Ok (o, after) → NeedsBothAlone w e → Needs choice w p e }
+{}
+
+/// While the mount is live, a held request of a call names its nodes under the generations that the kernel knows, whatever the event: so the server holds
+/// them still as it performs the request.
+pub fn held_stay_known()
+    ensures at_first { HeldKnownWhileLive first_world }
+    ensures always { (w : World) → WorldSound w → RequestsAskedWhileLive w → LinksSound w → NodesKnown w.kernel → HeldKnownWhileLive w → (e : Event) (o : Outcome) (after : World) → Happens w e o after → HeldKnownWhileLive after }
+    ensures still { (w : World) → WorldSound w → HeldKnownWhileLive w → is_live w.kernel.phase ≡ true → (unique : ℕ) (t : HeldRequest) → get w.server.held unique ≡ Some t → (operation : Operation ℕ Opened) → t.body ≡ asks operation →
+        is_still_held w.server.nodes t.generations ≡ true }
 {}
