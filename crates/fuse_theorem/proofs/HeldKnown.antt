@@ -1,29 +1,24 @@
 -- A held request of a call names its nodes under the generations that the kernel knows, whatever happens.
-use Rattle.std.proofs.Common.{◌≡◌, ◌≢◌, ℕ, ◌-◌, Bool, true, false, true≢false, cond, List, [], ◌∷◌, map, Option, Some, None, nat_eq, slice_get, get_or, arith, refl, ap, sym, subst, ◌∙◌, inl, inr, All}
-use Rattle.std.specs.Prelude.{◌%◌}
-use Rattle.std.specs.List.{list_any, list_all, remove as without_at}
+use Rattle.std.proofs.Common.{◌≡◌, ℕ, true, List, [], ◌∷◌, map, Option, Some, None, nat_eq, arith, refl, ap, sym, subst, ◌∙◌, All}
 use Rattle.std.proofs.lemmas.List.Elements.{All-nil, All-cons, All-head, All-tail}
 use Rattle.std.proofs.lemmas.Bool.Decides.{nat_tests}
 use Rattle.fuse_spec.specs.declared.Counted.{Counted}
 use Rattle.fuse_spec.specs.declared.Opened.{Opened}
 use Rattle.fuse_spec.specs.declared.Purpose.{Purpose}
 use Rattle.fuse_spec.specs.declared.Purpose.TheVariants as purpose
-use Rattle.fuse_spec.specs.declared.ReplyResult.{ReplyResult}
-use Rattle.fuse_spec.specs.declared.WriteResult.{WriteResult}
-use Rattle.fuse_spec.specs.declared.WriteResult.TheVariants.{Accepted, NoEntry, Invalid}
-use Rattle.fuse_spec.specs.Maps.{Map, get, put, remove, values}
-use Rattle.fuse_spec.specs.Messages.{RequestBody, Request, init, asks, release, forget, batch_forget, interrupt, WireReply}
-use Rattle.fuse_spec.specs.Operations.{Operation, files_in, files_in_reply, done, failed}
+use Rattle.fuse_spec.specs.Maps.{Map, get}
+use Rattle.fuse_spec.specs.Messages.{RequestBody, asks}
+use Rattle.fuse_spec.specs.Operations.{Operation, files_in}
 use Rattle.fuse_spec.specs.Vfs.{CallState, walking, doing, using, asked}
-use Rattle.fuse_spec.specs.Kernel.{Kernel, is_live, asked_by, body_of, opened_nodes, nodes_of_state}
-use Rattle.fuse_spec.specs.Nodes.{NodeTable, HeldNode, row_of, is_row_of, is_held}
-use Rattle.fuse_spec.specs.Performs.{is_still_held, served}
-use Rattle.fuse_spec.specs.Server.{Server, HeldRequest, generation_in, nodes_of_body, holding}
-use Rattle.fuse_spec.specs.Denotes.{Denotes, generation_known}
+use Rattle.fuse_spec.specs.Kernel.{Kernel, asked_by, body_of, opened_nodes, nodes_of_state}
+use Rattle.fuse_spec.specs.Nodes.{row_of, is_row_of, is_held}
+use Rattle.fuse_spec.specs.Performs.{is_still_held}
+use Rattle.fuse_spec.specs.Server.{HeldRequest, generation_in, nodes_of_body}
+use Rattle.fuse_spec.specs.Denotes.{generation_known}
 use Rattle.fuse_spec.specs.Worlds.{World}
-use Rattle.fuse_theorem.specs.AskedRequests.{IsAsked, RequestsAsked}
+use Rattle.fuse_theorem.specs.AskedRequests.{IsAsked}
 use Rattle.fuse_theorem.specs.Conditions.{KnownAreHeld}
-use Rattle.fuse_theorem.specs.HeldKnown.{HeldKnown, HeldKnownWhileLive}
+use Rattle.fuse_theorem.specs.HeldKnown.{HeldKnown}
 use Rattle.fuse_theorem.specs.KnownNodes.{IsKnown, NodesKnown}
 use Rattle.fuse_theorem.proofs.KnownWalks.{StateKnown}
 use Rattle.fuse_theorem.proofs.NodesKnown.{known_some}

@@ -1,7 +1,7 @@
 -- What the server holds of calls is named as the kernel knows it, whatever the event.
-use Rattle.std.proofs.Common.{◌≡◌, ◌≢◌, ℕ, ◌-◌, Bool, true, false, true≢false, cond, List, [], ◌∷◌, map, Option, Some, None, nat_eq, slice_get, get_or, arith, refl, ap, sym, subst, ◌∙◌, inl, inr, All}
+use Rattle.std.proofs.Common.{◌≡◌, ◌≢◌, ℕ, ◌-◌, Bool, true, false, true≢false, cond, List, [], ◌∷◌, map, Option, Some, None, nat_eq, slice_get, refl, ap, sym, subst, ◌∙◌, inl, inr, All}
 use Rattle.std.specs.Prelude.{◌%◌}
-use Rattle.std.specs.List.{list_any, remove as without_at}
+use Rattle.std.specs.List.{list_any}
 use Rattle.std.proofs.lemmas.List.Elements.{All-nil, All-cons, All-head, All-tail}
 use Rattle.fuse_spec.specs.declared.Counted.{Counted}
 use Rattle.fuse_spec.specs.declared.Opened.{Opened}
@@ -16,12 +16,12 @@ use Rattle.fuse_spec.specs.CallReplies.{call_replied}
 use Rattle.fuse_spec.specs.Copies.{kept_after, after_result}
 use Rattle.fuse_spec.specs.Maps.{Map, get, put, remove}
 use Rattle.fuse_spec.specs.Messages.{RequestBody, Request, init, asks, release, forget, batch_forget, interrupt, WireReply}
-use Rattle.fuse_spec.specs.Operations.{Operation, files_in_reply, done, failed}
+use Rattle.fuse_spec.specs.Operations.{files_in_reply, done, failed}
 use Rattle.fuse_spec.specs.QueueCalls.{waiting, without}
 use Rattle.fuse_spec.specs.Vfs.{CallState, asked, answered}
-use Rattle.fuse_spec.specs.Kernel.{Kernel, is_live, is_pinned, is_bound, kernel_aborted, advanced, after_use, call_begun, call_signalled}
+use Rattle.fuse_spec.specs.Kernel.{Kernel, is_live, is_pinned, is_bound, kernel_aborted, after_use}
 use Rattle.fuse_spec.specs.Performs.{served}
-use Rattle.fuse_spec.specs.Replies.{kernel_reply, learnt, Use, usable, useless, stale, use_of_all, goes_with, is_agreement, judged, replied, replied_to_call, ended_by, reply_taken, odd_taken, interrupt_replied, reply_written}
+use Rattle.fuse_spec.specs.Replies.{kernel_reply, learnt, Use, usable, useless, stale, use_of_all, goes_with, is_agreement, judged, replied, replied_to_call, reply_taken, odd_taken, interrupt_replied, reply_written}
 use Rattle.fuse_spec.specs.Server.{HeldRequest, Kept, Copy, nodes_of_body}
 use Rattle.fuse_spec.specs.Taking.{taking, interrupting}
 use Rattle.fuse_spec.specs.Denotes.{generation_known}
@@ -33,7 +33,7 @@ use Rattle.fuse_theorem.specs.HeldKnown.{HeldKnown, HeldKnownWhileLive}
 use Rattle.fuse_theorem.specs.KnownNodes.{NodesKnown}
 use Rattle.fuse_theorem.specs.Links.{LinksSound}
 use Rattle.fuse_theorem.specs.WorldSound.{WorldSound}
-use Rattle.fuse_theorem.proofs.CountsStay.{SameCounts, advanced_same, used_same, begun_same, signalled_same}
+use Rattle.fuse_theorem.proofs.CountsStay.{advanced_same, used_same, begun_same, signalled_same}
 use Rattle.fuse_theorem.proofs.Evicting.{or_false, known_still}
 use Rattle.fuse_theorem.proofs.Finding.{same_is}
 use Rattle.fuse_theorem.proofs.GoingOn.{begun_goes_on}
@@ -46,7 +46,7 @@ use Rattle.fuse_theorem.proofs.NodesKnown.{All-more}
 use Rattle.fuse_theorem.proofs.NodesSound.{put_found, left_found}
 use Rattle.fuse_theorem.proofs.PerformedRest.{performed_rest}
 use Rattle.fuse_theorem.proofs.Queuing.{All-at}
-use Rattle.fuse_theorem.proofs.UnsentNodes.{each_fails, of_asked}
+use Rattle.fuse_theorem.proofs.UnsentNodes.{of_asked}
 
 -- What the kernel knows it knows still, under the same generation.
 abbrev Grows : Map Counted → Map Counted → Type 0
