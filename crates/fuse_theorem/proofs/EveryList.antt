@@ -11,6 +11,7 @@ use Rattle.fuse_theorem.specs.EachEvent.{CanTake, Needs}
 use Rattle.fuse_theorem.specs.EveryList.{BothSound, ForgetsNothing, NeedsBothAlone}
 use Rattle.fuse_theorem.proofs.EachEvent.{each_moves}
 use Rattle.fuse_theorem.proofs.First.{first_alike}
+use Rattle.fuse_theorem.proofs.HeldStays.{first_held, held_stay_known}
 use Rattle.fuse_theorem.proofs.InterruptsNoted.{interrupt_noted}
 use Rattle.fuse_theorem.proofs.KeptOnLink.{first_kept, kept_stay_sent}
 use Rattle.fuse_theorem.proofs.LinksSound.{first_links, links_stay}
@@ -22,7 +23,7 @@ use Rattle.fuse_theorem.proofs.WorldSound.{first_world_sound, worlds_stay, needs
 use Rattle.fuse_theorem.proofs.WriteNeeds.{write_met}
 
 pub first_both : BothSound first_world first_plain
-first_both = record { alike = first_alike; world = first_world_sound; asked = first_asked; links = first_links; nodes = first_known; kept = first_kept; served = first_served }
+first_both = record { alike = first_alike; world = first_world_sound; asked = first_asked; links = first_links; nodes = first_known; held = first_held; kept = first_kept; served = first_served }
 
 -- An event whose needs hold leads to two that are sound and alike again.
 pub both_move : (w : World) (p : Plain) → BothSound w p → (e : Event) (o : Outcome) (after : World) → (h : Happens w e o after) → Needs h.0 w p e → (q : Plain) × Takes p e o q × BothSound after q
@@ -36,6 +37,7 @@ both_move w p both e o after h needs =
         asked = requests_stay_asked w both.world both.asked e o after h;
         links = links_stay w both.world both.asked both.links e o after h;
         nodes = nodes_stay_known w both.world both.nodes e o after h;
+        held = held_stay_known w both.world both.asked both.links both.nodes both.held e o after h;
         kept = kept_stay_sent w both.world both.kept e o after h;
         served = asks_stay_served p both.served e o moves.0 moves.1;
       },

@@ -9,6 +9,7 @@ use Rattle.fuse_spec.specs.Alike.{Alike}
 use Rattle.fuse_theorem.specs.AskedRequests.{RequestsAskedWhileLive}
 use Rattle.fuse_theorem.specs.AsksServed.{AsksServed}
 use Rattle.fuse_theorem.specs.Copies.{KeptAreSent}
+use Rattle.fuse_theorem.specs.HeldKnown.{HeldKnownWhileLive}
 use Rattle.fuse_theorem.specs.KnownNodes.{NodesKnown}
 use Rattle.fuse_theorem.specs.Links.{LinksSound}
 use Rattle.fuse_theorem.specs.WorldSound.{WorldSound}
@@ -20,6 +21,7 @@ pub record BothSound (w : World) (p : Plain) : Type 0 where
   pub asked : RequestsAskedWhileLive w
   pub links : LinksSound w
   pub nodes : NodesKnown w.kernel
+  pub held : HeldKnownWhileLive w
   pub kept : KeptAreSent w
   pub served : AsksServed p
 
