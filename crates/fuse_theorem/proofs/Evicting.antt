@@ -31,7 +31,7 @@ or_false true b e = absurd (true≢false e)
 or_false false b e = (refl, e)
 
 -- what no element passes, none of them is
-not_among : (node : ℕ) (xs : List ℕ) (id : ℕ) → list_any (nat_eq node) xs ≡ false → Contains xs id → id ≢ node
+pub not_among : (node : ℕ) (xs : List ℕ) (id : ℕ) → list_any (nat_eq node) xs ≡ false → Contains xs id → id ≢ node
 not_among node [] id none at = absurd (let lt = at.1 in omega (arith, lt))
 not_among node (y ∷ xs) id none (zero, lt, is) = λ e.
     let here : nat_eq node y ≡ true = subst (λ (n : ℕ). nat_eq node n ≡ true) (sym (is ∙ e)) (same_is node) in
@@ -39,7 +39,7 @@ not_among node (y ∷ xs) id none (zero, lt, is) = λ e.
 not_among node (y ∷ xs) id none (suc k, lt, is) = not_among node xs id (or_false (nat_eq node y) (list_any (nat_eq node) xs) none).1 (k, omega (arith, lt), is)
 
 -- what is found fails a test that nothing passes
-found_fails : {X : Type 0} (test : X → Bool) (m : Map X) (k : ℕ) (x : X) → list_any test (values m) ≡ false → get m k ≡ Some x → test x ≡ false
+pub found_fails : {X : Type 0} (test : X → Bool) (m : Map X) (k : ℕ) (x : X) → list_any test (values m) ≡ false → get m k ≡ Some x → test x ≡ false
 found_fails test m k x none at = by (test x) refl
   where
     by : (b : Bool) → test x ≡ b → test x ≡ false
@@ -50,7 +50,7 @@ found_fails test m k x none at = by (test x) refl
 abbrev Uses : ℕ → (ℕ × List ℕ) × Binding → Bool
 Uses node e = nat_eq e.0.0 node || leads_to node e.1.target
 
-unbound : (node : ℕ) (names : NameMap Binding) (id : ℕ) (name : List ℕ) (bound : Binding) → list_any (Uses node) names ≡ false → get_name names (id, name) ≡ Some bound → (id ≢ node) × (leads_to node bound.target ≡ false)
+pub unbound : (node : ℕ) (names : NameMap Binding) (id : ℕ) (name : List ℕ) (bound : Binding) → list_any (Uses node) names ≡ false → get_name names (id, name) ≡ Some bound → (id ≢ node) × (leads_to node bound.target ≡ false)
 unbound node [] id name bound none at = absurd (cc)
 unbound node (e ∷ names) id name bound none at = by (is_eq (place_cmp (id, name) e.0)) refl at (λ f. unbound node names id name bound (or_false (Uses node e) (list_any (Uses node) names) none).1 f)
   where
@@ -71,7 +71,7 @@ unbound node (e ∷ names) id name bound none at = by (is_eq (place_cmp (id, nam
     by false tie f rest = rest f
 
 -- a target that a binding leads to is not the node
-not_target : (node : ℕ) (o : Option ℕ) (target : ℕ) → leads_to node o ≡ false → o ≡ Some target → target ≢ node
+pub not_target : (node : ℕ) (o : Option ℕ) (target : ℕ) → leads_to node o ≡ false → o ≡ Some target → target ≢ node
 not_target node None target none is = absurd (cc)
 not_target node (Some x) target none is = λ e.
     let same : x ≡ target = cc in
@@ -88,7 +88,7 @@ module _ (nodes : Map Counted) (node : ℕ) where
       by false true o f = absurd (cc)
       by false false o f = f
 
-  known_still : (id generation : ℕ) → id ≢ node → generation_known nodes id ≡ Some generation → generation_known (remove nodes node) id ≡ Some generation
+  pub known_still : (id generation : ℕ) → id ≢ node → generation_known nodes id ≡ Some generation → generation_known (remove nodes node) id ≡ Some generation
   known_still id generation ne e = ap (λ (o : Option Counted). cond (nat_eq id 1) (Some 0) (option_map (λ (c : Counted). c.generation) o)) (get_gone_there nodes node id ne) ∙ e
 
 module _ (w : World) (p : Plain) (same : Alike w p) (node : ℕ) (root : w.kernel.vfs.root ≡ 1) (unpinned : is_pinned w.kernel node ≡ false) (free : is_bound w.kernel node ≡ false) (unsent : IsUnsent w node) where

@@ -37,20 +37,20 @@ use Rattle.fuse_theorem.proofs.Noting.{noted_alike, flagged_alike, interrupted_a
 use Rattle.fuse_theorem.proofs.Writing.{used_alike}
 
 -- a request that serves a call
-serves_call : (call : ℕ) (kept : Purpose) → is_for call kept ≡ true → kept ≡ purpose.Call call
+pub serves_call : (call : ℕ) (kept : Purpose) → is_for call kept ≡ true → kept ≡ purpose.Call call
 serves_call call purpose.Init e = absurd (true≢false (sym e))
 serves_call call (purpose.Release o) e = absurd (true≢false (sym e))
 serves_call call (purpose.Call other) e = elim (cases_eq other call) [ inl same ↦ ap (λ (n : ℕ). purpose.Call n) same | inr ne ↦ absurd (true≢false (sym e ∙ other_is other call ne)) ]
 
 -- what a signal can do, by the mark
-dequeues_unread : (m : Mark) (fatal off : Bool) → signal_effect m fatal off ≡ Dequeued → is_unread m ≡ true
+pub dequeues_unread : (m : Mark) (fatal off : Bool) → signal_effect m fatal off ≡ Dequeued → is_unread m ≡ true
 dequeues_unread mark.Unread fatal off e = refl
 dequeues_unread mark.Flagged fatal off e = refl
 dequeues_unread mark.Read fatal true e = absurd (cc)
 dequeues_unread mark.Read fatal false e = absurd (cc)
 dequeues_unread mark.Interrupted fatal off e = absurd (cc)
 
-flags_unread : (m : Mark) (fatal off : Bool) → signal_effect m fatal off ≡ Flagged → is_unread m ≡ true
+pub flags_unread : (m : Mark) (fatal off : Bool) → signal_effect m fatal off ≡ Flagged → is_unread m ≡ true
 flags_unread mark.Unread fatal off e = refl
 flags_unread mark.Flagged fatal off e = refl
 flags_unread mark.Read fatal true e = absurd (cc)

@@ -10,3 +10,9 @@ pub mod Unperformed
 pub mod WorldSound
 pub mod PlainCalls
 pub mod PlainWords
+pub mod AskedRequests
+pub mod Links
+pub mod AsksServed
+pub mod KnownNodes
+pub mod EveryList
+pub mod HeldKnown

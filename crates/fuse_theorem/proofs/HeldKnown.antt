@@ -1,0 +1,82 @@
+-- A held request of a call names its nodes under the generations that the kernel knows, whatever happens.
+use Rattle.std.proofs.Common.{◌≡◌, ℕ, true, List, [], ◌∷◌, map, Option, Some, None, nat_eq, arith, refl, ap, sym, subst, ◌∙◌, All}
+use Rattle.std.proofs.lemmas.List.Elements.{All-nil, All-cons, All-head, All-tail}
+use Rattle.std.proofs.lemmas.Bool.Decides.{nat_tests}
+use Rattle.fuse_spec.specs.declared.Counted.{Counted}
+use Rattle.fuse_spec.specs.declared.Opened.{Opened}
+use Rattle.fuse_spec.specs.declared.Purpose.{Purpose}
+use Rattle.fuse_spec.specs.declared.Purpose.TheVariants as purpose
+use Rattle.fuse_spec.specs.Maps.{Map, get}
+use Rattle.fuse_spec.specs.Messages.{RequestBody, asks}
+use Rattle.fuse_spec.specs.Operations.{Operation, files_in}
+use Rattle.fuse_spec.specs.Vfs.{CallState, walking, doing, using, asked}
+use Rattle.fuse_spec.specs.Kernel.{Kernel, asked_by, body_of, opened_nodes, nodes_of_state}
+use Rattle.fuse_spec.specs.Nodes.{row_of, is_row_of, is_held}
+use Rattle.fuse_spec.specs.Performs.{is_still_held}
+use Rattle.fuse_spec.specs.Server.{HeldRequest, generation_in, nodes_of_body}
+use Rattle.fuse_spec.specs.Denotes.{generation_known}
+use Rattle.fuse_spec.specs.Worlds.{World}
+use Rattle.fuse_theorem.specs.AskedRequests.{IsAsked}
+use Rattle.fuse_theorem.specs.Conditions.{KnownAreHeld}
+use Rattle.fuse_theorem.specs.HeldKnown.{HeldKnown}
+use Rattle.fuse_theorem.specs.KnownNodes.{IsKnown, NodesKnown}
+use Rattle.fuse_theorem.proofs.KnownWalks.{StateKnown}
+use Rattle.fuse_theorem.proofs.NodesKnown.{known_some}
+use Rattle.fuse_theorem.proofs.Values.{All-get}
+
+-- What a request of a call names is known.
+state_names : (nodes : Map Counted) (state : CallState Opened) → All (IsKnown nodes) (nodes_of_state state) → All (IsKnown nodes) (files_in opened_nodes (asked state))
+state_names nodes (walking d word words plan) h = All-cons (IsKnown nodes) d [] (All-head (IsKnown nodes) d _ h) (All-nil (IsKnown nodes))
+state_names nodes (doing operation) h = h
+state_names nodes (using handle operation) h = h
+
+names_known : (k : Kernel) → NodesKnown k → (unique : ℕ) (operation : Operation ℕ Opened) → IsAsked k unique (asks operation) → All (IsKnown k.nodes) (files_in opened_nodes operation)
+names_known k known unique operation is = by is.request.kept is.asks
+  where
+    of_call : (o : Option (CallState Opened)) (call : ℕ) → get k.vfs.calls call ≡ o → asked_by o ≡ Some (asks operation) → All (IsKnown k.nodes) (files_in opened_nodes operation)
+    of_call None call at e = absurd (cc)
+    of_call (Some state) call at e =
+        let same : asked state ≡ operation = cc (e) in
+        subst (λ (x : Operation ℕ Opened). All (IsKnown k.nodes) (files_in opened_nodes x)) same (state_names k.nodes state (All-get (StateKnown k.nodes) k.vfs.calls call state known.calls at))
+
+    by : (kept : Purpose) → body_of k kept ≡ Some (asks operation) → All (IsKnown k.nodes) (files_in opened_nodes operation)
+    by purpose.Init e = absurd (cc)
+    by (purpose.Release o) e = absurd (cc)
+    by (purpose.Call call) e = of_call (get k.vfs.calls call) call refl e
+
+-- The generations of nodes that the kernel knows are its own.
+taken_known : (w : World) → KnownAreHeld w → (ids : List ℕ) → All (IsKnown w.kernel.nodes) ids → All (λ (g : ℕ × ℕ). generation_known w.kernel.nodes g.0 ≡ Some g.1) (map (λ (id : ℕ). (id, generation_in (row_of w.server.nodes id))) ids)
+taken_known w held [] h = All-nil (λ (g : ℕ × ℕ). generation_known w.kernel.nodes g.0 ≡ Some g.1)
+taken_known w held (id ∷ ids) h =
+    All-cons (λ (g : ℕ × ℕ). generation_known w.kernel.nodes g.0 ≡ Some g.1) (id, generation_in (row_of w.server.nodes id)) (map (λ (x : ℕ). (x, generation_in (row_of w.server.nodes x))) ids) same
+    (taken_known w held ids (All-tail (IsKnown w.kernel.nodes) id ids h))
+  where
+    same : generation_known w.kernel.nodes id ≡ Some (generation_in (row_of w.server.nodes id))
+    same =
+        let some = known_some w.kernel.nodes id (All-head (IsKnown w.kernel.nodes) id ids h) in
+        let row = (held id some.0 some.1).1 in
+        let is : generation_in (row_of w.server.nodes id) ≡ some.0 = ap generation_in row.there ∙ row.same_generation in
+        some.1 ∙ ap (λ (n : ℕ). Some n) (sym is)
+
+named_ids : (f : ℕ → ℕ) (ids : List ℕ) → map (λ (g : ℕ × ℕ). g.0) (map (λ (id : ℕ). (id, f id)) ids) ≡ ids
+named_ids f [] = refl
+named_ids f (id ∷ ids) = ap (λ (xs : List ℕ). id ∷ xs) (named_ids f ids)
+
+-- A request that the server takes is held so.
+pub taken_held : (w : World) → KnownAreHeld w → NodesKnown w.kernel → (unique : ℕ) (body : RequestBody) → IsAsked w.kernel unique body → (t : HeldRequest) → t.body ≡ body → t.generations ≡ map (λ (id : ℕ). (id, generation_in (row_of w.server.nodes id))) (nodes_of_body body) → HeldKnown w t
+taken_held w held known unique body is t body_is generations_are = record {
+  names = ap (map (λ (g : ℕ × ℕ). g.0)) generations_are ∙ named_ids (λ id. generation_in (row_of w.server.nodes id)) (nodes_of_body body) ∙ ap nodes_of_body (sym body_is);
+  known = λ operation says.
+      let asks_is : body ≡ asks operation = sym body_is ∙ says in
+      subst (All (λ (g : ℕ × ℕ). generation_known w.kernel.nodes g.0 ≡ Some g.1)) (sym generations_are)
+      (taken_known w held (nodes_of_body body) (subst (λ (b : RequestBody). All (IsKnown w.kernel.nodes) (nodes_of_body b)) (sym asks_is) (names_known w.kernel known unique operation (subst (IsAsked w.kernel unique) asks_is is))));
+}
+
+-- So its nodes are held still.
+pub still_held : (w : World) → KnownAreHeld w → (gs : List (ℕ × ℕ)) → All (λ (g : ℕ × ℕ). generation_known w.kernel.nodes g.0 ≡ Some g.1) gs → is_still_held w.server.nodes gs ≡ true
+still_held w held [] h = refl
+still_held w held (g ∷ gs) h =
+    let row = (held g.0 g.1 (All-head (λ (x : ℕ × ℕ). generation_known w.kernel.nodes x.0 ≡ Some x.1) g gs h)).1 in
+    let is : nat_eq row.row.generation g.1 ≡ true = grind (arith, nat_tests, row.same_generation) in
+    let here : is_held w.server.nodes g.0 g.1 ≡ true = ap (is_row_of g.1) row.there ∙ is in
+    rw here (still_held w held gs (All-tail (λ (x : ℕ × ℕ). generation_known w.kernel.nodes x.0 ≡ Some x.1) g gs h))

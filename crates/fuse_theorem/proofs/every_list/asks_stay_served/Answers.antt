@@ -1,0 +1,12 @@
+use Rattle.fuse_theorem.proofs.PlainAsks.{asks_stay_served, first_served}
+use Rattle.fuse_theorem.proofs.WriteNeeds.{write_met}
+use Rattle.fuse_theorem.proofs.every_list.asks_stay_served.Goals as goal
+
+pub returns-clause-at_first : goal.returns-clause-at_first
+returns-clause-at_first g = first_served
+
+pub returns-clause-always : goal.returns-clause-always
+returns-clause-always g = λ p old e o q takes. asks_stay_served p old e o q takes
+
+pub returns-clause-write : goal.returns-clause-write
+returns-clause-write g = λ w p sound asked links served same choice k. write_met choice w p sound asked links served same k

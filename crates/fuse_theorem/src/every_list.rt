@@ -1,0 +1,75 @@
+//! What holds of every world to which a list of events leads, and what single events need that follows from it. Each law says that the
+//! first world has it and that each event keeps it.
+
+ghost use Rattle.std.specs.Prelude.{◌≡◌, ℕ, Ok, Some, slice_get, true};
+ghost use Rattle.fuse_spec.specs.Kernel.{is_live};
+ghost use Rattle.fuse_spec.specs.Maps.{get};
+ghost use Rattle.fuse_spec.specs.Operations.{Operation};
+ghost use Rattle.fuse_spec.specs.Performs.{is_still_held};
+ghost use Rattle.fuse_spec.specs.Server.{HeldRequest};
+ghost use Rattle.fuse_spec.specs.declared.Opened.{Opened};
+ghost use Rattle.fuse_spec.specs.Alike.{Alike};
+ghost use Rattle.fuse_spec.specs.Messages.{Request, asks, interrupt};
+ghost use Rattle.fuse_theorem.specs.Conditions.{IsInterrupt};
+ghost use Rattle.fuse_theorem.specs.Links.{LinksSound};
+ghost use Rattle.fuse_spec.specs.Events as event;
+ghost use Rattle.fuse_spec.specs.Events.{Event, Outcome};
+ghost use Rattle.fuse_spec.specs.Plain.{Plain, first_plain};
+ghost use Rattle.fuse_spec.specs.PlainSteps.{Takes};
+ghost use Rattle.fuse_spec.specs.Steps.{Happens, step};
+ghost use Rattle.fuse_spec.specs.Worlds.{World, first_world};
+ghost use Rattle.fuse_theorem.specs.AskedRequests.{RequestsAskedWhileLive};
+ghost use Rattle.fuse_theorem.specs.AsksServed.{AsksServed};
+ghost use Rattle.fuse_theorem.specs.EachEvent.{Needs};
+ghost use Rattle.fuse_theorem.specs.EveryList.{BothSound, NeedsBothAlone};
+ghost use Rattle.fuse_theorem.specs.HeldKnown.{HeldKnownWhileLive};
+ghost use Rattle.fuse_theorem.specs.KnownNodes.{NodesKnown};
+ghost use Rattle.fuse_theorem.specs.WorldSound.{WorldSound};
+
+/// What is on the request link or held is what the kernel asks, under the same number, while the mount is live and whatever the event; what bears an
+/// INTERRUPT was signalled. So no request on the link names a node that is evicted.
+pub fn requests_stay_asked()
+    ensures at_first { RequestsAskedWhileLive first_world }
+    ensures always { (w : World) → WorldSound w → RequestsAskedWhileLive w → (e : Event) (o : Outcome) (after : World) → Happens w e o after → RequestsAskedWhileLive after }
+    ensures evict { (w : World) → WorldSound w → RequestsAskedWhileLive w → (choice : ℕ → ℕ) (p : Plain) (node : ℕ) (o : Outcome) (after : World) → step choice w (event.evict node) ≡ Ok (o, after) → Needs choice w p (event.evict node) }
+{}
+
+/// While no mount is live, the links are empty, whatever the event; a live one has INIT answered 7.31, so that it stays live until it is aborted. An
+/// INTERRUPT that is taken bears its original's number and one, and a signal was noted on its ask.
+pub fn links_stay_sound()
+    ensures at_first { LinksSound first_world }
+    ensures always { (w : World) → WorldSound w → RequestsAskedWhileLive w → LinksSound w → (e : Event) (o : Outcome) (after : World) → Happens w e o after → LinksSound after }
+    ensures interrupt { (w : World) (p : Plain) → WorldSound w → RequestsAskedWhileLive w → LinksSound w → Alike w p → (k : ℕ) (r : Request) (original : ℕ) → slice_get w.requests k ≡ Some r → r.body ≡ interrupt original → IsInterrupt w p k r original }
+{}
+
+/// What the plain world performs is replied to as its operation asks, and a signal is noted on what it declines, whatever step it takes. So any copy
+/// that the kernel takes says what its request's ask came to.
+pub fn asks_stay_served()
+    ensures at_first { AsksServed first_plain }
+    ensures always { (p : Plain) → AsksServed p → (e : Event) (o : Outcome) (q : Plain) → Takes p e o q → AsksServed q }
+    ensures write { (w : World) (p : Plain) → WorldSound w → RequestsAskedWhileLive w → LinksSound w → AsksServed p → Alike w p → (choice : ℕ → ℕ) (k : ℕ) → Needs choice w p (event.write k) }
+{}
+
+/// The kernel knows each node that an unanswered call stands on or names, that an open file is of, or that a name in force stands in or leads to,
+/// whatever the event: it counts it, or it is the root.
+pub fn nodes_stay_known()
+    ensures at_first { NodesKnown first_world.kernel }
+    ensures always { (w : World) → WorldSound w → NodesKnown w.kernel → (e : Event) (o : Outcome) (after : World) → Happens w e o after → NodesKnown after.kernel }
+{}
+
+/// All of that together: at first the world and the plain world are alike and sound. An event whose needs hold takes the plain world a step, and the two
+/// are alike and sound again. Those needs hold of every event but the taking of forgets, the performing of a request, and the settling of a copy.
+pub fn both_stay_sound()
+    ensures at_first { BothSound first_world first_plain }
+    ensures always { (w : World) (p : Plain) → BothSound w p → (e : Event) (o : Outcome) (after : World) → (h : Happens w e o after) → Needs h.0 w p e → (q : Plain) × Takes p e o q × BothSound after q }
+    ensures needs { (w : World) (p : Plain) → BothSound w p → (choice : ℕ → ℕ) (e : Event) (o : Outcome) (after : World) → step choice w e ≡ Ok (o, after) → NeedsBothAlone w e → Needs choice w p e }
+{}
+
+/// While the mount is live, a held request of a call names its nodes under the generations that the kernel knows, whatever the event: so the server holds
+/// them still as it performs the request.
+pub fn held_stay_known()
+    ensures at_first { HeldKnownWhileLive first_world }
+    ensures always { (w : World) → WorldSound w → RequestsAskedWhileLive w → LinksSound w → NodesKnown w.kernel → HeldKnownWhileLive w → (e : Event) (o : Outcome) (after : World) → Happens w e o after → HeldKnownWhileLive after }
+    ensures still { (w : World) → WorldSound w → HeldKnownWhileLive w → is_live w.kernel.phase ≡ true → (unique : ℕ) (t : HeldRequest) → get w.server.held unique ≡ Some t → (operation : Operation ℕ Opened) → t.body ≡ asks operation →
+        is_still_held w.server.nodes t.generations ≡ true }
+{}
