@@ -102,6 +102,8 @@ pub mod FirstPath
 pub mod FirstAnswered
 pub mod FirstAnswers
 pub mod AnsweredOnce
+pub mod AnswerSteps
+pub mod AnswersStay
 pub mod FirstRuns
 pub mod Fresh
 pub mod EachEvent
