@@ -1,5 +1,5 @@
 -- No call becomes both unanswered and answered, and a call whose answer was collected stays so, whatever happens.
-use Rattle.std.proofs.Common.{◌≡◌, ◌≢◌, ℕ, ◌+◌, ◌-◌, ◌≤◌, ◌<◌, Bool, true, false, cond, [], ◌∷◌, Option, Some, None, Ok, nat_eq, is_some, refl, ap, sym, subst, ◌∙◌, arith, inl, inr}
+use Rattle.std.proofs.Common.{◌≡◌, ◌≢◌, ℕ, ◌+◌, ◌-◌, ◌≤◌, ◌<◌, Bool, true, false, cond, [], ◌∷◌, Option, Some, None, nat_eq, refl, ap, sym, subst, ◌∙◌, arith, inl, inr}
 use Rattle.std.specs.Prelude.{◌%◌, nat_lt}
 use Rattle.std.specs.Ordering.{nat_cmp, eq_by_cmp}
 use Rattle.std.specs.List.{remove as without_at}
@@ -31,7 +31,7 @@ use Rattle.fuse_spec.specs.Records.{collected}
 use Rattle.fuse_spec.specs.Steps.{Happens}
 use Rattle.fuse_spec.proofs.Tables.{get_put}
 use Rattle.fuse_theorem.specs.AnswersSound.{AnswersSound}
-use Rattle.fuse_theorem.proofs.AnswerSteps.{StepsAlone, GoesOn, answered_goes_on, begun_steps, replied_goes_on}
+use Rattle.fuse_theorem.proofs.AnswerSteps.{ChangesOnly, ChangesCall, answered_changes, begun_changes, replied_changes}
 use Rattle.fuse_theorem.proofs.FirstWorlds.{IsCollected}
 use Rattle.fuse_theorem.proofs.Happened.{Happened, by_mount, by_call, by_read_interrupt, by_read_forgets, by_read_pending, by_take, by_perform, by_again, by_write, by_settle, by_signal, by_tick, by_drop, by_evict, by_abort, happened}
 
@@ -47,7 +47,7 @@ module _ (c : Vfs Opened) (sound : AnswersSound c) where
   as_they_were = record { sound = sound; still_collected = λ call before. before }
 
   -- One call takes a step, which is not one whose answer was collected.
-  stepped : (coming call : ℕ) (d : Vfs Opened) → StepsAlone c.calls c.answers coming call d → call < coming → c.next_call ≤ coming → get c.answers call ≡ None → ((q : ℕ) → IsCollected c q → q ≢ call) → CallsStay c d
+  stepped : (coming call : ℕ) (d : Vfs Opened) → ChangesOnly c.calls c.answers coming call d → call < coming → c.next_call ≤ coming → get c.answers call ≡ None → ((q : ℕ) → IsCollected c q → q ≢ call) → CallsStay c d
   stepped coming call d alone low later none apart = record {
     sound = record {
       one = λ q a at. elim (cases_eq q call) [
@@ -73,11 +73,11 @@ module _ (c : Vfs Opened) (sound : AnswersSound c) where
 
   begins : (aborted : Bool) (call : Call) → CallsStay c (begun aborted c call).vfs
   begins aborted call =
-      stepped (c.next_call + 1) c.next_call (begun aborted c call).vfs (begun_steps aborted c call) (omega arith) (omega arith) (sound.answers_below c.next_call (omega arith))
+      stepped (c.next_call + 1) c.next_call (begun aborted c call).vfs (begun_changes aborted c call) (omega arith) (omega arith) (sound.answers_below c.next_call (omega arith))
       (λ q before e. let low = before.begun in absurd (omega (arith, low, e)))
 
-  goes_on : (call : ℕ) (state : CallState Opened) → get c.calls call ≡ Some state → (d : Vfs Opened) → GoesOn c call d → CallsStay c d
-  goes_on call state there d alone =
+  call_changes : (call : ℕ) (state : CallState Opened) → get c.calls call ≡ Some state → (d : Vfs Opened) → ChangesCall c call d → CallsStay c d
+  call_changes call state there d alone =
       stepped c.next_call call d alone (low (nat_lt call c.next_call) refl) (omega arith) (unanswered (get c.answers call) refl)
       (λ q before e. absurd (cc (there, subst (λ (n : ℕ). get c.calls n ≡ None) e before.not_waiting)))
     where
@@ -143,15 +143,15 @@ module _ (k : Kernel) (sound : AnswersSound k.vfs) where
       subst (λ (d : Vfs Opened). CallsStay k.vfs d) (sym (closing_vfs asking (cond (is_aborted k.phase) None (closed_by k.vfs.opens call)) ∙ advanced_vfs k k.vfs.next_call next)) (begins k.vfs sound (is_aborted k.phase) call)
 
   -- A call is answered, and then its file released.
-  used_after : (call : ℕ) (state : CallState Opened) → get k.vfs.calls call ≡ Some state → (q : Kernel) → GoesOn k.vfs call q.vfs → CallsStay k.vfs (after_use q state).vfs
-  used_after call state there q alone = subst (λ (d : Vfs Opened). CallsStay k.vfs d) (sym (used_vfs q state)) (goes_on k.vfs sound call state there q.vfs alone)
+  used_after : (call : ℕ) (state : CallState Opened) → get k.vfs.calls call ≡ Some state → (q : Kernel) → ChangesCall k.vfs call q.vfs → CallsStay k.vfs (after_use q state).vfs
+  used_after call state there q alone = subst (λ (d : Vfs Opened). CallsStay k.vfs d) (sym (used_vfs q state)) (call_changes k.vfs sound call state there q.vfs alone)
 
   -- A signal reaches a call.
   call_signals : (call : ℕ) (state : CallState Opened) (fatal : Bool) → get k.vfs.calls call ≡ Some state → CallsStay k.vfs (call_signalled k call state fatal).1.vfs
   call_signals call state fatal there = by (request_of k call)
     where
       effect : (unique : ℕ) (x : IntrEffect) → CallsStay k.vfs (after_signal (record k { queues = after_interrupt k.queues unique fatal }) call state x).vfs
-      effect unique Dequeued = used_after call state there (record k { queues = after_interrupt k.queues unique fatal; vfs = answered k.vfs call (answer.failed 4) }) (answered_goes_on k.vfs call (answer.failed 4))
+      effect unique Dequeued = used_after call state there (record k { queues = after_interrupt k.queues unique fatal; vfs = answered k.vfs call (answer.failed 4) }) (answered_changes k.vfs call (answer.failed 4))
       effect unique Flagged = as_they_were k.vfs sound
       effect unique Queued = as_they_were k.vfs sound
       effect unique NoEffect = as_they_were k.vfs sound
@@ -160,12 +160,12 @@ module _ (k : Kernel) (sound : AnswersSound k.vfs) where
       by None = as_they_were k.vfs sound
       by (Some unique) = effect unique (interrupt_effect k.queues unique fatal)
 
-  judged_goes_on : (call : ℕ) (state : CallState Opened) (wire : WireReply) (u : Use) → GoesOn k.vfs call (judged k call state wire u).vfs
-  judged_goes_on call state wire usable =
+  judged_changes : (call : ℕ) (state : CallState Opened) (wire : WireReply) (u : Use) → ChangesCall k.vfs call (judged k call state wire u).vfs
+  judged_changes call state wire usable =
       let next = call_replied k.vfs call state (kernel_reply (asked state) wire) in
-      subst (λ (d : Vfs Opened). GoesOn k.vfs call d) (sym (advanced_vfs (record k { nodes = learnt k.nodes (files_in_reply wire) }) call next)) (replied_goes_on k.vfs call state (kernel_reply (asked state) wire))
-  judged_goes_on call state wire useless = answered_goes_on k.vfs call (answer.failed 5)
-  judged_goes_on call state wire (stale node) = answered_goes_on k.vfs call (answer.failed 5)
+      subst (λ (d : Vfs Opened). ChangesCall k.vfs call d) (sym (advanced_vfs (record k { nodes = learnt k.nodes (files_in_reply wire) }) call next)) (replied_changes k.vfs call state (kernel_reply (asked state) wire))
+  judged_changes call state wire useless = answered_changes k.vfs call (answer.failed 5)
+  judged_changes call state wire (stale node) = answered_changes k.vfs call (answer.failed 5)
 
   -- A reply reaches a call.
   call_hears : (call : ℕ) (wire : WireReply) (o : Option (CallState Opened)) → get k.vfs.calls call ≡ o → CallsStay k.vfs (replied_to_call k call wire o).1.vfs
@@ -173,8 +173,8 @@ module _ (k : Kernel) (sound : AnswersSound k.vfs) where
   call_hears call wire (Some state) there = by (goes_with (asked state) wire)
     where
       by : (b : Bool) → CallsStay k.vfs (replied k call state b wire).1.vfs
-      by true = let u = use_of_all k.nodes (files_in_reply wire) in used_after call state there (judged k call state wire u) (judged_goes_on call state wire u)
-      by false = used_after call state there (record k { vfs = answered k.vfs call (answer.failed 5) }) (answered_goes_on k.vfs call (answer.failed 5))
+      by true = let u = use_of_all k.nodes (files_in_reply wire) in used_after call state there (judged k call state wire u) (judged_changes call state wire u)
+      by false = used_after call state there (record k { vfs = answered k.vfs call (answer.failed 5) }) (answered_changes k.vfs call (answer.failed 5))
 
 -- A reply is written.
 reply_hears : (k : Kernel) → AnswersSound k.vfs → (unique : ℕ) (wire : WireReply) → CallsStay k.vfs (reply_written k unique wire).1.vfs
