@@ -102,6 +102,10 @@ pub mod FirstPath
 pub mod FirstAnswered
 pub mod FirstAnswers
 pub mod AnsweredOnce
+pub mod AnswerSteps
+pub mod AnswersStay
+pub mod AnswersApart
+pub mod EachAnsweredOnce
 pub mod FirstRuns
 pub mod Fresh
 pub mod EachEvent

@@ -6,6 +6,7 @@ pub mod Conditions
 pub mod FirstPath
 pub mod EachEvent
 pub mod FirstWorld
+pub mod AnswersSound
 pub mod Unperformed
 pub mod WorldSound
 pub mod PlainCalls

@@ -54,6 +54,10 @@ ghost use Rattle.fuse_theorem.specs.Lookups.{LookupsSound};
 ghost use Rattle.fuse_theorem.specs.Unperformed.{StandsOnce, RequestsSound};
 ghost use Rattle.fuse_theorem.specs.WorldSound.{WorldSound, NeedsNoMore};
 ghost use Rattle.fuse_theorem.specs.Conditions.{OneId, KnownAreHeld, TablesSound, CanPerform, CanDecline, CanRelease, IsReply, IsDeclined, UnreadAreUnsent, HoldsAll, HoldsOpens, IsInterrupt, IsUnsent, awaiting};
+ghost use Rattle.fuse_spec.specs.Records.{Record, collected};
+ghost use Rattle.fuse_spec.specs.Runs.{AnswersOnce};
+ghost use Rattle.fuse_theorem.specs.FirstPath.{Recorded};
+ghost use Rattle.fuse_theorem.specs.AnswersSound.{AnswersSound};
 
 /// The world before its first mount is alike to the plain world with the root alone.
 pub fn first_worlds()
@@ -321,4 +325,14 @@ pub fn mounted_is_sound()
 pub fn aborted_is_sound()
     ensures { (w : World) → OneId w.server.nodes → TablesSound w.server →
         IsNumbered (after_abort w) × OneId (after_abort w).server.nodes × KnownAreHeld (after_abort w) × TablesSound (after_abort w).server }
+{}
+
+/// Each call is answered at most once, whatever the events: no call is both unanswered and answered at first, every event and the collecting of
+/// the answers keep it so, and a call whose answer was collected is never answered again.
+pub fn each_call_answered_once()
+    ensures at_first { AnswersSound first_world.kernel.vfs }
+    ensures always { (w : World) → AnswersSound w.kernel.vfs → (e : Event) (o : Outcome) (after : World) → Happens w e o after → AnswersSound after.kernel.vfs }
+    ensures collecting { (w : World) → AnswersSound w.kernel.vfs → AnswersSound (collected w).kernel.vfs }
+    ensures once { (w : World) → IsRooted w.kernel.vfs → AnswersSound w.kernel.vfs → (events : List Event) (records : List Record) (after : World) → Recorded w events records after → AnswersOnce records }
+    ensures from_first { (events : List Event) (records : List Record) (after : World) → Recorded first_world events records after → AnswersOnce records }
 {}
