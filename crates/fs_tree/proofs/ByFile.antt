@@ -78,7 +78,6 @@ AreByFile-undone parents put after names file serial directory is_put is below b
     by k true = put-undone (parents k) serial directory (below k)
     by k false = refl
 
-
 -- a name taken away
 pub AreByFile-removed : (parents after : ℕ → List (ℕ × ℕ)) (low next : ℕ) (names : List Named) (n : Named) (serial : ℕ)
     → ((k : ℕ) → after k ≡ cond (nat_eq n.file k) (filter (λ e. not (nat_eq e.0 serial)) (parents k)) (parents k))

@@ -28,8 +28,8 @@ loop-serial-preserved g c =
 
 pub returns : goal.returns
 returns g c = elim c.match-next.branch [
-    | in-None w ↦ sym (append-nil (map dirent_of c.loop-serial.records.items)) ∙ rw w.in-None.ensures.steps.0 at c.loop-serial.invariant
-    | in-Some+then-len-room w ↦
+  | in-None w ↦ sym (append-nil (map dirent_of c.loop-serial.records.items)) ∙ rw w.in-None.ensures.steps.0 at c.loop-serial.invariant
+  | in-Some+then-len-room w ↦
       let files = c.args.files.now.contents in
       let r : Dirent = dirent_in files (in_directory 0 (entry_of (w.in-Some.serial.now, w.in-Some.leaf.now))) in
       let rest = map (dirent_in files) (map (in_directory 0) (map entry_of c.next.new.self)) in
@@ -37,4 +37,4 @@ returns g c = elim c.match-next.branch [
       let fails = over w.record_len-len.result c.loop-serial.room w.if-len-room.true in
       let done = rw w.in-Some.ensures.steps at c.loop-serial.invariant in
       sym (fitting-end (map dirent_of c.loop-serial.records.items) rest r c.loop-serial.room w.record_len-len.result size fails) ∙ done
-  ]
+]

@@ -11,9 +11,10 @@ pub invariant_of-self-in-Ok : goal.invariant_of-self-in-Ok
 invariant_of-self-in-Ok g c =
     let absent = rw (← c.self.view_is, ← c.in_ok-key.ensures) at c.requires.absent in
     let opened = AreByDirectory-same _ _ _ c.open.ensures.same c.self.invariant.0 in
-    rw (c.in_ok-push.ensures.ok, c.in_ok-name.ensures, ← c.in_ok-key.ensures)
-    (AreByDirectory-added c.args.directory c.in_ok-key.key.items c.args.file c.args.serial _ _ _ c.in-Ok.ensures.ok opened absent,
-      AreOnce-push c.self.inside.rows (record { directory = c.args.directory; name = c.in_ok-key.key.items; file = c.args.file; serial = c.args.serial }) c.self.invariant.1 absent)
+    rw (c.in_ok-push.ensures.ok, c.in_ok-name.ensures, ← c.in_ok-key.ensures) (
+      AreByDirectory-added c.args.directory c.in_ok-key.key.items c.args.file c.args.serial _ _ _ c.in-Ok.ensures.ok opened absent,
+      AreOnce-push c.self.inside.rows (record { directory = c.args.directory; name = c.in_ok-key.key.items; file = c.args.file; serial = c.args.serial }) c.self.invariant.1 absent,
+    )
 
 pub remove-requires : goal.remove-requires
 remove-requires g c =

@@ -45,9 +45,10 @@ invariant_of-self-2 g c =
     let other = rw (← c.in_ok-key.ensures) at c.requires.other in
     let opened = AreByDirectory-same _ _ _ c.open.ensures.same c.self.invariant.0 in
     let n : Named = record { directory = c.args.new_directory; name = c.in_ok-key.key.items; file = c.args.file; serial = c.args.serial } in
-    rw (c.remove-3.ensures, c.remove-2.ensures, c.in_ok-push.ensures.ok, replaced, moved, c.in_ok-name.ensures, ← c.in_ok-key.ensures, moved-serials c.args.directory c.args.old.now c.args.new_directory c.in_ok-key.key.items c.self.inside.rows n last c.self.invariant.1)
-    (AreByDirectory-moved c.args.directory c.args.old.now c.args.new_directory c.in_ok-key.key.items c.args.file c.args.serial _ _ _ _ c.in_default.ensures.ok c.remove_from.ensures opened other,
-      AreOnce-moved (λ m. not (is_at c.args.directory c.args.old.now m)) c.self.inside.rows n c.self.invariant.1)
+    rw (c.remove-3.ensures, c.remove-2.ensures, c.in_ok-push.ensures.ok, replaced, moved, c.in_ok-name.ensures, ← c.in_ok-key.ensures, moved-serials c.args.directory c.args.old.now c.args.new_directory c.in_ok-key.key.items c.self.inside.rows n last c.self.invariant.1) (
+      AreByDirectory-moved c.args.directory c.args.old.now c.args.new_directory c.in_ok-key.key.items c.args.file c.args.serial _ _ _ _ c.in_default.ensures.ok c.remove_from.ensures opened other,
+      AreOnce-moved (λ m. not (is_at c.args.directory c.args.old.now m)) c.self.inside.rows n c.self.invariant.1,
+    )
 
 pub returns-clause-ok : goal.returns-clause-ok
 returns-clause-ok g c =
