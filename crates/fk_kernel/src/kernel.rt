@@ -110,6 +110,7 @@ impl<Q: QueueTable<Purpose> + Drop> KernelOf<Q> {
     pub fn within(&self)
         ensures { is_past_end self.now ≡ false }
     {
+        // A field is touched so that the type's invariant is at hand.
         let _ = &self.next_call;
     }
 

@@ -105,6 +105,7 @@ impl<A: Allocator + Copy> Server<A> {
         ensures handles { self.now.handles ≡ no_handles }
         ensures aborted { self.now.aborted ≡ false }
     {
+        // A field is touched so that the type's invariant is at hand.
         let _ = &self.next_copy;
     }
 

@@ -76,6 +76,7 @@ impl<A: Allocator> ReplyCopy<A> {
 
     /// The frame's bytes. They say what the copy says, to the requests that it may reply to.
     pub fn bytes(&self) -> &[u8]
+        ensures written { (opcode : Opcode) × IsReplyFrame opcode result.now }
         ensures frame { (opcode : Opcode) × SaysReply opcode result.now self.now.unique self.now.wire }
         ensures agreed { (major minor : ℕ) → self.now.wire ≡ reply.agreed major minor → SaysReply Opcode.Init result.now self.now.unique self.now.wire }
         ensures missing { (valid : ℕ) → self.now.wire ≡ reply.missing valid → SaysReply Opcode.Lookup result.now self.now.unique self.now.wire }

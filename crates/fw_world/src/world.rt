@@ -84,7 +84,7 @@ impl<A: Allocator + Copy> WorldIn<A> {
         })
     }
 
-    /// One event. A refused one changes nothing.
+    /// One event. A refused one changes nothing, but that no frame is the last put.
     ///
     /// # Errors
     ///
@@ -129,6 +129,7 @@ impl<A: Allocator + Copy> WorldIn<A> {
     pub(crate) fn is_first(&self)
         ensures { IsFirstWorld self.now }
     {
+        // A field is touched so that the type's invariant is at hand.
         let _ = &self.kernel;
     }
 

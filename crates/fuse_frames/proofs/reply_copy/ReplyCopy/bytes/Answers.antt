@@ -1,6 +1,9 @@
 use Rattle.fuse_frames.proofs.ReplyLemmas.{says, says_agreed, says_missing, says_attributes}
 use Rattle.fuse_frames.proofs.reply_copy.ReplyCopy.bytes.Goals as goal
 
+pub returns-clause-written : goal.returns-clause-written
+returns-clause-written g c = (c.self.inside.opcode, rw c.deref.ensures.value c.self.invariant)
+
 pub returns-clause-frame : goal.returns-clause-frame
 returns-clause-frame g c = (c.self.inside.opcode, rw (c.deref.ensures.value, ← c.self.view_is) (says c.self.inside.opcode c.self.inside.bytes.items c.self.invariant))
 
