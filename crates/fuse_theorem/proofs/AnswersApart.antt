@@ -15,11 +15,11 @@ use Rattle.fuse_spec.specs.Runs.{AnswersApart, AnswersOnce}
 use Rattle.fuse_spec.proofs.Tables.{cmp_same}
 use Rattle.fuse_theorem.proofs.AnsweredOnce.{Unanswered}
 
-both_first : (a b : Bool) → T (a && b) → T a
+pub both_first : (a b : Bool) → T (a && b) → T a
 both_first true b h = tt
 both_first false b h = h
 
-both_second : (a b : Bool) → T (a && b) → T b
+pub both_second : (a b : Bool) → T (a && b) → T b
 both_second true b h = h
 both_second false b h = absurd h
 

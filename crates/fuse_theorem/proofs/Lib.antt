@@ -132,3 +132,5 @@ pub mod NodesKnown
 pub mod EveryList
 pub mod HeldKnown
 pub mod HeldStays
+pub mod MapSums
+pub mod OpenSums
