@@ -134,3 +134,6 @@ pub mod HeldKnown
 pub mod HeldStays
 pub mod MapSums
 pub mod OpenSums
+pub mod ReleasesPending
+pub mod OpensApart
+pub mod OpenSteps
