@@ -137,3 +137,4 @@ pub mod OpenSums
 pub mod ReleasesPending
 pub mod OpensApart
 pub mod OpenSteps
+pub mod OpensKept

@@ -62,7 +62,7 @@ module _ (c : Vfs Opened) (closing : Map Opened) (old : OpensApart c closing) wh
 
   module _ (d : Vfs Opened) (call : ℕ) (free : get c.opens call ≡ None) (unclosed : get closing call ≡ None) (low : call < c.next_call) where
     module _ (gained : Option Opened) (steps : CallSteps c d call gained) where
-      opens_more : (f : Opened → ℕ) → values_sum f d.opens ≡ values_sum f c.opens + worth f gained
+      pub opens_more : (f : Opened → ℕ) → values_sum f d.opens ≡ values_sum f c.opens + worth f gained
       opens_more f = ap (values_sum f) steps.opens ∙ by gained
         where
           by : (o : Option Opened) → values_sum f (opened_more c.opens call o) ≡ values_sum f c.opens + worth f o
