@@ -138,3 +138,4 @@ pub mod ReleasesPending
 pub mod OpensApart
 pub mod OpenSteps
 pub mod OpensKept
+pub mod OpensHeard

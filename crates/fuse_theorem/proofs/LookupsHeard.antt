@@ -167,7 +167,7 @@ module _ (t : NodeTable) (k : Kernel) (known : KnownIn t k.nodes) (wire : WireRe
 -- ---- any reply
 
 -- a call that has a request is unanswered
-unanswered : (k : Kernel) → ((call : ℕ) → requests_for call k.queues ≤ cond (is_some (get k.vfs.calls call)) 1 0) → (call unique : ℕ) → waiting k.queues unique ≡ Some (purpose.Call call) → get k.vfs.calls call ≢ None
+pub unanswered : (k : Kernel) → ((call : ℕ) → requests_for call k.queues ≤ cond (is_some (get k.vfs.calls call)) 1 0) → (call unique : ℕ) → waiting k.queues unique ≡ Some (purpose.Call call) → get k.vfs.calls call ≢ None
 unanswered k one_request call unique waits none =
     let request = waiting_is k.queues unique (purpose.Call call) waits in
     let mine : is_for call request.request.kept ≡ true = subst (λ (x : Purpose). is_for call x ≡ true) (sym request.serves) (same_is call) in

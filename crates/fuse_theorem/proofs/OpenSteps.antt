@@ -214,7 +214,7 @@ number_once fh n =
     let back = ap {B = ℕ} (λ (b : Bool). cond b 1 0) (tie_back n fh) in
     omega (arith, one, back)
 
-gained_counts : (fh : ℕ) (operation : Operation ℕ Opened) (wire : WireReply) → goes_with operation wire ≡ true → worth (has_number fh) (gained_by operation (kernel_reply operation wire)) ≡ opens_in fh wire
+pub gained_counts : (fh : ℕ) (operation : Operation ℕ Opened) (wire : WireReply) → goes_with operation wire ≡ true → worth (has_number fh) (gained_by operation (kernel_reply operation wire)) ≡ opens_in fh wire
 gained_counts fh (create d name) (created g valid n) goes = number_once fh n
 gained_counts fh (opening file) (opened n) goes = number_once fh n
 gained_counts fh operation (created g valid n) goes = absurd (true≢false (sym goes))
