@@ -139,3 +139,5 @@ pub mod OpensApart
 pub mod OpenSteps
 pub mod OpensKept
 pub mod OpensHeard
+pub mod NumberCounts
+pub mod OpensInUse

@@ -39,6 +39,17 @@ none_from (e ∷ m) low k below le =
     let apart = tie_no k e.0 (λ same. absurd (omega (arith, same, first, le))) in
     ap (λ (b : Bool). cond b (Some e.1) (get m k)) apart ∙ none_from m low k (both_second (is_lt (nat_cmp low e.0)) (below_all nat_cmp low m) below) le
 
+module _ {X : Type 0} (e : ℕ × X) (m : Map X) (rises : Rises (e ∷ m)) where
+  pub rest_rises : Rises m
+  rest_rises = both_second (below_all nat_cmp e.0 m) (is_sorted nat_cmp m) rises
+
+  rest_below : T (below_all nat_cmp e.0 m)
+  rest_below = both_first (below_all nat_cmp e.0 m) (is_sorted nat_cmp m) rises
+
+  -- the first key is not among the others
+  pub first_apart : (k : ℕ) → k < e.0 + 1 → get m k ≡ None
+  first_apart k le = none_from m e.0 k rest_below le
+
 module _ {X : Type 0} (f : X → ℕ) where
   abbrev pub worth : Option X → ℕ
   worth None = 0
@@ -46,13 +57,6 @@ module _ {X : Type 0} (f : X → ℕ) where
 
   abbrev pub values_sum : Map X → ℕ
   values_sum m = sum_by f (values m)
-
-  module _ (e : ℕ × X) (m : Map X) (rises : Rises (e ∷ m)) where
-    rest_rises : Rises m
-    rest_rises = both_second (below_all nat_cmp e.0 m) (is_sorted nat_cmp m) rises
-
-    rest_below : T (below_all nat_cmp e.0 m)
-    rest_below = both_first (below_all nat_cmp e.0 m) (is_sorted nat_cmp m) rises
 
   -- A value is put in the place of the old one, if there was one.
   pub sum_put : (m : Map X) (k : ℕ) (x : X) → Rises m → values_sum (put m k x) + worth (get m k) ≡ values_sum m + f x
@@ -66,7 +70,7 @@ module _ {X : Type 0} (f : X → ℕ) where
           → values_sum (by_order r ((k, x) ∷ e ∷ m) ((e.0, x) ∷ m) (e ∷ put m k x)) + worth (cond (is_eq r) (Some e.1) (get m k)) ≡ values_sum (e ∷ m) + f x
       by Less is rest =
           let low : k < e.0 = less_is k e.0 (subst T (sym (ap is_lt is)) tt) in
-          let none = ap worth (none_from m e.0 k (rest_below e m rises) (omega (arith, low))) in
+          let none = ap worth (first_apart e m rises k (omega (arith, low))) in
           let more = sum_by-cons f x (values (e ∷ m)) in
           omega (arith, none, more)
       by Equal is rest = let more = sum_by-cons f x (values m) in omega (arith, whole, more)
@@ -84,7 +88,7 @@ module _ {X : Type 0} (f : X → ℕ) where
           → values_sum (cond (not b) (e ∷ remove m k) (remove m k)) + worth (get (e ∷ m) k) ≡ values_sum (e ∷ m)
       by true is rest =
           let key : k ≡ e.0 = grind (arith, nat_tests, is) in
-          let none = ap worth (none_from m e.0 k (rest_below e m rises) (omega (arith, key))) in
+          let none = ap worth (first_apart e m rises k (omega (arith, key))) in
           let here : worth (get (e ∷ m) k) ≡ f e.1 = ap (λ (n : ℕ). worth (cond (is_eq (nat_cmp n e.0)) (Some e.1) (get m n))) key ∙ ap (λ (r : Ordering). worth (cond (is_eq r) (Some e.1) (get m e.0))) (cmp_same e.0) in
           omega (arith, whole, none, here, rest)
       by false is rest =

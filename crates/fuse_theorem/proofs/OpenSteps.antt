@@ -1,9 +1,7 @@
 -- What a step of a call opens.
 use Rattle.std.proofs.Common.{◌≡◌, ◌≢◌, ℕ, ◌+◌, Bool, true, false, true≢false, cond, List, [], ◌∷◌, Option, Some, None, Result, Ok, Err, length, nat_eq, count_by, refl, ap, sym, subst, ◌∙◌, arith, ◌⊎◌, inl, inr, All}
 use Rattle.std.specs.Prelude.{nat_lt, ◌||◌}
-use Rattle.std.proofs.lemmas.Bool.{cases_eq}
 use Rattle.std.proofs.lemmas.List.Elements.{All-nil, All-cons}
-use Rattle.std.proofs.lemmas.List.Sums.{sum_by-cons}
 use Rattle.fuse_spec.specs.declared.Opened.{Opened}
 use Rattle.fuse_spec.specs.declared.Entry.{Entry}
 use Rattle.fuse_spec.specs.Answers.{Answer}
@@ -24,8 +22,8 @@ use Rattle.fuse_spec.specs.Walks.{FinalOperation, WalkPlan, last, WalkStop, unkn
 use Rattle.fuse_spec.specs.Walks as walks
 use Rattle.fuse_spec.proofs.Tables.{get_put_there, get_put_here, get_gone_here, get_gone_there}
 use Rattle.fuse_theorem.specs.OpenNumbers.{UsesOpen}
-use Rattle.fuse_theorem.proofs.Finding.{other_is}
 use Rattle.fuse_theorem.proofs.MapSums.{worth}
+use Rattle.fuse_theorem.proofs.NumberCounts.{number_alone}
 use Rattle.fuse_theorem.proofs.OpenSums.{has_number}
 use Rattle.fuse_theorem.proofs.OpensApart.{CallSteps, opened_more}
 
@@ -202,21 +200,9 @@ replied_steps c call (using handle operation) reply = operation_steps c call ope
 
 -- ---- what it opens is what the copy carries
 
-tie_back : (a b : ℕ) → nat_eq a b ≡ nat_eq b a
-tie_back a b = elim (cases_eq a b) [
-  | inl e ↦ λ i. nat_eq (e i) (sym e i)
-  | inr ne ↦ other_is a b ne ∙ sym (other_is b a (λ e. ne (sym e)))
-]
-
-number_once : (fh n : ℕ) → cond (nat_eq n fh) 1 0 ≡ count_by (nat_eq fh) (n ∷ [])
-number_once fh n =
-    let one = sum_by-cons (λ (x : ℕ). cond (nat_eq fh x) 1 0) n [] in
-    let back = ap {B = ℕ} (λ (b : Bool). cond b 1 0) (tie_back n fh) in
-    omega (arith, one, back)
-
 pub gained_counts : (fh : ℕ) (operation : Operation ℕ Opened) (wire : WireReply) → goes_with operation wire ≡ true → worth (has_number fh) (gained_by operation (kernel_reply operation wire)) ≡ opens_in fh wire
-gained_counts fh (create d name) (created g valid n) goes = number_once fh n
-gained_counts fh (opening file) (opened n) goes = number_once fh n
+gained_counts fh (create d name) (created g valid n) goes = number_alone n fh
+gained_counts fh (opening file) (opened n) goes = number_alone n fh
 gained_counts fh operation (created g valid n) goes = absurd (true≢false (sym goes))
 gained_counts fh operation (opened n) goes = absurd (true≢false (sym goes))
 gained_counts fh operation wire goes = refl

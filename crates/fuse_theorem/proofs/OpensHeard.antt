@@ -77,10 +77,10 @@ read_sum k sound place unique kept body there says f =
         → pending_sum f (option_map_or (λ e. after_reading k.queues e.0 e.1.mark) o k.queues) + sum_by f (released_by body) ≡ pending_sum f k.queues
     by None at e = absurd (cc)
     by (Some x) at e =
-        let both : (x.0, x.1.kept) ≡ (unique, kept) = cc (e) in
+        let both : ◌≡◌ {A = ℕ × Purpose} (x.0, x.1.kept) (unique, kept) = cc (e) in
         let unread = All-at (λ (d : ℕ × QueuedRequest Purpose). is_unread d.1.mark ≡ true) (pending k.queues) place x (filtered (λ (d : ℕ × QueuedRequest Purpose). is_unread d.1.mark) k.queues.requests) at in
         let moved = read_one x (lookup-found (λ (d : ℕ × QueuedRequest Purpose). is_unread d.1.mark) k.queues.requests place x at (key_count-le-one k.queues x.0 sound)) unread x.1.mark refl in
-        let same = same_release x.1.kept (ap (λ (y : ℕ × Purpose). body_of k y.1) both ∙ says) in
+        let same : sum_by f (released_by body) ≡ sum_by f (released_for x.1.kept) = same_release x.1.kept (ap (λ (y : ℕ × Purpose). body_of k y.1) both ∙ says) in
         omega (arith, moved, same)
 
 -- ---- a reply is taken

@@ -14,7 +14,24 @@ use Rattle.fuse_spec.specs.Kernel.{Kernel, is_live}
 use Rattle.fuse_spec.specs.Nodes.{file_of, is_open}
 use Rattle.fuse_spec.specs.Server.{Server, HeldRequest}
 use Rattle.fuse_spec.specs.Counts.{OpenBalance, opens_of}
+use Rattle.fuse_spec.specs.Denotes.{generation_known}
 use Rattle.fuse_spec.specs.Worlds.{World}
+use Rattle.fuse_theorem.specs.KnownNodes.{IsKnown}
+
+-- ---- what it stands on
+
+-- The open file that a request releases.
+abbrev pub released_for : Purpose → List Opened
+released_for purpose.Init = []
+released_for (purpose.Release o) = o ∷ []
+released_for (purpose.Call call) = []
+
+-- In a live mount the kernel knows the node of each closed file and of each unanswered RELEASE, and a held RELEASE names its node under the
+-- generation that the kernel knows.
+pub record ReleasesOfKnown (w : World) : Type 0 where
+  pub closing : All (λ (o : Opened). IsKnown w.kernel.nodes o.nodeid) (values w.kernel.closing)
+  pub requests : All (λ (e : ℕ × QueuedRequest Purpose). All (λ (o : Opened). IsKnown w.kernel.nodes o.nodeid) (released_for e.1.kept)) w.kernel.queues.requests
+  pub held : (unique : ℕ) (t : HeldRequest) → get w.server.held unique ≡ Some t → (o : Opened) → t.body ≡ release o → All (λ (g : ℕ × ℕ). generation_known w.kernel.nodes g.0 ≡ Some g.1) t.generations
 
 -- ---- the kernel alone
 
@@ -37,12 +54,6 @@ pub record OpensApart (c : Vfs Opened) (closed : Map Opened) : Type 0 where
   pub uses : (call : ℕ) (state : CallState Opened) → get c.calls call ≡ Some state → UsesOpen c.opens closed state
 
 -- ---- the kernel and the server
-
--- The open file that a request releases.
-abbrev pub released_for : Purpose → List Opened
-released_for purpose.Init = []
-released_for (purpose.Release o) = o ∷ []
-released_for (purpose.Call call) = []
 
 abbrev pub released_by : RequestBody → List Opened
 released_by init = []
