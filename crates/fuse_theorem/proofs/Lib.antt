@@ -141,3 +141,5 @@ pub mod OpensKept
 pub mod OpensHeard
 pub mod NumberCounts
 pub mod OpensInUse
+pub mod OpensServed
+pub mod PerformedNumbers
