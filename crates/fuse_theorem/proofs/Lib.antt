@@ -143,3 +143,7 @@ pub mod NumberCounts
 pub mod OpensInUse
 pub mod OpensServed
 pub mod PerformedNumbers
+pub mod OpensFit
+pub mod OpensMoved
+pub mod OpensTables
+pub mod OpensStay

@@ -91,7 +91,7 @@ module _ (choice : ℕ → ℕ) (w : World) (links : LinksSound w) (asked : Requ
 -- ---- a reply is written
 
 -- A live mount stays live where its INIT is agreed on.
-stays_live : (k : Kernel) → InitIsFirst k.queues → is_live k.phase ≡ true → (unique : ℕ) (wire : WireReply) → (unique ≡ 2 → wire ≡ agreed 7 31) → is_live (reply_written k unique wire).1.phase ≡ true
+pub stays_live : (k : Kernel) → InitIsFirst k.queues → is_live k.phase ≡ true → (unique : ℕ) (wire : WireReply) → (unique ≡ 2 → wire ≡ agreed 7 31) → is_live (reply_written k unique wire).1.phase ≡ true
 stays_live k first live unique wire agrees = by (nat_eq (unique % 2) 1)
   where
     interrupts : (x : WireReply) → is_live (interrupt_replied k (unique - 1) x).1.phase ≡ true

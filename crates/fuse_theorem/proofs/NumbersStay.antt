@@ -332,7 +332,7 @@ unheard k idle unique wire = by (nat_eq (unique % 2) 1)
 
 -- ---- events
 
-aborted_if_ready : (phase : Phase) → is_ready phase ≡ true → is_live phase ≡ false → is_aborted phase ≡ true
+pub aborted_if_ready : (phase : Phase) → is_ready phase ≡ true → is_live phase ≡ false → is_aborted phase ≡ true
 aborted_if_ready Down ready dead = ready
 aborted_if_ready Starting ready dead = sym dead
 aborted_if_ready Ready ready dead = sym dead

@@ -166,7 +166,7 @@ module _ (P : Opened → Type 0) where
   -- ---- any reply
 
   module _ (k : Kernel) (old : OpensApart k.vfs k.closing) (one_request : (call : ℕ) → requests_for call k.queues ≤ cond (is_some (get k.vfs.calls call)) 1 0) (unique : ℕ) (wire : WireReply) (used : use_of_all k.nodes (files_in_reply wire) ≡ usable)
-      (each : (call : ℕ) (state : CallState Opened) → waiting k.queues unique ≡ Some (purpose.Call call) → get k.vfs.calls call ≡ Some state → goes_with (asked state) wire ≡ true → (o : Opened) → gained_by (asked state) (kernel_reply (asked state) wire) ≡ Some o → P o) where
+      (each : nat_eq (unique % 2) 1 ≡ false → (call : ℕ) (state : CallState Opened) → waiting k.queues unique ≡ Some (purpose.Call call) → get k.vfs.calls call ≡ Some state → goes_with (asked state) wire ≡ true → (o : Opened) → gained_by (asked state) (kernel_reply (asked state) wire) ≡ Some o → P o) where
     abbrev ended : Kernel
     ended = record k { queues = without k.queues unique }
 
@@ -204,25 +204,25 @@ module _ (P : Opened → Type 0) where
         by (failed errno) = carries_nothing k ended (failed errno) Accepted keeps (λ fh. refl)
         by x = refuses k ended x Invalid keeps (λ n. refl)
 
-    ended_heard : (kept : Purpose) → waiting k.queues unique ≡ Some kept → is_live (ended_by ended kept wire).1.phase ≡ true → HearsOpens P k wire (ended_by ended kept wire)
-    ended_heard purpose.Init waits live = by (is_agreement wire) live
+    ended_heard : nat_eq (unique % 2) 1 ≡ false → (kept : Purpose) → waiting k.queues unique ≡ Some kept → is_live (ended_by ended kept wire).1.phase ≡ true → HearsOpens P k wire (ended_by ended kept wire)
+    ended_heard is_even purpose.Init waits live = by (is_agreement wire) live
       where
         by : (b : Bool) → is_live (cond b (record ended { phase = Ready }) (kernel_aborted ended)).phase ≡ true → HearsOpens P k wire (write_result_of (is_init_reply wire), cond b (record ended { phase = Ready }) (kernel_aborted ended))
         by true still = let keeps = ended_keeps purpose.Init waits in init_heard (record { sums = keeps.sums; apart = keeps.apart })
         by false still = absurd (true≢false (sym still))
-    ended_heard (purpose.Release o) waits live = release_heard (ended_keeps (purpose.Release o) waits)
-    ended_heard (purpose.Call call) waits live = by (get k.vfs.calls call) refl
+    ended_heard is_even (purpose.Release o) waits live = release_heard (ended_keeps (purpose.Release o) waits)
+    ended_heard is_even (purpose.Call call) waits live = by (get k.vfs.calls call) refl
       where
         by : (o : Option (CallState Opened)) → get k.vfs.calls call ≡ o → HearsOpens P k wire (replied_to_call ended call wire o)
         by None none = absurd (unanswered k one_request call unique waits none)
         by (Some state) there =
             let first = ended_keeps (purpose.Call call) waits in
-            let heard = replied_heard ended old call state there wire used (each call state waits there) in
+            let heard = replied_heard ended old call state there wire used (each is_even call state waits there) in
             let second = heard.keeps in
             record { opens = heard.opens; keeps = record { sums = λ f. let a = first.sums f in let b = second.sums f in omega (arith, a, b); apart = second.apart }; counts = heard.counts; fits = heard.fits }
 
     pub written_heard : is_live (reply_written k unique wire).1.phase ≡ true → HearsOpens P k wire (reply_written k unique wire)
-    written_heard = by (nat_eq (unique % 2) 1)
+    written_heard = by (nat_eq (unique % 2) 1) refl
       where
         same_table : (q : QueueState Purpose) → q.requests ≡ k.queues.requests → KeepsOpen k (record k { queues = q }) None
         same_table q same = record { sums = λ f. let moved = ap (λ (es : List (ℕ × QueuedRequest Purpose)). pending_sum f (record k.queues { requests = es })) same in omega (arith, moved); apart = old }
@@ -247,11 +247,11 @@ module _ (P : Opened → Type 0) where
         odd None = refuses k k wire NoEntry (unmoved k old) (λ n. refl)
         odd (Some kept) = interrupts wire
 
-        even : (o : Option Purpose) → waiting k.queues unique ≡ o → is_live (reply_taken k unique wire o).1.phase ≡ true → HearsOpens P k wire (reply_taken k unique wire o)
-        even None waits live = refuses k k wire NoEntry (unmoved k old) (λ n. refl)
-        even (Some kept) waits live = ended_heard kept waits live
+        even : nat_eq (unique % 2) 1 ≡ false → (o : Option Purpose) → waiting k.queues unique ≡ o → is_live (reply_taken k unique wire o).1.phase ≡ true → HearsOpens P k wire (reply_taken k unique wire o)
+        even is_even None waits live = refuses k k wire NoEntry (unmoved k old) (λ n. refl)
+        even is_even (Some kept) waits live = ended_heard is_even kept waits live
 
-        by : (b : Bool) → is_live (cond b (odd_taken k unique wire (waiting k.queues (unique - 1))) (reply_taken k unique wire (waiting k.queues unique))).1.phase ≡ true
+        by : (b : Bool) → nat_eq (unique % 2) 1 ≡ b → is_live (cond b (odd_taken k unique wire (waiting k.queues (unique - 1))) (reply_taken k unique wire (waiting k.queues unique))).1.phase ≡ true
             → HearsOpens P k wire (cond b (odd_taken k unique wire (waiting k.queues (unique - 1))) (reply_taken k unique wire (waiting k.queues unique)))
-        by true live = odd (waiting k.queues (unique - 1))
-        by false live = even (waiting k.queues unique) refl live
+        by true tie live = odd (waiting k.queues (unique - 1))
+        by false tie live = even tie (waiting k.queues unique) refl live

@@ -33,6 +33,9 @@ pub record ReleasesOfKnown (w : World) : Type 0 where
   pub requests : All (λ (e : ℕ × QueuedRequest Purpose). All (λ (o : Opened). IsKnown w.kernel.nodes o.nodeid) (released_for e.1.kept)) w.kernel.queues.requests
   pub held : (unique : ℕ) (t : HeldRequest) → get w.server.held unique ≡ Some t → (o : Opened) → t.body ≡ release o → All (λ (g : ℕ × ℕ). generation_known w.kernel.nodes g.0 ≡ Some g.1) t.generations
 
+abbrev pub ReleasesOfKnownWhileLive : World → Type 0
+ReleasesOfKnownWhileLive w = is_live w.kernel.phase ≡ true → ReleasesOfKnown w
+
 -- ---- the kernel alone
 
 abbrev pub stands : {X : Type 0} → Option X → ℕ

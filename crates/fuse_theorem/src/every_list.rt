@@ -24,6 +24,7 @@ ghost use Rattle.fuse_theorem.specs.EachEvent.{Needs};
 ghost use Rattle.fuse_theorem.specs.EveryList.{BothSound, NeedsBothAlone};
 ghost use Rattle.fuse_theorem.specs.HeldKnown.{HeldKnownWhileLive};
 ghost use Rattle.fuse_theorem.specs.KnownNodes.{NodesKnown};
+ghost use Rattle.fuse_theorem.specs.OpenNumbers.{ReleasesOfKnownWhileLive, OpensSound};
 ghost use Rattle.fuse_theorem.specs.WorldSound.{WorldSound};
 
 /// What is on the request link or held is what the kernel asks, under the same number, while the mount is live and whatever the event; what bears an
@@ -72,4 +73,11 @@ pub fn held_stay_known()
     ensures always { (w : World) → WorldSound w → RequestsAskedWhileLive w → LinksSound w → NodesKnown w.kernel → HeldKnownWhileLive w → (e : Event) (o : Outcome) (after : World) → Happens w e o after → HeldKnownWhileLive after }
     ensures still { (w : World) → WorldSound w → HeldKnownWhileLive w → is_live w.kernel.phase ≡ true → (unique : ℕ) (t : HeldRequest) → get w.server.held unique ≡ Some t → (operation : Operation ℕ Opened) → t.body ≡ asks operation →
         is_still_held w.server.nodes t.generations ≡ true }
+{}
+
+/// While the mount is live, the server's count of each open number is the kernel's open files and closing ones with it and what is in flight, whatever the
+/// event, where the kernel knows the nodes of closed files and of RELEASEs (`OpenNumbers.antt` has that and all that keeps it).
+pub fn open_numbers_stay_balanced()
+    ensures at_first { OpensSound first_world }
+    ensures always { (w : World) (p : Plain) → BothSound w p → ReleasesOfKnownWhileLive w → OpensSound w → (e : Event) (o : Outcome) (after : World) → Happens w e o after → OpensSound after }
 {}

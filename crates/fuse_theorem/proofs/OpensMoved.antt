@@ -1,0 +1,162 @@
+-- Open numbers stay balanced as the kernel goes on and takes replies.
+use Rattle.std.proofs.Common.{◌≡◌, ◌≢◌, ℕ, ◌+◌, ◌-◌, ◌≤◌, Bool, true, false, true≢false, cond, List, [], ◌∷◌, ◌++◌, drop, take, Option, Some, None, nat_eq, is_some, slice_get, get_or, count_by, refl, ap, sym, subst, ◌∙◌, arith, inl, inr, All}
+use Rattle.std.specs.Prelude.{◌%◌, sum_by}
+use Rattle.std.specs.List.{remove as without_at}
+use Rattle.std.proofs.lemmas.List.Sums.{sum_by-cons, sum_by_push}
+use Rattle.fuse_spec.specs.declared.Entry.{Entry}
+use Rattle.fuse_spec.specs.declared.Opened.{Opened}
+use Rattle.fuse_spec.specs.declared.Purpose.{Purpose}
+use Rattle.fuse_spec.specs.declared.QueuedRequest.{QueuedRequest}
+use Rattle.fuse_spec.specs.declared.ReplyResult.{ReplyResult}
+use Rattle.fuse_spec.specs.declared.WriteResult.{WriteResult}
+use Rattle.fuse_spec.specs.declared.WriteResult.TheVariants.{Accepted, NoEntry, Invalid}
+use Rattle.fuse_spec.specs.Counts.{opens_in, refused, carried, result_carries}
+use Rattle.fuse_spec.specs.Copies.{kept_after, after_result}
+use Rattle.fuse_spec.specs.Maps.{Map, get, put, remove, values}
+use Rattle.fuse_spec.specs.Messages.{Forget, Request, RequestBody, init, asks, release, forget, batch_forget, interrupt, WireReply}
+use Rattle.fuse_spec.specs.Operations.{files_in_reply, opens_in_reply}
+use Rattle.fuse_spec.specs.Uniques.{interrupt_number}
+use Rattle.fuse_spec.specs.QueueCalls as queues
+use Rattle.fuse_spec.specs.Queues.{pending}
+use Rattle.fuse_spec.specs.Vfs.{Vfs, given_up}
+use Rattle.fuse_spec.specs.Kernel.{Kernel, is_live, call_begun, call_signalled}
+use Rattle.fuse_spec.specs.Nodes.{NodeTable, HandleTable, file_of, is_open}
+use Rattle.fuse_spec.specs.Server.{Server, HeldRequest, Kept, Copy, forgets_of}
+use Rattle.fuse_spec.specs.Taking.{taking, interrupting}
+use Rattle.fuse_spec.specs.Performs.{performed, served}
+use Rattle.fuse_spec.specs.Replies.{reply_written}
+use Rattle.fuse_spec.specs.Denotes.{Denotes}
+use Rattle.fuse_spec.specs.Plain.{Plain}
+use Rattle.fuse_spec.specs.Worlds.{World, Sent, replying, forget_body, first_world, server_settled, after_mount, after_read_interrupt, after_read_forgets, after_read_pending, after_take, after_perform, after_again, after_write, after_settle, after_evict}
+use Rattle.fuse_spec.specs.Events.{Event, Outcome}
+use Rattle.fuse_spec.specs.Steps.{MayStep, MayChooseFor, Happens}
+use Rattle.fuse_theorem.specs.AskedRequests.{RequestsAsked}
+use Rattle.fuse_theorem.specs.Conditions.{KnownAreHeld}
+use Rattle.fuse_theorem.specs.Copies.{IsKnownCopy, CopiesSound}
+use Rattle.fuse_theorem.specs.EveryList.{BothSound}
+use Rattle.fuse_theorem.specs.Lookups.{EntriesHeld, LookupsBalanced, LookupsSound}
+use Rattle.fuse_theorem.specs.Numbering.{IsNumbered}
+use Rattle.fuse_theorem.specs.OpenNumbers.{OpensApart, released_for, released_by, released_held, open_files, IsOfItsNode, ReleasesOfKnown, ReleasesOfKnownWhileLive, OpensBalanced, OpensSound}
+use Rattle.fuse_theorem.proofs.MapSums.{Rises, worth, put_rises, gone_rises}
+use Rattle.fuse_theorem.proofs.NumbersStay.{replying_kernel, unheard}
+use Rattle.fuse_theorem.proofs.OpenSums.{kernel_sum, sent_sum, held_sum, open_sum, has_number, copies_carry, CountsOpens, counts_opens, opens_counted, none_failing, all_pass, failing}
+use Rattle.fuse_theorem.proofs.OpensKept.{KeepsOpen, begun_keeps, signalled_keeps}
+use Rattle.fuse_theorem.proofs.OpensHeard.{HearsOpens, read_sum, written_heard}
+use Rattle.fuse_theorem.proofs.Happened.{Happened, by_mount, by_call, by_read_interrupt, by_read_forgets, by_read_pending, by_take, by_perform, by_again, by_write, by_settle, by_signal, by_tick, by_drop, by_evict, by_abort, happened}
+use Rattle.fuse_theorem.proofs.PerformedRest.{performed_rest}
+use Rattle.fuse_theorem.proofs.LinkSums.{sum_removed}
+use Rattle.fuse_theorem.proofs.OpensServed.{replies_carry, results_carry}
+use Rattle.fuse_theorem.proofs.Queuing.{All-at}
+
+-- ---- the kernel moves
+
+-- The kernel moves, and requests go out: the same files are open.
+pub kernel_moves : (w : World) → OpensBalanced w → (k : Kernel) (requests : List Request) → ((f : Opened → ℕ) → kernel_sum f k + sent_sum f requests ≡ kernel_sum f w.kernel + sent_sum f w.requests) → OpensBalanced (record w { kernel = k; requests = requests })
+kernel_moves w old k requests same = record {
+  balance = opens_counted v (λ fh. let was = counts_opens w old.balance fh in let sum = moved (has_number fh) in omega (arith, was, sum));
+  files = all_pass was_open (open_files v) (let sum = moved (failing was_open) in let none = none_failing was_open (open_files w) old.files in omega (arith, sum, none));
+}
+  where
+    v : World
+    v = record w { kernel = k; requests = requests }
+
+    was_open : Opened → Bool
+    was_open o = is_open w.server.handles o.fh (file_of w.server.nodes o.nodeid)
+
+    moved : (f : Opened → ℕ) → sum_by f (open_files (record w { kernel = k; requests = requests })) ≡ sum_by f (open_files w)
+    moved f = let before = open_sum f w in let after = open_sum f (record w { kernel = k; requests = requests }) in let kept = same f in omega (arith, before, after, kept)
+
+pub keeps : (w : World) → OpensBalanced w → (k : Kernel) → KeepsOpen w.kernel k None → OpensBalanced (record w { kernel = k })
+keeps w old k kept = kernel_moves w old k w.requests (λ f. let same = kept.sums f in omega (arith, same))
+
+pub read_interrupt : (w : World) → OpensBalanced w → (original : ℕ) → OpensBalanced (after_read_interrupt w original)
+read_interrupt w old original =
+    let new : Request = record { unique = interrupt_number original; body = interrupt original } in
+    kernel_moves w old (record w.kernel { queues = queues.after_read_interrupt w.kernel.queues }) (w.requests ++ new ∷ [])
+    (λ f. let pushed = sum_by_push (λ (r : Request). sum_by f (released_by r.body)) w.requests new in omega (arith, pushed))
+
+-- A pending request is read, and releases on the link what it released before.
+pub read_pending : (w : World) → OpensBalanced w → (k unique : ℕ) (body : RequestBody) → ((f : Opened → ℕ) → kernel_sum f (record w.kernel { queues = queues.after_read_pending w.kernel.queues k }) + sum_by f (released_by body) ≡ kernel_sum f w.kernel)
+    → OpensBalanced (after_read_pending w k unique body)
+read_pending w old k unique body moved =
+    let new : Request = record { unique = unique; body = body } in
+    kernel_moves w old (record w.kernel { queues = queues.after_read_pending w.kernel.queues k }) (w.requests ++ new ∷ [])
+    (λ f.
+    let pushed = sum_by_push (λ (r : Request). sum_by f (released_by r.body)) w.requests new in
+    let same = moved f in
+    omega (arith, pushed, same))
+
+-- forgets release nothing
+forgets_release : (f : Opened → ℕ) (fs : List Forget) → ◌≡◌ {A = ℕ} (sum_by f (released_by (forget_body fs))) 0
+forgets_release f [] = refl
+forgets_release f (x ∷ []) = refl
+forgets_release f (x ∷ y ∷ fs) = refl
+
+pub read_forgets : (w : World) → OpensBalanced w → (n : ℕ) → OpensBalanced (after_read_forgets w n (take n w.kernel.queues.forgets))
+read_forgets w old n = by (queues.can_read_forgets w.kernel.queues n)
+  where
+    new : Request
+    new = record { unique = w.kernel.queues.next; body = forget_body (take n w.kernel.queues.forgets) }
+
+    pushed : (f : Opened → ℕ) → sent_sum f (w.requests ++ new ∷ []) ≡ sent_sum f w.requests
+    pushed f =
+        let more = sum_by_push (λ (r : Request). sum_by f (released_by r.body)) w.requests new in
+        let nothing = forgets_release f (take n w.kernel.queues.forgets) in
+        omega (arith, more, nothing)
+
+    by : (b : Bool) → OpensBalanced (record w {
+      kernel = record w.kernel { queues = cond b (record w.kernel.queues { forgets = drop n w.kernel.queues.forgets; next = w.kernel.queues.next + 2 }) w.kernel.queues };
+      requests = w.requests ++ record { unique = w.kernel.queues.next; body = forget_body (take n w.kernel.queues.forgets) } ∷ [];
+    })
+    by true = kernel_moves w old (record w.kernel { queues = record w.kernel.queues { forgets = drop n w.kernel.queues.forgets; next = w.kernel.queues.next + 2 } }) (w.requests ++ new ∷ []) (λ f. let same = pushed f in omega (arith, same))
+    by false = kernel_moves w old w.kernel (w.requests ++ new ∷ []) (λ f. let same = pushed f in omega (arith, same))
+
+-- ---- a reply is written
+
+module _ (w : World) (old : OpensBalanced w) (copies : CopiesSound w) (k : ℕ) (sent : Sent) (there : slice_get w.replies k ≡ Some sent) (taken : WriteResult × Kernel) (heard : HearsOpens (IsOfItsNode w.server) w.kernel sent.wire taken) where
+  abbrev written : World
+  written = after_write w k sent taken
+
+  copy : IsKnownCopy w.server.copies sent
+  copy = All-at (IsKnownCopy w.server.copies) w.replies k sent copies.sent there
+
+  opens : Option Opened
+  opens = heard.opens
+
+  moved : (f : Opened → ℕ) → sum_by f (open_files written) ≡ sum_by f (open_files w) + worth f heard.opens
+  moved f =
+      let before = open_sum f w in
+      let after = open_sum f written in
+      let kept = heard.keeps.sums f in
+      omega (arith, before, after, kept)
+
+  counted : CountsOpens written
+  counted fh =
+      let whole = counts_opens w old.balance fh in
+      let sum = moved (has_number fh) in
+      let gone : replies_carry fh (without_at w.replies k) + opens_in fh sent.wire ≡ replies_carry fh w.replies = sum_removed (λ (s : Sent). opens_in fh s.wire) w.replies k sent there in
+      let pushed : results_carry fh w.server (w.results ++ record { number = sent.number; unique = sent.unique; result = taken.0 } ∷ []) ≡ results_carry fh w.server w.results + refused taken.0 (carried (opens_in fh) (get w.server.copies sent.number)) =
+      sum_by_push (result_carries (opens_in fh) w.server) w.results (record { number = sent.number; unique = sent.unique; result = taken.0 }) in
+      let carries : refused taken.0 (carried (opens_in fh) (get w.server.copies sent.number)) ≡ refused taken.0 (opens_in fh sent.wire) =
+      ap (λ (o : Option Copy). refused taken.0 (carried (opens_in fh) o)) copy.there ∙ ap (λ (x : WireReply). refused taken.0 (opens_in fh x)) copy.same_wire in
+      let heard_counts = heard.counts fh in
+      omega (arith, whole, sum, gone, pushed, carries, heard_counts)
+
+  abbrev was_open : Opened → Bool
+  was_open o = is_open w.server.handles o.fh (file_of w.server.nodes o.nodeid)
+
+  -- the file that is opened has a number of its node's file
+  new_fits : (o : Option Opened) → ((x : Opened) → o ≡ Some x → IsOfItsNode w.server x) → worth (failing was_open) o ≡ 0
+  new_fits None each = refl
+  new_fits (Some x) each = ap {B = ℕ} (λ (b : Bool). cond b 0 1) (each x refl)
+
+  -- What the copy carried is open now, or refused.
+  pub written_balanced : OpensBalanced (after_write w k sent taken)
+  written_balanced = record {
+    balance = opens_counted written counted;
+    files = all_pass was_open (open_files written)
+        (let sum = moved (failing was_open) in
+        let none = none_failing was_open (open_files w) old.files in
+        let new = new_fits heard.opens heard.fits in
+        omega (arith, sum, none, new));
+  }
