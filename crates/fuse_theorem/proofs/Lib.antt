@@ -146,4 +146,5 @@ pub mod PerformedNumbers
 pub mod OpensFit
 pub mod OpensMoved
 pub mod OpensTables
+pub mod OpensLeft
 pub mod OpensStay

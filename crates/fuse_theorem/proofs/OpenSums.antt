@@ -136,3 +136,10 @@ module _ {X : Type 0} (test : X → Bool) where
       by : (b : Bool) → test x ≡ b → (sum_by failing xs ≡ 0 → All (λ y. test y ≡ true) xs) → All (λ y. test y ≡ true) (x ∷ xs)
       by true is rest = All-cons (λ y. test y ≡ true) x xs is (rest (omega (arith, whole, none)))
       by false is rest = let one = ap {B = ℕ} (λ (b : Bool). cond b 0 1) is in absurd (omega (arith, whole, none, one))
+
+-- Each passes still where no more of any are left.
+pub fewer_pass : {X : Type 0} (test : X → Bool) (xs ys : List X) → ((f : X → ℕ) → sum_by f ys ≤ sum_by f xs) → All (λ x. test x ≡ true) xs → All (λ x. test x ≡ true) ys
+fewer_pass test xs ys fewer h =
+    let none = none_failing test xs h in
+    let less = fewer (failing test) in
+    all_pass test ys (omega (arith, none, less))

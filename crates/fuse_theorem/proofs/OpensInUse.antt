@@ -29,7 +29,7 @@ use Rattle.fuse_theorem.proofs.HeldOperations.{denoted}
 use Rattle.fuse_theorem.proofs.MapSums.{Rises, rest_rises, first_apart}
 use Rattle.fuse_theorem.proofs.NodesKnown.{known_some}
 use Rattle.fuse_theorem.proofs.NumberCounts.{SameFiles}
-use Rattle.fuse_theorem.proofs.OpenSums.{has_number, copies_carry, CountsOpens, counts_opens, opens_counted, none_failing, all_pass, failing}
+use Rattle.fuse_theorem.proofs.OpenSums.{has_number, copies_carry, CountsOpens, counts_opens, opens_counted, fewer_pass}
 
 -- ---- what holds of each open file
 
@@ -139,10 +139,7 @@ files_still w v known same_nodes held held_after denotes same_files fewer old co
     some_is (Some n) h = refl
 
     left : (test : Opened → Bool) → All (λ (o : Opened). test o ≡ true) (open_files w) → All (λ (o : Opened). test o ≡ true) (open_files v)
-    left test h =
-        let none = none_failing test (open_files w) h in
-        let less = fewer (failing test) in
-        all_pass test (open_files v) (omega (arith, none, less))
+    left test h = fewer_pass test (open_files w) (open_files v) fewer h
 
     known_left : All (λ (o : Opened). is_known o ≡ true) (open_files v)
     known_left = left is_known (λ i d lt. some_is (generation_known w.kernel.nodes (get_or (open_files w) i d).nodeid) (known i d lt))

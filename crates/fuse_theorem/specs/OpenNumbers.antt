@@ -1,5 +1,5 @@
 -- What is true of open files and their numbers, whatever happened.
-use Rattle.std.specs.Prelude.{T, ◌≡◌, ◌≤◌, ◌+◌, ◌⊎◌, ℕ, true, false, cond, List, [], ◌∷◌, ◌++◌, Option, Some, None, All, is_some}
+use Rattle.std.specs.Prelude.{T, ◌≡◌, ◌≤◌, ◌+◌, ◌⊎◌, ℕ, true, false, cond, List, [], ◌∷◌, ◌++◌, Option, Some, None, All, is_some, nat_eq, count_by}
 use Rattle.std.specs.Ordering.{nat_cmp}
 use Rattle.std.specs.FinMap.{is_sorted}
 use Rattle.fuse_spec.specs.declared.Opened.{Opened}
@@ -9,11 +9,12 @@ use Rattle.fuse_spec.specs.declared.QueuedRequest.{QueuedRequest}
 use Rattle.fuse_spec.specs.Maps.{Map, get, values}
 use Rattle.fuse_spec.specs.Queues.{QueueState, pending}
 use Rattle.fuse_spec.specs.Messages.{Request, RequestBody, init, asks, release, forget, batch_forget, interrupt}
+use Rattle.fuse_spec.specs.Operations.{Operation}
 use Rattle.fuse_spec.specs.Vfs.{CallState, walking, doing, using, Vfs}
 use Rattle.fuse_spec.specs.Kernel.{Kernel, is_live}
 use Rattle.fuse_spec.specs.Nodes.{file_of, is_open}
 use Rattle.fuse_spec.specs.Server.{Server, HeldRequest}
-use Rattle.fuse_spec.specs.Counts.{OpenBalance, opens_of}
+use Rattle.fuse_spec.specs.Counts.{OpenBalance, handle_count, opens_of}
 use Rattle.fuse_spec.specs.Denotes.{generation_known}
 use Rattle.fuse_spec.specs.Worlds.{World}
 use Rattle.fuse_theorem.specs.KnownNodes.{IsKnown}
@@ -93,9 +94,20 @@ pub record OpensBalanced (w : World) : Type 0 where
   pub balance : OpenBalance w
   pub files : All (IsOfItsNode w.server) (open_files w)
 
--- While the mount is live the open numbers are balanced; else no file is open or closing. The rest is what keeps it so.
+-- Without a live mount no call is unanswered and no file open or closing. The server counts each number that held RELEASEs bear as often as they do, and
+-- once more where a held read or write bears it too; and each is one of its node's file.
+pub record OpensLeft (w : World) : Type 0 where
+  pub calls : w.kernel.vfs.calls ≡ []
+  pub opens : w.kernel.vfs.opens ≡ []
+  pub closing : w.kernel.closing ≡ []
+  pub released : (fh : ℕ) → count_by (λ (o : Opened). nat_eq o.fh fh) (released_held w.server.held) ≤ handle_count (get w.server.handles.handles fh)
+  pub used : (unique : ℕ) (t : HeldRequest) → get w.server.held unique ≡ Some t → (operation : Operation ℕ Opened) → t.body ≡ asks operation
+      → All (λ (x : Opened). count_by (λ (o : Opened). nat_eq o.fh x.fh) (released_held w.server.held) + 1 ≤ handle_count (get w.server.handles.handles x.fh)) (opens_of operation)
+  pub files : All (IsOfItsNode w.server) (released_held w.server.held)
+
+-- While the mount is live the open numbers are balanced; else there are those that are left. The rest is what keeps it so.
 pub record OpensSound (w : World) : Type 0 where
   pub apart : OpensApart w.kernel.vfs w.kernel.closing
   pub held : T (is_sorted nat_cmp w.server.held)
   pub balanced : is_live w.kernel.phase ≡ true → OpensBalanced w
-  pub unopened : is_live w.kernel.phase ≡ false → (w.kernel.vfs.opens ≡ []) × (w.kernel.closing ≡ [])
+  pub idle : is_live w.kernel.phase ≡ false → OpensLeft w
