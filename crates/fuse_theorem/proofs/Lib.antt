@@ -148,3 +148,4 @@ pub mod OpensMoved
 pub mod OpensTables
 pub mod OpensLeft
 pub mod OpensStay
+pub mod HoldsOpens
