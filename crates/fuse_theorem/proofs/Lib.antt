@@ -149,3 +149,4 @@ pub mod OpensTables
 pub mod OpensLeft
 pub mod OpensStay
 pub mod HoldsOpens
+pub mod OpenNeeds

@@ -3,21 +3,23 @@
 
 ghost use Rattle.std.specs.Prelude.{◌≡◌, ℕ, Ok, Some, slice_get, true};
 ghost use Rattle.fuse_spec.specs.Kernel.{is_live};
-ghost use Rattle.fuse_spec.specs.Maps.{get};
+ghost use Rattle.fuse_spec.specs.Maps.{get, remove};
 ghost use Rattle.fuse_spec.specs.Operations.{Operation};
 ghost use Rattle.fuse_spec.specs.Performs.{is_still_held};
-ghost use Rattle.fuse_spec.specs.Server.{HeldRequest};
+ghost use Rattle.fuse_spec.specs.Nodes.{file_of, is_open, handle_back};
+ghost use Rattle.fuse_spec.specs.Server.{HeldRequest, Copy};
 ghost use Rattle.fuse_spec.specs.declared.Opened.{Opened};
+ghost use Rattle.fuse_spec.specs.declared.ReplyResult.{ReplyResult};
 ghost use Rattle.fuse_spec.specs.Alike.{Alike};
-ghost use Rattle.fuse_spec.specs.Messages.{Request, asks, interrupt};
-ghost use Rattle.fuse_theorem.specs.Conditions.{IsInterrupt};
+ghost use Rattle.fuse_spec.specs.Messages.{Request, asks, release, interrupt};
+ghost use Rattle.fuse_theorem.specs.Conditions.{HoldsOpens, IsInterrupt};
 ghost use Rattle.fuse_theorem.specs.Links.{LinksSound};
 ghost use Rattle.fuse_spec.specs.Events as event;
 ghost use Rattle.fuse_spec.specs.Events.{Event, Outcome};
 ghost use Rattle.fuse_spec.specs.Plain.{Plain, first_plain};
 ghost use Rattle.fuse_spec.specs.PlainSteps.{Takes};
 ghost use Rattle.fuse_spec.specs.Steps.{Happens, step};
-ghost use Rattle.fuse_spec.specs.Worlds.{World, first_world};
+ghost use Rattle.fuse_spec.specs.Worlds.{World, first_world, after_settle};
 ghost use Rattle.fuse_theorem.specs.AskedRequests.{RequestsAskedWhileLive};
 ghost use Rattle.fuse_theorem.specs.AsksServed.{AsksServed};
 ghost use Rattle.fuse_theorem.specs.EachEvent.{Needs};
@@ -80,4 +82,14 @@ pub fn held_stay_known()
 pub fn open_numbers_stay_balanced()
     ensures at_first { OpensSound first_world }
     ensures always { (w : World) (p : Plain) → BothSound w p → ReleasesOfKnownWhileLive w → OpensSound w → (e : Event) (o : Outcome) (after : World) → Happens w e o after → OpensSound after }
+{}
+
+/// The server holds each open number that is in use or on its way. It does so still once a held RELEASE gives its number back, which is one of its node's
+/// file, and once a copy is settled.
+pub fn open_numbers_are_held()
+    ensures held { (w : World) (p : Plain) → BothSound w p → OpensSound w → HoldsOpens w w.server.handles }
+    ensures release { (w : World) (p : Plain) → BothSound w p → OpensSound w → (unique : ℕ) (t : HeldRequest) → get w.server.held unique ≡ Some t → (o : Opened) → t.body ≡ release o →
+        (is_open w.server.handles o.fh (file_of w.server.nodes o.nodeid) ≡ true) × HoldsOpens (record w { server = record w.server { held = remove w.server.held unique } }) (handle_back w.server.handles o.fh) }
+    ensures settle { (w : World) (p : Plain) → BothSound w p → ReleasesOfKnownWhileLive w → OpensSound w → (k : ℕ) (result : ReplyResult) (copy : Copy) → slice_get w.results k ≡ Some result → get w.server.copies result.number ≡ Some copy →
+        HoldsOpens (after_settle w k result (Some copy)) (after_settle w k result (Some copy)).server.handles }
 {}
