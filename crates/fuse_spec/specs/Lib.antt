@@ -29,6 +29,8 @@ pub mod Steps
 pub mod Records
 pub mod Plain
 pub mod PlainSteps
+pub mod PlainCalls
+pub mod PlainWords
 pub mod Denotes
 pub mod Counts
 pub mod Alike

@@ -15,6 +15,7 @@ use Rattle.fuse_theorem.proofs.AnsweredOnce.{answers_once}
 use Rattle.fuse_theorem.proofs.FirstAnswers.{collected_first, collected_alike}
 use Rattle.fuse_theorem.proofs.FirstKeeps.{first_world_keeps}
 use Rattle.fuse_theorem.proofs.FirstPath.{first_goes, first_stays}
+use Rattle.fuse_theorem.proofs.PlainWorld.{steps_in_words as in_words}
 
 -- Where the machine's records lead.
 abbrev Runs : World → Plain → List Event → List Record → World → Type 0
@@ -22,9 +23,9 @@ Runs w p events records after = (plain : Plain) × Run w p events records after 
 
 runs_on : (w : World) (p : Plain) → IsFirstWorld w → Alike w p → (events : List Event) (records : List Record) (after : World) → All IsFirst events → Recorded w events records after → Runs w p events records after
 runs_on w p here same events records after first (none_left v) = (p, (refl, refl, refl), same, here)
-runs_on w p here same events records after first (one_refused v event refusal rest more last recorded) =
+runs_on w p here same events records after first (one_refused v event refusal rest more last judged recorded) =
     let run = runs_on w p here same rest more last (All-tail IsFirst event rest first) recorded in
-    let refuses : Refuses w p (refused refusal ∷ []) w p = record { refusal = refusal; recorded = refl; after = refl; plain_after = refl } in
+    let refuses : Refuses w p event (refused refusal ∷ []) w p = record { refusal = refusal; judged = judged; recorded = refl; after = refl; plain_after = refl } in
     (run.0, (refused refusal ∷ [], more, w, p, refl, inr refuses, run.1), run.2, run.3)
 runs_on w p here same events records after first (one_accepted v event o mid rest more last happens recorded) =
     let starts = All-head IsFirst event rest first in
@@ -38,7 +39,7 @@ runs_on w p here same events records after first (one_accepted v event o mid res
       mid = mid;
       plain = went.plain;
       happens = happens;
-      takes = went.takes;
+      steps = in_words p went.plain event o went.takes;
       alike = went.alike;
       keeps = first_world_keeps mid reached;
       recorded = ap (λ (answers : Map Answer). outcome o ∷ answers_of answers) went.alike.vfs.answers;

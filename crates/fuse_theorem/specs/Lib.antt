@@ -9,8 +9,6 @@ pub mod FirstWorld
 pub mod AnswersSound
 pub mod Unperformed
 pub mod WorldSound
-pub mod PlainCalls
-pub mod PlainWords
 pub mod AskedRequests
 pub mod Links
 pub mod AsksServed

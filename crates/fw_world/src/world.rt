@@ -4,14 +4,13 @@ ghost use Rattle.std.specs.Prelude.{◌≡◌, ◌≤◌, ◌<◌, ◌++◌, ◌
 ghost use Rattle.std.specs.Vec.{vec_len, vec_capacity};
 ghost use Rattle.fuse_spec.specs.Events as event;
 ghost use Rattle.fuse_spec.specs.Maps.{remove};
-ghost use Rattle.fuse_spec.specs.Steps.{Happens, is_past};
+ghost use Rattle.fuse_spec.specs.Steps.{Happens, is_past, RefusedWith};
 ghost use Rattle.fuse_spec.specs.Worlds.{World as WorldState, first_world};
 ghost use Rattle.fuse_spec.specs.Plain.{first_plain};
 ghost use Rattle.fuse_spec.specs.Alike.{Alike};
 ghost use Rattle.fuse_theorem.specs.FirstWorld.{IsFirstWorld};
 ghost use Rattle.fk_kernel.specs.Values.{call_of, answer_of};
 ghost use Rattle.fw_world.specs.Values.{event_of, outcome_of, result_of};
-ghost use Rattle.fw_world.specs.Steps.{RefusedWith};
 
 use crate::event::{Event, Outcome};
 use fk_kernel::{Answer, Call, Kernel};

@@ -17,4 +17,4 @@ returns-in-Ok-clause-ran g c ran =
 
 pub returns-in-Err-clause-ran : goal.returns-in-Err-clause-ran
 returns-in-Err-clause-ran g c ran =
-    adds_refusal c.args.world.now c.args.event.now c.in-Err.refusal c.args.records.now.items c.reserve.new.self.items c.add-in-Err.new.records.items c.step.new.self c.in-Err.ensures.err c.reserve.ensures.items c.add-in-Err.ensures.items
+    adds_refusal c.args.world.now c.args.event.now c.in-Err.refusal c.in-Err.ensures.refusal c.args.records.now.items c.reserve.new.self.items c.add-in-Err.new.records.items c.step.new.self c.in-Err.ensures.err c.reserve.ensures.items c.add-in-Err.ensures.items

@@ -17,7 +17,7 @@ use Rattle.fuse_spec.specs.Vfs.{CallState, Vfs}
 use Rattle.fuse_spec.specs.Plain.{Plain, Ask, waiting, performed, declined}
 use Rattle.fuse_spec.specs.Events.{Event, Outcome}
 use Rattle.fuse_spec.specs.Events as event
-use Rattle.fuse_theorem.specs.PlainCalls.{is_answered, Begins, Hears, out_of_force}
+use Rattle.fuse_spec.specs.PlainCalls.{is_answered, Begins, Hears, out_of_force}
 
 -- What a call asks is put under a label that no other ask bears; or it asks nothing.
 pub data Asks (p : Plain) (label number : ℕ) (after : Vfs ℕ) : Option (Operation ℕ ℕ) → Plain → Type 0 where
