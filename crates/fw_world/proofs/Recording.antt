@@ -1,5 +1,5 @@
 -- Lists of events, and what is recorded of each.
-use Rattle.std.proofs.Common.{◌≡◌, ℕ, ◌+◌, ◌<◌, ◌≤◌, List, [], ◌∷◌, ◌++◌, Result, Ok, Err, OnOk, is_err, false, length, map, take, get_or, ap, sym, subst, ◌∙◌, All}
+use Rattle.std.proofs.Common.{◌≡◌, ℕ, ◌+◌, ◌<◌, ◌≤◌, List, [], ◌∷◌, ◌++◌, Result, Ok, Err, OnOk, OnErr, is_err, true, false, length, map, take, get_or, ap, sym, subst, ◌∙◌, All}
 use Rattle.std.proofs.lemmas.List.{append_assoc, append-nil, map-append, take_more, take_all}
 use Rattle.std.proofs.lemmas.List.Elements.{All-nil, All-cons}
 use Rattle.fuse_spec.specs.declared.Refusal.{Refusal}
@@ -98,6 +98,10 @@ adds_outcome w e o mid happens had made begun has answers new after kept begun_i
 pub made_room : {T E : Type 0} (r : Result T E) (len more capacity : ℕ) → OnOk r (len + more ≤ capacity) → is_err r ≡ false → len + more ≤ capacity
 made_room (Ok x) len more capacity made e = made
 made_room (Err x) len more capacity made e = absurd (cc e)
+
+pub wanted_room : {T E : Type 0} (r : Result T E) (len more capacity : ℕ) → OnErr r (capacity < len + more) → is_err r ≡ true → capacity < len + more
+wanted_room (Ok x) len more capacity full e = absurd (cc e)
+wanted_room (Err x) len more capacity full e = full
 
 -- How many answers wait after an event that happens.
 pub few_answers : (w : World) → IsFirstWorld w → (e : EventValue) (o : Outcome) (after : World) → Happens w (event_of e) o after → length after.kernel.vfs.answers ≤ length w.kernel.vfs.answers + 1
