@@ -10,6 +10,7 @@ ghost use Rattle.fuse_spec.specs.Plain.{first_plain};
 ghost use Rattle.fuse_spec.specs.Alike.{Alike};
 ghost use Rattle.fuse_theorem.specs.FirstWorld.{IsFirstWorld};
 ghost use Rattle.fk_kernel.specs.Values.{call_of, answer_of};
+ghost use Rattle.fw_world.specs.Frames.{IsLastFrame};
 ghost use Rattle.fw_world.specs.Values.{event_of, outcome_of, result_of};
 
 use crate::event::{Event, Outcome};
@@ -133,11 +134,19 @@ impl<A: Allocator + Copy> WorldIn<A> {
     }
 
     /// The request or reply frame that the last step put, if its link still has it.
-    pub fn last_put(&self) -> Option<&[u8]> {
+    pub fn last_put(&self) -> Option<&[u8]>
+        ensures { IfSome result (λ bytes. IsLastFrame self.now bytes.now) }
+    {
         match self.last_put {
             LastPut::Nothing => None,
-            LastPut::Request => Some(self.requests.last()?.bytes()),
-            LastPut::Reply => Some(self.replies.last()?.bytes()),
+            LastPut::Request => match self.requests.last() {
+                Some(frame) => Some(frame.bytes()),
+                None => None,
+            },
+            LastPut::Reply => match self.replies.last() {
+                Some(copy) => Some(copy.bytes()),
+                None => None,
+            },
         }
     }
 

@@ -8,8 +8,8 @@ loop-k-init g c = (none_ran c.args.world.now c.args.events.now c.args.records.no
 
 pub loop-k-preserved : goal.loop-k-preserved
 loop-k-preserved g c = (
-    one_more c.args.world.now c.args.events.now c.args.records.now.items c.loop-k.world c.loop-k.records.items c.loop-k.k (Mount 0 0) c.run_one.new.world c.run_one.new.records.items c.loop-k-test.true c.loop-k.invariant.0 (c.run_one.ensures.ran c.if-not-run_one.false),
-    omega (arith, c.loop-k.invariant.1, c.run_one.ensures.room c.if-not-run_one.false),
+  one_more c.args.world.now c.args.events.now c.args.records.now.items c.loop-k.world c.loop-k.records.items c.loop-k.k (Mount 0 0) c.run_one.new.world c.run_one.new.records.items c.loop-k-test.true c.loop-k.invariant.0 (c.run_one.ensures.ran c.if-not-run_one.false),
+  omega (arith, c.loop-k.invariant.1, c.run_one.ensures.room c.if-not-run_one.false),
 )
 
 pub returns-then-not-run_one-clause-ran : goal.returns-then-not-run_one-clause-ran
