@@ -2,8 +2,8 @@
 ghost use Rattle.std.specs.Prelude.{◌<◌};
 ghost use Rattle.fuse_spec.specs.Uniques.{numbers_left_from};
 
-use crate::{IntrEffect, ListQueues, NoMemory, QueueTable, Queues};
 use fail_at::FailAt;
+use fk_queues::{IntrEffect, ListQueues, NoMemory, QueueTable, Queues};
 use std::alloc::{Allocator, Global};
 use std::process::Abort;
 use std::test::Fail;

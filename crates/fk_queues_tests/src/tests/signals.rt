@@ -1,6 +1,6 @@
 //! The table of signals.
 use super::queue;
-use crate::{IntrEffect, ListQueues, NoMemory, QueueTable, Queues};
+use fk_queues::{IntrEffect, ListQueues, NoMemory, QueueTable, Queues};
 use fuse_spec::Mark;
 use std::alloc::Global;
 use std::process::Abort;

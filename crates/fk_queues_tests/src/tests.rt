@@ -1,5 +1,5 @@
 //! What no clause says: the tables against written rows, refused growths, and both representations side by side.
-use crate::{NoMemory, QueueTable};
+use fk_queues::{NoMemory, QueueTable};
 
 mod alike;
 mod calls;

@@ -1,6 +1,6 @@
 //! Each call on its happy path over each representation, and the order of nodeids.
 use super::{give_again, give_first};
-use crate::{LIMIT, ListNodes, NodeStore, NodeTable, TooMany};
+use fs_nodes::{LIMIT, ListNodes, NodeStore, NodeTable, TooMany};
 use std::alloc::AllocError;
 use std::process::Abort;
 use std::test::Fail;

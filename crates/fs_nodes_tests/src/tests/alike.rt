@@ -1,6 +1,6 @@
 //! Both representations give the same answers.
 use super::{give_again, give_first};
-use crate::{ListNodes, NodeStore, NodeTable, TooMany};
+use fs_nodes::{ListNodes, NodeStore, NodeTable, TooMany};
 use std::alloc::AllocError;
 use std::process::Abort;
 use std::test::Fail;

@@ -1,6 +1,6 @@
 //! Both representations give the same answers.
 use super::{queue, queue_forget};
-use crate::{Forgets, IntrEffect, ListQueues, NoMemory, QueueTable, Queues};
+use fk_queues::{Forgets, IntrEffect, ListQueues, NoMemory, QueueTable, Queues};
 use std::process::Abort;
 use std::test::Fail;
 

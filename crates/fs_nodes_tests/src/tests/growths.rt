@@ -1,7 +1,7 @@
 //! Refused growths: `reserve` and `nodes` alone take memory, and where it is refused nothing changes.
 use super::{give_again, give_first};
-use crate::{ListNodes, NodeStore, NodeTable};
 use fail_at::FailAt;
+use fs_nodes::{ListNodes, NodeStore, NodeTable};
 use std::alloc::{AllocError, Allocator, Global};
 use std::process::Abort;
 use std::test::Fail;

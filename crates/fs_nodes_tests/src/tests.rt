@@ -1,5 +1,5 @@
 //! What no clause says: each call once, the order of nodeids, refused growths, and both representations side by side.
-use crate::{LIMIT, NodeStore};
+use fs_nodes::{LIMIT, NodeStore};
 use std::alloc::AllocError;
 
 mod alike;

@@ -1,6 +1,6 @@
 //! Each call once, and what an abort leaves.
 use super::{queue, queue_forget};
-use crate::{Forgets, IntrEffect, ListQueues, NoMemory, QueueTable, Queues};
+use fk_queues::{Forgets, IntrEffect, ListQueues, NoMemory, QueueTable, Queues};
 use std::alloc::Global;
 use std::process::Abort;
 use std::test::Fail;

@@ -1,6 +1,6 @@
 //! The table of replies to an INTERRUPT.
 use super::queue;
-use crate::{IntrEffect, ListQueues, NoMemory, QueueTable, Queues};
+use fk_queues::{IntrEffect, ListQueues, NoMemory, QueueTable, Queues};
 use fuse_spec::InterruptReply;
 use std::alloc::Global;
 use std::process::Abort;
