@@ -26,6 +26,7 @@ pub mod Copies
 pub mod Events
 pub mod Worlds
 pub mod Steps
+pub mod Refusals
 pub mod Records
 pub mod Plain
 pub mod PlainSteps
