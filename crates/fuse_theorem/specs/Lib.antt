@@ -17,3 +17,4 @@ pub mod AsksServed
 pub mod KnownNodes
 pub mod EveryList
 pub mod HeldKnown
+pub mod StillHeld

@@ -24,6 +24,7 @@ ghost use Rattle.fuse_theorem.specs.EachEvent.{Needs};
 ghost use Rattle.fuse_theorem.specs.EveryList.{BothSound, NeedsBothAlone};
 ghost use Rattle.fuse_theorem.specs.HeldKnown.{HeldKnownWhileLive};
 ghost use Rattle.fuse_theorem.specs.KnownNodes.{NodesKnown};
+ghost use Rattle.fuse_theorem.specs.StillHeld.{HeldReleasesKnown, NodesStillHeld, StillHeldAfterAbort};
 ghost use Rattle.fuse_theorem.specs.WorldSound.{WorldSound};
 
 /// What is on the request link or held is what the kernel asks, under the same number, while the mount is live and whatever the event; what bears an
@@ -72,4 +73,13 @@ pub fn held_stay_known()
     ensures always { (w : World) → WorldSound w → RequestsAskedWhileLive w → LinksSound w → NodesKnown w.kernel → HeldKnownWhileLive w → (e : Event) (o : Outcome) (after : World) → Happens w e o after → HeldKnownWhileLive after }
     ensures still { (w : World) → WorldSound w → HeldKnownWhileLive w → is_live w.kernel.phase ≡ true → (unique : ℕ) (t : HeldRequest) → get w.server.held unique ≡ Some t → (operation : Operation ℕ Opened) → t.body ≡ asks operation →
         is_still_held w.server.nodes t.generations ≡ true }
+{}
+
+/// The server holds the nodes of each request that it holds, under the generations that they had when it was taken, and only requests of calls are marked: as
+/// the kernel knows them while the mount is live, and after an abort whatever the event, as no lookups are given back then. That is so where the kernel
+/// knows the nodes of held RELEASEs.
+pub fn held_stay_held()
+    ensures at_first { StillHeldAfterAbort first_world }
+    ensures always { (w : World) → WorldSound w → RequestsAskedWhileLive w → LinksSound w → HeldKnownWhileLive w → HeldReleasesKnown w → StillHeldAfterAbort w → (e : Event) (o : Outcome) (after : World) → Happens w e o after → StillHeldAfterAbort after }
+    ensures held { (w : World) → WorldSound w → RequestsAskedWhileLive w → LinksSound w → HeldKnownWhileLive w → HeldReleasesKnown w → StillHeldAfterAbort w → (unique : ℕ) (t : HeldRequest) → get w.server.held unique ≡ Some t → NodesStillHeld w t }
 {}
