@@ -133,3 +133,5 @@ pub mod EveryList
 pub mod HeldKnown
 pub mod HeldStays
 pub mod StillHeld
+pub mod HeldNodes
+pub mod PerformNeeds

@@ -1,26 +1,27 @@
 //! What holds of every world to which a list of events leads, and what single events need that follows from it. Each law says that the
 //! first world has it and that each event keeps it.
 
-ghost use Rattle.std.specs.Prelude.{◌≡◌, ℕ, Ok, Some, slice_get, true};
+ghost use Rattle.std.specs.Prelude.{◌≡◌, ◌≢◌, ℕ, Ok, Some, slice_get, true};
 ghost use Rattle.fuse_spec.specs.Kernel.{is_live};
-ghost use Rattle.fuse_spec.specs.Maps.{get};
+ghost use Rattle.fuse_spec.specs.Maps.{get, remove};
+ghost use Rattle.fuse_spec.specs.Nodes.{file_of, is_open, handle_back};
 ghost use Rattle.fuse_spec.specs.Operations.{Operation};
 ghost use Rattle.fuse_spec.specs.Performs.{is_still_held};
 ghost use Rattle.fuse_spec.specs.Server.{HeldRequest};
 ghost use Rattle.fuse_spec.specs.declared.Opened.{Opened};
 ghost use Rattle.fuse_spec.specs.Alike.{Alike};
-ghost use Rattle.fuse_spec.specs.Messages.{Request, asks, interrupt};
-ghost use Rattle.fuse_theorem.specs.Conditions.{IsInterrupt};
+ghost use Rattle.fuse_spec.specs.Messages.{Request, asks, release, interrupt};
+ghost use Rattle.fuse_theorem.specs.Conditions.{HoldsOpens, IsInterrupt};
 ghost use Rattle.fuse_theorem.specs.Links.{LinksSound};
 ghost use Rattle.fuse_spec.specs.Events as event;
 ghost use Rattle.fuse_spec.specs.Events.{Event, Outcome};
 ghost use Rattle.fuse_spec.specs.Plain.{Plain, first_plain};
 ghost use Rattle.fuse_spec.specs.PlainSteps.{Takes};
-ghost use Rattle.fuse_spec.specs.Steps.{Happens, step};
+ghost use Rattle.fuse_spec.specs.Steps.{Happens, MayStep, step};
 ghost use Rattle.fuse_spec.specs.Worlds.{World, first_world};
 ghost use Rattle.fuse_theorem.specs.AskedRequests.{RequestsAskedWhileLive};
 ghost use Rattle.fuse_theorem.specs.AsksServed.{AsksServed};
-ghost use Rattle.fuse_theorem.specs.EachEvent.{Needs};
+ghost use Rattle.fuse_theorem.specs.EachEvent.{CanServe, Needs};
 ghost use Rattle.fuse_theorem.specs.EveryList.{BothSound, NeedsBothAlone};
 ghost use Rattle.fuse_theorem.specs.HeldKnown.{HeldKnownWhileLive};
 ghost use Rattle.fuse_theorem.specs.KnownNodes.{NodesKnown};
@@ -82,4 +83,13 @@ pub fn held_stay_held()
     ensures at_first { StillHeldAfterAbort first_world }
     ensures always { (w : World) → WorldSound w → RequestsAskedWhileLive w → LinksSound w → HeldKnownWhileLive w → HeldReleasesKnown w → StillHeldAfterAbort w → (e : Event) (o : Outcome) (after : World) → Happens w e o after → StillHeldAfterAbort after }
     ensures held { (w : World) → WorldSound w → RequestsAskedWhileLive w → LinksSound w → HeldKnownWhileLive w → HeldReleasesKnown w → StillHeldAfterAbort w → (unique : ℕ) (t : HeldRequest) → get w.server.held unique ≡ Some t → NodesStillHeld w t }
+{}
+
+/// The performing of a held request needs no more: an operation of a call, live or after an abort, one that is marked, or INIT. A RELEASE needs beside that
+/// its open number is one of its node's file, and that the open numbers which are used are held without it.
+pub fn performs_need_no_more()
+    ensures requests { (w : World) (p : Plain) → BothSound w p → StillHeldAfterAbort w → (choice : ℕ → ℕ) (unique : ℕ) → MayStep choice w (event.perform unique) →
+        ((t : HeldRequest) (o : Opened) → get w.server.held unique ≡ Some t → t.body ≢ release o) → Needs choice w p (event.perform unique) }
+    ensures releases { (w : World) (p : Plain) → BothSound w p → HeldReleasesKnown w → StillHeldAfterAbort w → (choice : ℕ → ℕ) (unique : ℕ) (t : HeldRequest) (o : Opened) → get w.server.held unique ≡ Some t → t.body ≡ release o →
+        is_open w.server.handles o.fh (file_of w.server.nodes o.nodeid) ≡ true → HoldsOpens (record w { server = record w.server { held = remove w.server.held unique } }) (handle_back w.server.handles o.fh) → CanServe choice w p unique t }
 {}
