@@ -29,11 +29,11 @@ some_of P Q xs all (here x rest p) = (x, p, All-head Q x rest all)
 some_of P Q xs all (there x rest h) = some_of P Q rest (All-tail Q x rest all) h
 
 -- Where it holds the nodes of the requests that it holds.
-pub nodes_held : (w : World) → WorldSound w → LinksSound w → KeptAreSent w → ((unique : ℕ) (t : HeldRequest) → get w.server.held unique ≡ Some t → NodesStillHeld w t) → HoldsAll w w.server.nodes
+pub nodes_held : (w : World) → WorldSound w → LinksSound w → KeptAreSent w → ((unique : ℕ) (t : HeldRequest) → get w.server.held unique ≡ Some t → NodesStillHeld w.server.nodes t) → HoldsAll w w.server.nodes
 nodes_held w sound links kept held = by (is_live w.kernel.phase) refl
   where
     held_nodes : (unique : ℕ) (t : HeldRequest) → get w.server.held unique ≡ Some t → (id generation : ℕ) → Contains t.generations (id, generation) → IsHeldAs w.server.nodes id generation
-    held_nodes unique t at id generation among = let now = held unique t at in All-contains (λ (g : ℕ × ℕ). IsHeldAs w.server.nodes g.0 g.1) t.generations (id, generation) now.nodes among
+    held_nodes unique t at id generation among = let now = held unique t at in All-contains (λ (g : ℕ × ℕ). IsHeldAs w.server.nodes g.0 g.1) t.generations (id, generation) now.held among
 
     by : (b : Bool) → is_live w.kernel.phase ≡ b → HoldsAll w w.server.nodes
     by true live =

@@ -75,9 +75,9 @@ module _ (w : World) (p : Plain) (both : BothSound w p) (unique : ℕ) (t : Held
             ap (count_by (λ (r : Request). nat_eq unique r.unique)) idle.requests,
           )
 
-  module _ (now : NodesStillHeld w t) where
+  module _ (now : NodesStillHeld w.server.nodes t) where
     still : is_still_held w.server.nodes t.generations ≡ true
-    still = all_still_held w.server.nodes t.generations now.nodes
+    still = all_still_held w.server.nodes t.generations now.held
 
     marked_as : (body : RequestBody) → t.body ≡ body → IsHeldMarked t.marked body
     marked_as body is = subst (IsHeldMarked t.marked) is now.mark
@@ -126,7 +126,7 @@ pub perform_met : (w : World) (p : Plain) → BothSound w p → StillHeldAfterAb
 perform_met w p both still choice unique may other t there =
     serves w p both unique t there (now (is_live w.kernel.phase) refl) choice (subst (MayChooseFor choice w) there may) (λ o is. absurd (other t o there is))
   where
-    now : (b : Bool) → is_live w.kernel.phase ≡ b → NodesStillHeld w t
+    now : (b : Bool) → is_live w.kernel.phase ≡ b → NodesStillHeld w.server.nodes t
     now true live = live_still_held w both.world both.asked both.links both.held live unique t there (λ o is. absurd (other t o there is))
     now false dead = still dead unique t there
 

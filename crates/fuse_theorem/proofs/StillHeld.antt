@@ -68,8 +68,8 @@ module _ (w : World) (asked : RequestsAskedWhileLive w) (live : is_live w.kernel
 
 -- INIT names no node, and the kernel knows those of calls, and of RELEASEs where that is given.
 pub live_still_held : (w : World) → WorldSound w → RequestsAskedWhileLive w → LinksSound w → HeldKnownWhileLive w → is_live w.kernel.phase ≡ true → (unique : ℕ) (t : HeldRequest) → get w.server.held unique ≡ Some t
-    → ((o : Opened) → t.body ≡ release o → All (KnownAs w) t.generations) → NodesStillHeld w t
-live_still_held w sound asked links known live unique t there releases = let mark = held_marked w asked live unique t there in record { nodes = by t.body refl mark; mark = mark }
+    → ((o : Opened) → t.body ≡ release o → All (KnownAs w) t.generations) → NodesStillHeld w.server.nodes t
+live_still_held w sound asked links known live unique t there releases = let mark = held_marked w asked live unique t there in record { held = by t.body refl mark; mark = mark }
   where
     held : All (KnownAs w) t.generations → All (HeldAs w.server.nodes) t.generations
     held h = known_nodes_held w (known_held w sound.lookups) t.generations h
@@ -85,18 +85,16 @@ live_still_held w sound asked links known live unique t there releases = let mar
 -- ---- in any mount
 
 module _ (w : World) (sound : WorldSound w) (asked : RequestsAskedWhileLive w) (links : LinksSound w) (known : HeldKnownWhileLive w) (releases : HeldReleasesKnown w) (old : StillHeldAfterAbort w) where
-  pub now_still_held : (unique : ℕ) (t : HeldRequest) → get w.server.held unique ≡ Some t → NodesStillHeld w t
+  pub now_still_held : (unique : ℕ) (t : HeldRequest) → get w.server.held unique ≡ Some t → NodesStillHeld w.server.nodes t
   now_still_held unique t there = by (is_live w.kernel.phase) refl
     where
-      by : (b : Bool) → is_live w.kernel.phase ≡ b → NodesStillHeld w t
-      by true live = live_still_held w sound asked links known live unique t there (λ o body_is. releases live unique t o there body_is)
+      by : (b : Bool) → is_live w.kernel.phase ≡ b → NodesStillHeld w.server.nodes t
+      by true live = live_still_held w sound asked links known live unique t there (λ o body_is. releases live unique t there o body_is)
       by false dead = old dead unique t there
 
   -- The server holds the same nodes and no other requests.
   carried : (v : World) → v.server.nodes ≡ w.server.nodes → ((unique : ℕ) (t : HeldRequest) → get v.server.held unique ≡ Some t → get w.server.held unique ≡ Some t) → StillHeldAfterAbort v
-  carried v same fewer dead unique t at =
-      let now = now_still_held unique t (fewer unique t at) in
-      record { nodes = subst (λ (n : NodeTable). All (HeldAs n) t.generations) (sym same) now.nodes; mark = now.mark }
+  carried v same fewer dead unique t at = subst (λ (n : NodeTable). NodesStillHeld n t) (sym same) (now_still_held unique t (fewer unique t at))
 
   same_server : (v : World) → v.server ≡ w.server → StillHeldAfterAbort v
   same_server v same = carried v (λ i. (same i).nodes) (λ unique t at. ap (λ s. get s.held unique) (sym same) ∙ at)

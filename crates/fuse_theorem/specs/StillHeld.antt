@@ -4,6 +4,7 @@ use Rattle.fuse_spec.specs.declared.Opened.{Opened}
 use Rattle.fuse_spec.specs.Maps.{get}
 use Rattle.fuse_spec.specs.Messages.{RequestBody, init, asks, release, forget, batch_forget, interrupt}
 use Rattle.fuse_spec.specs.Kernel.{is_live}
+use Rattle.fuse_spec.specs.Nodes.{NodeTable}
 use Rattle.fuse_spec.specs.Server.{HeldRequest}
 use Rattle.fuse_spec.specs.Denotes.{generation_known}
 use Rattle.fuse_spec.specs.Worlds.{World}
@@ -19,15 +20,15 @@ IsHeldMarked marked (batch_forget fs) = ⊥
 IsHeldMarked marked (interrupt original) = ⊥
 
 -- The server holds the request's nodes still, under the generations that they had when it was taken.
-pub record NodesStillHeld (w : World) (t : HeldRequest) : Type 0 where
-  pub nodes : All (λ (g : ℕ × ℕ). IsHeldAs w.server.nodes g.0 g.1) t.generations
+pub record NodesStillHeld (nodes : NodeTable) (t : HeldRequest) : Type 0 where
+  pub held : All (λ (g : ℕ × ℕ). IsHeldAs nodes g.0 g.1) t.generations
   pub mark : IsHeldMarked t.marked t.body
 
 -- So it is of each held request while no mount is live.
 abbrev pub StillHeldAfterAbort : World → Type 0
-StillHeldAfterAbort w = is_live w.kernel.phase ≡ false → (unique : ℕ) (t : HeldRequest) → get w.server.held unique ≡ Some t → NodesStillHeld w t
+StillHeldAfterAbort w = is_live w.kernel.phase ≡ false → (unique : ℕ) (t : HeldRequest) → get w.server.held unique ≡ Some t → NodesStillHeld w.server.nodes t
 
 -- While the mount is live, a held RELEASE names its node under the generation that the kernel knows.
 abbrev pub HeldReleasesKnown : World → Type 0
-HeldReleasesKnown w = is_live w.kernel.phase ≡ true → (unique : ℕ) (t : HeldRequest) (o : Opened) → get w.server.held unique ≡ Some t → t.body ≡ release o
+HeldReleasesKnown w = is_live w.kernel.phase ≡ true → (unique : ℕ) (t : HeldRequest) → get w.server.held unique ≡ Some t → (o : Opened) → t.body ≡ release o
     → All (λ (g : ℕ × ℕ). generation_known w.kernel.nodes g.0 ≡ Some g.1) t.generations

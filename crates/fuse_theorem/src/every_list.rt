@@ -82,7 +82,7 @@ pub fn held_stay_known()
 pub fn held_stay_held()
     ensures at_first { StillHeldAfterAbort first_world }
     ensures always { (w : World) → WorldSound w → RequestsAskedWhileLive w → LinksSound w → HeldKnownWhileLive w → HeldReleasesKnown w → StillHeldAfterAbort w → (e : Event) (o : Outcome) (after : World) → Happens w e o after → StillHeldAfterAbort after }
-    ensures held { (w : World) → WorldSound w → RequestsAskedWhileLive w → LinksSound w → HeldKnownWhileLive w → HeldReleasesKnown w → StillHeldAfterAbort w → (unique : ℕ) (t : HeldRequest) → get w.server.held unique ≡ Some t → NodesStillHeld w t }
+    ensures held { (w : World) → WorldSound w → RequestsAskedWhileLive w → LinksSound w → HeldKnownWhileLive w → HeldReleasesKnown w → StillHeldAfterAbort w → (unique : ℕ) (t : HeldRequest) → get w.server.held unique ≡ Some t → NodesStillHeld w.server.nodes t }
 {}
 
 /// The performing of a held request needs no more: an operation of a call, live or after an abort, one that is marked, or INIT. A RELEASE needs beside that
