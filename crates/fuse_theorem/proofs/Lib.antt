@@ -135,3 +135,5 @@ pub mod HeldStays
 pub mod StillHeld
 pub mod HeldNodes
 pub mod PerformNeeds
+pub mod NumbersLeft
+pub mod StillOpen

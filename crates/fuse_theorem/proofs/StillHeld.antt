@@ -84,6 +84,15 @@ live_still_held w sound asked links known live unique t there releases = let mar
 
 -- ---- in any mount
 
+-- After an abort no node is given.
+pub unheard_nodes : (w : World) → WorldSound w → (choice : ℕ → ℕ) (unique : ℕ) (t : HeldRequest) → w.server.aborted ≡ true → (served choice w.server unique t).server.nodes ≡ w.server.nodes
+unheard_nodes w sound choice unique t aborted =
+    let none : files_given w.server t ≡ [] = ap (λ (b : Bool). cond (b || (t.marked || not (is_still_held w.server.nodes t.generations))) [] (files_by w.server t.body)) aborted in
+    let lookups = sound.lookups in
+    let server = lookups.server in
+    let counts = performed_counts choice (record w.server { held = remove w.server.held unique }) server.nodes t (subst (MayChoose choice w.server.nodes) (sym none) tt) in
+    counts.same aborted
+
 module _ (w : World) (sound : WorldSound w) (asked : RequestsAskedWhileLive w) (links : LinksSound w) (known : HeldKnownWhileLive w) (releases : HeldReleasesKnown w) (old : StillHeldAfterAbort w) where
   pub now_still_held : (unique : ℕ) (t : HeldRequest) → get w.server.held unique ≡ Some t → NodesStillHeld w.server.nodes t
   now_still_held unique t there = by (is_live w.kernel.phase) refl
@@ -113,18 +122,9 @@ module _ (w : World) (sound : WorldSound w) (asked : RequestsAskedWhileLive w) (
         let rest = performed_rest choice (record w.server { held = remove w.server.held unique }) t in
         left_found w.server.held unique u x (ap (λ (m : Map HeldRequest). get m u) (sym rest.held) ∙ at)
 
-    -- After an abort nothing is given.
-    same_nodes : w.server.aborted ≡ true → (served choice w.server unique t).server.nodes ≡ w.server.nodes
-    same_nodes aborted =
-        let none : files_given w.server t ≡ [] = ap (λ (b : Bool). cond (b || (t.marked || not (is_still_held w.server.nodes t.generations))) [] (files_by w.server t.body)) aborted in
-        let lookups = sound.lookups in
-        let server = lookups.server in
-        let counts = performed_counts choice (record w.server { held = remove w.server.held unique }) server.nodes t (subst (MayChoose choice w.server.nodes) (sym none) tt) in
-        counts.same aborted
-
     aborted_already : w.server.aborted ≡ true → (o : Option WireReply) → StillHeldAfterAbort (After o)
-    aborted_already aborted None = carried (After None) (same_nodes aborted) left
-    aborted_already aborted (Some wire) = carried (After (Some wire)) (same_nodes aborted) left
+    aborted_already aborted None = carried (After None) (unheard_nodes w sound choice unique t aborted) left
+    aborted_already aborted (Some wire) = carried (After (Some wire)) (unheard_nodes w sound choice unique t aborted) left
 
     performs : StillHeldAfterAbort (after_perform w unique (served choice w.server unique t))
     performs = by (is_live w.kernel.phase) refl

@@ -18,3 +18,4 @@ pub mod KnownNodes
 pub mod EveryList
 pub mod HeldKnown
 pub mod StillHeld
+pub mod StillOpen

@@ -26,6 +26,7 @@ ghost use Rattle.fuse_theorem.specs.EveryList.{BothSound, NeedsBothAlone};
 ghost use Rattle.fuse_theorem.specs.HeldKnown.{HeldKnownWhileLive};
 ghost use Rattle.fuse_theorem.specs.KnownNodes.{NodesKnown};
 ghost use Rattle.fuse_theorem.specs.StillHeld.{HeldReleasesKnown, NodesStillHeld, StillHeldAfterAbort};
+ghost use Rattle.fuse_theorem.specs.StillOpen.{HeldNumbersOpen, OpensAfterAbort};
 ghost use Rattle.fuse_theorem.specs.WorldSound.{WorldSound};
 
 /// What is on the request link or held is what the kernel asks, under the same number, while the mount is live and whatever the event; what bears an
@@ -92,4 +93,11 @@ pub fn performs_need_no_more()
         ((t : HeldRequest) (o : Opened) → get w.server.held unique ≡ Some t → t.body ≢ release o) → Needs choice w p (event.perform unique) }
     ensures releases { (w : World) (p : Plain) → BothSound w p → HeldReleasesKnown w → StillHeldAfterAbort w → (choice : ℕ → ℕ) (unique : ℕ) (t : HeldRequest) (o : Opened) → get w.server.held unique ≡ Some t → t.body ≡ release o →
         is_open w.server.handles o.fh (file_of w.server.nodes o.nodeid) ≡ true → HoldsOpens (record w { server = record w.server { held = remove w.server.held unique } }) (handle_back w.server.handles o.fh) → CanServe choice w p unique t }
+{}
+
+/// After an abort each open number that a held request names is one of its node's file still, and is counted often enough for all of them, whatever the event, where
+/// that is so while the mount is live. So a RELEASE that is performed then leaves those which the others name.
+pub fn held_numbers_stay_open()
+    ensures at_first { OpensAfterAbort first_world }
+    ensures always { (w : World) → WorldSound w → RequestsAskedWhileLive w → LinksSound w → (is_live w.kernel.phase ≡ true → HeldNumbersOpen w) → OpensAfterAbort w → (e : Event) (o : Outcome) (after : World) → Happens w e o after → OpensAfterAbort after }
 {}
