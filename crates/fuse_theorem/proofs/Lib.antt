@@ -137,3 +137,4 @@ pub mod HeldNodes
 pub mod PerformNeeds
 pub mod NumbersLeft
 pub mod StillOpen
+pub mod HeldNumbers

@@ -1,5 +1,5 @@
 -- What the performing of a held request needs holds.
-use Rattle.std.proofs.Common.{◌≡◌, ◌≢◌, ℕ, ◌+◌, Bool, true, false, [], cond, Option, Some, nat_eq, is_some, count_by, refl, ap, sym, subst, ◌∙◌, arith, inl, inr}
+use Rattle.std.proofs.Common.{◌≡◌, ◌≢◌, ℕ, ◌+◌, Bool, true, false, true≢false, [], cond, Option, Some, nat_eq, is_some, count_by, refl, ap, sym, subst, ◌∙◌, arith, inl, inr}
 use Rattle.fuse_spec.specs.declared.Opened.{Opened}
 use Rattle.fuse_spec.specs.declared.Purpose.{Purpose}
 use Rattle.fuse_spec.specs.declared.QueuedRequest.{QueuedRequest}
@@ -20,8 +20,10 @@ use Rattle.fuse_theorem.specs.EachEvent.{CanServe, Needs}
 use Rattle.fuse_theorem.specs.EachEvent as each
 use Rattle.fuse_theorem.specs.EveryList.{BothSound}
 use Rattle.fuse_theorem.specs.StillHeld.{IsHeldMarked, NodesStillHeld, StillHeldAfterAbort, HeldReleasesKnown}
+use Rattle.fuse_theorem.specs.StillOpen.{OpensAfterAbort}
 use Rattle.fuse_theorem.proofs.HeldKnown.{all_still_held}
 use Rattle.fuse_theorem.proofs.HeldNodes.{nodes_held}
+use Rattle.fuse_theorem.proofs.HeldNumbers.{number_open, numbers_held}
 use Rattle.fuse_theorem.proofs.Learning.{one_to_one}
 use Rattle.fuse_theorem.proofs.LinksSound.{none_in}
 use Rattle.fuse_theorem.proofs.LookupsStay.{known_held}
@@ -136,3 +138,15 @@ pub release_met : (w : World) (p : Plain) → BothSound w p → HeldReleasesKnow
 release_met w p both releases still choice unique t o there is number opens =
     let held = now_still_held w both.world both.asked both.links both.held releases still in
     serves_release w p both unique t there (held unique t there) choice o is number (nodes_held w both.world both.links both.kept held) opens
+
+-- So of any request; after an abort the open numbers are held too.
+pub any_met : (w : World) (p : Plain) → BothSound w p → HeldReleasesKnown w → StillHeldAfterAbort w → OpensAfterAbort w → (unique : ℕ)
+    → (is_live w.kernel.phase ≡ true → (t : HeldRequest) (o : Opened) → get w.server.held unique ≡ Some t → t.body ≡ release o
+        → (is_open w.server.handles o.fh (file_of w.server.nodes o.nodeid) ≡ true) × HoldsOpens (unheld w unique) (handle_back w.server.handles o.fh))
+    → (choice : ℕ → ℕ) → MayStep choice w (event.perform unique) → Needs choice w p (event.perform unique)
+any_met w p both releases still opens unique live_opens choice may t there =
+    serves w p both unique t there (now_still_held w both.world both.asked both.links both.held releases still unique t there) choice (subst (MayChooseFor choice w) there may) (λ o is. by o is (is_live w.kernel.phase) refl)
+  where
+    by : (o : Opened) → t.body ≡ release o → (b : Bool) → is_live w.kernel.phase ≡ b → CanServe choice w p unique t
+    by o is true live = let numbers = live_opens live t o there is in release_met w p both releases still choice unique t o there is numbers.0 numbers.1
+    by o is false dead = release_met w p both releases still choice unique t o there is (number_open w both.links opens dead unique t there o is) (numbers_held w both.links opens dead unique t there o is)

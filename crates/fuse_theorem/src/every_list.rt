@@ -86,18 +86,22 @@ pub fn held_stay_held()
     ensures held { (w : World) → WorldSound w → RequestsAskedWhileLive w → LinksSound w → HeldKnownWhileLive w → HeldReleasesKnown w → StillHeldAfterAbort w → (unique : ℕ) (t : HeldRequest) → get w.server.held unique ≡ Some t → NodesStillHeld w.server.nodes t }
 {}
 
-/// The performing of a held request needs no more: an operation of a call, live or after an abort, one that is marked, or INIT. A RELEASE needs beside that
-/// its open number is one of its node's file, and that the open numbers which are used are held without it.
-pub fn performs_need_no_more()
-    ensures requests { (w : World) (p : Plain) → BothSound w p → StillHeldAfterAbort w → (choice : ℕ → ℕ) (unique : ℕ) → MayStep choice w (event.perform unique) →
-        ((t : HeldRequest) (o : Opened) → get w.server.held unique ≡ Some t → t.body ≢ release o) → Needs choice w p (event.perform unique) }
-    ensures releases { (w : World) (p : Plain) → BothSound w p → HeldReleasesKnown w → StillHeldAfterAbort w → (choice : ℕ → ℕ) (unique : ℕ) (t : HeldRequest) (o : Opened) → get w.server.held unique ≡ Some t → t.body ≡ release o →
-        is_open w.server.handles o.fh (file_of w.server.nodes o.nodeid) ≡ true → HoldsOpens (record w { server = record w.server { held = remove w.server.held unique } }) (handle_back w.server.handles o.fh) → CanServe choice w p unique t }
-{}
-
 /// After an abort each open number that a held request names is one of its node's file still, and is counted often enough for all of them, whatever the event, where
 /// that is so while the mount is live. So a RELEASE that is performed then leaves those which the others name.
 pub fn held_numbers_stay_open()
     ensures at_first { OpensAfterAbort first_world }
     ensures always { (w : World) → WorldSound w → RequestsAskedWhileLive w → LinksSound w → (is_live w.kernel.phase ≡ true → HeldNumbersOpen w) → OpensAfterAbort w → (e : Event) (o : Outcome) (after : World) → Happens w e o after → OpensAfterAbort after }
+{}
+
+/// The performing of a held request needs no more: an operation of a call, live or after an abort, one that is marked, or INIT. A RELEASE needs beside that
+/// its open number is one of its node's file, and that the open numbers which are used are held without it; after an abort that follows too.
+pub fn performs_need_no_more()
+    ensures requests { (w : World) (p : Plain) → BothSound w p → StillHeldAfterAbort w → (choice : ℕ → ℕ) (unique : ℕ) → MayStep choice w (event.perform unique) →
+        ((t : HeldRequest) (o : Opened) → get w.server.held unique ≡ Some t → t.body ≢ release o) → Needs choice w p (event.perform unique) }
+    ensures releases { (w : World) (p : Plain) → BothSound w p → HeldReleasesKnown w → StillHeldAfterAbort w → (choice : ℕ → ℕ) (unique : ℕ) (t : HeldRequest) (o : Opened) → get w.server.held unique ≡ Some t → t.body ≡ release o →
+        is_open w.server.handles o.fh (file_of w.server.nodes o.nodeid) ≡ true → HoldsOpens (record w { server = record w.server { held = remove w.server.held unique } }) (handle_back w.server.handles o.fh) → CanServe choice w p unique t }
+    ensures any { (w : World) (p : Plain) → BothSound w p → HeldReleasesKnown w → StillHeldAfterAbort w → OpensAfterAbort w → (unique : ℕ) →
+        (is_live w.kernel.phase ≡ true → (t : HeldRequest) (o : Opened) → get w.server.held unique ≡ Some t → t.body ≡ release o →
+            (is_open w.server.handles o.fh (file_of w.server.nodes o.nodeid) ≡ true) × HoldsOpens (record w { server = record w.server { held = remove w.server.held unique } }) (handle_back w.server.handles o.fh)) →
+        (choice : ℕ → ℕ) → MayStep choice w (event.perform unique) → Needs choice w p (event.perform unique) }
 {}
