@@ -1,5 +1,5 @@
 -- The server holds the nodes that the kernel knows, and those that what it holds, keeps or has sent names.
-use Rattle.std.proofs.Common.{◌≡◌, ◌≢◌, ◌≤◌, ℕ, Bool, true, false, [], ◌∷◌, List, Some, None, get_or, refl, sym, subst, All}
+use Rattle.std.proofs.Common.{◌≡◌, ◌≢◌, ◌≤◌, ℕ, Bool, true, false, List, Some, None, get_or, refl, sym, subst, All}
 use Rattle.std.specs.Prelude.{Contains}
 use Rattle.std.proofs.lemmas.List.Elements.{All-nil, All-head, All-tail, All-contains}
 use Rattle.fuse_spec.specs.declared.Entry.{Entry}
@@ -9,7 +9,7 @@ use Rattle.fuse_spec.specs.Operations.{files_in_reply}
 use Rattle.fuse_spec.specs.Queues.{request_under}
 use Rattle.fuse_spec.specs.Kernel.{is_live}
 use Rattle.fuse_spec.specs.Nodes.{NodeTable}
-use Rattle.fuse_spec.specs.Server.{HeldRequest, Kept}
+use Rattle.fuse_spec.specs.Server.{HeldRequest}
 use Rattle.fuse_spec.specs.Worlds.{World, Sent}
 use Rattle.fuse_theorem.specs.Conditions.{EntriesAreHeld, HoldsAll}
 use Rattle.fuse_theorem.specs.Copies.{SomeHas, here, there, KeptAreSent}

@@ -1,5 +1,5 @@
 -- After an abort the server holds the open numbers that are used, also without those of a RELEASE that it performs.
-use Rattle.std.proofs.Common.{◌≡◌, ◌≢◌, ℕ, Bool, true, false, true≢false, [], Option, Some, None, refl, ap, sym, subst, ◌∙◌, All}
+use Rattle.std.proofs.Common.{◌≡◌, ◌≢◌, ℕ, true, false, true≢false, [], Some, None, ap, sym, subst, ◌∙◌, All}
 use Rattle.std.specs.Prelude.{Contains}
 use Rattle.std.proofs.lemmas.List.Elements.{All-nil}
 use Rattle.fuse_spec.specs.declared.Opened.{Opened}
@@ -8,7 +8,7 @@ use Rattle.fuse_spec.specs.Messages.{Request, RequestBody, release}
 use Rattle.fuse_spec.specs.Operations.{opens_in_reply}
 use Rattle.fuse_spec.specs.Queues.{request_under}
 use Rattle.fuse_spec.specs.Kernel.{is_live}
-use Rattle.fuse_spec.specs.Nodes.{HandleTable, OpenNumber, is_file_of, is_open, file_of, handle_back}
+use Rattle.fuse_spec.specs.Nodes.{HandleTable, is_file_of, is_open, file_of, handle_back}
 use Rattle.fuse_spec.specs.Server.{HeldRequest}
 use Rattle.fuse_spec.specs.Counts.{opens_of_body}
 use Rattle.fuse_spec.specs.Worlds.{World, Sent}
@@ -41,5 +41,5 @@ module _ (w : World) (links : LinksSound w) (old : OpensAfterAbort w) (dead : is
         held = λ u x at y among. open_number back y.fh (file_of w.server.nodes y.nodeid) (now.files u x at y among);
         kept = λ u k at awaited fh among. none_in w.server.kept u k idle.kept at;
         copies = subst (All (λ (s : Sent). request_under w.kernel.queues s.unique ≢ None → (fh : ℕ) → Contains (opens_in_reply s.wire) fh → IsNumber back fh)) (sym idle.replies)
-        (All-nil (λ (s : Sent). request_under w.kernel.queues s.unique ≢ None → (fh : ℕ) → Contains (opens_in_reply s.wire) fh → IsNumber back fh));
+            (All-nil (λ (s : Sent). request_under w.kernel.queues s.unique ≢ None → (fh : ℕ) → Contains (opens_in_reply s.wire) fh → IsNumber back fh));
       }

@@ -138,3 +138,4 @@ pub mod PerformNeeds
 pub mod NumbersLeft
 pub mod StillOpen
 pub mod HeldNumbers
+pub mod BalancedNumbers

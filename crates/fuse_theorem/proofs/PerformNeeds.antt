@@ -1,9 +1,9 @@
 -- What the performing of a held request needs holds.
-use Rattle.std.proofs.Common.{◌≡◌, ◌≢◌, ℕ, ◌+◌, Bool, true, false, true≢false, [], cond, Option, Some, nat_eq, is_some, count_by, refl, ap, sym, subst, ◌∙◌, arith, inl, inr}
+use Rattle.std.proofs.Common.{◌≡◌, ◌≢◌, ℕ, Bool, true, false, Some, nat_eq, count_by, refl, ap, subst, arith, inl, inr}
 use Rattle.fuse_spec.specs.declared.Opened.{Opened}
 use Rattle.fuse_spec.specs.declared.Purpose.{Purpose}
 use Rattle.fuse_spec.specs.declared.QueuedRequest.{QueuedRequest}
-use Rattle.fuse_spec.specs.Maps.{get, remove}
+use Rattle.fuse_spec.specs.Maps.{get}
 use Rattle.fuse_spec.specs.Messages.{Request, RequestBody, init, asks, release, forget, batch_forget, interrupt}
 use Rattle.fuse_spec.specs.Operations.{Operation}
 use Rattle.fuse_spec.specs.Queues.{QueueState, pending}
@@ -71,8 +71,7 @@ module _ (w : World) (p : Plain) (both : BothSound w p) (unique : ℕ) (t : Held
           let lookups = world.lookups in
           let numbers = lookups.numbers in
           let links = both.links in
-          let idle = links.idle dead in
-          (
+          let idle = links.idle dead in (
             ap (λ (q : QueueState Purpose). count_by (λ (e : ℕ × QueuedRequest Purpose). nat_eq unique e.0) (pending q)) (numbers.idle dead),
             ap (count_by (λ (r : Request). nat_eq unique r.unique)) idle.requests,
           )
@@ -142,7 +141,7 @@ release_met w p both releases still choice unique t o there is number opens =
 -- So of any request; after an abort the open numbers are held too.
 pub any_met : (w : World) (p : Plain) → BothSound w p → HeldReleasesKnown w → StillHeldAfterAbort w → OpensAfterAbort w → (unique : ℕ)
     → (is_live w.kernel.phase ≡ true → (t : HeldRequest) (o : Opened) → get w.server.held unique ≡ Some t → t.body ≡ release o
-        → (is_open w.server.handles o.fh (file_of w.server.nodes o.nodeid) ≡ true) × HoldsOpens (unheld w unique) (handle_back w.server.handles o.fh))
+    → (is_open w.server.handles o.fh (file_of w.server.nodes o.nodeid) ≡ true) × HoldsOpens (unheld w unique) (handle_back w.server.handles o.fh))
     → (choice : ℕ → ℕ) → MayStep choice w (event.perform unique) → Needs choice w p (event.perform unique)
 any_met w p both releases still opens unique live_opens choice may t there =
     serves w p both unique t there (now_still_held w both.world both.asked both.links both.held releases still unique t there) choice (subst (MayChooseFor choice w) there may) (λ o is. by o is (is_live w.kernel.phase) refl)

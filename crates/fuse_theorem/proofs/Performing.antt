@@ -84,7 +84,7 @@ module _ (w : World) (p : Plain) (same : Alike w p) where
     deed_stands (write o offset bytes) (write file offset' bytes') h = opened_stands o file h.0
     deed_stands a b h = absurd h
 
-    open_for : (a : Operation ℕ Opened) (b : FileOperation) → OperationAlike (Meant w.server.nodes generations) (MeantOpen w.server.nodes w.server.handles generations) a b → is_open_for w.server a ≡ true
+    pub open_for : (a : Operation ℕ Opened) (b : FileOperation) → OperationAlike (Meant w.server.nodes generations) (MeantOpen w.server.nodes w.server.handles generations) a b → is_open_for w.server a ≡ true
     open_for (lookup d name) b h = refl
     open_for (getattr x) b h = refl
     open_for (mkdir d name) b h = refl

@@ -1,5 +1,5 @@
 -- What the server holds of requests names nodes that it holds still, in a live mount and after an abort.
-use Rattle.std.proofs.Common.{◌≡◌, ℕ, Bool, inl, inr, true, false, true≢false, not, ◌||◌, cond, List, [], Option, Some, None, refl, ap, sym, subst, ◌∙◌, All}
+use Rattle.std.proofs.Common.{◌≡◌, ℕ, Bool, inl, inr, true, false, true≢false, not, ◌||◌, cond, [], Option, Some, None, refl, ap, sym, subst, ◌∙◌, All}
 use Rattle.std.specs.List.{remove as without_at}
 use Rattle.std.proofs.lemmas.List.Elements.{All-nil}
 use Rattle.fuse_spec.specs.declared.Opened.{Opened}
@@ -11,20 +11,18 @@ use Rattle.fuse_spec.specs.Vfs.{CallState, asked as asked_of}
 use Rattle.fuse_spec.specs.Kernel.{Kernel, is_live, asked_by, body_of}
 use Rattle.fuse_spec.specs.Nodes.{NodeTable, MayChoose}
 use Rattle.fuse_spec.specs.Server.{HeldRequest}
-use Rattle.fuse_spec.specs.Performs.{is_still_held, performed, served, files_by, files_given}
+use Rattle.fuse_spec.specs.Performs.{is_still_held, served, files_by, files_given}
 use Rattle.fuse_spec.specs.Taking.{taking}
 use Rattle.fuse_spec.specs.Denotes.{generation_known}
 use Rattle.fuse_spec.specs.Worlds.{World, first_world, replying, after_perform}
 use Rattle.fuse_spec.specs.Events.{Event, Outcome}
 use Rattle.fuse_spec.specs.Steps.{Happens}
 use Rattle.fuse_theorem.specs.AskedRequests.{serves_call, HeldAsked, RequestsAskedWhileLive}
-use Rattle.fuse_theorem.specs.HeldKnown.{HeldKnown, HeldKnownWhileLive}
+use Rattle.fuse_theorem.specs.HeldKnown.{HeldKnownWhileLive}
 use Rattle.fuse_theorem.specs.Links.{LinksSound}
 use Rattle.fuse_theorem.specs.Lookups.{IsHeldAs}
-use Rattle.fuse_theorem.specs.ServerTables.{NodesSound}
 use Rattle.fuse_theorem.specs.StillHeld.{IsHeldMarked, NodesStillHeld, StillHeldAfterAbort, HeldReleasesKnown}
 use Rattle.fuse_theorem.specs.WorldSound.{WorldSound}
-use Rattle.fuse_theorem.proofs.GoingOn.{begun_goes_on}
 use Rattle.fuse_theorem.proofs.Happened.{Happened, by_mount, by_call, by_read_interrupt, by_read_forgets, by_read_pending, by_take, by_perform, by_again, by_write, by_settle, by_signal, by_tick, by_drop, by_evict, by_abort, happened}
 use Rattle.fuse_theorem.proofs.HeldKnown.{known_nodes_held}
 use Rattle.fuse_theorem.proofs.LinksSound.{none_at, none_in}

@@ -1,5 +1,5 @@
 -- After an abort the open numbers of what the server holds stay open, whatever happens.
-use Rattle.std.proofs.Common.{◌≡◌, ℕ, Bool, true, false, true≢false, not, ◌||◌, ◌⊎◌, cond, [], Option, Some, None, slice_get, refl, ap, sym, subst, ◌∙◌, arith, inl, inr}
+use Rattle.std.proofs.Common.{◌≡◌, ℕ, Bool, true, false, true≢false, ◌⊎◌, cond, [], Option, Some, None, refl, ap, sym, subst, ◌∙◌, arith, inl, inr}
 use Rattle.std.specs.List.{remove as without_at}
 use Rattle.fuse_spec.specs.declared.Opened.{Opened}
 use Rattle.fuse_spec.specs.declared.Phase.{Phase}
@@ -15,7 +15,7 @@ use Rattle.fuse_spec.specs.Nodes.{NodeTable, HandleTable, file_of, is_open, all_
 use Rattle.fuse_spec.specs.Server.{Server, HeldRequest}
 use Rattle.fuse_spec.specs.Taking.{taking}
 use Rattle.fuse_spec.specs.Performs.{file_operation_of, is_open_for, is_still_held, doing, refusing, performing, performed, served}
-use Rattle.fuse_spec.specs.Worlds.{World, Sent, first_world, replying, after_perform}
+use Rattle.fuse_spec.specs.Worlds.{World, first_world, replying, after_perform}
 use Rattle.fuse_spec.specs.Events.{Event, Outcome}
 use Rattle.fuse_spec.specs.Steps.{is_ready, Happens}
 use Rattle.fuse_theorem.specs.AskedRequests.{RequestsAskedWhileLive}

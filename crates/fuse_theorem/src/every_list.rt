@@ -1,7 +1,9 @@
 //! What holds of every world to which a list of events leads, and what single events need that follows from it. Each law says that the
 //! first world has it and that each event keeps it.
 
-ghost use Rattle.std.specs.Prelude.{◌≡◌, ◌≢◌, ℕ, Ok, Some, slice_get, true};
+ghost use Rattle.std.specs.Prelude.{Contains, ◌≡◌, ◌≢◌, ◌≤◌, ℕ, Ok, Some, slice_get, true};
+ghost use Rattle.fuse_spec.specs.Counts.{OpenBalance, open_in_kernel, opens_of};
+ghost use Rattle.fuse_spec.specs.Vfs.{CallState, asked};
 ghost use Rattle.fuse_spec.specs.Kernel.{is_live};
 ghost use Rattle.fuse_spec.specs.Maps.{get, remove};
 ghost use Rattle.fuse_spec.specs.Nodes.{file_of, is_open, handle_back};
@@ -91,6 +93,9 @@ pub fn held_stay_held()
 pub fn held_numbers_stay_open()
     ensures at_first { OpensAfterAbort first_world }
     ensures always { (w : World) → WorldSound w → RequestsAskedWhileLive w → LinksSound w → (is_live w.kernel.phase ≡ true → HeldNumbersOpen w) → OpensAfterAbort w → (e : Event) (o : Outcome) (after : World) → Happens w e o after → OpensAfterAbort after }
+    ensures balanced { (w : World) (p : Plain) → Alike w p → RequestsAskedWhileLive w → is_live w.kernel.phase ≡ true → OpenBalance w →
+        ((unique : ℕ) (t : HeldRequest) → get w.server.held unique ≡ Some t → (o : Opened) → t.body ≡ release o → is_open w.server.handles o.fh (file_of w.server.nodes o.nodeid) ≡ true) →
+        ((call : ℕ) (state : CallState Opened) → get w.kernel.vfs.calls call ≡ Some state → (o : Opened) → Contains (opens_of (asked state)) o → 1 ≤ open_in_kernel w.kernel o.fh) → HeldNumbersOpen w }
 {}
 
 /// The performing of a held request needs no more: an operation of a call, live or after an abort, one that is marked, or INIT. A RELEASE needs beside that
@@ -102,6 +107,6 @@ pub fn performs_need_no_more()
         is_open w.server.handles o.fh (file_of w.server.nodes o.nodeid) ≡ true → HoldsOpens (record w { server = record w.server { held = remove w.server.held unique } }) (handle_back w.server.handles o.fh) → CanServe choice w p unique t }
     ensures any { (w : World) (p : Plain) → BothSound w p → HeldReleasesKnown w → StillHeldAfterAbort w → OpensAfterAbort w → (unique : ℕ) →
         (is_live w.kernel.phase ≡ true → (t : HeldRequest) (o : Opened) → get w.server.held unique ≡ Some t → t.body ≡ release o →
-            (is_open w.server.handles o.fh (file_of w.server.nodes o.nodeid) ≡ true) × HoldsOpens (record w { server = record w.server { held = remove w.server.held unique } }) (handle_back w.server.handles o.fh)) →
+        (is_open w.server.handles o.fh (file_of w.server.nodes o.nodeid) ≡ true) × HoldsOpens (record w { server = record w.server { held = remove w.server.held unique } }) (handle_back w.server.handles o.fh)) →
         (choice : ℕ → ℕ) → MayStep choice w (event.perform unique) → Needs choice w p (event.perform unique) }
 {}
