@@ -132,6 +132,7 @@ pub mod NodesKnown
 pub mod EveryList
 pub mod HeldKnown
 pub mod HeldStays
+pub mod AfterAbort
 pub mod StillHeld
 pub mod HeldNodes
 pub mod PerformNeeds

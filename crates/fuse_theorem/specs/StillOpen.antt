@@ -24,8 +24,12 @@ pub record NumbersStillOpen (nodes : NodeTable) (handles : HandleTable) (held : 
 abbrev pub HeldNumbersOpen : World → Type 0
 HeldNumbersOpen w = NumbersStillOpen w.server.nodes w.server.handles w.server.held
 
--- So it is while no mount is live; then no call is unanswered and no file is open.
-pub record OpensAfterAbort (w : World) : Type 0 where
-  pub numbers : is_live w.kernel.phase ≡ false → HeldNumbersOpen w
-  pub calls : is_live w.kernel.phase ≡ false → w.kernel.vfs.calls ≡ []
-  pub opens : is_live w.kernel.phase ≡ false → w.kernel.vfs.opens ≡ []
+-- No call is unanswered, no file is open, and the numbers that held requests name are open still.
+pub record OpensLeft (w : World) : Type 0 where
+  pub numbers : HeldNumbersOpen w
+  pub calls : w.kernel.vfs.calls ≡ []
+  pub opens : w.kernel.vfs.opens ≡ []
+
+-- So it is while no mount is live.
+abbrev pub OpensAfterAbort : World → Type 0
+OpensAfterAbort w = is_live w.kernel.phase ≡ false → OpensLeft w

@@ -79,17 +79,17 @@ pub fn held_stay_known()
         is_still_held w.server.nodes t.generations ≡ true }
 {}
 
-/// The server holds the nodes of each request that it holds, under the generations that they had when it was taken, and only requests of calls are marked: as
-/// the kernel knows them while the mount is live, and after an abort whatever the event, as no lookups are given back then. That is so where the kernel
-/// knows the nodes of held RELEASEs.
+/// After an abort the server still holds the nodes of each request that it holds, under the generations that they had when it was taken, and only
+/// requests of calls are marked, whatever the event. So it is while the mount is live, where the kernel knows the nodes of held RELEASEs.
 pub fn held_stay_held()
     ensures at_first { StillHeldAfterAbort first_world }
     ensures always { (w : World) → WorldSound w → RequestsAskedWhileLive w → LinksSound w → HeldKnownWhileLive w → HeldReleasesKnown w → StillHeldAfterAbort w → (e : Event) (o : Outcome) (after : World) → Happens w e o after → StillHeldAfterAbort after }
     ensures held { (w : World) → WorldSound w → RequestsAskedWhileLive w → LinksSound w → HeldKnownWhileLive w → HeldReleasesKnown w → StillHeldAfterAbort w → (unique : ℕ) (t : HeldRequest) → get w.server.held unique ≡ Some t → NodesStillHeld w.server.nodes t }
 {}
 
-/// After an abort each open number that a held request names is one of its node's file still, and is counted often enough for all of them, whatever the event, where
-/// that is so while the mount is live. So a RELEASE that is performed then leaves those which the others name.
+/// After an abort each open number that a held request names is one of its node's file, and is counted often enough for all of them, whatever the event,
+/// where that is so while the mount is live. It is where the open numbers are balanced, those of held RELEASEs are of their nodes' files, and what calls
+/// read or write is open in the kernel.
 pub fn held_numbers_stay_open()
     ensures at_first { OpensAfterAbort first_world }
     ensures always { (w : World) → WorldSound w → RequestsAskedWhileLive w → LinksSound w → (is_live w.kernel.phase ≡ true → HeldNumbersOpen w) → OpensAfterAbort w → (e : Event) (o : Outcome) (after : World) → Happens w e o after → OpensAfterAbort after }
@@ -98,8 +98,8 @@ pub fn held_numbers_stay_open()
         ((call : ℕ) (state : CallState Opened) → get w.kernel.vfs.calls call ≡ Some state → (o : Opened) → Contains (opens_of (asked state)) o → 1 ≤ open_in_kernel w.kernel o.fh) → HeldNumbersOpen w }
 {}
 
-/// The performing of a held request needs no more: an operation of a call, live or after an abort, one that is marked, or INIT. A RELEASE needs beside that
-/// its open number is one of its node's file, and that the open numbers which are used are held without it; after an abort that follows too.
+/// The performing of a held request needs no more than that: an operation of a call, live or after an abort, one that is marked, or INIT. A RELEASE needs beside
+/// that its open number is one of its node's file, and that the open numbers which are used are held without it, which after an abort they are.
 pub fn performs_need_no_more()
     ensures requests { (w : World) (p : Plain) → BothSound w p → StillHeldAfterAbort w → (choice : ℕ → ℕ) (unique : ℕ) → MayStep choice w (event.perform unique) →
         ((t : HeldRequest) (o : Opened) → get w.server.held unique ≡ Some t → t.body ≢ release o) → Needs choice w p (event.perform unique) }
