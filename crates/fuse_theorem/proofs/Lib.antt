@@ -132,3 +132,11 @@ pub mod NodesKnown
 pub mod EveryList
 pub mod HeldKnown
 pub mod HeldStays
+pub mod AfterAbort
+pub mod StillHeld
+pub mod HeldNodes
+pub mod PerformNeeds
+pub mod NumbersLeft
+pub mod StillOpen
+pub mod HeldNumbers
+pub mod BalancedNumbers

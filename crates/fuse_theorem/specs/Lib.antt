@@ -15,3 +15,5 @@ pub mod AsksServed
 pub mod KnownNodes
 pub mod EveryList
 pub mod HeldKnown
+pub mod StillHeld
+pub mod StillOpen
