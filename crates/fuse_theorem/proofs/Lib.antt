@@ -132,3 +132,4 @@ pub mod NodesKnown
 pub mod EveryList
 pub mod HeldKnown
 pub mod HeldStays
+pub mod UsedFiles

@@ -17,3 +17,5 @@ pub mod AsksServed
 pub mod KnownNodes
 pub mod EveryList
 pub mod HeldKnown
+pub mod ClosedFiles
+pub mod ReleasesKnown
