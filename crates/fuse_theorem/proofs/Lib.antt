@@ -133,3 +133,4 @@ pub mod EveryList
 pub mod HeldKnown
 pub mod HeldStays
 pub mod UsedFiles
+pub mod ClosedStay
