@@ -134,3 +134,4 @@ pub mod HeldKnown
 pub mod HeldStays
 pub mod UsedFiles
 pub mod ClosedStay
+pub mod ReleasesKept

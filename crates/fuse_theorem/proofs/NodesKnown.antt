@@ -64,7 +64,7 @@ known_some nodes id known = by (generation_known nodes id) refl
     by None e = absurd (known e)
     by (Some g) e = (g, e)
 
-learnt_more : (gs : List Entry) (nodes : Map Counted) (id : ℕ) → IsKnown nodes id → IsKnown (learnt nodes gs) id
+pub learnt_more : (gs : List Entry) (nodes : Map Counted) (id : ℕ) → IsKnown nodes id → IsKnown (learnt nodes gs) id
 learnt_more gs nodes id known = let some = known_some nodes id known in some_known (learnt nodes gs) id some.0 (learnt_known gs nodes id some.0 some.1)
 
 -- what a reply names is known from then on
