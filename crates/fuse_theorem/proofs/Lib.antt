@@ -135,3 +135,4 @@ pub mod HeldStays
 pub mod UsedFiles
 pub mod ClosedStay
 pub mod ReleasesKept
+pub mod ReleasesStay

@@ -24,6 +24,7 @@ ghost use Rattle.fuse_theorem.specs.EachEvent.{Needs};
 ghost use Rattle.fuse_theorem.specs.EveryList.{BothSound, NeedsBothAlone};
 ghost use Rattle.fuse_theorem.specs.HeldKnown.{HeldKnownWhileLive};
 ghost use Rattle.fuse_theorem.specs.KnownNodes.{NodesKnown};
+ghost use Rattle.fuse_theorem.specs.ReleasesKnown.{ReleasesKnown};
 ghost use Rattle.fuse_theorem.specs.WorldSound.{WorldSound};
 
 /// What is on the request link or held is what the kernel asks, under the same number, while the mount is live and whatever the event; what bears an
@@ -72,4 +73,11 @@ pub fn held_stay_known()
     ensures always { (w : World) → WorldSound w → RequestsAskedWhileLive w → LinksSound w → NodesKnown w.kernel → HeldKnownWhileLive w → (e : Event) (o : Outcome) (after : World) → Happens w e o after → HeldKnownWhileLive after }
     ensures still { (w : World) → WorldSound w → HeldKnownWhileLive w → is_live w.kernel.phase ≡ true → (unique : ℕ) (t : HeldRequest) → get w.server.held unique ≡ Some t → (operation : Operation ℕ Opened) → t.body ≡ asks operation →
         is_still_held w.server.nodes t.generations ≡ true }
+{}
+
+/// The kernel knows the node of each closed file whose RELEASE is not queued yet, as a call that uses the file names it, and of each unanswered RELEASE,
+/// whatever the event. While the mount is live, the server holds a RELEASE under the generation that the kernel knows.
+pub fn releases_stay_known()
+    ensures at_first { ReleasesKnown first_world }
+    ensures always { (w : World) → WorldSound w → RequestsAskedWhileLive w → LinksSound w → NodesKnown w.kernel → HeldKnownWhileLive w → ReleasesKnown w → (e : Event) (o : Outcome) (after : World) → Happens w e o after → ReleasesKnown after }
 {}
