@@ -136,3 +136,4 @@ pub mod UsedFiles
 pub mod ClosedStay
 pub mod ReleasesKept
 pub mod ReleasesStay
+pub mod HoldsAll
