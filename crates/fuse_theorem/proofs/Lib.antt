@@ -137,3 +137,4 @@ pub mod ClosedStay
 pub mod ReleasesKept
 pub mod ReleasesStay
 pub mod HoldsAll
+pub mod ForgetsNeeds

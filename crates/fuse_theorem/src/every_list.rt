@@ -6,18 +6,19 @@ ghost use Rattle.fuse_spec.specs.Kernel.{is_live};
 ghost use Rattle.fuse_spec.specs.Maps.{get};
 ghost use Rattle.fuse_spec.specs.Operations.{Operation};
 ghost use Rattle.fuse_spec.specs.Performs.{is_still_held};
-ghost use Rattle.fuse_spec.specs.Server.{HeldRequest};
+ghost use Rattle.fuse_spec.specs.Server.{Copy, HeldRequest};
+ghost use Rattle.fuse_spec.specs.declared.ReplyResult.{ReplyResult};
 ghost use Rattle.fuse_spec.specs.declared.Opened.{Opened};
 ghost use Rattle.fuse_spec.specs.Alike.{Alike};
 ghost use Rattle.fuse_spec.specs.Messages.{Request, asks, interrupt};
-ghost use Rattle.fuse_theorem.specs.Conditions.{IsInterrupt};
+ghost use Rattle.fuse_theorem.specs.Conditions.{HoldsAll, IsInterrupt, OneId};
 ghost use Rattle.fuse_theorem.specs.Links.{LinksSound};
 ghost use Rattle.fuse_spec.specs.Events as event;
 ghost use Rattle.fuse_spec.specs.Events.{Event, Outcome};
 ghost use Rattle.fuse_spec.specs.Plain.{Plain, first_plain};
 ghost use Rattle.fuse_spec.specs.PlainSteps.{Takes};
 ghost use Rattle.fuse_spec.specs.Steps.{Happens, step};
-ghost use Rattle.fuse_spec.specs.Worlds.{World, first_world};
+ghost use Rattle.fuse_spec.specs.Worlds.{World, after_settle, first_world};
 ghost use Rattle.fuse_theorem.specs.AskedRequests.{RequestsAskedWhileLive};
 ghost use Rattle.fuse_theorem.specs.AsksServed.{AsksServed};
 ghost use Rattle.fuse_theorem.specs.EachEvent.{Needs};
@@ -80,4 +81,13 @@ pub fn held_stay_known()
 pub fn releases_stay_known()
     ensures at_first { ReleasesKnown first_world }
     ensures always { (w : World) → WorldSound w → RequestsAskedWhileLive w → LinksSound w → NodesKnown w.kernel → HeldKnownWhileLive w → ReleasesKnown w → (e : Event) (o : Outcome) (after : World) → Happens w e o after → ReleasesKnown after }
+{}
+
+/// While the mount is live, the server holds the nodes that the kernel knows, those of the requests that it holds, and those that copies and kept replies to
+/// unanswered requests name. So what the taking of any request needs of the world holds, of forgets too, and what the settling of a copy needs of the nodes.
+pub fn nodes_in_use_stay_held()
+    ensures live { (w : World) (p : Plain) → BothSound w p → ReleasesKnown w → is_live w.kernel.phase ≡ true → HoldsAll w w.server.nodes }
+    ensures take { (w : World) (p : Plain) → BothSound w p → ReleasesKnown w → (choice : ℕ → ℕ) (k : ℕ) (o : Outcome) (after : World) → step choice w (event.take k) ≡ Ok (o, after) → Needs choice w p (event.take k) }
+    ensures settle { (w : World) (p : Plain) → BothSound w p → ReleasesKnown w → (k : ℕ) (result : ReplyResult) (copy : Copy) → slice_get w.results k ≡ Some result → get w.server.copies result.number ≡ Some copy →
+        OneId w.server.nodes × HoldsAll (after_settle w k result (Some copy)) (after_settle w k result (Some copy)).server.nodes }
 {}
