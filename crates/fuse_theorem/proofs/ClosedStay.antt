@@ -1,6 +1,6 @@
 -- A closed file whose RELEASE is not queued is used by a call that names it, whatever the event.
 use Rattle.std.proofs.lemmas.Bool.{cases_eq}
-use Rattle.std.proofs.Common.{T, ◌≡◌, ◌≢◌, inl, inr, not, ℕ, ◌+◌, ◌-◌, ◌<◌, ◌≤◌, Bool, true, false, true≢false, ◌||◌, cond, List, [], ◌∷◌, Option, Some, None, Result, Ok, Err, length, nat_eq, option_map, refl, ap, sym, subst, ◌∙◌, arith}
+use Rattle.std.proofs.Common.{T, ◌≡◌, ◌≢◌, inl, inr, not, ℕ, ◌+◌, ◌-◌, ◌<◌, ◌≤◌, Bool, true, false, ◌||◌, cond, List, [], ◌∷◌, Option, Some, None, Result, Ok, Err, length, nat_eq, option_map, refl, ap, sym, subst, ◌∙◌, arith}
 use Rattle.std.specs.Prelude.{◌%◌, nat_lt}
 use Rattle.std.specs.List.{list_any, remove as without_at}
 use Rattle.std.specs.Ordering.{nat_cmp}
@@ -30,14 +30,14 @@ use Rattle.fuse_spec.specs.QueueCalls.{after_effect, interrupt_effect, waiting, 
 use Rattle.fuse_spec.specs.Replies.{kernel_reply, learnt, Use, usable, useless, stale, use_of_all, goes_with, is_agreement, judged, replied, replied_to_call, reply_taken, odd_taken, interrupt_replied, reply_written}
 use Rattle.fuse_spec.specs.Taking.{taking}
 use Rattle.fuse_spec.specs.Performs.{served}
-use Rattle.fuse_spec.specs.Vfs.{CallState, walking, doing, using, asked, Vfs, Advance, answered, bound, unbound, look, after_walk, after_beginning, numbered, begun, given_up}
+use Rattle.fuse_spec.specs.Vfs.{CallState, walking, doing, using, asked, Vfs, Advance, answered, bound, look, after_walk, after_beginning, numbered, begun, given_up}
 use Rattle.fuse_spec.specs.Walks.{Walked, looks_up, finds_none, walk}
 use Rattle.fuse_spec.specs.Walks as walked
 use Rattle.fuse_spec.specs.Worlds.{World, first_world, replying}
 use Rattle.fuse_spec.specs.Events.{Event, Outcome}
 use Rattle.fuse_spec.specs.Steps.{Happens}
-use Rattle.fuse_spec.proofs.Tables.{get_gone_here, get_gone_there}
-use Rattle.fuse_theorem.specs.ClosedFiles.{WasAnswered, UsesFile, ClosedFiles}
+use Rattle.fuse_spec.proofs.Tables.{get_gone_here}
+use Rattle.fuse_theorem.specs.ClosedFiles.{WasAnswered, ClosedFiles}
 use Rattle.fuse_theorem.proofs.Finding.{same_is, other_is}
 use Rattle.fuse_theorem.proofs.Happened.{Happened, by_mount, by_call, by_read_interrupt, by_read_forgets, by_read_pending, by_take, by_perform, by_again, by_write, by_settle, by_signal, by_tick, by_drop, by_evict, by_abort, happened}
 use Rattle.fuse_theorem.proofs.NodesSound.{left_found}

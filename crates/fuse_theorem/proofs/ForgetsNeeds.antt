@@ -5,7 +5,6 @@ use Rattle.fuse_spec.specs.declared.ReplyResult.{ReplyResult}
 use Rattle.fuse_spec.specs.Kernel.{is_live}
 use Rattle.fuse_spec.specs.Maps.{get}
 use Rattle.fuse_spec.specs.Messages.{Forget, Request, RequestBody, init, asks, release, forget, batch_forget, interrupt}
-use Rattle.fuse_spec.specs.Nodes.{NodeTable}
 use Rattle.fuse_spec.specs.Server.{Copy, all_taken_back, forgetting}
 use Rattle.fuse_spec.specs.Taking.{TakeResult, taking}
 use Rattle.fuse_spec.specs.declared.Taken.TheVariants.{Forgot}

@@ -1,6 +1,5 @@
 -- In a live mount the server holds the nodes that the kernel knows, those of held requests, and those that copies and kept replies name.
-use Rattle.std.proofs.Common.{◌≡◌, ◌≢◌, ◌≤◌, ℕ, Bool, true, false, true≢false, List, [], ◌∷◌, Option, Some, None, refl, ap, sym, subst, ◌∙◌, All}
-use Rattle.std.specs.Prelude.{Contains}
+use Rattle.std.proofs.Common.{◌≡◌, ◌≢◌, ◌≤◌, ℕ, true, List, Option, Some, None, refl, sym, subst, All}
 use Rattle.std.proofs.lemmas.List.Elements.{All-nil, All-head, All-tail, All-contains}
 use Rattle.fuse_spec.specs.declared.Entry.{Entry}
 use Rattle.fuse_spec.specs.declared.Opened.{Opened}
@@ -12,9 +11,9 @@ use Rattle.fuse_spec.specs.Messages.{RequestBody, init, asks, release, forget, b
 use Rattle.fuse_spec.specs.Nodes.{NodeTable}
 use Rattle.fuse_spec.specs.Operations.{Operation, files_in_reply}
 use Rattle.fuse_spec.specs.Queues.{request_under}
-use Rattle.fuse_spec.specs.Server.{HeldRequest, Kept}
+use Rattle.fuse_spec.specs.Server.{HeldRequest}
 use Rattle.fuse_spec.specs.Vfs.{CallState, asked}
-use Rattle.fuse_spec.specs.Denotes.{Denotes, generation_known}
+use Rattle.fuse_spec.specs.Denotes.{generation_known}
 use Rattle.fuse_spec.specs.Worlds.{World, Sent}
 use Rattle.fuse_theorem.specs.AskedRequests.{IsAsked, RequestsAskedWhileLive}
 use Rattle.fuse_theorem.specs.Conditions.{EntriesAreHeld, HoldsAll}

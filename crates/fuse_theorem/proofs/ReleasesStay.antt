@@ -1,7 +1,7 @@
 -- The kernel knows the nodes of closed files and of RELEASEs, and the server holds RELEASEs as the kernel knows them, whatever the event.
-use Rattle.std.proofs.Common.{◌≡◌, ℕ, ◌+◌, Bool, drop, true, false, true≢false, ◌||◌, cond, List, [], ◌∷◌, Option, Some, None, nat_eq, slice_get, refl, sym, subst, ◌∙◌, get_or, All}
+use Rattle.std.proofs.Common.{◌≡◌, ℕ, ◌+◌, Bool, drop, true, false, true≢false, cond, [], ◌∷◌, Option, Some, None, nat_eq, slice_get, refl, sym, subst, ◌∙◌, get_or, All}
 use Rattle.std.specs.List.{list_any, remove as without_at}
-use Rattle.std.proofs.lemmas.List.Elements.{All-nil, All-cons, All-head, All-push}
+use Rattle.std.proofs.lemmas.List.Elements.{All-nil, All-cons, All-head}
 use Rattle.fuse_spec.specs.declared.Counted.{Counted}
 use Rattle.fuse_spec.specs.declared.Opened.{Opened}
 use Rattle.fuse_spec.specs.declared.Purpose.{Purpose}
@@ -10,12 +10,12 @@ use Rattle.fuse_spec.specs.declared.QueuedRequest.{QueuedRequest}
 use Rattle.fuse_spec.specs.Counts.{opens_of}
 use Rattle.fuse_spec.specs.Kernel.{Kernel, asked_by, body_of, opened_nodes, is_released_by, is_pinned, is_bound}
 use Rattle.fuse_spec.specs.Maps.{Map, get, remove, values}
-use Rattle.fuse_spec.specs.Messages.{RequestBody, asks, release, WireReply}
+use Rattle.fuse_spec.specs.Messages.{RequestBody, release, WireReply}
 use Rattle.fuse_spec.specs.Operations.{Operation, read, write, files_in}
 use Rattle.fuse_spec.specs.Performs.{served}
 use Rattle.fuse_spec.specs.QueueCalls.{can_read_forgets}
 use Rattle.fuse_spec.specs.Queues.{pending}
-use Rattle.fuse_spec.specs.Server.{HeldRequest, nodes_of_body}
+use Rattle.fuse_spec.specs.Server.{nodes_of_body}
 use Rattle.fuse_spec.specs.Taking.{taking}
 use Rattle.fuse_spec.specs.Vfs.{CallState, using, Vfs}
 use Rattle.fuse_spec.specs.Worlds.{World, first_world, replying}
@@ -29,14 +29,14 @@ use Rattle.fuse_theorem.specs.Links.{LinksSound}
 use Rattle.fuse_theorem.specs.ReleasesKnown.{ReleaseKnown, ReleasesKnown}
 use Rattle.fuse_theorem.specs.WorldSound.{WorldSound}
 use Rattle.fuse_theorem.proofs.ClosedStay.{closed_stay, first_closed}
-use Rattle.fuse_theorem.proofs.Evicting.{or_false, known_still}
+use Rattle.fuse_theorem.proofs.Evicting.{or_false}
 use Rattle.fuse_theorem.proofs.Finding.{All-found, same_is}
 use Rattle.fuse_theorem.proofs.Happened.{Happened, by_mount, by_call, by_read_interrupt, by_read_forgets, by_read_pending, by_take, by_perform, by_again, by_write, by_settle, by_signal, by_tick, by_drop, by_evict, by_abort, happened}
 use Rattle.fuse_theorem.proofs.HeldStays.{HeldOfWhileLive, NamesKnown, held_of_stay}
 use Rattle.fuse_theorem.proofs.KnownWalks.{StateKnown, OpenKnown}
 use Rattle.fuse_theorem.proofs.NodesKnown.{nodes_stay_known, still_known}
 use Rattle.fuse_theorem.proofs.NumbersStay.{replying_kernel}
-use Rattle.fuse_theorem.proofs.ReleasesKept.{KeptReleases, begun_kept, signalled_kept, read_kept, none_kept, written_kept}
+use Rattle.fuse_theorem.proofs.ReleasesKept.{KeptReleases, begun_kept, signalled_kept, read_kept, written_kept}
 use Rattle.fuse_theorem.proofs.UnsentNodes.{each_fails}
 use Rattle.fuse_theorem.proofs.UsedFiles.{user_of}
 use Rattle.fuse_theorem.proofs.Values.{All-get, All-found_values}
@@ -53,8 +53,8 @@ names_file P other o e h = absurd (cc (e))
 pub closing_known : (nodes : Map Counted) (c : Vfs Opened) (closing : Map Opened) → ClosedFiles c closing → VfsKnown nodes c → All (λ (o : Opened). IsKnown nodes o.nodeid) (values closing)
 closing_known nodes c closing files known =
     All-found_values (OpenKnown nodes) closing files.closing_in_order (λ handle o at.
-      let user = user_of c closing files handle o at in
-      names_file (IsKnown nodes) user.1 o user.3 (All-get (StateKnown nodes) c.calls user.0 (using handle user.1) known.calls user.2))
+    let user = user_of c closing files handle o at in
+    names_file (IsKnown nodes) user.1 o user.3 (All-get (StateKnown nodes) c.calls user.0 (using handle user.1) known.calls user.2))
 
 -- ---- requests
 

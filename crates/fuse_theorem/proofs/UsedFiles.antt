@@ -1,5 +1,5 @@
 -- A call's step, as the open files and the calls that use them see it: closed files stay used, but for those that its own state used.
-use Rattle.std.proofs.Common.{T, ◌≡◌, ◌≢◌, ℕ, ◌+◌, ◌<◌, ◌≤◌, Bool, true, false, true≢false, [], ◌∷◌, Option, Some, None, not, nat_eq, refl, ap, sym, subst, ◌∙◌, arith, inl, inr}
+use Rattle.std.proofs.Common.{T, ◌≡◌, ◌≢◌, ℕ, ◌<◌, ◌≤◌, Bool, true, false, true≢false, [], ◌∷◌, Some, None, not, nat_eq, refl, ap, sym, subst, ◌∙◌, arith, inl, inr}
 use Rattle.std.specs.List.{list_any}
 use Rattle.std.specs.Ordering.{nat_cmp}
 use Rattle.std.specs.Cmp.{nat_cmp_total}
@@ -82,7 +82,7 @@ module _ (c : Vfs Opened) (closing : Map Opened) (old : ClosedFiles c closing) (
       users = λ q h operation at. elim (cases_eq q call) [
         | inl e ↦ new h operation (subst (λ (x : ℕ). get m x ≡ Some (using h operation)) e at)
         | inr ne ↦ let was = old.users q h operation (sym (others q ne) ∙ at) in
-          record { opener = answered_still h was.opener; of_open = λ o there. was.of_open o (sym (same h was.opener) ∙ there); of_closed = was.of_closed }
+            record { opener = answered_still h was.opener; of_open = λ o there. was.of_open o (sym (same h was.opener) ∙ there); of_closed = was.of_closed }
       ];
       not_open = λ h o at.
           let user = user_of c closing old h o at in
