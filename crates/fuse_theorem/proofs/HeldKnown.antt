@@ -24,7 +24,7 @@ use Rattle.fuse_theorem.proofs.NodesKnown.{known_some}
 use Rattle.fuse_theorem.proofs.Values.{All-get}
 
 -- What a request of a call names is known.
-state_names : (nodes : Map Counted) (state : CallState Opened) → All (IsKnown nodes) (nodes_of_state state) → All (IsKnown nodes) (files_in opened_nodes (asked state))
+pub state_names : (nodes : Map Counted) (state : CallState Opened) → All (IsKnown nodes) (nodes_of_state state) → All (IsKnown nodes) (files_in opened_nodes (asked state))
 state_names nodes (walking d word words plan) h = All-cons (IsKnown nodes) d [] (All-head (IsKnown nodes) d _ h) (All-nil (IsKnown nodes))
 state_names nodes (doing operation) h = h
 state_names nodes (using handle operation) h = h

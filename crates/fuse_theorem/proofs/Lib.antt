@@ -138,3 +138,4 @@ pub mod ReleasesKept
 pub mod ReleasesStay
 pub mod HoldsAll
 pub mod ForgetsNeeds
+pub mod NodesHeld

@@ -19,3 +19,4 @@ pub mod EveryList
 pub mod HeldKnown
 pub mod ClosedFiles
 pub mod ReleasesKnown
+pub mod NodesHeld
