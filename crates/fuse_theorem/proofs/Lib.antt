@@ -139,3 +139,4 @@ pub mod ReleasesStay
 pub mod HoldsAll
 pub mod ForgetsNeeds
 pub mod NodesHeld
+pub mod TakenStay

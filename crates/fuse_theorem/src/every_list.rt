@@ -25,6 +25,7 @@ ghost use Rattle.fuse_theorem.specs.EachEvent.{Needs};
 ghost use Rattle.fuse_theorem.specs.EveryList.{BothSound, NeedsBothAlone};
 ghost use Rattle.fuse_theorem.specs.HeldKnown.{HeldKnownWhileLive};
 ghost use Rattle.fuse_theorem.specs.KnownNodes.{NodesKnown};
+ghost use Rattle.fuse_theorem.specs.NodesHeld.{NodesHeld, TakenServable};
 ghost use Rattle.fuse_theorem.specs.ReleasesKnown.{ReleasesKnown};
 ghost use Rattle.fuse_theorem.specs.WorldSound.{WorldSound};
 
@@ -90,4 +91,13 @@ pub fn nodes_in_use_stay_held()
     ensures take { (w : World) (p : Plain) → BothSound w p → ReleasesKnown w → (choice : ℕ → ℕ) (k : ℕ) (o : Outcome) (after : World) → step choice w (event.take k) ≡ Ok (o, after) → Needs choice w p (event.take k) }
     ensures settle { (w : World) (p : Plain) → BothSound w p → ReleasesKnown w → (k : ℕ) (result : ReplyResult) (copy : Copy) → slice_get w.results k ≡ Some result → get w.server.copies result.number ≡ Some copy →
         OneId w.server.nodes × HoldsAll (after_settle w k result (Some copy)) (after_settle w k result (Some copy)).server.nodes }
+{}
+
+/// What `Held` says of nodes: while the mount is live, the server holds what the kernel counts, binds, opens or waits on, under the kernel's generations, and
+/// what copies name. In any mount no request that is pending, on the link or held names a node that is gone.
+pub fn nodes_stay_held()
+    ensures at_first { TakenServable first_world.server }
+    ensures always { (w : World) → WorldSound w → RequestsAskedWhileLive w → LinksSound w → NodesKnown w.kernel → HeldKnownWhileLive w → ReleasesKnown w → TakenServable w.server → (e : Event) (o : Outcome) (after : World) → Happens w e o after →
+        TakenServable after.server }
+    ensures held { (w : World) (p : Plain) → BothSound w p → ReleasesKnown w → TakenServable w.server → NodesHeld w }
 {}
