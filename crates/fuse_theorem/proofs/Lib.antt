@@ -140,3 +140,11 @@ pub mod NumbersLeft
 pub mod StillOpen
 pub mod HeldNumbers
 pub mod BalancedNumbers
+pub mod UsedFiles
+pub mod ClosedStay
+pub mod ReleasesKept
+pub mod ReleasesStay
+pub mod HoldsAll
+pub mod ForgetsNeeds
+pub mod NodesHeld
+pub mod TakenStay

@@ -17,3 +17,6 @@ pub mod EveryList
 pub mod HeldKnown
 pub mod StillHeld
 pub mod StillOpen
+pub mod ClosedFiles
+pub mod ReleasesKnown
+pub mod NodesHeld
