@@ -148,3 +148,4 @@ pub mod HoldsAll
 pub mod ForgetsNeeds
 pub mod NodesHeld
 pub mod TakenStay
+pub mod CollectedSound
