@@ -149,3 +149,4 @@ pub mod ForgetsNeeds
 pub mod NodesHeld
 pub mod TakenStay
 pub mod CollectedSound
+pub mod ListsRun
