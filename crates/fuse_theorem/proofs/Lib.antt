@@ -140,3 +140,4 @@ pub mod HoldsAll
 pub mod ForgetsNeeds
 pub mod NodesHeld
 pub mod TakenStay
+pub mod ForgetsCounted
