@@ -141,3 +141,4 @@ pub mod ForgetsNeeds
 pub mod NodesHeld
 pub mod TakenStay
 pub mod ForgetsCounted
+pub mod NoFault
