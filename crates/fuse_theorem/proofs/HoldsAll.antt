@@ -33,17 +33,17 @@ pub data AwaitsReply : RequestBody → Type 0 where
   of_call : (operation : Operation ℕ Opened) → AwaitsReply (asks operation)
   of_release : (o : Opened) → AwaitsReply (release o)
 
-pub awaits_reply : (k : Kernel) (unique : ℕ) (body : RequestBody) → IsAsked k unique body → AwaitsReply body
-awaits_reply k unique body is = by is.request.kept is.asks
+pub asks_reply : (k : Kernel) (kept : Purpose) (body : RequestBody) → body_of k kept ≡ Some body → AwaitsReply body
+asks_reply k purpose.Init body e = let same : init ≡ body = cc (e) in subst AwaitsReply same of_init
+asks_reply k (purpose.Release o) body e = let same : release o ≡ body = cc (e) in subst AwaitsReply same (of_release o)
+asks_reply k (purpose.Call call) body e = called (get k.vfs.calls call) e
   where
     called : (o : Option (CallState Opened)) → asked_by o ≡ Some body → AwaitsReply body
     called None e = absurd (cc (e))
     called (Some state) e = let same : asks (asked state) ≡ body = cc (e) in subst AwaitsReply same (of_call (asked state))
 
-    by : (kept : Purpose) → body_of k kept ≡ Some body → AwaitsReply body
-    by purpose.Init e = let same : init ≡ body = cc (e) in subst AwaitsReply same of_init
-    by (purpose.Release o) e = let same : release o ≡ body = cc (e) in subst AwaitsReply same (of_release o)
-    by (purpose.Call call) e = called (get k.vfs.calls call) e
+pub awaits_reply : (k : Kernel) (unique : ℕ) (body : RequestBody) → IsAsked k unique body → AwaitsReply body
+awaits_reply k unique body is = asks_reply k is.request.kept body is.asks
 
 -- one of a list has both
 found_among : {X : Type 0} (P Q : X → Type 0) (xs : List X) → SomeHas P xs → All Q xs → (x : X) × P x × Q x

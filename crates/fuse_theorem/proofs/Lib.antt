@@ -150,3 +150,5 @@ pub mod NodesHeld
 pub mod TakenStay
 pub mod CollectedSound
 pub mod ListsRun
+pub mod ForgetsCounted
+pub mod NoFault

@@ -20,3 +20,4 @@ pub mod StillOpen
 pub mod ClosedFiles
 pub mod ReleasesKnown
 pub mod NodesHeld
+pub mod Faultless

@@ -1,7 +1,7 @@
 //! What holds of every world to which a list of events leads, and what single events need that follows from it. Each law says that the
 //! first world has it and that each event keeps it.
 
-ghost use Rattle.std.specs.Prelude.{Contains, ◌≡◌, ◌≢◌, ◌≤◌, ℕ, Ok, Some, slice_get, true};
+ghost use Rattle.std.specs.Prelude.{Contains, ◌≡◌, ◌≢◌, ◌≤◌, ℕ, Ok, Some, slice_get, true, All, None};
 ghost use Rattle.fuse_spec.specs.Counts.{OpenBalance, open_in_kernel, opens_of};
 ghost use Rattle.fuse_spec.specs.Vfs.{CallState, asked};
 ghost use Rattle.fuse_spec.specs.Kernel.{is_live};
@@ -9,7 +9,7 @@ ghost use Rattle.fuse_spec.specs.Maps.{get, remove};
 ghost use Rattle.fuse_spec.specs.Nodes.{file_of, is_open, handle_back};
 ghost use Rattle.fuse_spec.specs.Operations.{Operation};
 ghost use Rattle.fuse_spec.specs.Performs.{is_still_held};
-ghost use Rattle.fuse_spec.specs.Server.{Copy, HeldRequest};
+ghost use Rattle.fuse_spec.specs.Server.{Copy, HeldRequest, fault_of};
 ghost use Rattle.fuse_spec.specs.declared.ReplyResult.{ReplyResult};
 ghost use Rattle.fuse_spec.specs.declared.Opened.{Opened};
 ghost use Rattle.fuse_spec.specs.Alike.{Alike};
@@ -26,6 +26,7 @@ ghost use Rattle.fuse_theorem.specs.AskedRequests.{RequestsAskedWhileLive};
 ghost use Rattle.fuse_theorem.specs.AsksServed.{AsksServed};
 ghost use Rattle.fuse_theorem.specs.EachEvent.{CanServe, Needs};
 ghost use Rattle.fuse_theorem.specs.EveryList.{BothSound, NeedsBothAlone};
+ghost use Rattle.fuse_theorem.specs.Faultless.{Faultless};
 ghost use Rattle.fuse_theorem.specs.HeldKnown.{HeldKnownWhileLive};
 ghost use Rattle.fuse_theorem.specs.KnownNodes.{NodesKnown};
 ghost use Rattle.fuse_theorem.specs.StillHeld.{HeldReleasesKnown, NodesStillHeld, StillHeldAfterAbort};
@@ -137,4 +138,12 @@ pub fn nodes_stay_held()
     ensures always { (w : World) → WorldSound w → RequestsAskedWhileLive w → LinksSound w → NodesKnown w.kernel → HeldKnownWhileLive w → ReleasesKnown w → TakenServable w.server → (e : Event) (o : Outcome) (after : World) → Happens w e o after →
         TakenServable after.server }
     ensures held { (w : World) (p : Plain) → BothSound w p → ReleasesKnown w → TakenServable w.server → NodesHeld w }
+{}
+
+/// Each forget is of a node from 2 up and of one lookup at least, whatever the event. So no request on the link names a node that is gone, gives back more
+/// lookups than the server counts, or bears a number that is held or whose reply is kept.
+pub fn requests_have_no_fault()
+    ensures at_first { Faultless first_world }
+    ensures always { (w : World) → WorldSound w → RequestsAskedWhileLive w → LinksSound w → Faultless w → (e : Event) (o : Outcome) (after : World) → Happens w e o after → Faultless after }
+    ensures no_fault { (w : World) (p : Plain) → BothSound w p → ReleasesKnown w → Faultless w → All (λ (r : Request). fault_of w.server r ≡ None) w.requests }
 {}
