@@ -140,3 +140,6 @@ pub mod NumbersLeft
 pub mod StillOpen
 pub mod HeldNumbers
 pub mod BalancedNumbers
+pub mod RefusalsOnly
+pub mod RefusalsByCases
+pub mod RefusalsAlso
