@@ -40,7 +40,7 @@ going_ok outcome after o w e =
     let parts = unless_ok (is_past after) refusal.Exhausted (Ok (outcome, after)) o w e in
     record { within = parts.passed; leads = ok_is outcome after o w parts.rest }
 
-pub first_false : (a b : Bool) → (a || b) ≡ false → a ≡ false
+first_false : (a b : Bool) → (a || b) ≡ false → a ≡ false
 first_false true b e = e
 first_false false b e = refl
 

@@ -1,19 +1,18 @@
 -- Each case of the definition is what the step function gives.
-use Rattle.std.proofs.Common.{◌≡◌, ◌≢◌, ℕ, ◌+◌, ◌≤◌, ◌<◌, Bool, true, false, true≢false, not, cond, ◌&&◌, ◌||◌, List, [], ◌∷◌, Option, Some, None, Ok, Err, length, nat_eq, nat_lt, nat_le, slice_get, max, inl, inr, ◌⊎◌, refl, sym, ap, ◌∙◌, arith}
+use Rattle.std.proofs.Common.{◌≡◌, ◌≢◌, ℕ, ◌+◌, Bool, true, false, not, cond, ◌&&◌, ◌||◌, List, [], ◌∷◌, Ok, Err, length, nat_eq, nat_lt, nat_le, max, inl, inr, ◌⊎◌, refl, ap, ◌∙◌, arith}
 use Rattle.std.proofs.lemmas.Bool.{lt-ltb, le-ltb, le-leb, lt-leb}
 use Rattle.fuse_spec.specs.Maps.{get, get_name}
 use Rattle.fuse_spec.specs.Numbers.{max_calls, max_validity, clock_end}
-use Rattle.fuse_spec.specs.declared.Purpose.{Purpose}
 use Rattle.fuse_spec.specs.declared.Refusal.{Refusal}
 use Rattle.fuse_spec.specs.declared.Refusal.TheVariants.{BadTime, Busy, NotReady, Full, NoSuch, NoCopy, InterruptFirst, Exhausted}
 use Rattle.fuse_spec.specs.QueueCalls.{pending_at, first_forgets}
-use Rattle.fuse_spec.specs.Kernel.{Kernel, is_live, body_of, is_pinned, is_bound}
+use Rattle.fuse_spec.specs.Kernel.{is_live, is_pinned, is_bound}
 use Rattle.fuse_spec.specs.Copies.{is_current}
-use Rattle.fuse_spec.specs.Worlds.{World, after_mount, after_call, after_drop}
+use Rattle.fuse_spec.specs.Worlds.{World, after_mount, after_drop}
 use Rattle.fuse_spec.specs.Events.{Event, Outcome}
 use Rattle.fuse_spec.specs.Events as event
 use Rattle.fuse_spec.specs.Steps.{Stepped, unless, is_past, going, is_ready, is_busy, when_live, when_not_interrupted, reading_interrupt, reading_forgets, reading_body, reading_pending, taking_request, performing_held, sending_again, writing_copy, settling, signalling, dropping, evicting, step}
-use Rattle.fuse_spec.specs.Refusals.{IsInUse, IsFree, MayRead, Leads, mounts, calls, reads_interrupt, reads_forgets, reads_pending, takes, performs, sends_again, writes, settles, signals, passes, drops, evicts, aborts, draws, needs_live, reads_other, NamesNothing, no_interrupt, no_forgets, no_pending, no_body, no_request, none_held, no_copy, no_result, no_call, no_name, no_node, Refuses, too_long, in_use, clock_ends, not_ready, too_many, not_live, interrupt_first, names_nothing, none_kept, not_current, pinned_or_bound, past_its_end}
+use Rattle.fuse_spec.specs.Refusals.{MayRead, Leads, mounts, calls, reads_interrupt, reads_forgets, reads_pending, takes, performs, sends_again, writes, settles, signals, passes, drops, evicts, aborts, draws, needs_live, reads_other, NamesNothing, no_interrupt, no_forgets, no_pending, no_body, no_request, none_held, no_copy, no_result, no_call, no_name, no_node, Refuses, too_long, in_use, clock_ends, not_ready, too_many, not_live, interrupt_first, names_nothing, none_kept, not_current, pinned_or_bound, past_its_end}
 use Rattle.fuse_theorem.proofs.Finding.{other_is}
 
 -- ---- a test that refuses, and one that does not

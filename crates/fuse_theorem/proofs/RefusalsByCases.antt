@@ -1,11 +1,11 @@
 -- The step function and the cases of `Refusals.antt` in `fuse_spec` say the same.
-use Rattle.std.proofs.Common.{◌≡◌, ℕ, Bool, true, false, Ok, Err, refl, ap, sym, subst, ◌∙◌}
+use Rattle.std.proofs.Common.{◌≡◌, ℕ, true, false, Ok, Err, sym, subst, ◌∙◌}
 use Rattle.fuse_spec.specs.declared.Refusal.{Refusal}
 use Rattle.fuse_spec.specs.Worlds.{World}
 use Rattle.fuse_spec.specs.Events.{Event, Outcome}
 use Rattle.fuse_spec.specs.Steps.{Stepped, is_past, step}
 use Rattle.fuse_spec.specs.Refusals.{Leads, Refuses, draws}
-use Rattle.fuse_theorem.proofs.Accepted.{accepted, ok_is}
+use Rattle.fuse_theorem.proofs.Accepted.{ok_is}
 use Rattle.fuse_theorem.proofs.RefusalsOnly.{ByCases, is_refused, leads, by_cases}
 use Rattle.fuse_theorem.proofs.RefusalsAlso.{led_to, refused}
 

@@ -1,6 +1,6 @@
 -- What the step function gives is one of the cases: a refusal that the event has, or what it leads to.
-use Rattle.std.proofs.Common.{◌≡◌, ◌≢◌, ℕ, ◌+◌, ◌≤◌, ◌<◌, Bool, true, false, true≢false, not, ◌&&◌, ◌||◌, List, [], ◌∷◌, Option, Some, None, ◌⊎◌, Ok, Err, length, nat_eq, nat_lt, nat_le, slice_get, max, inl, inr, refl, sym, ap, ◌∙◌}
-use Rattle.std.proofs.lemmas.Bool.{ltb-true, ltb-false, leb-true, leb-false, eqb-true, eqb-false}
+use Rattle.std.proofs.Common.{◌≡◌, ◌≢◌, ℕ, ◌+◌, Bool, true, false, true≢false, not, ◌&&◌, ◌||◌, List, [], ◌∷◌, Option, Some, None, ◌⊎◌, Ok, Err, length, nat_eq, nat_lt, nat_le, slice_get, max, inl, inr, refl, sym, ◌∙◌}
+use Rattle.std.proofs.lemmas.Bool.{ltb-true, ltb-false, leb-true, leb-false, eqb-true, eqb-false, not-true, not-false}
 use Rattle.fuse_spec.specs.Maps.{get, get_name}
 use Rattle.fuse_spec.specs.Numbers.{max_calls, max_validity, clock_end}
 use Rattle.fuse_spec.specs.Operations.{errno_of}
@@ -17,7 +17,7 @@ use Rattle.fuse_spec.specs.declared.Refusal.TheVariants.{BadTime, Busy, NotReady
 use Rattle.fuse_spec.specs.QueueCalls.{pending_at, first_forgets}
 use Rattle.fuse_spec.specs.Uniques.{interrupt_number}
 use Rattle.fuse_spec.specs.Messages.{Forget, Request, RequestBody}
-use Rattle.fuse_spec.specs.Kernel.{Kernel, is_live, body_of, call_signalled, is_pinned, is_bound}
+use Rattle.fuse_spec.specs.Kernel.{is_live, body_of, call_signalled, is_pinned, is_bound}
 use Rattle.fuse_spec.specs.Replies.{reply_written}
 use Rattle.fuse_spec.specs.Server.{HeldRequest, Kept}
 use Rattle.fuse_spec.specs.Taking.{taking}
@@ -27,33 +27,24 @@ use Rattle.fuse_spec.specs.Worlds.{World, Sent, after_mount, after_call, after_r
 use Rattle.fuse_spec.specs.Events.{Event, Outcome}
 use Rattle.fuse_spec.specs.Events as event
 use Rattle.fuse_spec.specs.Steps.{Stepped, unless, is_past, going, is_ready, is_busy, when_live, when_not_interrupted, reading_interrupt, reading_forgets, reading_body, reading_pending, taking_request, performing_held, sending_again, writing_copy, settling, signalling, dropping, evicting, step}
-use Rattle.fuse_spec.specs.Refusals.{IsInUse, IsFree, MayRead, Leads, mounts, calls, reads_interrupt, reads_forgets, reads_pending, takes, performs, sends_again, writes, settles, signals, passes, drops, evicts, aborts, draws, needs_live, reads_other, NamesNothing, no_interrupt, no_forgets, no_pending, no_body, no_request, none_held, no_copy, no_result, no_call, no_name, no_node, Refuses, too_long, in_use, clock_ends, not_ready, too_many, not_live, interrupt_first, names_nothing, none_kept, not_current, pinned_or_bound, past_its_end}
-use Rattle.fuse_theorem.proofs.Finding.{other_is}
-use Rattle.fuse_theorem.proofs.Accepted.{is_not, first_false}
+use Rattle.fuse_spec.specs.Refusals.{Leads, mounts, calls, reads_interrupt, reads_forgets, reads_pending, takes, performs, sends_again, writes, settles, signals, passes, drops, evicts, aborts, draws, needs_live, reads_other, NamesNothing, no_interrupt, no_forgets, no_pending, no_body, no_request, none_held, no_copy, no_result, no_call, no_name, no_node, Refuses, too_long, in_use, clock_ends, not_ready, too_many, not_live, interrupt_first, names_nothing, none_kept, not_current, pinned_or_bound, past_its_end}
+use Rattle.fuse_theorem.proofs.Evicting.{or_false}
 use Rattle.fuse_theorem.proofs.Happened.{none_queued}
 
--- What a step came to, by the cases.
+-- What a step came to: a refusal that the event has, or what it leads to with no counter past its end.
 pub data ByCases (choice : ℕ → ℕ) (w : World) (e : Event) : Stepped → Type 0 where
   is_refused : (r : Refusal) → Refuses choice w e r → ByCases choice w e (Err r)
   leads : (o : Outcome) (after : World) → Leads choice w e o after → (draws e ≡ true → is_past after ≡ false) → ByCases choice w e (Ok (o, after))
-
-fails : (b : Bool) → not b ≡ true → b ≡ false
-fails true t = absurd (cc)
-fails false t = refl
 
 -- ---- whether a mount is in use
 
 idle : (live : Bool) (uses : ℕ) → (live && not (nat_eq uses 0)) ≡ false → (live ≡ false) ⊎ (uses ≡ 0)
 idle false uses f = inl refl
-idle true uses f = inr (eqb-true uses 0 (is_not (nat_eq uses 0) f))
+idle true uses f = inr (eqb-true uses 0 (not-false (nat_eq uses 0) f))
 
-in_use_live : (live used : Bool) → (live && used) ≡ true → live ≡ true
-in_use_live true used t = refl
-in_use_live false used t = absurd (cc)
-
-in_use_used : (live : Bool) (uses : ℕ) → (live && not (nat_eq uses 0)) ≡ true → uses ≢ 0
-in_use_used true uses t = eqb-false uses 0 (fails (nat_eq uses 0) t)
-in_use_used false uses t = absurd (cc)
+used : (live : Bool) (uses : ℕ) → (live && not (nat_eq uses 0)) ≡ true → (live ≡ true) × (uses ≢ 0)
+used true uses t = (refl, eqb-false uses 0 (not-true (nat_eq uses 0) t))
+used false uses t = absurd (cc)
 
 module _ (choice : ℕ → ℕ) (w : World) (e : Event) where
   -- a test that refuses the event, and what is judged behind it
@@ -68,7 +59,7 @@ module _ (choice : ℕ → ℕ) (w : World) (e : Event) where
   goes_undrawn o after undrawn there = leads o after there (λ drawn. absurd (true≢false (sym drawn ∙ undrawn)))
 
   if_live : needs_live e ≡ true → (s : Stepped) → (is_live w.kernel.phase ≡ true → ByCases choice w e s) → ByCases choice w e (when_live w s)
-  if_live needs s behind = tested (not (is_live w.kernel.phase)) NotReady s (λ t. not_live e needs (fails (is_live w.kernel.phase) t)) (λ f. behind (is_not (is_live w.kernel.phase) f))
+  if_live needs s behind = tested (not (is_live w.kernel.phase)) NotReady s (λ t. not_live e needs (not-true (is_live w.kernel.phase) t)) (λ f. behind (not-false (is_live w.kernel.phase) f))
 
   if_none_first : reads_other e ≡ true → is_live w.kernel.phase ≡ true → (s : Stepped) → (w.kernel.queues.interrupts ≡ [] → ByCases choice w e s) → ByCases choice w e (when_not_interrupted w s)
   if_none_first reads live s behind =
@@ -78,7 +69,8 @@ module _ (choice : ℕ → ℕ) (w : World) (e : Event) where
       some_queued [] t = absurd (cc)
       some_queued (x ∷ xs) t = λ q. cc
 
-  -- nothing is there, where a live mount is needed and nothing may go first
+  -- ---- what the event names is not there: where the mount is live, where the event may read as well, and where neither is needed
+
   nothing_live : is_live w.kernel.phase ≡ true → reads_other e ≡ false → NamesNothing w e → ByCases choice w e (Err NoSuch)
   nothing_live live other none = is_refused NoSuch (names_nothing e (λ n. live) (λ r. absurd (true≢false (sym r ∙ other))) none)
 
@@ -99,7 +91,7 @@ module _ (choice : ℕ → ℕ) (w : World) where
       let e = event.mount f m in
       let mounted = Ok (event.mounted, after_mount w f m) in
       tested choice w e (nat_lt max_validity (max f m)) BadTime (unless (is_busy w.kernel) Busy mounted) (λ t. too_long f m (ltb-true max_validity (max f m) t))
-      (λ s. tested choice w e (is_busy w.kernel) Busy mounted (λ t. in_use f m (ltb-false max_validity (max f m) s) (record { live = in_use_live live (not (nat_eq uses 0)) t; used = in_use_used live uses t }))
+      (λ s. tested choice w e (is_busy w.kernel) Busy mounted (λ t. in_use f m (ltb-false max_validity (max f m) s) (let both = used live uses t in record { live = both.0; used = both.1 }))
       (λ i. goes_undrawn choice w e event.mounted (after_mount w f m) refl (mounts f m (ltb-false max_validity (max f m) s) (idle live uses i))))
 
   by_call : (call : Call) → Comes (event.call call) (step choice w (event.call call))
@@ -108,9 +100,9 @@ module _ (choice : ℕ → ℕ) (w : World) where
       let there = length w.kernel.vfs.calls in
       let ready = is_ready w.kernel.phase in
       let begun = event.begun w.kernel.vfs.next_call in
-      tested choice w e (not ready) NotReady (unless (nat_le max_calls there) Full (going begun (after_call w call))) (λ t. not_ready call (fails ready t))
-      (λ f. tested choice w e (nat_le max_calls there) Full (going begun (after_call w call)) (λ t. too_many call (is_not ready f) (leb-true max_calls there t))
-      (λ room. goes choice w e begun (after_call w call) refl (calls call (is_not ready f) (leb-false max_calls there room))))
+      tested choice w e (not ready) NotReady (unless (nat_le max_calls there) Full (going begun (after_call w call))) (λ t. not_ready call (not-true ready t))
+      (λ f. tested choice w e (nat_le max_calls there) Full (going begun (after_call w call)) (λ t. too_many call (not-false ready f) (leb-true max_calls there t))
+      (λ room. goes choice w e begun (after_call w call) refl (calls call (not-false ready f) (leb-false max_calls there room))))
 
   by_tick : (ms : ℕ) → Comes (event.tick ms) (step choice w (event.tick ms))
   by_tick ms =
@@ -174,8 +166,8 @@ module _ (choice : ℕ → ℕ) (w : World) where
   by_again unique (Some kept) there =
       let e = event.again unique in
       let current = is_current w.server kept.wire in
-      tested choice w e (not current) NoCopy (going (event.sent_again unique) (after_again w unique kept)) (λ t. not_current unique kept there (fails current t))
-      (λ f. goes choice w e (event.sent_again unique) (after_again w unique kept) refl (sends_again unique kept there (is_not current f)))
+      tested choice w e (not current) NoCopy (going (event.sent_again unique) (after_again w unique kept)) (λ t. not_current unique kept there (not-true current t))
+      (λ f. goes choice w e (event.sent_again unique) (after_again w unique kept) refl (sends_again unique kept there (not-false current f)))
 
   by_write : (k : ℕ) (x : Option Sent) → slice_get w.replies k ≡ x → Comes (event.write k) (writing_copy w k x)
   by_write k None there = nothing_there choice w (event.write k) refl refl (no_copy k there)
@@ -208,11 +200,7 @@ module _ (choice : ℕ → ℕ) (w : World) where
       let bound = is_bound w.kernel node in
       let outcome = event.evicted node counted.count in
       tested choice w e (pinned || bound) Busy (Ok (outcome, after_evict w node counted)) (λ t. pinned_or_bound node counted live there t)
-      (λ f. goes_undrawn choice w e outcome (after_evict w node counted) refl (evicts node counted live there (first_false pinned bound f) (second_false pinned bound f)))
-    where
-      second_false : (a b : Bool) → (a || b) ≡ false → b ≡ false
-      second_false true b f = absurd (cc)
-      second_false false b f = f
+      (λ f. goes_undrawn choice w e outcome (after_evict w node counted) refl (evicts node counted live there (or_false pinned bound f).0 (or_false pinned bound f).1))
 
   -- Each event's step is one of the cases.
   pub by_cases : (e : Event) → ByCases choice w e (step choice w e)

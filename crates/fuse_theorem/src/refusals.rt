@@ -8,7 +8,7 @@ ghost use Rattle.fuse_spec.specs.Events.{Event, Outcome};
 ghost use Rattle.fuse_spec.specs.Steps.{step, is_past, MayStep, IsRefused};
 ghost use Rattle.fuse_spec.specs.Refusals.{Leads, Refuses, draws};
 
-/// An event is refused exactly where a case of `Refuses` has it, and so.
+/// An event gets a refusal exactly where a case of `Refuses` has it. The server's choice of ids is given.
 pub fn refused_by_cases()
     ensures only { (choice : ℕ → ℕ) (w : World) (e : Event) (r : Refusal) → step choice w e ≡ Err r → Refuses choice w e r }
     ensures also { (choice : ℕ → ℕ) (w : World) (e : Event) (r : Refusal) → Refuses choice w e r → step choice w e ≡ Err r }
@@ -26,7 +26,7 @@ pub fn refused_once()
     ensures { (choice : ℕ → ℕ) (w : World) (e : Event) (r s : Refusal) → Refuses choice w e r → Refuses choice w e s → r ≡ s }
 {}
 
-/// An event is refused whatever free nodeids the server gives exactly where the cases have it for each choice of them.
+/// An event gets a refusal whatever free nodeids the server gives, exactly where the cases have it for each choice of them.
 pub fn refused_for_any_choice()
     ensures only { (w : World) (e : Event) (r : Refusal) → IsRefused w e r → (choice : ℕ → ℕ) → MayStep choice w e → Refuses choice w e r }
     ensures also { (w : World) (e : Event) (r : Refusal) → ((choice : ℕ → ℕ) → MayStep choice w e → Refuses choice w e r) → IsRefused w e r }
