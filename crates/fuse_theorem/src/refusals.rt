@@ -21,7 +21,7 @@ pub fn accepted_by_cases()
     ensures also { (choice : ℕ → ℕ) (w : World) (e : Event) (o : Outcome) (after : World) → Leads choice w e o after → (draws e ≡ true → is_past after ≡ false) → step choice w e ≡ Ok (o, after) }
 {}
 
-/// An event has one refusal at most: the cases exclude each other.
+/// An event has one refusal at most: no two cases give it different ones.
 pub fn refused_once()
     ensures { (choice : ℕ → ℕ) (w : World) (e : Event) (r s : Refusal) → Refuses choice w e r → Refuses choice w e s → r ≡ s }
 {}
