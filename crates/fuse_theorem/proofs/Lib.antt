@@ -152,3 +152,6 @@ pub mod CollectedSound
 pub mod ListsRun
 pub mod ForgetsCounted
 pub mod NoFault
+pub mod RefusalsOnly
+pub mod RefusalsByCases
+pub mod RefusalsAlso
