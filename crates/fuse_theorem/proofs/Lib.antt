@@ -155,3 +155,4 @@ pub mod NoFault
 pub mod RefusalsOnly
 pub mod RefusalsByCases
 pub mod RefusalsAlso
+pub mod Choosing

@@ -5,7 +5,7 @@ ghost use Rattle.std.specs.Prelude.{◌≡◌, ℕ, true, false, Ok, Err};
 ghost use Rattle.fuse_spec.specs.declared.Refusal.{Refusal};
 ghost use Rattle.fuse_spec.specs.Worlds.{World};
 ghost use Rattle.fuse_spec.specs.Events.{Event, Outcome};
-ghost use Rattle.fuse_spec.specs.Steps.{step, is_past, MayStep, IsRefused};
+ghost use Rattle.fuse_spec.specs.Steps.{step, is_past, Happens, MayStep, IsRefused};
 ghost use Rattle.fuse_spec.specs.Refusals.{Leads, Refuses, draws};
 
 /// An event gets a refusal exactly where a case of `Refuses` has it. The server's choice of ids is given.
@@ -30,4 +30,11 @@ pub fn refused_once()
 pub fn refused_for_any_choice()
     ensures only { (w : World) (e : Event) (r : Refusal) → IsRefused w e r → (choice : ℕ → ℕ) → MayStep choice w e → Refuses choice w e r }
     ensures also { (w : World) (e : Event) (r : Refusal) → ((choice : ℕ → ℕ) → MayStep choice w e → Refuses choice w e r) → IsRefused w e r }
+{}
+
+/// The server always has ids to choose. So an event that is refused whatever it chooses has one refusal, and is not accepted.
+pub fn refused_or_accepted()
+    ensures choice { (w : World) (e : Event) → (choice : ℕ → ℕ) × MayStep choice w e }
+    ensures once { (w : World) (e : Event) (r s : Refusal) → IsRefused w e r → IsRefused w e s → r ≡ s }
+    ensures apart { (w : World) (e : Event) (r : Refusal) → IsRefused w e r → (o : Outcome) (after : World) → Happens w e o after → ⊥ }
 {}
