@@ -142,3 +142,4 @@ pub mod NodesHeld
 pub mod TakenStay
 pub mod ForgetsCounted
 pub mod NoFault
+pub mod NoWrongBody
