@@ -140,6 +140,7 @@ pub mod HoldsAll
 pub mod ForgetsNeeds
 pub mod NodesHeld
 pub mod TakenStay
+pub mod KeptReplies
 pub mod ForgetsCounted
 pub mod NoFault
 pub mod NoWrongBody
