@@ -144,3 +144,4 @@ pub mod KeptReplies
 pub mod ForgetsCounted
 pub mod NoFault
 pub mod NoWrongBody
+pub mod RepliesFitStay
