@@ -1,29 +1,26 @@
 -- The kernel refuses no copy for its body.
-use Rattle.std.proofs.Common.{◌≡◌, ◌≢◌, ℕ, ◌-◌, Bool, true, false, true≢false, cond, List, [], ◌∷◌, Option, Some, None, nat_eq, slice_get, refl, ap, sym, subst, ◌∙◌, arith, All}
+use Rattle.std.proofs.Common.{◌≡◌, ◌≢◌, ℕ, ◌-◌, Bool, true, false, true≢false, cond, Option, Some, None, nat_eq, slice_get, refl, ap, sym, subst, ◌∙◌, arith}
 use Rattle.std.specs.Prelude.{◌%◌}
 use Rattle.std.proofs.lemmas.Bool.Decides.{nat_tests}
-use Rattle.std.proofs.lemmas.List.Elements.{All-nil}
 use Rattle.fuse_spec.specs.declared.Opened.{Opened}
-use Rattle.fuse_spec.specs.declared.Phase.TheVariants.{Ready}
 use Rattle.fuse_spec.specs.declared.Purpose.{Purpose}
 use Rattle.fuse_spec.specs.declared.Purpose.TheVariants as purpose
 use Rattle.fuse_spec.specs.declared.QueuedRequest.{QueuedRequest}
 use Rattle.fuse_spec.specs.declared.WriteResult.{WriteResult}
-use Rattle.fuse_spec.specs.declared.WriteResult.TheVariants.{Accepted, NoEntry, Invalid}
-use Rattle.fuse_spec.specs.Kernel.{Kernel, is_live}
+use Rattle.fuse_spec.specs.declared.WriteResult.TheVariants.{Accepted, Invalid}
+use Rattle.fuse_spec.specs.Kernel.{Kernel}
 use Rattle.fuse_spec.specs.Maps.{get}
 use Rattle.fuse_spec.specs.Messages.{WireReply}
-use Rattle.fuse_spec.specs.Operations.{Operation, agreed, done, failed}
+use Rattle.fuse_spec.specs.Operations.{Operation, done, failed}
 use Rattle.fuse_spec.specs.QueueCalls.{waiting, without}
-use Rattle.fuse_spec.specs.Replies.{is_empty_reply, is_init_reply, write_result_of, goes_with, replied, replied_to_call, ended_by, reply_taken, odd_taken, interrupt_replied, reply_written}
+use Rattle.fuse_spec.specs.Replies.{is_empty_reply, is_init_reply, write_result_of, goes_with, replied, replied_to_call, reply_taken, odd_taken, interrupt_replied, reply_written}
 use Rattle.fuse_spec.specs.Vfs.{CallState, asked}
 use Rattle.fuse_spec.specs.Worlds.{World, Sent}
 use Rattle.fuse_spec.specs.Plain.{Plain}
-use Rattle.fuse_theorem.specs.Conditions.{awaiting}
 use Rattle.fuse_theorem.specs.EachEvent.{CanHear}
 use Rattle.fuse_theorem.specs.EachEvent as each
 use Rattle.fuse_theorem.specs.EveryList.{BothSound}
-use Rattle.fuse_theorem.specs.RepliesFit.{FitsPurpose, IsEmptyUnder, RepliesFit}
+use Rattle.fuse_theorem.specs.RepliesFit.{FitsPurpose, RepliesFit}
 use Rattle.fuse_theorem.proofs.Answered.{waiting_is}
 use Rattle.fuse_theorem.proofs.Finding.{All-found}
 use Rattle.fuse_theorem.proofs.Queuing.{All-at}

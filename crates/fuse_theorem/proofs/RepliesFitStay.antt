@@ -1,9 +1,8 @@
 -- Replies to RELEASEs and INTERRUPTs say only whether the request failed, and no copy is refused for its body, whatever the event.
-use Rattle.std.proofs.Common.{◌≡◌, ◌≢◌, ◌⊎◌, ℕ, ◌+◌, ◌-◌, ◌≤◌, ◌<◌, Bool, true, false, true≢false, cond, List, [], ◌∷◌, ◌++◌, drop, length, Option, Some, None, nat_eq, slice_get, get_or, refl, ap, sym, subst, ◌∙◌, arith, inl, inr, All}
-use Rattle.std.specs.Prelude.{◌%◌, count_by}
+use Rattle.std.proofs.Common.{◌≡◌, ◌≢◌, ◌⊎◌, ℕ, ◌+◌, ◌≤◌, ◌<◌, Bool, true, false, true≢false, cond, List, [], ◌∷◌, ◌++◌, drop, length, Option, Some, None, nat_eq, slice_get, get_or, refl, ap, sym, subst, ◌∙◌, arith, inl, inr, All}
+use Rattle.std.specs.Prelude.{◌%◌}
 use Rattle.std.specs.List.{remove as without_at}
 use Rattle.std.specs.Map.{lookup}
-use Rattle.std.proofs.lemmas.Bool.{cases_eq}
 use Rattle.std.proofs.lemmas.List.Elements.{All-nil, All-cons, All-push}
 use Rattle.fuse_spec.specs.declared.Mark.{Mark}
 use Rattle.fuse_spec.specs.declared.Mark.TheVariants as mark
@@ -35,9 +34,9 @@ use Rattle.fuse_theorem.specs.EveryList.{BothSound}
 use Rattle.fuse_theorem.specs.Faultless.{Faultless}
 use Rattle.fuse_theorem.specs.Numbering.{IsNumbered}
 use Rattle.fuse_theorem.specs.RepliesFit.{IsEmptyUnder, FitsPurpose, RepliesFit, RepliesFitWhileLive}
-use Rattle.fuse_theorem.proofs.Finding.{All-removed, no_key, same_is, other_is}
+use Rattle.fuse_theorem.proofs.Finding.{All-removed, no_key, same_is}
 use Rattle.fuse_theorem.proofs.FirstQueues.{All-marked}
-use Rattle.fuse_theorem.proofs.GoingOn.{begun_goes_on, signalled_goes_on}
+use Rattle.fuse_theorem.proofs.GoingOn.{begun_goes_on}
 use Rattle.fuse_theorem.proofs.Happened.{Happened, by_mount, by_call, by_read_interrupt, by_read_forgets, by_read_pending, by_take, by_perform, by_again, by_write, by_settle, by_signal, by_tick, by_drop, by_evict, by_abort, happened}
 use Rattle.fuse_theorem.proofs.KeptReplies.{taken_kept, served_kept, settled_kept}
 use Rattle.fuse_theorem.proofs.LinksSound.{none_at}
