@@ -11,7 +11,7 @@ use Rattle.fuse_spec.specs.Messages.{RequestBody, asks}
 use Rattle.fuse_spec.specs.Operations.{Operation, files_in}
 use Rattle.fuse_spec.specs.Vfs.{CallState, walking, doing, using, asked}
 use Rattle.fuse_spec.specs.Kernel.{Kernel, asked_by, body_of, opened_nodes, nodes_of_state}
-use Rattle.fuse_spec.specs.Nodes.{row_of, is_row_of, is_held}
+use Rattle.fuse_spec.specs.Nodes.{NodeTable, row_of, is_row_of, is_held}
 use Rattle.fuse_spec.specs.Performs.{is_still_held}
 use Rattle.fuse_spec.specs.Server.{HeldRequest, generation_in, nodes_of_body}
 use Rattle.fuse_spec.specs.Denotes.{generation_known}
@@ -19,8 +19,9 @@ use Rattle.fuse_spec.specs.Worlds.{World}
 use Rattle.fuse_theorem.specs.AskedRequests.{IsAsked}
 use Rattle.fuse_theorem.specs.Conditions.{KnownAreHeld}
 use Rattle.fuse_theorem.specs.KnownNodes.{IsKnown, NodesKnown}
+use Rattle.fuse_theorem.specs.Lookups.{IsHeldAs}
 use Rattle.fuse_theorem.proofs.KnownWalks.{StateKnown}
-use Rattle.fuse_theorem.proofs.NodesKnown.{known_some}
+use Rattle.fuse_theorem.proofs.NodesKnown.{known_some, All-more}
 use Rattle.fuse_theorem.proofs.Values.{All-get}
 
 -- What a request of a call names is known.
@@ -73,11 +74,18 @@ taken_held Which w held body known t body_is generations_are = record {
   known = λ which. subst (All (λ (g : ℕ × ℕ). generation_known w.kernel.nodes g.0 ≡ Some g.1)) (sym generations_are) (taken_known w held (nodes_of_body body) (known (subst Which body_is which)));
 }
 
+-- What the kernel knows, the server holds.
+pub known_nodes_held : (w : World) → KnownAreHeld w → (gs : List (ℕ × ℕ)) → All (λ (g : ℕ × ℕ). generation_known w.kernel.nodes g.0 ≡ Some g.1) gs → All (λ (g : ℕ × ℕ). IsHeldAs w.server.nodes g.0 g.1) gs
+known_nodes_held w held gs h = All-more gs (λ g known. held g.0 g.1 known) h
+
+pub all_still_held : (t : NodeTable) (gs : List (ℕ × ℕ)) → All (λ (g : ℕ × ℕ). IsHeldAs t g.0 g.1) gs → is_still_held t gs ≡ true
+all_still_held t [] h = refl
+all_still_held t (g ∷ gs) h =
+    let row = (All-head (λ (x : ℕ × ℕ). IsHeldAs t x.0 x.1) g gs h).1 in
+    let is : nat_eq row.row.generation g.1 ≡ true = grind (arith, nat_tests, row.same_generation) in
+    let here : is_held t g.0 g.1 ≡ true = ap (is_row_of g.1) row.there ∙ is in
+    rw here (all_still_held t gs (All-tail (λ (x : ℕ × ℕ). IsHeldAs t x.0 x.1) g gs h))
+
 -- So its nodes are held still.
 pub still_held : (w : World) → KnownAreHeld w → (gs : List (ℕ × ℕ)) → All (λ (g : ℕ × ℕ). generation_known w.kernel.nodes g.0 ≡ Some g.1) gs → is_still_held w.server.nodes gs ≡ true
-still_held w held [] h = refl
-still_held w held (g ∷ gs) h =
-    let row = (held g.0 g.1 (All-head (λ (x : ℕ × ℕ). generation_known w.kernel.nodes x.0 ≡ Some x.1) g gs h)).1 in
-    let is : nat_eq row.row.generation g.1 ≡ true = grind (arith, nat_tests, row.same_generation) in
-    let here : is_held w.server.nodes g.0 g.1 ≡ true = ap (is_row_of g.1) row.there ∙ is in
-    rw here (still_held w held gs (All-tail (λ (x : ℕ × ℕ). generation_known w.kernel.nodes x.0 ≡ Some x.1) g gs h))
+still_held w held gs h = all_still_held w.server.nodes gs (known_nodes_held w held gs h)

@@ -9,14 +9,14 @@ pub mod FirstWorld
 pub mod AnswersSound
 pub mod Unperformed
 pub mod WorldSound
-pub mod PlainCalls
-pub mod PlainWords
 pub mod AskedRequests
 pub mod Links
 pub mod AsksServed
 pub mod KnownNodes
 pub mod EveryList
 pub mod HeldKnown
+pub mod StillHeld
+pub mod StillOpen
 pub mod ClosedFiles
 pub mod ReleasesKnown
 pub mod NodesHeld

@@ -1,9 +1,12 @@
 //! What holds of every world to which a list of events leads, and what single events need that follows from it. Each law says that the
 //! first world has it and that each event keeps it.
 
-ghost use Rattle.std.specs.Prelude.{All, None, ◌≡◌, ◌≢◌, ℕ, Ok, Some, slice_get, true};
+ghost use Rattle.std.specs.Prelude.{Contains, ◌≡◌, ◌≢◌, ◌≤◌, ℕ, Ok, Some, slice_get, true, All, None};
+ghost use Rattle.fuse_spec.specs.Counts.{OpenBalance, open_in_kernel, opens_of};
+ghost use Rattle.fuse_spec.specs.Vfs.{CallState, asked};
 ghost use Rattle.fuse_spec.specs.Kernel.{is_live};
-ghost use Rattle.fuse_spec.specs.Maps.{get};
+ghost use Rattle.fuse_spec.specs.Maps.{get, remove};
+ghost use Rattle.fuse_spec.specs.Nodes.{file_of, is_open, handle_back};
 ghost use Rattle.fuse_spec.specs.Operations.{Operation};
 ghost use Rattle.fuse_spec.specs.Performs.{is_still_held};
 ghost use Rattle.fuse_spec.specs.Server.{Copy, HeldRequest, fault_of};
@@ -11,22 +14,24 @@ ghost use Rattle.fuse_spec.specs.declared.ReplyResult.{ReplyResult};
 ghost use Rattle.fuse_spec.specs.declared.WriteResult.TheVariants.{Invalid};
 ghost use Rattle.fuse_spec.specs.declared.Opened.{Opened};
 ghost use Rattle.fuse_spec.specs.Alike.{Alike};
-ghost use Rattle.fuse_spec.specs.Messages.{Request, asks, interrupt};
-ghost use Rattle.fuse_theorem.specs.Conditions.{HoldsAll, IsInterrupt, OneId};
+ghost use Rattle.fuse_spec.specs.Messages.{Request, asks, release, interrupt};
+ghost use Rattle.fuse_theorem.specs.Conditions.{HoldsOpens, IsInterrupt, HoldsAll, OneId};
 ghost use Rattle.fuse_theorem.specs.Links.{LinksSound};
 ghost use Rattle.fuse_spec.specs.Events as event;
 ghost use Rattle.fuse_spec.specs.Events.{Event, Outcome};
 ghost use Rattle.fuse_spec.specs.Plain.{Plain, first_plain};
 ghost use Rattle.fuse_spec.specs.PlainSteps.{Takes};
-ghost use Rattle.fuse_spec.specs.Steps.{Happens, step};
-ghost use Rattle.fuse_spec.specs.Worlds.{World, after_settle, first_world};
+ghost use Rattle.fuse_spec.specs.Steps.{Happens, MayStep, step};
+ghost use Rattle.fuse_spec.specs.Worlds.{World, first_world, after_settle};
 ghost use Rattle.fuse_theorem.specs.AskedRequests.{RequestsAskedWhileLive};
 ghost use Rattle.fuse_theorem.specs.AsksServed.{AsksServed};
-ghost use Rattle.fuse_theorem.specs.EachEvent.{Needs};
+ghost use Rattle.fuse_theorem.specs.EachEvent.{CanServe, Needs};
 ghost use Rattle.fuse_theorem.specs.EveryList.{BothSound, NeedsBothAlone};
 ghost use Rattle.fuse_theorem.specs.Faultless.{Faultless};
 ghost use Rattle.fuse_theorem.specs.HeldKnown.{HeldKnownWhileLive};
 ghost use Rattle.fuse_theorem.specs.KnownNodes.{NodesKnown};
+ghost use Rattle.fuse_theorem.specs.StillHeld.{HeldReleasesKnown, NodesStillHeld, StillHeldAfterAbort};
+ghost use Rattle.fuse_theorem.specs.StillOpen.{HeldNumbersOpen, OpensAfterAbort};
 ghost use Rattle.fuse_theorem.specs.NodesHeld.{NodesHeld, TakenServable};
 ghost use Rattle.fuse_theorem.specs.ReleasesKnown.{ReleasesKnown};
 ghost use Rattle.fuse_theorem.specs.RepliesFit.{RepliesFitWhileLive};
@@ -78,6 +83,38 @@ pub fn held_stay_known()
     ensures always { (w : World) → WorldSound w → RequestsAskedWhileLive w → LinksSound w → NodesKnown w.kernel → HeldKnownWhileLive w → (e : Event) (o : Outcome) (after : World) → Happens w e o after → HeldKnownWhileLive after }
     ensures still { (w : World) → WorldSound w → HeldKnownWhileLive w → is_live w.kernel.phase ≡ true → (unique : ℕ) (t : HeldRequest) → get w.server.held unique ≡ Some t → (operation : Operation ℕ Opened) → t.body ≡ asks operation →
         is_still_held w.server.nodes t.generations ≡ true }
+{}
+
+/// After an abort the server still holds the nodes of each request that it holds, under the generations that they had when it was taken, and only
+/// requests of calls are marked, whatever the event. So it is while the mount is live, where the kernel knows the nodes of held RELEASEs.
+pub fn held_stay_held()
+    ensures at_first { StillHeldAfterAbort first_world }
+    ensures always { (w : World) → WorldSound w → RequestsAskedWhileLive w → LinksSound w → HeldKnownWhileLive w → HeldReleasesKnown w → StillHeldAfterAbort w → (e : Event) (o : Outcome) (after : World) → Happens w e o after → StillHeldAfterAbort after }
+    ensures held { (w : World) → WorldSound w → RequestsAskedWhileLive w → LinksSound w → HeldKnownWhileLive w → HeldReleasesKnown w → StillHeldAfterAbort w → (unique : ℕ) (t : HeldRequest) → get w.server.held unique ≡ Some t → NodesStillHeld w.server.nodes t }
+{}
+
+/// After an abort each open number that a held request names is one of its node's file, and is counted often enough for all of them, whatever the event,
+/// where that is so while the mount is live. It is where the open numbers are balanced, those of held RELEASEs are of their nodes' files, and what calls
+/// read or write is open in the kernel.
+pub fn held_numbers_stay_open()
+    ensures at_first { OpensAfterAbort first_world }
+    ensures always { (w : World) → WorldSound w → RequestsAskedWhileLive w → LinksSound w → (is_live w.kernel.phase ≡ true → HeldNumbersOpen w) → OpensAfterAbort w → (e : Event) (o : Outcome) (after : World) → Happens w e o after → OpensAfterAbort after }
+    ensures balanced { (w : World) (p : Plain) → Alike w p → RequestsAskedWhileLive w → is_live w.kernel.phase ≡ true → OpenBalance w →
+        ((unique : ℕ) (t : HeldRequest) → get w.server.held unique ≡ Some t → (o : Opened) → t.body ≡ release o → is_open w.server.handles o.fh (file_of w.server.nodes o.nodeid) ≡ true) →
+        ((call : ℕ) (state : CallState Opened) → get w.kernel.vfs.calls call ≡ Some state → (o : Opened) → Contains (opens_of (asked state)) o → 1 ≤ open_in_kernel w.kernel o.fh) → HeldNumbersOpen w }
+{}
+
+/// The performing of a held request needs no more than that: an operation of a call, live or after an abort, one that is marked, or INIT. A RELEASE needs beside
+/// that its open number is one of its node's file, and that the open numbers which are used are held without it, which after an abort they are.
+pub fn performs_need_no_more()
+    ensures requests { (w : World) (p : Plain) → BothSound w p → StillHeldAfterAbort w → (choice : ℕ → ℕ) (unique : ℕ) → MayStep choice w (event.perform unique) →
+        ((t : HeldRequest) (o : Opened) → get w.server.held unique ≡ Some t → t.body ≢ release o) → Needs choice w p (event.perform unique) }
+    ensures releases { (w : World) (p : Plain) → BothSound w p → HeldReleasesKnown w → StillHeldAfterAbort w → (choice : ℕ → ℕ) (unique : ℕ) (t : HeldRequest) (o : Opened) → get w.server.held unique ≡ Some t → t.body ≡ release o →
+        is_open w.server.handles o.fh (file_of w.server.nodes o.nodeid) ≡ true → HoldsOpens (record w { server = record w.server { held = remove w.server.held unique } }) (handle_back w.server.handles o.fh) → CanServe choice w p unique t }
+    ensures any { (w : World) (p : Plain) → BothSound w p → HeldReleasesKnown w → StillHeldAfterAbort w → OpensAfterAbort w → (unique : ℕ) →
+        (is_live w.kernel.phase ≡ true → (t : HeldRequest) (o : Opened) → get w.server.held unique ≡ Some t → t.body ≡ release o →
+        (is_open w.server.handles o.fh (file_of w.server.nodes o.nodeid) ≡ true) × HoldsOpens (record w { server = record w.server { held = remove w.server.held unique } }) (handle_back w.server.handles o.fh)) →
+        (choice : ℕ → ℕ) → MayStep choice w (event.perform unique) → Needs choice w p (event.perform unique) }
 {}
 
 /// The kernel knows the node of each closed file whose RELEASE is not queued yet, as a call that uses the file names it, and of each unanswered RELEASE,
