@@ -1,8 +1,5 @@
 -- What is true of the world and of the plain world stays so as the answers are collected.
-use Rattle.std.proofs.Common.{◌≡◌, ℕ, true, Some, refl, arith}
-use Rattle.fuse_spec.specs.Kernel.{is_live}
-use Rattle.fuse_spec.specs.Maps.{get}
-use Rattle.fuse_spec.specs.Server.{HeldRequest}
+use Rattle.std.proofs.Common.{refl, arith}
 use Rattle.fuse_spec.specs.Worlds.{World}
 use Rattle.fuse_spec.specs.Records.{collected}
 use Rattle.fuse_spec.specs.Plain.{Plain}

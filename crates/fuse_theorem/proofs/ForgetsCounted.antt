@@ -1,5 +1,5 @@
 -- Each forget that is queued or sent is of a node from 2 up and of one lookup at least, and no reply is kept under the number of an INTERRUPT.
-use Rattle.std.proofs.Common.{◌≡◌, ◌≢◌, ℕ, ◌+◌, ◌-◌, ◌≤◌, Bool, true, false, true≢false, cond, List, [], ◌∷◌, ◌++◌, take, drop, Option, Some, None, nat_eq, slice_get, refl, ap, sym, subst, ◌∙◌, arith, inl, inr, All}
+use Rattle.std.proofs.Common.{◌≡◌, ℕ, ◌+◌, ◌-◌, ◌≤◌, Bool, true, false, true≢false, cond, List, [], ◌∷◌, take, drop, Option, Some, None, nat_eq, slice_get, refl, ap, sym, subst, ◌∙◌, arith, inl, inr, All}
 use Rattle.std.specs.Prelude.{◌%◌, nat_lt}
 use Rattle.std.specs.List.{remove as without_at}
 use Rattle.std.proofs.lemmas.Bool.Decides.{nat_tests}
@@ -9,27 +9,22 @@ use Rattle.fuse_spec.specs.declared.Entry.{Entry}
 use Rattle.fuse_spec.specs.declared.Phase.TheVariants.{Ready}
 use Rattle.fuse_spec.specs.declared.Purpose.{Purpose}
 use Rattle.fuse_spec.specs.declared.Purpose.TheVariants as purpose
-use Rattle.fuse_spec.specs.declared.QueuedRequest.{QueuedRequest}
-use Rattle.fuse_spec.specs.declared.ReplyResult.{ReplyResult}
-use Rattle.fuse_spec.specs.declared.WriteResult.{WriteResult}
-use Rattle.fuse_spec.specs.declared.WriteResult.TheVariants.{Accepted, NoEntry, Invalid}
 use Rattle.fuse_spec.specs.declared.Opened.{Opened}
 use Rattle.fuse_spec.specs.Answers as answer
 use Rattle.fuse_spec.specs.CallReplies.{call_replied}
-use Rattle.fuse_spec.specs.Copies.{kept_after, after_result}
-use Rattle.fuse_spec.specs.Kernel.{Kernel, is_live, asked_by, body_of, kernel_aborted, after_use}
+use Rattle.fuse_spec.specs.Kernel.{Kernel, is_live, kernel_aborted}
 use Rattle.fuse_spec.specs.Maps.{Map, get, put, remove}
 use Rattle.fuse_spec.specs.Messages.{Forget, Request, RequestBody, init, asks, release, forget, batch_forget, interrupt, WireReply}
 use Rattle.fuse_spec.specs.Operations.{done, failed, files_in_reply}
 use Rattle.fuse_spec.specs.Performs.{performed, served}
-use Rattle.fuse_spec.specs.QueueCalls.{can_read_forgets, pending_at, waiting, without}
+use Rattle.fuse_spec.specs.QueueCalls.{can_read_forgets, waiting, without}
 use Rattle.fuse_spec.specs.Queues.{pending}
-use Rattle.fuse_spec.specs.Replies.{kernel_reply, learnt, Use, usable, useless, stale, use_counted, use_of, first_use, use_of_all, goes_with, is_agreement, judged, replied, replied_to_call, reply_taken, odd_taken, interrupt_replied, interrupt_reply_of, reply_written}
-use Rattle.fuse_spec.specs.Server.{Server, HeldRequest, Kept, Copy, forgets_of}
-use Rattle.fuse_spec.specs.Taking.{taking, interrupting}
+use Rattle.fuse_spec.specs.Replies.{kernel_reply, learnt, Use, usable, useless, stale, use_counted, first_use, use_of_all, goes_with, is_agreement, judged, replied, replied_to_call, reply_taken, odd_taken, interrupt_replied, interrupt_reply_of, reply_written}
+use Rattle.fuse_spec.specs.Server.{Server, HeldRequest, Kept, forgets_of}
+use Rattle.fuse_spec.specs.Taking.{taking}
 use Rattle.fuse_spec.specs.Vfs.{CallState, asked, answered}
 use Rattle.fuse_spec.specs.Uniques.{interrupt_number}
-use Rattle.fuse_spec.specs.Worlds.{World, first_world, forget_body, replying, server_settled}
+use Rattle.fuse_spec.specs.Worlds.{World, first_world, forget_body, replying}
 use Rattle.fuse_spec.specs.Events.{Event, Outcome}
 use Rattle.fuse_spec.specs.Steps.{Happens}
 use Rattle.fuse_theorem.specs.AskedRequests.{RequestsAskedWhileLive}
@@ -40,12 +35,12 @@ use Rattle.fuse_theorem.proofs.CountsStay.{advanced_same, used_same, begun_same,
 use Rattle.fuse_theorem.proofs.HoldsAll.{AwaitsReply, of_init, of_call, of_release, asks_reply}
 use Rattle.fuse_theorem.proofs.RequestsAsked.{request_even}
 use Rattle.fuse_theorem.proofs.Happened.{Happened, by_mount, by_call, by_read_interrupt, by_read_forgets, by_read_pending, by_take, by_perform, by_again, by_write, by_settle, by_signal, by_tick, by_drop, by_evict, by_abort, happened}
+use Rattle.fuse_theorem.proofs.KeptReplies.{taken_kept, settled_kept}
 use Rattle.fuse_theorem.proofs.LinksSound.{none_in}
 use Rattle.fuse_theorem.proofs.NodesSound.{put_found}
 use Rattle.fuse_theorem.proofs.NumbersStay.{replying_kernel}
 use Rattle.fuse_theorem.proofs.PerformedRest.{performed_rest}
 use Rattle.fuse_theorem.proofs.Queuing.{All-without}
-use Rattle.fuse_theorem.proofs.Settling.{kept_was}
 
 same_forgets : (fs gs : List Forget) → gs ≡ fs → All IsForget fs → All IsForget gs
 same_forgets fs gs same h = subst (All IsForget) (sym same) h
@@ -199,19 +194,6 @@ module _ (choice : ℕ → ℕ) (w : World) (sound : WorldSound w) (requests : R
   abbrev KeptEven : Map Kept → Type 0
   KeptEven kept = (unique : ℕ) (k : Kept) → get kept unique ≡ Some k → unique % 2 ≡ 0
 
-  taken_kept : (unique : ℕ) (body : RequestBody) → (taking w.server unique body).server.kept ≡ w.server.kept
-  taken_kept unique init = refl
-  taken_kept unique (asks operation) = refl
-  taken_kept unique (release o) = refl
-  taken_kept unique (forget f) = refl
-  taken_kept unique (batch_forget fs) = refl
-  taken_kept unique (interrupt original) = by (get w.server.held original) (get w.server.kept original)
-    where
-      by : (h : Option HeldRequest) (o : Option Kept) → (interrupting w.server unique original h o).server.kept ≡ w.server.kept
-      by (Some t) o = refl
-      by None (Some k) = refl
-      by None None = refl
-
   performed_kept : (unique : ℕ) (t : HeldRequest) → get w.server.held unique ≡ Some t → KeptEven (served choice w.server unique t).server.kept
   performed_kept unique t there = by (is_live w.kernel.phase) refl
     where
@@ -241,18 +223,6 @@ module _ (choice : ℕ → ℕ) (w : World) (sound : WorldSound w) (requests : R
         | inr aborted ↦ let rest = performed_rest choice (record w.server { held = remove w.server.held unique }) t in keeps_none (rest.aborted ∙ aborted) _ did.aborted refl
       ]
 
-  settled_kept : (result : ReplyResult) (o : Option Copy) → KeptEven (server_settled w.server result o).kept
-  settled_kept result None = old.kept
-  settled_kept result (Some copy) = by result.result
-    where
-      was : KeptEven (kept_after w.server.kept copy (get w.server.kept copy.unique))
-      was u k at = old.kept u k (kept_was w.server.kept copy (get w.server.kept copy.unique) u k at)
-
-      by : (r : WriteResult) → KeptEven (after_result (record w.server { copies = remove w.server.copies result.number; kept = kept_after w.server.kept copy (get w.server.kept copy.unique) }) copy.wire r).kept
-      by Accepted = was
-      by NoEntry = was
-      by Invalid = was
-
   sent_off : (v : World) (number unique : ℕ) (o : Option WireReply) → KeptEven v.server.kept → KeptEven (replying v number unique o).server.kept
   sent_off v number unique None h = h
   sent_off v number unique (Some wire) h = h
@@ -265,12 +235,12 @@ module _ (choice : ℕ → ℕ) (w : World) (sound : WorldSound w) (requests : R
   kept_even e o after (by_read_pending k unique kept body live free there says within) = old.kept
   kept_even e o after (by_take k r there within) =
       let took = taking w.server r.unique r.body in
-      sent_off (record w { requests = without_at w.requests k; server = took.server }) w.server.next_copy r.unique took.reply (subst KeptEven (sym (taken_kept r.unique r.body)) old.kept)
+      sent_off (record w { requests = without_at w.requests k; server = took.server }) w.server.next_copy r.unique took.reply (subst KeptEven (sym (taken_kept w.server r.unique r.body)) old.kept)
   kept_even e o after (by_perform unique t there within) =
       let did = served choice w.server unique t in sent_off (record w { server = did.server }) w.server.next_copy unique (cond w.server.aborted None (Some did.wire)) (performed_kept unique t there)
   kept_even e o after (by_again unique kept there current within) = old.kept
   kept_even e o after (by_write k sent there within) = old.kept
-  kept_even e o after (by_settle k result there) = settled_kept result (get w.server.copies result.number)
+  kept_even e o after (by_settle k result there) = λ u x at. old.kept u x (settled_kept w.server result (get w.server.copies result.number) u x at)
   kept_even e o after (by_signal call fatal state live there within) = old.kept
   kept_even e o after (by_tick ms timely) = old.kept
   kept_even e o after (by_drop directory name bound live there) = old.kept

@@ -156,3 +156,6 @@ pub mod RefusalsOnly
 pub mod RefusalsByCases
 pub mod RefusalsAlso
 pub mod Choosing
+pub mod KeptReplies
+pub mod NoWrongBody
+pub mod RepliesFitStay

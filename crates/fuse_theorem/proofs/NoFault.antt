@@ -1,27 +1,22 @@
 -- No request on the link has a fault.
-use Rattle.std.proofs.Common.{◌≡◌, ◌≢◌, ℕ, ◌+◌, ◌≤◌, ◌<◌, Bool, true, false, true≢false, ◌&&◌, ◌||◌, cond, List, [], ◌∷◌, length, Option, Some, None, is_some, nat_eq, get_or, refl, ap, sym, subst, ◌∙◌, arith, All}
-use Rattle.std.specs.Prelude.{◌%◌, nat_lt, sum_by, count_by}
+use Rattle.std.proofs.Common.{◌≡◌, ℕ, ◌≤◌, ◌<◌, Bool, true, false, ◌||◌, cond, List, length, Option, Some, None, is_some, nat_eq, get_or, refl, sym, subst, arith, All}
+use Rattle.std.specs.Prelude.{◌%◌, nat_lt, count_by}
 use Rattle.std.specs.List.{list_any, list_all}
 use Rattle.std.proofs.lemmas.Bool.Decides.{nat_tests}
 use Rattle.std.proofs.lemmas.List.Elements.{All-nil}
 use Rattle.std.proofs.lemmas.List.Folds.{list_any_none}
 use Rattle.std.proofs.lemmas.List.Sums.{get_or-le-sum_by, list_all-from_AllPass}
-use Rattle.fuse_spec.specs.declared.Purpose.{Purpose}
-use Rattle.fuse_spec.specs.declared.QueuedRequest.{QueuedRequest}
 use Rattle.fuse_spec.specs.Kernel.{is_live}
 use Rattle.fuse_spec.specs.Maps.{get}
 use Rattle.fuse_spec.specs.Messages.{Forget, Request, RequestBody, init, asks, release, forget, batch_forget, interrupt}
-use Rattle.fuse_spec.specs.Nodes.{HeldNode, row_of}
-use Rattle.fuse_spec.specs.Queues.{pending}
-use Rattle.fuse_spec.specs.Server.{HeldRequest, Kept, is_known, is_forgettable, count_in, forgotten, forgets_of, nodes_of_body, fault_of, RequestFault, unknown_node, too_many_forgets, repeated_unique}
+use Rattle.fuse_spec.specs.Nodes.{HeldNode}
+use Rattle.fuse_spec.specs.Server.{HeldRequest, Kept, is_known, is_forgettable, count_in, forgotten, forgets_of, nodes_of_body, fault_of}
 use Rattle.fuse_spec.specs.Worlds.{World}
 use Rattle.fuse_spec.specs.Plain.{Plain}
 use Rattle.fuse_theorem.specs.EveryList.{BothSound}
-use Rattle.fuse_theorem.specs.Faultless.{IsForget, Faultless}
-use Rattle.fuse_theorem.specs.FirstPath.{unperformed}
-use Rattle.fuse_theorem.specs.NodesHeld.{NodesServable}
+use Rattle.fuse_theorem.specs.Faultless.{Faultless}
 use Rattle.fuse_theorem.specs.ReleasesKnown.{ReleasesKnown}
-use Rattle.fuse_theorem.specs.Unperformed.{BearsNumber, IsUnanswered}
+use Rattle.fuse_theorem.specs.Unperformed.{BearsNumber}
 use Rattle.fuse_theorem.proofs.Finding.{same_is}
 use Rattle.fuse_theorem.proofs.NodesHeld.{all_sent_servable}
 use Rattle.fuse_theorem.proofs.RequestsAsked.{request_even}
@@ -83,7 +78,7 @@ module _ (w : World) (p : Plain) (both : BothSound w p) (releases : ReleasesKnow
       let sound = world.requests in
       let once = sound.once r.unique even in
       let one : 1 ≤ count_by (λ (x : Request). nat_eq r.unique x.unique) w.requests =
-        subst (λ (b : Bool). cond b 1 0 ≤ count_by (λ (x : Request). nat_eq r.unique x.unique) w.requests) (same_is r.unique) (get_or-le-sum_by (λ (x : Request). cond (nat_eq r.unique x.unique) 1 0) w.requests i d lt) in
+      subst (λ (b : Bool). cond b 1 0 ≤ count_by (λ (x : Request). nat_eq r.unique x.unique) w.requests) (same_is r.unique) (get_or-le-sum_by (λ (x : Request). cond (nat_eq r.unique x.unique) 1 0) w.requests i d lt) in
       let held = of_held (get w.server.held r.unique) (omega (arith, once, one)) in
       let unanswered = sound.unanswered r.unique even (omega (arith, one)) in
       rw (held, unanswered.kept) refl

@@ -1,7 +1,7 @@
 -- The server holds the nodes that a live kernel uses, and those of the requests on their way.
-use Rattle.std.proofs.Common.{◌≡◌, ◌≢◌, ◌≤◌, ℕ, Bool, true, false, cond, List, [], ◌∷◌, map, Option, Some, None, is_some, filter, nat_eq, option_map, refl, ap, sym, subst, ◌∙◌, get_or, All}
+use Rattle.std.proofs.Common.{◌≡◌, ◌≢◌, ◌≤◌, ℕ, Bool, true, false, cond, List, [], Option, Some, None, is_some, nat_eq, option_map, refl, ap, sym, subst, ◌∙◌, get_or, All}
 use Rattle.std.specs.Prelude.{MatchOption}
-use Rattle.std.proofs.lemmas.List.Elements.{All-nil, All-cons, All-head, All-tail}
+use Rattle.std.proofs.lemmas.List.Elements.{All-nil, All-cons}
 use Rattle.fuse_spec.specs.declared.Counted.{Counted}
 use Rattle.fuse_spec.specs.declared.Entry.{Entry}
 use Rattle.fuse_spec.specs.declared.Opened.{Opened}
@@ -9,15 +9,15 @@ use Rattle.fuse_spec.specs.declared.Purpose.{Purpose}
 use Rattle.fuse_spec.specs.declared.Purpose.TheVariants as purpose
 use Rattle.fuse_spec.specs.declared.QueuedRequest.{QueuedRequest}
 use Rattle.fuse_spec.specs.Counts.{IsMeant, IsNamed}
-use Rattle.fuse_spec.specs.Kernel.{is_live, asked_by, body_of, opened_nodes, nodes_of_state}
+use Rattle.fuse_spec.specs.Kernel.{is_live, asked_by, body_of, nodes_of_state}
 use Rattle.fuse_spec.specs.Maps.{get, values}
 use Rattle.fuse_spec.specs.Messages.{RequestBody, Request, init, asks, release, forget, batch_forget, interrupt}
 use Rattle.fuse_spec.specs.Nodes.{HeldNode, row_of}
-use Rattle.fuse_spec.specs.Operations.{files_in, files_in_reply}
+use Rattle.fuse_spec.specs.Operations.{files_in_reply}
 use Rattle.fuse_spec.specs.Queues.{pending, is_signalled, is_unread}
-use Rattle.fuse_spec.specs.Server.{Server, HeldRequest, nodes_of_body}
+use Rattle.fuse_spec.specs.Server.{nodes_of_body}
 use Rattle.fuse_spec.specs.Vfs.{CallState, asked}
-use Rattle.fuse_spec.specs.Denotes.{MeansIn, MeansOpenIn, generation_known}
+use Rattle.fuse_spec.specs.Denotes.{MeansIn, MeansOpenIn}
 use Rattle.fuse_spec.specs.Alike.{RequestBodyAsked}
 use Rattle.fuse_spec.specs.Worlds.{World, Sent}
 use Rattle.fuse_spec.specs.Plain.{Plain}

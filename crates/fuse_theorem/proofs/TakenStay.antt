@@ -1,5 +1,5 @@
 -- The held requests stand in rising number and name no node that is gone, whatever the event.
-use Rattle.std.proofs.Common.{T, ◌≡◌, ℕ, Bool, true, false, true≢false, not, cond, List, [], ◌∷◌, map, Option, Some, None, is_some, nat_eq, slice_get, refl, ap, sym, subst, ◌∙◌, inl, inr, All}
+use Rattle.std.proofs.Common.{T, ◌≡◌, ℕ, Bool, true, false, true≢false, not, cond, List, [], ◌∷◌, map, Option, Some, None, is_some, nat_eq, refl, ap, sym, subst, inl, inr, All}
 use Rattle.std.specs.List.{remove as without_at}
 use Rattle.std.specs.Ordering.{nat_cmp}
 use Rattle.std.specs.Cmp.{nat_cmp_total}
@@ -116,8 +116,8 @@ held_there w sound (g ∷ gs) h =
 live_servable : (w : World) → WorldSound w → RequestsAskedWhileLive w → LinksSound w → HeldKnownWhileLive w → ReleasesKnown w → InOrder w.server.held → is_live w.kernel.phase ≡ true → All (λ (t : HeldRequest). NodesServable w.server t.body) (values w.server.held)
 live_servable w sound requests links held releases in_order live =
     All-found_values (λ (t : HeldRequest). NodesServable w.server t.body) w.server.held in_order (λ unique t at.
-      let mine = held live unique t at in
-      subst (λ (ids : List ℕ). All (λ (id : ℕ). is_some (row_of w.server.nodes id) ≡ true) ids) mine.names (held_there w sound t.generations (held_known w sound requests links held releases live unique t at)))
+    let mine = held live unique t at in
+    subst (λ (ids : List ℕ). All (λ (id : ℕ). is_some (row_of w.server.nodes id) ≡ true) ids) mine.names (held_there w sound t.generations (held_known w sound requests links held releases live unique t at)))
 
 -- ---- without one
 

@@ -21,3 +21,4 @@ pub mod ClosedFiles
 pub mod ReleasesKnown
 pub mod NodesHeld
 pub mod Faultless
+pub mod RepliesFit

@@ -11,6 +11,7 @@ ghost use Rattle.fuse_spec.specs.Operations.{Operation};
 ghost use Rattle.fuse_spec.specs.Performs.{is_still_held};
 ghost use Rattle.fuse_spec.specs.Server.{Copy, HeldRequest, fault_of};
 ghost use Rattle.fuse_spec.specs.declared.ReplyResult.{ReplyResult};
+ghost use Rattle.fuse_spec.specs.declared.WriteResult.TheVariants.{Invalid};
 ghost use Rattle.fuse_spec.specs.declared.Opened.{Opened};
 ghost use Rattle.fuse_spec.specs.Alike.{Alike};
 ghost use Rattle.fuse_spec.specs.Messages.{Request, asks, release, interrupt};
@@ -33,6 +34,7 @@ ghost use Rattle.fuse_theorem.specs.StillHeld.{HeldReleasesKnown, NodesStillHeld
 ghost use Rattle.fuse_theorem.specs.StillOpen.{HeldNumbersOpen, OpensAfterAbort};
 ghost use Rattle.fuse_theorem.specs.NodesHeld.{NodesHeld, TakenServable};
 ghost use Rattle.fuse_theorem.specs.ReleasesKnown.{ReleasesKnown};
+ghost use Rattle.fuse_theorem.specs.RepliesFit.{RepliesFitWhileLive};
 ghost use Rattle.fuse_theorem.specs.WorldSound.{WorldSound};
 
 /// What is on the request link or held is what the kernel asks, under the same number, while the mount is live and whatever the event; what bears an
@@ -146,4 +148,12 @@ pub fn requests_have_no_fault()
     ensures at_first { Faultless first_world }
     ensures always { (w : World) → WorldSound w → RequestsAskedWhileLive w → LinksSound w → Faultless w → (e : Event) (o : Outcome) (after : World) → Happens w e o after → Faultless after }
     ensures no_fault { (w : World) (p : Plain) → BothSound w p → ReleasesKnown w → Faultless w → All (λ (r : Request). fault_of w.server r ≡ None) w.requests }
+{}
+
+/// While the mount is live, replies to RELEASEs and to INTERRUPTs say only whether the request failed, whatever the event, and the kernel refuses no copy
+/// for its body. So no result on the link says EINVAL.
+pub fn replies_stay_fit()
+    ensures at_first { RepliesFitWhileLive first_world }
+    ensures always { (w : World) (p : Plain) → BothSound w p → Faultless w → RepliesFitWhileLive w → (e : Event) (o : Outcome) (after : World) → Happens w e o after → RepliesFitWhileLive after }
+    ensures no_wrong_body { (w : World) (p : Plain) → BothSound w p → RepliesFitWhileLive w → All (λ (r : ReplyResult). r.result ≢ Invalid) w.results }
 {}
