@@ -16,6 +16,3 @@ pub use list_queues::ListQueues;
 pub use no_memory::NoMemory;
 pub use queues::Queues;
 pub use table::QueueTable;
-
-#[cfg(test)]
-mod tests;

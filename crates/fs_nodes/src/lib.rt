@@ -24,6 +24,3 @@ pub type NodeTable<A = Global> = NodesOf<SlabRows<A>>;
 
 /// The table in a plain list.
 pub type ListNodes<A = Global> = NodesOf<ListRows<A>>;
-
-#[cfg(test)]
-mod tests;

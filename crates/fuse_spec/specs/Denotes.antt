@@ -5,7 +5,6 @@ use Rattle.fuse_spec.specs.Operations.{Operation, lookup, getattr, mkdir, create
 use Rattle.fuse_spec.specs.Walks.{FinalOperation, WalkPlan, last}
 use Rattle.fuse_spec.specs.Walks as final
 use Rattle.fuse_spec.specs.Vfs.{CallState, walking, doing, using}
-use Rattle.fuse_spec.specs.Messages.{WireReply}
 use Rattle.fuse_spec.specs.declared.Counted.{Counted}
 use Rattle.fuse_spec.specs.declared.Opened.{Opened}
 use Rattle.fuse_spec.specs.declared.Entry.{Entry}

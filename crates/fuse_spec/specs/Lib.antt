@@ -26,9 +26,12 @@ pub mod Copies
 pub mod Events
 pub mod Worlds
 pub mod Steps
+pub mod Refusals
 pub mod Records
 pub mod Plain
 pub mod PlainSteps
+pub mod PlainCalls
+pub mod PlainWords
 pub mod Denotes
 pub mod Counts
 pub mod Alike

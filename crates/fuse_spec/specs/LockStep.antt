@@ -4,7 +4,7 @@ use Rattle.fuse_spec.specs.Nodes.{HeldNode, file_of}
 use Rattle.fuse_spec.specs.Kernel.{request_of}
 use Rattle.fuse_spec.specs.Worlds.{World, first_world}
 use Rattle.fuse_spec.specs.Events.{Event, Outcome}
-use Rattle.fuse_spec.specs.Records.{Record, outcome, refused, answered, answers_of, collected}
+use Rattle.fuse_spec.specs.Records.{Record, outcome, refused, answers_of, collected}
 use Rattle.fuse_spec.specs.Steps.{Stepped, step}
 use Rattle.fuse_spec.specs.Plain.{Plain, first_plain}
 use Rattle.fuse_spec.specs.PlainSteps.{takes}

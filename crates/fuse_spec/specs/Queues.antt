@@ -1,5 +1,5 @@
 -- The queues of a kernel's requests, as contracts and theorems see them.
-use Rattle.std.specs.Prelude.{ℕ, ◌≤◌, ◌%◌, Bool, true, false, not, if◌then◌else◌, ◌&&◌, List, [], ◌∷◌, filter, count_by, Option, option_map, nat_eq, nat_lt, nat_le}
+use Rattle.std.specs.Prelude.{ℕ, ◌≤◌, ◌%◌, Bool, true, false, not, if◌then◌else◌, ◌&&◌, List, [], filter, count_by, Option, option_map, nat_eq, nat_lt, nat_le}
 use Rattle.std.specs.Map.{lookup}
 use Rattle.std.specs.Option.{option_map_or}
 use Rattle.fuse_spec.specs.Uniques.{first_number, IsNextNumber}

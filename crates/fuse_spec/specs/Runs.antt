@@ -3,10 +3,10 @@ use Rattle.std.specs.Prelude.{◌≡◌, List, [], ◌∷◌, ◌++◌, AllPairs
 use Rattle.fuse_spec.specs.declared.Refusal.{Refusal}
 use Rattle.fuse_spec.specs.Worlds.{World}
 use Rattle.fuse_spec.specs.Events.{Event, Outcome}
-use Rattle.fuse_spec.specs.Steps.{Happens}
+use Rattle.fuse_spec.specs.Steps.{Happens, RefusedWith}
 use Rattle.fuse_spec.specs.Records.{Record, outcome, refused, answered, answers_of, collected}
 use Rattle.fuse_spec.specs.Plain.{Plain}
-use Rattle.fuse_spec.specs.PlainSteps.{Takes}
+use Rattle.fuse_spec.specs.PlainWords.{Steps}
 use Rattle.fuse_spec.specs.Counts.{Keeps}
 use Rattle.fuse_spec.specs.Alike.{Alike}
 
@@ -14,30 +14,31 @@ use Rattle.fuse_spec.specs.Alike.{Alike}
 abbrev pub plain_collected : Plain → Plain
 plain_collected p = record p { vfs = record p.vfs { answers = [] } }
 
--- An accepted event: the world moves as it may, the plain world takes the steps of the event and its outcome, the two are alike
+-- An accepted event: the world moves as it may, the plain world takes in words of its own the step of the event and its outcome, the two are alike
 -- again, and the records are the outcome and then the answers that the plain world gave.
 pub record Accepts (w : World) (p : Plain) (event : Event) (records : List Record) (w' : World) (p' : Plain) : Type 0 where
   pub outcome_of : Outcome
   pub mid : World
   pub plain : Plain
   pub happens : Happens w event outcome_of mid
-  pub takes : Takes p event outcome_of plain
+  pub steps : Steps p event outcome_of plain
   pub alike : Alike mid plain
   pub keeps : Keeps mid
   pub recorded : records ≡ outcome outcome_of ∷ answers_of plain.vfs.answers
   pub after : w' ≡ collected mid
   pub plain_after : p' ≡ plain_collected plain
 
--- A refused event changes nothing, and its refusal is what is recorded.
-pub record Refuses (w : World) (p : Plain) (records : List Record) (w' : World) (p' : Plain) : Type 0 where
+-- A refused event changes nothing, and its refusal is what is recorded: the machine's, or want of memory.
+pub record Refuses (w : World) (p : Plain) (event : Event) (records : List Record) (w' : World) (p' : Plain) : Type 0 where
   pub refusal : Refusal
+  pub judged : RefusedWith w event refusal
   pub recorded : records ≡ refused refusal ∷ []
   pub after : w' ≡ w
   pub plain_after : p' ≡ p
 
 -- One event with these records leads from the one pair of worlds to the other.
 abbrev pub Moves : World → Plain → Event → List Record → World → Plain → Type 0
-Moves w p event records w' p' = Accepts w p event records w' p' ⊎ Refuses w p records w' p'
+Moves w p event records w' p' = Accepts w p event records w' p' ⊎ Refuses w p event records w' p'
 
 -- A list of events does, one event after another.
 abbrev pub Run : World → Plain → List Event → List Record → World → Plain → Type 0

@@ -5,7 +5,6 @@ use Rattle.fuse_spec.specs.Maps.{Map, get, put, values}
 use Rattle.fuse_spec.specs.Operations.{files_in}
 use Rattle.fuse_spec.specs.Trees.{Tree, is_nameless}
 use Rattle.fuse_spec.specs.declared.Validity.{Validity}
-use Rattle.fuse_spec.specs.declared.Taken.{Taken}
 use Rattle.fuse_spec.specs.Messages.{Forget, RequestBody, init, asks, release, forget, batch_forget, interrupt, Request, WireReply}
 use Rattle.fuse_spec.specs.Kernel.{opened_nodes}
 use Rattle.fuse_spec.specs.Nodes.{NodeTable, HeldNode, row_of, taken_back, HandleTable, OpenNumber}

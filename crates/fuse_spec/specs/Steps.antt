@@ -1,5 +1,5 @@
 -- One event: exactly which refusal it gets, or what it does. The server may choose the ids that it gives; all else is determined.
-use Rattle.std.specs.Prelude.{◌≡◌, ℕ, ◌+◌, Bool, true, false, ◌&&◌, ◌||◌, cond, not, List, [], ◌∷◌, Option, Some, None, Result, Ok, Err, length, nat_eq, nat_lt, nat_le, slice_get, max}
+use Rattle.std.specs.Prelude.{◌≡◌, ◌⊎◌, ℕ, ◌+◌, Bool, true, false, ◌&&◌, ◌||◌, cond, not, List, [], ◌∷◌, Option, Some, None, Result, Ok, Err, length, nat_eq, nat_lt, nat_le, slice_get, max}
 use Rattle.fuse_spec.specs.Maps.{get, get_name}
 use Rattle.fuse_spec.specs.Numbers.{max_calls, max_validity, clock_end, counter_end}
 use Rattle.fuse_spec.specs.Operations.{errno_of}
@@ -15,6 +15,7 @@ use Rattle.fuse_spec.specs.declared.WriteResult.{WriteResult}
 use Rattle.fuse_spec.specs.declared.ReplyResult.{ReplyResult}
 use Rattle.fuse_spec.specs.declared.Refusal.{Refusal}
 use Rattle.fuse_spec.specs.declared.Refusal.TheVariants as refusal
+use Rattle.fuse_spec.specs.declared.Refusal.TheVariants.{NoMemory}
 use Rattle.fuse_spec.specs.QueueCalls.{pending_at, first_forgets}
 use Rattle.fuse_spec.specs.Uniques.{interrupt_number}
 use Rattle.fuse_spec.specs.Messages.{Forget, Request, RequestBody}
@@ -166,3 +167,7 @@ Happens w event outcome after = (choice : ℕ → ℕ) × MayStep choice w event
 -- From this world the event is refused so, memory aside.
 abbrev pub IsRefused : World → Event → Refusal → Type 0
 IsRefused w event refusal = (choice : ℕ → ℕ) → MayStep choice w event → step choice w event ≡ Err refusal
+
+-- The event is refused so, or memory was wanting.
+abbrev pub RefusedWith : World → Event → Refusal → Type 0
+RefusedWith w event refusal = IsRefused w event refusal ⊎ (refusal ≡ NoMemory)

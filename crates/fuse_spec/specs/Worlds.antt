@@ -1,5 +1,5 @@
 -- The world: one kernel, one server and the three links between them.
-use Rattle.std.specs.Prelude.{ℕ, ◌+◌, false, cond, List, [], ◌∷◌, ◌++◌, Option, Some, None}
+use Rattle.std.specs.Prelude.{ℕ, false, cond, List, [], ◌∷◌, ◌++◌, Option, Some, None}
 use Rattle.std.specs.List.{remove as without}
 use Rattle.fuse_spec.specs.Maps.{remove_name}
 use Rattle.fuse_spec.specs.Paths.{Name}

@@ -84,7 +84,7 @@ apart_then (e ∷ answers) more sorted apart once =
 pub collected_unanswered : (w : World) → IsFirstWorld w → (events : List Event) (records : List Record) (after : World) → All IsFirst events → Recorded w events records after
     → (call : ℕ) (a : Answer) → IsCollected w.kernel.vfs call → Unanswered call a records
 collected_unanswered w here events records after first (none_left v) call a before = All-nil (AnswersApart (answered call a))
-collected_unanswered w here events records after first (one_refused v event refusal rest more last recorded) call a before =
+collected_unanswered w here events records after first (one_refused v event refusal rest more last judged recorded) call a before =
     All-cons (AnswersApart (answered call a)) (refused refusal) more tt (collected_unanswered w here rest more last (All-tail IsFirst event rest first) recorded call a before)
 collected_unanswered w here events records after first (one_accepted v event o mid rest more last happens recorded) call a before =
     let starts = All-head IsFirst event rest first in
@@ -97,7 +97,7 @@ collected_unanswered w here events records after first (one_accepted v event o m
 -- .. so each call is answered at most once.
 pub answers_once : (w : World) → IsFirstWorld w → (events : List Event) (records : List Record) (after : World) → All IsFirst events → Recorded w events records after → AnswersOnce records
 answers_once w here events records after first (none_left v) = λ i j d lt within. absurd (omega (arith, within))
-answers_once w here events records after first (one_refused v event refusal rest more last recorded) =
+answers_once w here events records after first (one_refused v event refusal rest more last judged recorded) =
     AllPairs-cons AnswersApart (refused refusal) more (λ i d lt. tt) (answers_once w here rest more last (All-tail IsFirst event rest first) recorded)
 answers_once w here events records after first (one_accepted v event o mid rest more last happens recorded) =
     let reached = first_stays w here event (All-head IsFirst event rest first) o mid happens in

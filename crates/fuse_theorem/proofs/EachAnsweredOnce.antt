@@ -23,7 +23,7 @@ use Rattle.fuse_theorem.proofs.Rooted.{stays_rooted}
 collected_unanswered : (w : World) → AnswersSound w.kernel.vfs → (events : List Event) (records : List Record) (after : World) → Recorded w events records after
     → (call : ℕ) (a : Answer) → IsCollected w.kernel.vfs call → Unanswered call a records
 collected_unanswered w sound events records after (none_left v) call a before = All-nil (AnswersApart (answered call a))
-collected_unanswered w sound events records after (one_refused v event refusal rest more last recorded) call a before =
+collected_unanswered w sound events records after (one_refused v event refusal rest more last judged recorded) call a before =
     All-cons (AnswersApart (answered call a)) (refused refusal) more tt (collected_unanswered w sound rest more last recorded call a before)
 collected_unanswered w sound events records after (one_accepted v event o mid rest more last happens recorded) call a before =
     let stay = calls_stay w sound event o mid happens in
@@ -47,7 +47,7 @@ collected_rooted w rooted = record { root = rooted.root; answers = tt }
 -- Whatever is recorded of a list of events, each call is answered at most once.
 pub answers_once : (w : World) → IsRooted w.kernel.vfs → AnswersSound w.kernel.vfs → (events : List Event) (records : List Record) (after : World) → Recorded w events records after → AnswersOnce records
 answers_once w rooted sound events records after (none_left v) = λ i j d lt within. absurd (omega (arith, within))
-answers_once w rooted sound events records after (one_refused v event refusal rest more last recorded) =
+answers_once w rooted sound events records after (one_refused v event refusal rest more last judged recorded) =
     AllPairs-cons AnswersApart (refused refusal) more (λ i d lt. tt) (answers_once w rooted sound rest more last recorded)
 answers_once w rooted sound events records after (one_accepted v event o mid rest more last happens recorded) =
     let reached = (calls_stay w sound event o mid happens).sound in

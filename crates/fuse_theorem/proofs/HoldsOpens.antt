@@ -23,7 +23,7 @@ use Rattle.fuse_theorem.specs.Conditions.{IsNumber, HoldsOpens}
 use Rattle.fuse_theorem.specs.Copies.{KeptAreSent, SomeHas, here, there}
 use Rattle.fuse_theorem.specs.EveryList.{BothSound}
 use Rattle.fuse_theorem.specs.Links.{IsIdle}
-use Rattle.fuse_theorem.specs.OpenNumbers.{OpensApart, UsesOpen, released_by, all_released, released_pending, released_sent, released_held, open_files, ReleasesOfKnown, ReleasesOfKnownWhileLive, OpensBalanced, OpensLeft, OpensSound}
+use Rattle.fuse_theorem.specs.OpenNumbers.{OpensApart, UsesOpen, released_by, all_released, released_pending, released_sent, released_held, open_files, OpensBalanced}
 use Rattle.fuse_theorem.proofs.Finding.{same_is}
 use Rattle.fuse_theorem.proofs.KeptOnLink.{kept_stay_sent}
 use Rattle.fuse_theorem.proofs.LinksSound.{none_at}
@@ -32,7 +32,7 @@ use Rattle.fuse_theorem.proofs.NodesSound.{left_found}
 use Rattle.fuse_theorem.proofs.NumberCounts.{number_count, back_count}
 use Rattle.fuse_theorem.proofs.OpenSums.{has_number, held_sum, open_sum, released_sum, copies_carry, CountsOpens, counts_opens, All-left, All-right}
 use Rattle.fuse_theorem.proofs.OpensInUse.{numbers_there}
-use Rattle.fuse_theorem.proofs.OpensLeft.{asked_state, found_counted, left_after}
+use Rattle.fuse_theorem.proofs.OpensUsed.{asked_state}
 use Rattle.fuse_theorem.proofs.OpensServed.{none_out}
 use Rattle.fuse_theorem.proofs.OpensStay.{opens_stay}
 use Rattle.fuse_theorem.proofs.OpensTables.{All-each, held_fits}

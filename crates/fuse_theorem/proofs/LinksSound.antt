@@ -272,15 +272,18 @@ module _ (choice : ℕ → ℕ) (w : World) (sound : WorldSound w) (asked : Requ
       by NoEntry = serves _ live refl links.held refl (record { copies = old.copies; kept = fewer })
       by Invalid = serves _ live refl links.held refl (record { copies = old.copies; kept = fewer })
 
+  -- The mount lives on as a reply is written.
+  pub written_live : is_live w.kernel.phase ≡ true → (k : ℕ) (sent : Sent) → slice_get w.replies k ≡ Some sent → is_live (reply_written w.kernel sent.unique sent.wire).1.phase ≡ true
+  written_live live k sent at_k = let old = links.agreed live in stays_live w.kernel (asked live).first live sent.unique sent.wire (All-at AgreesToInit w.replies k sent old.copies at_k)
+
   written_links : is_live w.kernel.phase ≡ true → (k : ℕ) (sent : Sent) → slice_get w.replies k ≡ Some sent → LinksSound (after_write w k sent (reply_written w.kernel sent.unique sent.wire))
   written_links live k sent at_k =
       let old = links.agreed live in
-      let alive = stays_live w.kernel (asked live).first live sent.unique sent.wire (All-at AgreesToInit w.replies k sent old.copies at_k) in
       record {
         held = links.held;
         serving = λ _. links.serving live;
         agreed = λ _. record { copies = All-without AgreesToInit w.replies k old.copies; kept = old.kept };
-        idle = λ dead. absurd (true≢false (sym alive ∙ dead));
+        idle = λ dead. absurd (true≢false (sym (written_live live k sent at_k) ∙ dead));
       }
 
   again_links : is_live w.kernel.phase ≡ true → (unique : ℕ) (kept : Kept) → get w.server.kept unique ≡ Some kept → LinksSound (after_again w unique kept)

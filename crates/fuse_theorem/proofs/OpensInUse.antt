@@ -23,12 +23,15 @@ use Rattle.fuse_spec.proofs.Tables.{cmp_same, tie_no}
 use Rattle.fuse_theorem.specs.AskedRequests.{IsAsked, SentAsked, RequestsAsked}
 use Rattle.fuse_theorem.specs.Conditions.{KnownAreHeld, IsNumber}
 use Rattle.fuse_theorem.specs.KnownNodes.{IsKnown, NodesKnown}
-use Rattle.fuse_theorem.specs.OpenNumbers.{released_for, released_by, all_released, released_pending, released_sent, released_held, open_files, IsOfItsNode, ReleasesOfKnown, OpensBalanced}
+use Rattle.fuse_theorem.specs.OpenNumbers.{released_for, released_by, all_released, released_pending, released_sent, released_held, open_files, IsOfItsNode, OpensBalanced}
+use Rattle.fuse_theorem.specs.ReleasesKnown.{ReleaseKnown, ReleasesKnown}
 use Rattle.fuse_theorem.proofs.Finding.{same_is, All-filter, All-found}
 use Rattle.fuse_theorem.proofs.HeldOperations.{denoted}
-use Rattle.fuse_theorem.proofs.MapSums.{Rises, rest_rises, first_apart}
-use Rattle.fuse_theorem.proofs.NodesKnown.{known_some}
+use Rattle.fuse_theorem.proofs.MapSums.{Rises}
+use Rattle.fuse_theorem.proofs.NodesKnown.{All-more, known_some}
 use Rattle.fuse_theorem.proofs.NumberCounts.{SameFiles}
+use Rattle.fuse_theorem.proofs.ReleasesStay.{release_known}
+use Rattle.fuse_theorem.proofs.Values.{All-found_values}
 use Rattle.fuse_theorem.proofs.OpenSums.{has_number, copies_carry, CountsOpens, counts_opens, opens_counted, fewer_pass}
 
 -- ---- what holds of each open file
@@ -37,38 +40,20 @@ pub All-released : {X : Type 0} (P : Opened → Type 0) (released : X → List O
 All-released P released [] h = All-nil P
 All-released P released (x ∷ xs) h = All-append P (released x) (all_released released xs) (All-head (λ y. All P (released y)) x xs h) (All-released P released xs (All-tail (λ y. All P (released y)) x xs h))
 
--- What holds of all that is found holds of all values.
-pub All-values : {X : Type 0} (P : X → Type 0) (m : Map X) → Rises m → ((k : ℕ) (x : X) → get m k ≡ Some x → P x) → All P (values m)
-All-values {X} P [] rises each = All-nil P
-All-values {X} P (e ∷ m) rises each =
-    All-cons P e.1 (values m) (each e.0 e.1 (ap (λ r. cond (is_eq r) (Some e.1) (get m e.0)) (cmp_same e.0)))
-    (All-values P m (rest_rises e m rises) (λ k x at. each k x (ap (λ (b : Bool). cond b (Some e.1) (get m k)) (tie_no k e.0 (λ same. apart k x at same)) ∙ at)))
-  where
-    apart : (k : ℕ) (x : X) → get m k ≡ Some x → k ≡ e.0 → ⊥
-    apart k x at same = let none = first_apart e m rises k (omega (arith, same)) in absurd (cc (none, at))
-
 -- Each open file's node is known.
-module _ (w : World) (nodes : NodesKnown w.kernel) (releases : ReleasesOfKnown w) (asked : RequestsAsked w) (rises : Rises w.server.held) where
+module _ (w : World) (nodes : NodesKnown w.kernel) (releases : ReleasesKnown w) (asked : RequestsAsked w) (rises : Rises w.server.held) where
   abbrev Known : Opened → Type 0
   Known o = IsKnown w.kernel.nodes o.nodeid
 
-  -- the node of a RELEASE that was read is that of the kernel's request
-  asked_known : (unique : ℕ) (o : Opened) → IsAsked w.kernel unique (release o) → Known o
-  asked_known unique o is = by is.request.kept is.asks (All-found (λ (e : ℕ × QueuedRequest Purpose). All Known (released_for e.1.kept)) unique w.kernel.queues.requests is.request releases.requests is.under)
-    where
-      by : (kept : Purpose) → body_of w.kernel kept ≡ Some (release o) → All Known (released_for kept) → Known o
-      by purpose.Init e h = absurd (cc (e))
-      by (purpose.Release x) e h = let same : x ≡ o = cc (e) in subst Known same (All-head Known x [] h)
-      by (purpose.Call call) e h = absurd (of_call (get w.kernel.vfs.calls call) e)
-        where
-          of_call : (s : Option (CallState Opened)) → asked_by s ≡ Some (release o) → ⊥
-          of_call None is = cc (is)
-          of_call (Some state) is = cc (is)
+  kept_known : (kept : Purpose) → ReleaseKnown w.kernel.nodes kept → All Known (released_for kept)
+  kept_known purpose.Init h = All-nil Known
+  kept_known (purpose.Release o) h = All-cons Known o [] h (All-nil Known)
+  kept_known (purpose.Call call) h = All-nil Known
 
   sent_known : (unique : ℕ) (body : RequestBody) → SentAsked w.kernel unique body → All Known (released_by body)
   sent_known unique init h = All-nil Known
   sent_known unique (asks operation) h = All-nil Known
-  sent_known unique (release o) h = All-cons Known o [] (asked_known unique o h) (All-nil Known)
+  sent_known unique (release o) h = All-cons Known o [] (release_known w releases unique o h) (All-nil Known)
   sent_known unique (forget f) h = All-nil Known
   sent_known unique (batch_forget fs) h = All-nil Known
   sent_known unique (interrupt original) h = All-nil Known
@@ -76,7 +61,7 @@ module _ (w : World) (nodes : NodesKnown w.kernel) (releases : ReleasesOfKnown w
   held_known : (unique : ℕ) (body : RequestBody) → IsAsked w.kernel unique body → All Known (released_by body)
   held_known unique init h = All-nil Known
   held_known unique (asks operation) h = All-nil Known
-  held_known unique (release o) h = All-cons Known o [] (asked_known unique o h) (All-nil Known)
+  held_known unique (release o) h = All-cons Known o [] (release_known w releases unique o h) (All-nil Known)
   held_known unique (forget f) h = All-nil Known
   held_known unique (batch_forget fs) h = All-nil Known
   held_known unique (interrupt original) h = All-nil Known
@@ -95,7 +80,7 @@ module _ (w : World) (nodes : NodesKnown w.kernel) (releases : ReleasesOfKnown w
       of_pending : All Known (released_pending w.kernel.queues)
       of_pending =
           All-released Known (λ (e : ℕ × QueuedRequest Purpose). released_for e.1.kept) (pending w.kernel.queues)
-          (All-filter (λ (e : ℕ × QueuedRequest Purpose). is_unread e.1.mark) (λ (e : ℕ × QueuedRequest Purpose). All Known (released_for e.1.kept)) w.kernel.queues.requests releases.requests)
+          (All-more (pending w.kernel.queues) (λ e h. kept_known e.1.kept h) (All-filter (λ (e : ℕ × QueuedRequest Purpose). is_unread e.1.mark) (λ (e : ℕ × QueuedRequest Purpose). ReleaseKnown w.kernel.nodes e.1.kept) w.kernel.queues.requests releases.requests))
 
       of_sent : All Known (released_sent w.requests)
       of_sent = All-released Known (λ (r : Request). released_by r.body) w.requests (λ i r lt. let x = get_or w.requests i r in sent_known x.unique x.body (asked.sent i r lt))
@@ -103,7 +88,7 @@ module _ (w : World) (nodes : NodesKnown w.kernel) (releases : ReleasesOfKnown w
       of_held : All Known (released_held w.server.held)
       of_held =
           All-released Known (λ (t : HeldRequest). released_by t.body) (values w.server.held)
-          (All-values (λ (t : HeldRequest). All Known (released_by t.body)) w.server.held rises (λ unique t at. let is = asked.held unique t at in held_known unique t.body is.is_asked))
+          (All-found_values (λ (t : HeldRequest). All Known (released_by t.body)) w.server.held rises (λ unique t at. let is = asked.held unique t at in held_known unique t.body is.is_asked))
 
 -- ---- what is counted is there
 

@@ -36,7 +36,7 @@ use Rattle.fuse_theorem.specs.Copies.{IsKnownCopy, CopiesSound}
 use Rattle.fuse_theorem.specs.EveryList.{BothSound}
 use Rattle.fuse_theorem.specs.Lookups.{EntriesHeld, LookupsBalanced, LookupsSound}
 use Rattle.fuse_theorem.specs.Numbering.{IsNumbered}
-use Rattle.fuse_theorem.specs.OpenNumbers.{OpensApart, released_for, released_by, released_held, open_files, IsOfItsNode, ReleasesOfKnown, ReleasesOfKnownWhileLive, OpensBalanced, OpensSound}
+use Rattle.fuse_theorem.specs.OpenNumbers.{OpensApart, released_for, released_by, released_held, open_files, IsOfItsNode, OpensBalanced, OpensSound}
 use Rattle.fuse_theorem.proofs.MapSums.{Rises, worth, put_rises, gone_rises}
 use Rattle.fuse_theorem.proofs.NumbersStay.{replying_kernel, unheard}
 use Rattle.fuse_theorem.proofs.OpenSums.{kernel_sum, sent_sum, held_sum, open_sum, has_number, copies_carry, CountsOpens, counts_opens, opens_counted, none_failing, all_pass, failing}

@@ -1,5 +1,5 @@
 -- Open numbers stay balanced, whatever happens.
-use Rattle.std.proofs.Common.{◌≡◌, ◌≢◌, ℕ, ◌+◌, ◌≤◌, Bool, true, false, true≢false, cond, List, [], ◌∷◌, Option, Some, None, nat_eq, count_by, slice_get, refl, ap, sym, subst, ◌∙◌, arith, ◌⊎◌, inl, inr, All}
+use Rattle.std.proofs.Common.{◌≡◌, ◌≢◌, ℕ, ◌+◌, ◌≤◌, Bool, true, false, true≢false, cond, List, [], ◌∷◌, Option, Some, None, slice_get, refl, ap, sym, subst, ◌∙◌, arith, All}
 use Rattle.std.specs.Prelude.{T, sum_by}
 use Rattle.std.specs.List.{remove as without_at}
 use Rattle.std.proofs.lemmas.List.Elements.{All-nil}
@@ -10,12 +10,11 @@ use Rattle.fuse_spec.specs.declared.Purpose.TheVariants as purpose
 use Rattle.fuse_spec.specs.declared.ReplyResult.{ReplyResult}
 use Rattle.fuse_spec.specs.declared.WriteResult.{WriteResult}
 use Rattle.fuse_spec.specs.declared.WriteResult.TheVariants.{Accepted, NoEntry, Invalid}
-use Rattle.fuse_spec.specs.Counts.{handle_count, opens_of}
 use Rattle.fuse_spec.specs.Copies.{kept_after, after_result}
 use Rattle.fuse_spec.specs.Calls.{Call}
 use Rattle.fuse_spec.specs.Maps.{Map, get, put, remove}
 use Rattle.fuse_spec.specs.Messages.{Request, RequestBody, init, asks, release, forget, batch_forget, interrupt, WireReply}
-use Rattle.fuse_spec.specs.Operations.{Operation}
+use Rattle.fuse_spec.specs.Operations.{files_in_reply}
 use Rattle.fuse_spec.specs.QueueCalls.{after_read_pending}
 use Rattle.fuse_spec.specs.Vfs.{Vfs, CallState, begun, given_up, later}
 use Rattle.fuse_spec.specs.Kernel.{Kernel, is_live, is_aborted, advanced, closed_by, closing_of, call_begun, call_signalled}
@@ -28,10 +27,10 @@ use Rattle.fuse_spec.specs.Worlds.{World, Sent, replying, first_world, server_se
 use Rattle.fuse_spec.specs.Events.{Event, Outcome}
 use Rattle.fuse_spec.specs.Steps.{is_ready, MayStep, MayChooseFor, Happens}
 use Rattle.fuse_theorem.specs.EveryList.{BothSound}
-use Rattle.fuse_theorem.specs.Links.{IsIdle}
 use Rattle.fuse_theorem.specs.Lookups.{EntriesHeld, LookupsBalanced, LookupsSound}
 use Rattle.fuse_theorem.specs.Numbering.{IsNumbered, IsNumberedWhileLive}
-use Rattle.fuse_theorem.specs.OpenNumbers.{OpensApart, IsOfItsNode, ReleasesOfKnown, ReleasesOfKnownWhileLive, OpensBalanced, OpensLeft, OpensSound, released_held}
+use Rattle.fuse_theorem.specs.OpenNumbers.{OpensApart, IsOfItsNode, OpensBalanced, OpensSound}
+use Rattle.fuse_theorem.specs.ReleasesKnown.{ReleasesKnown}
 use Rattle.fuse_theorem.specs.WorldSound.{WorldSound}
 use Rattle.fuse_theorem.proofs.GoingOn.{begun_goes_on, signalled_goes_on}
 use Rattle.fuse_theorem.proofs.Happened.{Happened, by_mount, by_call, by_read_interrupt, by_read_forgets, by_read_pending, by_take, by_perform, by_again, by_write, by_settle, by_signal, by_tick, by_drop, by_evict, by_abort, happened}
@@ -44,10 +43,8 @@ use Rattle.fuse_theorem.proofs.OpenSums.{kernel_sum, sent_sum}
 use Rattle.fuse_theorem.proofs.OpensFit.{opened_fits}
 use Rattle.fuse_theorem.proofs.OpensHeard.{HearsOpens, read_sum, written_heard}
 use Rattle.fuse_theorem.proofs.OpensKept.{KeepsOpen, begun_keeps, signalled_keeps}
-use Rattle.fuse_theorem.proofs.OpensLeft.{aborted_left, performed_left, left_after}
 use Rattle.fuse_theorem.proofs.OpensMoved.{kernel_moves, keeps, read_interrupt, read_forgets, read_pending, written_balanced}
 use Rattle.fuse_theorem.proofs.OpensTables.{replying_server, taken_balanced, performed_balanced, again_balanced, settled_balanced}
-use Rattle.fuse_theorem.proofs.PerformedCounts.{Counts, performed_counts}
 use Rattle.fuse_theorem.proofs.PerformedRest.{performed_rest}
 use Rattle.fuse_theorem.proofs.Queuing.{All-at}
 use Rattle.fuse_theorem.proofs.WriteNeeds.{write_met}
@@ -110,7 +107,7 @@ held_rises choice w old e o after (by_abort live) = old
 
 -- ---- every event
 
-module _ (choice : ℕ → ℕ) (w : World) (p : Plain) (both : BothSound w p) (releases : ReleasesOfKnownWhileLive w) (old : OpensSound w) where
+module _ (choice : ℕ → ℕ) (w : World) (p : Plain) (both : BothSound w p) (releases : ReleasesKnown w) (old : OpensSound w) where
   sound : WorldSound w
   sound = both.world
 
@@ -190,14 +187,14 @@ module _ (choice : ℕ → ℕ) (w : World) (p : Plain) (both : BothSound w p) (
   balanced_after e o after may next (by_take k r there within) live =
       let took = taking w.server r.unique r.body in
       let was = same_phase (after_take w k r.unique took) (replying_kernel (record w { requests = without_at w.requests k; server = took.server }) w.server.next_copy r.unique took.reply) live in
-      taken_balanced w p both was (releases was) old.held (old.balanced was) k r there next
+      taken_balanced w p both was releases old.held (old.balanced was) k r there next
   balanced_after e o after may next (by_perform unique t there within) live =
       let did = served choice w.server unique t in
       let was = same_phase (after_perform w unique did) (replying_kernel (record w { server = did.server }) w.server.next_copy unique (cond w.server.aborted None (Some did.wire))) live in
-      performed_balanced w p both was (releases was) old.held (old.balanced was) choice unique t there (subst (MayChooseFor choice w) there may) next
-  balanced_after e o after may next (by_again unique kept there current within) live = again_balanced w p both live (releases live) old.held (old.balanced live) unique kept current next
+      performed_balanced w p both was releases old.held (old.balanced was) choice unique t there (subst (MayChooseFor choice w) there may) next
+  balanced_after e o after may next (by_again unique kept there current within) live = again_balanced w p both live releases old.held (old.balanced live) unique kept current next
   balanced_after e o after may next (by_write k sent there within) live = written k sent there
-  balanced_after e o after may next (by_settle k result there) live = settled_balanced w p both live (releases live) old.held (old.balanced live) k result there next
+  balanced_after e o after may next (by_settle k result there) live = settled_balanced w p both live releases old.held (old.balanced live) k result there next
   balanced_after e o after may next (by_signal call fatal state was there within) live = keeps w (old.balanced was) (call_signalled w.kernel call state fatal).1 (signalled_keeps w.kernel old.apart sound.queues call state there fatal)
   balanced_after e o after may next (by_tick ms timely) live = kernel_moves w (old.balanced live) (record w.kernel { vfs = later w.kernel.vfs ms }) w.requests (λ f. refl)
   balanced_after e o after may next (by_drop directory name bound was there) live = kernel_moves w (old.balanced was) (after_drop w directory name).kernel w.requests (λ f. refl)
@@ -206,88 +203,52 @@ module _ (choice : ℕ → ℕ) (w : World) (p : Plain) (both : BothSound w p) (
 
   -- ---- without a live mount
 
-  -- what is left stays so as the kernel answers calls at once, and as time passes
-  beside : (v : World) → v.server ≡ w.server → v.kernel.vfs.calls ≡ [] → v.kernel.vfs.opens ≡ [] → v.kernel.closing ≡ [] → OpensLeft w → OpensLeft v
-  beside v server calls opens closing left = record {
-    calls = calls;
-    opens = opens;
-    closing = closing;
-    released = λ fh. subst (λ (s : Server). count_by (λ (o : Opened). nat_eq o.fh fh) (released_held s.held) ≤ handle_count (get s.handles.handles fh)) (sym server) (left.released fh);
-    used = subst (λ (s : Server). (unique : ℕ) (t : HeldRequest) → get s.held unique ≡ Some t → (operation : Operation ℕ Opened) → t.body ≡ asks operation
-        → All (λ (x : Opened). count_by (λ (o : Opened). nat_eq o.fh x.fh) (released_held s.held) + 1 ≤ handle_count (get s.handles.handles x.fh)) (opens_of operation)) (sym server) left.used;
-    files = subst (λ (s : Server). All (IsOfItsNode s) (released_held s.held)) (sym server) left.files;
-  }
+  abbrev Unopened : Kernel → Type 0
+  Unopened k = (k.vfs.opens ≡ []) × (k.closing ≡ [])
 
-  lives_on : (v : World) → v.kernel.phase ≡ w.kernel.phase → is_live w.kernel.phase ≡ true → is_live v.kernel.phase ≡ false → OpensLeft v
-  lives_on v same live dead = absurd (true≢false (sym live ∙ sym (ap is_live same) ∙ dead))
+  still : (v : World) → v.kernel ≡ w.kernel → is_live v.kernel.phase ≡ false → Unopened v.kernel
+  still v same dead = subst (λ (k : Kernel). Unopened k) (sym same) (old.unopened (sym (ap (λ (k : Kernel). is_live k.phase) same) ∙ dead))
 
-  was_dead : (v : World) → v.kernel ≡ w.kernel → is_live v.kernel.phase ≡ false → is_live w.kernel.phase ≡ false
-  was_dead v same dead = sym (ap (λ (k : Kernel). is_live k.phase) same) ∙ dead
-
-  idle_links : is_live w.kernel.phase ≡ false → IsIdle w
-  idle_links dead = let links = both.links in links.idle dead
+  lives_on : (k : Kernel) → k.phase ≡ w.kernel.phase → is_live w.kernel.phase ≡ true → is_live k.phase ≡ false → Unopened k
+  lives_on k same live dead = absurd (true≢false (sym live ∙ sym (ap is_live same) ∙ dead))
 
   -- after an abort a call is answered at once
-  called_left : (call : Call) → is_ready w.kernel.phase ≡ true → is_live w.kernel.phase ≡ false → OpensLeft (record w { kernel = call_begun w.kernel call })
-  called_left call ready dead = at_once (is_aborted w.kernel.phase) (aborted_if_ready w.kernel.phase ready dead)
+  called_unopened : (call : Call) → is_ready w.kernel.phase ≡ true → is_live w.kernel.phase ≡ false → Unopened (call_begun w.kernel call)
+  called_unopened call ready dead = at_once (is_aborted w.kernel.phase) (aborted_if_ready w.kernel.phase ready dead)
     where
-      at_once : (b : Bool) → b ≡ true → OpensLeft (record w { kernel = closing_of (advanced w.kernel w.kernel.vfs.next_call (begun b w.kernel.vfs call)) (cond b None (closed_by w.kernel.vfs.opens call)) })
-      at_once true e =
-          let left = old.idle dead in
-          beside (record w { kernel = advanced w.kernel w.kernel.vfs.next_call (begun true w.kernel.vfs call) }) refl (ap (λ (m : Map (CallState Opened)). remove m w.kernel.vfs.next_call) left.calls) left.opens left.closing left
+      at_once : (b : Bool) → b ≡ true → Unopened (closing_of (advanced w.kernel w.kernel.vfs.next_call (begun b w.kernel.vfs call)) (cond b None (closed_by w.kernel.vfs.opens call)))
+      at_once true e = old.unopened dead
       at_once false e = absurd (true≢false (sym e))
 
-  written_left : (k : ℕ) (sent : Sent) → slice_get w.replies k ≡ Some sent → is_live (reply_written w.kernel sent.unique sent.wire).1.phase ≡ false → OpensLeft (after_write w k sent (reply_written w.kernel sent.unique sent.wire))
-  written_left k sent there dead = by (is_live w.kernel.phase) refl
+  written_unopened : (k : ℕ) (sent : Sent) → slice_get w.replies k ≡ Some sent → is_live (reply_written w.kernel sent.unique sent.wire).1.phase ≡ false → Unopened (reply_written w.kernel sent.unique sent.wire).1
+  written_unopened k sent there dead = by (is_live w.kernel.phase) refl
     where
-      by : (b : Bool) → is_live w.kernel.phase ≡ b → OpensLeft (after_write w k sent (reply_written w.kernel sent.unique sent.wire))
+      by : (b : Bool) → is_live w.kernel.phase ≡ b → Unopened (reply_written w.kernel sent.unique sent.wire).1
       by true live = absurd (true≢false (sym (alive k sent there live) ∙ dead))
-      by false was = let idle = idle_links was in none_at w.replies k sent idle.replies there
+      by false was = let links = both.links in none_at w.replies k sent (links.idle was).replies there
 
-  -- what is held is performed, and nobody hears of it
-  performed_left_after : (unique : ℕ) (t : HeldRequest) → get w.server.held unique ≡ Some t → MayChooseFor choice w (Some t) → is_live w.kernel.phase ≡ false → OpensLeft (after_perform w unique (served choice w.server unique t))
-  performed_left_after unique t there may dead = by w.server.aborted refl
-    where
-      less : Server
-      less = record w.server { held = remove w.server.held unique }
-
-      nodes : Counts (record w.server { held = remove w.server.held unique }) (performed choice (record w.server { held = remove w.server.held unique }) t)
-      nodes = let server = lookups.server in performed_counts choice (record w.server { held = remove w.server.held unique }) server.nodes t may
-
-      holds_none : (w.server.held ≡ []) ⊎ (w.server.aborted ≡ true) → w.server.aborted ≡ true
-      holds_none (inl none) = let nothing : get w.server.held unique ≡ None = ap (λ (m : Map HeldRequest). get m unique) none in absurd (cc (nothing, there))
-      holds_none (inr e) = e
-
-      by : (b : Bool) → w.server.aborted ≡ b → OpensLeft (replying (record w { server = (served choice w.server unique t).server }) w.server.next_copy unique (cond b None (Some (served choice w.server unique t).wire)))
-      by true aborted =
-          let rest = performed_rest choice (record w.server { held = remove w.server.held unique }) t in
-          left_after w (record w { server = (served choice w.server unique t).server }) (old.idle dead) old.held unique t there refl (nodes.same aborted) rest.held (performed_left choice (record w.server { held = remove w.server.held unique }) t aborted)
-      by false alive = let idle = idle_links dead in absurd (true≢false (sym (holds_none idle.server) ∙ alive))
-
-  left_now : (e : Event) (o : Outcome) (after : World) → MayStep choice w e → Happened choice w e o after → is_live after.kernel.phase ≡ false → OpensLeft after
-  left_now e o after may (by_mount f m idle) dead = absurd (true≢false dead)
-  left_now e o after may (by_call call ready room within) dead = let goes = begun_goes_on w.kernel call in called_left call ready (sym (ap is_live goes.phase) ∙ dead)
-  left_now e o after may (by_read_interrupt original rest live there within) dead = lives_on after refl live dead
-  left_now e o after may (by_read_forgets n live free can within) dead = lives_on after refl live dead
-  left_now e o after may (by_read_pending k unique kept body live free there says within) dead = lives_on after refl live dead
-  left_now e o after may (by_take k r there within) dead =
-      let took = taking w.server r.unique r.body in
-      let idle = idle_links (was_dead (after_take w k r.unique took) (replying_kernel (record w { requests = without_at w.requests k; server = took.server }) w.server.next_copy r.unique took.reply) dead) in
-      none_at w.requests k r idle.requests there
-  left_now e o after may (by_perform unique t there within) dead =
-      let did = served choice w.server unique t in
-      performed_left_after unique t there (subst (MayChooseFor choice w) there may) (was_dead (after_perform w unique did) (replying_kernel (record w { server = did.server }) w.server.next_copy unique (cond w.server.aborted None (Some did.wire))) dead)
-  left_now e o after may (by_again unique kept there current within) dead = let idle = idle_links dead in let none : get w.server.kept unique ≡ None = ap (λ (m : Map Kept). get m unique) idle.kept in absurd (cc (none, there))
-  left_now e o after may (by_write k sent there within) dead = written_left k sent there dead
-  left_now e o after may (by_settle k result there) dead = let idle = idle_links dead in none_at w.results k result idle.results there
-  left_now e o after may (by_signal call fatal state live there within) dead = let goes = signalled_goes_on w.kernel call state fatal in lives_on after goes.phase live dead
-  left_now e o after may (by_tick ms timely) dead = let left = old.idle dead in beside after refl left.calls left.opens left.closing left
-  left_now e o after may (by_drop directory name bound live there) dead = lives_on after refl live dead
-  left_now e o after may (by_evict node counted live there unused) dead = lives_on after refl live dead
-  left_now e o after may (by_abort live) dead = aborted_left w old.apart (both.asked live) (old.balanced live)
+  unopened_after : (e : Event) (o : Outcome) (after : World) → Happened choice w e o after → is_live after.kernel.phase ≡ false → Unopened after.kernel
+  unopened_after e o after (by_mount f m idle) dead = (refl, refl)
+  unopened_after e o after (by_call call ready room within) dead =
+      let goes = begun_goes_on w.kernel call in called_unopened call ready (sym (ap is_live goes.phase) ∙ dead)
+  unopened_after e o after (by_read_interrupt original rest live there within) dead = lives_on after.kernel refl live dead
+  unopened_after e o after (by_read_forgets n live free can within) dead = lives_on after.kernel refl live dead
+  unopened_after e o after (by_read_pending k unique kept body live free there says within) dead = lives_on after.kernel refl live dead
+  unopened_after e o after (by_take k r there within) dead =
+      let took = taking w.server r.unique r.body in still (after_take w k r.unique took) (replying_kernel (record w { requests = without_at w.requests k; server = took.server }) w.server.next_copy r.unique took.reply) dead
+  unopened_after e o after (by_perform unique t there within) dead =
+      let did = served choice w.server unique t in still (after_perform w unique did) (replying_kernel (record w { server = did.server }) w.server.next_copy unique (cond w.server.aborted None (Some did.wire))) dead
+  unopened_after e o after (by_again unique kept there current within) dead = old.unopened dead
+  unopened_after e o after (by_write k sent there within) dead = written_unopened k sent there dead
+  unopened_after e o after (by_settle k result there) dead = old.unopened dead
+  unopened_after e o after (by_signal call fatal state live there within) dead = let goes = signalled_goes_on w.kernel call state fatal in lives_on after.kernel goes.phase live dead
+  unopened_after e o after (by_tick ms timely) dead = old.unopened dead
+  unopened_after e o after (by_drop directory name bound live there) dead = lives_on after.kernel refl live dead
+  unopened_after e o after (by_evict node counted live there unused) dead = lives_on after.kernel refl live dead
+  unopened_after e o after (by_abort live) dead = (refl, refl)
 
 -- Open numbers stay balanced, whatever the event.
-pub opens_stay : (w : World) (p : Plain) → BothSound w p → ReleasesOfKnownWhileLive w → OpensSound w → (e : Event) (o : Outcome) (after : World) → Happens w e o after → OpensSound after
+pub opens_stay : (w : World) (p : Plain) → BothSound w p → ReleasesKnown w → OpensSound w → (e : Event) (o : Outcome) (after : World) → Happens w e o after → OpensSound after
 opens_stay w p both releases old e o after h =
     let did = happened h.0 w o after e h.2 in
     let sound = both.world in
@@ -295,7 +256,7 @@ opens_stay w p both releases old e o after h =
       apart = apart_after h.0 w p both releases old e o after did;
       held = held_rises h.0 w old.held e o after did;
       balanced = balanced_after h.0 w p both releases old e o after h.1 (lookups_stay w sound.lookups e o after h) did;
-      idle = left_now h.0 w p both releases old e o after h.1 did;
+      unopened = unopened_after h.0 w p both releases old e o after did;
     }
 
 pub first_opens : OpensSound first_world
@@ -303,12 +264,5 @@ first_opens = record {
   apart = record { once = λ n. omega arith; below = λ n high. refl; opens = tt; closing = tt; uses = λ call state at. absurd (cc (at)) };
   held = tt;
   balanced = λ live. absurd (true≢false (sym live));
-  idle = λ dead. record {
-    calls = refl;
-    opens = refl;
-    closing = refl;
-    released = λ fh. omega arith;
-    used = λ unique t at. absurd (cc (at));
-    files = All-nil (IsOfItsNode first_world.server);
-  };
+  unopened = λ dead. (refl, refl);
 }

@@ -36,7 +36,8 @@ use Rattle.fuse_theorem.specs.Copies.{CopiesSound}
 use Rattle.fuse_theorem.specs.EveryList.{BothSound}
 use Rattle.fuse_theorem.specs.Lookups.{EntriesHeld, LookupsBalanced, LookupsSound}
 use Rattle.fuse_theorem.specs.Numbering.{IsNumbered}
-use Rattle.fuse_theorem.specs.OpenNumbers.{OpensApart, released_for, released_by, all_released, released_pending, released_sent, released_held, open_files, IsOfItsNode, ReleasesOfKnown, ReleasesOfKnownWhileLive, OpensBalanced, OpensSound}
+use Rattle.fuse_theorem.specs.OpenNumbers.{OpensApart, released_for, released_by, all_released, released_pending, released_sent, released_held, open_files, IsOfItsNode, OpensBalanced}
+use Rattle.fuse_theorem.specs.ReleasesKnown.{ReleasesKnown}
 use Rattle.fuse_theorem.specs.ServerTables.{ServerSound}
 use Rattle.fuse_theorem.specs.Unperformed.{BearsNumber, RequestsSound}
 use Rattle.fuse_theorem.specs.WorldSound.{WorldSound}
@@ -79,7 +80,7 @@ pub replying_server : (w : World) (number unique : ℕ) (o : Option WireReply) �
 replying_server w number unique None = refl
 replying_server w number unique (Some wire) = refl
 
-module _ (w : World) (p : Plain) (both : BothSound w p) (live : is_live w.kernel.phase ≡ true) (releases : ReleasesOfKnown w) (rises : Rises w.server.held) (old : OpensBalanced w) where
+module _ (w : World) (p : Plain) (both : BothSound w p) (live : is_live w.kernel.phase ≡ true) (releases : ReleasesKnown w) (rises : Rises w.server.held) (old : OpensBalanced w) where
   asked : RequestsAsked w
   asked = both.asked live
 
@@ -194,7 +195,7 @@ module _ (w : World) (p : Plain) (both : BothSound w p) (live : is_live w.kernel
     releasing : (o : Opened) → t.body ≡ release o → Releases less t o
     releasing o is = record {
       unmarked = by t.marked refl;
-      still = still_held w (known_held w lookups) t.generations (releases.held unique t there o is);
+      still = still_held w (known_held w lookups) t.generations (releases.held live unique t there o is);
       number = held_fits w old.files unique t there o is;
       counted = λ fh.
           let whole = counts fh in

@@ -1,5 +1,5 @@
 -- The server performs the operation of a held request, and the plain world that of its ask.
-use Rattle.std.proofs.Common.{◌≡◌, ℕ, ◌+◌, Bool, true, false, true≢false, ◌||◌, cond, List, [], ◌∷◌, ◌++◌, Option, Some, None, nat_eq, get_or, refl, ap, sym, subst, ◌∙◌, inl, inr}
+use Rattle.std.proofs.Common.{◌≡◌, ℕ, ◌+◌, Bool, true, false, true≢false, not, ◌||◌, cond, List, [], ◌∷◌, ◌++◌, Option, Some, None, nat_eq, get_or, refl, ap, sym, subst, ◌∙◌, inl, inr}
 use Rattle.std.specs.List.{list_any}
 use Rattle.std.proofs.lemmas.Bool.{cases_eq}
 use Rattle.fuse_spec.specs.declared.Opened.{Opened}
@@ -13,7 +13,7 @@ use Rattle.fuse_spec.specs.Queues.{pending}
 use Rattle.fuse_spec.specs.Messages.{Request, WireReply}
 use Rattle.fuse_spec.specs.Nodes.{HeldNode, NodeTable, HandleTable, OpenNumber, root_row, row_of, file_of, is_open, MayChoose, all_given, all_opened}
 use Rattle.fuse_spec.specs.Server.{Server, HeldRequest, Kept, Copy, is_file_held, without_unheld_files}
-use Rattle.fuse_spec.specs.Performs.{PerformResult, performed, performing, served, replying, doing, refusing, is_still_held, is_open_for, file_operation_of, wire_of}
+use Rattle.fuse_spec.specs.Performs.{PerformResult, performed, performing, served, replying, doing, refusing, is_still_held, is_open_for, file_operation_of, wire_of, files_by, files_given}
 use Rattle.fuse_spec.specs.Worlds.{World, Sent, after_perform}
 use Rattle.fuse_spec.specs.Worlds as worlds
 use Rattle.fuse_spec.specs.Events as event
@@ -84,7 +84,7 @@ module _ (w : World) (p : Plain) (same : Alike w p) where
     deed_stands (write o offset bytes) (write file offset' bytes') h = opened_stands o file h.0
     deed_stands a b h = absurd h
 
-    open_for : (a : Operation ℕ Opened) (b : FileOperation) → OperationAlike (Meant w.server.nodes generations) (MeantOpen w.server.nodes w.server.handles generations) a b → is_open_for w.server a ≡ true
+    pub open_for : (a : Operation ℕ Opened) (b : FileOperation) → OperationAlike (Meant w.server.nodes generations) (MeantOpen w.server.nodes w.server.handles generations) a b → is_open_for w.server a ≡ true
     open_for (lookup d name) b h = refl
     open_for (getattr x) b h = refl
     open_for (mkdir d name) b h = refl
@@ -160,6 +160,19 @@ module _ (w : World) (p : Plain) (same : Alike w p) (choice : ℕ → ℕ) (uniq
       ∙ ap (λ (b : Bool). cond b (performing choice s1 t.body) (refusing s1 5)) can.still ∙ ap (performing choice s1) can.body_is
       ∙ ap (λ (b : Bool). cond b (doing choice s1 (file_operation_of w.server.nodes operation)) (refusing s1 9)) (open_for w p same t.generations operation deed asked.same)
       ∙ ap (doing choice s1) (held_operation w.server.nodes w.server.handles t.generations operation deed asked.same) ∙ ap (λ (r : Reply ℕ ℕ). Did r w.server.aborted) same_reply ∙ ap (Did reply) is
+
+  -- The files to which it gives nodes are those that the plain world's reply names.
+  pub gives : w.server.aborted ≡ false → files_given w.server t ≡ files_in_reply reply
+  gives live =
+      (λ i. cond (live i || (can.unmarked i || not (can.still i))) [] (files_by w.server (can.body_is i)))
+      ∙ ap (λ (b : Bool). cond b (files_in_reply (reply_by w.server.validity w.server.tree (file_operation_of w.server.nodes operation))) []) (open_for w p same t.generations operation deed asked.same)
+      ∙ ap (λ (o : FileOperation). files_in_reply (reply_by w.server.validity w.server.tree o)) (held_operation w.server.nodes w.server.handles t.generations operation deed asked.same) ∙ ap files_in_reply same_reply
+
+  pub may_choose : w.server.aborted ≡ false → MayChoose choice w.server.nodes (files_given w.server t) → (ask : Ask) → get p.asks unique ≡ Some ask → MayChoose choice w.server.nodes (files_in_reply (reply_by p.validity p.tree ask.operation))
+  may_choose live may ask at =
+      let there = asked.there in
+      let is_ask : asked.ask ≡ ask = cc (there, at) in
+      subst (λ (a : Ask). MayChoose choice w.server.nodes (files_in_reply (reply_by p.validity p.tree a.operation))) is_ask (subst (MayChoose choice w.server.nodes) (gives live) may)
 
   -- ---- the two are alike
 

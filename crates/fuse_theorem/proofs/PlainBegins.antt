@@ -12,8 +12,8 @@ use Rattle.fuse_spec.specs.Calls.{Call}
 use Rattle.fuse_spec.specs.Calls as call
 use Rattle.fuse_spec.specs.Begins.{Beginning, faulty, sets_out, uses, whole_path, parent_path, using, closing, beginning}
 use Rattle.fuse_spec.specs.Vfs.{Vfs, after_beginning, walks_on}
-use Rattle.fuse_theorem.specs.PlainCalls.{TakesWalk, HasNoName, is_faulty, is_root, Fails, Begins}
-use Rattle.fuse_theorem.specs.PlainCalls as plain
+use Rattle.fuse_spec.specs.PlainCalls.{TakesWalk, HasNoName, is_faulty, is_root, Fails, Begins}
+use Rattle.fuse_spec.specs.PlainCalls as plain
 use Rattle.fuse_theorem.proofs.PlainWalks.{goes_on}
 
 -- Words that end in a last one, or none.

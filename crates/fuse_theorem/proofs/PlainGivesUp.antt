@@ -6,7 +6,7 @@ use Rattle.fuse_spec.specs.Numbers.{econnaborted}
 use Rattle.fuse_spec.specs.Answers.{Answer, failed}
 use Rattle.fuse_spec.specs.Vfs.{CallState, Vfs, all_answered, given_up}
 use Rattle.fuse_spec.proofs.Tables.{get_put}
-use Rattle.fuse_theorem.specs.PlainWords.{GivesUp}
+use Rattle.fuse_spec.specs.PlainWords.{GivesUp}
 
 -- After all are answered, the answer of a call that was unanswered is this one, and of any other what it was.
 module _ (a : Answer) (answers : Map Answer) where

@@ -5,8 +5,8 @@ use Rattle.fuse_spec.specs.Operations as op
 use Rattle.fuse_spec.specs.Vfs.{CallState, walking, doing, using, Vfs, walks_on, bound}
 use Rattle.fuse_spec.specs.CallReplies.{operation_replied, call_replied}
 use Rattle.std.proofs.Common.{Some}
-use Rattle.fuse_theorem.specs.PlainCalls.{Answers, Hears}
-use Rattle.fuse_theorem.specs.PlainCalls as plain
+use Rattle.fuse_spec.specs.PlainCalls.{Answers, Hears}
+use Rattle.fuse_spec.specs.PlainCalls as plain
 use Rattle.fuse_theorem.proofs.PlainWalks.{goes_on}
 
 module _ (c : Vfs ℕ) (number : ℕ) where

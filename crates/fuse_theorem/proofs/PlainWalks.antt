@@ -8,8 +8,8 @@ use Rattle.fuse_spec.specs.Paths.{Name}
 use Rattle.fuse_spec.specs.Walks.{FinalOperation, WalkPlan, last, rename, link, WalkStop, unknown, missing, arrived, go, after_last, after_stop, operation_at}
 use Rattle.fuse_spec.specs.Walks as final
 use Rattle.fuse_spec.specs.Vfs.{Vfs, Advance, valid_at, look, after_walk, walks_on}
-use Rattle.fuse_theorem.specs.PlainCalls.{IsNotInForce, Walks, AsksAt, GoesOn}
-use Rattle.fuse_theorem.specs.PlainCalls as plain
+use Rattle.fuse_spec.specs.PlainCalls.{IsNotInForce, Walks, AsksAt, GoesOn}
+use Rattle.fuse_spec.specs.PlainCalls as plain
 
 -- Where a call's walk leaves it, in words.
 abbrev pub GoesOnTo : Vfs ℕ → ℕ → ℕ → List Name → WalkPlan ℕ → Advance ℕ → Type 0

@@ -14,8 +14,8 @@ use Rattle.fuse_spec.specs.Plain.{Plain, Ask, Stage, waiting, performed, decline
 use Rattle.fuse_spec.specs.PlainSteps.{where_so, serving_ask, serving, telling_call, telling_ask, telling, signalled_ask, signalling, marking, takes, Takes}
 use Rattle.fuse_spec.specs.Events.{Event, Outcome}
 use Rattle.fuse_spec.specs.Events as event
-use Rattle.fuse_theorem.specs.PlainWords.{one_more, Asks, Steps}
-use Rattle.fuse_theorem.specs.PlainWords as plain
+use Rattle.fuse_spec.specs.PlainWords.{one_more, Asks, Steps}
+use Rattle.fuse_spec.specs.PlainWords as plain
 use Rattle.fuse_theorem.proofs.PlainBegins.{begins}
 use Rattle.fuse_theorem.proofs.PlainGivesUp.{gives_up}
 use Rattle.fuse_theorem.proofs.PlainReplies.{hears}

@@ -27,7 +27,7 @@ use Rattle.fuse_theorem.specs.Numbering.{IsNumbered}
 use Rattle.fuse_spec.specs.Events as event
 use Rattle.fuse_spec.specs.declared.Refusal.{Refusal}
 use Rattle.fuse_spec.specs.Records.{Record, outcome, refused, answers_of, collected}
-use Rattle.fuse_spec.specs.Steps.{Happens}
+use Rattle.fuse_spec.specs.Steps.{Happens, RefusedWith}
 
 -- A call of `stat` that looks up a name in the root, or asks for the root's attributes.
 pub data StatsRoot : CallState Opened → Type 0 where
@@ -113,6 +113,6 @@ pub record Goes (w : World) (p : Plain) (event : Event) (outcome : Outcome) (aft
 pub data Recorded : World → List Event → List Record → World → Type 0 where
   none_left : (w : World) → Recorded w [] [] w
   one_refused : (w : World) (event : Event) (refusal : Refusal) (events : List Event) (records : List Record) (after : World)
-      → Recorded w events records after → Recorded w (event ∷ events) (refused refusal ∷ records) after
+      → RefusedWith w event refusal → Recorded w events records after → Recorded w (event ∷ events) (refused refusal ∷ records) after
   one_accepted : (w : World) (event : Event) (o : Outcome) (mid : World) (events : List Event) (records : List Record) (after : World)
       → Happens w event o mid → Recorded (collected mid) events records after → Recorded w (event ∷ events) (outcome o ∷ answers_of mid.kernel.vfs.answers ++ records) after

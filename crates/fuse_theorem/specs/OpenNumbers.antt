@@ -19,24 +19,6 @@ use Rattle.fuse_spec.specs.Denotes.{generation_known}
 use Rattle.fuse_spec.specs.Worlds.{World}
 use Rattle.fuse_theorem.specs.KnownNodes.{IsKnown}
 
--- ---- what it stands on
-
--- The open file that a request releases.
-abbrev pub released_for : Purpose → List Opened
-released_for purpose.Init = []
-released_for (purpose.Release o) = o ∷ []
-released_for (purpose.Call call) = []
-
--- In a live mount the kernel knows the node of each closed file and of each unanswered RELEASE, and a held RELEASE names its node under the
--- generation that the kernel knows.
-pub record ReleasesOfKnown (w : World) : Type 0 where
-  pub closing : All (λ (o : Opened). IsKnown w.kernel.nodes o.nodeid) (values w.kernel.closing)
-  pub requests : All (λ (e : ℕ × QueuedRequest Purpose). All (λ (o : Opened). IsKnown w.kernel.nodes o.nodeid) (released_for e.1.kept)) w.kernel.queues.requests
-  pub held : (unique : ℕ) (t : HeldRequest) → get w.server.held unique ≡ Some t → (o : Opened) → t.body ≡ release o → All (λ (g : ℕ × ℕ). generation_known w.kernel.nodes g.0 ≡ Some g.1) t.generations
-
-abbrev pub ReleasesOfKnownWhileLive : World → Type 0
-ReleasesOfKnownWhileLive w = is_live w.kernel.phase ≡ true → ReleasesOfKnown w
-
 -- ---- the kernel alone
 
 abbrev pub stands : {X : Type 0} → Option X → ℕ
@@ -58,6 +40,12 @@ pub record OpensApart (c : Vfs Opened) (closed : Map Opened) : Type 0 where
   pub uses : (call : ℕ) (state : CallState Opened) → get c.calls call ≡ Some state → UsesOpen c.opens closed state
 
 -- ---- the kernel and the server
+
+-- The open file that a request releases.
+abbrev pub released_for : Purpose → List Opened
+released_for purpose.Init = []
+released_for (purpose.Release o) = o ∷ []
+released_for (purpose.Call call) = []
 
 abbrev pub released_by : RequestBody → List Opened
 released_by init = []
@@ -94,20 +82,9 @@ pub record OpensBalanced (w : World) : Type 0 where
   pub balance : OpenBalance w
   pub files : All (IsOfItsNode w.server) (open_files w)
 
--- Without a live mount no call is unanswered and no file open or closing. The server counts each number that held RELEASEs bear as often as they do, and
--- once more where a held read or write bears it too; and each is one of its node's file.
-pub record OpensLeft (w : World) : Type 0 where
-  pub calls : w.kernel.vfs.calls ≡ []
-  pub opens : w.kernel.vfs.opens ≡ []
-  pub closing : w.kernel.closing ≡ []
-  pub released : (fh : ℕ) → count_by (λ (o : Opened). nat_eq o.fh fh) (released_held w.server.held) ≤ handle_count (get w.server.handles.handles fh)
-  pub used : (unique : ℕ) (t : HeldRequest) → get w.server.held unique ≡ Some t → (operation : Operation ℕ Opened) → t.body ≡ asks operation
-      → All (λ (x : Opened). count_by (λ (o : Opened). nat_eq o.fh x.fh) (released_held w.server.held) + 1 ≤ handle_count (get w.server.handles.handles x.fh)) (opens_of operation)
-  pub files : All (IsOfItsNode w.server) (released_held w.server.held)
-
--- While the mount is live the open numbers are balanced; else there are those that are left. The rest is what keeps it so.
+-- While the mount is live the open numbers are balanced; else no file is open or closing. The rest is what keeps it so.
 pub record OpensSound (w : World) : Type 0 where
   pub apart : OpensApart w.kernel.vfs w.kernel.closing
   pub held : T (is_sorted nat_cmp w.server.held)
   pub balanced : is_live w.kernel.phase ≡ true → OpensBalanced w
-  pub idle : is_live w.kernel.phase ≡ false → OpensLeft w
+  pub unopened : is_live w.kernel.phase ≡ false → (w.kernel.vfs.opens ≡ []) × (w.kernel.closing ≡ [])

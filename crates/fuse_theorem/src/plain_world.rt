@@ -3,7 +3,7 @@
 ghost use Rattle.fuse_spec.specs.Events.{Event, Outcome};
 ghost use Rattle.fuse_spec.specs.Plain.{Plain};
 ghost use Rattle.fuse_spec.specs.PlainSteps.{Takes};
-ghost use Rattle.fuse_theorem.specs.PlainWords.{Steps};
+ghost use Rattle.fuse_spec.specs.PlainWords.{Steps};
 
 /// Each step of the plain world, as the theorem has it, is one in the plain world's own words.
 pub fn steps_in_words()

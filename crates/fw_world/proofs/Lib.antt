@@ -1,5 +1,6 @@
 pub mod Counters
 pub mod Happening
+pub mod LastFrames
 pub mod Refusing
 pub mod Parts
 pub mod Serving

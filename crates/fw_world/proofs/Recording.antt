@@ -1,5 +1,5 @@
 -- Lists of events, and what is recorded of each.
-use Rattle.std.proofs.Common.{◌≡◌, ℕ, ◌+◌, ◌<◌, ◌≤◌, List, [], ◌∷◌, ◌++◌, Result, Ok, Err, OnOk, is_err, false, length, map, take, get_or, ap, sym, subst, ◌∙◌, All}
+use Rattle.std.proofs.Common.{◌≡◌, ℕ, ◌+◌, ◌<◌, ◌≤◌, List, [], ◌∷◌, ◌++◌, Result, Ok, Err, OnOk, OnErr, is_err, true, false, length, map, take, get_or, ap, sym, subst, ◌∙◌, All}
 use Rattle.std.proofs.lemmas.List.{append_assoc, append-nil, map-append, take_more, take_all}
 use Rattle.std.proofs.lemmas.List.Elements.{All-nil, All-cons}
 use Rattle.fuse_spec.specs.declared.Refusal.{Refusal}
@@ -7,7 +7,7 @@ use Rattle.fuse_spec.specs.Worlds.{World}
 use Rattle.fuse_spec.specs.Events.{Event, Outcome}
 use Rattle.fuse_spec.specs.Records as records
 use Rattle.fuse_spec.specs.Records.{answers_of, collected}
-use Rattle.fuse_spec.specs.Steps.{Happens}
+use Rattle.fuse_spec.specs.Steps.{Happens, RefusedWith}
 use Rattle.fuse_spec.specs.Plain.{Plain}
 use Rattle.fuse_spec.specs.Alike.{Alike}
 use Rattle.fuse_theorem.specs.FirstPath.{IsFirst, first_mount, first_call, first_read, first_take, first_perform, first_write, first_settle, Recorded, none_left, one_refused, one_accepted}
@@ -41,8 +41,8 @@ all_first (e ∷ events) = All-cons IsFirst (event_of e) (map event_of events) (
 
 pub then_recorded : (w mid after : World) (events more : List Event) (rs ss : List records.Record) → Recorded w events rs mid → Recorded mid more ss after → Recorded w (events ++ more) (rs ++ ss) after
 then_recorded w mid after events more rs ss (none_left v) next = next
-then_recorded w mid after events more rs ss (one_refused v e refusal rest records last old) next =
-    one_refused v e refusal (rest ++ more) (records ++ ss) after (then_recorded v last after rest more records ss old next)
+then_recorded w mid after events more rs ss (one_refused v e refusal rest records last judged old) next =
+    one_refused v e refusal (rest ++ more) (records ++ ss) after judged (then_recorded v last after rest more records ss old next)
 then_recorded w mid after events more rs ss (one_accepted v e o moved rest records last happens old) next =
     rw append_assoc
     (one_accepted v e o moved (rest ++ more) (records ++ ss) after happens (then_recorded (collected moved) last after rest more records ss old next))
@@ -76,11 +76,11 @@ one_more old events had w has k d new more within ran adds =
 
 -- ---- what one event adds
 
-pub adds_refusal : (w : World) (e : EventValue) (refusal : Refusal) (had made has : List Record) (new : World) → new ≡ w → made ≡ had → has ≡ made ++ recorded.Refused refusal ∷ [] → AddsOne w e had new has
-adds_refusal w e refusal had made has new same kept has_is = (
+pub adds_refusal : (w : World) (e : EventValue) (refusal : Refusal) → RefusedWith w (event_of e) refusal → (had made has : List Record) (new : World) → new ≡ w → made ≡ had → has ≡ made ++ recorded.Refused refusal ∷ [] → AddsOne w e had new has
+adds_refusal w e refusal judged had made has new same kept has_is = (
   recorded.Refused refusal ∷ [],
   has_is ∙ ap (λ (xs : List Record). xs ++ recorded.Refused refusal ∷ []) kept,
-  subst (λ (v : World). Recorded w (event_of e ∷ []) (records.refused refusal ∷ []) v) (sym same) (one_refused w (event_of e) refusal [] [] w (none_left w)),
+  subst (λ (v : World). Recorded w (event_of e ∷ []) (records.refused refusal ∷ []) v) (sym same) (one_refused w (event_of e) refusal [] [] w judged (none_left w)),
 )
 
 pub adds_outcome : (w : World) (e : EventValue) (o : OutcomeValue) (mid : World) → Happens w (event_of e) (outcome_of o) mid → (had made begun has answers : List Record) (new : World) → new ≡ collected mid → made ≡ had
@@ -98,6 +98,10 @@ adds_outcome w e o mid happens had made begun has answers new after kept begun_i
 pub made_room : {T E : Type 0} (r : Result T E) (len more capacity : ℕ) → OnOk r (len + more ≤ capacity) → is_err r ≡ false → len + more ≤ capacity
 made_room (Ok x) len more capacity made e = made
 made_room (Err x) len more capacity made e = absurd (cc e)
+
+pub wanted_room : {T E : Type 0} (r : Result T E) (len more capacity : ℕ) → OnErr r (capacity < len + more) → is_err r ≡ true → capacity < len + more
+wanted_room (Ok x) len more capacity full e = absurd (cc e)
+wanted_room (Err x) len more capacity full e = full
 
 -- How many answers wait after an event that happens.
 pub few_answers : (w : World) → IsFirstWorld w → (e : EventValue) (o : Outcome) (after : World) → Happens w (event_of e) o after → length after.kernel.vfs.answers ≤ length w.kernel.vfs.answers + 1

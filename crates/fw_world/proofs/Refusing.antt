@@ -15,7 +15,7 @@ use Rattle.fuse_spec.specs.Performs.{served}
 use Rattle.fuse_spec.specs.Worlds.{World, after_mount, after_call, after_perform}
 use Rattle.fuse_spec.specs.Events.{Event, Outcome}
 use Rattle.fuse_spec.specs.Events as event
-use Rattle.fuse_spec.specs.Steps.{Stepped, going, is_past, is_busy, is_ready, unless, reading_body, reading_pending, taking_request, performing_held, writing_copy, settling, IsRefused}
+use Rattle.fuse_spec.specs.Steps.{Stepped, going, is_past, is_busy, is_ready, unless, reading_body, reading_pending, taking_request, performing_held, writing_copy, settling, IsRefused, RefusedWith}
 use Rattle.std.specs.Option.{unwrap_or}
 use Rattle.fuse_spec.specs.declared.ReplyResult.{ReplyResult}
 use Rattle.fuse_spec.specs.Server.{Copy, RequestFault, fault_of}
@@ -30,7 +30,6 @@ use Rattle.fk_kernel.specs.Refused.{begin_refusal, mount_refusal, read_refusal, 
 use Rattle.fk_kernel.specs.Refused as kernel
 use Rattle.fs_server.specs.Effects as server
 use Rattle.fs_server.specs.Effects.{performing_refusal}
-use Rattle.fw_world.specs.Steps.{RefusedWith}
 use Rattle.fw_world.proofs.Counters.{server_past, some_past}
 
 -- a refusal that the kernel gave

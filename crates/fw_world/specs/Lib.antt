@@ -1,3 +1,3 @@
 pub mod Values
 pub mod Runs
-pub mod Steps
+pub mod Frames

@@ -1,6 +1,6 @@
 //! Whole lists of events.
 
-ghost use Rattle.std.specs.Prelude.{◌≡◌, ◌+◌, ◌<◌, ◌≤◌, ◌++◌, ◌∷◌, [], false, List, IsTrue, IfErr, length, map};
+ghost use Rattle.std.specs.Prelude.{◌≡◌, ◌+◌, ◌*◌, ◌<◌, ◌≤◌, ◌++◌, ◌∷◌, [], false, List, IsTrue, IfErr, OnErr, length, map};
 ghost use Rattle.std.specs.Vec.{vec_len, vec_capacity};
 ghost use Rattle.fuse_spec.specs.Records.{answers_of, collected};
 ghost use Rattle.fuse_theorem.specs.FirstPath.{Recorded};
@@ -18,7 +18,8 @@ use std::alloc::Allocator;
 ///
 /// # Errors
 ///
-/// `Err(k)` where the list of records could not grow, after exactly k events; the events from the k-th on have not run.
+/// `Err(k)` where the list of records could not grow, after exactly k events; the events from the k-th on have not run. With room for
+/// the answers that wait and two records an event it does not come to that.
 pub fn run<A: Allocator + Copy>(
     world: &mut WorldIn<A>,
     events: &[Event<'_>],
@@ -26,6 +27,7 @@ pub fn run<A: Allocator + Copy>(
 ) -> Result<(), usize>
     ensures ran { (added : List RecordValue) × (records.new.items ≡ records.old.items ++ added) × RunsAs world.old (map event_of (events_run result events.now)) (map record_of added) world.new }
     ensures err { IfErr result (λ k. k < length events.now) }
+    ensures full { OnErr result (vec_capacity records.old < vec_len records.old + length world.old.kernel.vfs.answers + 2 * length events.now) }
 {
     world.is_first();
     for (k, event) in events.iter().enumerate() {
@@ -43,7 +45,9 @@ fn run_one<A: Allocator + Copy>(
     records: &mut Vec<Record, A>,
 ) -> bool
     ensures not_run { result ≡ false → (world.new ≡ world.old) × (records.new.items ≡ records.old.items) }
+    ensures full { result ≡ false → vec_capacity records.old < vec_len records.old + length world.old.kernel.vfs.answers + 2 }
     ensures ran { IsTrue result → (added : List RecordValue) × (records.new.items ≡ records.old.items ++ added) × Recorded world.old (event_of event.now ∷ []) (map record_of added) world.new }
+    ensures room { IsTrue result → vec_len records.new + length world.new.kernel.vfs.answers + vec_capacity records.old ≤ vec_len records.old + length world.old.kernel.vfs.answers + 2 + vec_capacity records.new }
 {
     world.is_first();
     let Some(room) = world.answered().checked_add(2) else {
@@ -67,6 +71,8 @@ fn collect_all<A: Allocator + Copy>(world: &mut WorldIn<A>, records: &mut Vec<Re
     requires { vec_len records.old + length world.old.kernel.vfs.answers ≤ vec_capacity records.old }
     ensures world { world.new ≡ collected world.old }
     ensures records { (added : List RecordValue) × (records.new.items ≡ records.old.items ++ added) × (map record_of added ≡ answers_of world.old.kernel.vfs.answers) }
+    ensures len { vec_len records.new ≡ vec_len records.old + length world.old.kernel.vfs.answers }
+    ensures capacity { vec_capacity records.old ≤ vec_capacity records.new }
 {
     world.is_first();
     while let Some((call, answer)) = world.collect() {

@@ -4,14 +4,14 @@ ghost use Rattle.std.specs.Prelude.{◌≡◌, ◌≤◌, ◌<◌, ◌++◌, ◌
 ghost use Rattle.std.specs.Vec.{vec_len, vec_capacity};
 ghost use Rattle.fuse_spec.specs.Events as event;
 ghost use Rattle.fuse_spec.specs.Maps.{remove};
-ghost use Rattle.fuse_spec.specs.Steps.{Happens, is_past};
+ghost use Rattle.fuse_spec.specs.Steps.{Happens, is_past, RefusedWith};
 ghost use Rattle.fuse_spec.specs.Worlds.{World as WorldState, first_world};
 ghost use Rattle.fuse_spec.specs.Plain.{first_plain};
 ghost use Rattle.fuse_spec.specs.Alike.{Alike};
 ghost use Rattle.fuse_theorem.specs.FirstWorld.{IsFirstWorld};
 ghost use Rattle.fk_kernel.specs.Values.{call_of, answer_of};
+ghost use Rattle.fw_world.specs.Frames.{IsLastFrame};
 ghost use Rattle.fw_world.specs.Values.{event_of, outcome_of, result_of};
-ghost use Rattle.fw_world.specs.Steps.{RefusedWith};
 
 use crate::event::{Event, Outcome};
 use fk_kernel::{Answer, Call, Kernel};
@@ -134,11 +134,19 @@ impl<A: Allocator + Copy> WorldIn<A> {
     }
 
     /// The request or reply frame that the last step put, if its link still has it.
-    pub fn last_put(&self) -> Option<&[u8]> {
+    pub fn last_put(&self) -> Option<&[u8]>
+        ensures { IfSome result (λ bytes. IsLastFrame self.now bytes.now) }
+    {
         match self.last_put {
             LastPut::Nothing => None,
-            LastPut::Request => Some(self.requests.last()?.bytes()),
-            LastPut::Reply => Some(self.replies.last()?.bytes()),
+            LastPut::Request => match self.requests.last() {
+                Some(frame) => Some(frame.bytes()),
+                None => None,
+            },
+            LastPut::Reply => match self.replies.last() {
+                Some(copy) => Some(copy.bytes()),
+                None => None,
+            },
         }
     }
 

@@ -1,9 +1,10 @@
-use Rattle.std.proofs.Common.{arith, ◌∙◌}
+use Rattle.std.proofs.Common.{arith, refl, ap, length, ◌∙◌}
+use Rattle.fuse_spec.specs.Worlds.{World}
 use Rattle.fw_world.proofs.Collecting.{none_yet, collects_one, collects_all}
 use Rattle.fw_world.proofs.runs.collect_all.Goals as goal
 
 pub loop-call-init : goal.loop-call-init
-loop-call-init g c = (none_yet c.args.world.now c.args.records.now.items c.is_first.ensures.more.rooted.answers, c.requires)
+loop-call-init g c = (none_yet c.args.world.now c.args.records.now.items c.is_first.ensures.more.rooted.answers, c.requires, refl, omega (arith))
 
 pub loop-call-smaller : goal.loop-call-smaller
 loop-call-smaller g c =
@@ -13,7 +14,7 @@ loop-call-smaller g c =
 pub loop-call-preserved : goal.loop-call-preserved
 loop-call-preserved g c =
     let one = collects_one c.args.world.now c.args.records.now.items c.loop-call.world c.loop-call.records.items c.loop-call.invariant.0 c.in-Some.call c.in-Some.answer c.in-Some.ensures.answer c.collect.new.self c.add.new.records.items c.in-Some.ensures.taken c.add.ensures.items in
-    (one.collects, omega (arith, one.fewer, c.loop-call.invariant.1, c.add.ensures.len, c.add.ensures.capacity))
+    (one.collects, omega (arith, one.fewer, c.loop-call.invariant.1, c.add.ensures.len, c.add.ensures.capacity), omega (arith, one.fewer, c.loop-call.invariant.2, c.add.ensures.len), omega (arith, c.loop-call.invariant.3, c.add.ensures.capacity))
 
 pub returns-clause-world : goal.returns-clause-world
 returns-clause-world g c =
@@ -24,3 +25,11 @@ pub returns-clause-records : goal.returns-clause-records
 returns-clause-records g c =
     let all = collects_all c.args.world.now c.args.records.now.items c.loop-call.world c.loop-call.records.items c.loop-call.invariant.0 c.in_default.ensures.answer in
     (all.1, all.2, all.3)
+
+pub returns-clause-len : goal.returns-clause-len
+returns-clause-len g c =
+    let all = collects_all c.args.world.now c.args.records.now.items c.loop-call.world c.loop-call.records.items c.loop-call.invariant.0 c.in_default.ensures.answer in
+    omega (arith, c.loop-call.invariant.2, ap (λ (w : World). length w.kernel.vfs.answers) all.0)
+
+pub returns-clause-capacity : goal.returns-clause-capacity
+returns-clause-capacity g c = c.loop-call.invariant.3

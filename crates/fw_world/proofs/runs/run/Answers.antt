@@ -1,21 +1,26 @@
 use Rattle.fw_world.specs.declared.event.Event.TheVariants.{Mount}
 use Rattle.fw_world.proofs.Recording.{none_ran, one_more, all_ran, comes_to, comes_as_before}
-use Rattle.std.proofs.Common.{take}
+use Rattle.std.proofs.Common.{take, arith}
 use Rattle.fw_world.proofs.runs.run.Goals as goal
 
 pub loop-k-init : goal.loop-k-init
-loop-k-init g c = none_ran c.args.world.now c.args.events.now c.args.records.now.items
+loop-k-init g c = (none_ran c.args.world.now c.args.events.now c.args.records.now.items, omega (arith))
 
 pub loop-k-preserved : goal.loop-k-preserved
-loop-k-preserved g c =
-    one_more c.args.world.now c.args.events.now c.args.records.now.items c.loop-k.world c.loop-k.records.items c.loop-k.k (Mount 0 0) c.run_one.new.world c.run_one.new.records.items c.loop-k-test.true c.loop-k.invariant (c.run_one.ensures.ran c.if-not-run_one.false)
+loop-k-preserved g c = (
+  one_more c.args.world.now c.args.events.now c.args.records.now.items c.loop-k.world c.loop-k.records.items c.loop-k.k (Mount 0 0) c.run_one.new.world c.run_one.new.records.items c.loop-k-test.true c.loop-k.invariant.0 (c.run_one.ensures.ran c.if-not-run_one.false),
+  omega (arith, c.loop-k.invariant.1, c.run_one.ensures.room c.if-not-run_one.false),
+)
 
 pub returns-then-not-run_one-clause-ran : goal.returns-then-not-run_one-clause-ran
 returns-then-not-run_one-clause-ran g c =
     let same = c.run_one.ensures.not_run c.if-not-run_one.true in
-    comes_as_before c.args.world.now c.is_first.ensures (take c.loop-k.k c.args.events.now) c.args.records.now.items c.loop-k.world c.run_one.new.world c.loop-k.records.items c.run_one.new.records.items c.loop-k.invariant same.0 same.1
+    comes_as_before c.args.world.now c.is_first.ensures (take c.loop-k.k c.args.events.now) c.args.records.now.items c.loop-k.world c.run_one.new.world c.loop-k.records.items c.run_one.new.records.items c.loop-k.invariant.0 same.0 same.1
 
 pub returns-clause-ran : goal.returns-clause-ran
 returns-clause-ran g c =
     comes_to c.args.world.now c.is_first.ensures c.args.events.now c.args.records.now.items c.loop-k.world c.loop-k.records.items
-    (all_ran c.args.world.now c.args.events.now c.loop-k.k c.loop-k-test.false c.args.records.now.items c.loop-k.world c.loop-k.records.items c.loop-k.invariant)
+    (all_ran c.args.world.now c.args.events.now c.loop-k.k c.loop-k-test.false c.args.records.now.items c.loop-k.world c.loop-k.records.items c.loop-k.invariant.0)
+
+pub returns-then-not-run_one-clause-full : goal.returns-then-not-run_one-clause-full
+returns-then-not-run_one-clause-full g c = omega (arith, c.loop-k.invariant.1, c.loop-k-test.true, c.run_one.ensures.full c.if-not-run_one.true)

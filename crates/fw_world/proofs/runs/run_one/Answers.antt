@@ -1,7 +1,8 @@
-use Rattle.std.proofs.Common.{◌+◌, ◌≤◌, sym, ◌∙◌, arith}
+use Rattle.std.proofs.Common.{◌+◌, ◌≤◌, sym, ap, length, ◌∙◌, arith}
+use Rattle.fuse_spec.specs.Worlds.{World}
 use Rattle.std.specs.Vec.{vec_len, vec_capacity}
 use Rattle.fw_world.specs.Values.{outcome_of}
-use Rattle.fw_world.proofs.Recording.{adds_refusal, adds_outcome, made_room, few_answers}
+use Rattle.fw_world.proofs.Recording.{adds_refusal, adds_outcome, made_room, wanted_room, few_answers}
 use Rattle.fw_world.proofs.runs.run_one.Goals as goal
 
 pub collect_all-requires : goal.collect_all-requires
@@ -17,4 +18,15 @@ returns-in-Ok-clause-ran g c ran =
 
 pub returns-in-Err-clause-ran : goal.returns-in-Err-clause-ran
 returns-in-Err-clause-ran g c ran =
-    adds_refusal c.args.world.now c.args.event.now c.in-Err.refusal c.args.records.now.items c.reserve.new.self.items c.add-in-Err.new.records.items c.step.new.self c.in-Err.ensures.err c.reserve.ensures.items c.add-in-Err.ensures.items
+    adds_refusal c.args.world.now c.args.event.now c.in-Err.refusal c.in-Err.ensures.refusal c.args.records.now.items c.reserve.new.self.items c.add-in-Err.new.records.items c.step.new.self c.in-Err.ensures.err c.reserve.ensures.items c.add-in-Err.ensures.items
+
+pub returns-in-Ok-clause-room : goal.returns-in-Ok-clause-room
+returns-in-Ok-clause-room g c ran =
+    let few = few_answers c.args.world.now c.is_first.ensures c.args.event.now (outcome_of c.in-Ok.outcome) c.step.new.self c.in-Ok.ensures.happens in
+    let none_left = ap (λ (w : World). length w.kernel.vfs.answers) c.collect_all.ensures.world in
+    omega (arith, few, none_left, c.reserve.ensures.len, c.reserve.ensures.capacity, c.add.ensures.len, c.add.ensures.capacity, c.collect_all.ensures.len, c.collect_all.ensures.capacity)
+
+pub returns-then-is_err-clause-full : goal.returns-then-is_err-clause-full
+returns-then-is_err-clause-full g c not_run =
+    let full = wanted_room c.reserve.result _ _ _ c.reserve.ensures.full (sym c.is_err.ensures.value ∙ c.if-is_err.true) in
+    omega (arith, full, c.in-Some.ensures.1, c.answered.ensures)
