@@ -177,3 +177,4 @@ pub mod OpensUsed
 pub mod OpensStay
 pub mod HoldsOpens
 pub mod OpenNeeds
+pub mod OpensOnce

@@ -23,3 +23,4 @@ pub mod NodesHeld
 pub mod Faultless
 pub mod RepliesFit
 pub mod OpenNumbers
+pub mod OpensOnce
