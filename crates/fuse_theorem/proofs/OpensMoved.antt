@@ -39,7 +39,7 @@ use Rattle.fuse_theorem.specs.Numbering.{IsNumbered}
 use Rattle.fuse_theorem.specs.OpenNumbers.{OpensApart, released_for, released_by, released_held, open_files, IsOfItsNode, OpensBalanced, OpensSound}
 use Rattle.fuse_theorem.proofs.MapSums.{Rises, worth, put_rises, gone_rises}
 use Rattle.fuse_theorem.proofs.NumbersStay.{replying_kernel, unheard}
-use Rattle.fuse_theorem.proofs.OpenSums.{kernel_sum, sent_sum, held_sum, open_sum, has_number, copies_carry, CountsOpens, counts_opens, opens_counted, none_failing, all_pass, failing}
+use Rattle.fuse_theorem.proofs.OpenSums.{kernel_sum, sent_sum, held_sum, open_sum, has_number, copies_carry, CountsOpens, counts_opens, opens_counted, none_failing, all_pass, failing, fewer_pass}
 use Rattle.fuse_theorem.proofs.OpensKept.{KeepsOpen, begun_keeps, signalled_keeps}
 use Rattle.fuse_theorem.proofs.OpensHeard.{HearsOpens, read_sum, written_heard}
 use Rattle.fuse_theorem.proofs.Happened.{Happened, by_mount, by_call, by_read_interrupt, by_read_forgets, by_read_pending, by_take, by_perform, by_again, by_write, by_settle, by_signal, by_tick, by_drop, by_evict, by_abort, happened}
@@ -50,11 +50,18 @@ use Rattle.fuse_theorem.proofs.Queuing.{All-at}
 
 -- ---- the kernel moves
 
+-- The kernel has the files that it had, those of the requests that went out among them.
+abbrev pub SameOpen : World → Kernel → List Request → Type 0
+SameOpen w k requests = (f : Opened → ℕ) → kernel_sum f k + sent_sum f requests ≡ kernel_sum f w.kernel + sent_sum f w.requests
+
 -- The kernel moves, and requests go out: the same files are open.
-pub kernel_moves : (w : World) → OpensBalanced w → (k : Kernel) (requests : List Request) → ((f : Opened → ℕ) → kernel_sum f k + sent_sum f requests ≡ kernel_sum f w.kernel + sent_sum f w.requests) → OpensBalanced (record w { kernel = k; requests = requests })
+pub open_same : (w : World) (k : Kernel) (requests : List Request) → SameOpen w k requests → (f : Opened → ℕ) → sum_by f (open_files (record w { kernel = k; requests = requests })) ≡ sum_by f (open_files w)
+open_same w k requests same f = let before = open_sum f w in let after = open_sum f (record w { kernel = k; requests = requests }) in let kept = same f in omega (arith, before, after, kept)
+
+pub kernel_moves : (w : World) → OpensBalanced w → (k : Kernel) (requests : List Request) → SameOpen w k requests → OpensBalanced (record w { kernel = k; requests = requests })
 kernel_moves w old k requests same = record {
-  balance = opens_counted v (λ fh. let was = counts_opens w old.balance fh in let sum = moved (has_number fh) in omega (arith, was, sum));
-  files = all_pass was_open (open_files v) (let sum = moved (failing was_open) in let none = none_failing was_open (open_files w) old.files in omega (arith, sum, none));
+  balance = opens_counted v (λ fh. let was = counts_opens w old.balance fh in let sum = open_same w k requests same (has_number fh) in omega (arith, was, sum));
+  files = fewer_pass was_open (open_files w) (open_files v) (λ f. let sum = open_same w k requests same f in omega (arith, sum)) old.files;
 }
   where
     v : World
@@ -63,28 +70,19 @@ kernel_moves w old k requests same = record {
     was_open : Opened → Bool
     was_open o = is_open w.server.handles o.fh (file_of w.server.nodes o.nodeid)
 
-    moved : (f : Opened → ℕ) → sum_by f (open_files (record w { kernel = k; requests = requests })) ≡ sum_by f (open_files w)
-    moved f = let before = open_sum f w in let after = open_sum f (record w { kernel = k; requests = requests }) in let kept = same f in omega (arith, before, after, kept)
+pub keeps_same : (w : World) (k : Kernel) → KeepsOpen w.kernel k None → SameOpen w k w.requests
+keeps_same w k kept f = let same = kept.sums f in omega (arith, same)
 
-pub keeps : (w : World) → OpensBalanced w → (k : Kernel) → KeepsOpen w.kernel k None → OpensBalanced (record w { kernel = k })
-keeps w old k kept = kernel_moves w old k w.requests (λ f. let same = kept.sums f in omega (arith, same))
-
-pub read_interrupt : (w : World) → OpensBalanced w → (original : ℕ) → OpensBalanced (after_read_interrupt w original)
-read_interrupt w old original =
-    let new : Request = record { unique = interrupt_number original; body = interrupt original } in
-    kernel_moves w old (record w.kernel { queues = queues.after_read_interrupt w.kernel.queues }) (w.requests ++ new ∷ [])
-    (λ f. let pushed = sum_by_push (λ (r : Request). sum_by f (released_by r.body)) w.requests new in omega (arith, pushed))
+pub interrupt_same : (w : World) (original : ℕ) → SameOpen w (after_read_interrupt w original).kernel (after_read_interrupt w original).requests
+interrupt_same w original f = let pushed = sum_by_push (λ (r : Request). sum_by f (released_by r.body)) w.requests (record { unique = interrupt_number original; body = interrupt original }) in omega (arith, pushed)
 
 -- A pending request is read, and releases on the link what it released before.
-pub read_pending : (w : World) → OpensBalanced w → (k unique : ℕ) (body : RequestBody) → ((f : Opened → ℕ) → kernel_sum f (record w.kernel { queues = queues.after_read_pending w.kernel.queues k }) + sum_by f (released_by body) ≡ kernel_sum f w.kernel)
-    → OpensBalanced (after_read_pending w k unique body)
-read_pending w old k unique body moved =
-    let new : Request = record { unique = unique; body = body } in
-    kernel_moves w old (record w.kernel { queues = queues.after_read_pending w.kernel.queues k }) (w.requests ++ new ∷ [])
-    (λ f.
-    let pushed = sum_by_push (λ (r : Request). sum_by f (released_by r.body)) w.requests new in
+pub pending_same : (w : World) (k unique : ℕ) (body : RequestBody) → ((f : Opened → ℕ) → kernel_sum f (record w.kernel { queues = queues.after_read_pending w.kernel.queues k }) + sum_by f (released_by body) ≡ kernel_sum f w.kernel)
+    → SameOpen w (after_read_pending w k unique body).kernel (after_read_pending w k unique body).requests
+pending_same w k unique body moved f =
+    let pushed = sum_by_push (λ (r : Request). sum_by f (released_by r.body)) w.requests (record { unique = unique; body = body }) in
     let same = moved f in
-    omega (arith, pushed, same))
+    omega (arith, pushed, same)
 
 -- forgets release nothing
 forgets_release : (f : Opened → ℕ) (fs : List Forget) → ◌≡◌ {A = ℕ} (sum_by f (released_by (forget_body fs))) 0
@@ -92,24 +90,19 @@ forgets_release f [] = refl
 forgets_release f (x ∷ []) = refl
 forgets_release f (x ∷ y ∷ fs) = refl
 
-pub read_forgets : (w : World) → OpensBalanced w → (n : ℕ) → OpensBalanced (after_read_forgets w n (take n w.kernel.queues.forgets))
-read_forgets w old n = by (queues.can_read_forgets w.kernel.queues n)
+pub forgets_same : (w : World) (n : ℕ) → SameOpen w (after_read_forgets w n (take n w.kernel.queues.forgets)).kernel (after_read_forgets w n (take n w.kernel.queues.forgets)).requests
+forgets_same w n f = by (queues.can_read_forgets w.kernel.queues n)
   where
-    new : Request
-    new = record { unique = w.kernel.queues.next; body = forget_body (take n w.kernel.queues.forgets) }
-
-    pushed : (f : Opened → ℕ) → sent_sum f (w.requests ++ new ∷ []) ≡ sent_sum f w.requests
-    pushed f =
-        let more = sum_by_push (λ (r : Request). sum_by f (released_by r.body)) w.requests new in
+    pushed : sent_sum f (w.requests ++ record { unique = w.kernel.queues.next; body = forget_body (take n w.kernel.queues.forgets) } ∷ []) ≡ sent_sum f w.requests
+    pushed =
+        let more = sum_by_push (λ (r : Request). sum_by f (released_by r.body)) w.requests (record { unique = w.kernel.queues.next; body = forget_body (take n w.kernel.queues.forgets) }) in
         let nothing = forgets_release f (take n w.kernel.queues.forgets) in
         omega (arith, more, nothing)
 
-    by : (b : Bool) → OpensBalanced (record w {
-      kernel = record w.kernel { queues = cond b (record w.kernel.queues { forgets = drop n w.kernel.queues.forgets; next = w.kernel.queues.next + 2 }) w.kernel.queues };
-      requests = w.requests ++ record { unique = w.kernel.queues.next; body = forget_body (take n w.kernel.queues.forgets) } ∷ [];
-    })
-    by true = kernel_moves w old (record w.kernel { queues = record w.kernel.queues { forgets = drop n w.kernel.queues.forgets; next = w.kernel.queues.next + 2 } }) (w.requests ++ new ∷ []) (λ f. let same = pushed f in omega (arith, same))
-    by false = kernel_moves w old w.kernel (w.requests ++ new ∷ []) (λ f. let same = pushed f in omega (arith, same))
+    by : (b : Bool) → kernel_sum f (record w.kernel { queues = cond b (record w.kernel.queues { forgets = drop n w.kernel.queues.forgets; next = w.kernel.queues.next + 2 }) w.kernel.queues })
+        + sent_sum f (w.requests ++ record { unique = w.kernel.queues.next; body = forget_body (take n w.kernel.queues.forgets) } ∷ []) ≡ kernel_sum f w.kernel + sent_sum f w.requests
+    by true = omega (arith, pushed)
+    by false = omega (arith, pushed)
 
 -- ---- a reply is written
 
@@ -123,7 +116,8 @@ module _ (w : World) (old : OpensBalanced w) (copies : CopiesSound w) (k : ℕ) 
   opens : Option Opened
   opens = heard.opens
 
-  moved : (f : Opened → ℕ) → sum_by f (open_files written) ≡ sum_by f (open_files w) + worth f heard.opens
+  -- What is opened is open beside the files that were.
+  pub moved : (f : Opened → ℕ) → sum_by f (open_files written) ≡ sum_by f (open_files w) + worth f heard.opens
   moved f =
       let before = open_sum f w in
       let after = open_sum f written in

@@ -43,7 +43,7 @@ use Rattle.fuse_theorem.proofs.OpenSums.{kernel_sum, sent_sum}
 use Rattle.fuse_theorem.proofs.OpensFit.{opened_fits}
 use Rattle.fuse_theorem.proofs.OpensHeard.{HearsOpens, read_sum, written_heard}
 use Rattle.fuse_theorem.proofs.OpensKept.{KeepsOpen, begun_keeps, signalled_keeps}
-use Rattle.fuse_theorem.proofs.OpensMoved.{kernel_moves, keeps, read_interrupt, read_forgets, read_pending, written_balanced}
+use Rattle.fuse_theorem.proofs.OpensMoved.{kernel_moves, keeps_same, interrupt_same, pending_same, forgets_same, written_balanced}
 use Rattle.fuse_theorem.proofs.OpensTables.{replying_server, taken_balanced, performed_balanced, again_balanced, settled_balanced}
 use Rattle.fuse_theorem.proofs.PerformedRest.{performed_rest}
 use Rattle.fuse_theorem.proofs.Queuing.{All-at}
@@ -180,10 +180,10 @@ module _ (choice : ℕ → ℕ) (w : World) (p : Plain) (both : BothSound w p) (
   balanced_after : (e : Event) (o : Outcome) (after : World) → MayStep choice w e → LookupsSound after → Happened choice w e o after → is_live after.kernel.phase ≡ true → OpensBalanced after
   balanced_after e o after may next (by_mount f m idle) live = fresh w f m
   balanced_after e o after may next (by_call call ready room within) live =
-      let goes = begun_goes_on w.kernel call in keeps w (old.balanced (sym (ap is_live goes.phase) ∙ live)) (call_begun w.kernel call) (begun_keeps w.kernel old.apart call)
-  balanced_after e o after may next (by_read_interrupt original rest was there within) live = read_interrupt w (old.balanced was) original
-  balanced_after e o after may next (by_read_forgets n was free can within) live = read_forgets w (old.balanced was) n
-  balanced_after e o after may next (by_read_pending k unique kept body was free there says within) live = read_pending w (old.balanced was) k unique body (read_sum w.kernel sound.queues k unique kept body there says)
+      let goes = begun_goes_on w.kernel call in kernel_moves w (old.balanced (sym (ap is_live goes.phase) ∙ live)) (call_begun w.kernel call) w.requests (keeps_same w (call_begun w.kernel call) (begun_keeps w.kernel old.apart call))
+  balanced_after e o after may next (by_read_interrupt original rest was there within) live = kernel_moves w (old.balanced was) after.kernel after.requests (interrupt_same w original)
+  balanced_after e o after may next (by_read_forgets n was free can within) live = kernel_moves w (old.balanced was) after.kernel after.requests (forgets_same w n)
+  balanced_after e o after may next (by_read_pending k unique kept body was free there says within) live = kernel_moves w (old.balanced was) after.kernel after.requests (pending_same w k unique body (read_sum w.kernel sound.queues k unique kept body there says))
   balanced_after e o after may next (by_take k r there within) live =
       let took = taking w.server r.unique r.body in
       let was = same_phase (after_take w k r.unique took) (replying_kernel (record w { requests = without_at w.requests k; server = took.server }) w.server.next_copy r.unique took.reply) live in
@@ -195,7 +195,7 @@ module _ (choice : ℕ → ℕ) (w : World) (p : Plain) (both : BothSound w p) (
   balanced_after e o after may next (by_again unique kept there current within) live = again_balanced w p both live releases old.held (old.balanced live) unique kept current next
   balanced_after e o after may next (by_write k sent there within) live = written k sent there
   balanced_after e o after may next (by_settle k result there) live = settled_balanced w p both live releases old.held (old.balanced live) k result there next
-  balanced_after e o after may next (by_signal call fatal state was there within) live = keeps w (old.balanced was) (call_signalled w.kernel call state fatal).1 (signalled_keeps w.kernel old.apart sound.queues call state there fatal)
+  balanced_after e o after may next (by_signal call fatal state was there within) live = kernel_moves w (old.balanced was) after.kernel w.requests (keeps_same w after.kernel (signalled_keeps w.kernel old.apart sound.queues call state there fatal))
   balanced_after e o after may next (by_tick ms timely) live = kernel_moves w (old.balanced live) (record w.kernel { vfs = later w.kernel.vfs ms }) w.requests (λ f. refl)
   balanced_after e o after may next (by_drop directory name bound was there) live = kernel_moves w (old.balanced was) (after_drop w directory name).kernel w.requests (λ f. refl)
   balanced_after e o after may next (by_evict node counted was there unused) live = kernel_moves w (old.balanced was) (after_evict w node counted).kernel w.requests (λ f. refl)

@@ -75,6 +75,20 @@ held_fits w old unique t at o is =
     let mine = All-get (λ (x : HeldRequest). All (IsOfItsNode w.server) (released_by x.body)) w.server.held unique t held at in
     All-head (IsOfItsNode w.server) o [] (subst (λ (b : RequestBody). All (IsOfItsNode w.server) (released_by b)) is mine)
 
+-- To take a request changes no open number.
+pub taken_handles : (w : World) (unique : ℕ) (body : RequestBody) → (taking w.server unique body).server.handles ≡ w.server.handles
+taken_handles w unique init = refl
+taken_handles w unique (asks operation) = refl
+taken_handles w unique (release o) = refl
+taken_handles w unique (forget f) = refl
+taken_handles w unique (batch_forget fs) = refl
+taken_handles w unique (interrupt original) = by (get w.server.held original) (get w.server.kept original)
+  where
+    by : (h : Option HeldRequest) (o : Option Kept) → (interrupting w.server unique original h o).server.handles ≡ w.server.handles
+    by (Some t) o = refl
+    by None (Some x) = refl
+    by None None = refl
+
 -- The server is the one that it was before the copy went out.
 pub replying_server : (w : World) (number unique : ℕ) (o : Option WireReply) → (replying w number unique o).server ≡ w.server
 replying_server w number unique None = refl
@@ -145,18 +159,9 @@ module _ (w : World) (p : Plain) (both : BothSound w p) (live : is_live w.kernel
         by None (Some x) n = n
         by None None n = n
 
-    taken_handles : (unique : ℕ) (body : RequestBody) → (taking w.server unique body).server.handles ≡ w.server.handles
-    taken_handles unique init = refl
-    taken_handles unique (asks operation) = refl
-    taken_handles unique (release o) = refl
-    taken_handles unique (forget f) = refl
-    taken_handles unique (batch_forget fs) = refl
-    taken_handles unique (interrupt original) = by (get w.server.held original) (get w.server.kept original)
-      where
-        by : (h : Option HeldRequest) (o : Option Kept) → (interrupting w.server unique original h o).server.handles ≡ w.server.handles
-        by (Some t) o = refl
-        by None (Some x) = refl
-        by None None = refl
+    -- The same files are open.
+    pub taken_files : (f : Opened → ℕ) → sum_by f (open_files (after_take w k r.unique (taking w.server r.unique r.body))) ≡ sum_by f (open_files w)
+    taken_files f = taken_sum w counts copies_sound server_sound rises k r.unique r.body there (All-at (λ (x : Request). BearsNumber x.unique x.body) w.requests k r requests.numbers there) not_held f
 
     pub taken_balanced : LookupsSound (after_take w k r.unique (taking w.server r.unique r.body)) → OpensBalanced (after_take w k r.unique (taking w.server r.unique r.body))
     taken_balanced after =
@@ -164,11 +169,10 @@ module _ (w : World) (p : Plain) (both : BothSound w p) (live : is_live w.kernel
         let left = record w { requests = without_at w.requests k; server = took.server } in
         let v = after_take w k r.unique took in
         let server : v.server ≡ took.server = replying_server left w.server.next_copy r.unique took.reply in
-        let sum = taken_sum w counts copies_sound server_sound rises k r.unique r.body there (All-at (λ (x : Request). BearsNumber x.unique x.body) w.requests k r requests.numbers there) not_held in
         tables_change v after (replying_kernel left w.server.next_copy r.unique took.reply)
         (λ i g a b d e. fewer_nodes v.server.nodes (λ j h file x. taken_denotes r.unique r.body j h file (subst (λ (s : Server). Denotes s.nodes j h file) server x)) i g a b d e)
-        (λ fh file x is. subst (λ (h : HandleTable). is_open h fh file ≡ true) (sym (ap (λ (s : Server). s.handles) server ∙ taken_handles r.unique r.body)) is)
-        (λ f. let same = sum f in omega (arith, same)) (taken_counts w counts copies_sound server_sound k r.unique r.body sum)
+        (λ fh file x is. subst (λ (h : HandleTable). is_open h fh file ≡ true) (sym (ap (λ (s : Server). s.handles) server ∙ taken_handles w r.unique r.body)) is)
+        (λ f. let same = taken_files f in omega (arith, same)) (taken_counts w counts copies_sound server_sound k r.unique r.body taken_files)
 
   -- ---- a request is performed
 
@@ -181,6 +185,25 @@ module _ (w : World) (p : Plain) (both : BothSound w p) (live : is_live w.kernel
         let gone = sum_gone (λ (x : HeldRequest). body_sum f x.body) w.server.held unique rises in
         let mine = ap (worth (λ (x : HeldRequest). body_sum f x.body)) there in
         omega (arith, gone, mine)
+
+    held_is : (performed choice less t).server.held ≡ remove w.server.held unique
+    held_is = let rest = performed_rest choice less t in rest.held
+
+    -- The same files are open but that of a RELEASE.
+    pub performed_files : (reply : Option WireReply) (f : Opened → ℕ) → sum_by f (open_files (replying (record w { server = (served choice w.server unique t).server }) w.server.next_copy unique reply)) + body_sum f t.body ≡ sum_by f (open_files w)
+    performed_files reply f = by reply
+      where
+        sum : sum_by f (open_files (record w { server = (served choice w.server unique t).server })) + body_sum f t.body ≡ sum_by f (open_files w)
+        sum =
+            let before = open_sum f w in
+            let after = open_sum f (record w { server = (served choice w.server unique t).server }) in
+            let gone = held_less f in
+            let same = ap (held_sum f) held_is in
+            omega (arith, before, after, gone, same)
+
+        by : (x : Option WireReply) → sum_by f (open_files (replying (record w { server = (served choice w.server unique t).server }) w.server.next_copy unique x)) + body_sum f t.body ≡ sum_by f (open_files w)
+        by None = sum
+        by (Some wire) = sum
 
     -- a RELEASE serves no call
     serves_none : (o : Opened) (kept : Purpose) → body_of w.kernel kept ≡ Some (release o) → serves_call kept ≡ false
@@ -231,17 +254,6 @@ module _ (w : World) (p : Plain) (both : BothSound w p) (live : is_live w.kernel
         nodes : Counts less (performed choice (record w.server { held = remove w.server.held unique }) t)
         nodes = performed_counts choice less server_sound.nodes t may
 
-        held_is : (performed choice (record w.server { held = remove w.server.held unique }) t).server.held ≡ remove w.server.held unique
-        held_is = let rest = performed_rest choice less t in rest.held
-
-        sum : (f : Opened → ℕ) → sum_by f (open_files (replying (record w { server = (served choice w.server unique t).server }) w.server.next_copy unique (Some (served choice w.server unique t).wire))) + body_sum f t.body ≡ sum_by f (open_files w)
-        sum f =
-            let before = open_sum f w in
-            let after = open_sum f (replying (record w { server = (served choice w.server unique t).server }) w.server.next_copy unique (Some (served choice w.server unique t).wire)) in
-            let gone = held_less f in
-            let same = ap (held_sum f) held_is in
-            omega (arith, before, after, gone, same)
-
         by : (b : Bool) → w.server.aborted ≡ b
             → (served choice w.server unique t).server.copies ≡ cond b w.server.copies (put w.server.copies w.server.next_copy (record { unique = unique; wire = (served choice w.server unique t).wire; first = w.server.next_copy }))
             → LookupsSound (replying (record w { server = (served choice w.server unique t).server }) w.server.next_copy unique (cond b None (Some (served choice w.server unique t).wire)))
@@ -249,9 +261,9 @@ module _ (w : World) (p : Plain) (both : BothSound w p) (live : is_live w.kernel
         by true aborted copies after = absurd (true≢false (sym aborted ∙ serving))
         by false alive copies after =
             let v = replying (record w { server = (served choice w.server unique t).server }) w.server.next_copy unique (Some (served choice w.server unique t).wire) in
-            tables_change v after refl (more_nodes v.server.nodes nodes.more) numbers.files (λ f. let less_is = sum f in omega (arith, less_is))
+            tables_change v after refl (more_nodes v.server.nodes nodes.more) numbers.files (λ f. let less_is = performed_files (Some (served choice w.server unique t).wire) f in omega (arith, less_is))
             (copy_out w counts copies_sound server_sound v (record { unique = unique; wire = (served choice w.server unique t).wire; first = w.server.next_copy }) copies refl refl
-            (λ fh. let change = numbers.counts fh in let files = sum (has_number fh) in omega (arith, change, files)))
+            (λ fh. let change = numbers.counts fh in let files = performed_files (Some (served choice w.server unique t).wire) (has_number fh) in omega (arith, change, files)))
 
   -- ---- copies are sent again and settled
 
