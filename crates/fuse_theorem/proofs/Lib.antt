@@ -178,3 +178,4 @@ pub mod OpensStay
 pub mod HoldsOpens
 pub mod OpenNeeds
 pub mod OpensOnce
+pub mod AllStaySound

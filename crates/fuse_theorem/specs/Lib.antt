@@ -24,3 +24,4 @@ pub mod Faultless
 pub mod RepliesFit
 pub mod OpenNumbers
 pub mod OpensOnce
+pub mod AllSound
