@@ -140,3 +140,5 @@ pub mod NumbersLeft
 pub mod StillOpen
 pub mod HeldNumbers
 pub mod BalancedNumbers
+pub mod UnderNumber
+pub mod ReadBefore

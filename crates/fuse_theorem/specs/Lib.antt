@@ -17,3 +17,4 @@ pub mod EveryList
 pub mod HeldKnown
 pub mod StillHeld
 pub mod StillOpen
+pub mod OnTheWay
