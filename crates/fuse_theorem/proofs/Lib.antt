@@ -142,3 +142,4 @@ pub mod HeldNumbers
 pub mod BalancedNumbers
 pub mod UnderNumber
 pub mod ReadBefore
+pub mod OnTheWay
