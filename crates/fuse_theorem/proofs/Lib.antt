@@ -143,3 +143,4 @@ pub mod BalancedNumbers
 pub mod UnderNumber
 pub mod ReadBefore
 pub mod OnTheWay
+pub mod NothingWaits

@@ -44,10 +44,10 @@ use Rattle.fuse_theorem.proofs.QueueMoves.{ReadsNone, begun_reads_none, signalle
 use Rattle.fuse_theorem.proofs.ReadBefore.{WasRead, read_before}
 use Rattle.fuse_theorem.proofs.RequestsAsked.{request_even, request_below}
 
-abbrev IsRequest : ℕ → Request → Type 0
+abbrev pub IsRequest : ℕ → Request → Type 0
 IsRequest unique r = (r.unique ≡ unique) × IsToBeHeld r.body
 
-abbrev IsCopy : ℕ → Sent → Type 0
+abbrev pub IsCopy : ℕ → Sent → Type 0
 IsCopy unique s = s.unique ≡ unique
 
 -- What is on its way in one world is so in another.

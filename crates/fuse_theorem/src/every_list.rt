@@ -1,8 +1,9 @@
 //! What holds of every world to which a list of events leads, and what single events need that follows from it. Each law says that the
 //! first world has it and that each event keeps it.
 
-ghost use Rattle.std.specs.Prelude.{Contains, ◌≡◌, ◌≢◌, ◌≤◌, ℕ, Ok, Some, slice_get, true};
-ghost use Rattle.fuse_spec.specs.Counts.{OpenBalance, open_in_kernel, opens_of};
+ghost use Rattle.std.specs.Prelude.{[], Contains, ◌≡◌, ◌≢◌, ◌≤◌, ℕ, Ok, Some, slice_get, true};
+ghost use Rattle.fuse_spec.specs.Queues.{processing};
+ghost use Rattle.fuse_spec.specs.Counts.{AtRest, OpenBalance, open_in_kernel, opens_of};
 ghost use Rattle.fuse_spec.specs.Vfs.{CallState, asked};
 ghost use Rattle.fuse_spec.specs.Kernel.{is_live};
 ghost use Rattle.fuse_spec.specs.Maps.{get, remove};
@@ -27,6 +28,7 @@ ghost use Rattle.fuse_theorem.specs.EachEvent.{CanServe, Needs};
 ghost use Rattle.fuse_theorem.specs.EveryList.{BothSound, NeedsBothAlone};
 ghost use Rattle.fuse_theorem.specs.HeldKnown.{HeldKnownWhileLive};
 ghost use Rattle.fuse_theorem.specs.KnownNodes.{NodesKnown};
+ghost use Rattle.fuse_theorem.specs.OnTheWay.{ReadAreOnTheirWay};
 ghost use Rattle.fuse_theorem.specs.StillHeld.{HeldReleasesKnown, NodesStillHeld, StillHeldAfterAbort};
 ghost use Rattle.fuse_theorem.specs.StillOpen.{HeldNumbersOpen, OpensAfterAbort};
 ghost use Rattle.fuse_theorem.specs.WorldSound.{WorldSound};
@@ -109,4 +111,13 @@ pub fn performs_need_no_more()
         (is_live w.kernel.phase ≡ true → (t : HeldRequest) (o : Opened) → get w.server.held unique ≡ Some t → t.body ≡ release o →
         (is_open w.server.handles o.fh (file_of w.server.nodes o.nodeid) ≡ true) × HoldsOpens (record w { server = record w.server { held = remove w.server.held unique } }) (handle_back w.server.handles o.fh)) →
         (choice : ℕ → ℕ) → MayStep choice w (event.perform unique) → Needs choice w p (event.perform unique) }
+{}
+
+/// While the mount is live, each request that was read and is unanswered is on the request link, or held, or a copy of its reply is on the reply link,
+/// whatever the event. So at rest no request that was read waits for its reply, and no call is unanswered.
+pub fn nothing_waits_at_rest()
+    ensures at_first { ReadAreOnTheirWay first_world }
+    ensures always { (w : World) → WorldSound w → LinksSound w → ReadAreOnTheirWay w → (e : Event) (o : Outcome) (after : World) → Happens w e o after → ReadAreOnTheirWay after }
+    ensures processing { (w : World) → WorldSound w → ReadAreOnTheirWay w → AtRest w → processing w.kernel.queues ≡ [] }
+    ensures calls { (w : World) (p : Plain) → WorldSound w → Alike w p → ReadAreOnTheirWay w → AtRest w → w.kernel.vfs.calls ≡ [] }
 {}
