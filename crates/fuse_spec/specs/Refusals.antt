@@ -67,7 +67,7 @@ pub data Leads (choice : ℕ → ℕ) (w : World) : Event → Outcome → World 
       → Leads choice w (event.evict node) (event.evicted node counted.count) (after_evict w node counted)
   aborts : is_live w.kernel.phase ≡ true → Leads choice w event.abort event.aborted (after_abort w)
 
--- The events that may draw a number.
+-- The events after which the counters are looked at.
 abbrev pub draws : Event → Bool
 draws (event.mount found_ms missing_ms) = false
 draws (event.settle k) = false

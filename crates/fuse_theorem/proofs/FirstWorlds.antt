@@ -14,7 +14,7 @@ use Rattle.fuse_spec.specs.Server.{Server, HeldRequest, repeated_unique, fault_o
 use Rattle.fuse_spec.specs.Worlds.{World, Sent, first_world}
 use Rattle.fuse_theorem.specs.FirstPath.{StatsRoot, IsFirstBody, first_init, first_lookup, first_getattr, OnlyRoot}
 use Rattle.fuse_theorem.specs.EachEvent.{IsRooted}
-use Rattle.fuse_theorem.specs.FirstWorld.{CallsSound, RequestsSound, CopiesSound, FirstKeeps}
+use Rattle.fuse_theorem.specs.FirstWorld.{FirstCallsSound, FirstRequestsSound, FirstCopiesSound, FirstKeeps}
 use Rattle.fuse_theorem.proofs.Finding.{same_is}
 
 -- what passes the test is counted
@@ -37,9 +37,9 @@ pub record IsCollected (c : Vfs Opened) (call : ℕ) : Type 0 where
 
 -- An event of the first path keeps what is sound, and a call whose answer was collected stays so.
 pub record StaysSound (w after : World) : Type 0 where
-  pub calls : CallsSound after.kernel.vfs
-  pub requests : RequestsSound after
-  pub copies : CopiesSound after.replies after.results after.server.copies after.server.next_copy
+  pub calls : FirstCallsSound after.kernel.vfs
+  pub requests : FirstRequestsSound after
+  pub copies : FirstCopiesSound after.replies after.results after.server.copies after.server.next_copy
   pub still_collected : (call : ℕ) → IsCollected w.kernel.vfs call → IsCollected after.kernel.vfs call
 
 -- a request for the root has no fault, where none is held and no reply is kept under its number
@@ -48,7 +48,7 @@ no_fault_at s unique body first_init held kept = λ i. cond (is_some (held i) ||
 no_fault_at s unique body (first_lookup name) held kept = λ i. cond (is_some (held i) || is_some (kept i)) (Some repeated_unique) None
 no_fault_at s unique body first_getattr held kept = λ i. cond (is_some (held i) || is_some (kept i)) (Some repeated_unique) None
 
-pub first_keeps : (w : World) → OnlyRoot w → IsRooted w.kernel.vfs → CallsSound w.kernel.vfs → RequestsSound w → CopiesSound w.replies w.results w.server.copies w.server.next_copy → FirstKeeps w
+pub first_keeps : (w : World) → OnlyRoot w → IsRooted w.kernel.vfs → FirstCallsSound w.kernel.vfs → FirstRequestsSound w → FirstCopiesSound w.replies w.results w.server.copies w.server.next_copy → FirstKeeps w
 first_keeps w root rooted calls requests copies = record {
   no_fault = λ i r lt.
       let request = get_or w.requests i r in

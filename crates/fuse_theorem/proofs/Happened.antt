@@ -59,7 +59,7 @@ pub data Happened (choice : ℕ → ℕ) (w : World) : Event → Outcome → Wor
   by_abort : is_live w.kernel.phase ≡ true → Happened choice w event.abort event.aborted (after_abort w)
 
 -- nothing is queued where the test of it says so
-none_queued : (xs : List ℕ) → not (nat_eq (length xs) 0) ≡ false → xs ≡ []
+pub none_queued : (xs : List ℕ) → not (nat_eq (length xs) 0) ≡ false → xs ≡ []
 none_queued [] e = refl
 none_queued (x ∷ xs) e = absurd (true≢false (sym (ap not (other_is (length (x ∷ xs)) 0 (λ q. absurd (omega (arith, q))))) ∙ e))
 

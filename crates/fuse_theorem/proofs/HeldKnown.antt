@@ -18,7 +18,6 @@ use Rattle.fuse_spec.specs.Denotes.{generation_known}
 use Rattle.fuse_spec.specs.Worlds.{World}
 use Rattle.fuse_theorem.specs.AskedRequests.{IsAsked}
 use Rattle.fuse_theorem.specs.Conditions.{KnownAreHeld}
-use Rattle.fuse_theorem.specs.HeldKnown.{HeldKnown}
 use Rattle.fuse_theorem.specs.KnownNodes.{IsKnown, NodesKnown}
 use Rattle.fuse_theorem.specs.Lookups.{IsHeldAs}
 use Rattle.fuse_theorem.proofs.KnownWalks.{StateKnown}
@@ -26,12 +25,12 @@ use Rattle.fuse_theorem.proofs.NodesKnown.{known_some, All-more}
 use Rattle.fuse_theorem.proofs.Values.{All-get}
 
 -- What a request of a call names is known.
-state_names : (nodes : Map Counted) (state : CallState Opened) → All (IsKnown nodes) (nodes_of_state state) → All (IsKnown nodes) (files_in opened_nodes (asked state))
+pub state_names : (nodes : Map Counted) (state : CallState Opened) → All (IsKnown nodes) (nodes_of_state state) → All (IsKnown nodes) (files_in opened_nodes (asked state))
 state_names nodes (walking d word words plan) h = All-cons (IsKnown nodes) d [] (All-head (IsKnown nodes) d _ h) (All-nil (IsKnown nodes))
 state_names nodes (doing operation) h = h
 state_names nodes (using handle operation) h = h
 
-names_known : (k : Kernel) → NodesKnown k → (unique : ℕ) (operation : Operation ℕ Opened) → IsAsked k unique (asks operation) → All (IsKnown k.nodes) (files_in opened_nodes operation)
+pub names_known : (k : Kernel) → NodesKnown k → (unique : ℕ) (operation : Operation ℕ Opened) → IsAsked k unique (asks operation) → All (IsKnown k.nodes) (files_in opened_nodes operation)
 names_known k known unique operation is = by is.request.kept is.asks
   where
     of_call : (o : Option (CallState Opened)) (call : ℕ) → get k.vfs.calls call ≡ o → asked_by o ≡ Some (asks operation) → All (IsKnown k.nodes) (files_in opened_nodes operation)
@@ -63,14 +62,16 @@ named_ids : (f : ℕ → ℕ) (ids : List ℕ) → map (λ (g : ℕ × ℕ). g.0
 named_ids f [] = refl
 named_ids f (id ∷ ids) = ap (λ (xs : List ℕ). id ∷ xs) (named_ids f ids)
 
--- A request that the server takes is held so.
-pub taken_held : (w : World) → KnownAreHeld w → NodesKnown w.kernel → (unique : ℕ) (body : RequestBody) → IsAsked w.kernel unique body → (t : HeldRequest) → t.body ≡ body → t.generations ≡ map (λ (id : ℕ). (id, generation_in (row_of w.server.nodes id))) (nodes_of_body body) → HeldKnown w t
-taken_held w held known unique body is t body_is generations_are = record {
+-- A held request's generations are of the nodes that it names, and where it is one of these, they are those that the kernel knows.
+pub record HeldOf (Which : RequestBody → Type 0) (w : World) (t : HeldRequest) : Type 0 where
+  pub names : map (λ (g : ℕ × ℕ). g.0) t.generations ≡ nodes_of_body t.body
+  pub known : Which t.body → All (λ (g : ℕ × ℕ). generation_known w.kernel.nodes g.0 ≡ Some g.1) t.generations
+
+-- A request that the server takes is held so, where the kernel knows what it names.
+pub taken_held : (Which : RequestBody → Type 0) (w : World) → KnownAreHeld w → (body : RequestBody) → (Which body → All (IsKnown w.kernel.nodes) (nodes_of_body body)) → (t : HeldRequest) → t.body ≡ body → t.generations ≡ map (λ (id : ℕ). (id, generation_in (row_of w.server.nodes id))) (nodes_of_body body) → HeldOf Which w t
+taken_held Which w held body known t body_is generations_are = record {
   names = ap (map (λ (g : ℕ × ℕ). g.0)) generations_are ∙ named_ids (λ id. generation_in (row_of w.server.nodes id)) (nodes_of_body body) ∙ ap nodes_of_body (sym body_is);
-  known = λ operation says.
-      let asks_is : body ≡ asks operation = sym body_is ∙ says in
-      subst (All (λ (g : ℕ × ℕ). generation_known w.kernel.nodes g.0 ≡ Some g.1)) (sym generations_are)
-      (taken_known w held (nodes_of_body body) (subst (λ (b : RequestBody). All (IsKnown w.kernel.nodes) (nodes_of_body b)) (sym asks_is) (names_known w.kernel known unique operation (subst (IsAsked w.kernel unique) asks_is is))));
+  known = λ which. subst (All (λ (g : ℕ × ℕ). generation_known w.kernel.nodes g.0 ≡ Some g.1)) (sym generations_are) (taken_known w held (nodes_of_body body) (known (subst Which body_is which)));
 }
 
 -- What the kernel knows, the server holds.

@@ -16,7 +16,7 @@ use Rattle.fuse_spec.specs.CallReplies.{call_replied}
 use Rattle.fuse_spec.specs.Copies.{kept_after, after_result}
 use Rattle.fuse_spec.specs.Maps.{Map, get, put, remove}
 use Rattle.fuse_spec.specs.Messages.{RequestBody, Request, init, asks, release, forget, batch_forget, interrupt, WireReply}
-use Rattle.fuse_spec.specs.Operations.{files_in_reply, done, failed}
+use Rattle.fuse_spec.specs.Operations.{Operation, files_in_reply, done, failed}
 use Rattle.fuse_spec.specs.QueueCalls.{waiting, without}
 use Rattle.fuse_spec.specs.Vfs.{CallState, asked, answered}
 use Rattle.fuse_spec.specs.Kernel.{Kernel, is_live, is_pinned, is_bound, kernel_aborted, after_use}
@@ -28,9 +28,9 @@ use Rattle.fuse_spec.specs.Denotes.{generation_known}
 use Rattle.fuse_spec.specs.Worlds.{World, first_world, replying, after_take, after_perform, after_settle}
 use Rattle.fuse_spec.specs.Events.{Event, Outcome}
 use Rattle.fuse_spec.specs.Steps.{Happens}
-use Rattle.fuse_theorem.specs.AskedRequests.{SentAsked, RequestsAskedWhileLive}
-use Rattle.fuse_theorem.specs.HeldKnown.{HeldKnown, HeldKnownWhileLive}
-use Rattle.fuse_theorem.specs.KnownNodes.{NodesKnown}
+use Rattle.fuse_theorem.specs.AskedRequests.{IsAsked, SentAsked, RequestsAskedWhileLive}
+use Rattle.fuse_theorem.specs.HeldKnown.{HeldKnownWhileLive}
+use Rattle.fuse_theorem.specs.KnownNodes.{IsKnown, NodesKnown}
 use Rattle.fuse_theorem.specs.Links.{LinksSound}
 use Rattle.fuse_theorem.specs.WorldSound.{WorldSound}
 use Rattle.fuse_theorem.proofs.CountsStay.{advanced_same, used_same, begun_same, signalled_same}
@@ -38,7 +38,7 @@ use Rattle.fuse_theorem.proofs.Evicting.{or_false, known_still}
 use Rattle.fuse_theorem.proofs.Finding.{same_is}
 use Rattle.fuse_theorem.proofs.GoingOn.{begun_goes_on}
 use Rattle.fuse_theorem.proofs.Happened.{Happened, by_mount, by_call, by_read_interrupt, by_read_forgets, by_read_pending, by_take, by_perform, by_again, by_write, by_settle, by_signal, by_tick, by_drop, by_evict, by_abort, happened}
-use Rattle.fuse_theorem.proofs.HeldKnown.{taken_held}
+use Rattle.fuse_theorem.proofs.HeldKnown.{HeldOf, names_known, taken_held}
 use Rattle.fuse_theorem.proofs.Learning.{learnt_known}
 use Rattle.fuse_theorem.proofs.LinksSound.{none_at}
 use Rattle.fuse_theorem.proofs.LookupsStay.{known_held}
@@ -119,71 +119,79 @@ apart_from nodes nodes' node same (g ∷ gs) none h =
 
 -- ---- every event
 
-carried : (w v : World) (t : HeldRequest) → Grows w.kernel.nodes v.kernel.nodes → HeldKnown w t → HeldKnown v t
-carried w v t grows old = record { names = old.names; known = λ operation is. All-more t.generations (λ g e. grows g.0 g.1 e) (old.known operation is) }
+module _ (Which : RequestBody → Type 0) where
+  carried : (w v : World) (t : HeldRequest) → Grows w.kernel.nodes v.kernel.nodes → HeldOf Which w t → HeldOf Which v t
+  carried w v t grows old = record { names = old.names; known = λ which. All-more t.generations (λ g e. grows g.0 g.1 e) (old.known which) }
 
-abbrev AllHeld : World → Map HeldRequest → Type 0
-AllHeld w held = (unique : ℕ) (t : HeldRequest) → get held unique ≡ Some t → HeldKnown w t
+  abbrev AllHeld : World → Map HeldRequest → Type 0
+  AllHeld w held = (unique : ℕ) (t : HeldRequest) → get held unique ≡ Some t → HeldOf Which w t
 
-module _ (choice : ℕ → ℕ) (w : World) (sound : WorldSound w) (requests : RequestsAskedWhileLive w) (links : LinksSound w) (nodes : NodesKnown w.kernel) (old : HeldKnownWhileLive w) where
+  abbrev pub HeldOfWhileLive : World → Type 0
+  HeldOfWhileLive w = is_live w.kernel.phase ≡ true → AllHeld w w.server.held
+
+  -- The kernel knows what it asks of these.
+  abbrev pub NamesKnown : World → Type 0
+  NamesKnown w = (unique : ℕ) (body : RequestBody) → IsAsked w.kernel unique body → Which body → All (IsKnown w.kernel.nodes) (nodes_of_body body)
+
+module _ (Which : RequestBody → Type 0) (choice : ℕ → ℕ) (w : World) (sound : WorldSound w) (requests : RequestsAskedWhileLive w) (links : LinksSound w) (named : NamesKnown Which w) (old : HeldOfWhileLive Which w) where
   module _ (live : is_live w.kernel.phase ≡ true) (k : ℕ) (r : Request) (at_k : slice_get w.requests k ≡ Some r) where
     was_sent : SentAsked w.kernel r.unique r.body
     was_sent = All-at (λ (x : Request). SentAsked w.kernel x.unique x.body) w.requests k r (requests live).sent at_k
 
-    now_held : (new : HeldRequest) → HeldKnown w new → AllHeld w (put w.server.held r.unique new)
-    now_held new known unique t at = elim (put_found w.server.held r.unique new unique t at) [ inl h ↦ subst (HeldKnown w) h.1 known | inr h ↦ old live unique t h ]
+    now_held : (new : HeldRequest) → HeldOf Which w new → AllHeld Which w (put w.server.held r.unique new)
+    now_held new known unique t at = elim (put_found w.server.held r.unique new unique t at) [ inl h ↦ subst (HeldOf Which w) h.1 known | inr h ↦ old live unique t h ]
 
-    now_marked : (original : ℕ) (t : HeldRequest) → get w.server.held original ≡ Some t → AllHeld w (put w.server.held original (record t { marked = true }))
+    now_marked : (original : ℕ) (t : HeldRequest) → get w.server.held original ≡ Some t → AllHeld Which w (put w.server.held original (record t { marked = true }))
     now_marked original t there unique x at = elim (put_found w.server.held original (record t { marked = true }) unique x at) [
-      | inl h ↦ let before = old live original t there in subst (HeldKnown w) h.1 (record { names = before.names; known = before.known })
+      | inl h ↦ let before = old live original t there in subst (HeldOf Which w) h.1 (record { names = before.names; known = before.known })
       | inr h ↦ old live unique x h
     ]
 
     -- the kernel is the same
-    carry : (v : World) → v.kernel ≡ w.kernel → AllHeld w v.server.held → AllHeld v v.server.held
-    carry v same each unique t at = carried w v t (same_grows w.kernel.nodes v.kernel.nodes (ap (λ (q : Kernel). q.nodes) same)) (each unique t at)
+    carry : (v : World) → v.kernel ≡ w.kernel → AllHeld Which w v.server.held → AllHeld Which v v.server.held
+    carry v same each unique t at = carried Which w v t (same_grows w.kernel.nodes v.kernel.nodes (ap (λ (q : Kernel). q.nodes) same)) (each unique t at)
 
     interrupts : (original : ℕ) (h : Option HeldRequest) → get w.server.held original ≡ h → (o : Option Kept)
-        → AllHeld (after_take w k r.unique (interrupting w.server r.unique original h o)) (after_take w k r.unique (interrupting w.server r.unique original h o)).server.held
+        → AllHeld Which (after_take w k r.unique (interrupting w.server r.unique original h o)) (after_take w k r.unique (interrupting w.server r.unique original h o)).server.held
     interrupts original (Some t) there o = carry (after_take w k r.unique (interrupting w.server r.unique original (Some t) o)) refl (now_marked original t there)
     interrupts original None there (Some x) = carry (after_take w k r.unique (interrupting w.server r.unique original None (Some x))) refl (old live)
     interrupts original None there None = carry (after_take w k r.unique (interrupting w.server r.unique original None None)) refl (old live)
 
-    takes : (body : RequestBody) → SentAsked w.kernel r.unique body → AllHeld (after_take w k r.unique (taking w.server r.unique body)) (after_take w k r.unique (taking w.server r.unique body)).server.held
-    takes init is = carry (after_take w k r.unique (taking w.server r.unique init)) refl (now_held _ (taken_held w (known_held w sound.lookups) nodes r.unique init is _ refl refl))
-    takes (asks operation) is = carry (after_take w k r.unique (taking w.server r.unique (asks operation))) refl (now_held _ (taken_held w (known_held w sound.lookups) nodes r.unique (asks operation) is _ refl refl))
-    takes (release o) is = carry (after_take w k r.unique (taking w.server r.unique (release o))) refl (now_held _ (taken_held w (known_held w sound.lookups) nodes r.unique (release o) is _ refl refl))
+    takes : (body : RequestBody) → SentAsked w.kernel r.unique body → AllHeld Which (after_take w k r.unique (taking w.server r.unique body)) (after_take w k r.unique (taking w.server r.unique body)).server.held
+    takes init is = carry (after_take w k r.unique (taking w.server r.unique init)) refl (now_held _ (taken_held Which w (known_held w sound.lookups) init (named r.unique init is) _ refl refl))
+    takes (asks operation) is = carry (after_take w k r.unique (taking w.server r.unique (asks operation))) refl (now_held _ (taken_held Which w (known_held w sound.lookups) (asks operation) (named r.unique (asks operation) is) _ refl refl))
+    takes (release o) is = carry (after_take w k r.unique (taking w.server r.unique (release o))) refl (now_held _ (taken_held Which w (known_held w sound.lookups) (release o) (named r.unique (release o) is) _ refl refl))
     takes (forget f) is = carry (after_take w k r.unique (taking w.server r.unique (forget f))) refl (old live)
     takes (batch_forget fs) is = carry (after_take w k r.unique (taking w.server r.unique (batch_forget fs))) refl (old live)
     takes (interrupt original) is = interrupts original (get w.server.held original) refl (get w.server.kept original)
 
-  performs : is_live w.kernel.phase ≡ true → (unique : ℕ) (t : HeldRequest) → AllHeld (after_perform w unique (served choice w.server unique t)) (after_perform w unique (served choice w.server unique t)).server.held
+  performs : is_live w.kernel.phase ≡ true → (unique : ℕ) (t : HeldRequest) → AllHeld Which (after_perform w unique (served choice w.server unique t)) (after_perform w unique (served choice w.server unique t)).server.held
   performs live unique t = by (cond w.server.aborted None (Some (served choice w.server unique t).wire))
     where
-      left : (u : ℕ) (x : HeldRequest) → get (served choice w.server unique t).server.held u ≡ Some x → HeldKnown w x
+      left : (u : ℕ) (x : HeldRequest) → get (served choice w.server unique t).server.held u ≡ Some x → HeldOf Which w x
       left u x at =
           let rest = performed_rest choice (record w.server { held = remove w.server.held unique }) t in
           old live u x (left_found w.server.held unique u x (ap (λ (m : Map HeldRequest). get m u) (sym rest.held) ∙ at))
 
-      by : (o : Option WireReply) → AllHeld (replying (record w { server = (served choice w.server unique t).server }) w.server.next_copy unique o) (replying (record w { server = (served choice w.server unique t).server }) w.server.next_copy unique o).server.held
-      by None u x at = carried w _ x (λ id generation e. e) (left u x at)
-      by (Some wire) u x at = carried w _ x (λ id generation e. e) (left u x at)
+      by : (o : Option WireReply) → AllHeld Which (replying (record w { server = (served choice w.server unique t).server }) w.server.next_copy unique o) (replying (record w { server = (served choice w.server unique t).server }) w.server.next_copy unique o).server.held
+      by None u x at = carried Which w _ x (λ id generation e. e) (left u x at)
+      by (Some wire) u x at = carried Which w _ x (λ id generation e. e) (left u x at)
 
-  settles : is_live w.kernel.phase ≡ true → (k : ℕ) (result : ReplyResult) (o : Option Copy) → AllHeld (after_settle w k result o) (after_settle w k result o).server.held
-  settles live k result None u x at = carried w _ x (λ id generation e. e) (old live u x at)
+  settles : is_live w.kernel.phase ≡ true → (k : ℕ) (result : ReplyResult) (o : Option Copy) → AllHeld Which (after_settle w k result o) (after_settle w k result o).server.held
+  settles live k result None u x at = carried Which w _ x (λ id generation e. e) (old live u x at)
   settles live k result (Some copy) u x at = by result.result at
     where
-      by : (r : WriteResult) → get (after_result (record w.server { copies = remove w.server.copies result.number; kept = kept_after w.server.kept copy (get w.server.kept copy.unique) }) copy.wire r).held u ≡ Some x → HeldKnown (after_settle w k result (Some copy)) x
-      by Accepted f = carried w _ x (λ id generation e. e) (old live u x f)
-      by NoEntry f = carried w _ x (λ id generation e. e) (old live u x f)
-      by Invalid f = carried w _ x (λ id generation e. e) (old live u x f)
+      by : (r : WriteResult) → get (after_result (record w.server { copies = remove w.server.copies result.number; kept = kept_after w.server.kept copy (get w.server.kept copy.unique) }) copy.wire r).held u ≡ Some x → HeldOf Which (after_settle w k result (Some copy)) x
+      by Accepted f = carried Which w _ x (λ id generation e. e) (old live u x f)
+      by NoEntry f = carried Which w _ x (λ id generation e. e) (old live u x f)
+      by Invalid f = carried Which w _ x (λ id generation e. e) (old live u x f)
 
   -- a node that is not pinned stands in no held request
-  evicts : is_live w.kernel.phase ≡ true → (node : ℕ) → is_pinned w.kernel node ≡ false → (v : World) → v.kernel.nodes ≡ remove w.kernel.nodes node → AllHeld v w.server.held
+  evicts : is_live w.kernel.phase ≡ true → (node : ℕ) → is_pinned w.kernel node ≡ false → (v : World) → v.kernel.nodes ≡ remove w.kernel.nodes node → AllHeld Which v w.server.held
   evicts live node unpinned v nodes_are u t at =
       let before = old live u t at in
       let is = (requests live).held u t at in
-      record { names = before.names; known = λ operation says. each before.names (of_asked w.kernel node unpinned u t.body is.is_asked) (before.known operation says) }
+      record { names = before.names; known = λ which. each before.names (of_asked w.kernel node unpinned u t.body is.is_asked) (before.known which) }
     where
       apart : (gs : List (ℕ × ℕ)) → list_any (nat_eq node) (map (λ (g : ℕ × ℕ). g.0) gs) ≡ false → All (λ (g : ℕ × ℕ). generation_known w.kernel.nodes g.0 ≡ Some g.1) gs → All (λ (g : ℕ × ℕ). generation_known v.kernel.nodes g.0 ≡ Some g.1) gs
       apart gs none h = apart_from w.kernel.nodes v.kernel.nodes node nodes_are gs none h
@@ -192,18 +200,18 @@ module _ (choice : ℕ → ℕ) (w : World) (sound : WorldSound w) (requests : R
           → All (λ (g : ℕ × ℕ). generation_known v.kernel.nodes g.0 ≡ Some g.1) t.generations
       each names none h = apart t.generations (ap (list_any (nat_eq node)) names ∙ none) h
 
-  by_event : (e : Event) (o : Outcome) (after : World) → Happened choice w e o after → HeldKnownWhileLive after
+  by_event : (e : Event) (o : Outcome) (after : World) → Happened choice w e o after → HeldOfWhileLive Which after
   by_event e o after (by_mount f m idle) live = λ u x at. absurd (cc)
   by_event e o after (by_call call ready room within) live = λ u x at.
       let goes = begun_goes_on w.kernel call in
       let same = begun_same w.kernel call in
-      carried w after x (same_grows w.kernel.nodes after.kernel.nodes same.nodes) (old (ap is_live (sym goes.phase) ∙ live) u x at)
-  by_event e o after (by_read_interrupt original rest lives there within) live = λ u x at. carried w after x (λ id generation e. e) (old lives u x at)
-  by_event e o after (by_read_forgets n lives free can within) live = λ u x at. carried w after x (λ id generation e. e) (old lives u x at)
-  by_event e o after (by_read_pending k unique kept body lives free there says within) live = λ u x at. carried w after x (λ id generation e. e) (old lives u x at)
+      carried Which w after x (same_grows w.kernel.nodes after.kernel.nodes same.nodes) (old (ap is_live (sym goes.phase) ∙ live) u x at)
+  by_event e o after (by_read_interrupt original rest lives there within) live = λ u x at. carried Which w after x (λ id generation e. e) (old lives u x at)
+  by_event e o after (by_read_forgets n lives free can within) live = λ u x at. carried Which w after x (λ id generation e. e) (old lives u x at)
+  by_event e o after (by_read_pending k unique kept body lives free there says within) live = λ u x at. carried Which w after x (λ id generation e. e) (old lives u x at)
   by_event e o after (by_take k r there within) live = by (is_live w.kernel.phase) refl
     where
-      by : (b : Bool) → is_live w.kernel.phase ≡ b → AllHeld after after.server.held
+      by : (b : Bool) → is_live w.kernel.phase ≡ b → AllHeld Which after after.server.held
       by true lives = takes lives k r there r.body (was_sent lives k r there)
       by false dead = none_at w.requests k r (links.idle dead).requests there
   by_event e o after (by_perform unique t there within) live = by (is_live w.kernel.phase) refl
@@ -212,27 +220,40 @@ module _ (choice : ℕ → ℕ) (w : World) (sound : WorldSound w) (requests : R
       same v number unique None = refl
       same v number unique (Some wire) = refl
 
-      by : (b : Bool) → is_live w.kernel.phase ≡ b → AllHeld after after.server.held
+      by : (b : Bool) → is_live w.kernel.phase ≡ b → AllHeld Which after after.server.held
       by true lives = performs lives unique t
       by false dead = absurd (true≢false (sym live ∙ same (record w { server = (served choice w.server unique t).server }) w.server.next_copy unique (cond w.server.aborted None (Some (served choice w.server unique t).wire)) ∙ dead))
-  by_event e o after (by_again unique kept there current within) live = λ u x at. carried w after x (λ id generation e. e) (old live u x at)
+  by_event e o after (by_again unique kept there current within) live = λ u x at. carried Which w after x (λ id generation e. e) (old live u x at)
   by_event e o after (by_write k sent there within) live = by (is_live w.kernel.phase) refl
     where
-      by : (b : Bool) → is_live w.kernel.phase ≡ b → AllHeld after after.server.held
-      by true lives u x at = carried w after x (written_grows w.kernel sent.unique sent.wire live) (old lives u x at)
+      by : (b : Bool) → is_live w.kernel.phase ≡ b → AllHeld Which after after.server.held
+      by true lives u x at = carried Which w after x (written_grows w.kernel sent.unique sent.wire live) (old lives u x at)
       by false dead u x at = none_at w.replies k sent (links.idle dead).replies there
   by_event e o after (by_settle k result there) live = settles live k result (get w.server.copies result.number)
   by_event e o after (by_signal call fatal state lives there within) live = λ u x at.
       let same = signalled_same w.kernel call state fatal in
-      carried w after x (same_grows w.kernel.nodes after.kernel.nodes same.nodes) (old lives u x at)
-  by_event e o after (by_tick ms timely) live = λ u x at. carried w after x (λ id generation e. e) (old live u x at)
-  by_event e o after (by_drop directory name bound lives there) live = λ u x at. carried w after x (λ id generation e. e) (old lives u x at)
+      carried Which w after x (same_grows w.kernel.nodes after.kernel.nodes same.nodes) (old lives u x at)
+  by_event e o after (by_tick ms timely) live = λ u x at. carried Which w after x (λ id generation e. e) (old live u x at)
+  by_event e o after (by_drop directory name bound lives there) live = λ u x at. carried Which w after x (λ id generation e. e) (old lives u x at)
   by_event e o after (by_evict node counted lives there unused) live = evicts lives node (or_false (is_pinned w.kernel node) (is_bound w.kernel node) unused).0 after refl
   by_event e o after (by_abort lives) live = λ u x at. absurd (true≢false (sym live))
 
--- What is held of calls is named as the kernel knows it, whatever the event.
+-- Of the requests whose nodes the kernel knows, what is held is named as it knows them, whatever the event.
+pub held_of_stay : (Which : RequestBody → Type 0) (w : World) → WorldSound w → RequestsAskedWhileLive w → LinksSound w → NamesKnown Which w → HeldOfWhileLive Which w → (e : Event) (o : Outcome) (after : World) → Happens w e o after → HeldOfWhileLive Which after
+held_of_stay Which w sound requests links named old e o after h = by_event Which h.0 w sound requests links named old e o after (happened h.0 w o after e h.2)
+
+abbrev OfCalls : RequestBody → Type 0
+OfCalls body = (operation : Operation ℕ Opened) × (body ≡ asks operation)
+
+-- So it is of the requests of calls.
 pub held_stay_known : (w : World) → WorldSound w → RequestsAskedWhileLive w → LinksSound w → NodesKnown w.kernel → HeldKnownWhileLive w → (e : Event) (o : Outcome) (after : World) → Happens w e o after → HeldKnownWhileLive after
-held_stay_known w sound requests links nodes old e o after h = by_event h.0 w sound requests links nodes old e o after (happened h.0 w o after e h.2)
+held_stay_known w sound requests links nodes old e o after h live u t at =
+    let stays = held_of_stay OfCalls w sound requests links named (λ alive v x there. let was = old alive v x there in record { names = was.names; known = λ which. was.known which.0 which.1 }) e o after h live u t at in
+    record { names = stays.names; known = λ operation is. stays.known (operation, is) }
+  where
+    named : NamesKnown OfCalls w
+    named unique body is which =
+        subst (λ (b : RequestBody). All (IsKnown w.kernel.nodes) (nodes_of_body b)) (sym which.1) (names_known w.kernel nodes unique which.0 (subst (IsAsked w.kernel unique) which.1 is))
 
 pub first_held : HeldKnownWhileLive first_world
 first_held live u x at = absurd (cc)

@@ -64,7 +64,7 @@ known_some nodes id known = by (generation_known nodes id) refl
     by None e = absurd (known e)
     by (Some g) e = (g, e)
 
-learnt_more : (gs : List Entry) (nodes : Map Counted) (id : ℕ) → IsKnown nodes id → IsKnown (learnt nodes gs) id
+pub learnt_more : (gs : List Entry) (nodes : Map Counted) (id : ℕ) → IsKnown nodes id → IsKnown (learnt nodes gs) id
 learnt_more gs nodes id known = let some = known_some nodes id known in some_known (learnt nodes gs) id some.0 (learnt_known gs nodes id some.0 some.1)
 
 -- what a reply names is known from then on
@@ -182,9 +182,13 @@ write_known k old root unique wire = by (nat_eq (unique % 2) 1)
 
 -- ---- a node is given up
 
+-- Another node is known still.
+pub still_known : (nodes : Map Counted) (node id : ℕ) → id ≢ node → IsKnown nodes id → IsKnown (remove nodes node) id
+still_known nodes node id ne known = let some = known_some nodes id known in some_known (remove nodes node) id some.0 (known_still nodes node id some.0 ne some.1)
+
 module _ (k : Kernel) (old : NodesKnown k) (root : k.vfs.root ≡ 1) (node : ℕ) (counted : Counted) (there : get k.nodes node ≡ Some counted) (low : 2 ≤ node) (unpinned : is_pinned k node ≡ false) (free : is_bound k node ≡ false) where
   still : (id : ℕ) → id ≢ node → IsKnown k.nodes id → IsKnown (remove k.nodes node) id
-  still id ne known = let some = known_some k.nodes id known in some_known (remove k.nodes node) id some.0 (known_still k.nodes node id some.0 ne some.1)
+  still id ne known = still_known k.nodes node id ne known
 
   abbrev OfCalls : CallState Opened → Bool
   OfCalls state = list_any (nat_eq node) (nodes_of_state state)

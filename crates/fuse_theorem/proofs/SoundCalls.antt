@@ -23,7 +23,7 @@ use Rattle.fuse_spec.proofs.QueueCounts.{count_by-push}
 use Rattle.fuse_spec.proofs.QueueReadings.{pending-enqueue, request_under-enqueue, request_under-enqueue_other}
 use Rattle.fuse_theorem.specs.Numbering.{IsNumbered}
 use Rattle.fuse_theorem.specs.FirstPath.{unperformed, OnlyRoot}
-use Rattle.fuse_theorem.specs.FirstWorld.{CallsSound, RequestsSound, FirstKeeps}
+use Rattle.fuse_theorem.specs.FirstWorld.{FirstCallsSound, FirstRequestsSound, FirstKeeps}
 use Rattle.fuse_theorem.proofs.Advancing.{StepsAlone, begun_alone}
 use Rattle.fuse_theorem.proofs.Calling.{live_if_ready}
 use Rattle.fuse_theorem.proofs.Ending.{is_get_none}
@@ -35,9 +35,9 @@ use Rattle.fuse_theorem.proofs.FirstSteps.{none_next}
 use Rattle.fuse_theorem.proofs.FirstWorlds.{IsCollected, StaysSound}
 
 -- A call that has no answer takes a step.
-module _ (c : Vfs Opened) (sound : CallsSound c) (coming call : ℕ) (next : Advance Opened) (alone : StepsAlone c.calls coming call next) (stays : StaysAtRoot c call next)
+module _ (c : Vfs Opened) (sound : FirstCallsSound c) (coming call : ℕ) (next : Advance Opened) (alone : StepsAlone c.calls coming call next) (stays : StaysAtRoot c call next)
     (low : call < coming) (later : c.next_call ≤ coming) (unanswered : get c.answers call ≡ None) where
-  pub advanced_calls : CallsSound next.vfs
+  pub advanced_calls : FirstCallsSound next.vfs
   advanced_calls = record {
     states = stays.states sound.states;
     answered = λ q a at.
@@ -60,7 +60,7 @@ module _ (c : Vfs Opened) (sound : CallsSound c) (coming call : ℕ) (next : Adv
       record { begun = omega (arith, below, later, coming_is); not_waiting = alone.others q ne ∙ old.not_waiting; no_answer = stays.other_answers q ne ∙ old.no_answer }
 
 -- A request is queued.
-module _ (w : World) (numbered : IsNumbered w) (live : is_live w.kernel.phase ≡ true) (sound : RequestsSound w) (vfs : Vfs Opened) (kept : Purpose) where
+module _ (w : World) (numbered : IsNumbered w) (live : is_live w.kernel.phase ≡ true) (sound : FirstRequestsSound w) (vfs : Vfs Opened) (kept : Purpose) where
   abbrev q0 : QueueState Purpose
   q0 = w.kernel.queues
 
@@ -93,7 +93,7 @@ module _ (w : World) (numbered : IsNumbered w) (live : is_live w.kernel.phase �
       at_most true pushed none = omega (arith, pushed, none)
       at_most false pushed none = omega (arith, pushed, none)
 
-  pub queued_sound : RequestsSound queued
+  pub queued_sound : FirstRequestsSound queued
   queued_sound = record {
     bodies = sound.bodies;
     once = once_queued;
@@ -126,7 +126,7 @@ module _ (w : World) (p : Plain) (numbered : IsNumbered w) (root : OnlyRoot w) (
       stays : StaysAtRoot c c.next_call next
       stays = begun_at_root (is_aborted w.kernel.phase) c root.names root.root path
 
-      calls : CallsSound next.vfs
+      calls : FirstCallsSound next.vfs
       calls = advanced_calls c more.calls (c.next_call + 1) c.next_call next alone stays (omega arith) (omega arith) unanswered
 
       still_collected : (q : ℕ) → IsCollected c q → IsCollected next.vfs q

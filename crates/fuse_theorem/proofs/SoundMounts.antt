@@ -20,7 +20,7 @@ use Rattle.fuse_spec.specs.Events.{Outcome}
 use Rattle.fuse_spec.specs.Events as event
 use Rattle.fuse_spec.specs.Steps.{step}
 use Rattle.fuse_theorem.specs.FirstPath.{StatsRoot, IsFirstBody, OnlyRoot}
-use Rattle.fuse_theorem.specs.FirstWorld.{CallsSound, RequestsSound, CopiesSound, FirstKeeps}
+use Rattle.fuse_theorem.specs.FirstWorld.{FirstCallsSound, FirstRequestsSound, FirstCopiesSound, FirstKeeps}
 use Rattle.fuse_theorem.proofs.FirstMounts.{mounts_anew}
 use Rattle.fuse_theorem.proofs.FirstWorlds.{IsCollected, StaysSound}
 
@@ -35,7 +35,7 @@ module _ (c : Vfs Opened) (no_calls : c.calls ≡ []) where
   answer_at : (call : ℕ) → get (given_up c).answers call ≡ get c.answers call
   answer_at call = ap (λ (m : Map Answer). get m call) same_answers
 
-  pub given_up_sound : CallsSound c → CallsSound (given_up c)
+  pub given_up_sound : FirstCallsSound c → FirstCallsSound (given_up c)
   given_up_sound sound = record { states = All-nil StatsRoot; answered = λ call a at. (refl, (sound.answered call a (sym (answer_at call) ∙ at)).1) }
 
   pub given_up_collected : (call : ℕ) → IsCollected c call → IsCollected (given_up c) call
@@ -46,7 +46,7 @@ module _ (w : World) (found_ms missing_ms : ℕ) where
   mounted = after_mount w found_ms missing_ms
 
   -- INIT alone is queued, unread
-  init_queued : RequestsSound mounted
+  init_queued : FirstRequestsSound mounted
   init_queued = record {
     bodies = All-nil (λ (t : HeldRequest). IsFirstBody t.body);
     once = λ u. at_most (nat_eq u 2);
@@ -63,7 +63,7 @@ module _ (w : World) (found_ms missing_ms : ℕ) where
           cc (ap (λ (x : QueuedRequest Purpose). is_unread x.mark) is_new, is_read)
       unread false r under is_read = cc
 
-  no_copies : CopiesSound mounted.replies mounted.results mounted.server.copies mounted.server.next_copy
+  no_copies : FirstCopiesSound mounted.replies mounted.results mounted.server.copies mounted.server.next_copy
   no_copies = record {
     names_none = All-nil (λ (sent : Sent). (files_in_reply sent.wire ≡ []) × (opens_in_reply sent.wire ≡ []));
     none_invalid = All-nil (λ (r : ReplyResult). r.result ≢ Invalid);
@@ -71,7 +71,7 @@ module _ (w : World) (found_ms missing_ms : ℕ) where
     below = λ number copy at. absurd (cc);
   }
 
-  pub mounted_sound : w.kernel.vfs.calls ≡ [] → CallsSound w.kernel.vfs → StaysSound w mounted
+  pub mounted_sound : w.kernel.vfs.calls ≡ [] → FirstCallsSound w.kernel.vfs → StaysSound w mounted
   mounted_sound no_calls calls = record {
     calls = given_up_sound w.kernel.vfs no_calls calls;
     requests = init_queued;

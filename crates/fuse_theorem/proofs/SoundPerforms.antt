@@ -16,7 +16,7 @@ use Rattle.fuse_spec.proofs.QueueCounts.{count_by-push}
 use Rattle.fuse_spec.proofs.Tables.{get_put_here, get_put_there, get_gone_here, get_gone_there}
 use Rattle.fuse_theorem.specs.Numbering.{IsNumbered}
 use Rattle.fuse_theorem.specs.FirstPath.{IsFirstBody, OnlyRoot}
-use Rattle.fuse_theorem.specs.FirstWorld.{outstanding, RequestsSound, CopiesSound, FirstKeeps}
+use Rattle.fuse_theorem.specs.FirstWorld.{outstanding, FirstRequestsSound, FirstCopiesSound, FirstKeeps}
 use Rattle.fuse_theorem.proofs.Ending.{is_get_none}
 use Rattle.fuse_theorem.proofs.Finding.{same_is, other_is}
 use Rattle.fuse_theorem.proofs.FirstPerforms.{ServesRequest, serves_request, parts, first_names_none}
@@ -25,7 +25,7 @@ use Rattle.fuse_theorem.proofs.FirstWorlds.{StaysSound}
 use Rattle.fuse_theorem.proofs.Values.{All-gone}
 
 -- A copy goes onto the reply link, under the coming number.
-module _ (replies : List Sent) (results : List ReplyResult) (copies : Map Copy) (next : ℕ) (sound : CopiesSound replies results copies next) (sent : Sent) (copy : Copy) (numbered : sent.number ≡ next)
+module _ (replies : List Sent) (results : List ReplyResult) (copies : Map Copy) (next : ℕ) (sound : FirstCopiesSound replies results copies next) (sent : Sent) (copy : Copy) (numbered : sent.number ≡ next)
     (names_none : (files_in_reply sent.wire ≡ []) × (opens_in_reply sent.wire ≡ [])) where
   -- the coming number is no copy's
   none_next : get copies next ≡ None
@@ -49,7 +49,7 @@ module _ (replies : List Sent) (results : List ReplyResult) (copies : Map Copy) 
             rw (get_put_there copies next copy n ne) (omega (arith, old, one))
       ]
 
-  pub sent_sound : CopiesSound (replies ++ sent ∷ []) results (put copies next copy) (next + 1)
+  pub sent_sound : FirstCopiesSound (replies ++ sent ∷ []) results (put copies next copy) (next + 1)
   sent_sound = record {
     names_none = All-push (λ (s : Sent). (files_in_reply s.wire ≡ []) × (opens_in_reply s.wire ≡ [])) replies sent sound.names_none names_none;
     none_invalid = sound.none_invalid;
@@ -73,7 +73,7 @@ module _ (w : World) (p : Plain) (numbered : IsNumbered w) (root : OnlyRoot w) (
   is_held : is_some (get w.server.held unique) ≡ true
   is_held = ap is_some there
 
-  performed_requests : RequestsSound here
+  performed_requests : FirstRequestsSound here
   performed_requests = record {
     bodies = All-gone (λ (x : HeldRequest). IsFirstBody x.body) w.server.held unique more.requests.bodies;
     once = λ u.

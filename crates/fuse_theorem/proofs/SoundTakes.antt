@@ -18,7 +18,7 @@ use Rattle.fuse_spec.proofs.QueueReadings.{request_under-mark_other}
 use Rattle.fuse_spec.proofs.Tables.{get_put_here, get_put_there}
 use Rattle.fuse_theorem.specs.Numbering.{IsNumbered}
 use Rattle.fuse_theorem.specs.FirstPath.{IsFirstBody, Serves, OnlyRoot}
-use Rattle.fuse_theorem.specs.FirstWorld.{RequestsSound, FirstKeeps}
+use Rattle.fuse_theorem.specs.FirstWorld.{FirstRequestsSound, FirstKeeps}
 use Rattle.fuse_theorem.proofs.Finding.{same_is, other_is}
 use Rattle.fuse_theorem.proofs.FirstReads.{ReadsRequest, reads_request, is_marked, as_many}
 use Rattle.fuse_theorem.proofs.FirstReads as reads
@@ -39,7 +39,7 @@ module _ (w : World) (p : Plain) (numbered : IsNumbered w) (root : OnlyRoot w) (
       let is_here : here ≡ after =
       ap (λ (q : QueueState Purpose). record w { kernel = record w.kernel { queues = q }; requests = w.requests ++ new ∷ [] }) (sym (is_marked w p numbered root same place e did.body did.found did.asks did.live)) ∙ did.leads.after_is in
       let requests = more.requests in
-      let sound : RequestsSound here = record {
+      let sound : FirstRequestsSound here = record {
         bodies = requests.bodies;
         once = λ u. let many = as_many w p numbered root same place e did.body did.found did.asks did.live u in let once = requests.once u in omega (arith, many, once);
         read = λ u r under is_read.
@@ -65,7 +65,7 @@ module _ (w : World) (p : Plain) (numbered : IsNumbered w) (root : OnlyRoot w) (
       let new = takes.new w p numbered root same place r did.found in
       let requests = more.requests in
       let first = All-at (λ (x : Request). IsFirstBody x.body × Serves w.kernel x.unique x.body) w.requests place r root.sent did.found in
-      let sound : RequestsSound here = record {
+      let sound : FirstRequestsSound here = record {
         bodies = All-put (λ (t : HeldRequest). IsFirstBody t.body) w.server.held r.unique new requests.bodies first.0;
         once = λ u. let fewer = no_more w p numbered root same place r did.found u in let once = requests.once u in omega (arith, fewer, once);
         read = λ u x under is_read. elim (cases_eq u r.unique) [

@@ -32,7 +32,7 @@ use Rattle.fuse_spec.proofs.QueueCounts.{count_by-push}
 use Rattle.fuse_spec.proofs.QueueReadings.{pending-answer, request_under-without, request_under-without_other}
 use Rattle.fuse_theorem.specs.Numbering.{IsNumbered}
 use Rattle.fuse_theorem.specs.FirstPath.{OnlyRoot}
-use Rattle.fuse_theorem.specs.FirstWorld.{CallsSound, RequestsSound, CopiesSound, FirstKeeps}
+use Rattle.fuse_theorem.specs.FirstWorld.{FirstCallsSound, FirstRequestsSound, FirstCopiesSound, FirstKeeps}
 use Rattle.fuse_theorem.proofs.Advancing.{call_replied_alone}
 use Rattle.fuse_theorem.proofs.Ending.{is_get_none}
 use Rattle.fuse_theorem.proofs.Finding.{other_is}
@@ -44,11 +44,11 @@ use Rattle.fuse_theorem.proofs.Queuing.{All-without}
 use Rattle.fuse_theorem.proofs.SoundCalls.{advanced_calls, advanced_collected}
 
 -- A copy leaves its link, and its result comes onto the other.
-module _ (replies : List Sent) (results : List ReplyResult) (copies : Map Copy) (next : ℕ) (sound : CopiesSound replies results copies next) (k : ℕ) (sent : Sent) (found : slice_get replies k ≡ Some sent) where
+module _ (replies : List Sent) (results : List ReplyResult) (copies : Map Copy) (next : ℕ) (sound : FirstCopiesSound replies results copies next) (k : ℕ) (sent : Sent) (found : slice_get replies k ≡ Some sent) where
   abbrev result : WriteResult → ReplyResult
   result x = record { number = sent.number; unique = sent.unique; result = x }
 
-  pub copy_heard : (x : WriteResult) → x ≢ Invalid → CopiesSound (remove replies k) (results ++ result x ∷ []) copies next
+  pub copy_heard : (x : WriteResult) → x ≢ Invalid → FirstCopiesSound (remove replies k) (results ++ result x ∷ []) copies next
   copy_heard x valid = record {
     names_none = All-without (λ (s : Sent). (files_in_reply s.wire ≡ []) × (opens_in_reply s.wire ≡ [])) replies k sound.names_none;
     none_invalid = All-push (λ (r : ReplyResult). r.result ≢ Invalid) results (result x) sound.none_invalid valid;
@@ -92,7 +92,7 @@ module _ (w : World) (numbered : IsNumbered w) (root : OnlyRoot w) (more : First
   abbrev heard : Kernel → WriteResult → World
   heard kernel x = after_write w k sent (x, kernel)
 
-  requests_after : (kernel : Kernel) (x : WriteResult) → pending kernel.queues ≡ pending q0 → ReadBefore kernel.queues → RequestsSound (heard kernel x)
+  requests_after : (kernel : Kernel) (x : WriteResult) → pending kernel.queues ≡ pending q0 → ReadBefore kernel.queues → FirstRequestsSound (heard kernel x)
   requests_after kernel x same before = record {
     bodies = more.requests.bodies;
     once = λ u.
@@ -109,7 +109,7 @@ module _ (w : World) (numbered : IsNumbered w) (root : OnlyRoot w) (more : First
   -- the calls stay as they are
   quiet_sound : (kernel : Kernel) (x : WriteResult) → x ≢ Invalid → kernel.vfs ≡ w.kernel.vfs → pending kernel.queues ≡ pending q0 → ReadBefore kernel.queues → StaysSound w (heard kernel x)
   quiet_sound kernel x valid same_vfs same before = record {
-    calls = subst CallsSound (sym same_vfs) more.calls;
+    calls = subst FirstCallsSound (sym same_vfs) more.calls;
     requests = requests_after kernel x same before;
     copies = copy_heard w.replies w.results w.server.copies w.server.next_copy more.copies k sent found x valid;
     still_collected = λ call old. subst (λ (c : Vfs Opened). IsCollected c call) (sym same_vfs) old;

@@ -20,7 +20,7 @@ use Rattle.fuse_theorem.specs.FirstPath.{StatsRoot, IsFirstBody, unperformed, On
 use Rattle.fuse_theorem.specs.EachEvent.{IsRooted}
 
 -- Each unanswered call is a call of `stat`. A call with an answer has begun, and is not unanswered.
-pub record CallsSound (c : Vfs Opened) : Type 0 where
+pub record FirstCallsSound (c : Vfs Opened) : Type 0 where
   pub states : All StatsRoot (values c.calls)
   pub answered : (call : ℕ) (a : Answer) → get c.answers call ≡ Some a → (get c.calls call ≡ None) × (call < c.next_call)
 
@@ -31,7 +31,7 @@ under_way w unique =
 
 -- A number has one request that is not performed, or one kept reply, or neither. A request that was read and is unanswered is on the
 -- request link, held, or performed with a copy on the reply link.
-pub record RequestsSound (w : World) : Type 0 where
+pub record FirstRequestsSound (w : World) : Type 0 where
   pub bodies : All (λ (t : HeldRequest). IsFirstBody t.body) (values w.server.held)
   pub once : (unique : ℕ) → unperformed w unique + cond (is_some (get w.server.kept unique)) 1 0 ≤ 1
   pub read : (unique : ℕ) (r : QueuedRequest Purpose) → request_under w.kernel.queues unique ≡ Some r → is_unread r.mark ≡ false → 1 ≤ under_way w unique
@@ -42,7 +42,7 @@ outstanding replies results number = count_by (λ (sent : Sent). nat_eq number s
 
 -- The server knows each copy that stands on a link, and each has a number of its own, below the coming one. No copy names a node or an open
 -- number, and no result says that a body is wrong.
-pub record CopiesSound (replies : List Sent) (results : List ReplyResult) (copies : Map Copy) (next : ℕ) : Type 0 where
+pub record FirstCopiesSound (replies : List Sent) (results : List ReplyResult) (copies : Map Copy) (next : ℕ) : Type 0 where
   pub names_none : All (λ (sent : Sent). (files_in_reply sent.wire ≡ []) × (opens_in_reply sent.wire ≡ [])) replies
   pub none_invalid : All (λ (r : ReplyResult). r.result ≢ Invalid) results
   pub once : (number : ℕ) → outstanding replies results number ≤ cond (is_some (get copies number)) 1 0
@@ -53,9 +53,9 @@ pub record FirstKeeps (w : World) : Type 0 where
   pub no_fault : All (λ (r : Request). fault_of w.server r ≡ None) w.requests
   pub results : All (λ (r : ReplyResult). is_some (get w.server.copies r.number) ≡ true) w.results
   pub rooted : IsRooted w.kernel.vfs
-  pub calls : CallsSound w.kernel.vfs
-  pub requests : RequestsSound w
-  pub copies : CopiesSound w.replies w.results w.server.copies w.server.next_copy
+  pub calls : FirstCallsSound w.kernel.vfs
+  pub requests : FirstRequestsSound w
+  pub copies : FirstCopiesSound w.replies w.results w.server.copies w.server.next_copy
 
 -- A world of the first path: the root alone, and alike to a plain world.
 pub record IsFirstWorld (w : World) : Type 0 where

@@ -17,4 +17,9 @@ pub mod EveryList
 pub mod HeldKnown
 pub mod StillHeld
 pub mod StillOpen
+pub mod ClosedFiles
+pub mod ReleasesKnown
+pub mod NodesHeld
+pub mod Faultless
+pub mod RepliesFit
 pub mod OnTheWay

@@ -1,7 +1,7 @@
 //! What holds of every world to which a list of events leads, and what single events need that follows from it. Each law says that the
 //! first world has it and that each event keeps it.
 
-ghost use Rattle.std.specs.Prelude.{[], Contains, ◌≡◌, ◌≢◌, ◌≤◌, ℕ, Ok, Some, slice_get, true};
+ghost use Rattle.std.specs.Prelude.{[], Contains, ◌≡◌, ◌≢◌, ◌≤◌, ℕ, Ok, Some, slice_get, true, All, None};
 ghost use Rattle.fuse_spec.specs.Queues.{processing};
 ghost use Rattle.fuse_spec.specs.Counts.{AtRest, OpenBalance, open_in_kernel, opens_of};
 ghost use Rattle.fuse_spec.specs.Vfs.{CallState, asked};
@@ -10,27 +10,33 @@ ghost use Rattle.fuse_spec.specs.Maps.{get, remove};
 ghost use Rattle.fuse_spec.specs.Nodes.{file_of, is_open, handle_back};
 ghost use Rattle.fuse_spec.specs.Operations.{Operation};
 ghost use Rattle.fuse_spec.specs.Performs.{is_still_held};
-ghost use Rattle.fuse_spec.specs.Server.{HeldRequest};
+ghost use Rattle.fuse_spec.specs.Server.{Copy, HeldRequest, fault_of};
+ghost use Rattle.fuse_spec.specs.declared.ReplyResult.{ReplyResult};
+ghost use Rattle.fuse_spec.specs.declared.WriteResult.TheVariants.{Invalid};
 ghost use Rattle.fuse_spec.specs.declared.Opened.{Opened};
 ghost use Rattle.fuse_spec.specs.Alike.{Alike};
 ghost use Rattle.fuse_spec.specs.Messages.{Request, asks, release, interrupt};
-ghost use Rattle.fuse_theorem.specs.Conditions.{HoldsOpens, IsInterrupt};
+ghost use Rattle.fuse_theorem.specs.Conditions.{HoldsOpens, IsInterrupt, HoldsAll, OneId};
 ghost use Rattle.fuse_theorem.specs.Links.{LinksSound};
 ghost use Rattle.fuse_spec.specs.Events as event;
 ghost use Rattle.fuse_spec.specs.Events.{Event, Outcome};
 ghost use Rattle.fuse_spec.specs.Plain.{Plain, first_plain};
 ghost use Rattle.fuse_spec.specs.PlainSteps.{Takes};
 ghost use Rattle.fuse_spec.specs.Steps.{Happens, MayStep, step};
-ghost use Rattle.fuse_spec.specs.Worlds.{World, first_world};
+ghost use Rattle.fuse_spec.specs.Worlds.{World, first_world, after_settle};
 ghost use Rattle.fuse_theorem.specs.AskedRequests.{RequestsAskedWhileLive};
 ghost use Rattle.fuse_theorem.specs.AsksServed.{AsksServed};
 ghost use Rattle.fuse_theorem.specs.EachEvent.{CanServe, Needs};
 ghost use Rattle.fuse_theorem.specs.EveryList.{BothSound, NeedsBothAlone};
+ghost use Rattle.fuse_theorem.specs.Faultless.{Faultless};
 ghost use Rattle.fuse_theorem.specs.HeldKnown.{HeldKnownWhileLive};
 ghost use Rattle.fuse_theorem.specs.KnownNodes.{NodesKnown};
 ghost use Rattle.fuse_theorem.specs.OnTheWay.{ReadAreOnTheirWay};
 ghost use Rattle.fuse_theorem.specs.StillHeld.{HeldReleasesKnown, NodesStillHeld, StillHeldAfterAbort};
 ghost use Rattle.fuse_theorem.specs.StillOpen.{HeldNumbersOpen, OpensAfterAbort};
+ghost use Rattle.fuse_theorem.specs.NodesHeld.{NodesHeld, TakenServable};
+ghost use Rattle.fuse_theorem.specs.ReleasesKnown.{ReleasesKnown};
+ghost use Rattle.fuse_theorem.specs.RepliesFit.{RepliesFitWhileLive};
 ghost use Rattle.fuse_theorem.specs.WorldSound.{WorldSound};
 
 /// What is on the request link or held is what the kernel asks, under the same number, while the mount is live and whatever the event; what bears an
@@ -111,6 +117,47 @@ pub fn performs_need_no_more()
         (is_live w.kernel.phase ≡ true → (t : HeldRequest) (o : Opened) → get w.server.held unique ≡ Some t → t.body ≡ release o →
         (is_open w.server.handles o.fh (file_of w.server.nodes o.nodeid) ≡ true) × HoldsOpens (record w { server = record w.server { held = remove w.server.held unique } }) (handle_back w.server.handles o.fh)) →
         (choice : ℕ → ℕ) → MayStep choice w (event.perform unique) → Needs choice w p (event.perform unique) }
+{}
+
+/// The kernel knows the node of each closed file whose RELEASE is not queued yet, as a call that uses the file names it, and of each unanswered RELEASE,
+/// whatever the event. While the mount is live, the server holds a RELEASE under the generation that the kernel knows.
+pub fn releases_stay_known()
+    ensures at_first { ReleasesKnown first_world }
+    ensures always { (w : World) → WorldSound w → RequestsAskedWhileLive w → LinksSound w → NodesKnown w.kernel → HeldKnownWhileLive w → ReleasesKnown w → (e : Event) (o : Outcome) (after : World) → Happens w e o after → ReleasesKnown after }
+{}
+
+/// While the mount is live, the server holds the nodes that the kernel knows, those of the requests that it holds, and those that copies and kept replies to
+/// unanswered requests name. So what the taking of any request needs of the world holds, of forgets too, and what the settling of a copy needs of the nodes.
+pub fn nodes_in_use_stay_held()
+    ensures live { (w : World) (p : Plain) → BothSound w p → ReleasesKnown w → is_live w.kernel.phase ≡ true → HoldsAll w w.server.nodes }
+    ensures take { (w : World) (p : Plain) → BothSound w p → ReleasesKnown w → (choice : ℕ → ℕ) (k : ℕ) (o : Outcome) (after : World) → step choice w (event.take k) ≡ Ok (o, after) → Needs choice w p (event.take k) }
+    ensures settle { (w : World) (p : Plain) → BothSound w p → ReleasesKnown w → (k : ℕ) (result : ReplyResult) (copy : Copy) → slice_get w.results k ≡ Some result → get w.server.copies result.number ≡ Some copy →
+        OneId w.server.nodes × HoldsAll (after_settle w k result (Some copy)) (after_settle w k result (Some copy)).server.nodes }
+{}
+
+/// What `Held` says of nodes: while the mount is live, the server holds what the kernel counts, binds, opens or waits on, under the kernel's generations, and
+/// what copies name. In any mount no request that is pending, on the link or held names a node that is gone.
+pub fn nodes_stay_held()
+    ensures at_first { TakenServable first_world.server }
+    ensures always { (w : World) → WorldSound w → RequestsAskedWhileLive w → LinksSound w → NodesKnown w.kernel → HeldKnownWhileLive w → ReleasesKnown w → TakenServable w.server → (e : Event) (o : Outcome) (after : World) → Happens w e o after →
+        TakenServable after.server }
+    ensures held { (w : World) (p : Plain) → BothSound w p → ReleasesKnown w → TakenServable w.server → NodesHeld w }
+{}
+
+/// Each forget is of a node from 2 up and of one lookup at least, whatever the event. So no request on the link names a node that is gone, gives back more
+/// lookups than the server counts, or bears a number that is held or whose reply is kept.
+pub fn requests_have_no_fault()
+    ensures at_first { Faultless first_world }
+    ensures always { (w : World) → WorldSound w → RequestsAskedWhileLive w → LinksSound w → Faultless w → (e : Event) (o : Outcome) (after : World) → Happens w e o after → Faultless after }
+    ensures no_fault { (w : World) (p : Plain) → BothSound w p → ReleasesKnown w → Faultless w → All (λ (r : Request). fault_of w.server r ≡ None) w.requests }
+{}
+
+/// While the mount is live, replies to RELEASEs and to INTERRUPTs say only whether the request failed, whatever the event, and the kernel refuses no copy
+/// for its body. So no result on the link says EINVAL.
+pub fn replies_stay_fit()
+    ensures at_first { RepliesFitWhileLive first_world }
+    ensures always { (w : World) (p : Plain) → BothSound w p → Faultless w → RepliesFitWhileLive w → (e : Event) (o : Outcome) (after : World) → Happens w e o after → RepliesFitWhileLive after }
+    ensures no_wrong_body { (w : World) (p : Plain) → BothSound w p → RepliesFitWhileLive w → All (λ (r : ReplyResult). r.result ≢ Invalid) w.results }
 {}
 
 /// While the mount is live, each request that was read and is unanswered is on the request link, or held, or a copy of its reply is on the reply link,
