@@ -6,13 +6,12 @@ use Rattle.fuse_spec.specs.declared.Opened.{Opened}
 use Rattle.fuse_spec.specs.declared.Purpose.{Purpose}
 use Rattle.fuse_spec.specs.declared.QueuedRequest.{QueuedRequest}
 use Rattle.fuse_spec.specs.Maps.{Map, get}
-use Rattle.fuse_spec.specs.Messages.{Request}
 use Rattle.fuse_spec.specs.Vfs.{CallState}
-use Rattle.fuse_spec.specs.Queues.{is_unread, pending, processing, request_under}
+use Rattle.fuse_spec.specs.Queues.{is_unread, processing, request_under}
 use Rattle.fuse_spec.specs.Kernel.{is_for}
 use Rattle.fuse_spec.specs.Server.{HeldRequest}
 use Rattle.fuse_spec.specs.Counts.{AtRest}
-use Rattle.fuse_spec.specs.Worlds.{World, Sent}
+use Rattle.fuse_spec.specs.Worlds.{World}
 use Rattle.fuse_spec.specs.Plain.{Plain}
 use Rattle.fuse_spec.specs.Alike.{Alike}
 use Rattle.fuse_spec.proofs.QueueCounts.{lookup-found}

@@ -1,5 +1,5 @@
 -- A request that was read and is unanswered stays on its way, whatever happens.
-use Rattle.std.proofs.Common.{◌≡◌, ◌≢◌, ℕ, ◌+◌, ◌-◌, Bool, true, false, true≢false, cond, List, [], ◌∷◌, ◌++◌, drop, Option, Some, None, nat_eq, slice_get, option_map, refl, ap, sym, subst, ◌∙◌, arith, inl, inr}
+use Rattle.std.proofs.Common.{◌≡◌, ◌≢◌, ℕ, ◌+◌, ◌-◌, Bool, true, false, true≢false, cond, List, drop, Option, Some, None, nat_eq, slice_get, option_map, refl, ap, sym, subst, ◌∙◌, arith, inl, inr}
 use Rattle.std.specs.Prelude.{◌%◌}
 use Rattle.std.specs.List.{remove as without_at}
 use Rattle.std.specs.Option.{option_map_or}
@@ -17,7 +17,7 @@ use Rattle.fuse_spec.specs.Copies.{kept_after, after_result}
 use Rattle.fuse_spec.specs.Maps.{Map, get, put, remove}
 use Rattle.fuse_spec.specs.Messages.{Request, RequestBody, init, asks, release, forget, batch_forget, interrupt, WireReply}
 use Rattle.fuse_spec.specs.Queues.{IsSound, is_unread, pending, request_under}
-use Rattle.fuse_spec.specs.QueueCalls.{after_reading, after_read_pending, can_read_forgets, pending_at, waiting, without}
+use Rattle.fuse_spec.specs.QueueCalls.{after_reading, can_read_forgets, pending_at, waiting, without}
 use Rattle.fuse_spec.specs.Vfs.{CallState, asked}
 use Rattle.fuse_spec.specs.Kernel.{Kernel, is_live, asked_by, body_of}
 use Rattle.fuse_spec.specs.Replies.{ended_by, reply_taken, odd_taken, reply_written}
@@ -38,7 +38,7 @@ use Rattle.fuse_theorem.proofs.GoingOn.{begun_goes_on}
 use Rattle.fuse_theorem.proofs.Happened.{Happened, by_mount, by_call, by_read_interrupt, by_read_forgets, by_read_pending, by_take, by_perform, by_again, by_write, by_settle, by_signal, by_tick, by_drop, by_evict, by_abort, happened}
 use Rattle.fuse_theorem.proofs.KeptOnLink.{has_pushed, has_last, has_removed, ended_absent}
 use Rattle.fuse_theorem.proofs.LinksSound.{none_at}
-use Rattle.fuse_theorem.proofs.NumbersStay.{replying_kernel, unheard}
+use Rattle.fuse_theorem.proofs.NumbersStay.{replying_kernel}
 use Rattle.fuse_theorem.proofs.PerformedRest.{performed_rest}
 use Rattle.fuse_theorem.proofs.QueueMoves.{ReadsNone, begun_reads_none, signalled_reads_none, written_reads_none}
 use Rattle.fuse_theorem.proofs.ReadBefore.{WasRead, read_before}

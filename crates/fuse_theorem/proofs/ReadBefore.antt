@@ -1,7 +1,7 @@
 -- What was read is read before, where none is read.
 use Rattle.std.proofs.Common.{◌≡◌, ℕ, Bool, true, false, true≢false, cond, List, [], ◌∷◌, Some, nat_eq, option_map, refl, ap, sym, subst, ◌∙◌, All}
 use Rattle.std.specs.Map.{lookup}
-use Rattle.std.proofs.lemmas.List.Elements.{All-nil, All-cons, All-head, All-tail, All-push}
+use Rattle.std.proofs.lemmas.List.Elements.{All-cons, All-head, All-tail, All-push}
 use Rattle.fuse_spec.specs.declared.Mark.{Mark}
 use Rattle.fuse_spec.specs.declared.Mark.TheVariants.{Unread}
 use Rattle.fuse_spec.specs.declared.Purpose.{Purpose}

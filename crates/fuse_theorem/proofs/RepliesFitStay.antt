@@ -1,5 +1,5 @@
 -- Replies to RELEASEs and INTERRUPTs say only whether the request failed, and no copy is refused for its body, whatever the event.
-use Rattle.std.proofs.Common.{◌≡◌, ◌≢◌, ◌⊎◌, ℕ, ◌+◌, ◌≤◌, ◌<◌, Bool, true, false, true≢false, cond, List, [], ◌∷◌, ◌++◌, drop, length, Option, Some, None, nat_eq, slice_get, get_or, refl, ap, sym, subst, ◌∙◌, arith, inl, inr, All}
+use Rattle.std.proofs.Common.{◌≡◌, ◌≢◌, ◌⊎◌, ℕ, ◌+◌, ◌≤◌, ◌<◌, Bool, true, false, true≢false, cond, List, [], ◌∷◌, ◌++◌, drop, length, Option, Some, None, slice_get, get_or, refl, ap, sym, subst, ◌∙◌, arith, inl, inr, All}
 use Rattle.std.specs.Prelude.{◌%◌}
 use Rattle.std.specs.List.{remove as without_at}
 use Rattle.std.proofs.lemmas.List.Elements.{All-nil, All-cons, All-push}
