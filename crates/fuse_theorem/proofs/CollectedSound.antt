@@ -7,10 +7,13 @@ use Rattle.fuse_spec.specs.Runs.{plain_collected}
 use Rattle.fuse_theorem.specs.AskedRequests.{RequestsAskedWhileLive}
 use Rattle.fuse_theorem.specs.Copies.{CopiesSound}
 use Rattle.fuse_theorem.specs.EveryList.{BothSound}
+use Rattle.fuse_theorem.specs.Faultless.{Faultless}
 use Rattle.fuse_theorem.specs.HeldKnown.{HeldKnownWhileLive}
 use Rattle.fuse_theorem.specs.Links.{LinksSound}
 use Rattle.fuse_theorem.specs.Lookups.{LookupsSound}
 use Rattle.fuse_theorem.specs.Numbering.{IsNumberedWhileLive}
+use Rattle.fuse_theorem.specs.ReleasesKnown.{ReleasesKnown}
+use Rattle.fuse_theorem.specs.RepliesFit.{RepliesFitWhileLive}
 use Rattle.fuse_theorem.specs.Unperformed.{RequestsSound}
 use Rattle.fuse_theorem.specs.WorldSound.{WorldSound}
 use Rattle.fuse_theorem.proofs.FirstAnswers.{collected_alike}
@@ -83,3 +86,30 @@ module _ (w : World) where
         kept = both.kept;
         served = both.served;
       }
+
+  pub collected_releases : ReleasesKnown w → ReleasesKnown (collected w)
+  collected_releases old =
+      let files = old.files in
+      record {
+        files = record {
+          calls_in_order = files.calls_in_order;
+          closing_in_order = files.closing_in_order;
+          calls_below = files.calls_below;
+          opens = λ handle o at. let was = files.opens handle o at in record { begun = was.begun; not_waiting = was.not_waiting };
+          users = λ call handle operation at.
+              let uses = files.users call handle operation at in
+              let opener = uses.opener in
+              record { opener = record { begun = opener.begun; not_waiting = opener.not_waiting }; of_open = uses.of_open; of_closed = uses.of_closed };
+          not_open = files.not_open;
+          used = files.used;
+        };
+        closing = old.closing;
+        requests = old.requests;
+        held = old.held;
+      }
+
+  pub collected_faultless : Faultless w → Faultless (collected w)
+  collected_faultless old = record { queued = old.queued; sent = old.sent; kept = old.kept }
+
+  pub collected_fits : RepliesFitWhileLive w → RepliesFitWhileLive (collected w)
+  collected_fits old live = let at = old live in record { released = at.released; interrupted = at.interrupted; results = at.results }
