@@ -163,3 +163,4 @@ pub mod Choosing
 pub mod KeptReplies
 pub mod NoWrongBody
 pub mod RepliesFitStay
+pub mod OpensAtRest

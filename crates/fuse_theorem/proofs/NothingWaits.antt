@@ -29,7 +29,7 @@ none_has P xs empty (here x rest p) = absurd (cc (empty))
 none_has P xs empty (there x rest h) = absurd (cc (empty))
 
 -- the first entry of a map stands under its key
-first_found : {X : Type 0} (m : Map X) (key : ℕ) (x : X) (rest : Map X) → m ≡ (key, x) ∷ rest → get m key ≡ Some x
+pub first_found : {X : Type 0} (m : Map X) (key : ℕ) (x : X) (rest : Map X) → m ≡ (key, x) ∷ rest → get m key ≡ Some x
 first_found {X = X} m key x rest is = ap (λ (n : Map X). get n key) is ∙ ap (λ r. cond (is_eq r) (Some x) (get rest key)) (cmp_same key)
 
 module _ (w : World) (sound : WorldSound w) (way : ReadAreOnTheirWay w) (rest : AtRest w) where

@@ -26,6 +26,7 @@ use Rattle.fuse_spec.specs.Taking.{taking, interrupting}
 use Rattle.fuse_spec.specs.Performs.{served}
 use Rattle.fuse_spec.specs.Worlds.{World, Sent, first_world, replying, after_read_pending as world_after_read, after_take, after_perform, after_write, after_settle}
 use Rattle.fuse_spec.specs.Events.{Event, Outcome}
+use Rattle.fuse_spec.specs.Records.{collected}
 use Rattle.fuse_spec.specs.Steps.{Happens}
 use Rattle.fuse_spec.proofs.Tables.{get_put_here, get_put_there, get_gone_there}
 use Rattle.fuse_spec.proofs.QueueReadings.{request_under-mark_other}
@@ -254,3 +255,7 @@ read_stay_on_their_way w sound links old e o after h = by_event h.0 w sound link
 
 pub first_on_their_way : ReadAreOnTheirWay first_world
 first_on_their_way live = absurd (true≢false (sym live))
+
+-- It stays so as answers are collected.
+pub collected_way : (w : World) → ReadAreOnTheirWay w → ReadAreOnTheirWay (collected w)
+collected_way w old live u r under read = carried w (collected w) u (λ h. sent h) (λ h. held h) (λ h. replied h) (old live u r under read)

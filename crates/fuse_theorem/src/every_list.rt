@@ -1,12 +1,12 @@
 //! What holds of every world to which a list of events leads, and what single events need that follows from it. Each law says that the
 //! first world has it and that each event keeps it.
 
-ghost use Rattle.std.specs.Prelude.{[], Contains, ◌≡◌, ◌≢◌, ◌≤◌, ℕ, Ok, Some, slice_get, true, All, None};
+ghost use Rattle.std.specs.Prelude.{[], Contains, ◌≡◌, ◌≢◌, ◌≤◌, ℕ, Ok, Some, slice_get, true, All, None, count_by, nat_eq};
 ghost use Rattle.fuse_spec.specs.Queues.{processing};
-ghost use Rattle.fuse_spec.specs.Counts.{AtRest, OpenBalance, open_in_kernel, opens_of};
+ghost use Rattle.fuse_spec.specs.Counts.{AtRest, OpenBalance, handle_count, open_in_kernel, opens_of};
 ghost use Rattle.fuse_spec.specs.Vfs.{CallState, asked};
 ghost use Rattle.fuse_spec.specs.Kernel.{is_live};
-ghost use Rattle.fuse_spec.specs.Maps.{get, remove};
+ghost use Rattle.fuse_spec.specs.Maps.{get, remove, values};
 ghost use Rattle.fuse_spec.specs.Nodes.{file_of, is_open, handle_back};
 ghost use Rattle.fuse_spec.specs.Operations.{Operation};
 ghost use Rattle.fuse_spec.specs.Performs.{is_still_held};
@@ -167,4 +167,12 @@ pub fn nothing_waits_at_rest()
     ensures always { (w : World) → WorldSound w → LinksSound w → ReadAreOnTheirWay w → (e : Event) (o : Outcome) (after : World) → Happens w e o after → ReadAreOnTheirWay after }
     ensures processing { (w : World) → WorldSound w → ReadAreOnTheirWay w → AtRest w → processing w.kernel.queues ≡ [] }
     ensures calls { (w : World) (p : Plain) → WorldSound w → Alike w p → ReadAreOnTheirWay w → AtRest w → w.kernel.vfs.calls ≡ [] }
+{}
+
+/// At rest no closed file waits for its RELEASE. So the server counts each open number as often as the kernel holds it open, where the open numbers are
+/// balanced.
+pub fn open_files_are_counted_at_rest()
+    ensures closing { (w : World) (p : Plain) → BothSound w p → ReleasesKnown w → ReadAreOnTheirWay w → AtRest w → w.kernel.closing ≡ [] }
+    ensures opens { (w : World) (p : Plain) → BothSound w p → ReleasesKnown w → ReadAreOnTheirWay w → OpenBalance w → AtRest w → (fh : ℕ) →
+        handle_count (get w.server.handles.handles fh) ≡ count_by (λ (o : Opened). nat_eq o.fh fh) (values w.kernel.vfs.opens) }
 {}
