@@ -1,11 +1,10 @@
 -- At rest no closed file waits for its RELEASE, and the server counts of each open number what the kernel holds open.
-use Rattle.std.proofs.Common.{◌≡◌, ◌≢◌, ℕ, ◌+◌, Bool, true, false, true≢false, cond, List, [], ◌∷◌, ◌++◌, Some, nat_eq, count_by, refl, ap, sym, ◌∙◌, append-nil, arith}
+use Rattle.std.proofs.Common.{◌≡◌, ℕ, ◌+◌, true≢false, [], ◌∷◌, ◌++◌, nat_eq, count_by, refl, ap, sym, ◌∙◌, append-nil, arith}
 use Rattle.std.specs.Prelude.{sum_by}
 use Rattle.std.specs.List.{list_any}
 use Rattle.fuse_spec.specs.declared.Opened.{Opened}
 use Rattle.fuse_spec.specs.declared.Purpose.{Purpose}
 use Rattle.fuse_spec.specs.declared.QueuedRequest.{QueuedRequest}
-use Rattle.fuse_spec.specs.declared.ReplyResult.{ReplyResult}
 use Rattle.fuse_spec.specs.Maps.{Map, get, values}
 use Rattle.fuse_spec.specs.Messages.{Request}
 use Rattle.fuse_spec.specs.Vfs.{CallState}
