@@ -115,6 +115,20 @@ is_unread_in (Some r) = is_unread r.mark
 abbrev CopyOf : ℕ → Kept → Sent → Type 0
 CopyOf unique k s = (s.unique ≡ unique) × (s.wire ≡ k.wire)
 
+-- A request that waits ends with the reply under its number.
+pub ended_absent : (k : Kernel) (u : ℕ) (kept : Purpose) (wire : WireReply) → IsSound k.queues → u < k.queues.next → is_live (ended_by (record k { queues = without k.queues u }) kept wire).1.phase ≡ true
+    → request_under (ended_by (record k { queues = without k.queues u }) kept wire).1.queues u ≡ None
+ended_absent k u purpose.Init wire queues_sound low live = by (is_agreement wire) live
+  where
+    by : (b : Bool) → is_live (cond b (record k { phase = Ready; queues = without k.queues u }) (kernel_aborted (record k { queues = without k.queues u }))).phase ≡ true
+        → request_under (cond b (record k { phase = Ready; queues = without k.queues u }) (kernel_aborted (record k { queues = without k.queues u }))).queues u ≡ None
+    by true alive = request_under-without k.queues u queues_sound
+    by false alive = absurd (true≢false (sym alive))
+ended_absent k u (purpose.Release o) wire queues_sound low live = request_under-without k.queues u queues_sound
+ended_absent k u (purpose.Call call) wire queues_sound low live =
+    let k1 = record k { queues = without k.queues u } in
+    stays_absent k1.queues (replied_to_call k1 call wire (get k.vfs.calls call)).1.queues (replied_moves k1 call wire (get k.vfs.calls call)) u low (request_under-without k.queues u queues_sound)
+
 module _ (choice : ℕ → ℕ) (w : World) (sound : WorldSound w) (old : KeptAreSent w) where
   -- The requests are the same, no more is kept, and the copies are on the link still.
   quiet : (v : World) → ((u : ℕ) → request_under v.kernel.queues u ≡ request_under w.kernel.queues u) → ((u : ℕ) (k : Kept) → get v.server.kept u ≡ Some k → get w.server.kept u ≡ Some k)
@@ -170,20 +184,6 @@ module _ (choice : ℕ → ℕ) (w : World) (sound : WorldSound w) (old : KeptAr
       by NoEntry u x at stands = old u x (kept_was w.server.kept copy (get w.server.kept copy.unique) u x at) stands
       by Invalid u x at stands = old u x (kept_was w.server.kept copy (get w.server.kept copy.unique) u x at) stands
 
-  -- A request that waits ends with the reply under its number.
-  ended_absent : (u : ℕ) (kept : Purpose) (wire : WireReply) → IsSound w.kernel.queues → u < w.kernel.queues.next → is_live (ended_by (record w.kernel { queues = without w.kernel.queues u }) kept wire).1.phase ≡ true
-      → request_under (ended_by (record w.kernel { queues = without w.kernel.queues u }) kept wire).1.queues u ≡ None
-  ended_absent u purpose.Init wire queues_sound low live = by (is_agreement wire) live
-    where
-      by : (b : Bool) → is_live (cond b (record w.kernel { phase = Ready; queues = without w.kernel.queues u }) (kernel_aborted (record w.kernel { queues = without w.kernel.queues u }))).phase ≡ true
-          → request_under (cond b (record w.kernel { phase = Ready; queues = without w.kernel.queues u }) (kernel_aborted (record w.kernel { queues = without w.kernel.queues u }))).queues u ≡ None
-      by true alive = request_under-without w.kernel.queues u queues_sound
-      by false alive = absurd (true≢false (sym alive))
-  ended_absent u (purpose.Release o) wire queues_sound low live = request_under-without w.kernel.queues u queues_sound
-  ended_absent u (purpose.Call call) wire queues_sound low live =
-      let k1 = record w.kernel { queues = without w.kernel.queues u } in
-      stays_absent k1.queues (replied_to_call k1 call wire (get w.kernel.vfs.calls call)).1.queues (replied_moves k1 call wire (get w.kernel.vfs.calls call)) u low (request_under-without w.kernel.queues u queues_sound)
-
   -- where a kept reply's copy is written, its request waits, and ends
   answered_absent : (u : ℕ) (x : Kept) (wire : WireReply) → get w.server.kept u ≡ Some x → u % 2 ≡ 0 → u < w.kernel.queues.next → is_live (reply_written w.kernel u wire).1.phase ≡ true → request_under (reply_written w.kernel u wire).1.queues u ≡ None
   answered_absent u x wire at even low = by (nat_eq (u % 2) 1) refl
@@ -202,7 +202,7 @@ module _ (choice : ℕ → ℕ) (w : World) (sound : WorldSound w) (old : KeptAr
       taken_even (Some r) under true is live = absurd (unread_never r under is)
       taken_even (Some r) under false is live =
           subst (λ (c : Bool). is_live (reply_taken w.kernel u wire (cond c None (Some r.kept))).1.phase ≡ true → request_under (reply_taken w.kernel u wire (cond c None (Some r.kept))).1.queues u ≡ None) (sym is)
-          (λ alive. ended_absent u r.kept wire sound.queues low alive) live
+          (λ alive. ended_absent w.kernel u r.kept wire sound.queues low alive) live
 
       by : (b : Bool) → nat_eq (u % 2) 1 ≡ b → is_live (cond b (odd_taken w.kernel u wire (waiting w.kernel.queues (u - 1))) (reply_taken w.kernel u wire (waiting w.kernel.queues u))).1.phase ≡ true
           → request_under (cond b (odd_taken w.kernel u wire (waiting w.kernel.queues (u - 1))) (reply_taken w.kernel u wire (waiting w.kernel.queues u))).1.queues u ≡ None

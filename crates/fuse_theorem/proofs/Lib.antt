@@ -140,6 +140,10 @@ pub mod NumbersLeft
 pub mod StillOpen
 pub mod HeldNumbers
 pub mod BalancedNumbers
+pub mod UnderNumber
+pub mod ReadBefore
+pub mod OnTheWay
+pub mod NothingWaits
 pub mod UsedFiles
 pub mod ClosedStay
 pub mod ReleasesKept
@@ -179,3 +183,4 @@ pub mod HoldsOpens
 pub mod OpenNeeds
 pub mod OpensOnce
 pub mod AllStaySound
+pub mod OpensAtRest

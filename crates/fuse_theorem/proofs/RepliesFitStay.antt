@@ -1,8 +1,7 @@
 -- Replies to RELEASEs and INTERRUPTs say only whether the request failed, and no copy is refused for its body, whatever the event.
-use Rattle.std.proofs.Common.{◌≡◌, ◌≢◌, ◌⊎◌, ℕ, ◌+◌, ◌≤◌, ◌<◌, Bool, true, false, true≢false, cond, List, [], ◌∷◌, ◌++◌, drop, length, Option, Some, None, nat_eq, slice_get, get_or, refl, ap, sym, subst, ◌∙◌, arith, inl, inr, All}
+use Rattle.std.proofs.Common.{◌≡◌, ◌≢◌, ◌⊎◌, ℕ, ◌+◌, ◌≤◌, ◌<◌, Bool, true, false, true≢false, cond, List, [], ◌∷◌, ◌++◌, drop, length, Option, Some, None, slice_get, get_or, refl, ap, sym, subst, ◌∙◌, arith, inl, inr, All}
 use Rattle.std.specs.Prelude.{◌%◌}
 use Rattle.std.specs.List.{remove as without_at}
-use Rattle.std.specs.Map.{lookup}
 use Rattle.std.proofs.lemmas.List.Elements.{All-nil, All-cons, All-push}
 use Rattle.fuse_spec.specs.declared.Mark.{Mark}
 use Rattle.fuse_spec.specs.declared.Mark.TheVariants as mark
@@ -19,7 +18,7 @@ use Rattle.fuse_spec.specs.Nodes.{file_of, is_open, handle_back}
 use Rattle.fuse_spec.specs.Operations.{done, failed}
 use Rattle.fuse_spec.specs.Performs.{is_still_held, refusing, performing, performed, served}
 use Rattle.fuse_spec.specs.QueueCalls.{can_read_forgets, after_read_pending}
-use Rattle.fuse_spec.specs.Queues.{QueueState}
+use Rattle.fuse_spec.specs.Queues.{QueueState, request_under}
 use Rattle.fuse_spec.specs.Replies.{is_empty_reply, reply_written}
 use Rattle.fuse_spec.specs.Server.{Server, HeldRequest, Kept, Copy}
 use Rattle.fuse_spec.specs.Taking.{taking, interrupting}
@@ -27,14 +26,13 @@ use Rattle.fuse_spec.specs.Worlds.{World, Sent, first_world, replying, server_se
 use Rattle.fuse_spec.specs.Events.{Event, Outcome}
 use Rattle.fuse_spec.specs.Plain.{Plain}
 use Rattle.fuse_spec.specs.Steps.{Happens}
-use Rattle.fuse_spec.proofs.QueueCounts.{key_count, count_by-cons, lookup-no_key}
 use Rattle.fuse_spec.proofs.QueueReadings.{key_count-le-one}
 use Rattle.fuse_theorem.specs.AskedRequests.{IsAsked}
 use Rattle.fuse_theorem.specs.EveryList.{BothSound}
 use Rattle.fuse_theorem.specs.Faultless.{Faultless}
 use Rattle.fuse_theorem.specs.Numbering.{IsNumbered}
 use Rattle.fuse_theorem.specs.RepliesFit.{IsEmptyUnder, FitsPurpose, RepliesFit, RepliesFitWhileLive}
-use Rattle.fuse_theorem.proofs.Finding.{All-removed, no_key, same_is}
+use Rattle.fuse_theorem.proofs.Finding.{All-removed}
 use Rattle.fuse_theorem.proofs.FirstQueues.{All-marked}
 use Rattle.fuse_theorem.proofs.GoingOn.{begun_goes_on}
 use Rattle.fuse_theorem.proofs.Happened.{Happened, by_mount, by_call, by_read_interrupt, by_read_forgets, by_read_pending, by_take, by_perform, by_again, by_write, by_settle, by_signal, by_tick, by_drop, by_evict, by_abort, happened}
@@ -46,6 +44,7 @@ use Rattle.fuse_theorem.proofs.PendingCounts.{moves_fewer}
 use Rattle.fuse_theorem.proofs.QueueMoves.{QueueMoves, stays, queues, ends, marks, moves_on, read_moves, begun_moves, signalled_moves, written_moves}
 use Rattle.fuse_theorem.proofs.Queuing.{All-without}
 use Rattle.fuse_theorem.proofs.RequestsAsked.{request_even}
+use Rattle.fuse_theorem.proofs.UnderNumber.{of_entries}
 
 -- ---- the kernel moves its requests
 
@@ -60,26 +59,6 @@ moved_all P again q r (moves_on a b c first second) new h =
     let few = moves_fewer q b first in
     let rises = few.rises in
     moved_all P again b r second (λ n x le. new n x (omega (arith, rises, le))) (moved_all P again q b first new h)
-
--- a number has one request
-only_entry : (u : ℕ) (x : QueuedRequest Purpose) (es : List (ℕ × QueuedRequest Purpose)) → key_count u es ≤ 1 → lookup (nat_eq u) es ≡ Some x → All (λ (e : ℕ × QueuedRequest Purpose). e.0 ≡ u → e.1 ≡ x) es
-only_entry u x [] few at = absurd (cc (at))
-only_entry u x (e ∷ es) few at = by (nat_eq u e.0) refl at (λ less found. only_entry u x es less found)
-  where
-    Mine : ℕ × QueuedRequest Purpose → Type 0
-    Mine y = y.0 ≡ u → y.1 ≡ x
-
-    counted : key_count u (e ∷ es) ≡ cond (nat_eq u e.0) 1 0 + key_count u es
-    counted = count_by-cons (λ (y : ℕ × QueuedRequest Purpose). nat_eq u y.0) e es
-
-    by : (b : Bool) → nat_eq u e.0 ≡ b → cond b (Some e.1) (lookup (nat_eq u) es) ≡ Some x → (key_count u es ≤ 1 → lookup (nat_eq u) es ≡ Some x → All (λ (y : ℕ × QueuedRequest Purpose). y.0 ≡ u → y.1 ≡ x) es)
-        → All (λ (y : ℕ × QueuedRequest Purpose). y.0 ≡ u → y.1 ≡ x) (e ∷ es)
-    by true is found rest =
-        let same : e.1 ≡ x = cc (found) in
-        let none = no_key u es (lookup-no_key u es (grind (arith, counted, few, is))) in
-        All-cons (λ (y : ℕ × QueuedRequest Purpose). y.0 ≡ u → y.1 ≡ x) e es (λ k. same) (λ i d lt k. absurd (none i d lt k))
-    by false is found rest =
-        All-cons (λ (y : ℕ × QueuedRequest Purpose). y.0 ≡ u → y.1 ≡ x) e es (λ k. absurd (true≢false (sym (subst (λ (n : ℕ). nat_eq u n ≡ true) (sym k) (same_is u)) ∙ is))) (rest (grind (arith, counted, few, is)) found)
 
 -- ---- replies that say only whether the request failed
 
@@ -209,6 +188,9 @@ module _ (choice : ℕ → ℕ) (w : World) (p : Plain) (both : BothSound w p) (
       new : Sent
       new = record { number = w.server.next_copy; unique = unique; wire = (served choice w.server unique t).wire }
 
+      is_asked : (y : QueuedRequest Purpose) → request_under w.kernel.queues unique ≡ Some y → y ≡ asked.request
+      is_asked y found = let there_too = asked.under in cc (found, there_too)
+
       -- the request of this number is a RELEASE just where it is held as one
       held_so : (x : QueuedRequest Purpose) (o : Opened) → x ≡ asked.request → x.kept ≡ purpose.Release o → t.body ≡ release o
       held_so x o same is =
@@ -220,7 +202,7 @@ module _ (choice : ℕ → ℕ) (w : World) (p : Plain) (both : BothSound w p) (
       told i d lt =
           let e = get_or w.kernel.queues.requests i d in
           let world = both.world in
-          let only = only_entry unique asked.request w.kernel.queues.requests (key_count-le-one w.kernel.queues unique world.queues) asked.under i d lt in
+          let only = of_entries (λ (y : QueuedRequest Purpose). y ≡ asked.request) unique w.kernel.queues.requests (key_count-le-one w.kernel.queues unique world.queues) (λ y found. is_asked y found) i d lt in
           fits_more w.replies new w.server.kept (served choice w.server unique t).server.kept e
           (λ o is h mine. release_empty choice (record w.server { held = remove w.server.held unique }) t o (held_so e.1 o (only (sym mine)) is))
           (λ k at. elim (served_kept w.server choice unique t e.0 k at) [ inl h ↦ inl (sym h.0, h.1) | inr h ↦ inr h ]) ((old live).released i d lt)

@@ -25,3 +25,4 @@ pub mod RepliesFit
 pub mod OpenNumbers
 pub mod OpensOnce
 pub mod AllSound
+pub mod OnTheWay

@@ -1,11 +1,12 @@
 //! What holds of every world to which a list of events leads, and what single events need that follows from it. Each law says that the
 //! first world has it and that each event keeps it.
 
-ghost use Rattle.std.specs.Prelude.{Contains, ◌≡◌, ◌≢◌, ◌≤◌, ℕ, Ok, Some, slice_get, true, All, None};
-ghost use Rattle.fuse_spec.specs.Counts.{OpenBalance, open_in_kernel, opens_of};
+ghost use Rattle.std.specs.Prelude.{[], Contains, ◌≡◌, ◌≢◌, ◌≤◌, ℕ, Ok, Some, slice_get, true, All, None, count_by, nat_eq};
+ghost use Rattle.fuse_spec.specs.Queues.{processing};
+ghost use Rattle.fuse_spec.specs.Counts.{AtRest, OpenBalance, handle_count, open_in_kernel, opens_of};
 ghost use Rattle.fuse_spec.specs.Vfs.{CallState, asked};
 ghost use Rattle.fuse_spec.specs.Kernel.{is_live};
-ghost use Rattle.fuse_spec.specs.Maps.{get, remove};
+ghost use Rattle.fuse_spec.specs.Maps.{get, remove, values};
 ghost use Rattle.fuse_spec.specs.Nodes.{file_of, is_open, handle_back};
 ghost use Rattle.fuse_spec.specs.Operations.{Operation};
 ghost use Rattle.fuse_spec.specs.Performs.{is_still_held};
@@ -30,6 +31,7 @@ ghost use Rattle.fuse_theorem.specs.EveryList.{BothSound, NeedsBothAlone};
 ghost use Rattle.fuse_theorem.specs.Faultless.{Faultless};
 ghost use Rattle.fuse_theorem.specs.HeldKnown.{HeldKnownWhileLive};
 ghost use Rattle.fuse_theorem.specs.KnownNodes.{NodesKnown};
+ghost use Rattle.fuse_theorem.specs.OnTheWay.{ReadAreOnTheirWay};
 ghost use Rattle.fuse_theorem.specs.StillHeld.{HeldReleasesKnown, NodesStillHeld, StillHeldAfterAbort};
 ghost use Rattle.fuse_theorem.specs.StillOpen.{HeldNumbersOpen, OpensAfterAbort};
 ghost use Rattle.fuse_theorem.specs.NodesHeld.{NodesHeld, TakenServable};
@@ -174,4 +176,21 @@ pub fn open_numbers_are_held()
         (is_open w.server.handles o.fh (file_of w.server.nodes o.nodeid) ≡ true) × HoldsOpens (record w { server = record w.server { held = remove w.server.held unique } }) (handle_back w.server.handles o.fh) }
     ensures settle { (w : World) (p : Plain) → BothSound w p → ReleasesKnown w → OpensSound w → (k : ℕ) (result : ReplyResult) (copy : Copy) → slice_get w.results k ≡ Some result → get w.server.copies result.number ≡ Some copy →
         HoldsOpens (after_settle w k result (Some copy)) (after_settle w k result (Some copy)).server.handles }
+{}
+
+/// While the mount is live, each request that was read and is unanswered is on the request link, or held, or a copy of its reply is on the reply link,
+/// whatever the event. So at rest no request that was read waits for its reply, and no call is unanswered.
+pub fn nothing_waits_at_rest()
+    ensures at_first { ReadAreOnTheirWay first_world }
+    ensures always { (w : World) → WorldSound w → LinksSound w → ReadAreOnTheirWay w → (e : Event) (o : Outcome) (after : World) → Happens w e o after → ReadAreOnTheirWay after }
+    ensures processing { (w : World) → WorldSound w → ReadAreOnTheirWay w → AtRest w → processing w.kernel.queues ≡ [] }
+    ensures calls { (w : World) (p : Plain) → WorldSound w → Alike w p → ReadAreOnTheirWay w → AtRest w → w.kernel.vfs.calls ≡ [] }
+{}
+
+/// At rest no closed file waits for its RELEASE. So the server counts each open number as often as the kernel holds it open, where the open numbers are
+/// balanced.
+pub fn open_files_are_counted_at_rest()
+    ensures closing { (w : World) (p : Plain) → BothSound w p → ReleasesKnown w → ReadAreOnTheirWay w → AtRest w → w.kernel.closing ≡ [] }
+    ensures opens { (w : World) (p : Plain) → BothSound w p → ReleasesKnown w → ReadAreOnTheirWay w → OpenBalance w → AtRest w → (fh : ℕ) →
+        handle_count (get w.server.handles.handles fh) ≡ count_by (λ (o : Opened). nat_eq o.fh fh) (values w.kernel.vfs.opens) }
 {}
