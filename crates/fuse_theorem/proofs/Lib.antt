@@ -184,3 +184,4 @@ pub mod OpenNeeds
 pub mod OpensOnce
 pub mod AllStaySound
 pub mod OpensAtRest
+pub mod OpensServable
