@@ -178,3 +178,5 @@ pub mod OpensStay
 pub mod HoldsOpens
 pub mod OpenNeeds
 pub mod OpensOnce
+pub mod NewNumbers
+pub mod OnceStays
