@@ -36,6 +36,8 @@ use Rattle.fuse_theorem.specs.OpenNumbers.{open_files, OpensBalanced, OpensSound
 use Rattle.fuse_theorem.specs.OpensOnce.{Carries, OpensOnce, OpensOnceWhileLive}
 use Rattle.fuse_theorem.specs.ReleasesKnown.{ReleasesKnown}
 use Rattle.fuse_theorem.specs.WorldSound.{WorldSound}
+use Rattle.fuse_theorem.proofs.Answered.{waiting_is}
+use Rattle.fuse_theorem.proofs.Finding.{same_is}
 use Rattle.fuse_theorem.proofs.GoingOn.{begun_goes_on}
 use Rattle.fuse_theorem.proofs.Happened.{Happened, by_mount, by_call, by_read_interrupt, by_read_forgets, by_read_pending, by_take, by_perform, by_again, by_write, by_settle, by_signal, by_tick, by_drop, by_evict, by_abort, happened}
 use Rattle.fuse_theorem.proofs.KeptOnLink.{stays_absent}
@@ -43,12 +45,11 @@ use Rattle.fuse_theorem.proofs.LookupsHeard.{wire_usable}
 use Rattle.fuse_theorem.proofs.MapSums.{worth}
 use Rattle.fuse_theorem.proofs.NewNumbers.{Draws, performed_draws, counted_next, given_back_next}
 use Rattle.fuse_theorem.proofs.NodesSound.{put_found}
-use Rattle.fuse_theorem.proofs.NumbersStay.{replying_kernel}
-use Rattle.fuse_theorem.proofs.OpenSums.{has_number, CountsOpens, counts_opens, kernel_sum, sent_sum}
+use Rattle.fuse_theorem.proofs.NumbersStay.{replying_kernel, unheard}
+use Rattle.fuse_theorem.proofs.OpenSums.{has_number, open_sum, CountsOpens, counts_opens, kernel_sum, sent_sum}
 use Rattle.fuse_theorem.proofs.OpensHeard.{HearsOpens, read_sum, written_heard}
 use Rattle.fuse_theorem.proofs.OpensKept.{KeepsOpen, begun_keeps, signalled_keeps}
 use Rattle.fuse_theorem.proofs.OpensMoved.{SameOpen, open_same, keeps_same, interrupt_same, pending_same, forgets_same}
-use Rattle.fuse_theorem.proofs.OpensMoved as opens_moved
 use Rattle.fuse_theorem.proofs.OpensOnce.{has_none, has_old, has_kept, has_at, files_with, none_new, one_new, one_opened}
 use Rattle.fuse_theorem.proofs.OpensStay.{alive, entries}
 use Rattle.fuse_theorem.proofs.OpensTables.{replying_server, taken_handles, taken_files, performed_files}
@@ -213,3 +214,150 @@ module _ (choice : ℕ → ℕ) (w : World) (p : Plain) (both : BothSound w p) (
             one_new w (replying (record w { server = (served choice w.server unique t).server }) w.server.next_copy unique (Some (served choice w.server unique t).wire)) old unique
             (λ u fh c. elim (carried _ refl u fh c) [ inl e ↦ inl (e.0, (draws.new fh e.1).0, (draws.new fh e.1).1) | inr d ↦ inr d ]) draws.rises refl none_coming
             (λ fh. let files = performed_files w p both live releases opens.held balanced choice unique t at may (Some (served choice w.server unique t).wire) (has_number fh) in omega (arith, files))
+
+  -- ---- a reply is written
+
+  module _ (k : ℕ) (sent : Sent) (at : slice_get w.replies k ≡ Some sent) where
+    abbrev taken : WriteResult × Kernel
+    taken = reply_written w.kernel sent.unique sent.wire
+
+    abbrev written : World
+    written = after_write w k sent (reply_written w.kernel sent.unique sent.wire)
+
+    -- what the copy's request serves, where a file is opened
+    abbrev Serves : Opened → Type 0
+    Serves o = (call : ℕ) × (nat_eq (sent.unique % 2) 1 ≡ false) × (waiting w.kernel.queues sent.unique ≡ Some (purpose.Call call))
+
+    still_live : is_live (reply_written w.kernel sent.unique sent.wire).1.phase ≡ true
+    still_live = alive choice w p both releases opens k sent at live
+
+    heard : HearsOpens Serves w.kernel sent.wire (reply_written w.kernel sent.unique sent.wire)
+    heard =
+        let known = lookups.balanced live in
+        written_heard Serves w.kernel opens.apart numbered.one_request sent.unique sent.wire (wire_usable w.server.nodes w.kernel.nodes known.known sent.wire (entries choice w p both releases opens k sent at live))
+        (λ even call state waits there goes o e. (call, even, waits)) still_live
+
+    files : (f : Opened → ℕ) → sum_by f (open_files written) ≡ sum_by f (open_files w) + worth f heard.opens
+    files f =
+        let before = open_sum f w in
+        let after = open_sum f written in
+        let kept = heard.keeps.sums f in
+        omega (arith, before, after, kept)
+
+    moves : QueueMoves w.kernel.queues (reply_written w.kernel sent.unique sent.wire).1.queues
+    moves = written_moves w.kernel sent.unique sent.wire still_live
+
+    carried : (u fh : ℕ) → Carries written u fh → Carries w u fh
+    carried u fh (inl x) = inl x
+    carried u fh (inr s) = inr (has_kept (λ (x : Sent). (x.unique ≡ u) × (1 ≤ opens_in fh x.wire)) w.replies k s)
+
+    low : sent.unique < w.kernel.queues.next
+    low = All-at (λ (s : Sent). s.unique < w.kernel.queues.next) w.replies k sent numbered.replies_below at
+
+    -- the request ends with the reply
+    ends : (call : ℕ) → nat_eq (sent.unique % 2) 1 ≡ false → waiting w.kernel.queues sent.unique ≡ Some (purpose.Call call) → request_under (reply_written w.kernel sent.unique sent.wire).1.queues sent.unique ≡ None
+    ends call even waits =
+        let k1 = record w.kernel { queues = without w.kernel.queues sent.unique } in
+        let is : reply_written w.kernel sent.unique sent.wire ≡ replied_to_call k1 call sent.wire (get w.kernel.vfs.calls call) =
+        ap (λ (b : Bool). cond b (odd_taken w.kernel sent.unique sent.wire (waiting w.kernel.queues (sent.unique - 1))) (reply_taken w.kernel sent.unique sent.wire (waiting w.kernel.queues sent.unique))) even
+        ∙ ap (reply_taken w.kernel sent.unique sent.wire) waits in
+        ap (λ (x : WriteResult × Kernel). request_under x.1.queues sent.unique) is
+        ∙ stays_absent k1.queues (replied_to_call k1 call sent.wire (get w.kernel.vfs.calls call)).1.queues (replied_moves k1 call sent.wire (get w.kernel.vfs.calls call)) sent.unique low (request_under-without w.kernel.queues sent.unique sound.queues)
+
+    written_once : OpensOnce (after_write w k sent (reply_written w.kernel sent.unique sent.wire))
+    written_once = by heard.opens refl
+      where
+        by : (x : Option Opened) → heard.opens ≡ x → OpensOnce (after_write w k sent (reply_written w.kernel sent.unique sent.wire))
+        by None e =
+            none_new w written old (omega arith) carried (answered_still (reply_written w.kernel sent.unique sent.wire).1.queues moves)
+            (λ fh. let sum = files (has_number fh) in let none = ap (worth (has_number fh)) e in omega (arith, sum, none))
+        by (Some o) e =
+            let serves = heard.fits o e in
+            let request = waiting_is w.kernel.queues sent.unique (purpose.Call serves.0) serves.2 in
+            let counted = heard.counts o.fh in
+            let worth_is = ap (worth (has_number o.fh)) e in
+            let itself : has_number o.fh o ≡ 1 = ap {B = ℕ} (λ (b : Bool). cond b 1 0) (same_is o.fh) in
+            one_opened w written old sent.unique o (omega arith) carried (answered_still (reply_written w.kernel sent.unique sent.wire).1.queues moves)
+            (inr (has_at (λ (x : Sent). (x.unique ≡ sent.unique) × (1 ≤ opens_in o.fh x.wire)) w.replies k sent at (refl, omega (arith, counted, worth_is, itself))))
+            (λ none. absurd (cc (none, request.under))) (ends serves.0 serves.1 serves.2) (λ fh. let sum = files (has_number fh) in let is = ap (worth (has_number fh)) e in omega (arith, sum, is))
+
+  -- ---- every event
+
+  once_after : (e : Event) (o : Outcome) (after : World) → MayStep choice w e → Happened choice w e o after → is_live after.kernel.phase ≡ true → OpensOnce after
+  once_after e o after may (by_mount f m idle) alive_now = fresh_once w f m
+  once_after e o after may (by_call call ready room within) alive_now =
+      moved (call_begun w.kernel call) w.requests (keeps_same w (call_begun w.kernel call) (begun_keeps w.kernel opens.apart call)) (answered_still (call_begun w.kernel call).queues (begun_moves w.kernel call))
+  once_after e o after may (by_read_interrupt original rest was found within) alive_now = moved after.kernel after.requests (interrupt_same w original) (λ u fh c waits. waits)
+  once_after e o after may (by_read_forgets n was free can within) alive_now =
+      moved after.kernel after.requests (forgets_same w n) (λ u fh c waits none. waits (forgets_under n u (can_read_forgets w.kernel.queues n) ∙ none))
+  once_after e o after may (by_read_pending k unique kept body was free found says within) alive_now =
+      moved after.kernel after.requests (pending_same w k unique body (read_sum w.kernel sound.queues k unique kept body found says)) (answered_still after.kernel.queues (read_moves w.kernel.queues sound.queues k))
+  once_after e o after may (by_take k r found within) alive_now = taken_once k r found
+  once_after e o after may (by_perform unique t found within) alive_now = performed_once unique t found (subst (MayChooseFor choice w) found may)
+  once_after e o after may (by_again unique kept found current within) alive_now = again_once unique kept found
+  once_after e o after may (by_write k sent found within) alive_now = written_once k sent found
+  once_after e o after may (by_settle k result found) alive_now = settled_once k result (get w.server.copies result.number)
+  once_after e o after may (by_signal call fatal state was found within) alive_now =
+      moved after.kernel w.requests (keeps_same w after.kernel (signalled_keeps w.kernel opens.apart sound.queues call state found fatal)) (answered_still after.kernel.queues (signalled_moves w.kernel call state fatal))
+  once_after e o after may (by_tick ms timely) alive_now = moved (record w.kernel { vfs = later w.kernel.vfs ms }) w.requests (λ f. refl) (λ u fh c waits. waits)
+  once_after e o after may (by_drop directory name bound was found) alive_now = moved (after_drop w directory name).kernel w.requests (λ f. refl) (λ u fh c waits. waits)
+  once_after e o after may (by_evict node counted was found unused) alive_now = moved (after_evict w node counted).kernel w.requests (λ f. refl) (λ u fh c waits. waits)
+  once_after e o after may (by_abort was) alive_now = absurd (true≢false (sym alive_now))
+
+-- A world that is not live comes to life by a mount alone.
+mounted_once : (choice : ℕ → ℕ) (w : World) (sound : WorldSound w) → is_live w.kernel.phase ≡ false → (e : Event) (o : Outcome) (after : World) → Happened choice w e o after → is_live after.kernel.phase ≡ true → OpensOnce after
+mounted_once choice w sound dead e o after did live = by e o after did live
+  where
+    same : (v : World) → v.kernel ≡ w.kernel → is_live v.kernel.phase ≡ true → ⊥
+    same v kernel now = true≢false (sym now ∙ ap (λ (k : Kernel). is_live k.phase) kernel ∙ dead)
+
+    was : is_live w.kernel.phase ≡ true → ⊥
+    was now = true≢false (sym now ∙ dead)
+
+    by : (x : Event) (r : Outcome) (v : World) → Happened choice w x r v → is_live v.kernel.phase ≡ true → OpensOnce v
+    by x r v (by_mount f m idle) now = fresh_once w f m
+    by x r v (by_call call ready room within) now = let goes = begun_goes_on w.kernel call in absurd (true≢false (sym now ∙ ap is_live goes.phase ∙ dead))
+    by x r v (by_read_interrupt original rest lives found within) now = absurd (was lives)
+    by x r v (by_read_forgets n lives free can within) now = absurd (was lives)
+    by x r v (by_read_pending k unique kept body lives free found says within) now = absurd (was lives)
+    by x r v (by_take k q found within) now =
+        let took = taking w.server q.unique q.body in
+        absurd (same (after_take w k q.unique took) (replying_kernel (record w { requests = without_at w.requests k; server = took.server }) w.server.next_copy q.unique took.reply) now)
+    by x r v (by_perform unique t found within) now =
+        let did_it = served choice w.server unique t in
+        absurd (same (after_perform w unique did_it) (replying_kernel (record w { server = did_it.server }) w.server.next_copy unique (cond w.server.aborted None (Some did_it.wire))) now)
+    by x r v (by_again unique kept found current within) now = absurd (was now)
+    by x r v (by_write k sent found within) now =
+        let lookups = sound.lookups in
+        let numbers = lookups.numbers in
+        absurd (same (after_write w k sent (reply_written w.kernel sent.unique sent.wire)) (unheard w.kernel (numbers.idle dead) sent.unique sent.wire) now)
+    by x r v (by_settle k result found) now = absurd (was now)
+    by x r v (by_signal call fatal state lives found within) now = absurd (was lives)
+    by x r v (by_tick ms timely) now = absurd (was now)
+    by x r v (by_drop directory name bound lives found) now = absurd (was lives)
+    by x r v (by_evict node counted lives found unused) now = absurd (was lives)
+    by x r v (by_abort lives) now = absurd (was lives)
+
+-- Open numbers stand once, whatever the event.
+pub once_stays : (w : World) (p : Plain) → BothSound w p → ReleasesKnown w → OpensSound w → OpensOnceWhileLive w → (e : Event) (o : Outcome) (after : World) → Happens w e o after → OpensOnceWhileLive after
+once_stays w p both releases opens old e o after h now = by (is_live w.kernel.phase) refl
+  where
+    did : Happened h.0 w e o after
+    did = happened h.0 w o after e h.2
+
+    by : (b : Bool) → is_live w.kernel.phase ≡ b → OpensOnce after
+    by true live = once_after h.0 w p both releases opens live (old live) e o after h.1 did now
+    by false dead = mounted_once h.0 w both.world dead e o after did now
+
+-- Where nothing is under way, the server counts each open number once at most.
+pub once_at_rest : (w : World) → OpensSound w → OpensOnceWhileLive w → AtRest w → (fh : ℕ) → handle_count (get w.server.handles.handles fh) ≤ 1
+once_at_rest w opens old rest fh =
+    let balanced = opens.balanced rest.live in
+    let whole = counts_opens w balanced.balance fh in
+    let sent : sum_by (λ (s : Sent). opens_in fh s.wire) w.replies ≡ 0 = ap (λ (ss : List Sent). sum_by (λ (s : Sent). opens_in fh s.wire) ss) rest.replies in
+    let back : sum_by (result_carries (opens_in fh) w.server) w.results ≡ 0 = ap (λ (rs : List ReplyResult). sum_by (result_carries (opens_in fh) w.server) rs) rest.results in
+    let once = (old rest.live).once fh in
+    omega (arith, whole, sent, back, once)
+
+pub first_once : OpensOnceWhileLive first_world
+first_once live = absurd (true≢false (sym live))

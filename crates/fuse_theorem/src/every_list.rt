@@ -2,7 +2,7 @@
 //! first world has it and that each event keeps it.
 
 ghost use Rattle.std.specs.Prelude.{Contains, ◌≡◌, ◌≢◌, ◌≤◌, ℕ, Ok, Some, slice_get, true, All, None};
-ghost use Rattle.fuse_spec.specs.Counts.{OpenBalance, open_in_kernel, opens_of};
+ghost use Rattle.fuse_spec.specs.Counts.{AtRest, OpenBalance, handle_count, open_in_kernel, opens_of};
 ghost use Rattle.fuse_spec.specs.Vfs.{CallState, asked};
 ghost use Rattle.fuse_spec.specs.Kernel.{is_live};
 ghost use Rattle.fuse_spec.specs.Maps.{get, remove};
@@ -34,6 +34,7 @@ ghost use Rattle.fuse_theorem.specs.StillHeld.{HeldReleasesKnown, NodesStillHeld
 ghost use Rattle.fuse_theorem.specs.StillOpen.{HeldNumbersOpen, OpensAfterAbort};
 ghost use Rattle.fuse_theorem.specs.NodesHeld.{NodesHeld, TakenServable};
 ghost use Rattle.fuse_theorem.specs.OpenNumbers.{OpensSound};
+ghost use Rattle.fuse_theorem.specs.OpensOnce.{OpensOnceWhileLive};
 ghost use Rattle.fuse_theorem.specs.ReleasesKnown.{ReleasesKnown};
 ghost use Rattle.fuse_theorem.specs.RepliesFit.{RepliesFitWhileLive};
 ghost use Rattle.fuse_theorem.specs.WorldSound.{WorldSound};
@@ -174,4 +175,12 @@ pub fn open_numbers_are_held()
         (is_open w.server.handles o.fh (file_of w.server.nodes o.nodeid) ≡ true) × HoldsOpens (record w { server = record w.server { held = remove w.server.held unique } }) (handle_back w.server.handles o.fh) }
     ensures settle { (w : World) (p : Plain) → BothSound w p → ReleasesKnown w → OpensSound w → (k : ℕ) (result : ReplyResult) (copy : Copy) → slice_get w.results k ≡ Some result → get w.server.copies result.number ≡ Some copy →
         HoldsOpens (after_settle w k result (Some copy)) (after_settle w k result (Some copy)).server.handles }
+{}
+
+/// While the mount is live, an open number is of one open file at most, open, closing or to be released, whatever the event. So where nothing is under way, the
+/// server counts each once at most.
+pub fn open_numbers_stand_once()
+    ensures at_first { OpensOnceWhileLive first_world }
+    ensures always { (w : World) (p : Plain) → BothSound w p → ReleasesKnown w → OpensSound w → OpensOnceWhileLive w → (e : Event) (o : Outcome) (after : World) → Happens w e o after → OpensOnceWhileLive after }
+    ensures at_rest { (w : World) → OpensSound w → OpensOnceWhileLive w → AtRest w → (fh : ℕ) → handle_count (get w.server.handles.handles fh) ≤ 1 }
 {}
