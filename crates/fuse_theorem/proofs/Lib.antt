@@ -185,3 +185,5 @@ pub mod OpensOnce
 pub mod AllStaySound
 pub mod OpensAtRest
 pub mod OpensServable
+pub mod NewNumbers
+pub mod OnceStays

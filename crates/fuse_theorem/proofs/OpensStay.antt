@@ -119,13 +119,13 @@ module _ (choice : ℕ → ℕ) (w : World) (p : Plain) (both : BothSound w p) (
 
   -- the kernel takes a copy
   module _ (k : ℕ) (sent : Sent) (there : slice_get w.replies k ≡ Some sent) (live : is_live w.kernel.phase ≡ true) where
-    alive : is_live (reply_written w.kernel sent.unique sent.wire).1.phase ≡ true
+    pub alive : is_live (reply_written w.kernel sent.unique sent.wire).1.phase ≡ true
     alive =
         let links = both.links in
         let agreed = links.agreed live in
         stays_live w.kernel (both.asked live).first live sent.unique sent.wire (All-at AgreesToInit w.replies k sent agreed.copies there)
 
-    entries : EntriesHeld w.server.nodes sent.wire
+    pub entries : EntriesHeld w.server.nodes sent.wire
     entries = let balanced = lookups.balanced live in All-at (λ (s : Sent). EntriesHeld w.server.nodes s.wire) w.replies k sent balanced.copies there
 
     hears_opens : HearsOpens (IsOfItsNode w.server) w.kernel sent.wire (reply_written w.kernel sent.unique sent.wire)

@@ -36,6 +36,7 @@ ghost use Rattle.fuse_theorem.specs.StillHeld.{HeldReleasesKnown, NodesStillHeld
 ghost use Rattle.fuse_theorem.specs.StillOpen.{HeldNumbersOpen, OpensAfterAbort};
 ghost use Rattle.fuse_theorem.specs.NodesHeld.{NodesHeld, TakenServable};
 ghost use Rattle.fuse_theorem.specs.OpenNumbers.{OpensSound};
+ghost use Rattle.fuse_theorem.specs.OpensOnce.{OpensOnceWhileLive};
 ghost use Rattle.fuse_theorem.specs.ReleasesKnown.{ReleasesKnown};
 ghost use Rattle.fuse_theorem.specs.RepliesFit.{RepliesFitWhileLive};
 ghost use Rattle.fuse_theorem.specs.WorldSound.{WorldSound};
@@ -193,4 +194,12 @@ pub fn open_files_are_counted_at_rest()
     ensures closing { (w : World) (p : Plain) → BothSound w p → ReleasesKnown w → ReadAreOnTheirWay w → AtRest w → w.kernel.closing ≡ [] }
     ensures opens { (w : World) (p : Plain) → BothSound w p → ReleasesKnown w → ReadAreOnTheirWay w → OpenBalance w → AtRest w → (fh : ℕ) →
         handle_count (get w.server.handles.handles fh) ≡ count_by (λ (o : Opened). nat_eq o.fh fh) (values w.kernel.vfs.opens) }
+{}
+
+/// While the mount is live, an open number is of one open file at most, open, closing or to be released, whatever the event. So where nothing is under way, the
+/// server counts each once at most.
+pub fn open_numbers_stand_once()
+    ensures at_first { OpensOnceWhileLive first_world }
+    ensures always { (w : World) (p : Plain) → BothSound w p → ReleasesKnown w → OpensSound w → OpensOnceWhileLive w → (e : Event) (o : Outcome) (after : World) → Happens w e o after → OpensOnceWhileLive after }
+    ensures at_rest { (w : World) → OpensSound w → OpensOnceWhileLive w → AtRest w → (fh : ℕ) → handle_count (get w.server.handles.handles fh) ≤ 1 }
 {}
