@@ -188,3 +188,5 @@ pub mod OpensServable
 pub mod NewNumbers
 pub mod OnceStays
 pub mod AllKeeps
+pub mod AllCollected
+pub mod AllRun

@@ -1,0 +1,5 @@
+use Rattle.fuse_theorem.proofs.AllKeeps.{all_keep}
+use Rattle.fuse_theorem.proofs.headline.protocol_is_kept.Goals as goal
+
+pub returns : goal.returns
+returns g = λ w p all. all_keep w p all
