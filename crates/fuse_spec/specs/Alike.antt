@@ -37,8 +37,8 @@ pub record VfsAlike {O P : Type 0} (R : ℕ → ℕ → Type 0) (S : O → P →
   pub clock : c.clock ≡ d.clock
   pub roots : R c.root d.root
 
--- An ask that isn't performed yet, that is marked as its request is, and on which a signal is noted where its request was signalled or is marked. (this
--- project's rule)
+-- An ask that isn't performed yet, that is marked as its request is, and on which a signal is noted where its request was signalled or is marked.
+-- (this project's rule)
 pub record IsWaiting (ask : Ask) (signalled marked : Bool) : Type 0 where
   pub stage : ask.stage ≡ waiting
   pub noted : signalled || marked ≡ true → ask.noted ≡ true
@@ -51,8 +51,8 @@ pub record AskedBy (asks : Map Ask) (unique : ℕ) (signalled marked : Bool) (Sa
   pub is_waiting : IsWaiting ask signalled marked
   pub same : SameDeed ask.operation
 
--- Only the request of a call has an ask, under its unique, of the same operation on the files that R and S say its nodes and open files mean. (this
--- project's rule)
+-- Only the request of a call has an ask, under its unique, of the same operation on the files that R and S say its nodes and open files mean.
+-- (this project's rule)
 abbrev pub RequestBodyAsked : Map Ask → (unique : ℕ) → (signalled marked : Bool) → (ℕ → ℕ → Type 0) → (Opened → ℕ → Type 0) → RequestBody → Type 0
 RequestBodyAsked all unique signalled marked R S (asks operation) = AskedBy all unique signalled marked (OperationAlike R S operation)
 RequestBodyAsked all unique signalled marked R S init = get all unique ≡ None
@@ -65,7 +65,7 @@ RequestBodyAsked all unique signalled marked R S (interrupt original) = get all 
 abbrev pub PurposeAsked : World → Plain → ℕ × QueuedRequest Purpose → Type 0
 PurposeAsked w p e = MatchOption (body_of w.kernel e.1.kept) ⊥ (RequestBodyAsked p.asks e.0 (is_signalled e.1.mark) false (MeansIn w) (MeansOpenIn w))
 
--- What an ask came to is what the reply says: what it came to, or EINTR where it was declined. (this project's rule)
+-- The reply says what its ask came to: the plain reply, or EINTR where the ask was declined; an ask that waits has no reply. (this project's rule)
 abbrev pub StageTold : NodeTable → HandleTable → Stage → WireReply → Type 0
 StageTold t h waiting wire = ⊥
 StageTold t h (performed reply) wire = ReplyAlike (Names t) (Opens h) wire reply

@@ -47,8 +47,8 @@ refused Invalid n = n
 abbrev pub result_carries : (WireReply → ℕ) → Server → ReplyResult → ℕ
 result_carries f s result = refused result.result (carried f (get s.copies result.number))
 
--- In flight for a node: forgets that are queued or on the request link, copies on the reply link that name it, and refused ones on the result link. (this
--- project's rule)
+-- In flight for a node: forgets that are queued or on the request link, copies on the reply link that name it, and refused ones on the result link.
+-- (this project's rule)
 abbrev pub in_flight : World → ℕ → ℕ
 in_flight w id =
     forgotten id w.kernel.queues.forgets + sum_by (λ (r : Request). forgotten id (forgets_of r.body)) w.requests
@@ -143,8 +143,8 @@ pub record Held (w : World) : Type 0 where
   pub sent : All (λ (r : Request). IsServable w.server r.body) w.requests
   pub taken : All (λ (t : HeldRequest). IsServable w.server t.body) (values w.server.held)
 
--- Nothing is under way: the mount is live, no request, INTERRUPT or forget is queued, the links are empty, and the server holds no request. (this project's
--- rule)
+-- Nothing is under way: the mount is live, no request, INTERRUPT or forget is queued, the links are empty, and the server holds no request.
+-- (this project's rule)
 pub record AtRest (w : World) : Type 0 where
   pub live : is_live w.kernel.phase ≡ true
   pub pending : pending w.kernel.queues ≡ []

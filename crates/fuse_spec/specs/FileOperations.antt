@@ -15,12 +15,12 @@ FileOperation = Operation ℕ ℕ
 abbrev pub Check : Type 0
 Check = Bool × ℕ
 
--- Whether there is a file under the name that is no directory. (POSIX, unlink)
+-- Whether there is a file under the name that is no directory. (POSIX, rename)
 abbrev pub is_file : Tree → Option ℕ → Bool
 is_file tree None = false
 is_file tree (Some file) = not (is_directory tree file)
 
--- Whether there is a directory under the name. (POSIX, unlink)
+-- Whether there is a directory under the name. (POSIX, rename)
 abbrev pub is_dir : Tree → Option ℕ → Bool
 is_dir tree None = false
 is_dir tree (Some file) = is_directory tree file

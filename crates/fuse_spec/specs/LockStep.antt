@@ -55,7 +55,7 @@ abbrev pub plain_answers : Option Plain → List Record
 plain_answers None = []
 plain_answers (Some p) = answers_of p.vfs.answers
 
--- Both worlds after an event, with what each records; a refused event changes nothing else. (this project's rule)
+-- Both worlds after an event, with what each records and with the answers collected; a refused event is recorded alone. (this project's rule)
 abbrev pub moved : Both → Event → Stepped → Both
 moved b e (Err refusal) = record b { records = b.records ++ refused refusal ∷ []; plain_records = b.plain_records ++ refused refusal ∷ [] }
 moved b e (Ok parts) =

@@ -77,7 +77,7 @@ rows_less rows id n (Some row) = cond (nat_lt n row.count) (put rows id (record 
 abbrev pub taken_back : NodeTable → ℕ → ℕ → NodeTable
 taken_back t id n = record t { rows = rows_less t.rows id n (get t.rows id) }
 
--- An open file: the file, and how many copies of replies carry its number or wait for its release. (this project's rule)
+-- An open number of the server: its file, and a count of one for each copy that carried it and was neither refused nor released. (this project's rule)
 pub record OpenNumber : Type 0 where
   pub file : ℕ
   pub count : ℕ

@@ -22,7 +22,7 @@ serving_ask p label ask waiting = cond ask.marked (where_so ask.noted (ask_decli
 serving_ask p label ask (performed reply) = None
 serving_ask p label ask declined = None
 
--- A request with no ask (INIT, RELEASE) takes no step. (this project's rule)
+-- The ask under this label is served; a request with no ask (INIT, RELEASE) takes no step. (this project's rule)
 abbrev pub serving : Plain → ℕ → Option Ask → Option Plain
 serving p label None = Some p
 serving p label (Some ask) = serving_ask p label ask ask.stage

@@ -19,7 +19,7 @@ use Rattle.fuse_spec.specs.Events.{Event, Outcome}
 use Rattle.fuse_spec.specs.Events as event
 use Rattle.fuse_spec.specs.PlainCalls.{is_answered, Begins, Hears, out_of_force}
 
--- What a call asks is put under a label that no other ask bears; or it asks nothing. (this project's rule)
+-- What a call asks is put under this label, or the call asks nothing. (this project's rule)
 pub data Asks (p : Plain) (label number : ℕ) (after : Vfs ℕ) : Option (Operation ℕ ℕ) → Plain → Type 0 where
   nothing : Asks p label number after None (record p { vfs = after })
   puts_ask : (operation : Operation ℕ ℕ) → Asks p label number after (Some operation)

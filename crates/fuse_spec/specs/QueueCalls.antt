@@ -44,7 +44,7 @@ module _ {W : Type 0} where
   abbrev pub with_interrupt : QueueState W → ℕ → QueueState W
   with_interrupt s unique = record s { interrupts = if s.interrupts_off then s.interrupts else s.interrupts ++ unique ∷ [] }
 
-  -- A pending request is in processing once it is read, and the INTERRUPT of a flagged one is queued. (fuse.rst)
+  -- A pending request is in processing once it is read, and the INTERRUPT of a flagged one is queued, unless none is queued any more. (fuse.rst)
   abbrev pub after_reading : QueueState W → ℕ → Mark → QueueState W
   after_reading s unique Unread = with_mark s unique Read
   after_reading s unique Flagged = with_interrupt (with_mark s unique Interrupted) unique

@@ -31,14 +31,14 @@ is_unread Flagged = true
 is_unread Read = false
 is_unread Interrupted = false
 
--- Whether the INTERRUPT of a request was queued. (fuse.rst)
+-- Whether the INTERRUPT of a request was queued, or would have been but for an ENOSYS before. (fuse.rst)
 abbrev pub has_interrupt : Mark → Bool
 has_interrupt Unread = false
 has_interrupt Flagged = false
 has_interrupt Read = false
 has_interrupt Interrupted = true
 
--- Whether the call of a request was signalled. (fuse.rst)
+-- Whether a request bears a signal to its call: it is flagged, or its INTERRUPT was due. (fuse.rst)
 abbrev pub is_signalled : Mark → Bool
 is_signalled Unread = false
 is_signalled Flagged = true
@@ -61,7 +61,7 @@ request_under s unique = lookup (nat_eq unique) s.requests
 abbrev pub mark_under : {W : Type 0} → QueueState W → ℕ → Option Mark
 mark_under s unique = option_map (λ r. r.mark) (request_under s unique)
 
--- Whether the request under a number was read, is unanswered, and had its INTERRUPT queued. (fuse.rst)
+-- Whether the request under a number was read, is unanswered, and bears a signal, so that its INTERRUPT was due. (fuse.rst)
 abbrev pub is_interrupted : {W : Type 0} → QueueState W → ℕ → Bool
 is_interrupted s unique = option_map_or has_interrupt (mark_under s unique) false
 

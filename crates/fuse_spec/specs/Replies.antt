@@ -99,8 +99,8 @@ node_opened (opening node) entries = node
 node_opened operation [] = 0
 node_opened operation (g ∷ gs) = g.nodeid
 
--- What the reply says, with the files named as the kernel names them: by nodeid, and an open file by its node and its number. (linux/fuse.h, struct
--- fuse_entry_out)
+-- What the reply says, with the files named as the kernel names them: by nodeid, and an open file by its node and its number.
+-- (linux/fuse.h, struct fuse_entry_out)
 abbrev pub kernel_reply : Operation ℕ Opened → WireReply → Reply ℕ Opened
 kernel_reply operation wire = reply_with (λ (g : Entry). g.nodeid) (λ fh. record { nodeid = node_opened operation (files_in_reply wire); fh = fh }) wire
 

@@ -86,8 +86,8 @@ is_within (suc steps) names top dir =
 abbrev pub is_below : Tree → ℕ → ℕ → Bool
 is_below tree top dir = is_within (length tree.names) tree.names top dir
 
--- The attributes of a file: its inode number is its birth and 1, its size the number of its bytes, its link count the number of its names. (linux/fuse.h,
--- struct fuse_attr)
+-- The attributes of a file: its inode number is its birth and 1, its size the number of its bytes, its link count the number of its names.
+-- (linux/fuse.h, struct fuse_attr)
 abbrev pub attributes_of : Tree → ℕ → Attributes
 attributes_of tree file =
     record {

@@ -24,7 +24,7 @@ asked (doing operation) = operation
 asked (using handle operation) = operation
 
 -- The unanswered calls, the names in force, the open files by the numbers of the calls that opened them, the answers that are not yet collected, the next
--- call's number, the time in milliseconds, and how the root is named. (Linux VFS)
+-- call's number, the time in milliseconds, and how the root is named. (this project's rule)
 pub record Vfs (O : Type 0) : Type 0 where
   pub calls : Map (CallState O)
   pub names : NameMap Binding

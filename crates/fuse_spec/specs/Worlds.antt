@@ -26,8 +26,8 @@ pub record Sent : Type 0 where
   pub unique : ℕ
   pub wire : WireReply
 
--- The world: one kernel, one server, and the three links with the requests, the copies of replies and their results that are on their way. (this project's
--- rule)
+-- The world: one kernel, one server, and the three links with the requests, the copies of replies and their results that are on their way.
+-- (this project's rule)
 pub record World : Type 0 where
   pub kernel : Kernel
   pub server : Server
