@@ -168,7 +168,7 @@ step choice w (event.drop_name directory name) =
 step choice w (event.evict node) = when_live w (evicting w node (get w.kernel.nodes node))
 step choice w event.abort = when_live w (Ok (event.aborted, after_abort w))
 
--- Which ids the server may choose: any free ones for the files that get a node in this event. (this project's rule)
+-- Which ids the server may choose for the files that get a node in this event: the id that a file has, or else any free one. (this project's rule)
 abbrev pub MayChooseFor : (ℕ → ℕ) → World → Option HeldRequest → Type 0
 MayChooseFor choice w None = Unit {0}
 MayChooseFor choice w (Some taken) = MayChoose choice w.server.nodes (files_given w.server taken)

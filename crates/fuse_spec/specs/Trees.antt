@@ -87,7 +87,7 @@ abbrev pub is_below : Tree → ℕ → ℕ → Bool
 is_below tree top dir = is_within (length tree.names) tree.names top dir
 
 -- The attributes of a file: its inode number is its birth and 1, its size the number of its bytes, its link count the number of its names.
--- (linux/fuse.h, struct fuse_attr)
+-- (this project's rule)
 abbrev pub attributes_of : Tree → ℕ → Attributes
 attributes_of tree file =
     record {
@@ -124,7 +124,7 @@ overwritten old offset (b ∷ bytes) =
 abbrev pub record_length : Dirent → ℕ
 record_length r = (31 + length r.name) / 8 * 8
 
--- A name as READDIR lists it: the inode number, the serial as the offset from which to read on, the kind and the name. (linux/fuse.h, struct fuse_dirent)
+-- A name as READDIR lists it: the inode number, the serial as the offset from which to read on, the kind and the name. (this project's rule)
 abbrev pub record_of : Tree → Named → Dirent
 record_of tree n = record { ino = n.file + 1; offset = n.serial; kind = kind_of (get tree.files n.file); name = n.name }
 
