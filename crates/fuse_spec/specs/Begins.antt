@@ -10,30 +10,32 @@ use Rattle.fuse_spec.specs.Walks as final
 use Rattle.fuse_spec.specs.Calls.{Call}
 use Rattle.fuse_spec.specs.Calls as call
 
+-- How a call begins: an error at once, a walk along words, an operation on an open file, or a close. (Linux VFS)
 pub data Beginning (F O : Type 0) : Type 0 where
   faulty : (errno : ℕ) → Beginning F O
   sets_out : (words : List Name) (plan : WalkPlan F) → Beginning F O
   uses : (handle : ℕ) (operation : Operation F O) → Beginning F O
   closes : (handle : ℕ) (opened : O) → Beginning F O
 
--- A path whose words are all walked.
+-- A path whose words are all walked, or its fault. (this project's rule)
 abbrev pub whole_path : {F O : Type 0} → List ℕ → (List Name → Beginning F O) → Beginning F O
 whole_path path then = elim (words_of path) [ Err fault ↦ faulty fault | Ok words ↦ then words ]
 
--- A path that is walked up to its last word, which it must have.
+-- A path that is walked up to its last word, which it must have: `/` alone is EINVAL. (this project's rule)
 abbrev pub parent_path : {F O : Type 0} → List ℕ → (List Name → Name → Beginning F O) → Beginning F O
 parent_path path then = whole_path path (λ words. elim (parent_and_last words) [ None ↦ faulty einval | Some parts ↦ then parts.0 parts.1 ])
 
--- A read or write of an open file.
+-- A read or write of an open file: EBADF for a number that isn't open, and EINVAL past the largest offset or length. (this project's rule)
 abbrev pub using : {F O : Type 0} → ℕ → Option O → (offset size : ℕ) → (O → Operation F O) → Beginning F O
 using handle None offset size then = faulty ebadf
 using handle (Some opened) offset size then = cond (nat_lt max_file offset || nat_lt max_transfer size) (faulty einval) (uses handle (then opened))
 
+-- A close of an open file, or EBADF. (POSIX, close)
 abbrev pub closing : {F O : Type 0} → ℕ → Option O → Beginning F O
 closing handle None = faulty ebadf
 closing handle (Some opened) = closes handle opened
 
--- Of two paths the first is judged first.
+-- How each call begins; of two paths the first is judged first. (this project's rule)
 abbrev pub beginning : {F O : Type 0} → Map O → Call → Beginning F O
 beginning opens (call.stat path) = whole_path path (λ words. sets_out words (last final.stat))
 beginning opens (call.list path after) = whole_path path (λ words. sets_out words (last (final.list after)))

@@ -5,7 +5,7 @@ use Rattle.fuse_spec.specs.Operations.{Operation, getattr, mkdir, create, unlink
 use Rattle.fuse_spec.specs.Answers as answer
 use Rattle.fuse_spec.specs.Vfs.{CallState, walking, doing, using, Vfs, Advance, no_more, answered, bound, unbound, opened_by, walks_on}
 
--- The reply to the call's own operation. What doesn't go with the operation is EIO.
+-- The reply to the call's own operation answers the call and puts names in force or takes them out; what doesn't go with the operation is EIO. (Linux VFS)
 abbrev pub operation_replied : {O : Type 0} → Vfs O → ℕ → Operation ℕ O → Reply ℕ O → Vfs O
 operation_replied c call operation (failed errno) = answered c call (answer.failed errno)
 operation_replied c call (getattr file) (attributes a) = answered c call (answer.attributes a)
@@ -21,7 +21,7 @@ operation_replied c call (read o offset size) (content bytes) = answered c call 
 operation_replied c call (write o offset bytes) (written size) = answered c call (answer.written size)
 operation_replied c call operation reply = answered c call (answer.failed eio)
 
--- The reply to what the call, which stands here, has asked.
+-- The reply to what the call, which stands here, has asked: after a LOOKUP the call walks on, or is answered that the name is missing. (Linux VFS)
 abbrev pub call_replied : {O : Type 0} → Vfs O → ℕ → CallState O → Reply ℕ O → Advance O
 call_replied c call (walking d word words plan) (found file valid) = walks_on (bound c d word (Some file) valid) call file words plan
 call_replied c call (walking d word words plan) (missing valid) = no_more (answered (bound c d word None valid) call (answer.failed enoent))

@@ -12,50 +12,54 @@ use Rattle.fuse_spec.specs.declared.Binding.{Binding}
 use Rattle.fuse_spec.specs.Worlds.{World}
 use Rattle.fuse_spec.specs.Nodes.{NodeTable, HandleTable, HeldNode, row_of, is_open}
 
--- The server holds the id under this generation for this file.
+-- The server holds the id under this generation for this file. (this project's rule)
 pub record Denotes (t : NodeTable) (id generation file : ℕ) : Type 0 where
   pub row : HeldNode
   pub there : row_of t id ≡ Some row
   pub same_generation : row.generation ≡ generation
   pub same_file : row.file ≡ file
 
--- The generation under which the kernel knows a node: the root's is 0.
+-- The generation under which the kernel knows a node: the root's is 0. (this project's rule)
 abbrev pub generation_known : Map Counted → ℕ → Option ℕ
 generation_known nodes id = cond (nat_eq id 1) (Some 0) (option_map (λ counted. counted.generation) (get nodes id))
 
--- The kernel's node means this file: the server holds it for the file, under the kernel's generation.
+-- The kernel's node means this file: the server holds it for the file, under the kernel's generation. (this project's rule)
 pub record Means (nodes : Map Counted) (t : NodeTable) (id file : ℕ) : Type 0 where
   pub generation : ℕ
   pub known : generation_known nodes id ≡ Some generation
   pub denotes : Denotes t id generation file
 
--- The kernel's open file means this file: so does its node, and the number is an open number of that same file.
+-- The kernel's open file means this file: so does its node, and the number is an open number of that same file. (this project's rule)
 pub record MeansOpen (nodes : Map Counted) (t : NodeTable) (h : HandleTable) (o : Opened) (file : ℕ) : Type 0 where
   pub node_means : Means nodes t o.nodeid file
   pub is_number : is_open h o.fh file ≡ true
 
--- The entry of a copy denotes this file, and its open number is one of this file.
+-- The entry of a copy denotes this file. (this project's rule)
 abbrev pub Names : NodeTable → Entry → ℕ → Type 0
 Names t g file = Denotes t g.nodeid g.generation file
 
+-- The open number of a copy is one of this file. (this project's rule)
 abbrev pub Opens : HandleTable → ℕ → ℕ → Type 0
 Opens h fh file = is_open h fh file ≡ true
 
--- The same in a world: what its kernel's nodes and open files mean.
+-- What a node of the kernel means in a world. (this project's rule)
 abbrev pub MeansIn : World → ℕ → ℕ → Type 0
 MeansIn w id file = Means w.kernel.nodes w.server.nodes id file
 
+-- What an open file of the kernel means in a world. (this project's rule)
 abbrev pub MeansOpenIn : World → Opened → ℕ → Type 0
 MeansOpenIn w o file = MeansOpen w.kernel.nodes w.server.nodes w.server.handles o file
 
 -- What follows holds for any relation R of the files' names, and S of the open files'.
 
+-- Two that are both there and alike, or both none. (this project's rule)
 abbrev pub OptionAlike : {X Y : Type 0} → (X → Y → Type 0) → Option X → Option Y → Type 0
 OptionAlike R None None = Unit {0}
 OptionAlike R (Some x) (Some y) = R x y
 OptionAlike R None (Some y) = ⊥
 OptionAlike R (Some x) None = ⊥
 
+-- The same operation, on files that R says are the same and open files that S says are. (this project's rule)
 abbrev pub OperationAlike : {F O G P : Type 0} → (F → G → Type 0) → (O → P → Type 0) → Operation F O → Operation G P → Type 0
 OperationAlike R S (lookup d name) (lookup e other) = R d e × (name ≡ other)
 OperationAlike R S (getattr x) (getattr y) = R x y
@@ -71,6 +75,7 @@ OperationAlike R S (read o offset size) (read p offset' size') = S o p × (offse
 OperationAlike R S (write o offset bytes) (write p offset' bytes') = S o p × (offset ≡ offset') × (bytes ≡ bytes')
 OperationAlike R S a b = ⊥
 
+-- The same reply, with files that R says are the same and open files that S says are. (this project's rule)
 abbrev pub ReplyAlike : {F O G P : Type 0} → (F → G → Type 0) → (O → P → Type 0) → Reply F O → Reply G P → Type 0
 ReplyAlike R S (found x valid) (found y valid') = R x y × (valid ≡ valid')
 ReplyAlike R S (missing valid) (missing valid') = valid ≡ valid'
@@ -85,6 +90,7 @@ ReplyAlike R S done done = Unit {0}
 ReplyAlike R S (failed a) (failed b) = a ≡ b
 ReplyAlike R S a b = ⊥
 
+-- The same operation at the end of a walk, on files that R says are the same. (this project's rule)
 abbrev pub FinalAlike : {F G : Type 0} → (F → G → Type 0) → FinalOperation F → FinalOperation G → Type 0
 FinalAlike R final.stat final.stat = Unit {0}
 FinalAlike R (final.list after) (final.list after') = after ≡ after'
@@ -97,18 +103,20 @@ FinalAlike R (final.rename_from d old new) (final.rename_from e old' new') = R d
 FinalAlike R (final.link_to x name) (final.link_to y other) = R x y × (name ≡ other)
 FinalAlike R a b = ⊥
 
+-- Two walks for the same end, over files that R says are the same. (this project's rule)
 abbrev pub WalkPlanAlike : {F G : Type 0} → (F → G → Type 0) → WalkPlan F → WalkPlan G → Type 0
 WalkPlanAlike R (last a) (last b) = FinalAlike R a b
 WalkPlanAlike R (final.rename old words new) (final.rename old' words' new') = (old ≡ old') × (words ≡ words') × (new ≡ new')
 WalkPlanAlike R (final.link words name) (final.link words' name') = (words ≡ words') × (name ≡ name')
 WalkPlanAlike R a b = ⊥
 
+-- Two calls that wait for the same, over files that R says are the same and open files that S says are. (this project's rule)
 abbrev pub StateAlike : {O P : Type 0} → (ℕ → ℕ → Type 0) → (O → P → Type 0) → CallState O → CallState P → Type 0
 StateAlike R S (walking d word words plan) (walking e word' words' plan') = R d e × (word ≡ word') × (words ≡ words') × WalkPlanAlike R plan plan'
 StateAlike R S (doing a) (doing b) = OperationAlike R S a b
 StateAlike R S (using handle a) (using handle' b) = (handle ≡ handle') × OperationAlike R S a b
 StateAlike R S a b = ⊥
 
--- Two names in force that lead to the same file, or both to none, for as long.
+-- Two names in force that lead to the same file, or both to none, for as long. (this project's rule)
 abbrev pub BindingAlike : (ℕ → ℕ → Type 0) → Binding → Binding → Type 0
 BindingAlike R a b = OptionAlike R a.target b.target × (a.until ≡ b.until)

@@ -6,6 +6,7 @@ use Rattle.fuse_spec.specs.declared.IntrEffect.{IntrEffect}
 use Rattle.fuse_spec.specs.declared.WriteResult.{WriteResult}
 use Rattle.fuse_spec.specs.declared.Taken.{Taken}
 
+-- What may happen in one atomic step; a place k counts from 0 among the pending requests or on a link. (this project's rule)
 pub data Event : Type 0 where
   mount : (found_ms missing_ms : ℕ) → Event
   call : (call : Call) → Event
@@ -23,7 +24,7 @@ pub data Event : Type 0 where
   evict : (node : ℕ) → Event
   abort : Event
 
--- The outcome of an event that is accepted. The opcodes and lengths that are printed are those of the frames.
+-- The outcome of an event that is accepted. The opcodes and lengths that are printed are those of the frames. (this project's rule)
 pub data Outcome : Type 0 where
   mounted : Outcome
   begun : (call : ℕ) → Outcome

@@ -22,7 +22,8 @@ use Rattle.fuse_spec.specs.Messages.{RequestBody, init, asks, release}
 use Rattle.fuse_spec.specs.Queues.{QueueState, empty_queues}
 use Rattle.fuse_spec.specs.QueueCalls.{after_enqueue, after_forget, interrupt_effect, after_interrupt}
 
--- closing: the files that are closed while a read or write of them is unanswered.
+-- The kernel: its mount's phase, the system calls' side, the queues, the nodes with their counts, and in `closing` the files that are closed while a read or
+-- write of them is unanswered. (this project's rule)
 pub record Kernel : Type 0 where
   pub phase : Phase
   pub vfs : Vfs Opened
@@ -30,12 +31,14 @@ pub record Kernel : Type 0 where
   pub nodes : Map Counted
   pub closing : Map Opened
 
+-- Whether a mount is there and not aborted. (fuse.rst)
 abbrev pub is_live : Phase → Bool
 is_live Down = false
 is_live Starting = true
 is_live Ready = true
 is_live Aborted = false
 
+-- Whether the mount is aborted. (fuse.rst)
 abbrev pub is_aborted : Phase → Bool
 is_aborted Down = false
 is_aborted Starting = false
@@ -44,47 +47,49 @@ is_aborted Aborted = true
 
 -- ---- requests
 
--- What the request of a call asks: the operation for which the call waits.
+-- What the request of a call asks: the operation for which the call waits. (Linux VFS)
 abbrev pub asked_by : Option (CallState Opened) → Option RequestBody
 asked_by None = None
 asked_by (Some state) = Some (asks (asked state))
 
--- What a request asks of the server.
+-- What a request asks of the server, by what the kernel keeps of it: INIT, RELEASE, or the operation of an unanswered call. (linux/fuse.h, enum fuse_opcode)
 abbrev pub body_of : Kernel → Purpose → Option RequestBody
 body_of k purpose.Init = Some init
 body_of k (purpose.Release opened) = Some (release opened)
 body_of k (purpose.Call call) = asked_by (get k.vfs.calls call)
 
+-- Whether a request serves this call. (this project's rule)
 abbrev pub is_for : ℕ → Purpose → Bool
 is_for call purpose.Init = false
 is_for call (purpose.Release opened) = false
 is_for call (purpose.Call other) = nat_eq other call
 
--- The unique of the call's current request, read or not.
+-- The unique of the call's current request, read or not. (this project's rule)
 abbrev pub request_of : Kernel → ℕ → Option ℕ
 request_of k call = option_map (λ e. e.0) (find (λ e. is_for call e.1.kept) k.queues.requests)
 
--- A request for the call is queued, where it asks an operation.
+-- A request for the call is queued, where it asks an operation. (fuse.rst)
 abbrev pub asking_for : Kernel → ℕ → Option (Operation ℕ Opened) → Kernel
 asking_for k call None = k
 asking_for k call (Some operation) = record k { queues = after_enqueue k.queues (purpose.Call call) }
 
--- The kernel after a step of a call.
+-- The kernel after a step of a call: what the call asks next is queued. (fuse.rst)
 abbrev pub advanced : Kernel → ℕ → Advance Opened → Kernel
 advanced k call next = asking_for (record k { vfs = next.vfs }) call next.operation
 
 -- ---- open files
 
+-- Whether a call waits for a read or write of the open file of this number. (libfuse, low-level: release)
 abbrev pub is_using : ℕ → CallState Opened → Bool
 is_using handle (walking directory word words plan) = false
 is_using handle (doing operation) = false
 is_using handle (using other operation) = nat_eq other handle
 
--- Whether a read or write of the open file is unanswered.
+-- Whether a read or write of the open file is unanswered. (libfuse, low-level: release)
 abbrev pub is_used : Kernel → ℕ → Bool
 is_used k handle = list_any (is_using handle) (values k.vfs.calls)
 
--- A closed file is released once no read or write of it is unanswered.
+-- A closed file is released once no read or write of it is unanswered: its RELEASE is queued. (libfuse, low-level: release)
 abbrev pub released : Kernel → ℕ → Option Opened → Kernel
 released k handle None = k
 released k handle (Some opened) =
@@ -93,94 +98,102 @@ released k handle (Some opened) =
       queues = cond (is_used k handle) k.queues (after_enqueue k.queues (purpose.Release opened));
     }
 
+-- The same for the closed file of this number, if there is one. (libfuse, low-level: release)
 abbrev pub released_if_idle : Kernel → ℕ → Kernel
 released_if_idle k handle = released k handle (get k.closing handle)
 
--- After the call that stood here is answered.
+-- After the call that stood here is answered, the file that it read or wrote may be released. (libfuse, low-level: release)
 abbrev pub after_use : Kernel → CallState Opened → Kernel
 after_use k (walking directory word words plan) = k
 after_use k (doing operation) = k
 after_use k (using handle operation) = released_if_idle k handle
 
+-- An open file is closed: it is released at once, or after its last read or write. (libfuse, low-level: release)
 abbrev pub closed : Kernel → ℕ → Option Opened → Kernel
 closed k handle None = k
 closed k handle (Some opened) = released_if_idle (record k { closing = put k.closing handle opened }) handle
 
--- Which open file a call closes.
+-- Which open file a call closes, if it closes one. (POSIX, close)
 abbrev pub closed_by : Map Opened → Call → Option (ℕ × Opened)
 closed_by opens (call.close handle) = option_map (λ opened. (handle, opened)) (get opens handle)
 closed_by opens other = None
 
+-- The kernel once that file is closed, or as it was where the call closes none. (libfuse, low-level: release)
 abbrev pub closing_of : Kernel → Option (ℕ × Opened) → Kernel
 closing_of k None = k
 closing_of k (Some file) = closed k file.0 (Some file.1)
 
 -- ---- calls, mounts and aborts
 
--- A call begins, and the open file that it closes is released.
+-- A call begins, and the open file that it closes is released. (Linux VFS)
 abbrev pub call_begun : Kernel → Call → Kernel
 call_begun k call =
     closing_of (advanced k k.vfs.next_call (begun (is_aborted k.phase) k.vfs call)) (cond (is_aborted k.phase) None (closed_by k.vfs.opens call))
 
--- Everything is given up: calls, names, nodes, open files and the four lists.
+-- Everything is given up: calls, names, nodes, open files and the four lists. (this project's rule)
 abbrev pub all_given_up : Kernel → Phase → Kernel
 all_given_up k phase = record { phase = phase; vfs = given_up k.vfs; queues = empty_queues; nodes = []; closing = [] }
 
+-- An abort: every unanswered call is answered an error, and the connection is gone. (fuse.rst)
 abbrev pub kernel_aborted : Kernel → Kernel
 kernel_aborted k = all_given_up k Aborted
 
--- A mount gives up everything, and queues INIT.
+-- A mount gives up everything, without forgets, and queues INIT. (this project's rule)
 abbrev pub kernel_mounted : Kernel → Kernel
 kernel_mounted k = record { phase = Starting; vfs = given_up k.vfs; queues = after_enqueue empty_queues purpose.Init; nodes = []; closing = [] }
 
 -- ---- signals
 
--- The signalled call is answered EINTR if its request left the list unread.
+-- The signalled call is answered EINTR if its request left the list unread. (fuse.rst)
 abbrev pub after_signal : Kernel → ℕ → CallState Opened → IntrEffect → Kernel
 after_signal k call state Dequeued = after_use (record k { vfs = answered k.vfs call (failed eintr) }) state
 after_signal k call state Flagged = k
 after_signal k call state Queued = k
 after_signal k call state NoEffect = k
 
+-- A signal to a call whose current request has this unique; without a request nothing happens. (fuse.rst)
 abbrev pub signalled_at : Kernel → ℕ → CallState Opened → Bool → Option ℕ → IntrEffect × Kernel
 signalled_at k call state fatal None = (NoEffect, k)
 signalled_at k call state fatal (Some unique) =
     (interrupt_effect k.queues unique fatal, after_signal (record k { queues = after_interrupt k.queues unique fatal }) call state (interrupt_effect k.queues unique fatal))
 
--- A signal to an unanswered call, which stands here.
+-- A signal to an unanswered call, which stands here. (fuse.rst)
 abbrev pub call_signalled : Kernel → ℕ → CallState Opened → Bool → IntrEffect × Kernel
 call_signalled k call state fatal = signalled_at k call state fatal (request_of k call)
 
 -- ---- nodes in use
 
+-- The node of an open file. (this project's rule)
 abbrev pub opened_nodes : Opened → List ℕ
 opened_nodes opened = opened.nodeid ∷ []
 
--- The nodes that a call stands on or names.
+-- The nodes that a call stands on or names. (this project's rule)
 abbrev pub nodes_of_state : CallState Opened → List ℕ
 nodes_of_state (walking directory word words plan) = directory ∷ files_of_plan plan
 nodes_of_state (doing operation) = files_in opened_nodes operation
 nodes_of_state (using handle operation) = files_in opened_nodes operation
 
+-- Whether the request is a RELEASE of a file of this node. (linux/fuse.h, struct fuse_release_in)
 abbrev pub is_released_by : ℕ → Purpose → Bool
 is_released_by node purpose.Init = false
 is_released_by node (purpose.Release opened) = nat_eq opened.nodeid node
 is_released_by node (purpose.Call call) = false
 
--- Whether an unanswered call, an open file or an unanswered RELEASE names the node.
+-- Whether an unanswered call, an open file or an unanswered RELEASE names the node. (this project's rule)
 abbrev pub is_pinned : Kernel → ℕ → Bool
 is_pinned k node =
     list_any (λ state. list_any (nat_eq node) (nodes_of_state state)) (values k.vfs.calls)
     || (list_any (λ (opened : Opened). nat_eq opened.nodeid node) (values k.vfs.opens) || list_any (λ e. is_released_by node e.1.kept) k.queues.requests)
 
+-- Whether a name leads to this node. (this project's rule)
 abbrev pub leads_to : ℕ → Option ℕ → Bool
 leads_to node None = false
 leads_to node (Some target) = nat_eq target node
 
--- Whether a name in force stands in the node or leads to it, valid or not.
+-- Whether a name in force stands in the node or leads to it, valid or not. (this project's rule)
 abbrev pub is_bound : Kernel → ℕ → Bool
 is_bound k node = list_any (λ (e : (ℕ × List ℕ) × Binding). nat_eq e.0.0 node || leads_to node e.1.target) k.vfs.names
 
--- The node is given up, and its whole count is to be forgotten.
+-- The node is given up, and its whole count is to be forgotten. (libfuse, low-level: forget)
 abbrev pub evicted : Kernel → ℕ → Counted → Kernel
 evicted k node counted = record k { nodes = remove k.nodes node; queues = after_forget k.queues node counted.count }

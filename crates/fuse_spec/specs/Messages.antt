@@ -4,11 +4,11 @@ use Rattle.fuse_spec.specs.declared.Opened.{Opened}
 use Rattle.fuse_spec.specs.declared.Entry.{Entry}
 use Rattle.fuse_spec.specs.Operations.{Operation, Reply}
 
--- A node, and how many lookups of it are given back. (struct fuse_forget_one)
+-- A node, and how many lookups of it are given back. (linux/fuse.h, struct fuse_forget_one)
 abbrev pub Forget : Type 0
 Forget = ℕ × ℕ
 
--- What a request asks.
+-- What a request asks, by its opcode: INIT, an operation, RELEASE, FORGET, BATCH_FORGET or INTERRUPT. (linux/fuse.h, enum fuse_opcode)
 pub data RequestBody : Type 0 where
   init : RequestBody
   asks : (operation : Operation ℕ Opened) → RequestBody
@@ -17,10 +17,11 @@ pub data RequestBody : Type 0 where
   batch_forget : (forgets : List Forget) → RequestBody
   interrupt : (original : ℕ) → RequestBody
 
+-- A request: its unique, and what it asks. (linux/fuse.h, struct fuse_in_header)
 pub record Request : Type 0 where
   pub unique : ℕ
   pub body : RequestBody
 
--- What a reply says: files are named by entries, open files by their numbers.
+-- What a reply says: files are named by entries, open files by their numbers. (linux/fuse.h, struct fuse_out_header)
 abbrev pub WireReply : Type 0
 WireReply = Reply Entry ℕ

@@ -4,7 +4,7 @@ use Rattle.fuse_spec.specs.Paths.{Name}
 use Rattle.fuse_spec.specs.declared.Kind.{Kind}
 use Rattle.fuse_spec.specs.declared.Attributes.{Attributes}
 
--- One operation. Each bears the name of its opcode in linux/fuse.h.
+-- One operation of a call, by its opcode, with files named as F says and open files as O says. (linux/fuse.h, enum fuse_opcode)
 pub data Operation (F O : Type 0) : Type 0 where
   lookup : (directory : F) (name : Name) → Operation F O
   getattr : (file : F) → Operation F O
@@ -19,14 +19,15 @@ pub data Operation (F O : Type 0) : Type 0 where
   read : (opened : O) (offset size : ℕ) → Operation F O
   write : (opened : O) (offset : ℕ) (bytes : List ℕ) → Operation F O
 
--- A name that a directory lists, with the offset from which to read on.
+-- A name that a directory lists, with the offset from which to read on. (linux/fuse.h, struct fuse_dirent)
 pub record Dirent : Type 0 where
   pub ino : ℕ
   pub offset : ℕ
   pub kind : Kind
   pub name : Name
 
--- The reply to an operation. A name leads to a file, or to none, for so many milliseconds.
+-- The reply to an operation, with files named as F says and open files as O says; a name leads to a file, or to none, for so many milliseconds.
+-- (linux/fuse.h, struct fuse_out_header)
 pub data Reply (F O : Type 0) : Type 0 where
   found : (file : F) (valid : ℕ) → Reply F O
   missing : (valid : ℕ) → Reply F O
@@ -40,7 +41,7 @@ pub data Reply (F O : Type 0) : Type 0 where
   done : Reply F O
   failed : (errno : ℕ) → Reply F O
 
--- The same with the files named in another way.
+-- The same operation with its files, and its open files, named in another way. (this project's rule)
 abbrev pub operation_with : {F G O P : Type 0} → (F → G) → (O → P) → Operation F O → Operation G P
 operation_with f g (lookup d name) = lookup (f d) name
 operation_with f g (getattr x) = getattr (f x)
@@ -55,6 +56,7 @@ operation_with f g (readdir d after size) = readdir (f d) after size
 operation_with f g (read o offset size) = read (g o) offset size
 operation_with f g (write o offset bytes) = write (g o) offset bytes
 
+-- The same reply with its files, and its open files, named in another way. (this project's rule)
 abbrev pub reply_with : {F G O P : Type 0} → (F → G) → (O → P) → Reply F O → Reply G P
 reply_with f g (found x valid) = found (f x) valid
 reply_with f g (missing valid) = missing valid
@@ -68,7 +70,7 @@ reply_with f g (agreed major minor) = agreed major minor
 reply_with f g done = done
 reply_with f g (failed errno) = failed errno
 
--- The files that an operation names, where an open file names these.
+-- The files that an operation names; an open file stands for the files that `h` gives for it. (linux/fuse.h, struct fuse_in_header)
 abbrev pub files_in : {F O : Type 0} → (O → List F) → Operation F O → List F
 files_in h (lookup d name) = d ∷ []
 files_in h (getattr x) = x ∷ []
@@ -83,7 +85,7 @@ files_in h (readdir d after size) = d ∷ []
 files_in h (read o offset size) = h o
 files_in h (write o offset bytes) = h o
 
--- The files that a reply names, as often as it does: each is one lookup more of its node.
+-- The files that the entries of a reply name, as often as they do: each is one lookup more of its node. (libfuse, low-level: lookup)
 abbrev pub files_in_reply : {F O : Type 0} → Reply F O → List F
 files_in_reply (found x valid) = x ∷ []
 files_in_reply (created x valid o) = x ∷ []
@@ -97,7 +99,7 @@ files_in_reply (agreed major minor) = []
 files_in_reply done = []
 files_in_reply (failed errno) = []
 
--- The open files that a reply names.
+-- The open files that a reply names, which is one for OPEN and CREATE. (linux/fuse.h, struct fuse_open_out)
 abbrev pub opens_in_reply : {F O : Type 0} → Reply F O → List O
 opens_in_reply (created x valid o) = o ∷ []
 opens_in_reply (opened o) = o ∷ []
@@ -111,6 +113,7 @@ opens_in_reply (agreed major minor) = []
 opens_in_reply done = []
 opens_in_reply (failed errno) = []
 
+-- The error of a reply as a positive number, or 0. (linux/fuse.h, struct fuse_out_header)
 abbrev pub errno_of : {F O : Type 0} → Reply F O → ℕ
 errno_of (failed errno) = errno
 errno_of (found x valid) = 0

@@ -12,31 +12,31 @@ use Rattle.fuse_spec.specs.Messages.{RequestBody, init, asks, release, forget, b
 use Rattle.fuse_spec.specs.Nodes.{NodeTable, row_of, file_of, is_held, all_given, is_open, all_opened, handle_back}
 use Rattle.fuse_spec.specs.Server.{Server, HeldRequest, generation_in, without_unheld_files}
 
--- The server after a request is performed, and what it replies.
+-- The server after a request is performed, and what it replies. (this project's rule)
 pub record PerformResult : Type 0 where
   pub server : Server
   pub wire : WireReply
 
--- The operation with each node replaced by the file that it denotes.
+-- The operation with each node replaced by the file that it denotes. (this project's rule)
 abbrev pub file_operation_of : NodeTable → Operation ℕ Opened → FileOperation
 file_operation_of t operation = operation_with (file_of t) (λ (o : Opened). file_of t o.nodeid) operation
 
--- Whether the open number that a read or write names is one of its node's file.
+-- Whether the open number that a read or write names is one of its node's file. (libfuse, low-level: open)
 abbrev pub is_open_for : Server → Operation ℕ Opened → Bool
 is_open_for s (read o offset size) = is_open s.handles o.fh (file_of s.nodes o.nodeid)
 is_open_for s (write o offset bytes) = is_open s.handles o.fh (file_of s.nodes o.nodeid)
 is_open_for s operation = true
 
--- A file as an entry names it.
+-- A file as an entry names it: by the id that is chosen for it, that node's generation, and its attributes. (linux/fuse.h, struct fuse_entry_out)
 abbrev pub entry_for : (ℕ → ℕ) → NodeTable → Tree → ℕ → Entry
 entry_for choice t tree file = record { nodeid = choice file; generation = generation_in (row_of t (choice file)); attributes = attributes_of tree file }
 
--- The reply of the tree, as it is sent: files by the ids that are chosen, an open file by the next number.
+-- The reply of the tree, as it is sent: files by the ids that are chosen, an open file by the next number. (this project's rule)
 abbrev pub wire_of : (ℕ → ℕ) → NodeTable → Tree → (fh : ℕ) → Reply ℕ ℕ → WireReply
 wire_of choice nodes tree fh reply = reply_with (entry_for choice nodes tree) (λ file. fh) reply
 
--- The operation is done, and nodes and open numbers are given for what the reply names. After an abort it is done, but nothing
--- is given, and the reply says only whether it failed.
+-- The operation is done, and nodes and open numbers are given for what the reply names. After an abort it is done, but nothing is given, and the reply says
+-- only whether it failed. (this project's rule)
 abbrev pub doing : (ℕ → ℕ) → Server → FileOperation → PerformResult
 doing choice s operation =
     let tree = tree_after s.tree operation in
@@ -52,10 +52,12 @@ doing choice s operation =
       wire = cond s.aborted (failed (errno_of reply)) (wire_of choice nodes tree s.handles.next_fh reply);
     }
 
+-- The request isn't performed, and its reply is this error. (this project's rule)
 abbrev pub refusing : Server → ℕ → PerformResult
 refusing s errno = record { server = s; wire = failed errno }
 
--- What a held request asks is done. The forgets and interrupts are never held.
+-- What a held request asks is done: INIT is answered 7.31, a read, write or RELEASE without its open number EBADF, and forgets and INTERRUPTs are never
+-- held. (this project's rule)
 abbrev pub performing : (ℕ → ℕ) → Server → RequestBody → PerformResult
 performing choice s init = record { server = s; wire = agreed 7 31 }
 performing choice s (asks operation) = cond (is_open_for s operation) (doing choice s (file_operation_of s.nodes operation)) (refusing s ebadf)
@@ -65,16 +67,16 @@ performing choice s (forget f) = refusing s eio
 performing choice s (batch_forget fs) = refusing s eio
 performing choice s (interrupt original) = refusing s eio
 
--- Whether each node is still held under the generation that it had when the request was taken.
+-- Whether each node is still held under the generation that it had when the request was taken. (libfuse, low-level: generation)
 abbrev pub is_still_held : NodeTable → List (ℕ × ℕ) → Bool
 is_still_held t generations = list_all (λ (g : ℕ × ℕ). is_held t g.0 g.1) generations
 
--- A marked request is answered EINTR, one whose node is gone EIO, and any other is performed.
+-- A marked request is answered EINTR, one whose node is gone EIO, and any other is performed. (fuse.rst)
 abbrev pub performed : (ℕ → ℕ) → Server → HeldRequest → PerformResult
 performed choice s taken =
     cond taken.marked (refusing s eintr) (cond (is_still_held s.nodes taken.generations) (performing choice s taken.body) (refusing s eio))
 
--- The reply is kept, and one copy of it goes out, unless the mount is aborted.
+-- The reply is kept, and one copy of it goes out, unless the mount is aborted. (this project's rule)
 abbrev pub replying : Server → ℕ → WireReply → Server
 replying s unique wire =
     record s {
@@ -83,13 +85,13 @@ replying s unique wire =
       next_copy = cond s.aborted s.next_copy (s.next_copy + 1);
     }
 
--- The request under this unique is performed, on the tree as it is now.
+-- The request under this unique is performed, on the tree as it is now. (this project's rule)
 abbrev pub served : (ℕ → ℕ) → Server → ℕ → HeldRequest → PerformResult
 served choice s unique taken =
     let did = performed choice (record s { held = remove s.held unique }) taken in
     record { server = replying (without_unheld_files did.server) unique did.wire; wire = did.wire }
 
--- The files to which an operation gives nodes.
+-- The files to which an operation gives nodes. (this project's rule)
 abbrev pub files_by : Server → RequestBody → List ℕ
 files_by s (asks operation) = cond (is_open_for s operation) (files_in_reply (reply_by s.validity s.tree (file_operation_of s.nodes operation))) []
 files_by s init = []
@@ -98,6 +100,6 @@ files_by s (forget f) = []
 files_by s (batch_forget fs) = []
 files_by s (interrupt original) = []
 
--- The files to which performing the request gives nodes.
+-- The files to which performing the request gives nodes: none after an abort, nor if it is marked or one of its nodes is gone. (this project's rule)
 abbrev pub files_given : Server → HeldRequest → List ℕ
 files_given s taken = cond (s.aborted || (taken.marked || not (is_still_held s.nodes taken.generations))) [] (files_by s taken.body)

@@ -13,13 +13,13 @@ use Rattle.fuse_spec.specs.Answers.{failed}
 use Rattle.fuse_spec.specs.Vfs.{CallState, Vfs, Advance, answered, begun, given_up, later}
 use Rattle.fuse_spec.specs.CallReplies.{call_replied}
 
--- Where an ask stands: not performed yet, performed with this reply, or declined.
+-- Where an ask stands: not performed yet, performed with this reply, or declined. (this project's rule)
 pub data Stage : Type 0 where
   waiting : Stage
   performed : (reply : Reply ℕ ℕ) → Stage
   declined : Stage
 
--- One operation on files, put by one call. `noted`: a signal to the call was accepted. `marked`: an interrupt reached it.
+-- One operation on files, put by one call. `noted`: a signal to the call was accepted. `marked`: an interrupt reached it. (this project's rule)
 pub record Ask : Type 0 where
   pub call : ℕ
   pub operation : FileOperation
@@ -27,7 +27,8 @@ pub record Ask : Type 0 where
   pub noted : Bool
   pub marked : Bool
 
--- Each ask has a label, by which later events of a run mean it.
+-- The plain world: its tree, the system calls' side, the asks under labels by which later events of a run mean them, the validities, and whether the mount
+-- is aborted. (this project's rule)
 pub record Plain : Type 0 where
   pub tree : Tree
   pub vfs : Vfs ℕ
@@ -35,20 +36,20 @@ pub record Plain : Type 0 where
   pub validity : Validity
   pub aborted : Bool
 
--- The call's ask is put under this label, where it asks an operation.
+-- The call's ask is put under this label, where it asks an operation. (this project's rule)
 abbrev pub asking : Plain → (label call : ℕ) → Option FileOperation → Plain
 asking p label call None = p
 asking p label call (Some operation) = record p { asks = put p.asks label (record { call = call; operation = operation; stage = waiting; noted = false; marked = false }) }
 
--- The system calls' side as a step of the call left it.
+-- The system calls' side as a step of the call left it. (this project's rule)
 abbrev pub going_on : Plain → (label call : ℕ) → Advance ℕ → Plain
 going_on p label call went = asking (record p { vfs = went.vfs }) label call went.operation
 
--- A call begins. What it asks bears this label.
+-- A call begins. What it asks bears this label. (this project's rule)
 abbrev pub call_begun : Plain → (label : ℕ) → Call → Plain
 call_begun p label call = going_on p label p.vfs.next_call (begun p.aborted p.vfs call)
 
--- An ask is performed: the tree changes as the operation says.
+-- An ask is performed: the tree changes as the operation says. (this project's rule)
 abbrev pub ask_performed : Plain → (label : ℕ) → Ask → Plain
 ask_performed p label ask =
     record p {
@@ -56,39 +57,43 @@ ask_performed p label ask =
       asks = put p.asks label (record ask { stage = performed (reply_by p.validity p.tree ask.operation) });
     }
 
--- An ask is declined: nothing changes.
+-- An ask is declined: nothing changes. (fuse.rst)
 abbrev pub ask_declined : Plain → (label : ℕ) → Ask → Plain
 ask_declined p label ask = record p { asks = put p.asks label (record ask { stage = declined }) }
 
--- A performed ask goes, and its reply reaches its call, which stands here. What the call asks next bears the label `next`.
+-- A performed ask goes, and its reply reaches its call, which stands here. What the call asks next bears the label `next`. (this project's rule)
 abbrev pub ask_told : Plain → (label next : ℕ) → Ask → Reply ℕ ℕ → CallState ℕ → Plain
 ask_told p label next ask reply state = going_on (record p { asks = remove p.asks label }) next ask.call (call_replied p.vfs ask.call state reply)
 
--- An ask goes, and its call is answered EINTR.
+-- An ask goes, and its call is answered EINTR. (fuse.rst)
 abbrev pub ask_interrupted : Plain → (label : ℕ) → Ask → Plain
 ask_interrupted p label ask = record p { asks = remove p.asks label; vfs = answered p.vfs ask.call (failed eintr) }
 
--- A signal is noted on an ask; an interrupt marks it.
+-- A signal to its call is noted on an ask. (this project's rule)
 abbrev pub ask_noted : Plain → (label : ℕ) → Ask → Plain
 ask_noted p label ask = record p { asks = put p.asks label (record ask { noted = true }) }
 
+-- An interrupt marks an ask. (this project's rule)
 abbrev pub ask_marked : Plain → (label : ℕ) → Ask → Plain
 ask_marked p label ask = record p { asks = put p.asks label (record ask { marked = true }) }
 
+-- The clock goes on. (this project's rule)
 abbrev pub plain_later : Plain → ℕ → Plain
 plain_later p ms = record p { vfs = later p.vfs ms }
 
+-- A name in force is dropped. (this project's rule)
 abbrev pub name_dropped : Plain → (directory : ℕ) → Name → Plain
 name_dropped p directory name = record p { vfs = record p.vfs { names = remove_name p.vfs.names (directory, name) } }
 
--- Abort: every unanswered call is answered ECONNABORTED. The asks stay.
+-- Abort: every unanswered call is answered ECONNABORTED. The asks stay. (fuse.rst)
 abbrev pub plain_aborted : Plain → Plain
 plain_aborted p = record p { vfs = given_up p.vfs; aborted = true }
 
--- Mount: the asks go, and no name and no open file is left.
+-- A mount: the asks go, no name and no open file is left, and the validities are set. (this project's rule)
 abbrev pub plain_mounted : Plain → Validity → Plain
 plain_mounted p validity = record p { vfs = given_up p.vfs; asks = []; validity = validity; aborted = false }
 
+-- The plain world before the first mount: its tree is the root alone. (this project's rule)
 abbrev pub first_plain : Plain
 first_plain =
     record {

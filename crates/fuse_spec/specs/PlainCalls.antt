@@ -17,34 +17,35 @@ use Rattle.fuse_spec.specs.Vfs.{CallState, walking, doing, using, Vfs}
 
 -- ---- names in force
 
--- While the time is before its end, a name in force leads to a file, or to none.
+-- While the time is before its end, a name in force leads to a file, or to none. (linux/fuse.h, struct fuse_entry_out)
 pub record LeadsTo (c : Vfs ℕ) (directory : ℕ) (name : Name) (target : Option ℕ) : Type 0 where
   pub bound : Binding
   pub there : get_name c.names (directory, name) ≡ Some bound
   pub in_time : c.clock < bound.until
   pub target_is : bound.target ≡ target
 
--- No name is in force there, or its time is over.
+-- No name is in force there, or its time is over. (linux/fuse.h, struct fuse_entry_out)
 abbrev pub IsNotInForce : Vfs ℕ → ℕ → Name → Type 0
 IsNotInForce c directory name = (bound : Binding) → get_name c.names (directory, name) ≡ Some bound → bound.until ≤ c.clock
 
--- A name comes into force for so many milliseconds from now on; a name goes out of force.
+-- A name comes into force for so many milliseconds from now on. (linux/fuse.h, struct fuse_entry_out)
 abbrev pub in_force : Vfs ℕ → ℕ → Name → Option ℕ → (valid_ms : ℕ) → Vfs ℕ
 in_force c directory name target valid_ms = record c { names = put_name c.names (directory, name) (record { target = target; until = c.clock + valid_ms }) }
 
+-- A name goes out of force. (Linux VFS)
 abbrev pub out_of_force : Vfs ℕ → ℕ → Name → Vfs ℕ
 out_of_force c directory name = record c { names = remove_name c.names (directory, name) }
 
 -- ---- walks
 
--- A walk from a file along words: a name in force leads on; a missing name ends it, and so does one that has to be asked for.
+-- A walk from a file along words: a name in force leads on; a missing name ends it, and so does one that has to be asked for. (Linux VFS)
 pub data Walks (c : Vfs ℕ) : ℕ → List Name → WalkStop ℕ → Type 0 where
   is_there : (file : ℕ) → Walks c file [] (arrived file)
   goes_on : (at next : ℕ) (word : Name) (words : List Name) (stop : WalkStop ℕ) → LeadsTo c at word (Some next) → Walks c next words stop → Walks c at (word ∷ words) stop
   finds_none : (at : ℕ) (word : Name) (words : List Name) → LeadsTo c at word None → Walks c at (word ∷ words) missing
   has_to_ask : (at : ℕ) (word : Name) (words : List Name) → IsNotInForce c at word → Walks c at (word ∷ words) (unknown at word words)
 
--- What is asked at the file to which the last walk led.
+-- What is asked at the file to which the last walk led. (Linux VFS)
 pub data AsksAt : FinalOperation ℕ → ℕ → Operation ℕ ℕ → Type 0 where
   attributes_of : (file : ℕ) → AsksAt final.stat file (op.getattr file)
   names_in : (after file : ℕ) → AsksAt (final.list after) file (op.readdir file after max_transfer)
@@ -56,14 +57,15 @@ pub data AsksAt : FinalOperation ℕ → ℕ → Operation ℕ ℕ → Type 0 wh
   to_rename : (directory : ℕ) (old new : Name) (file : ℕ) → AsksAt (final.rename_from directory old new) file (op.rename directory old file new)
   to_link : (linked : ℕ) (name : Name) (file : ℕ) → AsksAt (final.link_to linked name) file (op.link linked file name)
 
--- The call is answered, and waits no longer; or it waits for what it asked.
+-- The call is answered, and waits no longer. (Linux VFS)
 abbrev pub is_answered : Vfs ℕ → ℕ → Answer → Vfs ℕ
 is_answered c number a = record c { calls = remove c.calls number; answers = put c.answers number a }
 
+-- The call waits for what it asked. (Linux VFS)
 abbrev pub is_waiting : Vfs ℕ → ℕ → CallState ℕ → Vfs ℕ
 is_waiting c number state = record c { calls = put c.calls number state }
 
--- A call goes on from a file along words: where that leaves the calls, and what it asks. A rename and a link walk a second time, from the root.
+-- A call goes on from a file along words: where that leaves the calls, and what it asks. A rename and a link walk a second time, from the root. (Linux VFS)
 pub data GoesOn (c : Vfs ℕ) (number : ℕ) : ℕ → List Name → WalkPlan ℕ → Vfs ℕ → Option (Operation ℕ ℕ) → Type 0 where
   asks_name : (at : ℕ) (words : List Name) (plan : WalkPlan ℕ) (directory : ℕ) (word : Name) (rest : List Name) → Walks c at words (unknown directory word rest)
       → GoesOn c number at words plan (is_waiting c number (walking directory word rest plan)) (Some (op.lookup directory word))
@@ -77,7 +79,7 @@ pub data GoesOn (c : Vfs ℕ) (number : ℕ) : ℕ → List Name → WalkPlan �
 
 -- ---- a call begins
 
--- The walk that a call takes. Where it makes, removes or moves a name, that is the last word of the path.
+-- The walk that a call takes. Where it makes, removes or moves a name, that is the last word of the path. (Linux VFS)
 pub data TakesWalk : Call → List Name → WalkPlan ℕ → Type 0 where
   stats : (path : List ℕ) (words : List Name) → words_of path ≡ Ok words → TakesWalk (call.stat path) words (last final.stat)
   lists : (path : List ℕ) (after : ℕ) (words : List Name) → words_of path ≡ Ok words → TakesWalk (call.list path after) words (last (final.list after))
@@ -89,12 +91,12 @@ pub data TakesWalk : Call → List Name → WalkPlan ℕ → Type 0 where
   renames : (old new : List ℕ) (words more : List Name) (from to : Name) → words_of old ≡ Ok (words ++ from ∷ []) → words_of new ≡ Ok (more ++ to ∷ []) → TakesWalk (call.rename old new) words (rename from more to)
   links : (old new : List ℕ) (words more : List Name) (name : Name) → words_of old ≡ Ok words → words_of new ≡ Ok (more ++ name ∷ []) → TakesWalk (call.link old new) words (link more name)
 
--- A path that can't be walked; one whose last word is to be made or removed must have one.
+-- A path that can't be walked; one whose last word is to be made or removed must have one. (this project's rule)
 pub data HasNoName : List ℕ → ℕ → Type 0 where
   is_faulty : (path : List ℕ) (errno : ℕ) → words_of path ≡ Err errno → HasNoName path errno
   is_root : (path : List ℕ) → words_of path ≡ Ok [] → HasNoName path einval
 
--- A call that is answered an error at once. Of two paths the first is judged first.
+-- A call that is answered an error at once. Of two paths the first is judged first. (this project's rule)
 pub data Fails (opens : Map ℕ) : Call → ℕ → Type 0 where
   of_stat : (path : List ℕ) (errno : ℕ) → words_of path ≡ Err errno → Fails opens (call.stat path) errno
   of_list : (path : List ℕ) (after errno : ℕ) → words_of path ≡ Err errno → Fails opens (call.list path after) errno
@@ -113,7 +115,7 @@ pub data Fails (opens : Map ℕ) : Call → ℕ → Type 0 where
   write_too_far : (handle offset file : ℕ) (bytes : List ℕ) → get opens handle ≡ Some file → (max_file < offset) ⊎ (max_transfer < length bytes) → Fails opens (call.write handle offset bytes) einval
   close_of_none : (handle : ℕ) → get opens handle ≡ None → Fails opens (call.close handle) ebadf
 
--- A call begins under a number: it fails at once, sets out from the root, asks of an open file, or closes one.
+-- A call begins under a number: it fails at once, sets out from the root, asks of an open file, or closes one. (Linux VFS)
 pub data Begins (c : Vfs ℕ) (number : ℕ) : Call → Vfs ℕ → Option (Operation ℕ ℕ) → Type 0 where
   fails : (x : Call) (errno : ℕ) → Fails c.opens x errno → Begins c number x (is_answered c number (answer.failed errno)) None
   sets_out : (x : Call) (words : List Name) (plan : WalkPlan ℕ) (after : Vfs ℕ) (asked : Option (Operation ℕ ℕ)) → TakesWalk x words plan → GoesOn c number c.root words plan after asked → Begins c number x after asked
@@ -125,7 +127,7 @@ pub data Begins (c : Vfs ℕ) (number : ℕ) : Call → Vfs ℕ → Option (Oper
 
 -- ---- a reply reaches a call
 
--- Whether a reply is one to this operation.
+-- Whether a reply is one to this operation. (linux/fuse.h, enum fuse_opcode)
 abbrev pub is_reply_to : Operation ℕ ℕ → Reply ℕ ℕ → Bool
 is_reply_to operation (op.failed errno) = true
 is_reply_to (op.getattr file) (op.attributes a) = true
@@ -141,7 +143,7 @@ is_reply_to (op.read file offset size) (op.content bytes) = true
 is_reply_to (op.write file offset bytes) (op.written size) = true
 is_reply_to operation reply = false
 
--- The reply to a call's own operation, and the answer that it is.
+-- The reply to a call's own operation, the answer that it is, and the names that come into force or go out of it. (Linux VFS)
 pub data Answers (c : Vfs ℕ) (number : ℕ) : Operation ℕ ℕ → Reply ℕ ℕ → Vfs ℕ → Type 0 where
   attributes_are : (file : ℕ) (a : Attributes) → Answers c number (op.getattr file) (op.attributes a) (is_answered c number (answer.attributes a))
   is_made : (directory : ℕ) (name : Name) (file valid : ℕ) → Answers c number (op.mkdir directory name) (op.found file valid) (is_answered (in_force c directory name (Some file) valid) number answer.done)
@@ -159,14 +161,14 @@ pub data Answers (c : Vfs ℕ) (number : ℕ) : Operation ℕ ℕ → Reply ℕ 
   -- a reply that is none to this operation
   is_no_reply : (operation : Operation ℕ ℕ) (reply : Reply ℕ ℕ) → is_reply_to operation reply ≡ false → Answers c number operation reply (is_answered c number (answer.failed eio))
 
--- Whether a reply to the look-up of a name says that the name leads somewhere, or nowhere, or that it failed.
+-- Whether a reply to the look-up of a name says that the name leads somewhere, or nowhere, or that it failed. (linux/fuse.h, FUSE_LOOKUP)
 abbrev pub is_found_or_not : Reply ℕ ℕ → Bool
 is_found_or_not (op.found file valid) = true
 is_found_or_not (op.missing valid) = true
 is_found_or_not (op.failed errno) = true
 is_found_or_not reply = false
 
--- A reply reaches the call, which stands here: where that leaves the calls, and what it asks next.
+-- A reply reaches the call, which stands here: where that leaves the calls, and what it asks next. (Linux VFS)
 pub data Hears (c : Vfs ℕ) (number : ℕ) : CallState ℕ → Reply ℕ ℕ → Vfs ℕ → Option (Operation ℕ ℕ) → Type 0 where
   is_found : (directory : ℕ) (word : Name) (words : List Name) (plan : WalkPlan ℕ) (file valid : ℕ) (after : Vfs ℕ) (asked : Option (Operation ℕ ℕ)) → GoesOn (in_force c directory word (Some file) valid) number file words plan after asked
       → Hears c number (walking directory word words plan) (op.found file valid) after asked

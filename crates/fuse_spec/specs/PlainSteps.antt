@@ -12,52 +12,55 @@ use Rattle.fuse_spec.specs.Events.{Event, Outcome}
 use Rattle.fuse_spec.specs.Events as event
 use Rattle.fuse_spec.specs.Plain.{Plain, Ask, Stage, waiting, performed, declined, call_begun, ask_performed, ask_declined, ask_told, ask_interrupted, ask_noted, ask_marked, plain_later, name_dropped, plain_aborted, plain_mounted}
 
--- A step, where the condition holds.
+-- A step, where the condition holds. (this project's rule)
 abbrev pub where_so : Bool → Plain → Option Plain
 where_so condition p = cond condition (Some p) None
 
--- An ask is performed, or declined if it is marked and a signal was noted. Only a waiting one is.
+-- An ask is performed, or declined if it is marked and a signal was noted. Only a waiting one is. (this project's rule)
 abbrev pub serving_ask : Plain → ℕ → Ask → Stage → Option Plain
 serving_ask p label ask waiting = cond ask.marked (where_so ask.noted (ask_declined p label ask)) (Some (ask_performed p label ask))
 serving_ask p label ask (performed reply) = None
 serving_ask p label ask declined = None
 
--- A request with no ask (INIT, RELEASE) takes no step.
+-- The ask under this label is served; a request with no ask (INIT, RELEASE) takes no step. (this project's rule)
 abbrev pub serving : Plain → ℕ → Option Ask → Option Plain
 serving p label None = Some p
 serving p label (Some ask) = serving_ask p label ask ask.stage
 
+-- The reply to a performed ask reaches its call, if that is unanswered and what it asks next can bear the coming label. (this project's rule)
 abbrev pub telling_call : Plain → (label next : ℕ) → Ask → Reply ℕ ℕ → Option (CallState ℕ) → Option Plain
 telling_call p label next ask reply None = None
 telling_call p label next ask reply (Some state) = where_so (not (is_some (get p.asks next))) (ask_told p label next ask reply state)
 
--- The reply to a performed ask reaches its call, and a declined one answers its call EINTR.
+-- The reply to a performed ask reaches its call, and a declined one answers its call EINTR. (this project's rule)
 abbrev pub telling_ask : Plain → (label next : ℕ) → Ask → Stage → Option Plain
 telling_ask p label next ask waiting = None
 telling_ask p label next ask (performed reply) = telling_call p label next ask reply (get p.vfs.calls ask.call)
 telling_ask p label next ask declined = where_so ask.noted (ask_interrupted p label ask)
 
+-- A reply that is accepted is told to the call of its ask, and one under a label that no ask bears takes no step. (this project's rule)
 abbrev pub telling : Plain → (label next : ℕ) → Option Ask → Option Plain
 telling p label next None = Some p
 telling p label next (Some ask) = telling_ask p label next ask ask.stage
 
--- A signal is noted on an ask; one that took the request off the list also ends the ask.
+-- A signal is noted on an ask; one that took the request off the list also ends the ask. (this project's rule)
 abbrev pub signalled_ask : Plain → IntrEffect → (label : ℕ) → Ask → Plain
 signalled_ask p effect.Dequeued label ask = ask_interrupted p label ask
 signalled_ask p effect.Flagged label ask = ask_noted p label ask
 signalled_ask p effect.Queued label ask = ask_noted p label ask
 signalled_ask p effect.None label ask = ask_noted p label ask
 
--- A signal reaches the ask of its call.
+-- A signal reaches the ask of its call. (this project's rule)
 abbrev pub signalling : Plain → IntrEffect → (call label : ℕ) → Option Ask → Option Plain
 signalling p signal call label None = None
 signalling p signal call label (Some ask) = where_so (nat_eq ask.call call) (signalled_ask p signal label ask)
 
+-- An INTERRUPT marks the ask of its original, if there is one. (this project's rule)
 abbrev pub marking : Plain → ℕ → Option Ask → Option Plain
 marking p label None = Some p
 marking p label (Some ask) = Some (ask_marked p label ask)
 
--- The plain world after an event with this outcome. With any other outcome than the event can have there is no step.
+-- The plain world after an event with this outcome. With any other outcome than the event can have there is no step. (this project's rule)
 abbrev pub takes : ℕ → Plain → Event → Outcome → Option Plain
 takes chosen p (event.call call) (event.begun number) = where_so (nat_eq number p.vfs.next_call && not (is_some (get p.asks chosen))) (call_begun p chosen call)
 takes chosen p (event.perform unique) (event.performed u errno lost) = serving p unique (get p.asks unique)
@@ -80,6 +83,6 @@ takes chosen p (event.settle k) (event.settled unique result) = Some p
 takes chosen p (event.evict node) (event.evicted n count) = Some p
 takes chosen p e o = None
 
--- With this event and outcome the plain world goes from p to q.
+-- With this event and outcome the plain world goes from p to q. (this project's rule)
 abbrev pub Takes : Plain → Event → Outcome → Plain → Type 0
 Takes p e o q = (chosen : ℕ) × (takes chosen p e o ≡ Some q)

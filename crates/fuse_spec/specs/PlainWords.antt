@@ -19,27 +19,27 @@ use Rattle.fuse_spec.specs.Events.{Event, Outcome}
 use Rattle.fuse_spec.specs.Events as event
 use Rattle.fuse_spec.specs.PlainCalls.{is_answered, Begins, Hears, out_of_force}
 
--- What a call asks is put under a label that no other ask bears; or it asks nothing.
+-- What a call asks is put under this label, or the call asks nothing. (this project's rule)
 pub data Asks (p : Plain) (label number : ℕ) (after : Vfs ℕ) : Option (Operation ℕ ℕ) → Plain → Type 0 where
   nothing : Asks p label number after None (record p { vfs = after })
   puts_ask : (operation : Operation ℕ ℕ) → Asks p label number after (Some operation)
       (record p { vfs = after; asks = put p.asks label (record { call = number; operation = operation; stage = waiting; noted = false; marked = false }) })
 
--- The calls as the next number is drawn.
+-- The calls as the next number is drawn. (this project's rule)
 abbrev pub one_more : Vfs ℕ → Vfs ℕ
 one_more c = record c { next_call = c.next_call + 1 }
 
--- Every unanswered call gets this answer.
+-- Every unanswered call gets this answer. (this project's rule)
 pub record AllAnswered (calls : Map (CallState ℕ)) (answers : Map Answer) (a : Answer) (after : Map Answer) : Type 0 where
   pub unanswered : (number : ℕ) (state : CallState ℕ) → get calls number ≡ Some state → get after number ≡ Some a
   pub others : (number : ℕ) → get calls number ≡ None → get after number ≡ get answers number
 
--- No call is unanswered any longer, and no name is in force and no file open.
+-- Every unanswered call is answered ECONNABORTED, and no name is in force and no file open any longer. (fuse.rst)
 pub record GivesUp (c : Vfs ℕ) (after : Vfs ℕ) : Type 0 where
   pub answers : AllAnswered c.calls c.answers (failed econnaborted) after.answers
   pub rest : after ≡ record c { calls = []; names = []; opens = []; answers = after.answers }
 
--- The plain world takes these steps, and in no other way any.
+-- The plain world takes these steps, and in no other way any. (this project's rule)
 pub data Steps (p : Plain) : Event → Outcome → Plain → Type 0 where
   -- a call begins; once the mount is aborted it is answered ENOTCONN
   begins : (x : Call) (label : ℕ) (after : Vfs ℕ) (asked : Option (Operation ℕ ℕ)) (q : Plain) → p.aborted ≡ false → get p.asks label ≡ None → Begins (one_more p.vfs) p.vfs.next_call x after asked → Asks p label p.vfs.next_call after asked q

@@ -4,20 +4,20 @@ use Rattle.fuse_spec.specs.declared.Mark.{Mark}
 use Rattle.fuse_spec.specs.declared.Mark.TheVariants.{Unread, Flagged, Read, Interrupted}
 use Rattle.fuse_spec.specs.declared.QueuedRequest.{QueuedRequest}
 
--- the new list has one element more, and the others stand in their order
+-- The new list has one element more, and the others stand in their order. (this project's rule)
 pub record AddsOne {X : Type 0} (x : X) (old new : List X) : Type 0 where
   pub before : List X
   pub after : List X
   pub was : old ≡ before ++ after
   pub is : new ≡ before ++ x ∷ after
 
--- the mark of a pending request once it is read
+-- The mark of a pending request once it is read. (fuse.rst)
 abbrev pub mark_read : Mark → Mark
 mark_read Unread = Read
 mark_read Flagged = Interrupted
 mark_read Read = Read
 mark_read Interrupted = Interrupted
 
--- numbers, and what is kept under each
+-- Numbers, and what the kernel keeps of the request under each. (this project's rule)
 abbrev pub kept_entries : {W : Type 0} → List (ℕ × QueuedRequest W) → List (ℕ × W)
 kept_entries es = map (λ e. (e.0, e.1.kept)) es

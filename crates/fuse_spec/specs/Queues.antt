@@ -7,8 +7,8 @@ use Rattle.fuse_spec.specs.declared.Mark.{Mark}
 use Rattle.fuse_spec.specs.declared.Mark.TheVariants.{Unread, Flagged, Read, Interrupted}
 use Rattle.fuse_spec.specs.declared.QueuedRequest.{QueuedRequest}
 
--- `W` is what the kernel keeps of a request. Requests stand in order of queuing, each under its number: those unread are the
--- pending ones, and those read are in processing. To read one changes its mark alone.
+-- The requests in order of queuing, each under its number: those unread are pending, those read are in processing, and to read one changes its mark alone;
+-- `W` is what the kernel keeps of a request. (fuse.rst)
 pub record QueueState (W : Type 0) : Type 0 where
   pub requests : List (ℕ × QueuedRequest W)
   -- the numbers of the requests whose INTERRUPT is queued, the oldest first
@@ -20,56 +20,56 @@ pub record QueueState (W : Type 0) : Type 0 where
   -- whether an INTERRUPT of this mount was answered ENOSYS
   pub interrupts_off : Bool
 
--- the queues of a new mount
+-- The queues of a new mount: no request, no INTERRUPT, no forget, and the first number coming. (this project's rule)
 abbrev pub empty_queues : {W : Type 0} → QueueState W
 empty_queues = record { requests = []; interrupts = []; forgets = []; next = first_number; interrupts_off = false }
 
--- a request is unread until it is read, flagged or not
+-- Whether a request is unread: it is until it is read, flagged or not. (fuse.rst)
 abbrev pub is_unread : Mark → Bool
 is_unread Unread = true
 is_unread Flagged = true
 is_unread Read = false
 is_unread Interrupted = false
 
--- whether the INTERRUPT of a request was queued
+-- Whether the INTERRUPT of a request was queued, or would have been but for an ENOSYS before. (fuse.rst)
 abbrev pub has_interrupt : Mark → Bool
 has_interrupt Unread = false
 has_interrupt Flagged = false
 has_interrupt Read = false
 has_interrupt Interrupted = true
 
--- whether the call of a request was signalled
+-- Whether a request bears a signal to its call: it is flagged, or its INTERRUPT was due. (fuse.rst)
 abbrev pub is_signalled : Mark → Bool
 is_signalled Unread = false
 is_signalled Flagged = true
 is_signalled Read = false
 is_signalled Interrupted = true
 
--- the pending requests, in order of queuing
+-- The pending requests, in order of queuing. (fuse.rst)
 abbrev pub pending : {W : Type 0} → QueueState W → List (ℕ × QueuedRequest W)
 pending s = filter (λ e. is_unread e.1.mark) s.requests
 
--- the requests in processing, read and unanswered, in order of queuing
+-- The requests in processing, read and unanswered, in order of queuing. (fuse.rst)
 abbrev pub processing : {W : Type 0} → QueueState W → List (ℕ × QueuedRequest W)
 processing s = filter (λ e. not (is_unread e.1.mark)) s.requests
 
--- the request under a number
+-- The request under a number, if there is one. (linux/fuse.h, struct fuse_in_header)
 abbrev pub request_under : {W : Type 0} → QueueState W → ℕ → Option (QueuedRequest W)
 request_under s unique = lookup (nat_eq unique) s.requests
 
--- its mark
+-- The mark of the request under a number, if there is one. (fuse.rst)
 abbrev pub mark_under : {W : Type 0} → QueueState W → ℕ → Option Mark
 mark_under s unique = option_map (λ r. r.mark) (request_under s unique)
 
--- whether the request under a number was read, is unanswered, and had its INTERRUPT queued
+-- Whether the request under a number was read, is unanswered, and bears a signal, so that its INTERRUPT was due. (fuse.rst)
 abbrev pub is_interrupted : {W : Type 0} → QueueState W → ℕ → Bool
 is_interrupted s unique = option_map_or has_interrupt (mark_under s unique) false
 
--- whether a number was drawn where `next` is the coming one
+-- Whether a number was drawn where `next` is the coming one. (this project's rule)
 abbrev pub was_drawn : ℕ → ℕ → Bool
 was_drawn next unique = nat_le first_number unique && (nat_lt unique next && nat_eq (unique % 2) 0)
 
--- what is true of the queues after each call
+-- What is true of the queues after each call. (this project's rule)
 pub record IsSound {W : Type 0} (s : QueueState W) : Type 0 where
   pub next : IsNextNumber s.next
   -- a number that was drawn has one request at most, and no other number has one

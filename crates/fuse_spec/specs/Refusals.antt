@@ -27,21 +27,21 @@ use Rattle.fuse_spec.specs.Steps.{is_past, is_ready}
 use Rattle.fuse_spec.specs.Events.{Event, Outcome}
 use Rattle.fuse_spec.specs.Events as event
 
--- A live mount with an unanswered call or an open file.
+-- A live mount with an unanswered call or an open file. (this project's rule)
 pub record IsInUse (k : Kernel) : Type 0 where
   pub live : is_live k.phase ≡ true
   pub used : length k.vfs.calls + length k.vfs.opens ≢ 0
 
--- No mount is live, or nothing of it is in use.
+-- No mount is live, or nothing of it is in use. (this project's rule)
 abbrev pub IsFree : Kernel → Type 0
 IsFree k = (is_live k.phase ≡ false) ⊎ (length k.vfs.calls + length k.vfs.opens ≡ 0)
 
--- The kernel hands requests out while its mount is live, and no INTERRUPT has to go first.
+-- The kernel hands requests out while its mount is live, and no INTERRUPT has to go first. (fuse.rst)
 pub record MayRead (w : World) : Type 0 where
   pub live : is_live w.kernel.phase ≡ true
   pub none_first : w.kernel.queues.interrupts ≡ []
 
--- Where an event is not refused, its outcome and where it leads, counters aside. The server chooses the ids that it gives.
+-- Where an event is not refused, its outcome and where it leads, counters aside. The server chooses the ids that it gives. (this project's rule)
 pub data Leads (choice : ℕ → ℕ) (w : World) : Event → Outcome → World → Type 0 where
   mounts : (found_ms missing_ms : ℕ) → max found_ms missing_ms ≤ max_validity → IsFree w.kernel → Leads choice w (event.mount found_ms missing_ms) event.mounted (after_mount w found_ms missing_ms)
   calls : (call : Call) → is_ready w.kernel.phase ≡ true → length w.kernel.vfs.calls < max_calls → Leads choice w (event.call call) (event.begun w.kernel.vfs.next_call) (after_call w call)
@@ -67,7 +67,7 @@ pub data Leads (choice : ℕ → ℕ) (w : World) : Event → Outcome → World 
       → Leads choice w (event.evict node) (event.evicted node counted.count) (after_evict w node counted)
   aborts : is_live w.kernel.phase ≡ true → Leads choice w event.abort event.aborted (after_abort w)
 
--- The events after which the counters are looked at.
+-- The events that are refused where a counter would go past its end. (this project's rule)
 abbrev pub draws : Event → Bool
 draws (event.mount found_ms missing_ms) = false
 draws (event.settle k) = false
@@ -77,7 +77,7 @@ draws (event.evict node) = false
 draws event.abort = false
 draws other = true
 
--- An event that needs a live mount.
+-- The events that need a live mount. (this project's rule)
 abbrev pub needs_live : Event → Bool
 needs_live event.read_interrupt = true
 needs_live (event.read_forgets n) = true
@@ -88,14 +88,14 @@ needs_live (event.evict node) = true
 needs_live event.abort = true
 needs_live other = false
 
--- An event that reads what an INTERRUPT has to go before.
+-- The events that read a request which an INTERRUPT has to go before. (fuse.rst)
 abbrev pub reads_other : Event → Bool
 reads_other (event.read_forgets n) = true
 reads_other (event.read_pending k) = true
 reads_other other = false
 
--- What the event names is not there: no such pending request, forget, INTERRUPT, request, copy or result on its link, no such request held, call
--- unanswered, name in force, or node counted.
+-- What the event names is not there: no such pending request, forget, INTERRUPT, request, copy or result on its link, no such request held, call unanswered,
+-- name in force, or node counted. (this project's rule)
 pub data NamesNothing (w : World) : Event → Type 0 where
   no_interrupt : w.kernel.queues.interrupts ≡ [] → NamesNothing w event.read_interrupt
   no_forgets : (n : ℕ) → first_forgets w.kernel.queues n ≡ None → NamesNothing w (event.read_forgets n)
@@ -109,8 +109,8 @@ pub data NamesNothing (w : World) : Event → Type 0 where
   no_name : (directory : ℕ) (name : Name) → get_name w.kernel.vfs.names (directory, name) ≡ None → NamesNothing w (event.drop_name directory name)
   no_node : (node : ℕ) → get w.kernel.nodes node ≡ None → NamesNothing w (event.evict node)
 
--- Which refusal the event has. The cases are judged in this order: each says that those before it do not apply. Want of memory, which comes
--- last, is no matter of the state.
+-- Which refusal the event has. The cases are judged in this order: each says that those before it do not apply. Want of memory, which comes last, is no
+-- matter of the state. (this project's rule)
 pub data Refuses (choice : ℕ → ℕ) (w : World) : Event → Refusal → Type 0 where
   too_long : (found_ms missing_ms : ℕ) → max_validity < max found_ms missing_ms → Refuses choice w (event.mount found_ms missing_ms) BadTime
   in_use : (found_ms missing_ms : ℕ) → max found_ms missing_ms ≤ max_validity → IsInUse w.kernel → Refuses choice w (event.mount found_ms missing_ms) Busy

@@ -10,12 +10,12 @@ use Rattle.fuse_spec.specs.PlainWords.{Steps}
 use Rattle.fuse_spec.specs.Counts.{Keeps}
 use Rattle.fuse_spec.specs.Alike.{Alike}
 
--- The plain world once its answers are collected.
+-- The plain world once its answers are collected. (this project's rule)
 abbrev pub plain_collected : Plain → Plain
 plain_collected p = record p { vfs = record p.vfs { answers = [] } }
 
--- An accepted event: the world moves as it may, the plain world takes in words of its own the step of the event and its outcome, the two are alike
--- again, and the records are the outcome and then the answers that the plain world gave.
+-- An accepted event: the world moves as it may, the plain world takes in words of its own the step of the event and its outcome, the two are alike again,
+-- and the records are the outcome and then the answers that the plain world gave. (this project's rule)
 pub record Accepts (w : World) (p : Plain) (event : Event) (records : List Record) (w' : World) (p' : Plain) : Type 0 where
   pub outcome_of : Outcome
   pub mid : World
@@ -28,7 +28,7 @@ pub record Accepts (w : World) (p : Plain) (event : Event) (records : List Recor
   pub after : w' ≡ collected mid
   pub plain_after : p' ≡ plain_collected plain
 
--- A refused event changes nothing, and its refusal is what is recorded: the machine's, or want of memory.
+-- A refused event changes nothing, and its refusal is what is recorded: the machine's, or want of memory. (this project's rule)
 pub record Refuses (w : World) (p : Plain) (event : Event) (records : List Record) (w' : World) (p' : Plain) : Type 0 where
   pub refusal : Refusal
   pub judged : RefusedWith w event refusal
@@ -36,21 +36,21 @@ pub record Refuses (w : World) (p : Plain) (event : Event) (records : List Recor
   pub after : w' ≡ w
   pub plain_after : p' ≡ p
 
--- One event with these records leads from the one pair of worlds to the other.
+-- One event with these records leads from the one pair of worlds to the other. (this project's rule)
 abbrev pub Moves : World → Plain → Event → List Record → World → Plain → Type 0
 Moves w p event records w' p' = Accepts w p event records w' p' ⊎ Refuses w p event records w' p'
 
--- A list of events does, one event after another.
+-- A list of events does, one event after another. (this project's rule)
 abbrev pub Run : World → Plain → List Event → List Record → World → Plain → Type 0
 Run w p [] records w' p' = (records ≡ []) × (w' ≡ w) × (p' ≡ p)
 Run w p (event ∷ events) records w' p' =
     (first : List Record) × (rest : List Record) × (mid : World) × (plain : Plain) × (records ≡ first ++ rest) × Moves w p event first mid plain × Run mid plain events rest w' p'
 
--- Two records that don't answer the same call.
+-- Two records that don't answer the same call. (this project's rule)
 abbrev pub AnswersApart : Record → Record → Type 0
 AnswersApart (answered a x) (answered b y) = a ≢ b
 AnswersApart x y = Unit {0}
 
--- Each call is answered at most once.
+-- Each call is answered at most once. (this project's rule)
 abbrev pub AnswersOnce : List Record → Type 0
 AnswersOnce records = AllPairs AnswersApart records

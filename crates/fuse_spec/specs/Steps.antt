@@ -30,106 +30,123 @@ use Rattle.fuse_spec.specs.Worlds.{World, Sent, after_mount, after_call, after_r
 use Rattle.fuse_spec.specs.Events.{Event, Outcome}
 use Rattle.fuse_spec.specs.Events as event
 
--- What an event comes to: an outcome and the world after it, or a refusal.
+-- What an event comes to: an outcome and the world after it, or a refusal. (this project's rule)
 abbrev pub Stepped : Type 0
 Stepped = Result (Outcome × World) Refusal
 
--- A refusal, where the condition holds.
+-- A refusal, where the condition holds. (this project's rule)
 abbrev pub unless : Bool → Refusal → Stepped → Stepped
 unless condition refusal stepped = cond condition (Err refusal) stepped
 
--- Whether a counter would have given a number past its end.
+-- Whether a counter would have given a number past its end. (this project's rule)
 abbrev pub is_past : World → Bool
 is_past w =
     nat_lt counter_end w.kernel.queues.next || (nat_lt counter_end w.kernel.vfs.next_call
     || (nat_lt counter_end w.server.tree.next_birth || (nat_lt counter_end w.server.tree.next_serial || (nat_lt counter_end w.server.nodes.next_generation
     || (nat_lt counter_end w.server.handles.next_fh || nat_lt counter_end w.server.next_copy)))))
 
--- The outcome, unless a counter would have to go past its end.
+-- The outcome, unless a counter would have to go past its end. (this project's rule)
 abbrev pub going : Outcome → World → Stepped
 going outcome w = unless (is_past w) refusal.Exhausted (Ok (outcome, w))
 
+-- Whether calls are accepted: INIT is answered, or the mount is aborted, where they get ENOTCONN. (this project's rule)
 abbrev pub is_ready : Phase → Bool
 is_ready Down = false
 is_ready Starting = false
 is_ready Ready = true
 is_ready Aborted = true
 
--- A live mount with unanswered calls or open files can't be mounted anew.
+-- A live mount with unanswered calls or open files can't be mounted anew. (this project's rule)
 abbrev pub is_busy : Kernel → Bool
 is_busy k = is_live k.phase && not (nat_eq (length k.vfs.calls + length k.vfs.opens) 0)
 
+-- A refusal where no mount is live. (this project's rule)
 abbrev pub when_live : World → Stepped → Stepped
 when_live w stepped = unless (not (is_live w.kernel.phase)) refusal.NotReady stepped
 
--- While an interrupt is queued, nothing else may be read.
+-- While an interrupt is queued, nothing else may be read. (fuse.rst)
 abbrev pub when_not_interrupted : World → Stepped → Stepped
 when_not_interrupted w stepped = unless (not (nat_eq (length w.kernel.queues.interrupts) 0)) refusal.InterruptFirst stepped
 
+-- The oldest INTERRUPT is read, or there is none. (this project's rule)
 abbrev pub reading_interrupt : World → List ℕ → Stepped
 reading_interrupt w [] = Err refusal.NoSuch
 reading_interrupt w (original ∷ rest) = going (event.is_read (interrupt_number original)) (after_read_interrupt w original)
 
+-- So many forgets are read as one request, or they aren't there. (this project's rule)
 abbrev pub reading_forgets : World → ℕ → Option (ℕ × List Forget) → Stepped
 reading_forgets w n None = Err refusal.NoSuch
 reading_forgets w n (Some read) = going (event.is_read read.0) (after_read_forgets w n read.1)
 
--- A pending request is read. That of a call that isn't unanswered would have nothing to say; there is none.
+-- A pending request is read; that of a call that isn't unanswered would have nothing to say, and there is none. (this project's rule)
 abbrev pub reading_body : World → (k unique : ℕ) → Option RequestBody → Stepped
 reading_body w k unique None = Err refusal.NoSuch
 reading_body w k unique (Some body) = going (event.is_read unique) (after_read_pending w k unique body)
 
+-- The pending request at this place is read, or there is none. (this project's rule)
 abbrev pub reading_pending : World → ℕ → Option (ℕ × Purpose) → Stepped
 reading_pending w k None = Err refusal.NoSuch
 reading_pending w k (Some request) = reading_body w k request.0 (body_of w.kernel request.1)
 
+-- A request is taken, with the server's word for it. (this project's rule)
 abbrev pub taken_as : World → ℕ → ℕ → TakeResult → Stepped
 taken_as w k unique took = going (event.taken unique took.word) (after_take w k unique took)
 
+-- The request at this place of its link is taken, or there is none. (this project's rule)
 abbrev pub taking_request : World → ℕ → Option Request → Stepped
 taking_request w k None = Err refusal.NoSuch
 taking_request w k (Some request) = taken_as w k request.unique (taking w.server request.unique request.body)
 
+-- A held request is performed, with the error of its reply. (this project's rule)
 abbrev pub performed_as : World → ℕ → PerformResult → Stepped
 performed_as w unique did = going (event.performed unique (errno_of did.wire) w.server.aborted) (after_perform w unique did)
 
+-- The held request under this unique is performed, or there is none. (this project's rule)
 abbrev pub performing_held : (ℕ → ℕ) → World → ℕ → Option HeldRequest → Stepped
 performing_held choice w unique None = Err refusal.NoSuch
 performing_held choice w unique (Some taken) = performed_as w unique (served choice w.server unique taken)
 
+-- One more copy of a kept reply goes out; none where no reply is kept, or what it names is gone. (this project's rule)
 abbrev pub sending_again : World → ℕ → Option Kept → Stepped
 sending_again w unique None = Err refusal.NoCopy
 sending_again w unique (Some kept) = unless (not (is_current w.server kept.wire)) refusal.NoCopy (going (event.sent_again unique) (after_again w unique kept))
 
+-- A copy is taken by the kernel, with the result for its writer. (this project's rule)
 abbrev pub written_as : World → ℕ → Sent → WriteResult × Kernel → Stepped
 written_as w k sent took = going (event.written sent.unique took.0) (after_write w k sent took)
 
+-- The copy at this place of its link is taken by the kernel, or there is none. (this project's rule)
 abbrev pub writing_copy : World → ℕ → Option Sent → Stepped
 writing_copy w k None = Err refusal.NoSuch
 writing_copy w k (Some sent) = written_as w k sent (reply_written w.kernel sent.unique sent.wire)
 
+-- The result at this place of its link is taken by the server, or there is none. (this project's rule)
 abbrev pub settling : World → ℕ → Option ReplyResult → Stepped
 settling w k None = Err refusal.NoSuch
 settling w k (Some result) = Ok (event.settled result.unique result.result, after_settle w k result (get w.server.copies result.number))
 
+-- A call is signalled, with the effect of the signal. (this project's rule)
 abbrev pub signalled_as : World → ℕ → IntrEffect × Kernel → Stepped
 signalled_as w call moved = going (event.interrupted call moved.0) (record w { kernel = moved.1 })
 
+-- The unanswered call of this number is signalled, or there is none. (this project's rule)
 abbrev pub signalling : World → ℕ → Bool → Option (CallState Opened) → Stepped
 signalling w call fatal None = Err refusal.NoSuch
 signalling w call fatal (Some state) = signalled_as w call (call_signalled w.kernel call state fatal)
 
+-- A name in force is dropped, or there is none. (this project's rule)
 abbrev pub dropping : World → Option Binding → Stepped
 dropping after None = Err refusal.NoSuch
 dropping after (Some bound) = Ok (event.dropped, after)
 
+-- A counted node is given up, unless it is in use or a name in force names it. (this project's rule)
 abbrev pub evicting : World → ℕ → Option Counted → Stepped
 evicting w node None = Err refusal.NoSuch
 evicting w node (Some counted) =
     unless (is_pinned w.kernel node || is_bound w.kernel node) refusal.Busy (Ok (event.evicted node counted.count, after_evict w node counted))
 
--- The event in this world, with these ids for the files that get a node. The refusals stand in the order in which they
--- are judged. Want of memory, which comes last, isn't a matter of the state.
+-- The event in this world, with these ids for the files that get a node. The refusals stand in the order in which they are judged. Want of memory, which
+-- comes last, isn't a matter of the state. (this project's rule)
 abbrev pub step : (ℕ → ℕ) → World → Event → Stepped
 step choice w (event.mount found_ms missing_ms) =
     unless (nat_lt max_validity (max found_ms missing_ms)) refusal.BadTime (unless (is_busy w.kernel) refusal.Busy (Ok (event.mounted, after_mount w found_ms missing_ms)))
@@ -151,23 +168,24 @@ step choice w (event.drop_name directory name) =
 step choice w (event.evict node) = when_live w (evicting w node (get w.kernel.nodes node))
 step choice w event.abort = when_live w (Ok (event.aborted, after_abort w))
 
--- Which ids the server may choose: any free ones for the files that get a node in this event.
+-- Which ids the server may choose for the files that get a node in this event: the id that a file has, or else any free one. (this project's rule)
 abbrev pub MayChooseFor : (ℕ → ℕ) → World → Option HeldRequest → Type 0
 MayChooseFor choice w None = Unit {0}
 MayChooseFor choice w (Some taken) = MayChoose choice w.server.nodes (files_given w.server taken)
 
+-- The same for an event: only performing a request gives nodes. (this project's rule)
 abbrev pub MayStep : (ℕ → ℕ) → World → Event → Type 0
 MayStep choice w (event.perform unique) = MayChooseFor choice w (get w.server.held unique)
 MayStep choice w event = Unit {0}
 
--- From this world the event may have this outcome and lead to that world.
+-- From this world the event may have this outcome and lead to that world. (this project's rule)
 abbrev pub Happens : World → Event → Outcome → World → Type 0
 Happens w event outcome after = (choice : ℕ → ℕ) × MayStep choice w event × (step choice w event ≡ Ok (outcome, after))
 
--- From this world the event is refused so, memory aside.
+-- From this world the event is refused so, memory aside. (this project's rule)
 abbrev pub IsRefused : World → Event → Refusal → Type 0
 IsRefused w event refusal = (choice : ℕ → ℕ) → MayStep choice w event → step choice w event ≡ Err refusal
 
--- The event is refused so, or memory was wanting.
+-- The event is refused so, or memory was wanting. (this project's rule)
 abbrev pub RefusedWith : World → Event → Refusal → Type 0
 RefusedWith w event refusal = IsRefused w event refusal ⊎ (refusal ≡ NoMemory)

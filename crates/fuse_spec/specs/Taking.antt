@@ -8,7 +8,7 @@ use Rattle.fuse_spec.specs.Operations.{failed}
 use Rattle.fuse_spec.specs.Messages.{RequestBody, init, asks, release, forget, batch_forget, interrupt, WireReply}
 use Rattle.fuse_spec.specs.Server.{Server, HeldRequest, Kept, holding, forgetting, sending, forgets_of}
 
--- What the server does with a request: the word for it, the server after it, and what it replies at once.
+-- What the server does with a request: the word for it, the server after it, and what it replies at once. (this project's rule)
 pub record TakeResult : Type 0 where
   pub word : Taken
   pub server : Server
@@ -20,6 +20,7 @@ interrupting s unique original (Some taken) kept = record { word = Marked; serve
 interrupting s unique original None (Some kept) = record { word = Ignored; server = s; reply = None }
 interrupting s unique original None None = record { word = Again; server = sending s unique (failed eagain) s.next_copy; reply = Some (failed eagain) }
 
+-- A request is taken: forgets and INTERRUPTs are done at once, and any other request is held until it is performed. (this project's rule)
 abbrev pub taking : Server → ℕ → RequestBody → TakeResult
 taking s unique init = record { word = Held; server = holding s unique init; reply = None }
 taking s unique (asks operation) = record { word = Held; server = holding s unique (asks operation); reply = None }

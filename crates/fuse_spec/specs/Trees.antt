@@ -8,46 +8,50 @@ use Rattle.fuse_spec.specs.declared.Kind.TheVariants.{Directory, Regular, Other}
 use Rattle.fuse_spec.specs.declared.Attributes.{Attributes}
 use Rattle.fuse_spec.specs.Operations.{Dirent}
 
--- What a file is: a directory, or some bytes.
+-- What a file is: a directory, or some bytes. (this project's rule)
 pub data Content : Type 0 where
   a_directory : Content
   a_file : (bytes : List ℕ) → Content
 
--- A name of a file. Serials rise with each name that is made.
+-- A name of a file in a directory, with its serial; serials rise with each name that is made. (this project's rule)
 pub record Named : Type 0 where
   pub directory : ℕ
   pub name : Name
   pub file : ℕ
   pub serial : ℕ
 
--- The files by birth, of which the root is 0, the names in rising serial, and the next numbers.
+-- The file tree: the files by birth, of which the root is 0, the names in rising serial, and the next birth and serial. (this project's rule)
 pub record Tree : Type 0 where
   pub files : Map Content
   pub names : List Named
   pub next_birth : ℕ
   pub next_serial : ℕ
 
+-- Whether two names are the same bytes. (POSIX, pathname)
 abbrev pub same_name : Name → Name → Bool
 same_name a b = pointwise nat_eq a b
 
--- Whether this is the name in the directory.
+-- Whether this is the name in the directory. (POSIX, directory entry)
 abbrev pub is_at : ℕ → Name → Named → Bool
 is_at dir name n = nat_eq n.directory dir && same_name n.name name
 
--- The file to which the name leads.
+-- The file to which the name in the directory leads. (POSIX, directory entry)
 abbrev pub file_at : Tree → ℕ → Name → Option ℕ
 file_at tree dir name = option_map (λ n. n.file) (find (is_at dir name) tree.names)
 
+-- Of what kind a file is. (POSIX, sys/stat.h)
 abbrev pub kind_of : Option Content → Kind
 kind_of None = Other
 kind_of (Some a_directory) = Directory
 kind_of (Some (a_file bytes)) = Regular
 
+-- The bytes of a file; a directory has none. (this project's rule)
 abbrev pub bytes_of : Option Content → List ℕ
 bytes_of None = []
 bytes_of (Some a_directory) = []
 bytes_of (Some (a_file bytes)) = bytes
 
+-- The next two say whether a file is a directory. (POSIX, directory)
 abbrev pub is_kind_directory : Kind → Bool
 is_kind_directory Directory = true
 is_kind_directory Regular = false
@@ -56,30 +60,34 @@ is_kind_directory Other = false
 abbrev pub is_directory : Tree → ℕ → Bool
 is_directory tree file = is_kind_directory (kind_of (get tree.files file))
 
--- How many names the file has. The root counts as having one.
+-- How many names the file has; the root counts as having one. (this project's rule)
 abbrev pub links : Tree → ℕ → ℕ
 links tree file = cond (nat_eq file 0) 1 (count_by (λ n. nat_eq n.file file) tree.names)
 
+-- Whether no name leads to the file. (POSIX, unlink)
 abbrev pub is_nameless : Tree → ℕ → Bool
 is_nameless tree file = nat_eq (links tree file) 0
 
--- The names in a directory, in rising serial.
+-- The names in a directory, in rising serial. (this project's rule)
 abbrev pub names_in : Tree → ℕ → List Named
 names_in tree dir = filter (λ n. nat_eq n.directory dir) tree.names
 
+-- Whether the directory has no name in it. (POSIX, rmdir)
 abbrev pub is_empty : Tree → ℕ → Bool
 is_empty tree dir = nat_eq (length (names_in tree dir)) 0
 
--- Whether the directory is `top`, or `top` is reached from it within so many steps up, by these names.
+-- Whether the directory is `top`, or `top` is reached from it within so many steps up, by these names. (POSIX, rename)
 abbrev pub is_within : ℕ → List Named → ℕ → ℕ → Bool
 is_within zero names top dir = nat_eq dir top
 is_within (suc steps) names top dir =
     cond (nat_eq dir top) true (elim (find (λ n. nat_eq n.file dir) names) [ None ↦ false | Some n ↦ is_within steps names top n.directory ])
 
--- Whether the directory is `top` or below it.
+-- Whether the directory is `top` or below it. (POSIX, rename)
 abbrev pub is_below : Tree → ℕ → ℕ → Bool
 is_below tree top dir = is_within (length tree.names) tree.names top dir
 
+-- The attributes of a file: its inode number is its birth and 1, its size the number of its bytes, its link count the number of its names.
+-- (this project's rule)
 abbrev pub attributes_of : Tree → ℕ → Attributes
 attributes_of tree file =
     record {
@@ -89,7 +97,7 @@ attributes_of tree file =
       nlink = links tree file;
     }
 
--- The tree with one more name, under the next serial.
+-- The tree with one more name, under the next serial. (this project's rule)
 abbrev pub with_name : Tree → ℕ → Name → ℕ → Tree
 with_name tree dir name file =
     record tree {
@@ -97,33 +105,34 @@ with_name tree dir name file =
       next_serial = tree.next_serial + 1;
     }
 
--- The tree without a name.
+-- The tree without a name; its file stays. (POSIX, unlink)
 abbrev pub without_name : Tree → ℕ → Name → Tree
 without_name tree dir name = record tree { names = filter (λ n. not (is_at dir name n)) tree.names }
 
--- The tree with a new file under a new name.
+-- The tree with a new file under a new name. (this project's rule)
 abbrev pub with_birth : Tree → ℕ → Name → Content → Tree
 with_birth tree dir name content =
     with_name (record tree { files = put tree.files tree.next_birth content; next_birth = tree.next_birth + 1 }) dir name tree.next_birth
 
--- The bytes with others written over them from an offset on. A gap is zeros.
+-- The bytes with others written over them from an offset on; a gap is zeros. (POSIX, write)
 abbrev pub overwritten : List ℕ → ℕ → List ℕ → List ℕ
 overwritten old offset [] = old
 overwritten old offset (b ∷ bytes) =
     take offset old ++ (replicate (offset - length old) 0 ++ ((b ∷ bytes) ++ drop (offset + length (b ∷ bytes)) old))
 
--- How long a record of READDIR is: 24 bytes and the name, up to a multiple of 8. (struct fuse_dirent)
+-- How long a record of READDIR is: 24 bytes and the name, up to a multiple of 8. (linux/fuse.h, struct fuse_dirent)
 abbrev pub record_length : Dirent → ℕ
 record_length r = (31 + length r.name) / 8 * 8
 
+-- A name as READDIR lists it: the inode number, the serial as the offset from which to read on, the kind and the name. (this project's rule)
 abbrev pub record_of : Tree → Named → Dirent
 record_of tree n = record { ino = n.file + 1; offset = n.serial; kind = kind_of (get tree.files n.file); name = n.name }
 
--- As many of the records as fit so many bytes, from the first on.
+-- As many of the records as fit so many bytes, from the first on. (libfuse, low-level: readdir)
 abbrev pub fitting : ℕ → List Dirent → List Dirent
 fitting room [] = []
 fitting room (r ∷ records) = cond (nat_le (record_length r) room) (r ∷ fitting (room - record_length r) records) []
 
--- The records of the names in a directory whose serial is over `after`.
+-- The records of the names in a directory whose serial is over `after`, which is the offset from which to read on. (libfuse, low-level: readdir)
 abbrev pub records_after : Tree → ℕ → ℕ → List Dirent
 records_after tree dir after = map (record_of tree) (filter (λ n. nat_lt after n.serial) (names_in tree dir))

@@ -1,28 +1,28 @@
 -- Request numbers, named uniques: even, rising by 2 from 2, below 2 ^ 62.
 use Rattle.std.specs.Prelude.{◌≡◌, ℕ, ◌+◌, ◌-◌, ◌/◌, ◌%◌, ◌^◌, ◌≤◌}
 
--- the first number of a mount
+-- The first number of a mount, which is INIT's. (this project's rule)
 abbrev pub first_number : ℕ
 first_number = 2
 
--- no number reaches this
+-- No number reaches this. (this project's rule)
 abbrev pub number_limit : ℕ
 number_limit = 2 ^ 62
 
--- how many numbers can still be drawn where `next` is the coming one
+-- How many numbers can still be drawn where `next` is the coming one. (this project's rule)
 abbrev pub numbers_left_from : ℕ → ℕ
 numbers_left_from next = (number_limit - next) / 2
 
--- `n` may be the coming number: even, not before the first, and at most the limit, where none is left
+-- `n` may be the coming number: even, not before the first, and at most the limit, where none is left. (this project's rule)
 pub record IsNextNumber (n : ℕ) : Type 0 where
   pub even : n % 2 ≡ 0
   pub low : first_number ≤ n
   pub high : n ≤ number_limit
 
--- the number of the INTERRUPT of a request: the request's, with the lowest bit set
+-- The number of the INTERRUPT of a request: the request's, with the lowest bit set. (this project's rule)
 abbrev pub interrupt_number : ℕ → ℕ
 interrupt_number unique = unique - unique % 2 + 1
 
--- the number of the request that an INTERRUPT names: its own, with the lowest bit cleared
+-- The number of the request that an INTERRUPT is for: the INTERRUPT's own, with the lowest bit cleared. (this project's rule)
 abbrev pub original_number : ℕ → ℕ
 original_number unique = unique - unique % 2
