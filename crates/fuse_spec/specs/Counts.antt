@@ -105,8 +105,14 @@ IsOpenMeant w o = (file : ℕ) × MeansOpenIn w o file
 abbrev pub IsNamed : World → Entry → Type 0
 IsNamed w g = (file : ℕ) × Denotes w.server.nodes g.nodeid g.generation file
 
--- In a live mount: the nodes that the kernel counts, those from and to which its names lead, those of its calls and its open and closed files are held by
--- the server under the kernel's generation, and each entry on the reply link under its own. (this project's rule)
+-- The kernel's node of an unanswered RELEASE means some file. (this project's rule)
+abbrev pub ReleaseMeant : World → Purpose → Type 0
+ReleaseMeant w purpose.Init = Unit {0}
+ReleaseMeant w (purpose.Release o) = IsMeant w o.nodeid
+ReleaseMeant w (purpose.Call call) = Unit {0}
+
+-- In a live mount: the nodes that the kernel counts, those from and to which its names lead, those of its calls, its open and closed files and its
+-- unanswered RELEASEs are held by the server under the kernel's generation, and each entry on the reply link under its own. (this project's rule)
 pub record HeldLive (w : World) : Type 0 where
   pub nodes : (id : ℕ) (node : Counted) → get w.kernel.nodes id ≡ Some node → IsMeant w id
   pub names : (directory : ℕ) (name : List ℕ) (bound : Binding) → get_name w.kernel.vfs.names (directory, name) ≡ Some bound → IsMeant w directory
@@ -114,6 +120,7 @@ pub record HeldLive (w : World) : Type 0 where
   pub calls : All (λ state. All (IsMeant w) (nodes_of_state state)) (values w.kernel.vfs.calls)
   pub opens : All (IsOpenMeant w) (values w.kernel.vfs.opens)
   pub closing : All (IsOpenMeant w) (values w.kernel.closing)
+  pub releases : All (λ (e : ℕ × QueuedRequest Purpose). ReleaseMeant w e.1.kept) w.kernel.queues.requests
   pub copies : All (λ (sent : Sent). All (IsNamed w) (files_in_reply sent.wire)) w.replies
 
 -- The next two are the open files that an operation names, and a request. (this project's rule)

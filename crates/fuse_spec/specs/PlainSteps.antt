@@ -1,6 +1,6 @@
 -- Which steps the plain world takes with an event and its outcome. `chosen` is the label of the ask that the event puts,
 -- if it puts one, or of the ask that a signal reaches, or the directory in which a name is dropped.
-use Rattle.std.specs.Prelude.{◌≡◌, ℕ, ◌+◌, ◌-◌, Bool, ◌&&◌, cond, not, Option, Some, None, nat_eq, is_some}
+use Rattle.std.specs.Prelude.{◌≡◌, ℕ, ◌+◌, ◌-◌, Bool, true, false, ◌&&◌, cond, not, Option, Some, None, nat_eq, is_some}
 use Rattle.fuse_spec.specs.Maps.{get}
 use Rattle.fuse_spec.specs.Vfs.{CallState}
 use Rattle.fuse_spec.specs.Operations.{Reply}
@@ -50,10 +50,19 @@ signalled_ask p effect.Flagged label ask = ask_noted p label ask
 signalled_ask p effect.Queued label ask = ask_noted p label ask
 signalled_ask p effect.None label ask = ask_noted p label ask
 
+-- Only an ask that waits is ended by a signal. (this project's rule)
+abbrev pub may_signal : IntrEffect → Stage → Bool
+may_signal effect.Dequeued waiting = true
+may_signal effect.Dequeued (performed reply) = false
+may_signal effect.Dequeued declined = false
+may_signal effect.Flagged stage = true
+may_signal effect.Queued stage = true
+may_signal effect.None stage = true
+
 -- A signal reaches the ask of its call. (this project's rule)
 abbrev pub signalling : Plain → IntrEffect → (call label : ℕ) → Option Ask → Option Plain
 signalling p signal call label None = None
-signalling p signal call label (Some ask) = where_so (nat_eq ask.call call) (signalled_ask p signal label ask)
+signalling p signal call label (Some ask) = where_so (nat_eq ask.call call && may_signal signal ask.stage) (signalled_ask p signal label ask)
 
 -- An INTERRUPT marks the ask of its original, if there is one. (this project's rule)
 abbrev pub marking : Plain → ℕ → Option Ask → Option Plain

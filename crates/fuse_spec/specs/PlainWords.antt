@@ -60,8 +60,8 @@ pub data Steps (p : Plain) : Event → Outcome → Plain → Type 0 where
   tells_none : (k unique : ℕ) → get p.asks unique ≡ None → Steps p (event.write k) (event.written unique Accepted) p
   no_entry : (k unique : ℕ) → Steps p (event.write k) (event.written unique NoEntry) p
   is_wrong : (k unique : ℕ) → Steps p (event.write k) (event.written unique Invalid) p
-  -- a signal reaches an ask of its call: the ask goes and the call is answered EINTR, or the signal is noted
-  interrupts : (number label : ℕ) (fatal : Bool) (c : ℕ) (ask : Ask) → get p.asks label ≡ Some ask → ask.call ≡ number
+  -- a signal reaches an ask of its call: one that waits goes and the call is answered EINTR, or the signal is noted
+  interrupts : (number label : ℕ) (fatal : Bool) (c : ℕ) (ask : Ask) → get p.asks label ≡ Some ask → ask.stage ≡ waiting → ask.call ≡ number
       → Steps p (event.intr number fatal) (event.interrupted c effect.Dequeued) (record p { asks = remove p.asks label; vfs = is_answered p.vfs ask.call (failed eintr) })
   notes : (number label : ℕ) (fatal : Bool) (c : ℕ) (signal : IntrEffect) (ask : Ask) → signal ≢ effect.Dequeued → get p.asks label ≡ Some ask → ask.call ≡ number
       → Steps p (event.intr number fatal) (event.interrupted c signal) (record p { asks = put p.asks label (record ask { noted = true }) })

@@ -4,6 +4,7 @@ use Rattle.std.specs.Prelude.{MatchOption, Contains}
 use Rattle.std.proofs.lemmas.List.Elements.{All-nil, All-contains_itself}
 use Rattle.fuse_spec.specs.declared.Opened.{Opened}
 use Rattle.fuse_spec.specs.declared.Purpose.{Purpose}
+use Rattle.fuse_spec.specs.declared.Purpose.TheVariants as purpose
 use Rattle.fuse_spec.specs.declared.QueuedRequest.{QueuedRequest}
 use Rattle.fuse_spec.specs.declared.ReplyResult.{ReplyResult}
 use Rattle.fuse_spec.specs.declared.WriteResult.TheVariants.{Invalid}
@@ -12,16 +13,17 @@ use Rattle.fuse_spec.specs.Messages.{RequestBody, Request}
 use Rattle.fuse_spec.specs.Queues.{QueueState, pending}
 use Rattle.fuse_spec.specs.Kernel.{is_live, body_of}
 use Rattle.fuse_spec.specs.Server.{Server, HeldRequest}
-use Rattle.fuse_spec.specs.Counts.{opens_of_body, HeldLive, IsServable, IsMeant, IsOpenMeant, Held, Keeps, AtRest, Settled}
+use Rattle.fuse_spec.specs.Counts.{opens_of_body, ReleaseMeant, HeldLive, IsServable, IsMeant, IsOpenMeant, Held, Keeps, AtRest, Settled}
 use Rattle.fuse_spec.specs.Worlds.{World}
 use Rattle.fuse_spec.specs.Plain.{Plain}
 use Rattle.fuse_theorem.specs.AllSound.{AllSound}
 use Rattle.fuse_theorem.specs.NodesHeld.{NodesServable, NodesHeld}
 use Rattle.fuse_theorem.specs.OpenNumbers.{IsOfItsNode, OpensBalanced, released_for}
+use Rattle.fuse_theorem.specs.ReleasesKnown.{ReleaseKnown}
 use Rattle.fuse_theorem.specs.StillOpen.{HeldNumbersOpen}
 use Rattle.fuse_theorem.proofs.AtRest.{same_node}
 use Rattle.fuse_theorem.proofs.NoFault.{no_fault}
-use Rattle.fuse_theorem.proofs.NodesHeld.{nodes_held}
+use Rattle.fuse_theorem.proofs.NodesHeld.{known_meant, nodes_held}
 use Rattle.fuse_theorem.proofs.NothingWaits.{none_called, none_processing}
 use Rattle.fuse_theorem.proofs.OnceStays.{once_at_rest}
 use Rattle.fuse_theorem.proofs.OpenNeeds.{held_numbers}
@@ -47,10 +49,16 @@ module _ (w : World) (p : Plain) (all : AllSound w p) where
 
   -- ---- Held
 
+  release_meant : is_live w.kernel.phase ≡ true → (kept : Purpose) → ReleaseKnown w.kernel.nodes kept → ReleaseMeant w kept
+  release_meant live purpose.Init known = tt
+  release_meant live (purpose.Release o) known = known_meant w p all.both all.releases o.nodeid known
+  release_meant live (purpose.Call call) known = tt
+
   held_live : is_live w.kernel.phase ≡ true → HeldLive w
   held_live live =
       let of_nodes = nodes.live live in
       let files = (balanced live).files in
+      let releases = all.releases in
       record {
         nodes = of_nodes.nodes;
         names = of_nodes.names;
@@ -58,6 +66,7 @@ module _ (w : World) (p : Plain) (all : AllSound w p) where
         calls = of_nodes.calls;
         opens = λ i o lt. open_meant w _ (of_nodes.opens i o lt) (opens_fit w files i o lt);
         closing = λ i o lt. open_meant w _ (of_nodes.closing i o lt) (closing_fit w files i o lt);
+        releases = λ i e lt. release_meant live _ (releases.requests i e lt);
         copies = of_nodes.copies;
       }
 

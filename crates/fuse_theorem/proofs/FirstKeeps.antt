@@ -17,12 +17,12 @@ use Rattle.fuse_spec.specs.Maps.{Map, get, values}
 use Rattle.fuse_spec.specs.Operations.{files_in_reply}
 use Rattle.fuse_spec.specs.Vfs.{CallState}
 use Rattle.fuse_spec.specs.Queues.{pending, request_under, is_unread}
-use Rattle.fuse_spec.specs.Messages.{RequestBody, Request, WireReply}
+use Rattle.fuse_spec.specs.Messages.{RequestBody, release, Request, WireReply}
 use Rattle.fuse_spec.specs.Kernel.{Kernel, body_of, is_for, nodes_of_state}
 use Rattle.fuse_spec.specs.Nodes.{HeldNode, OpenNumber, row_of, file_of, is_open}
 use Rattle.fuse_spec.specs.Server.{Server, HeldRequest, Copy, nodes_of_body, count_in, forgets_of, forgotten}
 use Rattle.fuse_spec.specs.Worlds.{World, Sent}
-use Rattle.fuse_spec.specs.Counts.{counted, names_in, opens_in, carried, refused, result_carries, Balance, OpenBalance, handle_count, releases_in, releases_for, open_in_kernel, IsMeant, IsOpenMeant, IsNamed, opens_of_body, HeldLive, IsServable, Held, AtRest, SameNode, Settled, Keeps}
+use Rattle.fuse_spec.specs.Counts.{counted, names_in, opens_in, carried, refused, result_carries, Balance, OpenBalance, handle_count, releases_in, releases_for, open_in_kernel, IsMeant, ReleaseMeant, IsOpenMeant, IsNamed, opens_of_body, HeldLive, IsServable, Held, AtRest, SameNode, Settled, Keeps}
 use Rattle.fuse_spec.specs.Plain.{Plain}
 use Rattle.fuse_spec.specs.Alike.{Alike}
 use Rattle.fuse_theorem.specs.FirstPath.{StatsRoot, looks_up, asks_root, IsFirstBody, first_init, first_lookup, first_getattr, OnlyRoot}
@@ -136,6 +136,15 @@ module _ (w : World) (root : OnlyRoot w) (more : FirstKeeps w) (p : Plain) (same
   state_meant state (looks_up word words) = All-cons (IsMeant w) 1 [] (0, root_means w root) (All-nil (IsMeant w))
   state_meant state asks_root = All-cons (IsMeant w) 1 [] (0, root_means w root) (All-nil (IsMeant w))
 
+  -- no RELEASE is asked
+  releases_none : (kept : Purpose) → MatchOption (body_of w.kernel kept) ⊥ IsFirstBody → ReleaseMeant w kept
+  releases_none purpose.Init first = tt
+  releases_none (purpose.Release o) first = absurd (no_release o first)
+    where
+      no_release : (o : Opened) → IsFirstBody (release o) → ⊥
+      no_release o first = elim first [ ]
+  releases_none (purpose.Call call) first = tt
+
   held_live : HeldLive w
   held_live = record {
     nodes = λ id node at. absurd (cc (at, ap (λ (m : Map Counted). get m id) root.nodes));
@@ -144,6 +153,7 @@ module _ (w : World) (root : OnlyRoot w) (more : FirstKeeps w) (p : Plain) (same
     calls = All-weaker StatsRoot (λ (state : CallState Opened). All (IsMeant w) (nodes_of_state state)) state_meant (values w.kernel.vfs.calls) more.calls.states;
     opens = All-same (IsOpenMeant w) (values w.kernel.vfs.opens) [] (ap values root.opens) (All-nil (IsOpenMeant w));
     closing = All-same (IsOpenMeant w) (values w.kernel.closing) [] (ap values root.closing) (All-nil (IsOpenMeant w));
+    releases = λ i e lt. releases_none _ (root.purposes i e lt);
     copies = λ i s lt. All-same (IsNamed w) (files_in_reply (get_or w.replies i s).wire) [] (more.copies.names_none i s lt).0 (All-nil (IsNamed w));
   }
 

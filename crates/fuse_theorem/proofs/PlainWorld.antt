@@ -11,7 +11,7 @@ use Rattle.fuse_spec.specs.Calls.{Call}
 use Rattle.fuse_spec.specs.Vfs.{CallState, Vfs, begun, given_up}
 use Rattle.fuse_spec.specs.CallReplies.{call_replied}
 use Rattle.fuse_spec.specs.Plain.{Plain, Ask, Stage, waiting, performed, declined, asking, going_on, call_begun, ask_performed, ask_declined, ask_told, ask_interrupted, plain_later}
-use Rattle.fuse_spec.specs.PlainSteps.{where_so, serving_ask, serving, telling_call, telling_ask, telling, signalled_ask, signalling, marking, takes, Takes}
+use Rattle.fuse_spec.specs.PlainSteps.{where_so, serving_ask, serving, telling_call, telling_ask, telling, may_signal, signalled_ask, signalling, marking, takes, Takes}
 use Rattle.fuse_spec.specs.Events.{Event, Outcome}
 use Rattle.fuse_spec.specs.Events as event
 use Rattle.fuse_spec.specs.PlainWords.{one_more, Asks, Steps}
@@ -105,14 +105,20 @@ module _ (p q : Plain) where
   signals : (number label : ℕ) (fatal : Bool) (c : ℕ) (signal : IntrEffect) (o : Option Ask) → get p.asks label ≡ o → signalling p signal number label o ≡ Some q → Steps p (event.intr number fatal) (event.interrupted c signal) q
   signals number label fatal c signal None there e = absurd (cc)
   signals number label fatal c signal (Some ask) there e =
-      let did = taken_so (nat_eq ask.call number) (signalled_ask p signal label ask) q e in
-      goes _ _ _ did.leads (by signal (sym (same_number ask.call number did.so)))
+      let did = taken_so (nat_eq ask.call number && may_signal signal ask.stage) (signalled_ask p signal label ask) q e in
+      let holds = both (nat_eq ask.call number) (may_signal signal ask.stage) did.so in
+      goes _ _ _ did.leads (by signal holds.second (sym (same_number ask.call number holds.first)))
     where
-      by : (x : IntrEffect) → ask.call ≡ number → Steps p (event.intr number fatal) (event.interrupted c x) (signalled_ask p x label ask)
-      by effect.Dequeued of = plain.interrupts number label fatal c ask there of
-      by effect.Flagged of = plain.notes number label fatal c effect.Flagged ask (λ is. cc) there of
-      by effect.Queued of = plain.notes number label fatal c effect.Queued ask (λ is. cc) there of
-      by effect.None of = plain.notes number label fatal c effect.None ask (λ is. cc) there of
+      waits : (stage : Stage) → may_signal effect.Dequeued stage ≡ true → stage ≡ waiting
+      waits waiting h = refl
+      waits (performed reply) h = absurd (cc)
+      waits declined h = absurd (cc)
+
+      by : (x : IntrEffect) → may_signal x ask.stage ≡ true → ask.call ≡ number → Steps p (event.intr number fatal) (event.interrupted c x) (signalled_ask p x label ask)
+      by effect.Dequeued may of = plain.interrupts number label fatal c ask there (waits ask.stage may) of
+      by effect.Flagged may of = plain.notes number label fatal c effect.Flagged ask (λ is. cc) there of
+      by effect.Queued may of = plain.notes number label fatal c effect.Queued ask (λ is. cc) there of
+      by effect.None may of = plain.notes number label fatal c effect.None ask (λ is. cc) there of
 
   marks : (k unique : ℕ) (o : Option Ask) → get p.asks (unique - 1) ≡ o → marking p (unique - 1) o ≡ Some q → Steps p (event.take k) (event.taken unique Marked) q
   marks k unique None there e = some_goes _ _ p e (plain.marks_none k unique there)

@@ -1,6 +1,7 @@
 -- A signal reaches an unanswered call in both worlds.
-use Rattle.std.proofs.Common.{◌≡◌, ℕ, Bool, true, false, true≢false, Option, Some, nat_eq, option_map, refl, ap, sym, subst, ◌∙◌, arith, inl, inr}
+use Rattle.std.proofs.Common.{◌≡◌, ◌≢◌, ℕ, Bool, true, false, true≢false, ◌&&◌, Option, Some, None, nat_eq, option_map, get_or, All, refl, ap, sym, subst, ◌∙◌, arith, inl, inr}
 use Rattle.std.specs.Option.{option_map_or}
+use Rattle.std.specs.Prelude.{MatchOption}
 use Rattle.std.proofs.lemmas.Bool.{cases_eq}
 use Rattle.fuse_spec.specs.declared.IntrEffect.{IntrEffect}
 use Rattle.fuse_spec.specs.declared.IntrEffect.TheVariants.{Dequeued, Flagged, Queued, None as NoEffect}
@@ -14,15 +15,16 @@ use Rattle.fuse_spec.specs.Maps.{get}
 use Rattle.fuse_spec.specs.Answers as answer
 use Rattle.fuse_spec.specs.Signals.{signal_effect}
 use Rattle.fuse_spec.specs.Vfs.{CallState, answered, no_more}
-use Rattle.fuse_spec.specs.Queues.{QueueState, request_under, is_unread, has_interrupt}
+use Rattle.fuse_spec.specs.Queues.{QueueState, pending, request_under, is_unread, has_interrupt, is_signalled}
+use Rattle.fuse_spec.specs.Messages.{RequestBody}
 use Rattle.fuse_spec.specs.QueueCalls.{interrupt_effect, after_effect, after_dequeue}
-use Rattle.fuse_spec.specs.Kernel.{Kernel, is_live, is_for, after_signal, signalled_at, call_signalled}
+use Rattle.fuse_spec.specs.Kernel.{Kernel, is_live, body_of, is_for, after_signal, signalled_at, call_signalled}
 use Rattle.fuse_spec.specs.Worlds.{World}
 use Rattle.fuse_spec.specs.Events as event
-use Rattle.fuse_spec.specs.Plain.{Plain, Ask, ask_noted, ask_interrupted}
-use Rattle.fuse_spec.specs.PlainSteps.{Takes, signalled_ask, signalling, where_so}
+use Rattle.fuse_spec.specs.Plain.{Plain, Ask, Stage, waiting, performed, declined, ask_noted, ask_interrupted}
+use Rattle.fuse_spec.specs.PlainSteps.{Takes, may_signal, signalled_ask, signalling, where_so}
 use Rattle.fuse_spec.specs.Denotes.{MeansIn, MeansOpenIn}
-use Rattle.fuse_spec.specs.Alike.{IsPaired, Alike}
+use Rattle.fuse_spec.specs.Alike.{IsPaired, RequestBodyAsked, PurposeAsked, Alike}
 use Rattle.fuse_spec.proofs.Tables.{get_put_here}
 use Rattle.fuse_spec.proofs.QueueReadings.{key_count-le-one}
 use Rattle.fuse_spec.proofs.QueueSoundness.{IsSound-dequeue}
@@ -30,8 +32,9 @@ use Rattle.fuse_theorem.specs.Numbering.{IsNumbered, IsOneToOne}
 use Rattle.fuse_theorem.specs.Conditions.{UnreadAreUnsent}
 use Rattle.fuse_theorem.proofs.Advancing.{answered_alone}
 use Rattle.fuse_theorem.proofs.Asking.{advanced_alike}
-use Rattle.fuse_theorem.proofs.Ending.{without_ask, paused_ended}
-use Rattle.fuse_theorem.proofs.Finding.{same_is, other_is, count_less, found_entry}
+use Rattle.fuse_theorem.proofs.Ending.{without_ask, not_asked, paused_ended}
+use Rattle.fuse_theorem.proofs.Finding.{same_is, other_is, all_fail, count_less, found_entry}
+use Rattle.fuse_theorem.proofs.PendingCounts.{unread_pending}
 use Rattle.fuse_theorem.proofs.Hearing.{answered_alike}
 use Rattle.fuse_theorem.proofs.Noting.{noted_alike, flagged_alike, interrupted_alike}
 use Rattle.fuse_theorem.proofs.Writing.{used_alike}
@@ -96,6 +99,38 @@ module _ (w : World) (p : Plain) (numbered : IsNumbered w) (one : IsOneToOne (Me
   noted_there : get (ask_noted p pair.unique pair.ask).asks pair.unique ≡ Some (record pair.ask { noted = true })
   noted_there = get_put_here p.asks pair.unique (record pair.ask { noted = true })
 
+  -- an ask of a request that is unread waits
+  unread_waits : is_unread found.0.mark ≡ true → pair.ask.stage ≡ waiting
+  unread_waits unread = by pair.ask.stage refl
+    where
+      none_pending : pair.ask.stage ≢ waiting → All (λ (e : ℕ × QueuedRequest Purpose). nat_eq pair.unique e.0 ≡ false) (pending q0)
+      none_pending over i e lt = under (get_or (pending q0) i e) (same.requests.pending i e lt)
+        where
+          asks_none : (e : ℕ × QueuedRequest Purpose) → pair.unique ≡ e.0 → (o : Option RequestBody) → MatchOption o ⊥ (RequestBodyAsked p.asks e.0 (is_signalled e.1.mark) false (MeansIn w) (MeansOpenIn w)) → ⊥
+          asks_none e is None old = old
+          asks_none e is (Some body) old = not_asked (MeansIn w) (MeansOpenIn w) p.asks e.0 (is_signalled e.1.mark) false body pair.ask (subst (λ (n : ℕ). get p.asks n ≡ Some pair.ask) is pair.there) over old
+
+          under : (e : ℕ × QueuedRequest Purpose) → PurposeAsked w p e → nat_eq pair.unique e.0 ≡ false
+          under e old = other_is pair.unique e.0 (λ is. asks_none e is (body_of w.kernel e.1.kept) old)
+
+      not_over : pair.ask.stage ≢ waiting → ⊥
+      not_over over =
+          let some = unread_pending pair.unique q0 found.0 found.1 unread in
+          let none = all_fail (λ (e : ℕ × QueuedRequest Purpose). nat_eq pair.unique e.0) (pending q0) (none_pending over) in
+          absurd (omega (arith, some, none))
+
+      by : (stage : Stage) → pair.ask.stage ≡ stage → pair.ask.stage ≡ waiting
+      by waiting is = is
+      by (performed reply) is = absurd (not_over (λ e. cc))
+      by declined is = absurd (not_over (λ e. cc))
+
+  -- the signal's step of the plain world may be taken
+  may_reach : (e : IntrEffect) → signal_effect found.0.mark fatal q0.interrupts_off ≡ e → may_signal e pair.ask.stage ≡ true
+  may_reach Dequeued e = ap (may_signal Dequeued) (unread_waits (dequeues_unread found.0.mark fatal q0.interrupts_off e))
+  may_reach Flagged e = refl
+  may_reach Queued e = refl
+  may_reach NoEffect e = refl
+
   dequeued_alike : is_unread found.0.mark ≡ true → Alike (record w { kernel = done_by Dequeued }) (ask_interrupted p pair.unique pair.ask)
   dequeued_alike unread =
       let serves = serves_call call found.0.kept found.2 in
@@ -130,8 +165,9 @@ module _ (w : World) (p : Plain) (numbered : IsNumbered w) (one : IsOneToOne (Me
   signal_goes =
       let e = interrupt_effect q0 pair.unique fatal in
       let q = signalled_ask p e pair.unique pair.ask in
+      let may : may_signal e pair.ask.stage ≡ true = subst (λ (x : IntrEffect). may_signal x pair.ask.stage ≡ true) (sym effect_is) (may_reach (signal_effect found.0.mark fatal q0.interrupts_off) refl) in
       let mine : nat_eq pair.ask.call call ≡ true = subst (λ (n : ℕ). nat_eq n call ≡ true) (sym pair.by) (same_is call) in
-      let taken : Takes p (event.intr call fatal) (event.interrupted call e) q = (pair.unique, ap (λ (o : Option Ask). signalling p e call pair.unique o) pair.there ∙ ap (λ (b : Bool). where_so b q) mine) in
+      let taken : Takes p (event.intr call fatal) (event.interrupted call e) q = (pair.unique, ap (λ (o : Option Ask). signalling p e call pair.unique o) pair.there ∙ ap (λ (b : Bool). where_so (b && may_signal e pair.ask.stage) q) mine ∙ ap (λ (b : Bool). where_so b q) may) in
       let alike : Alike (record w { kernel = done_by e }) q = subst (λ (x : IntrEffect). Alike (record w { kernel = done_by x }) (signalled_ask p x pair.unique pair.ask)) (sym effect_is) (by_effect (signal_effect found.0.mark fatal q0.interrupts_off) refl) in
       let whole : signalled_at w.kernel call state fatal (Some pair.unique) ≡ call_signalled w.kernel call state fatal = ap (λ (o : Option ℕ). signalled_at w.kernel call state fatal o) (sym pair.request) in
       subst (λ (x : IntrEffect × Kernel). (q' : Plain) × Takes p (event.intr call fatal) (event.interrupted call x.0) q' × Alike (record w { kernel = x.1 }) q') whole (q, taken, alike)
