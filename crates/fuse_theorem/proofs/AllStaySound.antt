@@ -17,6 +17,8 @@ use Rattle.fuse_theorem.specs.EachEvent.{Needs}
 use Rattle.fuse_theorem.proofs.EveryList.{first_both, both_met, both_move}
 use Rattle.fuse_theorem.proofs.ForgetsCounted.{faultless_stay, first_faultless}
 use Rattle.fuse_theorem.proofs.ForgetsNeeds.{one_node_a_file, settle_holds, take_met}
+use Rattle.fuse_theorem.proofs.OnTheWay.{first_on_their_way, read_stay_on_their_way}
+use Rattle.fuse_theorem.proofs.OnceStays.{first_once, once_stays}
 use Rattle.fuse_theorem.proofs.OpenNeeds.{held_numbers, release_number, released_held_still, settled_held}
 use Rattle.fuse_theorem.proofs.OpensStay.{first_opens, opens_stay}
 use Rattle.fuse_theorem.proofs.PerformNeeds.{any_met}
@@ -36,6 +38,8 @@ first_all = record {
   still = first_still_held;
   opens = first_opens;
   left = first_numbers_open;
+  waiting = first_on_their_way;
+  once = first_once;
 }
 
 module _ (w : World) (p : Plain) (all : AllSound w p) where
@@ -77,5 +81,7 @@ module _ (w : World) (p : Plain) (all : AllSound w p) where
           still = held_stay_held w both.world both.asked both.links both.held all.releases.held all.still e o after h;
           opens = opens_stay w p both all.releases all.opens e o after h;
           left = held_numbers_stay_open w both.world both.asked both.links (λ live. held_numbers w p both all.opens live) all.left e o after h;
+          waiting = read_stay_on_their_way w both.world both.links all.waiting e o after h;
+          once = once_stays w p both all.releases all.opens all.once e o after h;
         },
       )

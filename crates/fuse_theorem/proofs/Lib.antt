@@ -187,3 +187,4 @@ pub mod OpensAtRest
 pub mod OpensServable
 pub mod NewNumbers
 pub mod OnceStays
+pub mod AllKeeps

@@ -51,7 +51,7 @@ module _ (w : World) (files : All (IsOfItsNode w.server) (open_files w)) where
   pub closing_fit : All Fits Closing
   closing_fit = All-right Fits Opens Closing before_pending
 
-  pending_fit : All (λ (e : ℕ × QueuedRequest Purpose). All Fits (released_for e.1.kept)) (pending w.kernel.queues)
+  pub pending_fit : All (λ (e : ℕ × QueuedRequest Purpose). All Fits (released_for e.1.kept)) (pending w.kernel.queues)
   pending_fit = All-each Fits (λ (e : ℕ × QueuedRequest Purpose). released_for e.1.kept) (pending w.kernel.queues) (All-right Fits (Opens ++ Closing) Pending before_sent)
 
   sent_fit : All (λ (r : Request). All Fits (released_by r.body)) w.requests

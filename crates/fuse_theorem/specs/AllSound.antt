@@ -4,7 +4,9 @@ use Rattle.fuse_spec.specs.Worlds.{World}
 use Rattle.fuse_theorem.specs.EveryList.{BothSound}
 use Rattle.fuse_theorem.specs.Faultless.{Faultless}
 use Rattle.fuse_theorem.specs.NodesHeld.{TakenServable}
+use Rattle.fuse_theorem.specs.OnTheWay.{ReadAreOnTheirWay}
 use Rattle.fuse_theorem.specs.OpenNumbers.{OpensSound}
+use Rattle.fuse_theorem.specs.OpensOnce.{OpensOnceWhileLive}
 use Rattle.fuse_theorem.specs.ReleasesKnown.{ReleasesKnown}
 use Rattle.fuse_theorem.specs.RepliesFit.{RepliesFitWhileLive}
 use Rattle.fuse_theorem.specs.StillHeld.{StillHeldAfterAbort}
@@ -20,3 +22,5 @@ pub record AllSound (w : World) (p : Plain) : Type 0 where
   pub still : StillHeldAfterAbort w
   pub opens : OpensSound w
   pub left : OpensAfterAbort w
+  pub waiting : ReadAreOnTheirWay w
+  pub once : OpensOnceWhileLive w
