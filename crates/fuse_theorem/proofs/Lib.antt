@@ -187,4 +187,5 @@ pub mod OpensAtRest
 pub mod OpensServable
 pub mod NewNumbers
 pub mod OnceStays
+pub mod OpensCollected
 pub mod AllKeeps
