@@ -1,42 +1,25 @@
 -- The server holds each open number that is in use or on its way.
-use Rattle.std.proofs.Common.{◌≡◌, ◌≢◌, ℕ, ◌+◌, ◌-◌, ◌≤◌, ◌<◌, Bool, true, false, true≢false, cond, List, [], ◌∷◌, ◌++◌, length, Option, Some, None, nat_eq, slice_get, get_or, count_by, refl, ap, sym, subst, ◌∙◌, arith, ◌⊎◌, inl, inr, All}
-use Rattle.std.specs.Prelude.{Contains, sum_by}
+use Rattle.std.proofs.Common.{◌≡◌, ℕ, Bool, cond, List, ◌++◌, Some, nat_eq, get_or, ap, sym, subst, ◌∙◌, arith, inl, inr, All}
+use Rattle.std.specs.Prelude.{Contains}
 use Rattle.std.proofs.lemmas.List.Elements.{All-nil, All-contains, All-head, All-tail}
-use Rattle.std.proofs.lemmas.List.Sums.{sum_by-cons, get_or-le-sum_by}
+use Rattle.std.proofs.lemmas.List.Sums.{get_or-le-sum_by}
 use Rattle.fuse_spec.specs.declared.Opened.{Opened}
-use Rattle.fuse_spec.specs.declared.ReplyResult.{ReplyResult}
-use Rattle.fuse_spec.specs.Counts.{handle_count, opens_in, opens_of, opens_of_body, result_carries}
-use Rattle.fuse_spec.specs.Maps.{Map, get, remove, values}
+use Rattle.fuse_spec.specs.Counts.{handle_count, opens_in, opens_of, opens_of_body}
+use Rattle.fuse_spec.specs.Maps.{get, values}
 use Rattle.fuse_spec.specs.Messages.{Request, RequestBody, init, asks, release, forget, batch_forget, interrupt, WireReply}
 use Rattle.fuse_spec.specs.Operations.{Operation, opens_in_reply}
-use Rattle.fuse_spec.specs.Queues.{request_under}
 use Rattle.fuse_spec.specs.Vfs.{CallState, walking, doing, using, asked}
-use Rattle.fuse_spec.specs.Kernel.{Kernel, is_live}
-use Rattle.fuse_spec.specs.Nodes.{HandleTable, file_of, is_open, handle_back}
-use Rattle.fuse_spec.specs.Server.{Server, HeldRequest, Kept, Copy}
-use Rattle.fuse_spec.specs.Plain.{Plain}
-use Rattle.fuse_spec.specs.Worlds.{World, Sent, after_settle}
-use Rattle.fuse_spec.specs.Events as event
-use Rattle.fuse_spec.specs.Steps.{settling, Happens}
+use Rattle.fuse_spec.specs.Nodes.{HandleTable}
+use Rattle.fuse_spec.specs.Server.{HeldRequest}
+use Rattle.fuse_spec.specs.Worlds.{World, Sent}
 use Rattle.fuse_theorem.specs.AskedRequests.{IsAsked, SentAsked, RequestsAsked}
 use Rattle.fuse_theorem.specs.Conditions.{IsNumber, HoldsOpens}
 use Rattle.fuse_theorem.specs.Copies.{KeptAreSent, SomeHas, here, there}
-use Rattle.fuse_theorem.specs.EveryList.{BothSound}
-use Rattle.fuse_theorem.specs.Links.{IsIdle}
-use Rattle.fuse_theorem.specs.OpenNumbers.{OpensApart, UsesOpen, released_by, all_released, released_pending, released_sent, released_held, open_files, OpensBalanced}
+use Rattle.fuse_theorem.specs.OpenNumbers.{OpensApart, UsesOpen, released_by, released_pending, released_sent, released_held, open_files}
 use Rattle.fuse_theorem.proofs.Finding.{same_is}
-use Rattle.fuse_theorem.proofs.KeptOnLink.{kept_stay_sent}
-use Rattle.fuse_theorem.proofs.LinksSound.{none_at}
-use Rattle.fuse_theorem.proofs.MapSums.{Rises, worth, sum_gone}
-use Rattle.fuse_theorem.proofs.NodesSound.{left_found}
-use Rattle.fuse_theorem.proofs.NumberCounts.{number_count, back_count}
-use Rattle.fuse_theorem.proofs.OpenSums.{has_number, held_sum, open_sum, released_sum, copies_carry, CountsOpens, counts_opens, All-left, All-right}
-use Rattle.fuse_theorem.proofs.OpensInUse.{numbers_there}
+use Rattle.fuse_theorem.proofs.OpenSums.{CountsOpens, All-left, All-right}
 use Rattle.fuse_theorem.proofs.OpensUsed.{asked_state}
-use Rattle.fuse_theorem.proofs.OpensServed.{none_out}
-use Rattle.fuse_theorem.proofs.OpensStay.{opens_stay}
-use Rattle.fuse_theorem.proofs.OpensTables.{All-each, held_fits}
-use Rattle.fuse_theorem.proofs.StayAsked.{requests_stay_asked}
+use Rattle.fuse_theorem.proofs.OpensTables.{All-each}
 use Rattle.fuse_theorem.proofs.Values.{All-get}
 
 -- ---- what is counted is held

@@ -187,6 +187,7 @@ pub mod OpensAtRest
 pub mod OpensServable
 pub mod NewNumbers
 pub mod OnceStays
+pub mod OpensCollected
 pub mod AllKeeps
 pub mod AllCollected
 pub mod AllRun

@@ -1,5 +1,5 @@
 -- An open number is of one open file at most, whatever happens.
-use Rattle.std.proofs.Common.{◌≡◌, ◌≢◌, ℕ, ◌+◌, ◌-◌, ◌≤◌, ◌<◌, Bool, true, false, true≢false, cond, List, [], ◌∷◌, ◌++◌, drop, take, Option, Some, None, nat_eq, count_by, slice_get, refl, ap, sym, subst, ◌∙◌, arith, ◌⊎◌, inl, inr, All}
+use Rattle.std.proofs.Common.{◌≡◌, ◌≢◌, ℕ, ◌+◌, ◌-◌, ◌≤◌, ◌<◌, Bool, true, false, true≢false, cond, List, [], drop, Option, Some, None, nat_eq, slice_get, refl, ap, sym, subst, ◌∙◌, arith, ◌⊎◌, inl, inr, All}
 use Rattle.std.specs.Prelude.{◌%◌, sum_by}
 use Rattle.std.specs.List.{remove as without_at}
 use Rattle.std.proofs.lemmas.List.Elements.{All-head, All-tail}
@@ -12,25 +12,25 @@ use Rattle.fuse_spec.specs.declared.WriteResult.TheVariants.{Accepted, NoEntry, 
 use Rattle.fuse_spec.specs.Copies.{handles_back, given_back, kept_after, after_result}
 use Rattle.fuse_spec.specs.Counts.{AtRest, handle_count, opens_in, result_carries}
 use Rattle.fuse_spec.specs.Maps.{Map, get, put, remove}
-use Rattle.fuse_spec.specs.Messages.{Request, RequestBody, init, asks, release, forget, batch_forget, interrupt, WireReply}
+use Rattle.fuse_spec.specs.Messages.{Request, RequestBody, init, asks, release, forget, batch_forget, interrupt}
 use Rattle.fuse_spec.specs.Operations.{opens_in_reply}
 use Rattle.fuse_spec.specs.Queues.{QueueState, request_under}
 use Rattle.fuse_spec.specs.QueueCalls.{can_read_forgets, waiting, without}
-use Rattle.fuse_spec.specs.Vfs.{CallState, later}
-use Rattle.fuse_spec.specs.Kernel.{Kernel, is_live, call_begun, call_signalled}
+use Rattle.fuse_spec.specs.Vfs.{later}
+use Rattle.fuse_spec.specs.Kernel.{Kernel, is_live, call_begun}
 use Rattle.fuse_spec.specs.Nodes.{HandleTable}
 use Rattle.fuse_spec.specs.Plain.{Plain}
 use Rattle.fuse_spec.specs.Replies.{replied_to_call, reply_taken, odd_taken, reply_written}
 use Rattle.fuse_spec.specs.Server.{Server, HeldRequest, Kept, Copy}
 use Rattle.fuse_spec.specs.Taking.{taking, interrupting}
 use Rattle.fuse_spec.specs.Performs.{PerformResult, performed, served}
-use Rattle.fuse_spec.specs.Worlds.{World, Sent, replying, first_world, server_settled, after_mount, after_take, after_perform, after_again, after_write, after_settle, after_drop, after_evict}
+use Rattle.fuse_spec.specs.Worlds.{World, Sent, replying, first_world, after_mount, after_take, after_perform, after_again, after_write, after_settle, after_drop, after_evict}
 use Rattle.fuse_spec.specs.Events.{Event, Outcome}
 use Rattle.fuse_spec.specs.Steps.{MayStep, MayChooseFor, Happens}
 use Rattle.fuse_spec.proofs.QueueReadings.{request_under-without}
 use Rattle.fuse_theorem.specs.Copies.{SomeHas, here, there}
 use Rattle.fuse_theorem.specs.EveryList.{BothSound}
-use Rattle.fuse_theorem.specs.Lookups.{EntriesHeld, LookupsSound}
+use Rattle.fuse_theorem.specs.Lookups.{LookupsSound}
 use Rattle.fuse_theorem.specs.Numbering.{IsNumbered}
 use Rattle.fuse_theorem.specs.OpenNumbers.{open_files, OpensBalanced, OpensSound}
 use Rattle.fuse_theorem.specs.OpensOnce.{Carries, OpensOnce, OpensOnceWhileLive}
@@ -46,9 +46,9 @@ use Rattle.fuse_theorem.proofs.MapSums.{worth}
 use Rattle.fuse_theorem.proofs.NewNumbers.{Draws, performed_draws, counted_next, given_back_next}
 use Rattle.fuse_theorem.proofs.NodesSound.{put_found}
 use Rattle.fuse_theorem.proofs.NumbersStay.{replying_kernel, unheard}
-use Rattle.fuse_theorem.proofs.OpenSums.{has_number, open_sum, CountsOpens, counts_opens, kernel_sum, sent_sum}
+use Rattle.fuse_theorem.proofs.OpenSums.{has_number, open_sum, counts_opens}
 use Rattle.fuse_theorem.proofs.OpensHeard.{HearsOpens, read_sum, written_heard}
-use Rattle.fuse_theorem.proofs.OpensKept.{KeepsOpen, begun_keeps, signalled_keeps}
+use Rattle.fuse_theorem.proofs.OpensKept.{begun_keeps, signalled_keeps}
 use Rattle.fuse_theorem.proofs.OpensMoved.{SameOpen, open_same, keeps_same, interrupt_same, pending_same, forgets_same}
 use Rattle.fuse_theorem.proofs.OpensOnce.{has_none, has_old, has_kept, has_at, files_with, none_new, one_new, one_opened}
 use Rattle.fuse_theorem.proofs.OpensStay.{alive, entries}

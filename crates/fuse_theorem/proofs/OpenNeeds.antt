@@ -1,45 +1,41 @@
 -- What the settling of a copy and the performing of a RELEASE need of open numbers holds.
-use Rattle.std.proofs.Common.{◌≡◌, ◌≢◌, ℕ, ◌+◌, ◌-◌, ◌≤◌, Bool, true, false, true≢false, cond, List, [], ◌∷◌, ◌++◌, length, Option, Some, None, nat_eq, slice_get, get_or, count_by, refl, ap, sym, subst, ◌∙◌, arith, ◌⊎◌, inl, inr, All}
-use Rattle.std.specs.Prelude.{Contains, sum_by}
-use Rattle.std.proofs.lemmas.List.Elements.{All-nil, All-cons, All-contains, All-head}
+use Rattle.std.proofs.Common.{◌≡◌, ℕ, ◌+◌, ◌≤◌, Bool, true, false, [], Option, Some, slice_get, refl, ap, subst, arith}
+use Rattle.std.specs.Prelude.{sum_by}
+use Rattle.std.proofs.lemmas.List.Elements.{All-contains}
 use Rattle.std.proofs.lemmas.List.Sums.{sum_by-cons, sum_by-append}
 use Rattle.fuse_spec.specs.declared.Opened.{Opened}
 use Rattle.fuse_spec.specs.declared.ReplyResult.{ReplyResult}
-use Rattle.fuse_spec.specs.Counts.{handle_count, opens_of, opens_of_body}
-use Rattle.fuse_spec.specs.Maps.{Map, get, remove, values}
-use Rattle.fuse_spec.specs.Messages.{Request, RequestBody, init, asks, release, forget, batch_forget, interrupt}
-use Rattle.fuse_spec.specs.Operations.{Operation}
-use Rattle.fuse_spec.specs.Vfs.{CallState, asked}
-use Rattle.fuse_spec.specs.Kernel.{Kernel, is_live}
-use Rattle.fuse_spec.specs.Nodes.{HandleTable, file_of, is_open, handle_back}
-use Rattle.fuse_spec.specs.Server.{Server, HeldRequest, Kept, Copy}
+use Rattle.fuse_spec.specs.Counts.{opens_of}
+use Rattle.fuse_spec.specs.Maps.{get, remove, values}
+use Rattle.fuse_spec.specs.Messages.{RequestBody, release}
+use Rattle.fuse_spec.specs.Vfs.{asked}
+use Rattle.fuse_spec.specs.Kernel.{is_live}
+use Rattle.fuse_spec.specs.Nodes.{file_of, is_open, handle_back}
+use Rattle.fuse_spec.specs.Server.{HeldRequest, Copy}
 use Rattle.fuse_spec.specs.Plain.{Plain}
-use Rattle.fuse_spec.specs.Worlds.{World, Sent, after_settle}
+use Rattle.fuse_spec.specs.Worlds.{World, after_settle}
 use Rattle.fuse_spec.specs.Events as event
 use Rattle.fuse_spec.specs.Steps.{settling, Happens}
 use Rattle.fuse_theorem.specs.AskedRequests.{RequestsAsked}
-use Rattle.fuse_theorem.specs.Conditions.{IsNumber, HoldsOpens}
+use Rattle.fuse_theorem.specs.Conditions.{HoldsOpens}
 use Rattle.fuse_theorem.specs.EveryList.{BothSound}
-use Rattle.fuse_theorem.specs.Links.{IsIdle}
-use Rattle.fuse_theorem.specs.OpenNumbers.{released_by, released_held, open_files, IsOfItsNode, OpensBalanced, OpensSound}
+use Rattle.fuse_theorem.specs.OpenNumbers.{released_by, open_files, OpensBalanced, OpensSound}
 use Rattle.fuse_theorem.specs.ReleasesKnown.{ReleasesKnown}
 use Rattle.fuse_theorem.specs.StillOpen.{HeldNumbersOpen}
 use Rattle.fuse_theorem.proofs.BalancedNumbers.{balanced_open}
-use Rattle.fuse_theorem.proofs.Finding.{same_is}
 use Rattle.fuse_theorem.proofs.HoldsOpens.{copies_there, counted_held}
 use Rattle.fuse_theorem.proofs.KeptOnLink.{kept_stay_sent}
 use Rattle.fuse_theorem.proofs.LinksSound.{none_at}
 use Rattle.fuse_theorem.proofs.MapSums.{values_sum, worth, sum_gone}
 use Rattle.fuse_theorem.proofs.NodesSound.{left_found}
-use Rattle.fuse_theorem.proofs.NumberCounts.{number_count, back_count}
-use Rattle.fuse_theorem.proofs.OpenSums.{has_number, held_sum, open_sum, released_sum, CountsOpens, counts_opens}
+use Rattle.fuse_theorem.proofs.NumberCounts.{back_count}
+use Rattle.fuse_theorem.proofs.OpenSums.{has_number, open_sum, CountsOpens, counts_opens}
 use Rattle.fuse_theorem.proofs.OpensInUse.{numbers_there}
 use Rattle.fuse_theorem.proofs.OpensUsed.{used_counted}
 use Rattle.fuse_theorem.proofs.OpensServed.{none_out}
 use Rattle.fuse_theorem.proofs.OpensStay.{opens_stay}
-use Rattle.fuse_theorem.proofs.OpensTables.{All-each, held_fits}
+use Rattle.fuse_theorem.proofs.OpensTables.{held_fits}
 use Rattle.fuse_theorem.proofs.StayAsked.{requests_stay_asked}
-use Rattle.fuse_theorem.proofs.Values.{All-get}
 
 -- ---- what every event keeps
 

@@ -1,9 +1,8 @@
 -- What a step of a call opens.
-use Rattle.std.proofs.Common.{◌≡◌, ◌≢◌, ℕ, ◌+◌, Bool, true, false, true≢false, cond, List, [], ◌∷◌, Option, Some, None, Result, Ok, Err, length, nat_eq, count_by, refl, ap, sym, subst, ◌∙◌, arith, ◌⊎◌, inl, inr, All}
+use Rattle.std.proofs.Common.{◌≡◌, ℕ, Bool, true, false, true≢false, cond, List, [], ◌∷◌, Option, Some, None, Result, Ok, Err, length, refl, sym, subst, ◌⊎◌, inl, All}
 use Rattle.std.specs.Prelude.{nat_lt, ◌||◌}
 use Rattle.std.proofs.lemmas.List.Elements.{All-nil, All-cons}
 use Rattle.fuse_spec.specs.declared.Opened.{Opened}
-use Rattle.fuse_spec.specs.declared.Entry.{Entry}
 use Rattle.fuse_spec.specs.Answers.{Answer}
 use Rattle.fuse_spec.specs.Begins.{Beginning, faulty, sets_out, uses, closes, whole_path, parent_path, beginning}
 use Rattle.fuse_spec.specs.Begins as begins
@@ -12,12 +11,12 @@ use Rattle.fuse_spec.specs.Calls as call
 use Rattle.fuse_spec.specs.CallReplies.{operation_replied, call_replied}
 use Rattle.fuse_spec.specs.Counts.{opens_of, opens_in}
 use Rattle.fuse_spec.specs.Kernel.{closed_by}
-use Rattle.fuse_spec.specs.Maps.{Map, get, put, remove}
+use Rattle.fuse_spec.specs.Maps.{Map, get}
 use Rattle.fuse_spec.specs.Messages.{WireReply}
 use Rattle.fuse_spec.specs.Operations.{Operation, getattr, mkdir, create, unlink, rmdir, rename, link, opening, readdir, read, write, Reply, found, missing, created, opened, attributes, listed, content, written, done, failed}
 use Rattle.fuse_spec.specs.Paths.{Name, words_of, parent_and_last}
 use Rattle.fuse_spec.specs.Replies.{kernel_reply, goes_with}
-use Rattle.fuse_spec.specs.Vfs.{CallState, walking, doing, using, asked, Vfs, look, answered, asking, bound, unbound, opened_by, after_walk, after_beginning, numbered, begun}
+use Rattle.fuse_spec.specs.Vfs.{CallState, walking, doing, using, Vfs, look, answered, asking, bound, unbound, opened_by, after_walk, after_beginning}
 use Rattle.fuse_spec.specs.Walks.{FinalOperation, WalkPlan, last, WalkStop, unknown, arrived, go, Walked, looks_up, finds_none, asks, operation_at, after_last, after_stop, walk}
 use Rattle.fuse_spec.specs.Walks as walks
 use Rattle.fuse_spec.proofs.Tables.{get_put_there, get_put_here, get_gone_here, get_gone_there}
@@ -25,21 +24,18 @@ use Rattle.fuse_theorem.specs.OpenNumbers.{UsesOpen}
 use Rattle.fuse_theorem.proofs.MapSums.{worth}
 use Rattle.fuse_theorem.proofs.NumberCounts.{number_alone}
 use Rattle.fuse_theorem.proofs.OpenSums.{has_number}
-use Rattle.fuse_theorem.proofs.OpensApart.{CallSteps, opened_more}
+use Rattle.fuse_theorem.proofs.OpensApart.{CallSteps}
 
 -- ---- a call is answered, or waits
 
 -- It is answered, whatever it opened.
-answered_steps : (c : Vfs Opened) (call : ℕ) (a : Answer) → CallSteps c (answered c call a) call None
+pub answered_steps : (c : Vfs Opened) (call : ℕ) (a : Answer) → CallSteps c (answered c call a) call None
 answered_steps c call a = record {
   others = λ n ne. get_gone_there c.calls call n ne;
   opens = refl;
   next = refl;
   waits = λ state at. absurd (cc (get_gone_here c.calls call, at));
 }
-
-pub answers_only : (c : Vfs Opened) (call : ℕ) (a : Answer) → CallSteps c (answered c call a) call None
-answers_only c call a = answered_steps c call a
 
 opened_steps : (c : Vfs Opened) (call : ℕ) (o : Opened) (a : Answer) → CallSteps c (answered (opened_by c call o) call a) call (Some o)
 opened_steps c call o a = record {

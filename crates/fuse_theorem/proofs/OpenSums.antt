@@ -1,5 +1,5 @@
 -- Sums over the files that are open, closing or to be released.
-use Rattle.std.proofs.Common.{◌≡◌, ◌≢◌, ℕ, ◌+◌, ◌≤◌, Bool, true, false, true≢false, cond, List, [], ◌∷◌, ◌++◌, filter, Option, Some, None, nat_eq, count_by, refl, ap, sym, subst, ◌∙◌, arith, All}
+use Rattle.std.proofs.Common.{◌≡◌, ℕ, ◌+◌, ◌≤◌, Bool, true, false, cond, List, [], ◌∷◌, ◌++◌, nat_eq, refl, ap, sym, ◌∙◌, arith, All}
 use Rattle.std.specs.Prelude.{sum_by}
 use Rattle.std.proofs.lemmas.List.Elements.{All-nil, All-cons, All-head, All-tail}
 use Rattle.std.proofs.lemmas.List.Sums.{sum_by-cons, sum_by-append}
@@ -11,10 +11,8 @@ use Rattle.fuse_spec.specs.Maps.{Map, get, values}
 use Rattle.fuse_spec.specs.Queues.{QueueState, pending}
 use Rattle.fuse_spec.specs.Messages.{Request, RequestBody, init, asks, release, forget, batch_forget, interrupt}
 use Rattle.fuse_spec.specs.Kernel.{Kernel}
-use Rattle.fuse_spec.specs.Nodes.{OpenNumber, HandleTable}
-use Rattle.fuse_spec.specs.Server.{Server, HeldRequest, Copy}
+use Rattle.fuse_spec.specs.Server.{HeldRequest}
 use Rattle.fuse_spec.specs.Counts.{OpenBalance, handle_count, open_in_kernel, open_in_flight, opens_in, releases_in, releases_for, result_carries}
-use Rattle.fuse_spec.specs.declared.ReplyResult.{ReplyResult}
 use Rattle.fuse_spec.specs.Worlds.{World, Sent}
 use Rattle.fuse_theorem.specs.OpenNumbers.{released_for, released_by, all_released, released_pending, released_sent, released_held, open_files}
 use Rattle.fuse_theorem.proofs.LinkSums.{sum_same}

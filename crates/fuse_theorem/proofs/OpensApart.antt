@@ -1,14 +1,12 @@
 -- The numbers of calls, open files and closing ones stay apart, as a call takes a step.
-use Rattle.std.proofs.Common.{◌≡◌, ◌≢◌, ℕ, ◌+◌, ◌≤◌, ◌<◌, Bool, true, false, cond, List, [], ◌∷◌, Option, Some, None, nat_eq, is_some, refl, ap, sym, subst, ◌∙◌, arith, ◌⊎◌, inl, inr, All}
+use Rattle.std.proofs.Common.{◌≡◌, ◌≢◌, ℕ, ◌+◌, ◌≤◌, ◌<◌, Option, Some, None, refl, ap, sym, subst, ◌∙◌, arith, ◌⊎◌, inl, inr}
 use Rattle.std.proofs.lemmas.Bool.{cases_eq}
 use Rattle.fuse_spec.specs.declared.Opened.{Opened}
-use Rattle.fuse_spec.specs.Counts.{opens_of}
-use Rattle.fuse_spec.specs.Maps.{Map, get, put, remove}
-use Rattle.fuse_spec.specs.Operations.{Operation}
-use Rattle.fuse_spec.specs.Vfs.{CallState, walking, doing, using, Vfs, asked}
-use Rattle.fuse_spec.proofs.Tables.{get_put_here, get_put_there, get_gone_here, get_gone_there}
+use Rattle.fuse_spec.specs.Maps.{Map, get, put}
+use Rattle.fuse_spec.specs.Vfs.{CallState, walking, doing, using, Vfs}
+use Rattle.fuse_spec.proofs.Tables.{get_put_there}
 use Rattle.fuse_theorem.specs.OpenNumbers.{stands, UsesOpen, OpensApart}
-use Rattle.fuse_theorem.proofs.MapSums.{values_sum, worth, sum_put, sum_gone, put_rises, gone_rises, Rises}
+use Rattle.fuse_theorem.proofs.MapSums.{values_sum, worth, sum_put, put_rises, Rises}
 
 -- How many ways a number stands.
 abbrev pub standing : Vfs Opened → Map Opened → ℕ → ℕ

@@ -1,24 +1,21 @@
 -- The file that a call opens has a number of its node's file.
-use Rattle.std.proofs.Common.{◌≡◌, ◌≢◌, ℕ, ◌-◌, ◌≤◌, Bool, true, false, true≢false, cond, List, [], ◌∷◌, Option, Some, None, nat_eq, slice_get, refl, ap, sym, subst, ◌∙◌, arith, All}
+use Rattle.std.proofs.Common.{◌≡◌, ℕ, ◌-◌, ◌≤◌, Bool, true, false, true≢false, cond, [], Some, None, nat_eq, refl, ap, sym, subst, ◌∙◌, All}
 use Rattle.std.specs.Prelude.{◌%◌}
 use Rattle.std.proofs.lemmas.List.Elements.{All-head}
 use Rattle.fuse_spec.specs.declared.Entry.{Entry}
 use Rattle.fuse_spec.specs.declared.Opened.{Opened}
-use Rattle.fuse_spec.specs.declared.Purpose.{Purpose}
 use Rattle.fuse_spec.specs.declared.Purpose.TheVariants as purpose
 use Rattle.fuse_spec.specs.Maps.{get}
 use Rattle.fuse_spec.specs.Messages.{WireReply}
-use Rattle.fuse_spec.specs.Operations.{Operation, create, opening, created, opened, failed, files_in, files_in_reply, Reply}
+use Rattle.fuse_spec.specs.Operations.{Operation, create, opening, created, opened, failed, files_in}
 use Rattle.fuse_spec.specs.QueueCalls.{waiting}
 use Rattle.fuse_spec.specs.Vfs.{CallState, asked}
-use Rattle.fuse_spec.specs.Kernel.{is_live, opened_nodes}
+use Rattle.fuse_spec.specs.Kernel.{opened_nodes}
 use Rattle.fuse_spec.specs.Nodes.{NodeTable, HandleTable, file_of, is_open}
 use Rattle.fuse_spec.specs.Plain.{Plain}
 use Rattle.fuse_spec.specs.Replies.{kernel_reply, goes_with}
-use Rattle.fuse_spec.specs.Denotes.{Denotes}
-use Rattle.fuse_spec.specs.Events as event
 use Rattle.fuse_spec.specs.Worlds.{World, Sent}
-use Rattle.fuse_theorem.specs.Conditions.{OpensItsFile, KnownAreHeld, IsReply, IsDeclined, awaiting}
+use Rattle.fuse_theorem.specs.Conditions.{OpensItsFile, KnownAreHeld}
 use Rattle.fuse_theorem.specs.EachEvent.{CanHear, nothing, of_interrupt, of_release, of_init, of_call, of_declined}
 use Rattle.fuse_theorem.specs.KnownNodes.{IsKnown, NodesKnown}
 use Rattle.fuse_theorem.specs.Lookups.{IsHeldAs, EntriesHeld}

@@ -1,9 +1,8 @@
 -- As the kernel takes a reply, what the copy carries is opened or refused.
-use Rattle.std.proofs.Common.{◌≡◌, ◌≢◌, ℕ, ◌+◌, ◌-◌, ◌≤◌, Bool, true, false, true≢false, cond, List, [], ◌∷◌, Option, Some, None, nat_eq, is_some, slice_get, option_map, refl, ap, sym, subst, ◌∙◌, arith, All}
+use Rattle.std.proofs.Common.{◌≡◌, ℕ, ◌+◌, ◌-◌, ◌≤◌, Bool, true, false, true≢false, cond, List, Option, Some, None, nat_eq, is_some, slice_get, option_map, refl, ap, sym, subst, ◌∙◌, arith}
 use Rattle.std.specs.Prelude.{◌%◌, sum_by}
 use Rattle.std.specs.List.{list_any}
 use Rattle.std.specs.Option.{option_map_or}
-use Rattle.std.proofs.lemmas.List.Sums.{sum_by-cons}
 use Rattle.fuse_spec.specs.declared.InterruptReply.{InterruptReply}
 use Rattle.fuse_spec.specs.declared.InterruptReplyEffect.{InterruptReplyEffect}
 use Rattle.fuse_spec.specs.declared.InterruptReplyEffect.TheVariants.{QueuedAgain, TurnedOff, None as NoReplyEffect}
@@ -21,7 +20,7 @@ use Rattle.fuse_spec.specs.CallReplies.{call_replied}
 use Rattle.fuse_spec.specs.Counts.{opens_in, refused}
 use Rattle.fuse_spec.specs.Maps.{get}
 use Rattle.fuse_spec.specs.Messages.{RequestBody, init, asks, release, WireReply}
-use Rattle.fuse_spec.specs.Operations.{Operation, lookup, found, missing, created, opened, agreed, done, failed, files_in_reply}
+use Rattle.fuse_spec.specs.Operations.{lookup, created, opened, agreed, done, failed, files_in_reply}
 use Rattle.fuse_spec.specs.Vfs.{CallState, walking, doing, using, asked, answered}
 use Rattle.fuse_spec.specs.Queues.{QueueState, IsSound, is_unread, pending, request_under, mark_under}
 use Rattle.fuse_spec.specs.QueueCalls.{after_reading, after_read_pending, after_reply_effect, after_interrupt_reply, pending_at, waiting, with_mark, with_interrupt, without}
@@ -40,7 +39,7 @@ use Rattle.fuse_theorem.proofs.OpensApart.{call_apart, call_below}
 use Rattle.fuse_theorem.proofs.OpenSteps.{gained, gained_by, gained_counts, replied_steps}
 use Rattle.fuse_theorem.proofs.OpensKept.{KeepsOpen, unmoved, advanced_keeps, used_keeps, answered_keeps}
 use Rattle.fuse_theorem.proofs.Queuing.{All-at}
-use Rattle.fuse_theorem.proofs.ReleasesPending.{unread_sum, ended_sum, marked_sum}
+use Rattle.fuse_theorem.proofs.ReleasesPending.{ended_sum, marked_sum}
 
 -- ---- a pending request is read
 

@@ -1,7 +1,6 @@
 -- The number of each open file stays one of its node's file as the server's tables change.
-use Rattle.std.proofs.Common.{◌≡◌, ◌≢◌, ℕ, ◌+◌, ◌≤◌, ◌<◌, Bool, true, false, true≢false, cond, List, [], ◌∷◌, ◌++◌, length, filter, Option, Some, None, nat_eq, is_some, get_or, slice_get, refl, ap, sym, subst, ◌∙◌, arith, All}
+use Rattle.std.proofs.Common.{◌≡◌, ◌≢◌, ℕ, ◌≤◌, Bool, true, true≢false, cond, List, [], ◌∷◌, ◌++◌, Option, Some, None, is_some, get_or, refl, ap, sym, subst, ◌∙◌, arith, All}
 use Rattle.std.specs.Prelude.{sum_by}
-use Rattle.std.specs.Ordering.{nat_cmp, is_eq}
 use Rattle.std.proofs.lemmas.List.Elements.{All-nil, All-cons, All-head, All-tail, All-append}
 use Rattle.std.proofs.lemmas.List.Sums.{get_or-le-sum_by}
 use Rattle.fuse_spec.specs.declared.Counted.{Counted}
@@ -10,29 +9,26 @@ use Rattle.fuse_spec.specs.declared.Purpose.{Purpose}
 use Rattle.fuse_spec.specs.declared.Purpose.TheVariants as purpose
 use Rattle.fuse_spec.specs.declared.QueuedRequest.{QueuedRequest}
 use Rattle.fuse_spec.specs.Maps.{Map, get, values}
-use Rattle.fuse_spec.specs.Queues.{is_unread, pending, request_under}
+use Rattle.fuse_spec.specs.Queues.{is_unread, pending}
 use Rattle.fuse_spec.specs.Messages.{Request, RequestBody, init, asks, release, forget, batch_forget, interrupt}
-use Rattle.fuse_spec.specs.Vfs.{CallState}
-use Rattle.fuse_spec.specs.Kernel.{Kernel, asked_by, body_of}
-use Rattle.fuse_spec.specs.Nodes.{NodeTable, HandleTable, OpenNumber, file_of, is_open}
-use Rattle.fuse_spec.specs.Server.{Server, HeldRequest}
+use Rattle.fuse_spec.specs.Nodes.{file_of, is_open}
+use Rattle.fuse_spec.specs.Server.{HeldRequest}
 use Rattle.fuse_spec.specs.Counts.{handle_count}
 use Rattle.fuse_spec.specs.Denotes.{Denotes, generation_known}
 use Rattle.fuse_spec.specs.Worlds.{World}
-use Rattle.fuse_spec.proofs.Tables.{cmp_same, tie_no}
 use Rattle.fuse_theorem.specs.AskedRequests.{IsAsked, SentAsked, RequestsAsked}
 use Rattle.fuse_theorem.specs.Conditions.{KnownAreHeld, IsNumber}
 use Rattle.fuse_theorem.specs.KnownNodes.{IsKnown, NodesKnown}
 use Rattle.fuse_theorem.specs.OpenNumbers.{released_for, released_by, all_released, released_pending, released_sent, released_held, open_files, IsOfItsNode, OpensBalanced}
 use Rattle.fuse_theorem.specs.ReleasesKnown.{ReleaseKnown, ReleasesKnown}
-use Rattle.fuse_theorem.proofs.Finding.{same_is, All-filter, All-found}
+use Rattle.fuse_theorem.proofs.Finding.{same_is, All-filter}
 use Rattle.fuse_theorem.proofs.HeldOperations.{denoted}
 use Rattle.fuse_theorem.proofs.MapSums.{Rises}
-use Rattle.fuse_theorem.proofs.NodesKnown.{All-more, known_some}
+use Rattle.fuse_theorem.proofs.NodesKnown.{All-more}
 use Rattle.fuse_theorem.proofs.NumberCounts.{SameFiles}
 use Rattle.fuse_theorem.proofs.ReleasesStay.{release_known}
 use Rattle.fuse_theorem.proofs.Values.{All-found_values}
-use Rattle.fuse_theorem.proofs.OpenSums.{has_number, copies_carry, CountsOpens, counts_opens, opens_counted, fewer_pass}
+use Rattle.fuse_theorem.proofs.OpenSums.{has_number, CountsOpens, opens_counted, fewer_pass}
 
 -- ---- what holds of each open file
 

@@ -1,6 +1,5 @@
 -- As calls go on, the kernel keeps its open files: open, closing or to be released.
-use Rattle.std.proofs.Common.{◌≡◌, ◌≢◌, ℕ, ◌+◌, ◌≤◌, ◌<◌, Bool, true, false, true≢false, cond, List, [], ◌∷◌, Option, Some, None, nat_eq, option_map, refl, ap, sym, subst, ◌∙◌, arith, ◌⊎◌, inl, inr, All}
-use Rattle.std.specs.Prelude.{sum_by}
+use Rattle.std.proofs.Common.{◌≡◌, ◌≢◌, ℕ, ◌+◌, ◌≤◌, ◌<◌, Bool, true, false, true≢false, cond, [], Option, Some, None, nat_eq, refl, ap, sym, subst, ◌∙◌, arith, ◌⊎◌, inl, inr}
 use Rattle.std.specs.Option.{option_map_or}
 use Rattle.std.proofs.lemmas.Bool.{cases_eq}
 use Rattle.std.proofs.lemmas.List.Sums.{sum_by-cons}
@@ -16,8 +15,7 @@ use Rattle.fuse_spec.specs.Answers.{Answer}
 use Rattle.fuse_spec.specs.Answers as answer
 use Rattle.fuse_spec.specs.Begins.{Beginning, beginning}
 use Rattle.fuse_spec.specs.Calls.{Call}
-use Rattle.fuse_spec.specs.Counts.{opens_of}
-use Rattle.fuse_spec.specs.Maps.{Map, get, put, remove, values}
+use Rattle.fuse_spec.specs.Maps.{Map, get, put, remove}
 use Rattle.fuse_spec.specs.Operations.{Operation}
 use Rattle.fuse_spec.specs.Queues.{IsSound, is_unread, request_under}
 use Rattle.fuse_spec.specs.QueueCalls.{after_enqueue, after_effect, with_mark, with_interrupt, after_dequeue}
@@ -26,13 +24,13 @@ use Rattle.fuse_spec.specs.Vfs.{CallState, walking, doing, using, Vfs, Advance, 
 use Rattle.fuse_spec.specs.Kernel.{Kernel, is_aborted, is_for, is_using, is_used, request_of, asking_for, advanced, released, released_if_idle, after_use, closed_by, closing_of, call_begun, after_signal, signalled_at, call_signalled}
 use Rattle.fuse_spec.proofs.QueueReadings.{key_count-le-one}
 use Rattle.fuse_spec.proofs.Tables.{get_put_here, get_put_there, get_gone_here, get_gone_there}
-use Rattle.fuse_theorem.specs.OpenNumbers.{stands, UsesOpen, OpensApart, released_for}
+use Rattle.fuse_theorem.specs.OpenNumbers.{stands, UsesOpen, OpensApart}
 use Rattle.fuse_theorem.proofs.Evicting.{found_fails}
 use Rattle.fuse_theorem.proofs.Finding.{same_is, found_entry}
 use Rattle.fuse_theorem.proofs.MapSums.{values_sum, worth, sum_put, sum_gone, put_rises, gone_rises}
-use Rattle.fuse_theorem.proofs.OpenSums.{kernel_sum, pending_sum}
-use Rattle.fuse_theorem.proofs.OpensApart.{standing, stands_none, some_stands, CallSteps, uses_still, call_apart, call_below, opens_more, stepped_apart}
-use Rattle.fuse_theorem.proofs.OpenSteps.{answers_only, BeginsAs, faults, leads, reads, ends, begins_as, begun_steps}
+use Rattle.fuse_theorem.proofs.OpenSums.{kernel_sum}
+use Rattle.fuse_theorem.proofs.OpensApart.{stands_none, some_stands, CallSteps, uses_still, call_apart, call_below, opens_more, stepped_apart}
+use Rattle.fuse_theorem.proofs.OpenSteps.{answered_steps, BeginsAs, faults, leads, reads, ends, begins_as, begun_steps}
 use Rattle.fuse_theorem.proofs.ReleasesPending.{unread_sum, queued_sum, ended_sum, marked_sum}
 
 -- The kernel has the files that it had, and one that it gained; its numbers are apart.
@@ -206,7 +204,7 @@ begun_keeps k old call = by (is_aborted k.phase)
     begins b file (reads handle operation o at is) = stepped (after_beginning c k.vfs.next_call b) (begun_steps c k.vfs.next_call b (reads handle operation o at is))
     begins b file (ends handle o at) =
         let d = answered c k.vfs.next_call answer.done in
-        let before = stepped (record { vfs = d; operation = None }) (answers_only c k.vfs.next_call answer.done) in
+        let before = stepped (record { vfs = d; operation = None }) (answered_steps c k.vfs.next_call answer.done) in
         let k1 = record k { vfs = record d { opens = remove d.opens handle }; closing = put k.closing handle o } in
         let closes : KeepsOpen k k1 None = record {
           sums = λ f. let same = closed_sum d k.closing before.apart handle o at f in omega (arith, same);
@@ -215,7 +213,7 @@ begun_keeps k old call = by (is_aborted k.phase)
         then_keeps k k1 (released_if_idle k1 handle) None closes (idle_keeps k1 closes.apart handle)
 
     by : (b : Bool) → KeepsOpen k (closing_of (advanced k k.vfs.next_call (begun b k.vfs call)) (cond b None (closed_by k.vfs.opens call))) None
-    by true = stepped (begun true k.vfs call) (answers_only c k.vfs.next_call _)
+    by true = stepped (begun true k.vfs call) (answered_steps c k.vfs.next_call _)
     by false = begins (beginning k.vfs.opens call) (closed_by k.vfs.opens call) (begins_as k.vfs.opens call)
 
 -- ---- a signal reaches a call
@@ -226,7 +224,7 @@ answered_keeps k old call state there a =
     let none = call_apart k.vfs k.closing old call state there in
     let low = call_below k.vfs k.closing old call state there in
     let k1 = record k { vfs = answered k.vfs call a } in
-    let steps = advanced_keeps k old call none.0 none.1 low (record { vfs = answered k.vfs call a; operation = None }) None (answers_only k.vfs call a) in
+    let steps = advanced_keeps k old call none.0 none.1 low (record { vfs = answered k.vfs call a; operation = None }) None (answered_steps k.vfs call a) in
     let first : KeepsOpen k k1 None = record { sums = steps.sums; apart = steps.apart } in
     then_keeps k k1 (after_use k1 state) None first (used_keeps k1 first.apart state)
 

@@ -1,49 +1,25 @@
 -- Open numbers stay balanced as the kernel goes on and takes replies.
-use Rattle.std.proofs.Common.{◌≡◌, ◌≢◌, ℕ, ◌+◌, ◌-◌, ◌≤◌, Bool, true, false, true≢false, cond, List, [], ◌∷◌, ◌++◌, drop, take, Option, Some, None, nat_eq, is_some, slice_get, get_or, count_by, refl, ap, sym, subst, ◌∙◌, arith, inl, inr, All}
-use Rattle.std.specs.Prelude.{◌%◌, sum_by}
+use Rattle.std.proofs.Common.{◌≡◌, ℕ, ◌+◌, Bool, true, false, cond, List, [], ◌∷◌, ◌++◌, drop, take, Option, Some, None, slice_get, refl, ap, ◌∙◌, arith}
+use Rattle.std.specs.Prelude.{sum_by}
 use Rattle.std.specs.List.{remove as without_at}
-use Rattle.std.proofs.lemmas.List.Sums.{sum_by-cons, sum_by_push}
-use Rattle.fuse_spec.specs.declared.Entry.{Entry}
+use Rattle.std.proofs.lemmas.List.Sums.{sum_by_push}
 use Rattle.fuse_spec.specs.declared.Opened.{Opened}
-use Rattle.fuse_spec.specs.declared.Purpose.{Purpose}
-use Rattle.fuse_spec.specs.declared.QueuedRequest.{QueuedRequest}
-use Rattle.fuse_spec.specs.declared.ReplyResult.{ReplyResult}
 use Rattle.fuse_spec.specs.declared.WriteResult.{WriteResult}
-use Rattle.fuse_spec.specs.declared.WriteResult.TheVariants.{Accepted, NoEntry, Invalid}
 use Rattle.fuse_spec.specs.Counts.{opens_in, refused, carried, result_carries}
-use Rattle.fuse_spec.specs.Copies.{kept_after, after_result}
-use Rattle.fuse_spec.specs.Maps.{Map, get, put, remove, values}
-use Rattle.fuse_spec.specs.Messages.{Forget, Request, RequestBody, init, asks, release, forget, batch_forget, interrupt, WireReply}
-use Rattle.fuse_spec.specs.Operations.{files_in_reply, opens_in_reply}
+use Rattle.fuse_spec.specs.Maps.{get}
+use Rattle.fuse_spec.specs.Messages.{Forget, Request, RequestBody, interrupt, WireReply}
 use Rattle.fuse_spec.specs.Uniques.{interrupt_number}
 use Rattle.fuse_spec.specs.QueueCalls as queues
-use Rattle.fuse_spec.specs.Queues.{pending}
-use Rattle.fuse_spec.specs.Vfs.{Vfs, given_up}
-use Rattle.fuse_spec.specs.Kernel.{Kernel, is_live, call_begun, call_signalled}
-use Rattle.fuse_spec.specs.Nodes.{NodeTable, HandleTable, file_of, is_open}
-use Rattle.fuse_spec.specs.Server.{Server, HeldRequest, Kept, Copy, forgets_of}
-use Rattle.fuse_spec.specs.Taking.{taking, interrupting}
-use Rattle.fuse_spec.specs.Performs.{performed, served}
-use Rattle.fuse_spec.specs.Replies.{reply_written}
-use Rattle.fuse_spec.specs.Denotes.{Denotes}
-use Rattle.fuse_spec.specs.Plain.{Plain}
-use Rattle.fuse_spec.specs.Worlds.{World, Sent, replying, forget_body, first_world, server_settled, after_mount, after_read_interrupt, after_read_forgets, after_read_pending, after_take, after_perform, after_again, after_write, after_settle, after_evict}
-use Rattle.fuse_spec.specs.Events.{Event, Outcome}
-use Rattle.fuse_spec.specs.Steps.{MayStep, MayChooseFor, Happens}
-use Rattle.fuse_theorem.specs.AskedRequests.{RequestsAsked}
-use Rattle.fuse_theorem.specs.Conditions.{KnownAreHeld}
+use Rattle.fuse_spec.specs.Kernel.{Kernel}
+use Rattle.fuse_spec.specs.Nodes.{file_of, is_open}
+use Rattle.fuse_spec.specs.Server.{Copy}
+use Rattle.fuse_spec.specs.Worlds.{World, Sent, forget_body, after_read_interrupt, after_read_forgets, after_read_pending, after_write}
 use Rattle.fuse_theorem.specs.Copies.{IsKnownCopy, CopiesSound}
-use Rattle.fuse_theorem.specs.EveryList.{BothSound}
-use Rattle.fuse_theorem.specs.Lookups.{EntriesHeld, LookupsBalanced, LookupsSound}
-use Rattle.fuse_theorem.specs.Numbering.{IsNumbered}
-use Rattle.fuse_theorem.specs.OpenNumbers.{OpensApart, released_for, released_by, released_held, open_files, IsOfItsNode, OpensBalanced, OpensSound}
-use Rattle.fuse_theorem.proofs.MapSums.{Rises, worth, put_rises, gone_rises}
-use Rattle.fuse_theorem.proofs.NumbersStay.{replying_kernel, unheard}
-use Rattle.fuse_theorem.proofs.OpenSums.{kernel_sum, sent_sum, held_sum, open_sum, has_number, copies_carry, CountsOpens, counts_opens, opens_counted, none_failing, all_pass, failing, fewer_pass}
-use Rattle.fuse_theorem.proofs.OpensKept.{KeepsOpen, begun_keeps, signalled_keeps}
-use Rattle.fuse_theorem.proofs.OpensHeard.{HearsOpens, read_sum, written_heard}
-use Rattle.fuse_theorem.proofs.Happened.{Happened, by_mount, by_call, by_read_interrupt, by_read_forgets, by_read_pending, by_take, by_perform, by_again, by_write, by_settle, by_signal, by_tick, by_drop, by_evict, by_abort, happened}
-use Rattle.fuse_theorem.proofs.PerformedRest.{performed_rest}
+use Rattle.fuse_theorem.specs.OpenNumbers.{released_by, open_files, IsOfItsNode, OpensBalanced}
+use Rattle.fuse_theorem.proofs.MapSums.{worth}
+use Rattle.fuse_theorem.proofs.OpenSums.{kernel_sum, sent_sum, open_sum, has_number, CountsOpens, counts_opens, opens_counted, none_failing, all_pass, failing, fewer_pass}
+use Rattle.fuse_theorem.proofs.OpensKept.{KeepsOpen}
+use Rattle.fuse_theorem.proofs.OpensHeard.{HearsOpens}
 use Rattle.fuse_theorem.proofs.LinkSums.{sum_removed}
 use Rattle.fuse_theorem.proofs.OpensServed.{replies_carry, results_carry}
 use Rattle.fuse_theorem.proofs.Queuing.{All-at}

@@ -1,26 +1,16 @@
 -- An open number is of one open file at most, as the kernel and the server go on.
-use Rattle.std.proofs.Common.{◌≡◌, ◌≢◌, ℕ, ◌+◌, ◌≤◌, ◌<◌, Bool, true, false, true≢false, cond, List, [], ◌∷◌, ◌++◌, Option, Some, None, nat_eq, slice_get, zero, suc, refl, ap, sym, subst, ◌∙◌, arith, ◌⊎◌, inl, inr, All}
-use Rattle.std.specs.Prelude.{◌%◌, sum_by}
+use Rattle.std.proofs.Common.{◌≡◌, ◌≢◌, ℕ, ◌+◌, ◌≤◌, Bool, true, false, cond, List, [], ◌∷◌, ◌++◌, Some, None, nat_eq, slice_get, zero, suc, refl, ap, sym, subst, ◌∙◌, arith, ◌⊎◌, inl, inr}
+use Rattle.std.specs.Prelude.{sum_by}
 use Rattle.std.specs.List.{remove as without_at}
 use Rattle.std.proofs.lemmas.Bool.{cases_eq}
 use Rattle.fuse_spec.specs.declared.Opened.{Opened}
-use Rattle.fuse_spec.specs.declared.Purpose.{Purpose}
-use Rattle.fuse_spec.specs.declared.Purpose.TheVariants as purpose
-use Rattle.fuse_spec.specs.declared.WriteResult.{WriteResult}
-use Rattle.fuse_spec.specs.Counts.{opens_in}
-use Rattle.fuse_spec.specs.Maps.{Map, get, put}
-use Rattle.fuse_spec.specs.Messages.{WireReply}
-use Rattle.fuse_spec.specs.Queues.{QueueState, request_under}
-use Rattle.fuse_spec.specs.QueueCalls.{waiting}
+use Rattle.fuse_spec.specs.Queues.{request_under}
 use Rattle.fuse_spec.specs.Kernel.{Kernel}
-use Rattle.fuse_spec.specs.Server.{Kept}
-use Rattle.fuse_spec.specs.Worlds.{World, Sent}
+use Rattle.fuse_spec.specs.Worlds.{World}
 use Rattle.fuse_theorem.specs.Copies.{SomeHas, here, there}
 use Rattle.fuse_theorem.specs.OpenNumbers.{open_files}
 use Rattle.fuse_theorem.specs.OpensOnce.{Carries, OpensOnce}
 use Rattle.fuse_theorem.proofs.Finding.{other_is}
-use Rattle.fuse_theorem.proofs.MapSums.{worth}
-use Rattle.fuse_theorem.proofs.NodesSound.{put_found}
 use Rattle.fuse_theorem.proofs.OpenSums.{has_number}
 
 -- ---- an element that has a property
@@ -71,7 +61,7 @@ module _ (w v : World) (old : OpensOnce w) where
     once = λ fh. let was = old.once fh in let less = fewer fh in omega (arith, was, less);
   }
 
--- ---- a number is new
+  -- ---- a number is new
 
   -- The reply to one request carries the coming number alone, which no file has.
   pub one_new : (unique : ℕ) → ((u fh : ℕ) → Carries v u fh → ((u ≡ unique) × (fh ≡ w.server.handles.next_fh) × (v.server.handles.next_fh ≡ w.server.handles.next_fh + 1)) ⊎ Carries w u fh) → w.server.handles.next_fh ≤ v.server.handles.next_fh
@@ -101,7 +91,7 @@ module _ (w v : World) (old : OpensOnce w) where
       both a b fh (inr c) (inl m) = let is = m.1 in let low = old.below a fh c in absurd (omega (arith, is, low))
       both a b fh (inr c) (inr d) = old.one a b fh c d
 
--- ---- a number is opened
+  -- ---- a number is opened
 
   -- The request whose reply carried the number of the file that is opened is answered.
   pub one_opened : (unique : ℕ) (o : Opened) → w.server.handles.next_fh ≤ v.server.handles.next_fh → ((u fh : ℕ) → Carries v u fh → Carries w u fh) → ((u fh : ℕ) → Carries w u fh → request_under v.kernel.queues u ≢ None → request_under w.kernel.queues u ≢ None)

@@ -1,33 +1,32 @@
 -- Open numbers stay balanced as the server takes requests, performs them, sends copies and settles them.
-use Rattle.std.proofs.Common.{◌≡◌, ◌≢◌, ℕ, ◌+◌, ◌-◌, ◌≤◌, Bool, true, false, true≢false, ◌&&◌, cond, List, [], ◌∷◌, ◌++◌, Option, Some, None, nat_eq, is_some, slice_get, get_or, refl, ap, sym, subst, ◌∙◌, arith, inl, inr, All}
+use Rattle.std.proofs.Common.{◌≡◌, ℕ, ◌+◌, Bool, true, false, true≢false, ◌&&◌, List, [], ◌∷◌, ◌++◌, Option, Some, None, is_some, slice_get, get_or, refl, ap, sym, ◌∙◌, arith, All}
 use Rattle.std.specs.Prelude.{◌%◌, sum_by}
 use Rattle.std.specs.List.{list_all, remove as without_at}
-use Rattle.std.proofs.lemmas.List.Sums.{sum_by-cons, sum_by_push}
+use Rattle.std.proofs.lemmas.List.Sums.{sum_by_push}
 use Rattle.fuse_spec.specs.declared.Entry.{Entry}
 use Rattle.fuse_spec.specs.declared.Opened.{Opened}
 use Rattle.fuse_spec.specs.declared.ReplyResult.{ReplyResult}
 use Rattle.fuse_spec.specs.declared.WriteResult.{WriteResult}
 use Rattle.fuse_spec.specs.declared.WriteResult.TheVariants.{Accepted, NoEntry, Invalid}
 use Rattle.fuse_spec.specs.Maps.{Map, get, put, remove}
-use Rattle.fuse_spec.specs.Messages.{Request, RequestBody, init, asks, release, forget, batch_forget, interrupt, WireReply}
+use Rattle.fuse_spec.specs.Messages.{Request, RequestBody, init, asks, release, forget, batch_forget, interrupt}
 use Rattle.fuse_spec.specs.Operations.{failed, files_in_reply, opens_in_reply}
 use Rattle.fuse_spec.specs.Nodes.{is_held}
-use Rattle.fuse_spec.specs.Server.{Server, HeldRequest, Kept, Copy, forgets_of, forgetting, holding}
+use Rattle.fuse_spec.specs.Server.{Server, HeldRequest, Kept, Copy}
 use Rattle.fuse_spec.specs.Taking.{taking, interrupting}
-use Rattle.fuse_spec.specs.Performs.{performed, served}
-use Rattle.fuse_spec.specs.Copies.{is_current, sent_again, kept_after, after_result, given_back}
-use Rattle.fuse_spec.specs.Counts.{handle_count, opens_in, carried, refused, result_carries}
-use Rattle.fuse_spec.specs.Worlds.{World, Sent, replying, after_take, after_perform, after_again, after_settle, server_settled}
+use Rattle.fuse_spec.specs.Copies.{is_current, kept_after, after_result, given_back}
+use Rattle.fuse_spec.specs.Counts.{opens_in, carried, refused, result_carries}
+use Rattle.fuse_spec.specs.Worlds.{World, Sent, after_take, after_again, after_settle}
 use Rattle.fuse_spec.proofs.Tables.{get_gone_there}
 use Rattle.fuse_theorem.specs.Copies.{CopiesSound}
 use Rattle.fuse_theorem.specs.OpenNumbers.{released_by, open_files}
 use Rattle.fuse_theorem.specs.ServerTables.{ServerSound}
 use Rattle.fuse_theorem.specs.Unperformed.{BearsNumber}
-use Rattle.fuse_theorem.proofs.CopiesSound.{served_copies, results_still, results_apart}
+use Rattle.fuse_theorem.proofs.CopiesSound.{results_still, results_apart}
 use Rattle.fuse_theorem.proofs.LinkSums.{sum_removed, sum_same}
-use Rattle.fuse_theorem.proofs.MapSums.{Rises, worth, sum_put, sum_gone}
+use Rattle.fuse_theorem.proofs.MapSums.{Rises, worth, sum_put}
 use Rattle.fuse_theorem.proofs.NumberCounts.{number_count, counted_counts, given_back_counts}
-use Rattle.fuse_theorem.proofs.OpenSums.{has_number, sent_sum, held_sum, kernel_sum, open_sum, copies_carry, CountsOpens}
+use Rattle.fuse_theorem.proofs.OpenSums.{has_number, held_sum, open_sum, CountsOpens}
 
 -- How often copies on the reply link carry a number, and how often the refused ones did.
 abbrev pub replies_carry : ℕ → List Sent → ℕ

@@ -1,34 +1,28 @@
 -- Open numbers stay balanced, whatever happens.
-use Rattle.std.proofs.Common.{◌≡◌, ◌≢◌, ℕ, ◌+◌, ◌≤◌, Bool, true, false, true≢false, cond, List, [], ◌∷◌, Option, Some, None, slice_get, refl, ap, sym, subst, ◌∙◌, arith, All}
-use Rattle.std.specs.Prelude.{T, sum_by}
+use Rattle.std.proofs.Common.{◌≡◌, ℕ, Bool, true, false, true≢false, cond, [], Option, Some, None, slice_get, refl, ap, sym, subst, ◌∙◌, arith}
 use Rattle.std.specs.List.{remove as without_at}
 use Rattle.std.proofs.lemmas.List.Elements.{All-nil}
-use Rattle.fuse_spec.specs.declared.Entry.{Entry}
 use Rattle.fuse_spec.specs.declared.Opened.{Opened}
-use Rattle.fuse_spec.specs.declared.Purpose.{Purpose}
-use Rattle.fuse_spec.specs.declared.Purpose.TheVariants as purpose
 use Rattle.fuse_spec.specs.declared.ReplyResult.{ReplyResult}
 use Rattle.fuse_spec.specs.declared.WriteResult.{WriteResult}
 use Rattle.fuse_spec.specs.declared.WriteResult.TheVariants.{Accepted, NoEntry, Invalid}
 use Rattle.fuse_spec.specs.Copies.{kept_after, after_result}
 use Rattle.fuse_spec.specs.Calls.{Call}
-use Rattle.fuse_spec.specs.Maps.{Map, get, put, remove}
-use Rattle.fuse_spec.specs.Messages.{Request, RequestBody, init, asks, release, forget, batch_forget, interrupt, WireReply}
-use Rattle.fuse_spec.specs.Operations.{files_in_reply}
-use Rattle.fuse_spec.specs.QueueCalls.{after_read_pending}
-use Rattle.fuse_spec.specs.Vfs.{Vfs, CallState, begun, given_up, later}
-use Rattle.fuse_spec.specs.Kernel.{Kernel, is_live, is_aborted, advanced, closed_by, closing_of, call_begun, call_signalled}
+use Rattle.fuse_spec.specs.Maps.{Map, get, remove}
+use Rattle.fuse_spec.specs.Messages.{RequestBody, init, asks, release, forget, batch_forget, interrupt}
+use Rattle.fuse_spec.specs.Vfs.{Vfs, begun, given_up, later}
+use Rattle.fuse_spec.specs.Kernel.{Kernel, is_live, is_aborted, advanced, closed_by, closing_of, call_begun}
 use Rattle.fuse_spec.specs.Plain.{Plain}
-use Rattle.fuse_spec.specs.Replies.{usable, use_of_all, reply_written}
+use Rattle.fuse_spec.specs.Replies.{reply_written}
 use Rattle.fuse_spec.specs.Server.{Server, HeldRequest, Kept, Copy}
 use Rattle.fuse_spec.specs.Taking.{taking, interrupting}
-use Rattle.fuse_spec.specs.Performs.{performed, served}
-use Rattle.fuse_spec.specs.Worlds.{World, Sent, replying, first_world, server_settled, after_mount, after_read_pending as after_reading, after_take, after_perform, after_write, after_settle, after_drop, after_evict}
+use Rattle.fuse_spec.specs.Performs.{served}
+use Rattle.fuse_spec.specs.Worlds.{World, Sent, first_world, server_settled, after_mount, after_take, after_perform, after_write, after_drop, after_evict}
 use Rattle.fuse_spec.specs.Events.{Event, Outcome}
 use Rattle.fuse_spec.specs.Steps.{is_ready, MayStep, MayChooseFor, Happens}
 use Rattle.fuse_theorem.specs.EveryList.{BothSound}
-use Rattle.fuse_theorem.specs.Lookups.{EntriesHeld, LookupsBalanced, LookupsSound}
-use Rattle.fuse_theorem.specs.Numbering.{IsNumbered, IsNumberedWhileLive}
+use Rattle.fuse_theorem.specs.Lookups.{EntriesHeld, LookupsSound}
+use Rattle.fuse_theorem.specs.Numbering.{IsNumbered}
 use Rattle.fuse_theorem.specs.OpenNumbers.{OpensApart, IsOfItsNode, OpensBalanced, OpensSound}
 use Rattle.fuse_theorem.specs.ReleasesKnown.{ReleasesKnown}
 use Rattle.fuse_theorem.specs.WorldSound.{WorldSound}
@@ -39,10 +33,9 @@ use Rattle.fuse_theorem.proofs.LookupsHeard.{wire_usable}
 use Rattle.fuse_theorem.proofs.LookupsStay.{known_held, lookups_stay}
 use Rattle.fuse_theorem.proofs.MapSums.{Rises, put_rises, gone_rises}
 use Rattle.fuse_theorem.proofs.NumbersStay.{aborted_if_ready, replying_kernel}
-use Rattle.fuse_theorem.proofs.OpenSums.{kernel_sum, sent_sum}
 use Rattle.fuse_theorem.proofs.OpensFit.{opened_fits}
 use Rattle.fuse_theorem.proofs.OpensHeard.{HearsOpens, read_sum, written_heard}
-use Rattle.fuse_theorem.proofs.OpensKept.{KeepsOpen, begun_keeps, signalled_keeps}
+use Rattle.fuse_theorem.proofs.OpensKept.{begun_keeps, signalled_keeps}
 use Rattle.fuse_theorem.proofs.OpensMoved.{kernel_moves, keeps_same, interrupt_same, pending_same, forgets_same, written_balanced}
 use Rattle.fuse_theorem.proofs.OpensTables.{replying_server, taken_balanced, performed_balanced, again_balanced, settled_balanced}
 use Rattle.fuse_theorem.proofs.PerformedRest.{performed_rest}

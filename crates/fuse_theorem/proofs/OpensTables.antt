@@ -1,60 +1,50 @@
 -- Open numbers stay balanced as the tables of the server change.
-use Rattle.std.proofs.Common.{◌≡◌, ◌≢◌, ℕ, ◌+◌, ◌≤◌, Bool, true, false, true≢false, cond, List, [], ◌∷◌, ◌++◌, Option, Some, None, nat_eq, is_some, slice_get, get_or, count_by, refl, ap, sym, subst, ◌∙◌, arith, inl, inr, All}
+use Rattle.std.proofs.Common.{◌≡◌, ℕ, ◌+◌, ◌≤◌, Bool, true, false, true≢false, cond, List, [], ◌∷◌, ◌++◌, Option, Some, None, nat_eq, is_some, slice_get, count_by, refl, ap, sym, subst, ◌∙◌, arith, All}
 use Rattle.std.specs.Prelude.{◌%◌, sum_by}
 use Rattle.std.specs.List.{remove as without_at}
 use Rattle.std.proofs.lemmas.List.Elements.{All-nil, All-cons, All-head}
 use Rattle.std.proofs.lemmas.List.Sums.{sum_by-cons}
-use Rattle.fuse_spec.specs.declared.Entry.{Entry}
 use Rattle.fuse_spec.specs.declared.Opened.{Opened}
 use Rattle.fuse_spec.specs.declared.Purpose.{Purpose}
 use Rattle.fuse_spec.specs.declared.Purpose.TheVariants as purpose
-use Rattle.fuse_spec.specs.declared.QueuedRequest.{QueuedRequest}
 use Rattle.fuse_spec.specs.declared.ReplyResult.{ReplyResult}
 use Rattle.fuse_spec.specs.declared.WriteResult.{WriteResult}
 use Rattle.fuse_spec.specs.declared.WriteResult.TheVariants.{Accepted, NoEntry, Invalid}
 use Rattle.fuse_spec.specs.Copies.{is_current, kept_after, after_result}
-use Rattle.fuse_spec.specs.Maps.{Map, get, put, remove, values}
+use Rattle.fuse_spec.specs.Maps.{get, put, remove, values}
 use Rattle.fuse_spec.specs.Messages.{Request, RequestBody, init, asks, release, forget, batch_forget, interrupt, WireReply}
 use Rattle.fuse_spec.specs.Operations.{files_in_reply, opens_in_reply}
-use Rattle.fuse_spec.specs.Vfs.{CallState, Vfs, given_up, later}
-use Rattle.fuse_spec.specs.Queues.{pending}
-use Rattle.fuse_spec.specs.QueueCalls.{after_read_pending, after_enqueue}
-use Rattle.fuse_spec.specs.Kernel.{Kernel, is_live, asked_by, body_of, call_begun, call_signalled}
-use Rattle.fuse_spec.specs.Nodes.{NodeTable, HandleTable, file_of, is_open}
-use Rattle.fuse_spec.specs.Server.{Server, HeldRequest, Kept, Copy, forgets_of}
+use Rattle.fuse_spec.specs.Vfs.{CallState}
+use Rattle.fuse_spec.specs.Kernel.{Kernel, is_live, asked_by, body_of}
+use Rattle.fuse_spec.specs.Nodes.{NodeTable, HandleTable, is_open}
+use Rattle.fuse_spec.specs.Server.{Server, HeldRequest, Kept, Copy}
 use Rattle.fuse_spec.specs.Taking.{taking, interrupting}
 use Rattle.fuse_spec.specs.Performs.{PerformResult, performed, served}
-use Rattle.fuse_spec.specs.Replies.{reply_written}
-use Rattle.fuse_spec.specs.Denotes.{Denotes, generation_known}
+use Rattle.fuse_spec.specs.Denotes.{Denotes}
 use Rattle.fuse_spec.specs.Plain.{Plain}
-use Rattle.fuse_spec.specs.Worlds.{World, Sent, replying, first_world, server_settled, after_mount, after_read_pending as after_reading, after_take, after_perform, after_again, after_write, after_settle, after_drop, after_evict}
-use Rattle.fuse_spec.specs.Events.{Event, Outcome}
-use Rattle.fuse_spec.specs.Steps.{MayStep, MayChooseFor, Happens}
-use Rattle.fuse_theorem.specs.AskedRequests.{IsAsked, HeldAsked, RequestsAsked, serves_call}
-use Rattle.fuse_theorem.specs.Conditions.{KnownAreHeld}
+use Rattle.fuse_spec.specs.Worlds.{World, replying, server_settled, after_take, after_perform, after_again, after_settle}
+use Rattle.fuse_spec.specs.Steps.{MayChooseFor}
+use Rattle.fuse_theorem.specs.AskedRequests.{HeldAsked, RequestsAsked, serves_call}
 use Rattle.fuse_theorem.specs.Copies.{CopiesSound}
 use Rattle.fuse_theorem.specs.EveryList.{BothSound}
-use Rattle.fuse_theorem.specs.Lookups.{EntriesHeld, LookupsBalanced, LookupsSound}
-use Rattle.fuse_theorem.specs.Numbering.{IsNumbered}
-use Rattle.fuse_theorem.specs.OpenNumbers.{OpensApart, released_for, released_by, all_released, released_pending, released_sent, released_held, open_files, IsOfItsNode, OpensBalanced}
+use Rattle.fuse_theorem.specs.Lookups.{LookupsSound}
+use Rattle.fuse_theorem.specs.OpenNumbers.{released_by, all_released, released_pending, released_sent, released_held, open_files, IsOfItsNode, OpensBalanced}
 use Rattle.fuse_theorem.specs.ReleasesKnown.{ReleasesKnown}
 use Rattle.fuse_theorem.specs.ServerTables.{ServerSound}
 use Rattle.fuse_theorem.specs.Unperformed.{BearsNumber, RequestsSound}
-use Rattle.fuse_theorem.specs.WorldSound.{WorldSound}
 use Rattle.fuse_theorem.proofs.CopiesSound.{served_copies}
 use Rattle.fuse_theorem.proofs.Finding.{same_is}
 use Rattle.fuse_theorem.proofs.Forgetting.{all_less_denotes}
 use Rattle.fuse_theorem.proofs.Giving.{denotes_one, counted_denotes, counted_open}
-use Rattle.fuse_theorem.proofs.Happened.{Happened, by_mount, by_call, by_read_interrupt, by_read_forgets, by_read_pending, by_take, by_perform, by_again, by_write, by_settle, by_signal, by_tick, by_drop, by_evict, by_abort, happened}
 use Rattle.fuse_theorem.proofs.HeldKnown.{still_held}
 use Rattle.fuse_theorem.proofs.LinkSums.{term_le}
-use Rattle.fuse_theorem.proofs.LookupsStay.{known_held, lookups_stay}
-use Rattle.fuse_theorem.proofs.MapSums.{Rises, worth, sum_gone, put_rises, gone_rises}
-use Rattle.fuse_theorem.proofs.NumberCounts.{SameFiles, given_back_files, number_count}
+use Rattle.fuse_theorem.proofs.LookupsStay.{known_held}
+use Rattle.fuse_theorem.proofs.MapSums.{Rises, worth, sum_gone}
+use Rattle.fuse_theorem.proofs.NumberCounts.{SameFiles, given_back_files}
 use Rattle.fuse_theorem.proofs.NumbersStay.{replying_kernel}
-use Rattle.fuse_theorem.proofs.OpenSums.{kernel_sum, sent_sum, held_sum, open_sum, has_number, CountsOpens, counts_opens, opens_counted, All-left, All-right}
-use Rattle.fuse_theorem.proofs.OpensInUse.{All-released, open_known, files_still}
-use Rattle.fuse_theorem.proofs.OpensServed.{body_sum, copy_out, none_out, taken_sum, taken_counts, again_counts, settled_counts}
+use Rattle.fuse_theorem.proofs.OpenSums.{held_sum, open_sum, has_number, CountsOpens, counts_opens, All-left, All-right}
+use Rattle.fuse_theorem.proofs.OpensInUse.{open_known, files_still}
+use Rattle.fuse_theorem.proofs.OpensServed.{body_sum, copy_out, taken_sum, taken_counts, again_counts, settled_counts}
 use Rattle.fuse_theorem.proofs.PerformedCounts.{Counts, performed_counts}
 use Rattle.fuse_theorem.proofs.PerformedNumbers.{Numbers, Releases, performed_numbers}
 use Rattle.fuse_theorem.proofs.PerformedRest.{performed_rest}

@@ -1,29 +1,20 @@
 -- What unanswered calls read and write is open in the kernel.
-use Rattle.std.proofs.Common.{◌≡◌, ◌≢◌, ℕ, ◌+◌, ◌-◌, ◌≤◌, Bool, true, false, true≢false, ◌||◌, cond, List, [], ◌∷◌, ◌++◌, Option, Some, None, nat_eq, count_by, get_or, refl, ap, sym, subst, ◌∙◌, arith, ◌⊎◌, inl, inr, All}
-use Rattle.std.specs.Prelude.{sum_by}
-use Rattle.std.proofs.lemmas.List.Elements.{All-nil, All-cons, All-head}
-use Rattle.std.proofs.lemmas.List.Sums.{sum_by-cons, get_or-le-sum_by}
+use Rattle.std.proofs.Common.{◌≡◌, ℕ, ◌+◌, ◌≤◌, Bool, cond, List, Option, Some, None, get_or, refl, ap, sym, subst, arith, ◌⊎◌, inl, inr, All}
+use Rattle.std.proofs.lemmas.List.Elements.{All-nil}
 use Rattle.fuse_spec.specs.declared.Opened.{Opened}
 use Rattle.fuse_spec.specs.declared.Purpose.{Purpose}
 use Rattle.fuse_spec.specs.declared.Purpose.TheVariants as purpose
-use Rattle.fuse_spec.specs.Counts.{handle_count, opens_of}
-use Rattle.fuse_spec.specs.Maps.{Map, get, remove, values}
-use Rattle.fuse_spec.specs.Messages.{RequestBody, init, asks, release, forget, batch_forget, interrupt}
-use Rattle.fuse_spec.specs.Operations.{Operation, done, opens_in_reply}
-use Rattle.fuse_spec.specs.FileOperations.{reply_by}
+use Rattle.fuse_spec.specs.Counts.{opens_of}
+use Rattle.fuse_spec.specs.Maps.{Map, get}
+use Rattle.fuse_spec.specs.Messages.{asks}
+use Rattle.fuse_spec.specs.Operations.{Operation}
 use Rattle.fuse_spec.specs.Vfs.{CallState, walking, doing, using, asked, Vfs}
 use Rattle.fuse_spec.specs.Kernel.{Kernel, asked_by, body_of}
-use Rattle.fuse_spec.specs.Nodes.{NodeTable, HandleTable, file_of, is_open, all_opened, handle_back}
-use Rattle.fuse_spec.specs.Server.{Server, HeldRequest}
-use Rattle.fuse_spec.specs.Performs.{file_operation_of, is_open_for, is_still_held, doing as does, refusing, performing, performed}
-use Rattle.fuse_spec.specs.Worlds.{World, after_abort}
-use Rattle.fuse_theorem.specs.AskedRequests.{IsAsked, RequestsAsked}
-use Rattle.fuse_theorem.specs.OpenNumbers.{OpensApart, UsesOpen, released_by, released_pending, released_sent, released_held, open_files, IsOfItsNode}
+use Rattle.fuse_theorem.specs.AskedRequests.{IsAsked}
+use Rattle.fuse_theorem.specs.OpenNumbers.{OpensApart, UsesOpen}
 use Rattle.fuse_theorem.proofs.Finding.{same_is}
 use Rattle.fuse_theorem.proofs.MapSums.{Rises, values_sum, worth, sum_gone}
-use Rattle.fuse_theorem.proofs.NodesSound.{left_found}
-use Rattle.fuse_theorem.proofs.NumberCounts.{number_count, back_count, back_files, SameFiles}
-use Rattle.fuse_theorem.proofs.OpenSums.{has_number, kernel_sum, sent_sum, held_sum, open_sum, released_sum, CountsOpens, counts_opens, All-right, fewer_pass}
+use Rattle.fuse_theorem.proofs.OpenSums.{has_number}
 
 -- A value that is found is counted.
 pub found_counted : {X : Type 0} (f : X → ℕ) (m : Map X) (k : ℕ) (x : X) → Rises m → get m k ≡ Some x → f x ≤ values_sum f m

@@ -1,5 +1,5 @@
 -- How a performed request changes the counts of open numbers.
-use Rattle.std.proofs.Common.{◌≡◌, ◌≢◌, ℕ, ◌+◌, ◌≤◌, Bool, true, false, true≢false, cond, List, [], ◌∷◌, None, refl, ap, sym, subst, ◌∙◌, arith}
+use Rattle.std.proofs.Common.{◌≡◌, ℕ, ◌+◌, ◌≤◌, Bool, true, false, true≢false, cond, List, [], None, refl, sym, ◌∙◌, arith}
 use Rattle.std.specs.Prelude.{sum_by}
 use Rattle.std.proofs.lemmas.List.Sums.{sum_by-cons}
 use Rattle.fuse_spec.specs.declared.Opened.{Opened}
@@ -7,7 +7,7 @@ use Rattle.fuse_spec.specs.FileOperations.{FileOperation, reply_by, tree_after}
 use Rattle.fuse_spec.specs.Maps.{get}
 use Rattle.fuse_spec.specs.Messages.{RequestBody, init, asks, release, forget, batch_forget, interrupt, WireReply}
 use Rattle.fuse_spec.specs.Operations.{Reply, done, failed, files_in_reply, opens_in_reply, errno_of}
-use Rattle.fuse_spec.specs.Nodes.{NodeTable, HandleTable, file_of, is_open, all_given, all_opened, handle_back}
+use Rattle.fuse_spec.specs.Nodes.{HandleTable, file_of, is_open, all_given, all_opened, handle_back}
 use Rattle.fuse_spec.specs.Server.{Server, HeldRequest}
 use Rattle.fuse_spec.specs.Performs.{PerformResult, file_operation_of, is_open_for, doing, wire_of, refusing, performing, performed, is_still_held}
 use Rattle.fuse_spec.specs.Counts.{opens_in}

@@ -1,5 +1,5 @@
 -- What is true of open files and their numbers, whatever happened.
-use Rattle.std.specs.Prelude.{T, ◌≡◌, ◌≤◌, ◌+◌, ◌⊎◌, ℕ, true, false, cond, List, [], ◌∷◌, ◌++◌, Option, Some, None, All, is_some, nat_eq, count_by}
+use Rattle.std.specs.Prelude.{T, ◌≡◌, ◌≤◌, ◌+◌, ◌⊎◌, ℕ, true, false, cond, List, [], ◌∷◌, ◌++◌, Option, Some, All, is_some}
 use Rattle.std.specs.Ordering.{nat_cmp}
 use Rattle.std.specs.FinMap.{is_sorted}
 use Rattle.fuse_spec.specs.declared.Opened.{Opened}
@@ -9,18 +9,16 @@ use Rattle.fuse_spec.specs.declared.QueuedRequest.{QueuedRequest}
 use Rattle.fuse_spec.specs.Maps.{Map, get, values}
 use Rattle.fuse_spec.specs.Queues.{QueueState, pending}
 use Rattle.fuse_spec.specs.Messages.{Request, RequestBody, init, asks, release, forget, batch_forget, interrupt}
-use Rattle.fuse_spec.specs.Operations.{Operation}
 use Rattle.fuse_spec.specs.Vfs.{CallState, walking, doing, using, Vfs}
-use Rattle.fuse_spec.specs.Kernel.{Kernel, is_live}
+use Rattle.fuse_spec.specs.Kernel.{is_live}
 use Rattle.fuse_spec.specs.Nodes.{file_of, is_open}
 use Rattle.fuse_spec.specs.Server.{Server, HeldRequest}
-use Rattle.fuse_spec.specs.Counts.{OpenBalance, handle_count, opens_of}
-use Rattle.fuse_spec.specs.Denotes.{generation_known}
+use Rattle.fuse_spec.specs.Counts.{OpenBalance, opens_of}
 use Rattle.fuse_spec.specs.Worlds.{World}
-use Rattle.fuse_theorem.specs.KnownNodes.{IsKnown}
 
 -- ---- the kernel alone
 
+-- Whether there is one, as a number.
 abbrev pub stands : {X : Type 0} → Option X → ℕ
 stands o = cond (is_some o) 1 0
 
@@ -41,7 +39,7 @@ pub record OpensApart (c : Vfs Opened) (closed : Map Opened) : Type 0 where
 
 -- ---- the kernel and the server
 
--- The open file that a request releases.
+-- The open file that a request releases, as the kernel keeps it and as it is sent.
 abbrev pub released_for : Purpose → List Opened
 released_for purpose.Init = []
 released_for (purpose.Release o) = o ∷ []
@@ -55,10 +53,12 @@ released_by (forget f) = []
 released_by (batch_forget fs) = []
 released_by (interrupt original) = []
 
+-- What these elements release, one after another.
 abbrev pub all_released : {X : Type 0} → (X → List Opened) → List X → List Opened
 all_released released [] = []
 all_released released (x ∷ xs) = released x ++ all_released released xs
 
+-- What the RELEASEs that are pending, on the link and held release.
 abbrev pub released_pending : QueueState Purpose → List Opened
 released_pending q = all_released (λ (e : ℕ × QueuedRequest Purpose). released_for e.1.kept) (pending q)
 
