@@ -1,24 +1,21 @@
 -- What every world that a list of events reached keeps: the reference protocol.
-use Rattle.std.proofs.Common.{◌≡◌, ℕ, Bool, true, false, List, [], Option, Some, None, get_or, refl, ap, sym, subst, All}
-use Rattle.std.specs.Prelude.{MatchOption, Contains}
+use Rattle.std.proofs.Common.{◌≡◌, ℕ, Bool, true, false, Option, Some, None, get_or, refl, sym, subst, All}
+use Rattle.std.specs.Prelude.{MatchOption}
 use Rattle.std.proofs.lemmas.List.Elements.{All-nil, All-contains_itself}
-use Rattle.fuse_spec.specs.declared.Opened.{Opened}
 use Rattle.fuse_spec.specs.declared.Purpose.{Purpose}
 use Rattle.fuse_spec.specs.declared.Purpose.TheVariants as purpose
 use Rattle.fuse_spec.specs.declared.QueuedRequest.{QueuedRequest}
-use Rattle.fuse_spec.specs.declared.ReplyResult.{ReplyResult}
-use Rattle.fuse_spec.specs.declared.WriteResult.TheVariants.{Invalid}
-use Rattle.fuse_spec.specs.Maps.{get, values}
+use Rattle.fuse_spec.specs.Maps.{values}
 use Rattle.fuse_spec.specs.Messages.{RequestBody, Request}
 use Rattle.fuse_spec.specs.Queues.{QueueState, pending}
 use Rattle.fuse_spec.specs.Kernel.{is_live, body_of}
 use Rattle.fuse_spec.specs.Server.{Server, HeldRequest}
-use Rattle.fuse_spec.specs.Counts.{opens_of_body, ReleaseMeant, HeldLive, IsServable, IsMeant, IsOpenMeant, Held, Keeps, AtRest, Settled}
+use Rattle.fuse_spec.specs.Counts.{opens_of_body, ReleaseMeant, HeldLive, IsServable, Held, Keeps, AtRest, Settled}
 use Rattle.fuse_spec.specs.Worlds.{World}
 use Rattle.fuse_spec.specs.Plain.{Plain}
 use Rattle.fuse_theorem.specs.AllSound.{AllSound}
 use Rattle.fuse_theorem.specs.NodesHeld.{NodesServable, NodesHeld}
-use Rattle.fuse_theorem.specs.OpenNumbers.{IsOfItsNode, OpensBalanced, released_for}
+use Rattle.fuse_theorem.specs.OpenNumbers.{IsOfItsNode, OpensBalanced}
 use Rattle.fuse_theorem.specs.ReleasesKnown.{ReleaseKnown}
 use Rattle.fuse_theorem.specs.StillOpen.{HeldNumbersOpen}
 use Rattle.fuse_theorem.proofs.AtRest.{same_node}

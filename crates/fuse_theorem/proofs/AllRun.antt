@@ -1,10 +1,10 @@
 -- Every list of all events: the plain world has a run with the machine's records.
-use Rattle.std.proofs.Common.{List, All}
-use Rattle.fuse_spec.specs.Worlds.{World, first_world}
+use Rattle.std.proofs.Common.{List}
+use Rattle.fuse_spec.specs.Worlds.{World}
 use Rattle.fuse_spec.specs.Records.{Record}
 use Rattle.fuse_spec.specs.Runs.{Run, AnswersOnce}
 use Rattle.fuse_spec.specs.Events.{Event}
-use Rattle.fuse_spec.specs.Plain.{Plain, first_plain}
+use Rattle.fuse_spec.specs.Plain.{Plain}
 use Rattle.fuse_theorem.specs.AllSound.{AllSound}
 use Rattle.fuse_theorem.specs.AnswersSound.{AnswersSound}
 use Rattle.fuse_theorem.specs.FirstPath.{Recorded}

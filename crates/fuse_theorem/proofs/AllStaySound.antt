@@ -1,11 +1,5 @@
 -- Whatever happens, the plain world takes its step, and all stays sound.
-use Rattle.std.proofs.Common.{◌≡◌, ℕ, true, Some, Ok, slice_get}
-use Rattle.fuse_spec.specs.declared.Opened.{Opened}
-use Rattle.fuse_spec.specs.declared.ReplyResult.{ReplyResult}
-use Rattle.fuse_spec.specs.Kernel.{is_live}
-use Rattle.fuse_spec.specs.Maps.{get}
-use Rattle.fuse_spec.specs.Messages.{release}
-use Rattle.fuse_spec.specs.Server.{Copy, HeldRequest}
+use Rattle.std.proofs.Common.{◌≡◌, ℕ, Ok}
 use Rattle.fuse_spec.specs.Worlds.{World, first_world}
 use Rattle.fuse_spec.specs.Plain.{Plain, first_plain}
 use Rattle.fuse_spec.specs.PlainSteps.{Takes}

@@ -1,15 +1,14 @@
 -- There are always free nodeids to choose from.
-use Rattle.std.proofs.Common.{◌≡◌, ◌≢◌, ◌⊎◌, ◌≤◌, ℕ, ◌+◌, Bool, true, false, true≢false, cond, ◌||◌, List, [], ◌∷◌, Option, Some, None, nat_eq, map, refl, sym, subst, ◌∙◌, inl, inr, arith}
+use Rattle.std.proofs.Common.{◌≡◌, ◌≢◌, ◌⊎◌, ◌≤◌, ℕ, ◌+◌, Bool, true, false, true≢false, cond, ◌||◌, List, [], ◌∷◌, Option, Some, None, nat_eq, map, refl, sym, subst, inl, inr, arith}
 use Rattle.std.specs.List.{list_any}
 use Rattle.std.specs.Prelude.{MatchOption}
-use Rattle.std.specs.Ordering.{nat_cmp}
-use Rattle.std.proofs.lemmas.Bool.Decides.{nat_tests, eqb_tells}
+use Rattle.std.proofs.lemmas.Bool.Decides.{nat_tests}
 use Rattle.fuse_spec.specs.Maps.{Map, get}
 use Rattle.fuse_spec.specs.Messages.{RequestBody, init, asks, release, forget, batch_forget, interrupt}
 use Rattle.fuse_spec.specs.Nodes.{NodeTable, HeldNode, IsUnheld, MayName, MayChoose}
 use Rattle.fuse_spec.specs.Operations.{Reply, found, missing, created, opened, attributes, listed, content, written, agreed, done, failed, files_in_reply}
 use Rattle.fuse_spec.specs.FileOperations.{reply_by}
-use Rattle.fuse_spec.specs.Performs.{files_by, files_given, is_open_for, file_operation_of, is_still_held}
+use Rattle.fuse_spec.specs.Performs.{files_by, is_open_for, file_operation_of}
 use Rattle.fuse_spec.specs.Server.{Server, HeldRequest}
 use Rattle.fuse_spec.specs.Worlds.{World}
 use Rattle.fuse_spec.specs.declared.Refusal.{Refusal}

@@ -1,7 +1,6 @@
 -- What `Held` says of open numbers: those that a live kernel uses, and those that requests name, are numbers of their nodes' files.
-use Rattle.std.proofs.Common.{◌≡◌, ◌⊎◌, ℕ, Bool, true, false, List, [], ◌∷◌, ◌++◌, Option, Some, None, refl, ap, sym, subst, ◌∙◌, inl, inr, All}
-use Rattle.std.specs.Prelude.{MatchOption, Contains}
-use Rattle.std.proofs.lemmas.List.Elements.{All-nil, All-cons, All-head}
+use Rattle.std.proofs.Common.{◌≡◌, ℕ, true, List, ◌++◌, Option, Some, None, refl, ap, sym, subst, ◌∙◌, inl, inr, All}
+use Rattle.std.proofs.lemmas.List.Elements.{All-nil}
 use Rattle.fuse_spec.specs.declared.Opened.{Opened}
 use Rattle.fuse_spec.specs.declared.Purpose.{Purpose}
 use Rattle.fuse_spec.specs.declared.Purpose.TheVariants as purpose
@@ -9,15 +8,14 @@ use Rattle.fuse_spec.specs.declared.QueuedRequest.{QueuedRequest}
 use Rattle.fuse_spec.specs.Maps.{get, values}
 use Rattle.fuse_spec.specs.Messages.{RequestBody, Request, init, asks, release, forget, batch_forget, interrupt}
 use Rattle.fuse_spec.specs.Operations.{Operation}
-use Rattle.fuse_spec.specs.Queues.{QueueState, pending}
+use Rattle.fuse_spec.specs.Queues.{pending}
 use Rattle.fuse_spec.specs.Vfs.{CallState, walking, doing, using, asked}
-use Rattle.fuse_spec.specs.Kernel.{is_live, body_of, asked_by}
-use Rattle.fuse_spec.specs.Nodes.{row_of, file_in, file_of, is_open}
-use Rattle.fuse_spec.specs.Server.{HeldRequest}
+use Rattle.fuse_spec.specs.Kernel.{body_of, asked_by}
+use Rattle.fuse_spec.specs.Nodes.{file_in, file_of, is_open}
 use Rattle.fuse_spec.specs.Counts.{opens_of, opens_of_body, IsMeant, IsOpenMeant}
 use Rattle.fuse_spec.specs.Worlds.{World}
-use Rattle.fuse_theorem.specs.AskedRequests.{RequestsAsked, SentAsked, IsAsked}
-use Rattle.fuse_theorem.specs.OpenNumbers.{OpensApart, UsesOpen, IsOfItsNode, released_for, released_by, released_pending, released_sent, released_held, open_files}
+use Rattle.fuse_theorem.specs.AskedRequests.{RequestsAsked, SentAsked}
+use Rattle.fuse_theorem.specs.OpenNumbers.{OpensApart, IsOfItsNode, released_for, released_by, released_pending, released_sent, released_held, open_files}
 use Rattle.fuse_theorem.proofs.OpenSums.{All-left, All-right}
 use Rattle.fuse_theorem.proofs.OpensTables.{All-each}
 use Rattle.fuse_theorem.proofs.OpensUsed.{asked_state}
@@ -67,8 +65,8 @@ module _ (w : World) (files : All (IsOfItsNode w.server) (open_files w)) where
     used_fit call (doing operation) at = subst (All Fits) (sym (apart.uses call (doing operation) at)) (All-nil Fits)
     used_fit call (using handle operation) at = λ i d lt.
         elim (apart.uses call (using handle operation) at i d lt) [
-        | inl there ↦ All-get Fits w.kernel.vfs.opens handle _ opens_fit there
-        | inr closed ↦ All-get Fits w.kernel.closing handle _ closing_fit closed
+          | inl there ↦ All-get Fits w.kernel.vfs.opens handle _ opens_fit there
+          | inr closed ↦ All-get Fits w.kernel.closing handle _ closing_fit closed
         ]
 
     -- what an unanswered call asks
