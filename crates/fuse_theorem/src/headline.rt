@@ -36,3 +36,8 @@ pub fn every_list_runs()
     ensures from_any { (w : World) (p : Plain) → AllSound w p → AnswersSound w.kernel.vfs → (events : List Event) (records : List Record) (after : World) → Recorded w events records after →
         (q : Plain) × Run w p events records after q × Alike after q × AllSound after q × AnswersOnce records }
 {}
+
+/// Every list of events has records, from any world: each event happens or is refused.
+pub fn every_list_has_records()
+    ensures { (w : World) (events : List Event) → (records : List Record) × (after : World) × Recorded w events records after }
+{}
