@@ -1,11 +1,11 @@
 -- Whatever ids the server chooses, a performed request leaves its counters the same.
-use Rattle.std.proofs.Common.{◌≡◌, ◌≤◌, ℕ, ◌+◌, Bool, true, false, not, ◌||◌, cond, List, [], ◌∷◌, Option, Some, None, refl, ap}
+use Rattle.std.proofs.Common.{◌≡◌, ◌≤◌, ℕ, ◌+◌, Bool, true, false, not, ◌||◌, cond, List, [], Option, Some, None, refl}
 use Rattle.std.specs.Prelude.{MatchOption}
 use Rattle.fuse_spec.specs.Maps.{get, remove}
 use Rattle.fuse_spec.specs.Messages.{RequestBody, init, asks, release, forget, batch_forget, interrupt}
-use Rattle.fuse_spec.specs.Operations.{done, files_in_reply}
+use Rattle.fuse_spec.specs.Operations.{files_in_reply}
 use Rattle.fuse_spec.specs.FileOperations.{FileOperation, reply_by}
-use Rattle.fuse_spec.specs.Nodes.{HeldNode, NodeTable, IsUnheld, MayName, MayChoose, generation_after, all_given, file_of, is_open, handle_back}
+use Rattle.fuse_spec.specs.Nodes.{HeldNode, NodeTable, IsUnheld, MayName, MayChoose, generation_after, all_given}
 use Rattle.fuse_spec.specs.Server.{Server, HeldRequest}
 use Rattle.fuse_spec.specs.Performs.{file_operation_of, is_open_for, is_still_held, doing, refusing, performing, performed, served, files_by, files_given}
 use Rattle.fuse_theorem.proofs.WireCounts.{OneAtMost, nothing, one, names_one}

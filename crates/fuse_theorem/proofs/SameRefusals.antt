@@ -1,5 +1,5 @@
 -- Whatever ids the server chooses, an event gets the same refusal or none: so it happens or is refused.
-use Rattle.std.proofs.Common.{◌≡◌, ◌⊎◌, ℕ, Bool, true, false, ◌||◌, cond, Option, Some, None, Ok, Err, refl, sym, subst, ◌∙◌, inl, inr}
+use Rattle.std.proofs.Common.{◌≡◌, ◌⊎◌, ℕ, Bool, true, false, ◌||◌, cond, Option, Some, None, Ok, Err, refl, sym, ◌∙◌, inl, inr}
 use Rattle.std.specs.Prelude.{nat_lt}
 use Rattle.fuse_spec.specs.declared.Refusal.{Refusal}
 use Rattle.fuse_spec.specs.declared.Refusal.TheVariants as refusal
