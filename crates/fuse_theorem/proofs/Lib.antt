@@ -193,4 +193,5 @@ pub mod AllCollected
 pub mod AllRun
 pub mod SameCounters
 pub mod SameRefusals
+pub mod NeverMemory
 pub mod AllRecorded
