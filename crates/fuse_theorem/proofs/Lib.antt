@@ -191,3 +191,7 @@ pub mod OpensCollected
 pub mod AllKeeps
 pub mod AllCollected
 pub mod AllRun
+pub mod SameCounters
+pub mod SameRefusals
+pub mod NeverMemory
+pub mod AllRecorded

@@ -1,12 +1,13 @@
 //! The headline over the definitions: every list of all events of the finished system, in any order.
 
-ghost use Rattle.std.specs.Prelude.{List};
+ghost use Rattle.std.specs.Prelude.{◌≢◌, List, All};
 ghost use Rattle.fuse_spec.specs.Alike.{Alike};
 ghost use Rattle.fuse_spec.specs.Counts.{Keeps};
+ghost use Rattle.fuse_spec.specs.declared.Refusal.TheVariants.{NoMemory};
 ghost use Rattle.fuse_spec.specs.Events.{Event, Outcome};
 ghost use Rattle.fuse_spec.specs.Plain.{Plain, first_plain};
 ghost use Rattle.fuse_spec.specs.PlainSteps.{Takes};
-ghost use Rattle.fuse_spec.specs.Records.{Record, collected};
+ghost use Rattle.fuse_spec.specs.Records.{Record, refused, collected};
 ghost use Rattle.fuse_spec.specs.Runs.{AnswersOnce, Run, plain_collected};
 ghost use Rattle.fuse_spec.specs.Steps.{Happens};
 ghost use Rattle.fuse_spec.specs.Worlds.{World, first_world};
@@ -35,4 +36,10 @@ pub fn every_list_runs()
     ensures from_first { (events : List Event) (records : List Record) (after : World) → Recorded first_world events records after → (q : Plain) × Run first_world first_plain events records after q × Alike after q × Keeps after × AnswersOnce records }
     ensures from_any { (w : World) (p : Plain) → AllSound w p → AnswersSound w.kernel.vfs → (events : List Event) (records : List Record) (after : World) → Recorded w events records after →
         (q : Plain) × Run w p events records after q × Alike after q × AllSound after q × AnswersOnce records }
+{}
+
+/// Every list of events has records, from any world: each event happens or is refused. There are records with no want of memory.
+pub fn every_list_has_records()
+    ensures some { (w : World) (events : List Event) → (records : List Record) × (after : World) × Recorded w events records after }
+    ensures not_memory { (w : World) (events : List Event) → (records : List Record) × (after : World) × Recorded w events records after × All (λ (x : Record). x ≢ refused NoMemory) records }
 {}

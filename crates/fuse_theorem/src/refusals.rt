@@ -1,7 +1,7 @@
 //! The machine by cases: which refusal each event has and what it leads to, said as relations (`Refusals.antt` of `fuse_spec`), are exactly what its
 //! step function gives.
 
-ghost use Rattle.std.specs.Prelude.{◌≡◌, ℕ, true, false, Ok, Err};
+ghost use Rattle.std.specs.Prelude.{◌≡◌, ◌⊎◌, ℕ, true, false, Ok, Err};
 ghost use Rattle.fuse_spec.specs.declared.Refusal.{Refusal};
 ghost use Rattle.fuse_spec.specs.Worlds.{World};
 ghost use Rattle.fuse_spec.specs.Events.{Event, Outcome};
@@ -37,4 +37,14 @@ pub fn refused_or_accepted()
     ensures choice { (w : World) (e : Event) → (choice : ℕ → ℕ) × MayStep choice w e }
     ensures once { (w : World) (e : Event) (r s : Refusal) → IsRefused w e r → IsRefused w e s → r ≡ s }
     ensures apart { (w : World) (e : Event) (r : Refusal) → IsRefused w e r → (o : Outcome) (after : World) → Happens w e o after → ⊥ }
+{}
+
+/// What one choice of free nodeids is refused, every other choice is refused too: which nodeids the server gives is no matter for a refusal.
+pub fn same_refusal_for_each_choice()
+    ensures { (w : World) (e : Event) (c d : ℕ → ℕ) → MayStep c w e → MayStep d w e → (r : Refusal) → step c w e ≡ Err r → step d w e ≡ Err r }
+{}
+
+/// Each event happens, or it is refused whatever the server chooses.
+pub fn happens_or_refused()
+    ensures { (w : World) (e : Event) → ((o : Outcome) × (after : World) × Happens w e o after) ⊎ ((r : Refusal) × IsRefused w e r) }
 {}
