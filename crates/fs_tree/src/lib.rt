@@ -17,8 +17,6 @@ mod operations;
 mod parents;
 mod refusals;
 mod rows;
-#[cfg(test)]
-mod tests;
 mod tree;
 
 pub use error::TreeError;

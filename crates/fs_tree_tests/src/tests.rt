@@ -1,6 +1,6 @@
 //! The table of the operations row by row, refused growths, listings, bytes and discarding.
 
-use crate::{Tree, TreeError};
+use fs_tree::{Tree, TreeError};
 use std::alloc::Allocator;
 
 mod bytes;

@@ -1,8 +1,8 @@
 //! Refused growths change nothing, and the same call succeeds after them.
 
 use super::{Answer, Operation, perform};
-use crate::{Tree, TreeError};
 use fail_at::FailAt;
+use fs_tree::{Tree, TreeError};
 use std::alloc::{Allocator, Global};
 use std::process::Abort;
 use std::test::Fail;

@@ -1,7 +1,7 @@
 //! Reading a directory.
 
 use super::{Operation, perform_all};
-use crate::{Kind, Tree, TreeError};
+use fs_tree::{Kind, Tree, TreeError};
 use std::process::Abort;
 use std::test::Fail;
 

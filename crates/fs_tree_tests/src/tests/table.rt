@@ -1,7 +1,7 @@
 //! Each row of the table: what is answered, and each refusal, also where two apply.
 
 use super::{Answer, Operation, perform};
-use crate::{Tree, TreeError};
+use fs_tree::{Tree, TreeError};
 use std::alloc::Global;
 use std::process::Abort;
 use std::test::Fail;

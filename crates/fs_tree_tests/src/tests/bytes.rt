@@ -1,7 +1,7 @@
 //! Opening, reading and writing.
 
 use super::{Answer, Operation, perform, perform_all};
-use crate::{Kind, Tree, TreeError};
+use fs_tree::{Kind, Tree, TreeError};
 use std::test::Fail;
 
 #[test]

@@ -1,7 +1,7 @@
 //! Nameless files stay until they are discarded.
 
 use super::{Operation, perform_all};
-use crate::Tree;
+use fs_tree::Tree;
 use std::test::Fail;
 
 #[test]

@@ -1,7 +1,7 @@
 //! 4,096 names, and the ends of the counters.
 
 use super::{Answer, Operation, perform};
-use crate::{Tree, TreeError};
+use fs_tree::{Tree, TreeError};
 use std::test::Fail;
 
 #[test]
