@@ -9,3 +9,5 @@ pub mod SerialRows
 pub mod BySerial
 pub mod ByFile
 pub mod NameLinks
+pub mod Counting
+pub mod Below

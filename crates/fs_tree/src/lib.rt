@@ -17,6 +17,7 @@ mod operations;
 mod parents;
 mod refusals;
 mod rows;
+pub mod shape;
 mod tree;
 
 pub use error::TreeError;
