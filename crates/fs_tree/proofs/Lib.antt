@@ -11,3 +11,5 @@ pub mod ByFile
 pub mod NameLinks
 pub mod Counting
 pub mod Below
+pub mod Shaping
+pub mod KeepsShape
