@@ -200,14 +200,14 @@ module _ (tree : Tree) (shaped : IsShaped tree) (d : ℕ) (old : Name) (e : ℕ)
 
 module _ (tree : Tree) (shaped : IsShaped tree) where
   -- a file more, by mkdir or create
-  make : (d : ℕ) (name : Name) (content : Content) → first_refusal ((not (is_directory tree d), enotdir) ∷ (is_nameless tree d, enoent) ∷ making tree d name) ≡ None → IsShaped (with_birth tree d name content)
+  pub make : (d : ℕ) (name : Name) (content : Content) → first_refusal ((not (is_directory tree d), enotdir) ∷ (is_nameless tree d, enoent) ∷ making tree d name) ≡ None → IsShaped (with_birth tree d name content)
   make d name content free =
       let first = passes (not (is_directory tree d), enotdir) ((is_nameless tree d, enoent) ∷ making tree d name) free in
       let second = passes (is_nameless tree d, enoent) (making tree d name) first.1 in
       let third = passes (is_some (file_at tree d name), eexist) ((nat_le max_names (length tree.names), enospc) ∷ []) second.1 in
       made tree shaped d name content (is_true _ first.0) second.0 third.0
 
-  unlinked : (d : ℕ) (name : Name) → refusal tree (unlink d name) ≡ None → IsShaped (without_name tree d name)
+  pub unlinked : (d : ℕ) (name : Name) → refusal tree (unlink d name) ≡ None → IsShaped (without_name tree d name)
   unlinked d name free =
       let rest = (is_dir tree (file_at tree d name), eisdir) ∷ [] in
       let first = passes (not (is_directory tree d), enotdir) ((not (is_some (file_at tree d name)), enoent) ∷ rest) free in
@@ -216,7 +216,7 @@ module _ (tree : Tree) (shaped : IsShaped tree) where
       let found = found_at (file_at tree d name) second.0 in
       unnamed tree shaped d name found.0 found.1 (none_in_file tree shaped found.0 (rw found.1 at third.0))
 
-  removed : (d : ℕ) (name : Name) → refusal tree (rmdir d name) ≡ None → IsShaped (without_name tree d name)
+  pub removed : (d : ℕ) (name : Name) → refusal tree (rmdir d name) ≡ None → IsShaped (without_name tree d name)
   removed d name free =
       let last = (is_filled tree (file_at tree d name), enotempty) ∷ [] in
       let rest = (is_file tree (file_at tree d name), enotdir) ∷ last in
@@ -227,7 +227,7 @@ module _ (tree : Tree) (shaped : IsShaped tree) where
       let found = found_at (file_at tree d name) second.0 in
       unnamed tree shaped d name found.0 found.1 (none_in tree found.0 (is_true _ (rw found.1 at fourth.0)))
 
-  linked : (file d : ℕ) (name : Name) → refusal tree (link file d name) ≡ None → IsShaped (with_name tree d name file)
+  pub linked : (file d : ℕ) (name : Name) → refusal tree (link file d name) ≡ None → IsShaped (with_name tree d name file)
   linked file d name free =
       let rest = (is_nameless tree file, enoent) ∷ making tree d name in
       let first = passes (not (is_directory tree d), enotdir) ((is_nameless tree d, enoent) ∷ (is_directory tree file, eperm) ∷ rest) free in
@@ -265,6 +265,10 @@ module _ (tree : Tree) (shaped : IsShaped tree) where
       by file at is named None there false q free_there = move_freely tree shaped d old e new file at is named (none_at (find (is_at e new) tree.names) (ap is_some there))
       by file at is named (Some t) there false q free_there = replace tree shaped d old e new file at is named t there (is_true _ (rw q at free_there))
 
+  -- a rename onto another file or none
+  pub moves : (d : ℕ) (old : Name) (e : ℕ) (new : Name) (file : ℕ) → file_at tree d old ≡ Some file → is_same (file_at tree d old) (file_at tree e new) ≡ false → refusal tree (rename d old e new) ≡ None → IsShaped (renamed tree d old e new (Some file))
+  moves d old e new file at apart free = rw (apart, at) at (renames d old e new free)
+
   unrefused : (operation : FileOperation) → refusal tree operation ≡ None → WritesRegular tree operation → IsShaped (tree_unrefused tree operation)
   unrefused (lookup d name) free regular = shaped
   unrefused (getattr file) free regular = shaped
@@ -286,3 +290,8 @@ module _ (tree : Tree) (shaped : IsShaped tree) where
       by : (o : Option ℕ) → refusal tree operation ≡ o → IsShaped (tree_or tree (tree_unrefused tree operation) o)
       by None free = unrefused operation free regular
       by (Some errno) free = shaped
+
+-- the tree after a rename onto another file or none
+pub renamed_is : (tree : Tree) (d : ℕ) (old : Name) (e : ℕ) (new : Name) (file : ℕ) (names : List Named) → file_at tree d old ≡ Some file → is_same (file_at tree d old) (file_at tree e new) ≡ false → names ≡ (renamed tree d old e new (Some file)).names
+    → record { files = tree.files; names = names; next_birth = tree.next_birth; next_serial = tree.next_serial + 1 } ≡ tree_unrefused tree (rename d old e new)
+renamed_is tree d old e new file names at apart are = rw (apart, at, are) refl

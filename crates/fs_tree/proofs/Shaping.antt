@@ -248,14 +248,17 @@ module _ (tree : Tree) (shaped : IsShaped tree) where
       ]
 
   -- a nameless file less
+  pub without_nameless_file : (file : ℕ) → is_nameless tree file ≡ true → IsShaped (record tree { files = remove tree.files file })
+  without_nameless_file file nameless =
+      refiled tree shaped (remove tree.files file) tree.next_birth
+      (λ x named. same_here (remove tree.files file) tree.files x (get_gone_there tree.files file x (λ same. true≢false (sym nameless ∙ subst (λ y. is_nameless tree y ≡ false) same named))))
+      (λ x le. get_gone tree.files file x ∙ none_left (not (nat_eq x file)) (get tree.files x) (shaped.unborn x le))
+
   pub without_file : (file : ℕ) → IsShaped (discarded tree file)
   without_file file = by (is_nameless tree file) refl
     where
       by : (b : Bool) → is_nameless tree file ≡ b → IsShaped (record tree { files = cond b (remove tree.files file) tree.files })
-      by true e =
-          refiled tree shaped (remove tree.files file) tree.next_birth
-          (λ x named. same_here (remove tree.files file) tree.files x (get_gone_there tree.files file x (λ same. true≢false (sym e ∙ subst (λ y. is_nameless tree y ≡ false) same named))))
-          (λ x le. get_gone tree.files file x ∙ none_left (not (nat_eq x file)) (get tree.files x) (shaped.unborn x le))
+      by true e = without_nameless_file file e
       by false e = shaped
 
   -- all nameless files less
