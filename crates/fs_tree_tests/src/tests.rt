@@ -8,7 +8,9 @@ mod discarding;
 mod growths;
 mod limits;
 mod listing;
+mod plain;
 mod table;
+mod twin;
 
 /// An operation that changes names, with the names as text.
 #[derive(Clone, Copy)]
