@@ -1,5 +1,5 @@
 -- A directory is within another one, by so many steps up, exactly where its parents lead there.
-use Rattle.std.proofs.Common.{◌≡◌, ◌≢◌, ◌&&◌, ℕ, zero, suc, ◌+◌, ◌≤◌, Bool, true, false, true≢false, not, cond, List, [], ◌∷◌, Option, Some, None, nat_eq, find, filter, length, refl, ap, sym, subst, ◌∙◌, arith, All, Contains, ◌⊎◌, inl, inr, ◌↔◌, eq-eqb}
+use Rattle.std.proofs.Common.{◌≡◌, ◌&&◌, ℕ, zero, suc, ◌≤◌, Bool, true, false, true≢false, not, cond, List, [], ◌∷◌, Option, Some, None, nat_eq, find, filter, length, refl, ap, sym, subst, ◌∙◌, arith, Contains, ◌⊎◌, inl, inr, ◌↔◌, eq-eqb}
 use Rattle.std.proofs.lemmas.Bool.Decides.{nat_tests}
 use Rattle.std.proofs.lemmas.List.Elements.{All-contains}
 use Rattle.fuse_spec.specs.Numbers.{enotdir, eisdir, einval, enotempty}

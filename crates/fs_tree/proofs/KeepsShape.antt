@@ -1,19 +1,18 @@
 -- Each operation keeps what is true of every tree.
-use Rattle.std.proofs.Common.{◌≡◌, ◌≢◌, ℕ, ◌+◌, ◌≤◌, Bool, true, false, true≢false, not, cond, ◌&&◌, List, [], ◌∷◌, ◌++◌, Option, Some, None, IsSome, is_some, nat_eq, nat_le, find, filter, length, count_by, option_map, refl, ap, sym, subst, ◌∙◌, arith, All, Contains, ◌⊎◌, inl, inr, eq-eqb}
-use Rattle.std.proofs.lemmas.Bool.Decides.{nat_tests}
+use Rattle.std.proofs.Common.{◌≡◌, ◌≢◌, ℕ, ◌+◌, ◌≤◌, Bool, true, false, true≢false, not, cond, ◌&&◌, List, [], ◌∷◌, Option, Some, None, IsSome, is_some, nat_eq, nat_le, find, filter, length, count_by, option_map, refl, ap, sym, subst, ◌∙◌, arith, All, Contains, ◌⊎◌, inl, inr, eq-eqb}
 use Rattle.std.proofs.lemmas.List.Elements.{All-push, All-filter, All-contains, All-contains_itself}
 use Rattle.std.proofs.lemmas.List.Sums.{length-filter}
 use Rattle.fuse_spec.specs.Maps.{get, put}
 use Rattle.fuse_spec.specs.Numbers.{eperm, enoent, eexist, enotdir, eisdir, einval, enospc, enotempty, max_names}
 use Rattle.fuse_spec.specs.Paths.{Name}
 use Rattle.fuse_spec.specs.Operations.{lookup, getattr, mkdir, create, unlink, rmdir, rename, link, opening, readdir, read, write}
-use Rattle.fuse_spec.specs.Trees.{Tree, Named, Content, a_directory, a_file, is_at, file_at, bytes_of, overwritten, is_directory, is_nameless, is_empty, is_below, is_within, with_name, without_name, with_birth}
+use Rattle.fuse_spec.specs.Trees.{Tree, Named, Content, a_directory, a_file, is_at, file_at, bytes_of, overwritten, is_directory, is_nameless, is_empty, with_name, without_name, with_birth}
 use Rattle.fuse_spec.specs.FileOperations.{FileOperation, Check, first_refusal, refusal, making, is_dir, is_file, is_filled, is_same, is_moved_below, replaces, renamed, tree_or, tree_unrefused, tree_after}
 use Rattle.fuse_spec.specs.TreeShape.{IsShaped, Stands, WritesRegular, names_of}
 use Rattle.fuse_spec.proofs.Tables.{get_put_here}
 use Rattle.fuse_spec.proofs.QueueCounts.{count_by-push}
 use Rattle.fs_tree.proofs.Counting.{found_passes, found_there, none_passes, none_counted, each_fails, only_one, count_where, count_kept, count_fewer, all_gone}
-use Rattle.fs_tree.proofs.Shaping.{Sound, Lies, IsInNamed, sound, whole, fewer, one_more, still_named, has_name, each_named, named_there, coming_nameless, with_file, with_bytes, still_directory, directory_there, both_true, same_number, other_number}
+use Rattle.fs_tree.proofs.Shaping.{Sound, Lies, IsInNamed, sound, whole, fewer, one_more, still_named, has_name, named_there, coming_nameless, with_file, with_bytes, still_directory, directory_there, both_true, same_number, other_number}
 
 -- the first check does not refuse, nor do the others
 abbrev Passes : Check → List Check → Type 0

@@ -1,5 +1,5 @@
 -- What is true of every tree stays true.
-use Rattle.std.proofs.Common.{◌≡◌, ◌≢◌, ℕ, zero, suc, ◌+◌, ◌≤◌, Bool, true, false, true≢false, not, cond, ◌&&◌, List, [], ◌∷◌, ◌++◌, Option, Some, None, IsSome, is_some, nat_eq, find, filter, count_by, option_map, refl, ap, sym, subst, ◌∙◌, arith, All, inl, inr, eq-eqb}
+use Rattle.std.proofs.Common.{◌≡◌, ◌≢◌, ℕ, ◌+◌, ◌≤◌, Bool, true, false, true≢false, not, cond, ◌&&◌, List, Option, Some, None, IsSome, is_some, nat_eq, filter, count_by, refl, ap, sym, subst, ◌∙◌, arith, All, inl, inr, eq-eqb}
 use Rattle.std.proofs.lemmas.Bool.{cases_eq}
 use Rattle.std.proofs.lemmas.Bool.Decides.{nat_tests}
 use Rattle.std.proofs.lemmas.List.Sums.{length-filter}
@@ -10,13 +10,13 @@ use Rattle.std.specs.Ordering.{nat_cmp}
 use Rattle.fuse_spec.specs.Maps.{Map, get, put, remove}
 use Rattle.fuse_spec.specs.Paths.{Name}
 use Rattle.fuse_spec.specs.declared.Kind.TheVariants.{Regular}
-use Rattle.fuse_spec.specs.Trees.{Tree, Named, Content, a_directory, a_file, is_at, same_name, file_at, kind_of, is_kind_directory, is_directory, is_nameless, is_empty, with_name, without_name, with_birth}
+use Rattle.fuse_spec.specs.Trees.{Tree, Named, Content, a_directory, a_file, is_at, same_name, kind_of, is_kind_directory, is_directory, is_nameless, is_empty, with_name}
 use Rattle.fuse_spec.specs.TreeShape.{IsShaped, Stands, names_of}
 use Rattle.fuse_spec.proofs.Tables.{tie_no, get_put_here, get_put_there, get_gone_there, get_gone}
 use Rattle.fuse_spec.proofs.QueueCounts.{count_by-push}
 use Rattle.fs_tree.specs.Outcomes.{discarded, only_root, without_nameless}
 use Rattle.fs_tree.proofs.BySerial.{same_name-equal}
-use Rattle.fs_tree.proofs.Counting.{found_passes, found_there, none_passes, none_counted, each_fails, each_counted, one_found, only_one, count_where, count_kept, count_fewer, all_gone}
+use Rattle.fs_tree.proofs.Counting.{found_passes, found_there, none_counted, each_counted, one_found, count_where}
 
 pub same_number : (a b : ℕ) → nat_eq a b ≡ true → a ≡ b
 same_number a b e = grind (arith, nat_tests, e)

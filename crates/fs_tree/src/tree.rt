@@ -39,9 +39,9 @@ impl<A: Allocator> Model for Tree<A> {
     ghost use Rattle.fuse_spec.specs.TreeShape.{IsShaped};
     ghost use Rattle.fs_tree.specs.Stored.{IsKept};
 
-    ghost view = { λ t. record { files = t.files.contents; names = t.names; next_birth = t.next_birth; next_serial = t.next_serial } };
+    ghost view = { λ t. record { files = t.files; names = t.names; next_birth = t.next_birth; next_serial = t.next_serial } };
 
-    ghost invariant = { λ t. IsKept t.files.contents t.names t.next_birth t.next_serial × IsShaped (record { files = t.files.contents; names = t.names; next_birth = t.next_birth; next_serial = t.next_serial }) };
+    ghost invariant = { λ t. IsKept t.files t.names t.next_birth t.next_serial × IsShaped (record { files = t.files; names = t.names; next_birth = t.next_birth; next_serial = t.next_serial }) };
 }
 
 impl<A: Allocator + Copy> Tree<A> {
@@ -50,8 +50,7 @@ impl<A: Allocator + Copy> Tree<A> {
         ensures { IfOk result (λ tree. tree ≡ only_root) }
     {
         let mut files = Files::new(alloc);
-        files.reserve_one()?;
-        files.push(ROOT, Content::Directory);
+        files.push(ROOT, Content::Directory)?;
         Ok(Tree {
             names: Names::new(alloc),
             files,
