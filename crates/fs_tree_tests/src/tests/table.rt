@@ -6,9 +6,9 @@ use std::alloc::Global;
 use std::process::Abort;
 use std::test::Fail;
 
-type Row = (Operation, Result<Answer, TreeError>);
+pub type Row = (Operation, Result<Answer, TreeError>);
 
-fn check_rows(rt: &impl Abort, tree: &mut Tree, rows: &[Row]) {
+pub fn check_rows(rt: &impl Abort, tree: &mut Tree, rows: &[Row]) {
     for (row, (operation, expected)) in rows.iter().enumerate() {
         assert!(rt; perform(tree, *operation) == *expected, "row {row}");
     }
