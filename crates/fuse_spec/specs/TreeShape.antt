@@ -1,5 +1,5 @@
 -- What is true of every file tree, and what stands below what in it.
-use Rattle.std.specs.Prelude.{◌≡◌, ◌≢◌, ◌≤◌, ℕ, true, false, Option, None, All, Contains, IsSome, nat_eq, count_by}
+use Rattle.std.specs.Prelude.{◌≡◌, ◌≢◌, ◌≤◌, ℕ, true, false, None, All, Contains, IsSome, nat_eq, count_by}
 use Rattle.fuse_spec.specs.Maps.{get}
 use Rattle.fuse_spec.specs.Paths.{Name}
 use Rattle.fuse_spec.specs.Operations.{write}

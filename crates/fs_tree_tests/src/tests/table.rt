@@ -168,12 +168,16 @@ fn renames(rt: HostRuntime) -> Result<(), Fail> {
     Ok(())
 }
 
-#[test]
-fn what_would_be_refused(rt: HostRuntime) -> Result<(), Fail> {
-    let tree = started(&rt, rt.alloc())?;
+fn check_refusals(rt: &impl Abort, tree: &Tree) {
     assert!(rt; tree.refusal_of_rename(0, b"x", 0, b"y") == Some(TreeError::NotFound));
     assert!(rt; tree.refusal_of_make(0, b"d") == Some(TreeError::AlreadyExists));
     assert!(rt; tree.refusal_of_link(4, 0, b"n").is_none());
     assert!(rt; tree.is_directory(3) && !tree.is_directory(4) && tree.is_nameless(5));
+}
+
+#[test]
+fn what_would_be_refused(rt: HostRuntime) -> Result<(), Fail> {
+    let tree = started(&rt, rt.alloc())?;
+    check_refusals(&rt, &tree);
     Ok(())
 }
