@@ -9,3 +9,7 @@ pub mod SerialRows
 pub mod BySerial
 pub mod ByFile
 pub mod NameLinks
+pub mod Counting
+pub mod Below
+pub mod Shaping
+pub mod KeepsShape

@@ -6,11 +6,6 @@ use Rattle.fuse_spec.specs.Maps.{Map, get}
 use Rattle.fuse_spec.specs.Operations.{Dirent}
 use Rattle.fuse_spec.specs.Trees.{Content, Named, is_at, kind_of, same_name}
 
--- The files by birth, and how many more are put without memory.
-pub record StoredFiles : Type 0 where
-  pub contents : Map Content
-  pub room : ℕ
-
 -- The record of READDIR for a name of one of these files.
 abbrev pub dirent_in : Map Content → Named → Dirent
 dirent_in files n = record { ino = n.file + 1; offset = n.serial; kind = kind_of (get files n.file); name = n.name }

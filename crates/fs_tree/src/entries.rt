@@ -123,7 +123,7 @@ impl<A: Allocator + Copy> Entries<A> {
         after: u64,
         size: usize,
     ) -> Result<Vec<Record<'_>, A>, AllocError>
-        ensures { IfOk result (λ records. map dirent_of records.items ≡ fitting size (map (dirent_in files.now.contents) (filter (λ n. nat_lt after n.serial) (map (in_directory 0) self.now)))) }
+        ensures { IfOk result (λ records. map dirent_of records.items ≡ fitting size (map (dirent_in files.now) (filter (λ n. nat_lt after n.serial) (map (in_directory 0) self.now)))) }
     {
         let mut records = Vec::new(*self.links.allocator());
         let mut room = size;

@@ -17,8 +17,7 @@ mod operations;
 mod parents;
 mod refusals;
 mod rows;
-#[cfg(test)]
-mod tests;
+pub mod shape;
 mod tree;
 
 pub use error::TreeError;

@@ -205,7 +205,7 @@ impl<A: Allocator + Copy> Names<A> {
         after: u64,
         size: usize,
     ) -> Result<Vec<Record<'_>, A>, AllocError>
-        ensures { IfOk result (λ records. map dirent_of records.items ≡ fitting size (listed files.now.contents directory after self.now)) }
+        ensures { IfOk result (λ records. map dirent_of records.items ≡ fitting size (listed files.now directory after self.now)) }
     {
         match self.directories.get(&directory) {
             Some(entries) => entries.list(files, after, size),

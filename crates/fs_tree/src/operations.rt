@@ -46,11 +46,13 @@ impl<A: Allocator + Copy> Tree<A> {
         if let Some(error) = self.refusal_of_make(directory, name) {
             return Err(error);
         }
-        self.files.reserve_one()?;
         let file = self.next_birth;
         let serial = self.next_serial;
-        self.names.add(directory, name, file, serial)?;
-        self.files.push(file, content);
+        self.files.push(file, content)?;
+        if let Err(error) = self.names.add(directory, name, file, serial) {
+            self.files.remove(file);
+            return Err(error.into());
+        }
         self.next_birth = file + 1;
         self.next_serial = serial + 1;
         Ok(file)

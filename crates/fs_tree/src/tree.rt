@@ -4,6 +4,7 @@ ghost use Rattle.std.specs.Prelude.{◌≡◌, ◌+◌, ◌^◌, ◌<◌, ◌≤
 ghost use Rattle.fuse_spec.specs.Operations.{lookup};
 ghost use Rattle.fuse_spec.specs.Trees.{is_directory, is_nameless, links, file_at};
 ghost use Rattle.fuse_spec.specs.FileOperations.{refusal};
+ghost use Rattle.fuse_spec.specs.TreeShape.{IsShaped};
 ghost use Rattle.fs_tree.specs.Outcomes.{IsRefusedBy, only_root};
 ghost use Rattle.fs_tree.specs.Stored.{IsRising};
 
@@ -35,11 +36,12 @@ impl<A: Allocator> Model for Tree<A> {
 
     ghost Value = { Tree };
 
+    ghost use Rattle.fuse_spec.specs.TreeShape.{IsShaped};
     ghost use Rattle.fs_tree.specs.Stored.{IsKept};
 
-    ghost view = { λ t. record { files = t.files.contents; names = t.names; next_birth = t.next_birth; next_serial = t.next_serial } };
+    ghost view = { λ t. record { files = t.files; names = t.names; next_birth = t.next_birth; next_serial = t.next_serial } };
 
-    ghost invariant = { λ t. IsKept t.files.contents t.names t.next_birth t.next_serial };
+    ghost invariant = { λ t. IsKept t.files t.names t.next_birth t.next_serial × IsShaped (record { files = t.files; names = t.names; next_birth = t.next_birth; next_serial = t.next_serial }) };
 }
 
 impl<A: Allocator + Copy> Tree<A> {
@@ -48,8 +50,7 @@ impl<A: Allocator + Copy> Tree<A> {
         ensures { IfOk result (λ tree. tree ≡ only_root) }
     {
         let mut files = Files::new(alloc);
-        files.reserve_one()?;
-        files.push(ROOT, Content::Directory);
+        files.push(ROOT, Content::Directory)?;
         Ok(Tree {
             names: Names::new(alloc),
             files,
@@ -57,6 +58,13 @@ impl<A: Allocator + Copy> Tree<A> {
             next_serial: 1,
             alloc,
         })
+    }
+
+    /// What is true of every tree is true of this one.
+    pub fn keeps_shape(&self)
+        ensures { IsShaped self.now }
+    {
+        let _births = self.next_birth;
     }
 
     /// The birth that the next file gets.

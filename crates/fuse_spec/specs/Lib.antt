@@ -4,6 +4,7 @@ pub mod Paths
 pub mod Operations
 pub mod Trees
 pub mod FileOperations
+pub mod TreeShape
 pub mod Calls
 pub mod Answers
 pub mod Walks

@@ -13,11 +13,11 @@ use Rattle.fs_tree.proofs.entries.Entries.list.Goals as goal
 pub loop-serial-init : goal.loop-serial-init
 loop-serial-init g c =
     let listed = c.into_iter-serial-iterator.ensures.into_iter_gives ∙ c.range-serial-items.ensures.between tt in
-    rw (← c.self.view_is, listed, c.new-records.ensures.items) (ap (λ l. fitting c.args.size (map (dirent_in c.args.files.now.contents) l)) (names-after c.args.after c.self.inside.names.entries))
+    rw (← c.self.view_is, listed, c.new-records.ensures.items) (ap (λ l. fitting c.args.size (map (dirent_in c.args.files.now) l)) (names-after c.args.after c.self.inside.names.entries))
 
 pub loop-serial-preserved : goal.loop-serial-preserved
 loop-serial-preserved g c =
-    let files = c.args.files.now.contents in
+    let files = c.args.files.now in
     let r : Dirent = dirent_in files (in_directory 0 (entry_of (c.in-Some.serial.now, c.in-Some.leaf.now))) in
     let rest = map (dirent_in files) (map (in_directory 0) (map entry_of c.next.new.self)) in
     let size : record_length r ≡ c.record_len-len.result = rw c.deref.ensures.value at (sym c.record_len-len.ensures) in
@@ -30,7 +30,7 @@ pub returns : goal.returns
 returns g c = elim c.match-next.branch [
   | in-None w ↦ sym (append-nil (map dirent_of c.loop-serial.records.items)) ∙ rw w.in-None.ensures.steps.0 at c.loop-serial.invariant
   | in-Some+then-len-room w ↦
-      let files = c.args.files.now.contents in
+      let files = c.args.files.now in
       let r : Dirent = dirent_in files (in_directory 0 (entry_of (w.in-Some.serial.now, w.in-Some.leaf.now))) in
       let rest = map (dirent_in files) (map (in_directory 0) (map entry_of c.next.new.self)) in
       let size : record_length r ≡ w.record_len-len.result = rw w.deref.ensures.value at (sym w.record_len-len.ensures) in

@@ -7,4 +7,4 @@ use Rattle.fs_tree.proofs.entries.Entries.list.Given as goal
 
 abbrev pub invariant-loop-serial : goal.invariant-loop-serial
 invariant-loop-serial g l =
-    map dirent_of l.records.items ++ fitting l.room (map (dirent_in l.files.contents) (map (in_directory 0) (map entry_of l.serial-iterator))) ≡ fitting l.size (map (dirent_in l.files.contents) (filter (λ n. nat_lt l.after n.serial) (map (in_directory 0) l.self)))
+    map dirent_of l.records.items ++ fitting l.room (map (dirent_in l.files) (map (in_directory 0) (map entry_of l.serial-iterator))) ≡ fitting l.size (map (dirent_in l.files) (filter (λ n. nat_lt l.after n.serial) (map (in_directory 0) l.self)))

@@ -1,7 +1,8 @@
 use Rattle.std.proofs.Common.{not}
 use Rattle.fuse_spec.specs.Trees.{is_at}
 use Rattle.fs_tree.proofs.Keeping.{kept-where}
+use Rattle.fs_tree.proofs.KeepsShape.{removed}
 use Rattle.fs_tree.proofs.tree.Tree.rmdir.Goals as goal
 
 pub invariant_of-self : goal.invariant_of-self
-invariant_of-self g c = rw c.remove.ensures (kept-where _ _ _ _ c.self.invariant (λ n. not (is_at c.args.directory c.args.name.now n)))
+invariant_of-self g c = rw c.remove.ensures (kept-where _ _ _ _ c.self.invariant.0 (λ n. not (is_at c.args.directory c.args.name.now n)), removed _ c.self.invariant.1 c.args.directory c.args.name.now (rw (← c.self.view_is) at c.in_default.ensures))

@@ -1,8 +1,8 @@
 //! Refused growths change nothing, and the same call succeeds after them.
 
 use super::{Answer, Operation, perform};
-use crate::{Tree, TreeError};
 use fail_at::FailAt;
+use fs_tree::{Tree, TreeError};
 use std::alloc::{Allocator, Global};
 use std::process::Abort;
 use std::test::Fail;
@@ -85,22 +85,34 @@ fn each_growth_refused(rt: HostRuntime) -> Result<(), Fail> {
 }
 
 /// Look-ups and what takes names or files away need no memory.
-fn takes_none<A: Allocator + Copy>(
-    rt: &impl Abort,
-    alloc: A,
-    heap: &FailAt<Global>,
-) -> Result<(), TreeError> {
-    let mut tree = Tree::new(alloc)?;
-    for event in &EVENTS[..4] {
-        let _ = perform(&mut tree, event.0)?;
-    }
-    heap.refuse(1);
+fn takes_none<A: Allocator + Copy>(rt: &impl Abort, tree: &mut Tree<A>) {
     assert!(rt; tree.lookup(1, b"f") == Ok(Some(2)));
     assert!(rt; tree.unlink(1, b"f") == Ok(()) && tree.unlink(0, b"g") == Ok(()));
     assert!(rt; tree.rmdir(0, b"d") == Ok(()));
     tree.discard(2);
     tree.discard_nameless();
     assert_eq!(rt; tree.next_birth(), 3);
+}
+
+fn perform_events<A: Allocator + Copy>(
+    tree: &mut Tree<A>,
+    events: &[(Operation, Answer)],
+) -> Result<(), TreeError> {
+    for event in events {
+        let _ = perform(tree, event.0)?;
+    }
+    Ok(())
+}
+
+fn removals_at<A: Allocator + Copy>(
+    rt: &impl Abort,
+    alloc: A,
+    heap: &FailAt<Global>,
+) -> Result<(), TreeError> {
+    let mut tree = Tree::new(alloc)?;
+    perform_events(&mut tree, &EVENTS[..4])?;
+    heap.refuse(1);
+    takes_none(rt, &mut tree);
     assert_eq!(rt; heap.left(), 1);
     heap.refuse(0);
     Ok(())
@@ -109,26 +121,21 @@ fn takes_none<A: Allocator + Copy>(
 #[test]
 fn removals_take_no_memory(rt: HostRuntime) -> Result<(), Fail> {
     let heap = FailAt::new(rt.alloc());
-    takes_none(&rt, &heap, &heap)?;
+    removals_at(&rt, &heap, &heap)?;
     Ok(())
+}
+
+/// Whether a tree was made.
+fn is_made<A: Allocator + Copy>(alloc: A) -> bool {
+    Tree::new(alloc).is_ok()
 }
 
 #[test]
 fn the_root_needs_memory(rt: HostRuntime) -> Result<(), Fail> {
     let heap = FailAt::new(rt.alloc());
-    refused_root(&rt, &heap, &heap)?;
-    Ok(())
-}
-
-fn refused_root<A: Allocator + Copy>(
-    rt: &impl Abort,
-    alloc: A,
-    heap: &FailAt<Global>,
-) -> Result<(), TreeError> {
     heap.refuse(1);
-    assert!(rt; Tree::new(alloc).is_err());
+    assert!(rt; !is_made(&heap));
     heap.refuse(0);
-    let tree = Tree::new(alloc)?;
-    assert!(rt; tree.is_directory(0));
+    assert!(rt; is_made(&heap));
     Ok(())
 }

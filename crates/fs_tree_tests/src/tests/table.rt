@@ -1,14 +1,14 @@
 //! Each row of the table: what is answered, and each refusal, also where two apply.
 
 use super::{Answer, Operation, perform};
-use crate::{Tree, TreeError};
+use fs_tree::{Tree, TreeError};
 use std::alloc::Global;
 use std::process::Abort;
 use std::test::Fail;
 
-type Row = (Operation, Result<Answer, TreeError>);
+pub type Row = (Operation, Result<Answer, TreeError>);
 
-fn check_rows(rt: &impl Abort, tree: &mut Tree, rows: &[Row]) {
+pub fn check_rows(rt: &impl Abort, tree: &mut Tree, rows: &[Row]) {
     for (row, (operation, expected)) in rows.iter().enumerate() {
         assert!(rt; perform(tree, *operation) == *expected, "row {row}");
     }
@@ -168,12 +168,16 @@ fn renames(rt: HostRuntime) -> Result<(), Fail> {
     Ok(())
 }
 
-#[test]
-fn what_would_be_refused(rt: HostRuntime) -> Result<(), Fail> {
-    let tree = started(&rt, rt.alloc())?;
+fn check_refusals(rt: &impl Abort, tree: &Tree) {
     assert!(rt; tree.refusal_of_rename(0, b"x", 0, b"y") == Some(TreeError::NotFound));
     assert!(rt; tree.refusal_of_make(0, b"d") == Some(TreeError::AlreadyExists));
     assert!(rt; tree.refusal_of_link(4, 0, b"n").is_none());
     assert!(rt; tree.is_directory(3) && !tree.is_directory(4) && tree.is_nameless(5));
+}
+
+#[test]
+fn what_would_be_refused(rt: HostRuntime) -> Result<(), Fail> {
+    let tree = started(&rt, rt.alloc())?;
+    check_refusals(&rt, &tree);
     Ok(())
 }

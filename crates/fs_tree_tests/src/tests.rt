@@ -1,6 +1,6 @@
 //! The table of the operations row by row, refused growths, listings, bytes and discarding.
 
-use crate::{Tree, TreeError};
+use fs_tree::{Tree, TreeError};
 use std::alloc::Allocator;
 
 mod bytes;
@@ -8,7 +8,9 @@ mod discarding;
 mod growths;
 mod limits;
 mod listing;
+mod plain;
 mod table;
+mod twin;
 
 /// An operation that changes names, with the names as text.
 #[derive(Clone, Copy)]
