@@ -1,6 +1,5 @@
 -- How a call of `stat` begins where no name in force leads to a file.
-use Rattle.std.proofs.Common.{◌≡◌, ◌≢◌, ℕ, Bool, true, false, cond, List, [], ◌∷◌, Option, Some, None, Result, Ok, Err, nat_lt, refl, ap, sym, subst, ◌∙◌}
-use Rattle.std.specs.Prelude.{OnOk, OnErr}
+use Rattle.std.proofs.Common.{◌≡◌, ◌≢◌, ℕ, Bool, true, false, cond, List, [], ◌∷◌, Option, Some, None, Result, Ok, Err, nat_lt, refl, ap, sym, ◌∙◌}
 use Rattle.std.specs.Ordering.{eq_by_cmp}
 use Rattle.fuse_spec.proofs.Tables.{name_put}
 use Rattle.fuse_spec.specs.declared.Binding.{Binding}
@@ -13,8 +12,8 @@ use Rattle.fuse_spec.specs.Walks.{go, after_stop, last, stat, unknown, missing}
 use Rattle.fuse_spec.specs.Operations.{getattr}
 use Rattle.fuse_spec.specs.Begins.{faulty, sets_out}
 use Rattle.fuse_spec.specs.Vfs.{doing, Vfs, Advance, valid_at, look, numbered, begun, asking, no_more, answered, after_walk, after_beginning}
-use Rattle.fk_kernel.specs.declared.bindings.Found.TheVariants.{Node, Missing, Unknown}
-use Rattle.fk_kernel.specs.Bound.{found_of}
+use Rattle.fk_dentry.specs.declared.found.Found.TheVariants.{Node, Missing, Unknown}
+use Rattle.fk_dentry.specs.NamesInForce.{found_of}
 use Rattle.fk_kernel.specs.Soundness.{LeadNowhere}
 use Rattle.fk_kernel.specs.Values.{state_of}
 
@@ -74,7 +73,3 @@ bound_to_nothing names nowhere directory name until d n b at = by (eq_by_cmp pla
     by : (t : Bool) → cond t (Some (record { target = None; until = until })) (get_name names (d, n)) ≡ Some b → b.target ≡ None
     by true e = cc
     by false e = nowhere d n b e
-
-pub put_or_kept : {E : Type 0} (result : Result (Unit {0}) E) (names old put : NameMap Binding) → OnOk result (names ≡ put) → OnErr result (names ≡ old) → LeadNowhere old → LeadNowhere put → LeadNowhere names
-put_or_kept (Ok u) names old put ok err nowhere after = subst LeadNowhere (sym ok) after
-put_or_kept (Err e) names old put ok err nowhere after = subst LeadNowhere (sym err) nowhere

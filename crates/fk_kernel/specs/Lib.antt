@@ -1,5 +1,4 @@
 pub mod Values
-pub mod Bound
 pub mod Soundness
 pub mod Refused
 pub mod Said

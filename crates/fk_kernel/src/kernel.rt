@@ -22,7 +22,6 @@ ghost use Rattle.fk_kernel.specs.Refused.{is_past_end, or_no_memory, begin_refus
 ghost use Rattle.fuse_spec.specs.Queues.{empty_queues};
 ghost use Rattle.fuse_spec.specs.QueueCalls.{after_enqueue, after_read_pending, after_interrupt_reply, waiting, without};
 
-use crate::bindings::{Bindings, Found};
 use crate::call::{Answer, Call};
 use crate::path::{path_fault, word_len};
 use crate::said::{
@@ -30,10 +29,11 @@ use crate::said::{
     said_to_interrupt, said_to_lookup,
 };
 use crate::waiting::{StoredAnswer, WaitingCall};
+use fk_dentry::{Bindings, Found};
 use fk_queues::{QueueTable, Queues};
 use fk_wire::{Opcode, read_reply_head};
 use fuse_frames::RequestFrame;
-use fuse_spec::{Binding, Phase, Purpose, Refusal, WriteResult};
+use fuse_spec::{Phase, Purpose, Refusal, WriteResult};
 use fuse_tables::Table;
 use std::alloc::Global;
 use std::marker::Model;
@@ -84,9 +84,9 @@ impl<Q: QueueTable<Purpose>> Model for KernelOf<Q> {
 
     ghost coded = { Prim.hlevel (codes) };
 
-    ghost view = { λ k. record { phase = k.phase; vfs = record { calls = k.calls.entries; names = k.names; opens = []; answers = k.answers.entries; next_call = k.next_call; clock = k.clock; root = 1 }; queues = Q.state k.queues; nodes = []; closing = [] } };
+    ghost view = { λ k. record { phase = k.phase; vfs = record { calls = k.calls.entries; names = k.names.names; opens = []; answers = k.answers.entries; next_call = k.next_call; clock = k.clock; root = 1 }; queues = Q.state k.queues; nodes = []; closing = [] } };
 
-    ghost invariant = { λ k. IsSoundKernel k.phase k.calls.entries k.answers.entries k.answers.room k.next_call k.names (Q.state k.queues) k.clock };
+    ghost invariant = { λ k. IsSoundKernel k.phase k.calls.entries k.answers.entries k.answers.room k.next_call k.names.names (Q.state k.queues) k.clock };
 }
 
 impl<Q: QueueTable<Purpose> + Drop> KernelOf<Q> {
@@ -530,14 +530,12 @@ impl<Q: QueueTable<Purpose> + Drop> KernelOf<Q> {
         let Some(word) = waiting.word() else {
             return Ok(());
         };
-        let binding = Binding {
-            target: None,
-            until: self.clock.saturating_add(valid_ms),
+        let Ok(()) = self.names.reserve(ROOT, word) else {
+            return Err(Refusal::NoMemory);
         };
-        match self.names.put(self.alloc, ROOT, word, binding) {
-            Ok(()) => Ok(()),
-            Err(_) => Err(Refusal::NoMemory),
-        }
+        let until = self.clock.saturating_add(valid_ms);
+        self.names.put(ROOT, word, None, until);
+        Ok(())
     }
 
     /// The call's request ends, and the call is answered.

@@ -1,7 +1,6 @@
 //! The kernel's half of the protocol: calls, names in force and requests, against any bytes that are written as replies.
 #![tactic(auto)]
 
-mod bindings;
 mod call;
 mod kernel;
 mod path;
