@@ -1,9 +1,7 @@
 pub mod Sound
-pub mod Positions
-pub mod Words
-pub mod WordsAreNames
 pub mod Requests
 pub mod Stats
+pub mod Beginnings
 pub mod Phases
 pub mod Sayings
 pub mod ReplyCases

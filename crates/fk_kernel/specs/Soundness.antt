@@ -1,10 +1,11 @@
 -- What is true of the kernel after each event.
 use Rattle.std.specs.Prelude.{◌≡◌, ◌≢◌, ◌≤◌, ◌<◌, ◌^◌, ℕ, false, [], All, Some, None, length}
-use Rattle.fuse_spec.specs.Maps.{Map, get, NameMap, get_name}
+use Rattle.fuse_spec.specs.Maps.{Map, get}
 use Rattle.fuse_spec.specs.Numbers.{clock_end}
-use Rattle.fuse_spec.specs.Paths.{Name}
+use Rattle.fuse_spec.specs.Operations.{getattr}
 use Rattle.fuse_spec.specs.Queues.{QueueState}
-use Rattle.fuse_spec.specs.declared.Binding.{Binding}
+use Rattle.fuse_spec.specs.Vfs.{CallState, walking, doing, using}
+use Rattle.fuse_spec.specs.Walks.{last, stat}
 use Rattle.fuse_spec.specs.declared.Opened.{Opened}
 use Rattle.fuse_spec.specs.declared.Phase.{Phase}
 use Rattle.fuse_spec.specs.Kernel.{is_live}
@@ -20,19 +21,24 @@ pub record IsSound {V W : Type 0} (calls : Map V) (answers : Map W) (free coming
   pub room : length calls ≤ free
   pub next : coming ≤ 2 ^ 62
 
--- No name in force leads to a file: so far names are bound only as they are missing.
-abbrev pub LeadNowhere : NameMap Binding → Type 0
-LeadNowhere names = (directory : ℕ) (name : Name) (bound : Binding) → get_name names (directory, name) ≡ Some bound → bound.target ≡ None
+-- The call is one of `stat`: so far no other begins.
+abbrev pub IsOfStat : CallState Opened → Type 0
+IsOfStat (walking directory word words plan) = plan ≡ last stat
+IsOfStat (doing operation) = (node : ℕ) × (operation ≡ getattr node)
+IsOfStat (using handle operation) = ⊥
+
+abbrev pub AreOfStat : Map (CallState Opened) → Type 0
+AreOfStat calls = (call : ℕ) (state : CallState Opened) → get calls call ≡ Some state → IsOfStat state
 
 -- The request is not a RELEASE: so far no file is opened.
 abbrev pub IsNoRelease : ℕ × QueuedRequest Purpose → Type 0
 IsNoRelease e = (opened : Opened) → e.1.kept ≢ Release opened
 
 -- All that is true of the kernel.
-pub record IsSoundKernel {V W : Type 0} (phase : Phase) (calls : Map V) (answers : Map W) (free coming : ℕ) (names : NameMap Binding) (queues : QueueState Purpose) (clock : ℕ) : Type 0 where
+pub record IsSoundKernel {W : Type 0} (phase : Phase) (calls : Map (CallState Opened)) (answers : Map W) (free coming : ℕ) (queues : QueueState Purpose) (clock : ℕ) : Type 0 where
   pub numbers : IsSound calls answers free coming
   -- where no mount is live there is no call
   pub idle : is_live phase ≡ false → calls ≡ []
-  pub nowhere : LeadNowhere names
+  pub stats : AreOfStat calls
   pub releases : All IsNoRelease queues.requests
   pub clock_low : clock < clock_end

@@ -1,6 +1,6 @@
 //! The kernel.
 
-ghost use Rattle.std.specs.Prelude.{length, ◌≡◌, ◌<◌, ◌^◌, ◌+◌, [], ◌∷◌, ◌≤◌, ◌%◌, ℕ, List, drop, Some, None, Ok, OnOk, OnErr, IfOk, IfErr, true, false, ◌≢◌, is_some, option_map, slice_get, IfNone, IfSome, cond, nat_eq};
+ghost use Rattle.std.specs.Prelude.{length, ◌≡◌, ◌<◌, ◌^◌, ◌+◌, [], ◌∷◌, ◌≤◌, ◌%◌, ℕ, List, Some, None, Ok, OnOk, OnErr, IfOk, IfErr, true, false, ◌≢◌, is_some, option_map, slice_get, IfNone, IfSome, cond, nat_eq};
 ghost use Rattle.fuse_spec.specs.Uniques.{numbers_left_from};
 ghost use Rattle.fuse_spec.specs.Answers.{failed};
 ghost use Rattle.fuse_spec.specs.Calls as call;
@@ -8,12 +8,16 @@ ghost use Rattle.fuse_spec.specs.declared.Opened.{Opened};
 ghost use Rattle.fuse_spec.specs.Kernel.{is_live, is_aborted, body_of, call_begun, kernel_mounted};
 ghost use Rattle.fuse_spec.specs.Maps.{get, remove};
 ghost use Rattle.fuse_spec.specs.Steps.{is_ready, is_busy};
-ghost use Rattle.fuse_spec.specs.Vfs.{begun, asking, answered, bound, no_more, numbered};
+ghost use Rattle.fuse_spec.specs.Vfs.{CallState as State, walking, doing, begun, asking, answered, bound, numbered};
+ghost use Rattle.fuse_spec.specs.Walks.{last, stat};
 ghost use Rattle.fuse_spec.specs.Worlds.{first_kernel};
-ghost use Rattle.fk_kernel.specs.Values.{words_in, state_of, answer_of, call_of};
+ghost use Rattle.fk_syscalls.specs.Values.{comes_to};
+ghost use Rattle.fk_kernel.specs.Soundness.{IsOfStat};
+ghost use Rattle.fk_kernel.specs.Values.{answer_of, call_of};
 ghost use Rattle.fuse_spec.specs.Messages.{WireReply};
 ghost use Rattle.fuse_spec.specs.Numbers.{max_validity};
 ghost use Rattle.fuse_spec.specs.Operations as reply;
+ghost use Rattle.fuse_spec.specs.Operations.{getattr};
 ghost use Rattle.fuse_spec.specs.Paths.{Name};
 ghost use Rattle.fuse_spec.specs.Replies.{reply_written, is_agreement, interrupt_reply_of, interrupt_replied};
 ghost use Rattle.fuse_spec.specs.declared.Entry.{Entry};
@@ -23,23 +27,20 @@ ghost use Rattle.fuse_spec.specs.Queues.{empty_queues};
 ghost use Rattle.fuse_spec.specs.QueueCalls.{after_enqueue, after_read_pending, after_interrupt_reply, waiting, without};
 
 use crate::call::{Answer, Call};
-use crate::path::{path_fault, word_len};
 use crate::said::{
     GetattrSaid, InitSaid, InterruptSaid, LookupSaid, said_to_getattr, said_to_init,
     said_to_interrupt, said_to_lookup,
 };
-use crate::waiting::{StoredAnswer, WaitingCall};
-use fk_dentry::{Bindings, Found};
+use crate::stored_answer::StoredAnswer;
+use fk_dentry::Bindings;
 use fk_queues::{QueueTable, Queues};
+use fk_syscalls::{Asked, CallState, Next};
 use fk_wire::{Opcode, read_reply_head};
 use fuse_frames::RequestFrame;
 use fuse_spec::{Phase, Purpose, Refusal, WriteResult};
 use fuse_tables::Table;
 use std::alloc::Global;
 use std::marker::Model;
-
-/// The root's node.
-const ROOT: u64 = 1;
 
 /// At most so many calls are unanswered.
 const MAX_CALLS: usize = 64;
@@ -64,7 +65,7 @@ pub struct KernelOf<Q: QueueTable<Purpose>> {
     alloc: Q::Heap,
     phase: Phase,
     queues: Q,
-    calls: Table<WaitingCall<Q::Heap>, Q::Heap>,
+    calls: Table<CallState<Q::Heap>, Q::Heap>,
     answers: Table<StoredAnswer, Q::Heap>,
     names: Bindings<Q::Heap>,
     next_call: u64,
@@ -86,7 +87,7 @@ impl<Q: QueueTable<Purpose>> Model for KernelOf<Q> {
 
     ghost view = { λ k. record { phase = k.phase; vfs = record { calls = k.calls.entries; names = k.names.names; opens = []; answers = k.answers.entries; next_call = k.next_call; clock = k.clock; root = 1 }; queues = Q.state k.queues; nodes = []; closing = [] } };
 
-    ghost invariant = { λ k. IsSoundKernel k.phase k.calls.entries k.answers.entries k.answers.room k.next_call k.names.names (Q.state k.queues) k.clock };
+    ghost invariant = { λ k. IsSoundKernel k.phase k.calls.entries k.answers.entries k.answers.room k.next_call (Q.state k.queues) k.clock };
 }
 
 impl<Q: QueueTable<Purpose> + Drop> KernelOf<Q> {
@@ -189,32 +190,54 @@ impl<Q: QueueTable<Purpose> + Drop> KernelOf<Q> {
             return Err(Refusal::Exhausted);
         }
         let Call::Stat { path } = call;
-        match self.answer_at_once(path) {
-            Some(errno) => self.begin_answered(Answer::Failed { errno }),
-            None => self.begin_asking(path),
+        self.begin_stat(path)
+    }
+
+    /// A call of `stat` of the next number begins: it is answered at once, or it asks its first request.
+    fn begin_stat(&mut self, path: &[u8]) -> Result<u64, Refusal>
+        requires number { self.old.vfs.next_call < 2 ^ 62 }
+        requires few { length self.old.vfs.calls < 64 }
+        requires ready { is_ready self.old.phase ≡ true }
+        ensures err { OnErr result (self.new ≡ self.old) }
+        ensures refusal { IfErr result (λ refusal. refusal ≡ or_no_memory (begin_refusal self.old (call.stat path.now))) }
+        ensures judged { OnOk result (begin_refusal self.old (call.stat path.now) ≡ None) }
+        ensures number { IfOk result (λ n. n ≡ self.old.vfs.next_call) }
+        ensures begun { OnOk result (self.new ≡ call_begun self.old (call.stat path.now)) }
+    {
+        // A field is touched so that the type's invariant is at hand.
+        let _ = &self.next_call;
+        if self.is_aborted() {
+            return self.begin_answered(Answer::Failed { errno: ENOTCONN });
+        }
+        match self.set_out(path)? {
+            Next::Answered { errno } => self.begin_answered(Answer::Failed { errno }),
+            Next::Waits(state) => self.begin_asking(state),
         }
     }
 
-    /// The error that answers a `stat` of a path at once, if one does.
-    fn answer_at_once(&self, path: &[u8]) -> Option<u32>
-        ensures not_aborted { IfNone result (is_aborted self.now.phase ≡ false) }
-        ensures asks { IfNone result (begun (is_aborted self.now.phase) self.now.vfs (call.stat path.now) ≡ asking (numbered self.now.vfs) self.now.vfs.next_call (state_of (words_in (drop 1 path.now)))) }
-        ensures answered { IfSome result (λ errno. begun (is_aborted self.now.phase) self.now.vfs (call.stat path.now) ≡ no_more (answered (numbered self.now.vfs) self.now.vfs.next_call (failed errno))) }
+    /// Where a call of `stat` comes to along the names in force.
+    fn set_out(&self, path: &[u8]) -> Result<Next<Q::Heap>, Refusal>
+        requires not_aborted { is_aborted self.now.phase ≡ false }
+        ensures begun { IfOk result (λ next. begun (is_aborted self.now.phase) self.now.vfs (call.stat path.now) ≡ comes_to (numbered self.now.vfs) self.now.vfs.next_call next) }
+        ensures asks { OnErr result ((state : State Opened) × (begun (is_aborted self.now.phase) self.now.vfs (call.stat path.now) ≡ asking (numbered self.now.vfs) self.now.vfs.next_call state)) }
+        ensures refusal { IfErr result (λ refusal. refusal ≡ cond (nat_eq (numbers_left_from self.now.queues.next) 0) Refusal.Exhausted Refusal.NoMemory) }
     {
-        if self.is_aborted() {
-            return Some(ENOTCONN);
+        let call = fk_syscalls::Call::Stat { path };
+        match fk_syscalls::begin(self.alloc, &self.names, self.clock, &call) {
+            Ok(next) => Ok(next),
+            Err(_) => Err(self.no_room_to_ask()),
         }
-        if let Some(fault) = path_fault(path) {
-            return Some(fault);
+    }
+
+    /// Why a call that has no memory to ask is refused: first that no number is left for its request.
+    fn no_room_to_ask(&self) -> Refusal
+        ensures { result ≡ cond (nat_eq (numbers_left_from self.now.queues.next) 0) Refusal.Exhausted Refusal.NoMemory }
+    {
+        if self.queues.numbers_left() == 0 {
+            Refusal::Exhausted
+        } else {
+            Refusal::NoMemory
         }
-        if path.len() > 1 {
-            let rest = &path[1..];
-            let len = word_len(rest);
-            if let Found::Missing = self.names.find(ROOT, &rest[..len], self.clock) {
-                return Some(ENOENT);
-            }
-        }
-        None
     }
 
     /// A call of the next number begins and is answered at once.
@@ -237,7 +260,8 @@ impl<Q: QueueTable<Purpose> + Drop> KernelOf<Q> {
     }
 
     /// A call of the next number begins, and its first request is queued.
-    fn begin_asking(&mut self, path: &[u8]) -> Result<u64, Refusal>
+    fn begin_asking(&mut self, state: CallState<Q::Heap>) -> Result<u64, Refusal>
+        requires of_stat { IsOfStat state }
         requires number { self.old.vfs.next_call < 2 ^ 62 }
         requires few { length self.old.vfs.calls < 64 }
         requires ready { is_ready self.old.phase ≡ true }
@@ -246,7 +270,7 @@ impl<Q: QueueTable<Purpose> + Drop> KernelOf<Q> {
         ensures refusal { IfErr result (λ refusal. refusal ≡ cond (nat_eq (numbers_left_from self.old.queues.next) 0) Refusal.Exhausted Refusal.NoMemory) }
         ensures number { IfOk result (λ n. n ≡ self.old.vfs.next_call) }
         ensures left { OnOk result (0 < numbers_left_from self.old.queues.next) }
-        ensures vfs { OnOk result (self.new.vfs ≡ (asking (numbered self.old.vfs) self.old.vfs.next_call (state_of (words_in (drop 1 path.now)))).vfs) }
+        ensures vfs { OnOk result (self.new.vfs ≡ (asking (numbered self.old.vfs) self.old.vfs.next_call state).vfs) }
         ensures queues { OnOk result (self.new.queues ≡ after_enqueue self.old.queues (Purpose.Call self.old.vfs.next_call)) }
         ensures same { OnOk result (self.new ≡ record self.old { vfs = self.new.vfs; queues = self.new.queues }) }
     {
@@ -262,16 +286,9 @@ impl<Q: QueueTable<Purpose> + Drop> KernelOf<Q> {
         let Ok(()) = self.queues.reserve(1, 0) else {
             return Err(Refusal::NoMemory);
         };
-        let words = match path {
-            [_, rest @ ..] => rest.to_vec(self.alloc),
-            [] => path.to_vec(self.alloc),
-        };
-        let Ok(words) = words else {
-            return Err(Refusal::NoMemory);
-        };
         let call = self.next_call;
         let _unique = self.queues.enqueue(Purpose::Call(call));
-        self.calls.put(call, WaitingCall::new(words));
+        self.calls.put(call, state);
         self.next_call = call + 1;
         Ok(call)
     }
@@ -332,7 +349,8 @@ impl<Q: QueueTable<Purpose> + Drop> KernelOf<Q> {
         Ok(frame)
     }
 
-    /// The frame of a request that has something to ask. No file is open so far, so that none is a RELEASE.
+    /// The frame of a request that has something to ask. No file is open so far, so that none is a RELEASE; and all calls
+    /// are of `stat`, so that none is a MKDIR.
     fn request_frame(&self, unique: u64, purpose: Purpose) -> Result<RequestFrame<Q::Heap>, Refusal>
         requires asks { is_some (body_of self.now purpose) ≡ true }
         requires no_release { (opened : Opened) → purpose ≢ Purpose.Release opened }
@@ -347,9 +365,12 @@ impl<Q: QueueTable<Purpose> + Drop> KernelOf<Q> {
                 let Some(waiting) = self.calls.get(call) else {
                     return Err(Refusal::NoSuch);
                 };
-                match waiting.word() {
-                    Some(word) => RequestFrame::lookup(self.alloc, unique, ROOT, word),
-                    None => RequestFrame::getattr(self.alloc, unique, ROOT),
+                match waiting.asks() {
+                    Asked::Lookup { directory, name } => {
+                        RequestFrame::lookup(self.alloc, unique, directory, name)
+                    }
+                    Asked::Getattr { node } => RequestFrame::getattr(self.alloc, unique, node),
+                    Asked::Mkdir { .. } => return Err(Refusal::NoSuch),
                 }
             }
         };
@@ -455,17 +476,19 @@ impl<Q: QueueTable<Purpose> + Drop> KernelOf<Q> {
             let _kept = self.queues.answer(unique);
             return Ok(WriteResult::Accepted);
         };
-        match waiting.word() {
-            None => Ok(self.write_to_getattr(unique, call, bytes)),
-            Some(_) => self.write_to_lookup(unique, call, bytes),
+        match waiting.asks() {
+            Asked::Lookup { .. } => self.write_to_lookup(unique, call, bytes),
+            Asked::Getattr { .. } => Ok(self.write_to_getattr(unique, call, bytes)),
+            // All calls are of `stat` so far, so that none asks a MKDIR.
+            Asked::Mkdir { .. } => Ok(WriteResult::Invalid),
         }
     }
 
-    /// A reply to the GETATTR of the root. Bytes that are none answer the call EIO.
+    /// A reply to the GETATTR of a node. Bytes that are none answer the call EIO.
     fn write_to_getattr(&mut self, unique: u64, call: u64, bytes: &[u8]) -> WriteResult
         requires even { nat_eq (unique % 2) 1 ≡ false }
         requires waits { waiting self.old.queues unique ≡ Some (Purpose.Call call) }
-        requires asks { get self.old.vfs.calls call ≡ Some (state_of []) }
+        requires asks { (node : ℕ) × (get self.old.vfs.calls call ≡ Some (doing (getattr node))) }
         ensures said { (wire : WireReply) → Says Opcode.Getattr bytes.now wire → reply_written self.old unique wire ≡ (result, self.new) }
         ensures unsaid { SaysNothing Opcode.Getattr bytes.now → reply_written self.old unique wrong_body ≡ (result, self.new) }
     {
@@ -481,7 +504,7 @@ impl<Q: QueueTable<Purpose> + Drop> KernelOf<Q> {
         WriteResult::Accepted
     }
 
-    /// A reply to the LOOKUP of a name in the root. Bytes that are none answer the call EIO.
+    /// A reply to the LOOKUP of a name. Bytes that are none answer the call EIO.
     fn write_to_lookup(
         &mut self,
         unique: u64,
@@ -490,7 +513,7 @@ impl<Q: QueueTable<Purpose> + Drop> KernelOf<Q> {
     ) -> Result<WriteResult, Refusal>
         requires even { nat_eq (unique % 2) 1 ≡ false }
         requires waits { waiting self.old.queues unique ≡ Some (Purpose.Call call) }
-        requires looks_up { (word : Name) × (words : List Name) × (get self.old.vfs.calls call ≡ Some (state_of (word ∷ words))) }
+        requires looks_up { (directory : ℕ) × (word : Name) × (words : List Name) × (get self.old.vfs.calls call ≡ Some (walking directory word words (last stat))) }
         ensures err { OnErr result (self.new ≡ self.old) }
         ensures refusal { IfErr result (λ refusal. refusal ≡ Refusal.NoMemory) }
         ensures failed { (errno : ℕ) → Says Opcode.Lookup bytes.now (reply.failed errno) → IfOk result (λ written. reply_written self.old unique (reply.failed errno) ≡ (written, self.new)) }
@@ -522,19 +545,19 @@ impl<Q: QueueTable<Purpose> + Drop> KernelOf<Q> {
         requires day { valid_ms ≤ max_validity }
         ensures err { OnErr result (self.new ≡ self.old) }
         ensures refusal { IfErr result (λ refusal. refusal ≡ Refusal.NoMemory) }
-        ensures bound { OnOk result ((word : Name) (words : List Name) → get self.old.vfs.calls call ≡ Some (state_of (word ∷ words)) → self.new ≡ record self.old { vfs = bound self.old.vfs 1 word None valid_ms }) }
+        ensures bound { OnOk result ((directory : ℕ) (word : Name) (words : List Name) → get self.old.vfs.calls call ≡ Some (walking directory word words (last stat)) → self.new ≡ record self.old { vfs = bound self.old.vfs directory word None valid_ms }) }
     {
         let Some(waiting) = self.calls.get(call) else {
             return Ok(());
         };
-        let Some(word) = waiting.word() else {
+        let Asked::Lookup { directory, name } = waiting.asks() else {
             return Ok(());
         };
-        let Ok(()) = self.names.reserve(ROOT, word) else {
+        let Ok(()) = self.names.reserve(directory, name) else {
             return Err(Refusal::NoMemory);
         };
         let until = self.clock.saturating_add(valid_ms);
-        self.names.put(ROOT, word, None, until);
+        self.names.put(directory, name, None, until);
         Ok(())
     }
 

@@ -3,9 +3,8 @@
 
 mod call;
 mod kernel;
-mod path;
 mod said;
-mod waiting;
+mod stored_answer;
 
 pub use call::{Answer, Call};
 pub use kernel::Kernel;

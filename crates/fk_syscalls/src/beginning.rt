@@ -1,17 +1,17 @@
 //! How a call begins.
 
-ghost use Rattle.std.specs.Prelude.{◌≡◌, ℕ, false, IfOk, Some};
+ghost use Rattle.std.specs.Prelude.{◌≡◌, ℕ, false, IfOk, OnErr, Some};
 ghost use Rattle.fuse_spec.specs.Calls as call;
-ghost use Rattle.fuse_spec.specs.Vfs.{Vfs, numbered, begun, walks_on};
+ghost use Rattle.fuse_spec.specs.Vfs.{CallState as State, Vfs, numbered, begun, walks_on, asking};
 ghost use Rattle.fuse_spec.specs.Walks.{last};
 ghost use Rattle.fuse_spec.specs.declared.Opened.{Opened};
 ghost use Rattle.fk_syscalls.specs.Words.{words_from};
-ghost use Rattle.fk_syscalls.specs.States.{final_of, IsSoundCall, HasNames};
+ghost use Rattle.fk_syscalls.specs.States.{final_lent, IsSoundCall, HasNames};
 ghost use Rattle.fk_syscalls.specs.Values.{call_of, comes_to};
 
 use crate::call::Call;
 use crate::path::{EINVAL, first_word, split_last_word};
-use crate::state::{CallState, ENOENT, FinalOperation, Next};
+use crate::state::{CallState, ENOENT, LentOperation, Next};
 use crate::walk::walk;
 use fk_dentry::Bindings;
 use std::alloc::{AllocError, Allocator};
@@ -24,14 +24,15 @@ const ROOT: u64 = 1;
 ///
 /// # Errors
 ///
-/// Memory was wanting.
+/// Memory was wanting. The call would ask an operation.
 pub fn begin<A: Allocator + Copy>(
     alloc: A,
     names: &Bindings<A>,
     clock: u64,
     call: &Call<'_>,
 ) -> Result<Next<A>, AllocError>
-    ensures { IfOk result (λ next. (c : Vfs Opened) → HasNames c names.now.names clock → begun false c (call_of call.now) ≡ comes_to (numbered c) c.next_call next) }
+    ensures begun { IfOk result (λ next. (c : Vfs Opened) → HasNames c names.now.names clock → begun false c (call_of call.now) ≡ comes_to (numbered c) c.next_call next) }
+    ensures wanting { OnErr result ((c : Vfs Opened) → HasNames c names.now.names clock → (state : State Opened) × (begun false c (call_of call.now) ≡ asking (numbered c) c.next_call state)) }
 {
     match call {
         Call::Stat { path } => begin_stat(alloc, names, clock, path),
@@ -45,10 +46,11 @@ fn begin_stat<A: Allocator + Copy>(
     clock: u64,
     path: &[u8],
 ) -> Result<Next<A>, AllocError>
-    ensures { IfOk result (λ next. (c : Vfs Opened) → HasNames c names.now.names clock → begun false c (call.stat path.now) ≡ comes_to (numbered c) c.next_call next) }
+    ensures begun { IfOk result (λ next. (c : Vfs Opened) → HasNames c names.now.names clock → begun false c (call.stat path.now) ≡ comes_to (numbered c) c.next_call next) }
+    ensures wanting { OnErr result ((c : Vfs Opened) → HasNames c names.now.names clock → (state : State Opened) × (begun false c (call.stat path.now) ≡ asking (numbered c) c.next_call state)) }
 {
     match first_word(path) {
-        Ok(at) => set_out(alloc, names, clock, path, at, FinalOperation::Stat),
+        Ok(at) => set_out(alloc, names, clock, path, at, LentOperation::Stat),
         Err(errno) => Ok(Next::Answered { errno }),
     }
 }
@@ -59,13 +61,13 @@ fn begin_mkdir<A: Allocator + Copy>(
     clock: u64,
     path: &[u8],
 ) -> Result<Next<A>, AllocError>
-    ensures { IfOk result (λ next. (c : Vfs Opened) → HasNames c names.now.names clock → begun false c (call.mkdir path.now) ≡ comes_to (numbered c) c.next_call next) }
+    ensures begun { IfOk result (λ next. (c : Vfs Opened) → HasNames c names.now.names clock → begun false c (call.mkdir path.now) ≡ comes_to (numbered c) c.next_call next) }
+    ensures wanting { OnErr result ((c : Vfs Opened) → HasNames c names.now.names clock → (state : State Opened) × (begun false c (call.mkdir path.now) ≡ asking (numbered c) c.next_call state)) }
 {
     match first_word(path) {
         Ok(Some(place)) => {
             let parent = split_last_word(path, place);
-            let name = parent.name.to_vec(alloc)?;
-            let operation = FinalOperation::Mkdir { name };
+            let operation = LentOperation::Mkdir { name: parent.name };
             set_out(alloc, names, clock, parent.words, parent.at, operation)
         }
         Ok(None) => Ok(Next::Answered { errno: EINVAL }),
@@ -80,10 +82,11 @@ fn set_out<A: Allocator + Copy>(
     clock: u64,
     words: &[u8],
     at: Option<usize>,
-    operation: FinalOperation<A>,
+    operation: LentOperation<'_>,
 ) -> Result<Next<A>, AllocError>
-    requires { IsSoundCall words.now at operation }
-    ensures { IfOk result (λ next. (c : Vfs Opened) (call : ℕ) → HasNames c names.now.names clock → walks_on c call c.root (words_from words.now at) (last (final_of operation)) ≡ comes_to c call next) }
+    requires { IsSoundCall words.now at (final_lent operation) }
+    ensures sets_out { IfOk result (λ next. (c : Vfs Opened) (call : ℕ) → HasNames c names.now.names clock → walks_on c call c.root (words_from words.now at) (last (final_lent operation.entry)) ≡ comes_to c call next) }
+    ensures wanting { OnErr result ((c : Vfs Opened) (call : ℕ) → HasNames c names.now.names clock → (state : State Opened) × (walks_on c call c.root (words_from words.now at) (last (final_lent operation.entry)) ≡ asking c call state)) }
 {
     match walk(names, clock, ROOT, words, at) {
         Some(stop) => {

@@ -8,7 +8,7 @@ ghost use Rattle.fuse_spec.specs.Vfs.{Vfs, walking, asked, walks_on};
 ghost use Rattle.fuse_spec.specs.Walks.{WalkPlan};
 ghost use Rattle.fuse_spec.specs.declared.Opened.{Opened};
 ghost use Rattle.fk_syscalls.specs.Words.{words_from};
-ghost use Rattle.fk_syscalls.specs.States.{final_of, state_of, IsSoundCall, HasNames};
+ghost use Rattle.fk_syscalls.specs.States.{final_of, final_lent, state_of, IsSoundCall, HasNames};
 ghost use Rattle.fk_syscalls.specs.Values.{operation_of, AsksWord, comes_to};
 
 use crate::call::Asked;
@@ -25,6 +25,26 @@ pub(crate) const ENOENT: u32 = 2;
 pub(crate) enum FinalOperation<A: Allocator> {
     Stat,
     Mkdir { name: Vec<u8, A> },
+}
+
+/// The same, with its name lent.
+#[derive(Clone, Copy)]
+pub(crate) enum LentOperation<'a> {
+    Stat,
+    Mkdir { name: &'a [u8] },
+}
+
+impl LentOperation<'_> {
+    fn to_owned<A: Allocator + Copy>(self, alloc: A) -> Result<FinalOperation<A>, AllocError>
+        ensures { IfOk result (λ operation. final_of operation ≡ final_lent self.entry) }
+    {
+        match self {
+            LentOperation::Stat => Ok(FinalOperation::Stat),
+            LentOperation::Mkdir { name } => Ok(FinalOperation::Mkdir {
+                name: name.to_vec(alloc)?,
+            }),
+        }
+    }
 }
 
 /// An unanswered call. It stands at a node, and asks for the next word of its walk; or, where no word is left, for its
@@ -51,7 +71,7 @@ impl<A: Allocator> Model for CallState<A> {
 
     ghost view = { λ s. state_of s.node (words_from s.words.items s.at) (final_of s.operation) };
 
-    ghost invariant = { λ s. IsSoundCall s.words.items s.at s.operation };
+    ghost invariant = { λ s. IsSoundCall s.words.items s.at (final_of s.operation) };
 }
 
 /// Where a step leaves a call.
@@ -70,11 +90,12 @@ impl<A: Allocator + Copy> CallState<A> {
         node: u64,
         words: &[u8],
         at: Option<usize>,
-        operation: FinalOperation<A>,
+        operation: LentOperation<'_>,
     ) -> Result<Self, AllocError>
-        requires { IsSoundCall words.now at operation }
-        ensures { IfOk result (λ state. state ≡ state_of node (words_from words.now at) (final_of operation)) }
+        requires { IsSoundCall words.now at (final_lent operation) }
+        ensures { IfOk result (λ state. state ≡ state_of node (words_from words.now at) (final_lent operation.entry)) }
     {
+        let operation = operation.to_owned(alloc)?;
         match at {
             Some(place) => Ok(CallState {
                 node,

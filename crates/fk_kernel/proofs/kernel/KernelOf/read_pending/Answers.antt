@@ -6,7 +6,7 @@ use Rattle.fk_kernel.proofs.kernel.KernelOf.read_pending.Goals as goal
 pub invariant_of-self : goal.invariant_of-self
 invariant_of-self g c =
     let old = c.self.invariant in
-    rw c.read_pending-unique.ensures.state (record { numbers = old.numbers; idle = old.idle; nowhere = old.nowhere; releases = pending_read (g.Q.QueueTable.state c.self.inside.queues) old.releases _; clock_low = old.clock_low })
+    rw c.read_pending-unique.ensures.state (record { numbers = old.numbers; idle = old.idle; stats = old.stats; releases = pending_read (g.Q.QueueTable.state c.self.inside.queues) old.releases _; clock_low = old.clock_low })
 
 pub request_frame-requires-clause-no_release : goal.request_frame-requires-clause-no_release
 request_frame-requires-clause-no_release g c =

@@ -5,7 +5,7 @@ use Rattle.fk_kernel.proofs.kernel.KernelOf.write_to_init.Goals as goal
 pub invariant_of-self : goal.invariant_of-self
 invariant_of-self g c =
     let old = c.self.invariant in
-    rw c.answer-kept.ensures.state (record { numbers = old.numbers; idle = λ e. absurd (true≢false e); nowhere = old.nowhere; releases = one_answered (g.Q.QueueTable.state c.self.inside.queues) old.releases c.args.unique; clock_low = old.clock_low })
+    rw c.answer-kept.ensures.state (record { numbers = old.numbers; idle = λ e. absurd (true≢false e); stats = old.stats; releases = one_answered (g.Q.QueueTable.state c.self.inside.queues) old.releases c.args.unique; clock_low = old.clock_low })
 
 pub returns-in_default-2-clause-agreed : goal.returns-in_default-2-clause-agreed
 returns-in_default-2-clause-agreed g c = λ minor late says.

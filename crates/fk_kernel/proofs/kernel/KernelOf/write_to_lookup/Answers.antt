@@ -14,12 +14,12 @@ returns-in_default-clause-found g c = λ entry valid says. absurd (c.in_default.
 pub answer_call-requires-in-Missing-clause-waits : goal.answer_call-requires-in-Missing-clause-waits
 answer_call-requires-in-Missing-clause-waits g c =
     let stands = c.requires.looks_up in
-    rw (c.in_ok-name_is_missing-in-Missing.ensures.bound stands.0 stands.1 stands.2) (ap is_some c.requires.waits)
+    rw (c.in_ok-name_is_missing-in-Missing.ensures.bound stands.0 stands.1 stands.2 stands.3) (ap is_some c.requires.waits)
 
 pub answer_call-requires-in-Missing-clause-unanswered : goal.answer_call-requires-in-Missing-clause-unanswered
 answer_call-requires-in-Missing-clause-unanswered g c =
     let stands = c.requires.looks_up in
-    rw (c.in_ok-name_is_missing-in-Missing.ensures.bound stands.0 stands.1 stands.2) (ap is_some stands.2)
+    rw (c.in_ok-name_is_missing-in-Missing.ensures.bound stands.0 stands.1 stands.2 stands.3) (ap is_some stands.3)
 
 pub returns-in-Found-clause-unsaid : goal.returns-in-Found-clause-unsaid
 returns-in-Found-clause-unsaid g c = λ none.

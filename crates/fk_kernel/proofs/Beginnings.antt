@@ -1,0 +1,54 @@
+-- Why a call of `stat` is refused, by whether it asks.
+use Rattle.std.proofs.Common.{◌≡◌, ℕ, ◌+◌, ◌<◌, ◌≤◌, ◌^◌, ◌/◌, ◌-◌, Bool, true, false, cond, List, Some, None, Result, Ok, Err, length, nat_eq, refl, ap, sym, ◌∙◌, arith}
+use Rattle.std.specs.Prelude.{◌||◌, nat_lt, nat_le, not, IfErr, OnOk}
+use Rattle.std.proofs.lemmas.Bool.Decides.{nat_tests}
+use Rattle.fuse_spec.specs.Calls as call
+use Rattle.fuse_spec.specs.Kernel.{Kernel, is_aborted, advanced, closing_of}
+use Rattle.fuse_spec.specs.Steps.{is_ready}
+use Rattle.fuse_spec.specs.Uniques.{numbers_left_from}
+use Rattle.fuse_spec.specs.Vfs.{CallState, Advance, numbered, begun, asking, answered, no_more}
+use Rattle.fuse_spec.specs.Answers.{Answer}
+use Rattle.fk_kernel.proofs.Phases.{none_past_end}
+use Rattle.fuse_spec.specs.declared.Opened.{Opened}
+use Rattle.fuse_spec.specs.declared.Refusal.{Refusal}
+use Rattle.fuse_spec.specs.declared.Refusal.TheVariants.{NoMemory, NotReady, Full, Exhausted}
+use Rattle.fk_kernel.specs.Refused.{is_past_end, or_no_memory, begin_refusal}
+
+-- one number more is past the end where none is left
+past_end : (unique call : ℕ) → call < 2 ^ 62 → (nat_lt (2 ^ 62) (unique + 2) || nat_lt (2 ^ 62) (call + 1)) ≡ nat_eq ((2 ^ 62 - unique) / 2) 0
+past_end unique call low = grind (arith, nat_tests)
+
+by_tests : (ready full past none : Bool) → ready ≡ true → full ≡ false → past ≡ none
+    → or_no_memory (cond (not ready) (Some NotReady) (cond full (Some Full) (cond past (Some Exhausted) None))) ≡ cond none Exhausted NoMemory
+by_tests ready full true none r f p = rw (r, f, sym p) refl
+by_tests ready full false none r f p = rw (r, f, sym p) refl
+
+unrefused : (ready full past : Bool) → ready ≡ true → full ≡ false → past ≡ false → cond (not ready) (Some NotReady) (cond full (Some Full) (cond past (Some Exhausted) None)) ≡ None
+unrefused ready full past r f p = rw (r, f, p) refl
+
+no_file : (b : Bool) (k : Kernel) → closing_of k (cond b None None) ≡ k
+no_file true k = refl
+no_file false k = refl
+
+module _ (k : Kernel) (path : List ℕ) where
+  pub asks_refusal : (state : CallState Opened) → is_ready k.phase ≡ true → length k.vfs.calls < 64 → k.vfs.next_call < 2 ^ 62 → begun (is_aborted k.phase) k.vfs (call.stat path) ≡ asking (numbered k.vfs) k.vfs.next_call state
+      → or_no_memory (begin_refusal k (call.stat path)) ≡ cond (nat_eq (numbers_left_from k.queues.next) 0) Exhausted NoMemory
+  asks_refusal state ready few low asks =
+      let full : nat_le 64 (length k.vfs.calls) ≡ false = grind (arith, nat_tests, few) in
+      let past = ap is_past_end (no_file (is_aborted k.phase) (advanced k k.vfs.next_call (begun (is_aborted k.phase) k.vfs (call.stat path)))) ∙ ap (λ (a : Advance Opened). is_past_end (advanced k k.vfs.next_call a)) asks ∙ past_end k.queues.next k.vfs.next_call low in
+      by_tests _ _ _ _ ready full past
+
+  pub answered_unrefused : (a : Answer) → is_ready k.phase ≡ true → length k.vfs.calls < 64 → k.vfs.next_call < 2 ^ 62 → k.queues.next ≤ 2 ^ 62
+      → begun (is_aborted k.phase) k.vfs (call.stat path) ≡ no_more (answered (numbered k.vfs) k.vfs.next_call a) → begin_refusal k (call.stat path) ≡ None
+  answered_unrefused a ready few low high ends =
+      let full : nat_le 64 (length k.vfs.calls) ≡ false = grind (arith, nat_tests, few) in
+      let past = ap is_past_end (no_file (is_aborted k.phase) (advanced k k.vfs.next_call (begun (is_aborted k.phase) k.vfs (call.stat path)))) ∙ ap (λ (b : Advance Opened). is_past_end (advanced k k.vfs.next_call b)) ends ∙ none_past_end k.queues.next (k.vfs.next_call + 1) high (omega arith) in
+      unrefused _ _ _ ready full past
+
+pub if_ok : {T : Type 0} (r : Result T Refusal) {X : Type 0} → X → OnOk r X
+if_ok (Ok t) x = x
+if_ok (Err e) x = tt
+
+pub refused_alike : {T : Type 0} (r : Result T Refusal) {a b : Refusal} → a ≡ b → IfErr r (λ refusal. refusal ≡ b) → IfErr r (λ refusal. refusal ≡ a)
+refused_alike (Ok t) same is = tt
+refused_alike (Err e) same is = is ∙ sym same

@@ -1,0 +1,40 @@
+//! Answers that wait to be collected.
+
+ghost use Rattle.std.specs.Prelude.{◌≡◌};
+ghost use Rattle.fk_kernel.specs.Values.{answer_of};
+
+use crate::call::Answer;
+use std::marker::Model;
+
+/// An answer that waits to be collected.
+#[derive(Drop)]
+pub(crate) struct StoredAnswer {
+    answer: Answer,
+}
+
+impl Model for StoredAnswer {
+    ghost use Rattle.std.specs.Coded.{codes};
+    ghost use Rattle.fuse_spec.specs.Answers.{Answer};
+    ghost use Rattle.fk_kernel.specs.Values.{answer_of};
+
+    ghost Value = { Answer };
+
+    ghost coded = { Prim.hlevel (codes) };
+
+    ghost view = { λ a. answer_of a.answer };
+}
+
+impl StoredAnswer {
+    pub(crate) fn new(answer: Answer) -> Self
+        ensures { result ≡ answer_of answer }
+    {
+        StoredAnswer { answer }
+    }
+
+    pub(crate) fn into_answer(self) -> Answer
+        ensures { answer_of result ≡ self }
+    {
+        let StoredAnswer { answer } = self;
+        answer
+    }
+}
