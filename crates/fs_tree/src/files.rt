@@ -100,6 +100,7 @@ impl<A: Allocator + Copy> Files<A> {
     pub(crate) fn remove(&mut self, file: u64)
         ensures { self.new ≡ remove self.old file }
     {
+        // Its length is asked so that the map's order is at hand.
         let _len = self.contents.len();
         let _content = self.contents.remove(&file);
     }

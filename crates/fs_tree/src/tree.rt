@@ -64,6 +64,7 @@ impl<A: Allocator + Copy> Tree<A> {
     pub fn keeps_shape(&self)
         ensures { IsShaped self.now }
     {
+        // A field is touched so that the type's invariant is at hand.
         let _births = self.next_birth;
     }
 
