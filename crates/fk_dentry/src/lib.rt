@@ -9,6 +9,3 @@ mod rows;
 
 pub use bindings::Bindings;
 pub use found::Found;
-
-#[cfg(test)]
-mod tests;

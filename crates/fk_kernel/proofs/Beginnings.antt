@@ -1,13 +1,15 @@
--- Why a call of `stat` is refused, by whether it asks.
-use Rattle.std.proofs.Common.{◌≡◌, ℕ, ◌+◌, ◌<◌, ◌≤◌, ◌^◌, ◌/◌, ◌-◌, Bool, true, false, cond, List, Some, None, Result, Ok, Err, length, nat_eq, refl, ap, sym, ◌∙◌, arith}
+-- Why a call is refused, by whether it asks.
+use Rattle.std.proofs.Common.{◌≡◌, ℕ, ◌+◌, ◌<◌, ◌≤◌, ◌^◌, ◌/◌, ◌-◌, Bool, true, false, cond, Option, Some, None, Result, Ok, Err, length, nat_eq, refl, ap, sym, ◌∙◌, arith}
 use Rattle.std.specs.Prelude.{◌||◌, nat_lt, nat_le, not, IfErr, OnOk}
 use Rattle.std.proofs.lemmas.Bool.Decides.{nat_tests}
-use Rattle.fuse_spec.specs.Calls as call
-use Rattle.fuse_spec.specs.Kernel.{Kernel, is_aborted, advanced, closing_of}
+use Rattle.fuse_spec.specs.Kernel.{Kernel, is_aborted, advanced, closing_of, closed_by, call_begun}
 use Rattle.fuse_spec.specs.Steps.{is_ready}
 use Rattle.fuse_spec.specs.Uniques.{numbers_left_from}
 use Rattle.fuse_spec.specs.Vfs.{CallState, Advance, numbered, begun, asking, answered, no_more}
 use Rattle.fuse_spec.specs.Answers.{Answer}
+use Rattle.fk_syscalls.specs.Values.{call_of}
+use Rattle.fk_syscalls.specs.declared.call.Call.{Call}
+use Rattle.fk_kernel.proofs.CallKinds.{closes_none}
 use Rattle.fk_kernel.proofs.Phases.{none_past_end}
 use Rattle.fuse_spec.specs.declared.Opened.{Opened}
 use Rattle.fuse_spec.specs.declared.Refusal.{Refusal}
@@ -26,23 +28,38 @@ by_tests ready full false none r f p = rw (r, f, sym p) refl
 unrefused : (ready full past : Bool) → ready ≡ true → full ≡ false → past ≡ false → cond (not ready) (Some NotReady) (cond full (Some Full) (cond past (Some Exhausted) None)) ≡ None
 unrefused ready full past r f p = rw (r, f, p) refl
 
-no_file : (b : Bool) (k : Kernel) → closing_of k (cond b None None) ≡ k
-no_file true k = refl
-no_file false k = refl
+no_file : (b : Bool) (k : Kernel) (file : Option (ℕ × Opened)) → file ≡ None → closing_of k (cond b None file) ≡ k
+no_file b k (Some file) none =
+    let no : ◌≡◌ {A = Option (ℕ × Opened)} (Some file) None = none in
+    cc
+no_file true k None none = refl
+no_file false k None none = refl
 
-module _ (k : Kernel) (path : List ℕ) where
-  pub asks_refusal : (state : CallState Opened) → is_ready k.phase ≡ true → length k.vfs.calls < 64 → k.vfs.next_call < 2 ^ 62 → begun (is_aborted k.phase) k.vfs (call.stat path) ≡ asking (numbered k.vfs) k.vfs.next_call state
-      → or_no_memory (begin_refusal k (call.stat path)) ≡ cond (nat_eq (numbers_left_from k.queues.next) 0) Exhausted NoMemory
+module _ (k : Kernel) (made : Call) where
+  -- no file is closed as it begins
+  pub begun_is : call_begun k (call_of made) ≡ advanced k k.vfs.next_call (begun (is_aborted k.phase) k.vfs (call_of made))
+  begun_is = no_file (is_aborted k.phase) (advanced k k.vfs.next_call (begun (is_aborted k.phase) k.vfs (call_of made))) (closed_by k.vfs.opens (call_of made)) (closes_none k.vfs.opens made)
+
+  pub asks_refusal : (state : CallState Opened) → is_ready k.phase ≡ true → length k.vfs.calls < 64 → k.vfs.next_call < 2 ^ 62 → begun (is_aborted k.phase) k.vfs (call_of made) ≡ asking (numbered k.vfs) k.vfs.next_call state
+      → or_no_memory (begin_refusal k (call_of made)) ≡ cond (nat_eq (numbers_left_from k.queues.next) 0) Exhausted NoMemory
   asks_refusal state ready few low asks =
       let full : nat_le 64 (length k.vfs.calls) ≡ false = grind (arith, nat_tests, few) in
-      let past = ap is_past_end (no_file (is_aborted k.phase) (advanced k k.vfs.next_call (begun (is_aborted k.phase) k.vfs (call.stat path)))) ∙ ap (λ (a : Advance Opened). is_past_end (advanced k k.vfs.next_call a)) asks ∙ past_end k.queues.next k.vfs.next_call low in
+      let past = ap is_past_end begun_is ∙ ap (λ (a : Advance Opened). is_past_end (advanced k k.vfs.next_call a)) asks ∙ past_end k.queues.next k.vfs.next_call low in
       by_tests _ _ _ _ ready full past
 
+  pub asks_unrefused : (state : CallState Opened) → is_ready k.phase ≡ true → length k.vfs.calls < 64 → k.vfs.next_call < 2 ^ 62 → begun (is_aborted k.phase) k.vfs (call_of made) ≡ asking (numbered k.vfs) k.vfs.next_call state
+      → 0 < numbers_left_from k.queues.next → begin_refusal k (call_of made) ≡ None
+  asks_unrefused state ready few low asks left =
+      let full : nat_le 64 (length k.vfs.calls) ≡ false = grind (arith, nat_tests, few) in
+      let some : nat_eq (numbers_left_from k.queues.next) 0 ≡ false = grind (arith, nat_tests, left) in
+      let past = ap is_past_end begun_is ∙ ap (λ (a : Advance Opened). is_past_end (advanced k k.vfs.next_call a)) asks ∙ past_end k.queues.next k.vfs.next_call low ∙ some in
+      unrefused _ _ _ ready full past
+
   pub answered_unrefused : (a : Answer) → is_ready k.phase ≡ true → length k.vfs.calls < 64 → k.vfs.next_call < 2 ^ 62 → k.queues.next ≤ 2 ^ 62
-      → begun (is_aborted k.phase) k.vfs (call.stat path) ≡ no_more (answered (numbered k.vfs) k.vfs.next_call a) → begin_refusal k (call.stat path) ≡ None
+      → begun (is_aborted k.phase) k.vfs (call_of made) ≡ no_more (answered (numbered k.vfs) k.vfs.next_call a) → begin_refusal k (call_of made) ≡ None
   answered_unrefused a ready few low high ends =
       let full : nat_le 64 (length k.vfs.calls) ≡ false = grind (arith, nat_tests, few) in
-      let past = ap is_past_end (no_file (is_aborted k.phase) (advanced k k.vfs.next_call (begun (is_aborted k.phase) k.vfs (call.stat path)))) ∙ ap (λ (b : Advance Opened). is_past_end (advanced k k.vfs.next_call b)) ends ∙ none_past_end k.queues.next (k.vfs.next_call + 1) high (omega arith) in
+      let past = ap is_past_end begun_is ∙ ap (λ (b : Advance Opened). is_past_end (advanced k k.vfs.next_call b)) ends ∙ none_past_end k.queues.next (k.vfs.next_call + 1) high (omega arith) in
       unrefused _ _ _ ready full past
 
 pub if_ok : {T : Type 0} (r : Result T Refusal) {X : Type 0} → X → OnOk r X

@@ -1,6 +1,6 @@
 pub mod Sound
 pub mod Requests
-pub mod Stats
+pub mod CallKinds
 pub mod Beginnings
 pub mod Phases
 pub mod Sayings
@@ -8,3 +8,11 @@ pub mod ReplyCases
 pub mod Replied
 pub mod Heads
 pub mod Taken
+pub mod Counts
+pub mod Nodes
+pub mod First
+pub mod Dropped
+pub mod Evicted
+pub mod Named
+pub mod EntryReplies
+pub mod Walking

@@ -13,7 +13,7 @@ use Rattle.fuse_spec.specs.Operations as reply
 use Rattle.fuse_spec.specs.Replies.{is_agreement}
 use Rattle.fuse_frames.specs.ReplyTies.{wire_said, wire_body}
 use Rattle.fk_kernel.specs.Said.{Says}
-use Rattle.fk_kernel.specs.ReplyCases.{IsLookupReply, lookup_failed, lookup_missing, lookup_found, IsGetattrReply, getattr_failed, getattr_attributes, IsInitReply, init_failed, init_agreed, init_other, IsInterruptReply, interrupt_failed, interrupt_done}
+use Rattle.fk_kernel.specs.ReplyCases.{IsLookupReply, lookup_failed, lookup_missing, lookup_found, IsMkdirReply, mkdir_failed, mkdir_missing, mkdir_found, IsGetattrReply, getattr_failed, getattr_attributes, IsInitReply, init_failed, init_agreed, init_other, IsInterruptReply, interrupt_failed, interrupt_done}
 
 above_zero : (n : ℕ) → pos (suc n) ≤ℤ pos 0 → ⊥
 above_zero n h = omega (arith, ints)
@@ -34,6 +34,11 @@ lookup_body : (content : ReplyContent) → reply_kind served op.Lookup ≡ Some 
 lookup_body (entry_reply (missing seconds nanoseconds)) is = lookup_missing _
 lookup_body (entry_reply (found nodeid generation seconds nanoseconds a)) is = lookup_found _ _
 lookup_body content is = cc
+
+mkdir_body : (content : ReplyContent) → reply_kind served op.Mkdir ≡ Some (kind_of_content content) → IsMkdirReply (wire_body content)
+mkdir_body (entry_reply (missing seconds nanoseconds)) is = mkdir_missing _
+mkdir_body (entry_reply (found nodeid generation seconds nanoseconds a)) is = mkdir_found _ _
+mkdir_body content is = cc
 
 getattr_body : (content : ReplyContent) → reply_kind served op.Getattr ≡ Some (kind_of_content content) → IsGetattrReply (wire_body content)
 getattr_body (attr_reply a) is = getattr_attributes _
@@ -59,6 +64,9 @@ interrupt_body content is = cc
 
 pub says_to_lookup : (bytes : List ℕ) (wire : WireReply) → Says op.Lookup bytes wire → IsLookupReply wire
 says_to_lookup = of_opcode op.Lookup IsLookupReply lookup_failed lookup_body
+
+pub says_to_mkdir : (bytes : List ℕ) (wire : WireReply) → Says op.Mkdir bytes wire → IsMkdirReply wire
+says_to_mkdir = of_opcode op.Mkdir IsMkdirReply mkdir_failed mkdir_body
 
 pub says_to_getattr : (bytes : List ℕ) (wire : WireReply) → Says op.Getattr bytes wire → IsGetattrReply wire
 says_to_getattr = of_opcode op.Getattr IsGetattrReply getattr_failed getattr_body

@@ -37,16 +37,17 @@ says_read o bytes r wire spells e = record { unique = r.unique; says = record { 
 pub says_one : (o : Opcode) (bytes : List ℕ) (wire other : WireReply) → Says o bytes wire → Says o bytes other → wire ≡ other
 says_one o bytes wire other a b = sym (one_reply o bytes a.unique wire a.says).0 ∙ (one_reply o bytes b.unique other b.says).0
 
--- What an entry says: with node id 0 the name is missing.
-module _ (z : ℤ) (body : ReplyBody) (e : Entry) (no_error : z ≡ pos 0) (is_entry : body ≡ view.Entry e) where
-  says_entry : wire_said z (reply_content body) ≡ wire_body (entry_reply (entry_content e))
-  says_entry = ap (λ (n : ℤ). wire_said n (reply_content body)) no_error ∙ ap (λ (b : ReplyBody). wire_body (reply_content b)) is_entry
+-- What an entry says.
+pub says_entry : (z : ℤ) (body : ReplyBody) (e : Entry) → z ≡ pos 0 → body ≡ view.Entry e → wire_said z (reply_content body) ≡ wire_body (entry_reply (entry_content e))
+says_entry z body e no_error is_entry = ap (λ (n : ℤ). wire_said n (reply_content body)) no_error ∙ ap (λ (b : ReplyBody). wire_body (reply_content b)) is_entry
 
+-- With node id 0 the name is missing.
+module _ (e : Entry) where
   abbrev content_by : Bool → EntryContent
   content_by b = if b then missing e.entry_valid e.entry_valid_nsec else found e.nodeid e.generation e.entry_valid e.entry_valid_nsec e.attr
 
-  pub says_missing : e.nodeid ≡ 0 → wire_said z (reply_content body) ≡ reply.missing (milliseconds e.entry_valid e.entry_valid_nsec)
-  says_missing is = says_entry ∙ elim (eqb_tells e.nodeid 0) [ inl h ↦ ap (λ (b : Bool). wire_body (entry_reply (content_by b))) h.0 | inr h ↦ absurd (h.1 is) ]
+  pub entry_missing : e.nodeid ≡ 0 → wire_body (entry_reply (entry_content e)) ≡ reply.missing (milliseconds e.entry_valid e.entry_valid_nsec)
+  entry_missing is = elim (eqb_tells e.nodeid 0) [ inl h ↦ ap (λ (b : Bool). wire_body (entry_reply (content_by b))) h.0 | inr h ↦ absurd (h.1 is) ]
 
-  pub says_found : e.nodeid ≢ 0 → wire_said z (reply_content body) ≡ reply.found (entry_in e.nodeid e.generation e.attr) (milliseconds e.entry_valid e.entry_valid_nsec)
-  says_found is = says_entry ∙ elim (eqb_tells e.nodeid 0) [ inl h ↦ absurd (is h.1) | inr h ↦ ap (λ (b : Bool). wire_body (entry_reply (content_by b))) h.0 ]
+  pub entry_found : e.nodeid ≢ 0 → wire_body (entry_reply (entry_content e)) ≡ reply.found (entry_in e.nodeid e.generation e.attr) (milliseconds e.entry_valid e.entry_valid_nsec)
+  entry_found is = elim (eqb_tells e.nodeid 0) [ inl h ↦ absurd (is h.1) | inr h ↦ ap (λ (b : Bool). wire_body (entry_reply (content_by b))) h.0 ]

@@ -11,7 +11,7 @@ use Rattle.fuse_spec.proofs.Tables.{cmp_same, tie_no, get_put_there, get_gone_he
 use Rattle.fk_kernel.specs.Soundness.{IsSound}
 
 module _ {V : Type 0} where
-  length_put : (m : Map V) (k : ℕ) (v : V) → length (put m k v) ≤ length m + 1
+  pub length_put : (m : Map V) (k : ℕ) (v : V) → length (put m k v) ≤ length m + 1
   length_put [] k v = omega arith
   length_put (e ∷ m) k v =
       let rest = length_put m k v in
@@ -27,7 +27,7 @@ module _ {V : Type 0} where
   gone_none m k q none =
       elim (cases_eq q k) [ inl e ↦ subst (λ (n : ℕ). get (remove m k) n ≡ None) (sym e) (get_gone_here m k) | inr ne ↦ get_gone_there m k q ne ∙ none ]
 
-  length_gone : (m : Map V) (k : ℕ) → get m k ≢ None → length (remove m k) + 1 ≤ length m
+  pub length_gone : (m : Map V) (k : ℕ) → get m k ≢ None → length (remove m k) + 1 ≤ length m
   length_gone [] k there = absurd (there refl)
   length_gone (e ∷ m) k there =
       let kept = length_kept m k in
@@ -103,6 +103,18 @@ module _ {V W : Type 0} (calls : Map V) (answers : Map W) (free coming : ℕ) (o
         calls_below = λ n le. gone_none calls call n (old.calls_below n le);
         answers_below = λ n le. get_put_there answers call w n (λ e. there (old.calls_below call (omega arith))) ∙ old.answers_below n le;
         apart = λ n still. elim (cases_eq n call) [ inl e ↦ absurd (still (subst (λ (m : ℕ). get (remove calls call) m ≡ None) (sym e) (get_gone_here calls call))) | inr ne ↦ get_put_there answers call w n ne ∙ old.apart n (λ none. still (gone_none calls call n none)) ];
+        room = omega arith;
+        next = old.next;
+      }
+
+  -- a call that is there waits for something else
+  pub sound_walks : (call : ℕ) (v : V) → get calls call ≢ None → length (put calls call v) ≡ length calls → IsSound (put calls call v) answers free coming
+  sound_walks call v there same =
+      let fits = old.room in
+      record {
+        calls_below = λ n le. get_put_there calls call v n (λ e. there (old.calls_below call (omega arith))) ∙ old.calls_below n le;
+        answers_below = old.answers_below;
+        apart = λ n still. elim (cases_eq n call) [ inl e ↦ old.apart n (λ none. there (ap (λ (m : ℕ). get calls m) (sym e) ∙ none)) | inr ne ↦ old.apart n (λ none. still (get_put_there calls call v n ne ∙ none)) ];
         room = omega arith;
         next = old.next;
       }

@@ -1,5 +1,7 @@
-pub mod Values
+pub mod Counts
 pub mod Soundness
 pub mod Refused
 pub mod Said
 pub mod ReplyCases
+pub mod RefusedUpkeep
+pub mod Entries

@@ -1,9 +1,13 @@
 -- Which refusal each call of the kernel gets. The refusals stand in the order in which they are judged; want of memory comes last.
-use Rattle.std.specs.Prelude.{◌≡◌, ℕ, Bool, ◌||◌, cond, not, Option, Some, None, length, nat_eq, nat_lt, nat_le}
+use Rattle.std.specs.Prelude.{◌≡◌, ℕ, List, Bool, true, ◌||◌, cond, not, Option, Some, None, length, nat_eq, nat_lt, nat_le}
 use Rattle.fuse_spec.specs.Numbers.{max_calls, counter_end}
 use Rattle.fuse_spec.specs.Calls.{Call}
 use Rattle.fuse_spec.specs.Kernel.{Kernel, is_live, body_of, call_begun}
-use Rattle.fuse_spec.specs.Messages.{Request, RequestBody}
+use Rattle.fk_wire.specs.declared.opcode.Opcode.{Opcode}
+use Rattle.fuse_spec.specs.Operations as operation
+use Rattle.fuse_spec.specs.Messages.{Request, RequestBody, init, asks, WireReply}
+use Rattle.fuse_spec.specs.Replies.{reply_written}
+use Rattle.fk_kernel.specs.Said.{Awaited, reply_to, awaited, head_unique, IsJudged, Says}
 use Rattle.fuse_spec.specs.QueueCalls.{pending_at}
 use Rattle.fuse_spec.specs.Steps.{is_ready, is_busy}
 use Rattle.fuse_spec.specs.declared.Purpose.{Purpose}
@@ -43,8 +47,34 @@ read_refusal k place =
     cond (not (is_live k.phase)) (Some NotReady)
     (cond (not (nat_eq (length k.queues.interrupts) 0)) (Some InterruptFirst) (place_refusal k (pending_at k.queues place)))
 
+-- What requests ask so far: no file is open, and calls are of `stat` and `mkdir`.
+abbrev pub IsAskedSoFar : RequestBody → Type 0
+IsAskedSoFar init = Unit {0}
+IsAskedSoFar (asks (operation.lookup directory name)) = Unit {0}
+IsAskedSoFar (asks (operation.getattr node)) = Unit {0}
+IsAskedSoFar (asks (operation.mkdir directory name)) = Unit {0}
+IsAskedSoFar body = ⊥
+
 -- the request that is pending at a place, and what it asks
 pub record IsPendingRequest (k : Kernel) (place : ℕ) (request : Request) : Type 0 where
   pub purpose : Purpose
   pub pending : pending_at k.queues place ≡ Some (request.unique, purpose)
   pub body : body_of k purpose ≡ Some request.body
+
+-- What the bytes say to what awaits them would have queued a request for which no number is left.
+pub record PassesEnd (k : Kernel) (unique : ℕ) (bytes : List ℕ) (awaiting : Awaited) : Type 0 where
+  pub opcode : Opcode
+  pub judged : IsJudged opcode
+  pub awaits : awaiting ≡ reply_to opcode
+  pub wire : WireReply
+  pub says : Says opcode bytes wire
+  pub past : is_past_end (reply_written k unique wire).1 ≡ true
+
+-- Why bytes under a unique are refused, by what awaits a reply under it.
+pub data IsWriteRefusal (k : Kernel) (unique : ℕ) (bytes : List ℕ) (awaiting : Awaited) : Refusal → Type 0 where
+  no_memory : IsWriteRefusal k unique bytes awaiting NoMemory
+  exhausted : PassesEnd k unique bytes awaiting → IsWriteRefusal k unique bytes awaiting Exhausted
+
+-- Why bytes are refused: want of memory, or want of a number.
+abbrev pub WriteRefused : Kernel → List ℕ → Refusal → Type 0
+WriteRefused k bytes = IsWriteRefusal k (head_unique bytes) bytes (awaited k (head_unique bytes))

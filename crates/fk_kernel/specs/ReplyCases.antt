@@ -12,6 +12,12 @@ pub data IsLookupReply : WireReply → Type 0 where
   lookup_missing : (valid : ℕ) → IsLookupReply (reply.missing valid)
   lookup_found : (entry : Entry) (valid : ℕ) → IsLookupReply (reply.found entry valid)
 
+-- To a MKDIR: an error, the node of the new directory, or an entry that names no node, which no MKDIR may give.
+pub data IsMkdirReply : WireReply → Type 0 where
+  mkdir_failed : (errno : ℕ) → IsMkdirReply (reply.failed errno)
+  mkdir_missing : (valid : ℕ) → IsMkdirReply (reply.missing valid)
+  mkdir_found : (entry : Entry) (valid : ℕ) → IsMkdirReply (reply.found entry valid)
+
 -- To a GETATTR: an error, or attributes.
 pub data IsGetattrReply : WireReply → Type 0 where
   getattr_failed : (errno : ℕ) → IsGetattrReply (reply.failed errno)

@@ -5,11 +5,11 @@ use Rattle.fk_wire.specs.declared.opcode.Opcode.TheVariants as op
 use Rattle.fk_wire.specs.Fields.{number_at}
 use Rattle.fk_wire.specs.ReplyFaults.{HasReplyLength, HasError}
 use Rattle.fuse_spec.specs.declared.Opened.{Opened}
-use Rattle.fuse_spec.specs.declared.Entry.{Entry}
 use Rattle.fuse_spec.specs.declared.Purpose.{Purpose}
 use Rattle.fuse_spec.specs.declared.Purpose.TheVariants.{Init, Release, Call}
 use Rattle.fuse_spec.specs.Operations.{Operation, lookup, getattr, mkdir, create, unlink, rmdir, rename, link, opening, readdir, read, write}
 use Rattle.fuse_spec.specs.Operations as reply
+use Rattle.fuse_spec.specs.Numbers.{max_validity}
 use Rattle.fuse_spec.specs.Messages.{WireReply}
 use Rattle.fuse_spec.specs.Maps.{get}
 use Rattle.fuse_spec.specs.Vfs.{CallState, asked}
@@ -25,8 +25,8 @@ use Rattle.fk_kernel.specs.declared.said.InterruptSaid.{InterruptSaid}
 use Rattle.fk_kernel.specs.declared.said.InterruptSaid.TheVariants as interrupt_said
 use Rattle.fk_kernel.specs.declared.said.GetattrSaid.{GetattrSaid}
 use Rattle.fk_kernel.specs.declared.said.GetattrSaid.TheVariants as getattr_said
-use Rattle.fk_kernel.specs.declared.said.LookupSaid.{LookupSaid}
-use Rattle.fk_kernel.specs.declared.said.LookupSaid.TheVariants as lookup_said
+use Rattle.fk_kernel.specs.declared.said.EntrySaid.{EntrySaid}
+use Rattle.fk_kernel.specs.declared.said.EntrySaid.TheVariants as entry_said
 
 -- The bytes have the head of a reply: they are as many as it says, and its error is in range.
 abbrev pub HasReplyHead : List ℕ → Type 0
@@ -58,10 +58,21 @@ abbrev pub SaysToGetattr : List ℕ → GetattrSaid → Type 0
 SaysToGetattr bytes (getattr_said.Failed errno) = Says op.Getattr bytes (reply.failed errno)
 SaysToGetattr bytes (getattr_said.Attributes attributes) = Says op.Getattr bytes (reply.attributes attributes)
 
-abbrev pub SaysToLookup : List ℕ → LookupSaid → Type 0
-SaysToLookup bytes (lookup_said.Failed errno) = Says op.Lookup bytes (reply.failed errno)
-SaysToLookup bytes (lookup_said.Missing valid) = Says op.Lookup bytes (reply.missing valid)
-SaysToLookup bytes lookup_said.Found = (entry : Entry) × (valid : ℕ) × Says op.Lookup bytes (reply.found entry valid)
+-- what a reply with an entry says
+abbrev pub entry_wire : EntrySaid → WireReply
+entry_wire (entry_said.Failed errno) = reply.failed errno
+entry_wire (entry_said.Missing valid) = reply.missing valid
+entry_wire (entry_said.Found entry valid) = reply.found entry valid
+
+-- a name is valid for a day at most
+abbrev pub IsValidADay : EntrySaid → Type 0
+IsValidADay (entry_said.Failed errno) = Unit {0}
+IsValidADay (entry_said.Missing valid) = valid ≤ max_validity
+IsValidADay (entry_said.Found entry valid) = valid ≤ max_validity
+
+pub record SaysEntry (o : Opcode) (bytes : List ℕ) (said : EntrySaid) : Type 0 where
+  pub says : Says o bytes (entry_wire said)
+  pub day : IsValidADay said
 
 -- the opcode of the request that asks an operation
 abbrev pub opcode_of : Operation ℕ Opened → Opcode
@@ -105,30 +116,28 @@ awaited k unique = cond (nat_eq (unique % 2) 1) (awaited_by_interrupt (waiting k
 abbrev pub wrong_body : WireReply
 wrong_body = reply.agreed 0 0
 
--- The kinds that await a reply so far: no file is opened, and a call asks a LOOKUP or a GETATTR alone.
+-- The kinds of request whose replies are judged as the machine judges them.
+abbrev pub IsJudged : Opcode → Type 0
+IsJudged op.Lookup = Unit {0}
+IsJudged op.Getattr = Unit {0}
+IsJudged op.Mkdir = Unit {0}
+IsJudged op.Interrupt = Unit {0}
+IsJudged o = ⊥
+
+-- The kinds that await a reply so far: no file is opened, and a call asks a LOOKUP, a GETATTR or a MKDIR alone.
 abbrev pub IsAwaited : Awaited → Type 0
 IsAwaited nothing = Unit {0}
 IsAwaited gone = Unit {0}
 IsAwaited (reply_to op.Init) = Unit {0}
-IsAwaited (reply_to op.Lookup) = Unit {0}
-IsAwaited (reply_to op.Getattr) = Unit {0}
-IsAwaited (reply_to op.Interrupt) = Unit {0}
-IsAwaited awaits = ⊥
+IsAwaited (reply_to o) = IsJudged o
 
--- What becomes of a reply with a head, by what awaits it. Two kinds of reply are put off so far: one to a LOOKUP that names a node,
--- and one to INIT that is no agreement. They are refused, and change nothing.
+-- What becomes of a reply with a head, by what awaits it. One to INIT that is no agreement is put off so far: it is refused, and changes nothing.
 pub record IsTaken (k : Kernel) (unique : ℕ) (bytes : List ℕ) (awaits : Awaited) (result : WriteResult) (after : Kernel) : Type 0 where
   pub kinds : IsAwaited awaits
   -- the call is not unanswered: the request just ends
   pub gone : awaits ≡ gone → (result ≡ Accepted) × (after ≡ record k { queues = without k.queues unique })
-  pub getattr : awaits ≡ reply_to op.Getattr → (wire : WireReply) → Says op.Getattr bytes wire → reply_written k unique wire ≡ (result, after)
-  pub no_getattr : awaits ≡ reply_to op.Getattr → SaysNothing op.Getattr bytes → reply_written k unique wrong_body ≡ (result, after)
-  pub failed : awaits ≡ reply_to op.Lookup → (errno : ℕ) → Says op.Lookup bytes (reply.failed errno) → reply_written k unique (reply.failed errno) ≡ (result, after)
-  pub missing : awaits ≡ reply_to op.Lookup → (valid : ℕ) → Says op.Lookup bytes (reply.missing valid) → reply_written k unique (reply.missing valid) ≡ (result, after)
-  pub found : awaits ≡ reply_to op.Lookup → (entry : Entry) (valid : ℕ) → Says op.Lookup bytes (reply.found entry valid) → (result ≡ Invalid) × (after ≡ k)
-  pub no_lookup : awaits ≡ reply_to op.Lookup → SaysNothing op.Lookup bytes → reply_written k unique wrong_body ≡ (result, after)
+  pub said : (o : Opcode) → IsJudged o → awaits ≡ reply_to o → (wire : WireReply) → Says o bytes wire → reply_written k unique wire ≡ (result, after)
+  pub unsaid : (o : Opcode) → IsJudged o → awaits ≡ reply_to o → SaysNothing o bytes → reply_written k unique wrong_body ≡ (result, after)
   pub init : awaits ≡ reply_to op.Init → (minor : ℕ) → 31 ≤ minor → Says op.Init bytes (reply.agreed 7 minor) → reply_written k unique (reply.agreed 7 minor) ≡ (result, after)
   pub init_refused : awaits ≡ reply_to op.Init → (wire : WireReply) → is_agreement wire ≡ false → Says op.Init bytes wire → (result ≡ Invalid) × (after ≡ k)
   pub no_init : awaits ≡ reply_to op.Init → SaysNothing op.Init bytes → (result ≡ Invalid) × (after ≡ k)
-  pub interrupt : awaits ≡ reply_to op.Interrupt → (wire : WireReply) → Says op.Interrupt bytes wire → reply_written k unique wire ≡ (result, after)
-  pub no_interrupt : awaits ≡ reply_to op.Interrupt → SaysNothing op.Interrupt bytes → reply_written k unique wrong_body ≡ (result, after)

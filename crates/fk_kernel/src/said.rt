@@ -2,16 +2,17 @@
 
 ghost use Rattle.std.specs.Prelude.{◌≡◌, ℕ, List, pos, MatchOption};
 ghost use Rattle.fk_wire.specs.declared.opcode.Opcode.TheVariants as op;
-ghost use Rattle.fk_wire.specs.Replies.{ReplyContent, IsErrorNumber};
+ghost use Rattle.fk_wire.specs.Replies.{ReplyContent, entry_reply, IsErrorNumber};
+ghost use Rattle.fk_wire.specs.Entries.{entry_content};
 ghost use Rattle.fuse_spec.specs.Messages.{WireReply};
 ghost use Rattle.fuse_spec.specs.Operations as reply;
-ghost use Rattle.fuse_frames.specs.ReplyTies.{wire_said};
-ghost use Rattle.fk_kernel.specs.ReplyCases.{IsLookupReply, IsGetattrReply, IsInitReply, IsInterruptReply};
-ghost use Rattle.fk_kernel.specs.Said.{Says, SaysNothing, SaysToInit, SaysToInterrupt, SaysToGetattr, SaysToLookup};
+ghost use Rattle.fuse_frames.specs.ReplyTies.{wire_said, wire_body};
+ghost use Rattle.fk_kernel.specs.ReplyCases.{IsLookupReply, IsMkdirReply, IsGetattrReply, IsInitReply, IsInterruptReply};
+ghost use Rattle.fk_kernel.specs.Said.{Says, SaysNothing, SaysToInit, SaysToInterrupt, SaysToGetattr, SaysEntry, IsValidADay, entry_wire};
 
 use fk_wire::{Opcode, ReplyBody, read_reply};
 use fuse_frames::{attributes_of, milliseconds};
-use fuse_spec::Attributes;
+use fuse_spec::{Attributes, Entry};
 
 /// What a reply to INIT says.
 #[derive(Drop)]
@@ -33,13 +34,14 @@ pub(crate) enum GetattrSaid {
     Attributes(Attributes),
 }
 
-/// What a reply to a LOOKUP says.
-pub(crate) enum LookupSaid {
+/// What a reply with an entry says: to a LOOKUP or a MKDIR.
+#[derive(Clone, Copy)]
+pub(crate) enum EntrySaid {
     Failed { errno: u32 },
     /// The name is missing for so many milliseconds.
     Missing { valid_ms: u64 },
-    /// The name leads to a node.
-    Found,
+    /// The name leads to a file for so many milliseconds.
+    Found { entry: Entry, valid_ms: u64 },
 }
 
 /// The error number that stands in a reply, if it is not 0.
@@ -101,30 +103,59 @@ pub(crate) fn said_to_getattr(bytes: &[u8]) -> Option<GetattrSaid>
     Some(GetattrSaid::Attributes(attributes_of(&attr)))
 }
 
+/// What an entry says: with node id 0 the name is missing.
+fn said_by_entry(entry: &fk_wire::Entry) -> EntrySaid
+    ensures wire { wire_body (entry_reply (entry_content entry.now)) ≡ entry_wire result }
+    ensures day { IsValidADay result }
+{
+    let valid_ms = milliseconds(entry.entry_valid, entry.entry_valid_nsec);
+    if entry.nodeid == 0 {
+        return EntrySaid::Missing { valid_ms };
+    }
+    let entry = Entry {
+        nodeid: entry.nodeid,
+        generation: entry.generation,
+        attributes: attributes_of(&entry.attr),
+    };
+    EntrySaid::Found { entry, valid_ms }
+}
+
 /// What the bytes say to a LOOKUP, if they are a reply to it.
-pub(crate) fn said_to_lookup(bytes: &[u8]) -> Option<LookupSaid>
-    ensures { MatchOption result (SaysNothing op.Lookup bytes.now) (SaysToLookup bytes.now) }
+pub(crate) fn said_to_lookup(bytes: &[u8]) -> Option<EntrySaid>
+    ensures { MatchOption result (SaysNothing op.Lookup bytes.now) (SaysEntry op.Lookup bytes.now) }
 {
     let Ok(reply) = read_reply(Opcode::Lookup, bytes) else {
         return None;
     };
     if let Some(errno) = failure(reply.error) {
-        return Some(LookupSaid::Failed { errno });
+        return Some(EntrySaid::Failed { errno });
     }
     let ReplyBody::Entry { entry } = reply.body else {
         return None;
     };
-    if entry.nodeid != 0 {
-        return Some(LookupSaid::Found);
+    Some(said_by_entry(&entry))
+}
+
+/// What the bytes say to a MKDIR, if they are a reply to it.
+pub(crate) fn said_to_mkdir(bytes: &[u8]) -> Option<EntrySaid>
+    ensures { MatchOption result (SaysNothing op.Mkdir bytes.now) (SaysEntry op.Mkdir bytes.now) }
+{
+    let Ok(reply) = read_reply(Opcode::Mkdir, bytes) else {
+        return None;
+    };
+    if let Some(errno) = failure(reply.error) {
+        return Some(EntrySaid::Failed { errno });
     }
-    Some(LookupSaid::Missing {
-        valid_ms: milliseconds(entry.entry_valid, entry.entry_valid_nsec),
-    })
+    let ReplyBody::Entry { entry } = reply.body else {
+        return None;
+    };
+    Some(said_by_entry(&entry))
 }
 
 /// Bytes that are a reply to a request of the kernel say one of these to it. The function does nothing: its contract is a law.
 pub fn reply_cases()
     ensures lookup { (bytes : List ℕ) (wire : WireReply) → Says op.Lookup bytes wire → IsLookupReply wire }
+    ensures mkdir { (bytes : List ℕ) (wire : WireReply) → Says op.Mkdir bytes wire → IsMkdirReply wire }
     ensures getattr { (bytes : List ℕ) (wire : WireReply) → Says op.Getattr bytes wire → IsGetattrReply wire }
     ensures init { (bytes : List ℕ) (wire : WireReply) → Says op.Init bytes wire → IsInitReply wire }
     ensures interrupt { (bytes : List ℕ) (wire : WireReply) → Says op.Interrupt bytes wire → IsInterruptReply wire }

@@ -1,9 +1,9 @@
 //! Answers that wait to be collected.
 
 ghost use Rattle.std.specs.Prelude.{◌≡◌};
-ghost use Rattle.fk_kernel.specs.Values.{answer_of};
+ghost use Rattle.fk_syscalls.specs.Values.{answer_of};
 
-use crate::call::Answer;
+use fk_syscalls::Answer;
 use std::marker::Model;
 
 /// An answer that waits to be collected.
@@ -15,7 +15,7 @@ pub(crate) struct StoredAnswer {
 impl Model for StoredAnswer {
     ghost use Rattle.std.specs.Coded.{codes};
     ghost use Rattle.fuse_spec.specs.Answers.{Answer};
-    ghost use Rattle.fk_kernel.specs.Values.{answer_of};
+    ghost use Rattle.fk_syscalls.specs.Values.{answer_of};
 
     ghost Value = { Answer };
 

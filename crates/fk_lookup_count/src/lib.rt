@@ -26,6 +26,3 @@ pub type KernelNodes<A = Global> = CountsOf<KernelSlots<A>>;
 
 /// The plain table: rows in rising id.
 pub type ListCounts<A = Global> = CountsOf<ListSlots<A>>;
-
-#[cfg(test)]
-mod tests;

@@ -3,6 +3,7 @@
 
 mod beginning;
 mod call;
+mod new_name;
 mod path;
 mod state;
 mod walk;
@@ -10,7 +11,5 @@ mod words;
 
 pub use beginning::begin;
 pub use call::{Answer, Asked, Call};
+pub use new_name::NewName;
 pub use state::{CallState, Next};
-
-#[cfg(test)]
-mod tests;

@@ -1,6 +1,6 @@
 //! Unanswered calls.
 
-ghost use Rattle.std.specs.Prelude.{◌≡◌, ℕ, List, IfOk, nat_eq};
+ghost use Rattle.std.specs.Prelude.{◌≡◌, ℕ, List, IfOk, is_some, nat_eq};
 ghost use Rattle.std.specs.List.{list_any};
 ghost use Rattle.fuse_spec.specs.Kernel.{nodes_of_state};
 ghost use Rattle.fuse_spec.specs.Paths.{Name};
@@ -9,9 +9,11 @@ ghost use Rattle.fuse_spec.specs.Walks.{WalkPlan};
 ghost use Rattle.fuse_spec.specs.declared.Opened.{Opened};
 ghost use Rattle.fk_syscalls.specs.Words.{words_from};
 ghost use Rattle.fk_syscalls.specs.States.{final_of, final_lent, state_of, IsSoundCall, HasNames};
+ghost use Rattle.fk_syscalls.specs.NewNames.{with_name};
 ghost use Rattle.fk_syscalls.specs.Values.{operation_of, AsksWord, comes_to};
 
 use crate::call::Asked;
+use crate::new_name::{NewName, walk_past};
 use crate::walk::walk;
 use crate::words::{next_place, word_at};
 use fk_dentry::Bindings;
@@ -132,6 +134,17 @@ impl<A: Allocator + Copy> CallState<A> {
                 operation,
             }),
             None => Next::Answered { errno: ENOENT },
+        }
+    }
+
+    /// Whether it would ask anew, were the word that it asked for bound so and found.
+    pub fn would_ask(&self, names: &Bindings<A>, clock: u64, new: &NewName<'_>) -> bool
+        ensures { (c : Vfs Opened) (call directory : ℕ) (word : Name) (words : List Name) (plan : WalkPlan ℕ) → HasNames c (with_name names.now.names new.now) clock → self.now ≡ walking directory word words plan → is_some (walks_on c call new.now.node words plan).operation ≡ result }
+    {
+        let next = next_place(&self.words, self.at);
+        match walk_past(names, new, clock, &self.words, next) {
+            Some(_) => true,
+            None => false,
         }
     }
 

@@ -6,6 +6,3 @@ mod open_file;
 
 pub use handle_table::{HandleTable, LIMIT};
 pub use open_file::OpenFile;
-
-#[cfg(test)]
-mod tests;

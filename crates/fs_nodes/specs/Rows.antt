@@ -4,6 +4,11 @@ use Rattle.fuse_spec.specs.Maps.{Map, get}
 use Rattle.fuse_spec.specs.Nodes.{HeldNode, NodeTable}
 use Rattle.fs_nodes.specs.declared.stored_node.StoredNode.{StoredNode}
 
+-- the nodes, and how many more files can be given a nodeid with no memory
+pub record NodesState : Type 0 where
+  pub table : NodeTable
+  pub room : ℕ
+
 -- what the definitions see of what is kept under a nodeid
 abbrev pub node_of : StoredNode → HeldNode
 node_of kept = record { file = kept.file; generation = kept.generation; count = kept.count }

@@ -1,5 +1,5 @@
 -- What is true of held nodes after any calls.
-use Rattle.std.specs.Prelude.{◌≡◌, ◌<◌, ◌≤◌, ℕ, Some, IsTrue}
+use Rattle.std.specs.Prelude.{◌≡◌, ◌<◌, ◌≤◌, ◌^◌, ℕ, Some, IsTrue}
 use Rattle.std.specs.Ordering.{nat_cmp}
 use Rattle.std.specs.FinMap.{is_sorted}
 use Rattle.fuse_spec.specs.Maps.{get}
@@ -12,3 +12,8 @@ pub record IsSound (t : NodeTable) : Type 0 where
   pub one_each : (id other : ℕ) (row same : HeldNode) → get t.rows id ≡ Some row → get t.rows other ≡ Some same → row.file ≡ same.file → id ≡ other
   pub counted : (id : ℕ) (row : HeldNode) → get t.rows id ≡ Some row → 0 < row.count
   pub given_before : (id : ℕ) (row : HeldNode) → get t.rows id ≡ Some row → row.generation < t.next_generation
+
+-- Those nodes, whose generations stay within their range.
+pub record IsKept (t : NodeTable) : Type 0 where
+  pub limit : t.next_generation ≤ 2 ^ 62
+  pub sound : IsSound t

@@ -105,5 +105,6 @@ pub trait NodeStore {
         ensures { IfOk result (λ nodes. nodes.items ≡ listed (table self.now).rows) };
 
     /// Nodeids rise from 2, no two have one file, each has a lookup, and its generation was given before the coming one.
-    ghost sound: { (s : Self) → IsSound (table s) };
+    fn keeps_sound(&self)
+        ensures { IsSound (table self.now) };
 }

@@ -1,28 +1,39 @@
 //! The calls of the table, over any representation of its rows.
-ghost use Rattle.std.specs.Prelude.{◌≤◌, ◌^◌};
-ghost use Rattle.fs_nodes.specs.Sound.{IsSound};
 
 use crate::node_rows::NodeRows;
 use crate::node_store::{LIMIT, NodeStore};
 use crate::stored_node::StoredNode;
 use crate::too_many::TooMany;
 use std::alloc::AllocError;
+use std::marker::Model;
 
 /// Held nodes, and the generation that is given next.
 #[derive(Drop)]
 pub struct NodesOf<R: NodeRows> {
     rows: R,
     next: u64,
-    ghost limit: { next ≤ 2 ^ 62 },
-    ghost sound: { IsSound (record { rows = R.rows rows; next_generation = next }) },
+}
+
+impl<R: NodeRows> Model for NodesOf<R> {
+    ghost use Rattle.std.specs.Coded.{codes};
+    ghost use Rattle.fs_nodes.specs.Rows.{NodesState};
+    ghost use Rattle.fs_nodes.specs.Sound.{IsKept};
+
+    ghost Value = { NodesState };
+
+    ghost coded = { Prim.hlevel (codes) };
+
+    ghost view = { λ t. record { table = record { rows = R.rows t.rows; next_generation = t.next }; room = R.room t.rows } };
+
+    ghost invariant = { λ t. IsKept (record { rows = R.rows t.rows; next_generation = t.next }) };
 }
 
 impl<R: NodeRows> NodeStore for NodesOf<R> {
     type Heap = R::Heap;
 
-    ghost table = { λ t. record { rows = R.rows t.rows; next_generation = t.next } };
+    ghost table = { λ t. t.table };
 
-    ghost room = { λ t. R.room t.rows };
+    ghost room = { λ t. t.room };
 
     fn new(alloc: R::Heap) -> Self {
         NodesOf {
@@ -116,5 +127,8 @@ impl<R: NodeRows> NodeStore for NodesOf<R> {
         self.rows.nodes(alloc)
     }
 
-    ghost sound = { λ t. t.sound };
+    fn keeps_sound(&self) {
+        // A field is touched so that the type's invariant is at hand.
+        let _next = self.next;
+    }
 }

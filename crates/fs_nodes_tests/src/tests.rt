@@ -24,5 +24,7 @@ fn give_again<S: NodeStore>(store: &mut S, file: u64, id: u64) -> Result<(u64, u
     if its_file != file || store.count_of(id) >= LIMIT || store.generations_left() == 0 {
         return Err(AllocError);
     }
+    // No other node is of this file.
+    store.keeps_sound();
     Ok(store.give(file))
 }

@@ -1,3 +1,9 @@
-mod Sound
-mod Alone
-mod Frames
+pub mod NodeLemmas
+pub mod Named
+pub mod Sound
+pub mod StepLemmas
+pub mod Carrying
+pub mod Sending
+pub mod Forgets
+pub mod Settled
+pub mod Frames

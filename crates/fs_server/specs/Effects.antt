@@ -1,11 +1,12 @@
 -- What each call of the server does, and what it is refused for.
-use Rattle.std.specs.Prelude.{◌≡◌, ◌≢◌, ◌≤◌, ◌^◌, ℕ, Bool, true, false, cond, nat_eq, nat_lt, is_some, List, [], ◌∷◌, Option, Some, None}
-use Rattle.fuse_spec.specs.Maps.{Map, get, remove}
-use Rattle.fuse_spec.specs.Numbers.{max_validity, counter_end}
-use Rattle.fuse_spec.specs.Messages.{RequestBody, init, asks, Request, WireReply}
+use Rattle.std.specs.Prelude.{◌≡◌, ℕ, Bool, true, false, ◌||◌, cond, nat_eq, nat_lt, List, Option, Some, None}
+use Rattle.fuse_spec.specs.Maps.{get}
+use Rattle.fuse_spec.specs.Numbers.{counter_end}
+use Rattle.fuse_spec.specs.Messages.{RequestBody, init, asks, forget, batch_forget, Request}
 use Rattle.fuse_spec.specs.Operations as operation
 use Rattle.fuse_spec.specs.Operations.{errno_of}
-use Rattle.fuse_spec.specs.Performs.{performed, served}
+use Rattle.fuse_spec.specs.Nodes.{MayChoose}
+use Rattle.fuse_spec.specs.Performs.{served, files_given}
 use Rattle.fuse_spec.specs.Worlds.{Sent}
 use Rattle.fuse_spec.specs.Server.{Server, HeldRequest, Kept, Copy, RequestFault, unknown_node, too_many_forgets, repeated_unique, fault_of}
 use Rattle.fuse_spec.specs.Copies.{settled}
@@ -13,18 +14,19 @@ use Rattle.fuse_spec.specs.Taking.{taking}
 use Rattle.fuse_spec.specs.declared.Taken.{Taken}
 use Rattle.fuse_spec.specs.declared.ReplyResult.{ReplyResult}
 use Rattle.fuse_spec.specs.declared.Refusal.{Refusal}
-use Rattle.fuse_spec.specs.declared.Refusal.TheVariants.{NoMemory, NoSuch, Exhausted}
-use Rattle.fk_wire.specs.Requests as wire
-use Rattle.fk_wire.specs.Requests.{RequestContent}
+use Rattle.fuse_spec.specs.declared.Refusal.TheVariants.{NoSuch, Exhausted}
 use Rattle.fuse_frames.specs.RequestTies.{SaysRequest}
 use Rattle.fs_server.specs.declared.server.ServerFault.{ServerFault}
 use Rattle.fs_server.specs.declared.server.ServerFault.TheVariants.{Wire, UnknownNode, TooManyForgets, RepeatedUnique, Memory}
 
--- INIT, LOOKUP and GETATTR are served so far.
+-- INIT, LOOKUP, GETATTR, MKDIR, FORGET and BATCH_FORGET are served so far.
 abbrev pub is_served : RequestBody → Bool
 is_served init = true
 is_served (asks (operation.lookup directory name)) = true
 is_served (asks (operation.getattr node)) = true
+is_served (asks (operation.mkdir directory name)) = true
+is_served (forget f) = true
+is_served (batch_forget fs) = true
 is_served body = false
 
 abbrev pub as_fault : Option RequestFault → Option ServerFault
@@ -58,20 +60,6 @@ pub record RefusesFrame (old : Server) (bytes : List ℕ) (fault : ServerFault) 
   pub of_request : (request : Request) → SaysRequest bytes request → fault ≡ or_memory (request_fault old request.unique (Some request.body))
   pub of_none : ((request : Request) → SaysRequest bytes request → ⊥) → fault ≡ Wire
 
--- What is held for a request that is served, by what it asks: every node that it names is the root.
-abbrev pub held_for : RequestContent → HeldRequest
-held_for (wire.init major minor flags) = record { body = init; generations = []; marked = false }
-held_for (wire.lookup name) = record { body = asks (operation.lookup 1 name); generations = (1, 0) ∷ []; marked = false }
-held_for content = record { body = asks (operation.getattr 1); generations = (1, 0) ∷ []; marked = false }
-
--- What is true of the server after each event: no request is held whose reply is kept, no copy has the next number or a later
--- one, and a missing name is valid for a day at most.
-pub record IsSound {V W X : Type 0} (held : Map V) (kept : Map W) (copies : Map X) (coming missing : ℕ) : Type 0 where
-  pub apart : (n : ℕ) → get held n ≢ None → get kept n ≡ None
-  pub copies_below : (n : ℕ) → coming ≤ n → get copies n ≡ None
-  pub numbers : coming ≤ 2 ^ 62
-  pub a_day : missing ≤ max_validity
-
 -- A copy that was sent is settled by the result of its write.
 pub record Settles (old : Server) (result : ReplyResult) (new : Server) : Type 0 where
   pub copy : Copy
@@ -88,25 +76,23 @@ abbrev pub is_of_copy : Option Kept → ℕ → Bool
 is_of_copy None first = false
 is_of_copy (Some kept) first = nat_eq kept.first first
 
--- Why a request can't be performed, want of memory aside: none is held under the unique, or no copy number is left.
-abbrev pub performing_refusal : Server → ℕ → Option Refusal
-performing_refusal s unique = cond (is_some (get s.held unique)) (cond (nat_lt s.next_copy counter_end) None (Some Exhausted)) (Some NoSuch)
+-- Whether a counter of the server would have given a number past its end.
+abbrev pub is_past_end : Server → Bool
+is_past_end s =
+    nat_lt counter_end s.tree.next_birth || nat_lt counter_end s.tree.next_serial || nat_lt counter_end s.nodes.next_generation || nat_lt counter_end s.handles.next_fh || nat_lt counter_end s.next_copy
 
--- that refusal, or else want of memory
-abbrev pub or_no_memory : Option Refusal → Refusal
-or_no_memory None = NoMemory
-or_no_memory (Some refusal) = refusal
+-- Why a held request can't be performed, want of memory aside.
+pub data RefusesHeld (s : Server) (unique : ℕ) : Refusal → Type 0 where
+  not_held : get s.held unique ≡ None → RefusesHeld s unique NoSuch
+  exhausted : (held : HeldRequest) → get s.held unique ≡ Some held
+      → ((choice : ℕ → ℕ) → MayChoose choice s.nodes (files_given s held) → is_past_end (served choice s unique held).server ≡ true) → RefusesHeld s unique Exhausted
 
--- What the request held under a unique is answered.
-pub record AnswersHeld (s : Server) (unique : ℕ) (wire : WireReply) : Type 0 where
-  pub held : HeldRequest
-  pub there : get s.held unique ≡ Some held
-  pub gives : (choice : ℕ → ℕ) → performed choice (record s { held = remove s.held unique }) held ≡ record { server = record s { held = remove s.held unique }; wire = wire }
-
--- A held request is performed, and this is the first copy of its reply. No node is given yet, so the choice of ids is free.
+-- A held request is performed, with these ids for the files that get a node, and this is the first copy of its reply.
 pub record PerformsHeld (old : Server) (unique errno : ℕ) (copy : Sent) (new : Server) : Type 0 where
   pub held : HeldRequest
   pub there : get old.held unique ≡ Some held
-  pub served_so : (choice : ℕ → ℕ) → served choice old unique held ≡ record { server = new; wire = copy.wire }
+  pub choice : ℕ → ℕ
+  pub may : MayChoose choice old.nodes (files_given old held)
+  pub served_so : served choice old unique held ≡ record { server = new; wire = copy.wire }
   pub copy_is : copy ≡ record { number = old.next_copy; unique = unique; wire = copy.wire }
   pub errno_is : errno ≡ errno_of copy.wire

@@ -1,22 +1,42 @@
-//! Requests that are held, and replies that are kept.
+//! Requests that are held until they are performed.
 
 ghost use Rattle.std.specs.Prelude.{◌≡◌, [], false};
-ghost use Rattle.fs_server.specs.Values.{body_of, generations_of, wire_of};
+ghost use Rattle.fs_server.specs.Values.{asked_of, generations_of, name_in, opcode_of};
+ghost use Rattle.fs_server.specs.Steps.{IsHoldable};
 
-use fk_wire::InitFlags;
-use fuse_spec::Attributes;
+use bitflags::Flags;
+use fk_wire::{InitFlags, Opcode};
 use std::alloc::Allocator;
 use std::marker::Model;
 
-/// What a held request asks. For now the tree has the root alone, so every node that a request names is the root.
+/// A node that a request names, with the generation that it had when the request was taken.
+#[derive(Clone, Copy, Debug, PartialEq, Eq)]
+pub(crate) struct NamedNode {
+    pub(crate) nodeid: u64,
+    pub(crate) generation: u64,
+}
+
+/// What a held request asks.
 #[derive(Drop)]
 pub(crate) enum HeldBody<A: Allocator> {
     /// INIT, with the flags that the kernel offers.
-    Init { flags: InitFlags },
-    /// LOOKUP of a name in the root.
-    Lookup { name: Vec<u8, A> },
-    /// GETATTR of the root.
-    Getattr,
+    Init {
+        flags: InitFlags,
+    },
+    /// LOOKUP of a name in a directory.
+    Lookup {
+        directory: NamedNode,
+        name: Vec<u8, A>,
+    },
+    /// GETATTR of a node.
+    Getattr {
+        node: NamedNode,
+    },
+    /// MKDIR of a name in a directory.
+    Mkdir {
+        directory: NamedNode,
+        name: Vec<u8, A>,
+    },
 }
 
 /// A request that is held until it is performed.
@@ -29,114 +49,56 @@ impl<A: Allocator> Model for HeldRequest<A> {
     ghost use Rattle.std.specs.Prelude.{false};
     ghost use Rattle.std.specs.Coded.{codes};
     ghost use Rattle.fuse_spec.specs.Server.{HeldRequest as Held};
-    ghost use Rattle.fs_server.specs.Values.{body_of, generations_of};
+    ghost use Rattle.fs_server.specs.Values.{asked_of, generations_of};
 
     ghost Value = { Held };
 
     ghost coded = { Prim.hlevel (codes) };
 
-    ghost view = { λ h. record { body = body_of h.body; generations = generations_of h.body; marked = false } };
+    ghost view = { λ h. record { body = asked_of h.body; generations = generations_of h.body; marked = false } };
 }
 
 impl<A: Allocator> HeldRequest<A> {
     pub(crate) fn new(body: HeldBody<A>) -> Self
-        ensures { result ≡ record { body = body_of body; generations = generations_of body; marked = false } }
+        ensures { result ≡ record { body = asked_of body; generations = generations_of body; marked = false } }
     {
         HeldRequest { body }
     }
 
     pub(crate) fn body(&self) -> &HeldBody<A>
-        ensures { self.now ≡ record { body = body_of result.now; generations = generations_of result.now; marked = false } }
+        ensures asked { self.now ≡ record { body = asked_of result.now; generations = generations_of result.now; marked = false } }
+        ensures holdable { IsHoldable self.now }
     {
         &self.body
     }
-}
 
-/// What a reply says, as far as it is sent so far.
-#[derive(Clone, Copy, Debug, PartialEq, Eq)]
-pub(crate) enum SentReply {
-    Agreed,
-    Missing { missing_ms: u64 },
-    Attributes(Attributes),
-}
-
-/// A reply that is kept until one of its copies is settled.
-#[derive(Drop)]
-pub(crate) struct KeptReply {
-    reply: SentReply,
-    first: u64,
-}
-
-impl Model for KeptReply {
-    ghost use Rattle.std.specs.Coded.{codes};
-    ghost use Rattle.fuse_spec.specs.Server.{Kept};
-    ghost use Rattle.fs_server.specs.Values.{wire_of};
-
-    ghost Value = { Kept };
-
-    ghost coded = { Prim.hlevel (codes) };
-
-    ghost view = { λ k. record { wire = wire_of k.reply; first = k.first } };
-}
-
-impl KeptReply {
-    /// A reply whose first copy has this number.
-    pub(crate) fn new(reply: SentReply, first: u64) -> Self
-        ensures { result ≡ record { wire = wire_of reply; first = first } }
+    /// The name that it asks for; no bytes where it asks for none.
+    pub(crate) fn name(&self) -> &[u8]
+        ensures { result.now ≡ name_in self.now.body }
     {
-        KeptReply { reply, first }
-    }
-
-    /// The number of its first copy.
-    pub(crate) fn first(&self) -> u64
-        ensures { result ≡ self.now.first }
-    {
-        self.first
-    }
-}
-
-/// A copy that was sent and is not settled.
-#[derive(Drop)]
-pub(crate) struct SentCopy {
-    unique: u64,
-    reply: SentReply,
-    first: u64,
-}
-
-impl Model for SentCopy {
-    ghost use Rattle.std.specs.Coded.{codes};
-    ghost use Rattle.fuse_spec.specs.Server.{Copy};
-    ghost use Rattle.fs_server.specs.Values.{wire_of};
-
-    ghost Value = { Copy };
-
-    ghost coded = { Prim.hlevel (codes) };
-
-    ghost view = { λ c. record { unique = c.unique; wire = wire_of c.reply; first = c.first } };
-}
-
-impl SentCopy {
-    /// A copy of a reply whose first copy has this number.
-    pub(crate) fn new(unique: u64, reply: SentReply, first: u64) -> Self
-        ensures { result ≡ record { unique = unique; wire = wire_of reply; first = first } }
-    {
-        SentCopy {
-            unique,
-            reply,
-            first,
+        match &self.body {
+            HeldBody::Lookup { name, .. } | HeldBody::Mkdir { name, .. } => name,
+            HeldBody::Init { .. } | HeldBody::Getattr { .. } => &[],
         }
     }
 
-    pub(crate) fn unique(&self) -> u64
-        ensures { result ≡ self.now.unique }
-    {
-        self.unique
+    /// The flags that an INIT offers; none where it is another request.
+    pub(crate) fn flags(&self) -> InitFlags {
+        match &self.body {
+            HeldBody::Init { flags } => *flags,
+            _ => InitFlags::empty(),
+        }
     }
 
-    /// The number of the first copy of its reply.
-    pub(crate) fn first(&self) -> u64
-        ensures { result ≡ self.now.first }
+    /// Its opcode.
+    pub(crate) fn opcode(&self) -> Opcode
+        ensures { result ≡ opcode_of self.now.body }
     {
-        self.first
+        match &self.body {
+            HeldBody::Init { .. } => Opcode::Init,
+            HeldBody::Lookup { .. } => Opcode::Lookup,
+            HeldBody::Getattr { .. } => Opcode::Getattr,
+            HeldBody::Mkdir { .. } => Opcode::Mkdir,
+        }
     }
 }

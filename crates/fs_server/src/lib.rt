@@ -2,6 +2,12 @@
 #![tactic(auto)]
 
 mod held;
+mod nodes;
+mod performing;
+mod replies;
 mod server;
+mod settling;
+mod steps;
+mod taking;
 
 pub use server::{Done, Server, ServerFault};

@@ -1,2 +1,3 @@
 pub mod RequestLemmas
 pub mod ReplyLemmas
+pub mod PairLemmas

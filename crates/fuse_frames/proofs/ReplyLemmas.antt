@@ -1,23 +1,28 @@
 -- What is written as a reply is seen as what was to be said.
-use Rattle.std.proofs.Common.{◌≡◌, ℕ, zero, suc, Some, ◌*◌, ◌/◌, ◌%◌, ◌≤◌, Bool, true, false, List, refl, sym, ap, subst, ◌∙◌, arith, true≢false}
+use Rattle.std.proofs.Common.{◌≡◌, ◌≢◌, ℕ, zero, suc, Some, ◌+◌, ◌-◌, ◌*◌, ◌/◌, ◌%◌, ◌≤◌, Bool, true, false, IsTrue, if◌then◌else◌, inl, inr, List, [], refl, sym, ap, subst, ◌∙◌, arith, true≢false}
 use Rattle.std.specs.Prelude.{ℤ, pos, negsuc}
-use Rattle.std.proofs.lemmas.Int.{ints}
+use Rattle.std.specs.Int.{w32, cast_unsigned, cast_signed}
+use Rattle.std.proofs.lemmas.Bool.Decides.{eqb_tells}
+use Rattle.std.proofs.lemmas.Int.{ints, to_z-of_z}
 use Rattle.fk_wire.specs.declared.fault.WireFault.{WireFault}
 use Rattle.fk_wire.specs.declared.opcode.Opcode.{Opcode}
 use Rattle.fk_wire.specs.declared.opcode.Opcode.TheVariants as op
 use Rattle.fk_wire.specs.Entries.{missing, found}
 use Rattle.fk_wire.specs.Fields.{number_at}
 use Rattle.fk_wire.specs.Opcodes.{served}
-use Rattle.fk_wire.specs.Replies.{ReplyContent, empty_reply, entry_reply, attr_reply, open_reply, bytes_reply, write_reply, init_reply, create_reply, records_reply, plus_reply, ReplyMessage, GoesWith, WrittenReply, reply_kind, kind_of_content, IsErrorNumber}
+use Rattle.fk_wire.specs.Replies.{ReplyContent, empty_reply, entry_reply, attr_reply, open_reply, bytes_reply, write_reply, init_reply, create_reply, records_reply, plus_reply, ReplyMessage, GoesWith, WrittenReply, reply_kind, knows_kind, kind_of_content, IsErrorNumber}
 use Rattle.fk_wire.specs.ReplyFaults.{ReplyFaultIsAt}
-use Rattle.fk_wire.proofs.OneReply.{decoded_reply_is, no_reply_fault}
-use Rattle.fuse_spec.specs.declared.Attributes.{Attributes}
-use Rattle.fuse_spec.specs.Operations as reply
+use Rattle.fk_wire.proofs.OneReply.{decoded_reply_is, no_reply_fault, error_fits}
 use Rattle.fk_wire.proofs.Frames.{spells_reply}
-use Rattle.fuse_spec.specs.Messages.{WireReply}
-use Rattle.fuse_spec.specs.Worlds.{Sent}
+use Rattle.fuse_spec.specs.declared.Opened.{Opened}
+use Rattle.fuse_spec.specs.Messages.{WireReply, asks}
 use Rattle.fuse_spec.specs.Numbers.{max_validity}
-use Rattle.fuse_frames.specs.ReplyTies.{SaysReply, IsReplyFrame, wire_in, unique_in, wire_said, wire_body, milliseconds}
+use Rattle.fuse_spec.specs.Operations as reply
+use Rattle.fuse_spec.specs.Operations.{Operation}
+use Rattle.fuse_spec.specs.Replies.{goes_with, is_init_reply, is_empty_reply}
+use Rattle.fuse_spec.specs.Worlds.{Sent}
+use Rattle.fuse_frames.specs.ReplyTies.{SaysReply, IsReplyFrame, has_reply, wire_in, unique_in, wire_said, wire_body, milliseconds}
+use Rattle.fuse_frames.specs.RequestTies.{asked_opcode}
 
 -- the bytes spell one reply to an opcode
 pub one_reply : (o : Opcode) (bytes : List ℕ) (unique : ℕ) (wire : WireReply) → SaysReply o bytes unique wire → (wire_in o bytes ≡ wire) × (unique_in o bytes ≡ unique)
@@ -44,37 +49,107 @@ reads_as_itself ms le = omega arith
 
 -- ---- to which requests a frame replies
 
--- a body of the kind that says this, where one kind alone does
-abbrev body_saying : ReplyContent → WireReply → ReplyContent
-body_saying c (reply.agreed major minor) = init_reply 0 0 0
-body_saying c (reply.missing valid) = entry_reply (missing 0 0)
-body_saying c (reply.attributes attributes) = attr_reply (record { ino = 0; size = 0; mode = 0; nlink = 0 })
-body_saying c wire = c
-
-said_kind : (c : ReplyContent) → kind_of_content c ≡ kind_of_content (body_saying c (wire_body c))
-said_kind empty_reply = refl
-said_kind (entry_reply (missing seconds nanoseconds)) = refl
-said_kind (entry_reply (found nodeid generation seconds nanoseconds a)) = refl
-said_kind (attr_reply a) = refl
-said_kind (open_reply fh) = refl
-said_kind (bytes_reply bytes) = refl
-said_kind (write_reply size) = refl
-said_kind (init_reply major minor flags) = refl
-said_kind (create_reply (missing seconds nanoseconds) fh) = refl
-said_kind (create_reply (found nodeid generation seconds nanoseconds a) fh) = refl
-said_kind (records_reply ds) = refl
-said_kind (plus_reply ps) = refl
+-- a body of the kind that says this; an error says it with no body
+abbrev body_saying : WireReply → ReplyContent
+body_saying (reply.found entry valid) = entry_reply (missing 0 0)
+body_saying (reply.missing valid) = entry_reply (missing 0 0)
+body_saying (reply.created entry valid fh) = create_reply (missing 0 0) 0
+body_saying (reply.opened fh) = open_reply 0
+body_saying (reply.attributes attributes) = attr_reply (record { ino = 0; size = 0; mode = 0; nlink = 0 })
+body_saying (reply.listed records) = records_reply []
+body_saying (reply.content bytes) = bytes_reply []
+body_saying (reply.written size) = write_reply 0
+body_saying (reply.agreed major minor) = init_reply 0 0 0
+body_saying reply.done = empty_reply
+body_saying (reply.failed errno) = empty_reply
 
 abbrev is_failure : WireReply → Bool
 is_failure (reply.failed errno) = true
 is_failure wire = false
 
--- A reply that says no failure goes with the opcodes whose replies have its kind of body.
-goes_as : (p : Opcode) (d : ReplyContent) → reply_kind served p ≡ Some (kind_of_content d) → (unique : ℕ) (z : ℤ) (c : ReplyContent) (wire : WireReply) → IsErrorNumber z → wire_said z c ≡ wire → body_saying c wire ≡ d → is_failure wire ≡ false
-    → GoesWith served p (record { unique = unique; error = z; content = c })
-goes_as p d is unique (pos zero) c wire ok e same good = (kind_of_content d, is, said_kind c ∙ ap (λ (w : WireReply). kind_of_content (body_saying c w)) e ∙ ap kind_of_content same)
-goes_as p d is unique (pos (suc n)) c wire ok e same good = absurd (omega (arith, ints, ok.0))
-goes_as p d is unique (negsuc n) c wire ok e same good = absurd (true≢false (ap is_failure e ∙ good))
+-- Of the bodies that are served each says what its kind says.
+said_kind : (c : ReplyContent) → IsTrue (knows_kind served (kind_of_content c)) → kind_of_content c ≡ kind_of_content (body_saying (wire_body c))
+said_kind (entry_reply (missing seconds nanoseconds)) known = refl
+said_kind (entry_reply (found nodeid generation seconds nanoseconds a)) known = refl
+said_kind (create_reply (missing seconds nanoseconds) fh) known = refl
+said_kind (create_reply (found nodeid generation seconds nanoseconds a) fh) known = refl
+said_kind (plus_reply ps) known = absurd (true≢false (sym known))
+said_kind c known = refl
+
+no_failure : (c : ReplyContent) → is_failure (wire_body c) ≡ false
+no_failure (entry_reply (missing seconds nanoseconds)) = refl
+no_failure (entry_reply (found nodeid generation seconds nanoseconds a)) = refl
+no_failure (create_reply (missing seconds nanoseconds) fh) = refl
+no_failure (create_reply (found nodeid generation seconds nanoseconds a) fh) = refl
+no_failure c = refl
+
+-- The replies to an operation have the kind of body that says what goes with it.
+kind_going : (operation : Operation ℕ Opened) (wire : WireReply) → goes_with operation wire ≡ true → is_failure wire ≡ false → reply_kind served (asked_opcode (asks operation)) ≡ Some (kind_of_content (body_saying wire))
+kind_going (reply.lookup d name) (reply.found entry valid) e good = refl
+kind_going (reply.lookup d name) (reply.missing valid) e good = refl
+kind_going (reply.mkdir d name) (reply.found entry valid) e good = refl
+kind_going (reply.mkdir d name) (reply.missing valid) e good = refl
+kind_going (reply.link x d name) (reply.found entry valid) e good = refl
+kind_going (reply.link x d name) (reply.missing valid) e good = refl
+kind_going (reply.create d name) (reply.created entry valid fh) e good = refl
+kind_going (reply.getattr x) (reply.attributes a) e good = refl
+kind_going (reply.unlink d name) reply.done e good = refl
+kind_going (reply.rmdir d name) reply.done e good = refl
+kind_going (reply.rename d old f new) reply.done e good = refl
+kind_going (reply.opening x) (reply.opened fh) e good = refl
+kind_going (reply.readdir d after size) (reply.listed records) e good = refl
+kind_going (reply.read o offset size) (reply.content bytes) e good = refl
+kind_going (reply.write o offset bytes) (reply.written size) e good = refl
+kind_going operation (reply.failed errno) e good = absurd (true≢false good)
+kind_going operation wire e good = absurd (true≢false (sym e))
+
+-- Each operation has a reply.
+replied_by : (operation : Operation ℕ Opened) → (d : ReplyContent) × (reply_kind served (asked_opcode (asks operation)) ≡ Some (kind_of_content d))
+replied_by (reply.lookup d name) = (entry_reply (missing 0 0), refl)
+replied_by (reply.getattr x) = (attr_reply (record { ino = 0; size = 0; mode = 0; nlink = 0 }), refl)
+replied_by (reply.mkdir d name) = (entry_reply (missing 0 0), refl)
+replied_by (reply.create d name) = (create_reply (missing 0 0) 0, refl)
+replied_by (reply.unlink d name) = (empty_reply, refl)
+replied_by (reply.rmdir d name) = (empty_reply, refl)
+replied_by (reply.rename d old e new) = (empty_reply, refl)
+replied_by (reply.link x d name) = (entry_reply (missing 0 0), refl)
+replied_by (reply.opening x) = (open_reply 0, refl)
+replied_by (reply.readdir d after size) = (records_reply [], refl)
+replied_by (reply.read o offset size) = (bytes_reply [], refl)
+replied_by (reply.write o offset bytes) = (write_reply 0, refl)
+
+-- An error is no 0 in its field.
+error_shows : (n : ℕ) → IsErrorNumber (negsuc n) → cast_unsigned w32 (negsuc n) ≢ 0
+error_shows n ok e =
+    let same : negsuc n ≡ cast_signed w32 0 = sym (to_z-of_z w32 (negsuc n) (error_fits (negsuc n) ok)) ∙ ap (cast_signed w32) e in
+    absurd (cc same)
+
+-- With an error the body is empty.
+is_alone : (o : Opcode) (m : ReplyMessage) → GoesWith served o m → cast_unsigned w32 m.error ≢ 0 → kind_of_content m.content ≡ kind_of_content empty_reply
+is_alone o m goes shows = elim (eqb_tells (cast_unsigned w32 m.error) 0) [ inl h ↦ absurd (shows h.1) | inr h ↦ goes.2 ∙ ap (λ (b : Bool). if b then goes.0 else kind_of_content empty_reply) h.0 ]
+
+-- What is said without error goes with the opcodes whose replies have that kind of body, and an error with all that have replies.
+goes_saying : (o p : Opcode) (d : ReplyContent) (unique : ℕ) (z : ℤ) (c : ReplyContent) → GoesWith served o (record { unique = unique; error = z; content = c }) → IsErrorNumber z → IsTrue (knows_kind served (kind_of_content c))
+    → reply_kind served p ≡ Some (kind_of_content d) → (is_failure (wire_said z c) ≡ false → kind_of_content (body_saying (wire_said z c)) ≡ kind_of_content d) → GoesWith served p (record { unique = unique; error = z; content = c })
+goes_saying o p d unique (pos zero) c goes ok known has same = (kind_of_content d, has, said_kind c known ∙ same (no_failure c))
+goes_saying o p d unique (pos (suc n)) c goes ok known has same = absurd (omega (arith, ints, ok.0))
+goes_saying o p d unique (negsuc n) c goes ok known has same =
+    let shows = error_shows n ok in
+    let alone = is_alone o (record { unique = unique; error = negsuc n; content = c }) goes shows in
+    (kind_of_content d, has, alone ∙ elim (eqb_tells (cast_unsigned w32 (negsuc n)) 0) [ inl h ↦ absurd (shows h.1) | inr h ↦ sym (ap (λ (b : Bool). if b then kind_of_content d else kind_of_content empty_reply) h.0) ])
+
+init_kind : (wire : WireReply) → is_init_reply wire ≡ true → is_failure wire ≡ false → kind_of_content (body_saying wire) ≡ kind_of_content (init_reply 0 0 0)
+init_kind (reply.agreed major minor) e good = refl
+init_kind (reply.failed errno) e good = absurd (true≢false good)
+init_kind wire e good = absurd (true≢false (sym e))
+
+empty_kind : (wire : WireReply) → is_empty_reply wire ≡ true → is_failure wire ≡ false → kind_of_content (body_saying wire) ≡ kind_of_content empty_reply
+empty_kind reply.done e good = refl
+empty_kind (reply.failed errno) e good = refl
+empty_kind wire e good = absurd (true≢false (sym e))
+
+one_some : {K : Type 0} {j k : K} → Some j ≡ Some k → j ≡ k
+one_some e = cc
 
 module _ (o : Opcode) (bytes : List ℕ) (frame : IsReplyFrame o bytes) where
   one : (wire_in o bytes ≡ wire_said frame.message.error frame.message.content) × (unique_in o bytes ≡ frame.message.unique)
@@ -87,17 +162,25 @@ module _ (o : Opcode) (bytes : List ℕ) (frame : IsReplyFrame o bytes) where
   pub says : SaysReply o bytes (unique_in o bytes) (wire_in o bytes)
   says = says_to o frame.goes
 
-  pub says_agreed : (major minor : ℕ) → wire_in o bytes ≡ reply.agreed major minor → SaysReply op.Init bytes (unique_in o bytes) (wire_in o bytes)
-  says_agreed major minor e =
-      says_to op.Init (goes_as op.Init (init_reply 0 0 0) refl frame.message.unique frame.message.error frame.message.content (reply.agreed major minor) frame.written.1 (sym one.0 ∙ e) refl refl)
+  -- The frame says what it says to each opcode whose replies have the kind of body that says it.
+  says_as : (p : Opcode) (d : ReplyContent) → reply_kind served p ≡ Some (kind_of_content d) → (is_failure (wire_in o bytes) ≡ false → kind_of_content (body_saying (wire_in o bytes)) ≡ kind_of_content d) → SaysReply p bytes (unique_in o bytes) (wire_in o bytes)
+  says_as p d has same =
+      let m = frame.message in
+      let said = subst (λ (w : WireReply). is_failure w ≡ false → kind_of_content (body_saying w) ≡ kind_of_content d) one.0 same in
+      says_to p (goes_saying o p d m.unique m.error m.content frame.goes frame.written.1 frame.written.2 has said)
 
-  pub says_missing : (valid : ℕ) → wire_in o bytes ≡ reply.missing valid → SaysReply op.Lookup bytes (unique_in o bytes) (wire_in o bytes)
-  says_missing valid e =
-      says_to op.Lookup (goes_as op.Lookup (entry_reply (missing 0 0)) refl frame.message.unique frame.message.error frame.message.content (reply.missing valid) frame.written.1 (sym one.0 ∙ e) refl refl)
+  pub fits : (operation : Operation ℕ Opened) → goes_with operation (wire_in o bytes) ≡ true → SaysReply (asked_opcode (asks operation)) bytes (unique_in o bytes) (wire_in o bytes)
+  fits operation goes =
+      let by = replied_by operation in
+      says_as (asked_opcode (asks operation)) by.0 by.1 (λ good. one_some (sym (kind_going operation (wire_in o bytes) goes good) ∙ by.1))
 
-  pub says_attributes : (attributes : Attributes) → wire_in o bytes ≡ reply.attributes attributes → SaysReply op.Getattr bytes (unique_in o bytes) (wire_in o bytes)
-  says_attributes attributes e =
-      says_to op.Getattr (goes_as op.Getattr (attr_reply (record { ino = 0; size = 0; mode = 0; nlink = 0 })) refl frame.message.unique frame.message.error frame.message.content (reply.attributes attributes) frame.written.1 (sym one.0 ∙ e) refl refl)
+  pub init : is_init_reply (wire_in o bytes) ≡ true → SaysReply op.Init bytes (unique_in o bytes) (wire_in o bytes)
+  init is = says_as op.Init (init_reply 0 0 0) refl (init_kind (wire_in o bytes) is)
+
+  pub empty : is_empty_reply (wire_in o bytes) ≡ true → SaysReply op.Release bytes (unique_in o bytes) (wire_in o bytes) × SaysReply op.Interrupt bytes (unique_in o bytes) (wire_in o bytes)
+  empty is =
+      let kind = empty_kind (wire_in o bytes) is in
+      (says_as op.Release empty_reply refl kind, says_as op.Interrupt empty_reply refl kind)
 
   -- The head that is read is the frame's.
   pub unique_read : (read : List ℕ) → read ≡ bytes → (unique : ℕ) → unique ≡ number_at 8 8 read → unique ≡ unique_in o bytes
@@ -105,3 +188,38 @@ module _ (o : Opcode) (bytes : List ℕ) (frame : IsReplyFrame o bytes) where
 
   pub no_fault : (read : List ℕ) → read ≡ bytes → (f : WireFault) → ReplyFaultIsAt served o read f → ⊥
   no_fault read same f is = no_reply_fault served o bytes frame.message f (spells_reply served o frame.message bytes frame.goes frame.written) (subst (λ (x : List ℕ). ReplyFaultIsAt served o x f) same is)
+
+-- ---- an error of a reply
+
+pub error_said : (errno : ℕ) (z : ℤ) (content : ReplyContent) → 1 ≤ errno → z ≡ negsuc (errno - 1) → wire_said z content ≡ reply.failed errno
+error_said errno z content some is =
+    let same : errno - 1 + 1 ≡ errno = omega arith in
+    ap (λ (y : ℤ). wire_said y content) is ∙ ap reply.failed same
+
+pub error_in_range : (errno : ℕ) (z : ℤ) → 1 ≤ errno → errno ≤ 511 → z ≡ negsuc (errno - 1) → IsErrorNumber z
+error_in_range errno z some most is = subst IsErrorNumber (sym is) (grind (arith, ints, some, most))
+
+-- An error goes with each opcode that has replies.
+has_kind : (o : Opcode) → IsTrue (has_reply o) → (d : ReplyContent) × (reply_kind served o ≡ Some (kind_of_content d))
+has_kind op.Lookup h = (entry_reply (missing 0 0), refl)
+has_kind op.Getattr h = (attr_reply (record { ino = 0; size = 0; mode = 0; nlink = 0 }), refl)
+has_kind op.Mkdir h = (entry_reply (missing 0 0), refl)
+has_kind op.Unlink h = (empty_reply, refl)
+has_kind op.Rmdir h = (empty_reply, refl)
+has_kind op.Rename h = (empty_reply, refl)
+has_kind op.Link h = (entry_reply (missing 0 0), refl)
+has_kind op.Open h = (open_reply 0, refl)
+has_kind op.Read h = (bytes_reply [], refl)
+has_kind op.Write h = (write_reply 0, refl)
+has_kind op.Release h = (empty_reply, refl)
+has_kind op.Init h = (init_reply 0 0 0, refl)
+has_kind op.Readdir h = (records_reply [], refl)
+has_kind op.Create h = (create_reply (missing 0 0) 0, refl)
+has_kind op.Interrupt h = (empty_reply, refl)
+has_kind o h = absurd (true≢false (sym h))
+
+pub error_goes : (o : Opcode) (unique errno : ℕ) (z : ℤ) → IsTrue (has_reply o) → 1 ≤ errno → errno ≤ 511 → z ≡ negsuc (errno - 1) → GoesWith served o (record { unique = unique; error = z; content = empty_reply })
+error_goes o unique errno z has some most is =
+    let shows : cast_unsigned w32 z ≢ 0 = λ e. error_shows (errno - 1) (subst IsErrorNumber is (error_in_range errno z some most is)) (ap (cast_unsigned w32) (sym is) ∙ e) in
+    let by = has_kind o has in
+    (kind_of_content by.0, by.1, elim (eqb_tells (cast_unsigned w32 z) 0) [ inl h ↦ absurd (shows h.1) | inr h ↦ sym (ap (λ (b : Bool). if b then kind_of_content by.0 else kind_of_content empty_reply) h.0) ])

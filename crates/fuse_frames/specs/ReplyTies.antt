@@ -1,11 +1,13 @@
 -- A reply as its frame spells it, and as the machine of kernel and server has it.
-use Rattle.std.specs.Prelude.{◌≡◌, ℕ, ℤ, pos, negsuc, ◌+◌, ◌*◌, ◌/◌, min, cond, nat_eq, List, [], map}
+use Rattle.std.specs.Prelude.{◌≡◌, ◌≤◌, Bool, true, false, IsTrue, ℕ, ℤ, pos, negsuc, ◌+◌, ◌*◌, ◌/◌, min, cond, nat_eq, List, [], map}
 use Rattle.std.specs.Int.RustNames.{bit_and}
 use Rattle.fk_wire.specs.declared.opcode.Opcode.{Opcode}
+use Rattle.fk_wire.specs.declared.opcode.Opcode.TheVariants as op
 use Rattle.fk_wire.specs.declared.entry.Attr.{Attr}
 use Rattle.fk_wire.specs.Entries.{missing, found}
 use Rattle.fk_wire.specs.Dirents.{DirentContent}
-use Rattle.fk_wire.specs.Replies.{ReplyContent, empty_reply, entry_reply, attr_reply, open_reply, bytes_reply, write_reply, init_reply, create_reply, records_reply, plus_reply, ReplyMessage, GoesWith, SpellsReply, WrittenReply}
+use Rattle.fk_wire.specs.Fields.{sizes}
+use Rattle.fk_wire.specs.Replies.{ReplyContent, empty_reply, entry_reply, attr_reply, open_reply, bytes_reply, write_reply, init_reply, create_reply, records_reply, plus_reply, ReplyMessage, GoesWith, SpellsReply, WrittenReply, IsErrorNumber, IsReplyContent, HasReplyNames, kind_of_content, knows_kind, reply_body}
 use Rattle.fk_wire.specs.Opcodes.{served}
 use Rattle.fk_wire.specs.Decoded.{decoded_reply}
 use Rattle.fuse_spec.specs.Numbers.{max_validity}
@@ -82,3 +84,38 @@ wire_in o bytes = wire_said (decoded_reply o bytes).error (decoded_reply o bytes
 
 unfoldable pub unique_in : Opcode → List ℕ → ℕ
 unique_in o bytes = (decoded_reply o bytes).unique
+
+-- The opcodes whose replies have an entry alone.
+abbrev pub has_entry_reply : Opcode → Bool
+has_entry_reply op.Lookup = true
+has_entry_reply op.Mkdir = true
+has_entry_reply op.Link = true
+has_entry_reply o = false
+
+-- The opcodes whose replies have no body.
+abbrev pub has_empty_reply : Opcode → Bool
+has_empty_reply op.Unlink = true
+has_empty_reply op.Rmdir = true
+has_empty_reply op.Rename = true
+has_empty_reply op.Release = true
+has_empty_reply op.Interrupt = true
+has_empty_reply o = false
+
+-- The opcodes that are replied to. READDIRPLUS is not served yet.
+abbrev pub has_reply : Opcode → Bool
+has_reply op.Forget = false
+has_reply op.BatchForget = false
+has_reply op.Readdirplus = false
+has_reply o = true
+
+-- How many bytes the longest reply of a fixed length has, which is CREATE's: a header, an entry and an open.
+abbrev pub reply_room : ℕ
+reply_room = 160
+
+-- A reply that can be written, and that room for a reply of a fixed length holds.
+pub record FitsRoom (m : ReplyMessage) : Type 0 where
+  pub error : IsErrorNumber m.error
+  pub entries : IsReplyContent m.content
+  pub nameless : HasReplyNames m.content
+  pub served_so : IsTrue (knows_kind served (kind_of_content m.content))
+  pub short : 16 + sizes (reply_body m.content) ≤ reply_room

@@ -1,10 +1,13 @@
 //! The machine's messages as frames: the one place where the grammar of frames and the machine of kernel and server meet.
 #![tactic(auto)]
 
+mod pair_bytes;
 mod reply_body;
 mod reply_copy;
+mod reply_room;
 mod request_frame;
 
 pub use reply_body::{attributes_of, milliseconds};
 pub use reply_copy::ReplyCopy;
+pub use reply_room::ReplyRoom;
 pub use request_frame::RequestFrame;

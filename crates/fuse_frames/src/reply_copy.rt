@@ -1,14 +1,19 @@
 //! Copies of replies in their frames.
 
-ghost use Rattle.std.specs.Prelude.{◌≡◌, ◌≢◌, ◌≤◌, ◌<◌, IfOk, ℕ, ℤ, negsuc, ◌-◌};
+ghost use Rattle.std.specs.Prelude.{◌≡◌, ◌≤◌, ℕ, IfOk, [], true, vec_capacity};
 ghost use Rattle.fk_wire.specs.Opcodes.{served};
 ghost use Rattle.fk_wire.specs.Replies.{GoesWith, reply_message, reply_content};
+ghost use Rattle.fuse_spec.specs.Messages.{asks};
 ghost use Rattle.fuse_spec.specs.Numbers.{max_validity};
 ghost use Rattle.fuse_spec.specs.Operations as reply;
-ghost use Rattle.fuse_frames.specs.ReplyTies.{SaysReply, IsReplyFrame, wire_said, wire_in, unique_in, attributes_in};
+ghost use Rattle.fuse_spec.specs.Operations.{Operation};
+ghost use Rattle.fuse_spec.specs.Replies.{goes_with, is_init_reply, is_empty_reply};
+ghost use Rattle.fuse_frames.specs.ReplyTies.{SaysReply, IsReplyFrame, FitsRoom, reply_room, wire_said};
+ghost use Rattle.fuse_frames.specs.RequestTies.{asked_opcode};
 
-use fk_wire::{Attr, Entry, InitFlags, Opcode, Reply, ReplyBody, read_reply_head, write_reply};
-use fuse_spec::{Attributes, Kind};
+use crate::reply_room::ReplyRoom;
+use fk_wire::{InitFlags, Opcode, Reply, read_reply_head, write_reply};
+use fuse_spec::{Attributes, Opened};
 use std::alloc::{AllocError, Allocator, Global};
 use std::marker::Model;
 
@@ -34,27 +39,6 @@ impl<A: Allocator> Model for ReplyCopy<A> {
     ghost invariant = { λ c. IsReplyFrame c.opcode c.bytes.items };
 }
 
-/// A copy of a reply to a request of this opcode.
-fn framed<A: Allocator>(
-    alloc: A,
-    number: u64,
-    opcode: Opcode,
-    reply: &Reply<'_>,
-) -> Result<ReplyCopy<A>, AllocError>
-    requires { GoesWith served opcode (reply_message reply.now) }
-    ensures { IfOk result (λ copy. copy ≡ record { number = number; unique = reply.now.unique; wire = wire_said reply.now.error (reply_content reply.now.body) }) }
-{
-    let mut bytes = Vec::new(alloc);
-    match write_reply(&mut bytes, reply) {
-        Ok(()) => Ok(ReplyCopy {
-            number,
-            opcode,
-            bytes,
-        }),
-        Err(_) => Err(AllocError),
-    }
-}
-
 impl<A: Allocator> ReplyCopy<A> {
     /// The number of the copy.
     pub fn number(&self) -> u64
@@ -78,14 +62,36 @@ impl<A: Allocator> ReplyCopy<A> {
     pub fn bytes(&self) -> &[u8]
         ensures written { (opcode : Opcode) × IsReplyFrame opcode result.now }
         ensures frame { (opcode : Opcode) × SaysReply opcode result.now self.now.unique self.now.wire }
-        ensures agreed { (major minor : ℕ) → self.now.wire ≡ reply.agreed major minor → SaysReply Opcode.Init result.now self.now.unique self.now.wire }
-        ensures missing { (valid : ℕ) → self.now.wire ≡ reply.missing valid → SaysReply Opcode.Lookup result.now self.now.unique self.now.wire }
-        ensures attributes { (attributes : Attributes) → self.now.wire ≡ reply.attributes attributes → SaysReply Opcode.Getattr result.now self.now.unique self.now.wire }
+        ensures fits { (operation : Operation ℕ Opened) → goes_with operation self.now.wire ≡ true → SaysReply (asked_opcode (asks operation)) result.now self.now.unique self.now.wire }
+        ensures init { is_init_reply self.now.wire ≡ true → SaysReply Opcode.Init result.now self.now.unique self.now.wire }
+        ensures empty { is_empty_reply self.now.wire ≡ true → SaysReply Opcode.Release result.now self.now.unique self.now.wire × SaysReply Opcode.Interrupt result.now self.now.unique self.now.wire }
     {
         &self.bytes
     }
 
-    /// The answer to INIT: version 7.31, and which flags of those that were offered are taken up.
+    /// The copy of a reply to a request of this opcode, written into an empty vector that has room for it.
+    pub(crate) fn written(
+        number: u64,
+        opcode: Opcode,
+        bytes: Vec<u8, A>,
+        reply: &Reply<'_>,
+    ) -> ReplyCopy<A>
+        requires empty { bytes.items ≡ [] }
+        requires room { reply_room ≤ vec_capacity bytes }
+        requires goes { GoesWith served opcode (reply_message reply.now) }
+        requires fits { FitsRoom (reply_message reply.now) }
+        ensures { result ≡ record { number = number; unique = reply.now.unique; wire = wire_said reply.now.error (reply_content reply.now.body) } }
+    {
+        let mut bytes = bytes;
+        write_reply(&mut bytes, reply).unwrap();
+        ReplyCopy {
+            number,
+            opcode,
+            bytes,
+        }
+    }
+
+    /// The answer to INIT, in memory of its own (`ReplyRoom::agreed`).
     pub fn agreed(
         alloc: A,
         number: u64,
@@ -94,24 +100,10 @@ impl<A: Allocator> ReplyCopy<A> {
     ) -> Result<ReplyCopy<A>, AllocError>
         ensures { IfOk result (λ copy. copy ≡ record { number = number; unique = unique; wire = reply.agreed 7 31 }) }
     {
-        let body = ReplyBody::Init {
-            major: 7,
-            minor: 31,
-            flags,
-        };
-        framed(
-            alloc,
-            number,
-            Opcode::Init,
-            &Reply {
-                unique,
-                error: 0,
-                body,
-            },
-        )
+        Ok(ReplyRoom::new(alloc)?.agreed(number, unique, flags))
     }
 
-    /// The answer to a LOOKUP that found nothing: the name is missing for so many milliseconds, at most a day.
+    /// The answer to a LOOKUP that found nothing, in memory of its own (`ReplyRoom::missing`).
     pub fn missing(
         alloc: A,
         number: u64,
@@ -121,27 +113,10 @@ impl<A: Allocator> ReplyCopy<A> {
         requires { missing_ms ≤ max_validity }
         ensures { IfOk result (λ copy. copy ≡ record { number = number; unique = unique; wire = reply.missing missing_ms }) }
     {
-        let entry = Entry {
-            nodeid: 0,
-            generation: 0,
-            entry_valid: missing_ms / 1000,
-            entry_valid_nsec: (missing_ms % 1000) as u32 * 1_000_000,
-            attr: no_attr(),
-        };
-        let body = ReplyBody::Entry { entry };
-        framed(
-            alloc,
-            number,
-            Opcode::Lookup,
-            &Reply {
-                unique,
-                error: 0,
-                body,
-            },
-        )
+        Ok(ReplyRoom::new(alloc)?.missing(number, unique, missing_ms))
     }
 
-    /// The answer to GETATTR.
+    /// The answer to GETATTR, in memory of its own (`ReplyRoom::attributes`).
     pub fn attributes(
         alloc: A,
         number: u64,
@@ -150,45 +125,6 @@ impl<A: Allocator> ReplyCopy<A> {
     ) -> Result<ReplyCopy<A>, AllocError>
         ensures { IfOk result (λ copy. copy ≡ record { number = number; unique = unique; wire = reply.attributes attributes.now }) }
     {
-        let body = ReplyBody::Attr {
-            attr: attr_of(attributes),
-        };
-        framed(
-            alloc,
-            number,
-            Opcode::Getattr,
-            &Reply {
-                unique,
-                error: 0,
-                body,
-            },
-        )
-    }
-}
-
-/// The attributes of an entry that names no file.
-fn no_attr() -> Attr {
-    Attr {
-        ino: 0,
-        size: 0,
-        mode: 0,
-        nlink: 0,
-    }
-}
-
-/// Attributes as their struct has them. The permission bits are 0755 of a directory and 0644 of a file.
-fn attr_of(attributes: &Attributes) -> Attr
-    ensures { attributes_in result ≡ attributes.now }
-{
-    let mode = match attributes.kind {
-        Kind::Directory => 0o040755,
-        Kind::Regular => 0o100644,
-        Kind::Other => 0,
-    };
-    Attr {
-        ino: attributes.ino,
-        size: attributes.size,
-        mode,
-        nlink: attributes.nlink,
+        Ok(ReplyRoom::new(alloc)?.attributes(number, unique, attributes))
     }
 }

@@ -1,13 +1,15 @@
 //! Requests in their frames.
 
-ghost use Rattle.std.specs.Prelude.{◌≡◌, IfOk, Some};
+ghost use Rattle.std.specs.Prelude.{◌≡◌, ◌≤◌, IfOk, Some, length};
 ghost use Rattle.fk_wire.specs.Requests.{request_content};
-ghost use Rattle.fuse_spec.specs.Messages.{RequestBody as Asked, init, asks};
-ghost use Rattle.fuse_spec.specs.Operations.{lookup, getattr};
+ghost use Rattle.fuse_spec.specs.Messages.{RequestBody as Asked, init, asks, forget, batch_forget};
+ghost use Rattle.fuse_spec.specs.Operations.{lookup, getattr, mkdir};
+ghost use Rattle.fuse_spec.specs.Worlds.{forget_body};
 ghost use Rattle.fuse_frames.specs.RequestTies.{IsRequestFrame, body_in, asked_opcode};
 
+use crate::pair_bytes::pair_bytes;
 use bitflags::Flags;
-use fk_wire::{InitFlags, Opcode, RequestBody, read_request, write_request};
+use fk_wire::{InitFlags, Opcode, Pairs, RequestBody, read_request, write_request};
 use std::alloc::{AllocError, Allocator, Global};
 use std::marker::Model;
 
@@ -116,6 +118,83 @@ impl<A: Allocator> RequestFrame<A> {
             &fk_wire::Request {
                 unique,
                 nodeid: node,
+                body,
+            },
+        )
+    }
+
+    /// MKDIR of a name in a directory.
+    pub fn mkdir(
+        alloc: A,
+        unique: u64,
+        directory: u64,
+        name: &[u8],
+    ) -> Result<RequestFrame<A>, AllocError>
+        ensures { IfOk result (λ frame. frame ≡ record { unique = unique; body = asks (mkdir directory name.now) }) }
+    {
+        let body = RequestBody::Mkdir { name };
+        framed(
+            alloc,
+            &fk_wire::Request {
+                unique,
+                nodeid: directory,
+                body,
+            },
+        )
+    }
+}
+
+impl<A: Allocator + Copy> RequestFrame<A> {
+    /// The frame that forgets these lookups, each pair a node and how many of it: FORGET for one pair, else BATCH_FORGET.
+    pub fn forgets(
+        alloc: A,
+        unique: u64,
+        pairs: &[(u64, u64)],
+    ) -> Result<RequestFrame<A>, AllocError>
+        requires { length pairs.now ≤ 64 }
+        ensures { IfOk result (λ frame. frame ≡ record { unique = unique; body = forget_body pairs.now }) }
+    {
+        if pairs.len() == 1 {
+            let (node, count) = pairs[0];
+            RequestFrame::forget(alloc, unique, node, count)
+        } else {
+            RequestFrame::batch_forget(alloc, unique, pairs)
+        }
+    }
+
+    /// FORGET of so many lookups of a node.
+    fn forget(alloc: A, unique: u64, node: u64, count: u64) -> Result<RequestFrame<A>, AllocError>
+        ensures { IfOk result (λ frame. frame ≡ record { unique = unique; body = forget (node, count) }) }
+    {
+        let body = RequestBody::Forget { nlookup: count };
+        framed(
+            alloc,
+            &fk_wire::Request {
+                unique,
+                nodeid: node,
+                body,
+            },
+        )
+    }
+
+    /// BATCH_FORGET of these pairs.
+    fn batch_forget(
+        alloc: A,
+        unique: u64,
+        pairs: &[(u64, u64)],
+    ) -> Result<RequestFrame<A>, AllocError>
+        requires { length pairs.now ≤ 64 }
+        ensures { IfOk result (λ frame. frame ≡ record { unique = unique; body = batch_forget pairs.now }) }
+    {
+        let bytes = pair_bytes(alloc, pairs)?;
+        let body = RequestBody::BatchForget {
+            pairs: Pairs::over(&bytes).unwrap(),
+        };
+        framed(
+            alloc,
+            &fk_wire::Request {
+                unique,
+                nodeid: 0,
                 body,
             },
         )

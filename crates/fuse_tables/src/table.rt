@@ -78,6 +78,13 @@ impl<V: Drop, A: Allocator + Copy> Table<V, A> {
         Some(&self.rows[place].1)
     }
 
+    /// The entries, in rising key.
+    pub fn rows(&self) -> &[(u64, V)]
+        ensures { result.now ≡ self.now.entries }
+    {
+        &self.rows
+    }
+
     /// The lowest key.
     pub fn first_key(&self) -> Option<u64>
         ensures { result ≡ option_map (λ e. e.0) (slice_get self.now.entries 0) }

@@ -9,7 +9,7 @@ use Rattle.fuse_spec.specs.Records.{Record, outcome, refused, answers_of, collec
 use Rattle.fuse_spec.specs.Events.{Event, Outcome}
 use Rattle.fuse_spec.specs.Steps.{IsRefused, Happens}
 use Rattle.fuse_spec.specs.Worlds.{World}
-use Rattle.fuse_theorem.specs.FirstPath.{Recorded, none_left, one_refused, one_accepted}
+use Rattle.fuse_theorem.specs.Recorded.{Recorded, none_left, one_refused, one_accepted}
 use Rattle.fuse_theorem.proofs.NeverMemory.{never_memory}
 use Rattle.fuse_theorem.proofs.SameRefusals.{happens_or_refused}
 

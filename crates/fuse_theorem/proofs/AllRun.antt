@@ -7,7 +7,7 @@ use Rattle.fuse_spec.specs.Events.{Event}
 use Rattle.fuse_spec.specs.Plain.{Plain}
 use Rattle.fuse_theorem.specs.AllSound.{AllSound}
 use Rattle.fuse_theorem.specs.AnswersSound.{AnswersSound}
-use Rattle.fuse_theorem.specs.FirstPath.{Recorded}
+use Rattle.fuse_theorem.specs.Recorded.{Recorded}
 use Rattle.fuse_theorem.proofs.AllCollected.{collected_all}
 use Rattle.fuse_theorem.proofs.AllKeeps.{all_keep}
 use Rattle.fuse_theorem.proofs.AllStaySound.{all_move}

@@ -6,13 +6,16 @@ use Rattle.std.specs.Option.{option_map_or}
 use Rattle.std.proofs.lemmas.Bool.{cases_eq}
 use Rattle.fuse_spec.specs.declared.Phase.{Phase}
 use Rattle.fuse_spec.specs.declared.Phase.TheVariants.{Down, Starting, Ready, Aborted}
+use Rattle.fuse_spec.specs.declared.Opened.{Opened}
 use Rattle.fuse_spec.specs.declared.Purpose.{Purpose}
+use Rattle.fuse_spec.specs.declared.Purpose.TheVariants as purpose
 use Rattle.fuse_spec.specs.declared.QueuedRequest.{QueuedRequest}
 use Rattle.fuse_spec.specs.Maps.{get}
+use Rattle.fuse_spec.specs.Vfs.{Vfs}
 use Rattle.fuse_spec.specs.Queues.{QueueState, pending, request_under, is_unread, is_signalled}
 use Rattle.fuse_spec.specs.QueueCalls.{without, waiting}
 use Rattle.fuse_spec.specs.Messages.{RequestBody}
-use Rattle.fuse_spec.specs.Kernel.{Kernel, is_live, is_aborted, is_for}
+use Rattle.fuse_spec.specs.Kernel.{Kernel, is_live, is_aborted, asked_by, body_of, is_for}
 use Rattle.fuse_spec.specs.Worlds.{World}
 use Rattle.fuse_spec.specs.Plain.{Plain, Ask}
 use Rattle.fuse_spec.specs.Denotes.{MeansIn, MeansOpenIn}
@@ -20,8 +23,13 @@ use Rattle.fuse_spec.specs.Alike.{RequestBodyAsked, PurposeAsked, Alike}
 use Rattle.fuse_spec.proofs.QueueReadings.{pending-answer, request_under-without, request_under-without_other, key_count-le-one}
 use Rattle.fuse_theorem.specs.Numbering.{IsNumbered}
 use Rattle.fuse_theorem.proofs.Finding.{other_is, found_entry, find_beside}
-use Rattle.fuse_theorem.proofs.FirstSteps.{same_asked}
 use Rattle.fuse_theorem.proofs.Queuing.{QueuesStay}
+
+-- what a request asks is a matter of the calls alone
+pub same_asked : (k l : Kernel) → k.vfs ≡ l.vfs → (purpose : Purpose) → body_of k purpose ≡ body_of l purpose
+same_asked k l e purpose.Init = refl
+same_asked k l e (purpose.Release o) = refl
+same_asked k l e (purpose.Call c) = ap (λ (v : Vfs Opened). asked_by (get v.calls c)) e
 
 -- a request that waits for its reply
 pub record Waits (q : QueueState Purpose) (unique : ℕ) (purpose : Purpose) : Type 0 where

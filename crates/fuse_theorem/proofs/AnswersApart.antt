@@ -1,5 +1,5 @@
 -- Answers in rising call number answer each call once.
-use Rattle.std.proofs.Common.{◌≡◌, ℕ, Bool, true, false, true≢false, cond, ◌&&◌, List, [], ◌∷◌, ◌++◌, Some, None, refl, ap, sym, ◌∙◌}
+use Rattle.std.proofs.Common.{◌≡◌, ℕ, Bool, true, false, true≢false, cond, ◌&&◌, List, [], ◌∷◌, ◌++◌, Some, None, refl, ap, sym, ◌∙◌, All}
 use Rattle.std.specs.Prelude.{T}
 use Rattle.std.specs.declared.cmp.Ordering.{Ordering}
 use Rattle.std.specs.declared.cmp.Ordering.TheVariants.{Less, Equal, Greater}
@@ -13,7 +13,10 @@ use Rattle.fuse_spec.specs.Answers.{Answer}
 use Rattle.fuse_spec.specs.Records.{Record, answered, answers_of}
 use Rattle.fuse_spec.specs.Runs.{AnswersApart, AnswersOnce}
 use Rattle.fuse_spec.proofs.Tables.{cmp_same}
-use Rattle.fuse_theorem.proofs.AnsweredOnce.{Unanswered}
+
+-- No record answers the call.
+abbrev pub Unanswered : ℕ → Answer → List Record → Type 0
+Unanswered call a records = All (AnswersApart (answered call a)) records
 
 pub both_first : (a b : Bool) → T (a && b) → T a
 both_first true b h = tt

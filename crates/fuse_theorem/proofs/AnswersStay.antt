@@ -32,8 +32,13 @@ use Rattle.fuse_spec.specs.Steps.{Happens}
 use Rattle.fuse_spec.proofs.Tables.{get_put}
 use Rattle.fuse_theorem.specs.AnswersSound.{AnswersSound}
 use Rattle.fuse_theorem.proofs.AnswerSteps.{ChangesOnly, ChangesCall, answered_changes, begun_changes, replied_changes}
-use Rattle.fuse_theorem.proofs.FirstWorlds.{IsCollected}
 use Rattle.fuse_theorem.proofs.Happened.{Happened, by_mount, by_call, by_read_interrupt, by_read_forgets, by_read_pending, by_take, by_perform, by_again, by_write, by_settle, by_signal, by_tick, by_drop, by_evict, by_abort, happened}
+
+-- A call that was answered, and whose answer is collected.
+pub record IsCollected (c : Vfs Opened) (call : ℕ) : Type 0 where
+  pub begun : call < c.next_call
+  pub not_waiting : get c.calls call ≡ None
+  pub no_answer : get c.answers call ≡ None
 
 -- The calls stay sound, and a call whose answer was collected stays so.
 pub record CallsStay (c d : Vfs Opened) : Type 0 where
@@ -111,7 +116,7 @@ gives_up c sound = record {
 
 -- ---- the kernel beside its calls
 
-advanced_vfs : (k : Kernel) (call : ℕ) (next : Advance Opened) → (advanced k call next).vfs ≡ next.vfs
+pub advanced_vfs : (k : Kernel) (call : ℕ) (next : Advance Opened) → (advanced k call next).vfs ≡ next.vfs
 advanced_vfs k call next = by next.operation
   where
     by : (o : Option (Operation ℕ Opened)) → (asking_for (record k { vfs = next.vfs }) call o).vfs ≡ next.vfs
@@ -125,12 +130,12 @@ idle_vfs k handle = by (get k.closing handle)
     by None = refl
     by (Some x) = refl
 
-used_vfs : (k : Kernel) (state : CallState Opened) → (after_use k state).vfs ≡ k.vfs
+pub used_vfs : (k : Kernel) (state : CallState Opened) → (after_use k state).vfs ≡ k.vfs
 used_vfs k (walking d word words plan) = refl
 used_vfs k (doing operation) = refl
 used_vfs k (using handle operation) = idle_vfs k handle
 
-closing_vfs : (k : Kernel) (file : Option (ℕ × Opened)) → (closing_of k file).vfs ≡ k.vfs
+pub closing_vfs : (k : Kernel) (file : Option (ℕ × Opened)) → (closing_of k file).vfs ≡ k.vfs
 closing_vfs k None = refl
 closing_vfs k (Some file) = idle_vfs (record k { closing = put k.closing file.0 file.1 }) file.0
 

@@ -36,7 +36,7 @@ use Rattle.fuse_spec.proofs.Tables.{get_gone_here, get_gone_there}
 use Rattle.fuse_theorem.specs.Numbering.{requests_for}
 use Rattle.fuse_theorem.proofs.Advancing.{begun_alone, call_replied_alone}
 use Rattle.fuse_theorem.proofs.Finding.{count_left, count_less, found_entry}
-use Rattle.fuse_theorem.proofs.FirstQueues.{count_marked}
+use Rattle.fuse_theorem.proofs.SetMarks.{count_marked}
 use Rattle.fuse_theorem.proofs.Numbered.{CallsNumbered, calls_advanced}
 
 -- ---- the queues alone

@@ -1,9 +1,12 @@
--- What is true of the world and of the plain world stays so as the answers are collected.
+-- What is true of the world and of the plain world stays so where these answers alone are left to collect.
 use Rattle.std.proofs.Common.{refl, arith}
+use Rattle.std.specs.Prelude.{T}
+use Rattle.std.specs.Ordering.{nat_cmp}
+use Rattle.std.specs.FinMap.{is_sorted}
+use Rattle.fuse_spec.specs.Maps.{Map}
+use Rattle.fuse_spec.specs.Answers.{Answer}
 use Rattle.fuse_spec.specs.Worlds.{World}
-use Rattle.fuse_spec.specs.Records.{collected}
 use Rattle.fuse_spec.specs.Plain.{Plain}
-use Rattle.fuse_spec.specs.Runs.{plain_collected}
 use Rattle.fuse_theorem.specs.AskedRequests.{RequestsAskedWhileLive}
 use Rattle.fuse_theorem.specs.Copies.{CopiesSound}
 use Rattle.fuse_theorem.specs.EveryList.{BothSound}
@@ -16,12 +19,12 @@ use Rattle.fuse_theorem.specs.ReleasesKnown.{ReleasesKnown}
 use Rattle.fuse_theorem.specs.RepliesFit.{RepliesFitWhileLive}
 use Rattle.fuse_theorem.specs.Unperformed.{RequestsSound}
 use Rattle.fuse_theorem.specs.WorldSound.{WorldSound}
-use Rattle.fuse_theorem.proofs.FirstAnswers.{collected_alike}
+use Rattle.fuse_theorem.proofs.WithAnswers.{with_answers, plain_with_answers, answers_alike}
 use Rattle.fuse_theorem.proofs.RequestsAsked.{moved_asked}
 use Rattle.fuse_theorem.proofs.StillAsked.{unmoved}
 
-module _ (w : World) where
-  numbers : IsNumberedWhileLive w → IsNumberedWhileLive (collected w)
+module _ (w : World) (answers : Map Answer) (sorted : T (is_sorted nat_cmp answers)) where
+  numbers : IsNumberedWhileLive w → IsNumberedWhileLive (with_answers w answers)
   numbers old = record {
     live = λ live.
         let at = old.live live in
@@ -37,10 +40,10 @@ module _ (w : World) where
     idle = old.idle;
   }
 
-  copies : CopiesSound w → CopiesSound (collected w)
+  copies : CopiesSound w → CopiesSound (with_answers w answers)
   copies old = record { sent = old.sent; results = old.results; once = old.once }
 
-  lookups : LookupsSound w → LookupsSound (collected w)
+  lookups : LookupsSound w → LookupsSound (with_answers w answers)
   lookups old = record {
     server = old.server;
     numbers = numbers old.numbers;
@@ -50,20 +53,20 @@ module _ (w : World) where
     uncounted = old.uncounted;
   }
 
-  requests : RequestsSound w → RequestsSound (collected w)
+  requests : RequestsSound w → RequestsSound (with_answers w answers)
   requests old = record {
     once = old.once;
     numbers = old.numbers;
     unanswered = λ unique even stands. let none = old.unanswered unique even stands in record { copies = none.copies; kept = none.kept };
   }
 
-  pub collected_world : WorldSound w → WorldSound (collected w)
-  collected_world old = record { rooted = record { root = old.rooted.root; answers = tt }; queues = old.queues; lookups = lookups old.lookups; requests = requests old.requests }
+  pub collected_world : WorldSound w → WorldSound (with_answers w answers)
+  collected_world old = record { rooted = record { root = old.rooted.root; answers = sorted }; queues = old.queues; lookups = lookups old.lookups; requests = requests old.requests }
 
-  asked : RequestsAskedWhileLive w → RequestsAskedWhileLive (collected w)
-  asked old live = moved_asked w (old live) (collected w).kernel (unmoved w.kernel (collected w).kernel refl refl (omega (arith))) (omega (arith)) (λ unique low none. none)
+  asked : RequestsAskedWhileLive w → RequestsAskedWhileLive (with_answers w answers)
+  asked old live = moved_asked w (old live) (with_answers w answers).kernel (unmoved w.kernel (with_answers w answers).kernel refl refl (omega (arith))) (omega (arith)) (λ unique low none. none)
 
-  links : LinksSound w → LinksSound (collected w)
+  links : LinksSound w → LinksSound (with_answers w answers)
   links old = record {
     held = old.held;
     serving = old.serving;
@@ -71,13 +74,13 @@ module _ (w : World) where
     idle = λ dead. let at = old.idle dead in record { requests = at.requests; replies = at.replies; results = at.results; kept = at.kept; server = at.server };
   }
 
-  held : HeldKnownWhileLive w → HeldKnownWhileLive (collected w)
+  held : HeldKnownWhileLive w → HeldKnownWhileLive (with_answers w answers)
   held old live unique t at = let known = old live unique t at in record { names = known.names; known = known.known }
 
-  pub collected_both : (p : Plain) → BothSound w p → BothSound (collected w) (plain_collected p)
+  pub collected_both : (p : Plain) → BothSound w p → BothSound (with_answers w answers) (plain_with_answers p answers)
   collected_both p both =
       record {
-        alike = collected_alike w p both.alike;
+        alike = answers_alike w answers p both.alike answers refl;
         world = collected_world both.world;
         asked = asked both.asked;
         links = links both.links;
@@ -87,7 +90,7 @@ module _ (w : World) where
         served = both.served;
       }
 
-  pub collected_releases : ReleasesKnown w → ReleasesKnown (collected w)
+  pub collected_releases : ReleasesKnown w → ReleasesKnown (with_answers w answers)
   collected_releases old =
       let files = old.files in
       record {
@@ -108,8 +111,8 @@ module _ (w : World) where
         held = old.held;
       }
 
-  pub collected_faultless : Faultless w → Faultless (collected w)
+  pub collected_faultless : Faultless w → Faultless (with_answers w answers)
   collected_faultless old = record { queued = old.queued; sent = old.sent; kept = old.kept }
 
-  pub collected_fits : RepliesFitWhileLive w → RepliesFitWhileLive (collected w)
+  pub collected_fits : RepliesFitWhileLive w → RepliesFitWhileLive (with_answers w answers)
   collected_fits old live = let at = old live in record { released = at.released; interrupted = at.interrupted; results = at.results }

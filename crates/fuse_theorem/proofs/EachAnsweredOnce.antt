@@ -12,11 +12,9 @@ use Rattle.fuse_spec.specs.Records.{Record, outcome, refused, answered, answers_
 use Rattle.fuse_spec.specs.Runs.{AnswersApart, AnswersOnce}
 use Rattle.fuse_theorem.specs.AnswersSound.{AnswersSound}
 use Rattle.fuse_theorem.specs.EachEvent.{IsRooted}
-use Rattle.fuse_theorem.specs.FirstPath.{Recorded, none_left, one_refused, one_accepted}
-use Rattle.fuse_theorem.proofs.AnsweredOnce.{Unanswered}
-use Rattle.fuse_theorem.proofs.AnswersApart.{none_answers, apart_then}
-use Rattle.fuse_theorem.proofs.AnswersStay.{calls_stay, collected_sound}
-use Rattle.fuse_theorem.proofs.FirstWorlds.{IsCollected}
+use Rattle.fuse_theorem.specs.Recorded.{Recorded, none_left, one_refused, one_accepted}
+use Rattle.fuse_theorem.proofs.AnswersApart.{Unanswered, none_answers, apart_then}
+use Rattle.fuse_theorem.proofs.AnswersStay.{IsCollected, calls_stay, collected_sound}
 use Rattle.fuse_theorem.proofs.Rooted.{stays_rooted}
 
 -- A call whose answer is collected is not answered again.

@@ -12,7 +12,7 @@ use Rattle.fuse_spec.proofs.QueueSoundness.{IsSound-enqueue}
 use Rattle.fuse_theorem.specs.Numbering.{IsNumbered}
 use Rattle.fuse_theorem.specs.Conditions.{OneId, KnownAreHeld, TablesSound}
 use Rattle.fuse_theorem.proofs.Finding.{other_is}
-use Rattle.fuse_theorem.proofs.FirstMounts.{empty_sound}
+use Rattle.fuse_theorem.proofs.EmptyQueues.{empty_sound}
 
 -- a kernel that has no table of nodes knows the root, which each server holds
 known_held : (t : NodeTable) (id generation : ℕ) → generation_known [] id ≡ Some generation → (file : ℕ) × Denotes t id generation file

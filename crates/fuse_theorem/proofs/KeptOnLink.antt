@@ -35,7 +35,7 @@ use Rattle.fuse_theorem.proofs.Happened.{Happened, by_mount, by_call, by_read_in
 use Rattle.fuse_spec.specs.Worlds.{World, Sent, first_world, after_read_pending, replying, after_take, after_perform, after_write, after_settle}
 use Rattle.fuse_theorem.specs.Copies.{SomeHas, here, there, KeptAreSent}
 use Rattle.fuse_theorem.specs.WorldSound.{WorldSound}
-use Rattle.fuse_theorem.proofs.FirstReads.{number_even}
+use Rattle.fuse_theorem.proofs.DrawnNumbers.{number_even}
 use Rattle.fuse_theorem.proofs.NumbersStay.{Hears, goes_on, ends as heard_ends, calls_of, written_heard, unheard, numbers_stay}
 use Rattle.fuse_theorem.proofs.NodesSound.{put_found}
 use Rattle.fuse_theorem.proofs.PerformedRest.{performed_rest}

@@ -12,7 +12,7 @@ use Rattle.fuse_spec.specs.Plain.{Plain}
 use Rattle.fuse_spec.specs.PlainSteps.{Takes}
 use Rattle.fuse_spec.specs.Counts.{Keeps}
 use Rattle.fuse_spec.specs.Alike.{Alike}
-use Rattle.fuse_theorem.specs.FirstPath.{Recorded, none_left, one_refused, one_accepted}
+use Rattle.fuse_theorem.specs.Recorded.{Recorded, none_left, one_refused, one_accepted}
 use Rattle.fuse_theorem.proofs.PlainWorld.{steps_in_words as in_words}
 
 -- What is sound of two worlds: events of this kind keep it, and so does the collecting of answers. Such worlds are alike, and keep the reference protocol.

@@ -43,7 +43,7 @@ use Rattle.fuse_theorem.specs.Numbering.{IsNumbered, IsNumberedWhileLive}
 use Rattle.fuse_theorem.proofs.Answered.{waiting_is}
 use Rattle.fuse_theorem.proofs.CallNumbers.{none_left, without_numbered, read_numbered, interrupt_replied_numbered, begun_numbered, signalled_numbered, replied_numbered}
 use Rattle.fuse_theorem.proofs.Finding.{same_is}
-use Rattle.fuse_theorem.proofs.FirstReads.{number_below, number_even}
+use Rattle.fuse_theorem.proofs.DrawnNumbers.{number_below, number_even}
 use Rattle.fuse_theorem.proofs.Fresh.{mounted_numbered}
 use Rattle.fuse_theorem.proofs.GoingOn.{GoesOn, begun_goes_on, signalled_goes_on, replied_goes_on}
 use Rattle.fuse_theorem.proofs.Happened.{Happened, by_mount, by_call, by_read_interrupt, by_read_forgets, by_read_pending, by_take, by_perform, by_again, by_write, by_settle, by_signal, by_tick, by_drop, by_evict, by_abort, happened}

@@ -26,7 +26,7 @@ use Rattle.fuse_spec.specs.Taking.{taking, interrupting}
 use Rattle.fuse_spec.specs.Performs.{served}
 use Rattle.fuse_spec.specs.Worlds.{World, Sent, first_world, replying, after_read_pending as world_after_read, after_take, after_perform, after_write, after_settle}
 use Rattle.fuse_spec.specs.Events.{Event, Outcome}
-use Rattle.fuse_spec.specs.Records.{collected}
+use Rattle.fuse_spec.specs.Answers.{Answer}
 use Rattle.fuse_spec.specs.Steps.{Happens}
 use Rattle.fuse_spec.proofs.Tables.{get_put_here, get_put_there, get_gone_there}
 use Rattle.fuse_spec.proofs.QueueReadings.{request_under-mark_other}
@@ -34,6 +34,7 @@ use Rattle.fuse_theorem.specs.Copies.{SomeHas}
 use Rattle.fuse_theorem.specs.Links.{LinksSound}
 use Rattle.fuse_theorem.specs.OnTheWay.{IsToBeHeld, IsOnItsWay, sent, held, replied, ReadAreOnTheirWay}
 use Rattle.fuse_theorem.specs.WorldSound.{WorldSound}
+use Rattle.fuse_theorem.proofs.WithAnswers.{with_answers}
 use Rattle.fuse_theorem.proofs.Finding.{other_is}
 use Rattle.fuse_theorem.proofs.GoingOn.{begun_goes_on}
 use Rattle.fuse_theorem.proofs.Happened.{Happened, by_mount, by_call, by_read_interrupt, by_read_forgets, by_read_pending, by_take, by_perform, by_again, by_write, by_settle, by_signal, by_tick, by_drop, by_evict, by_abort, happened}
@@ -257,5 +258,5 @@ pub first_on_their_way : ReadAreOnTheirWay first_world
 first_on_their_way live = absurd (true≢false (sym live))
 
 -- It stays so as answers are collected.
-pub collected_way : (w : World) → ReadAreOnTheirWay w → ReadAreOnTheirWay (collected w)
-collected_way w old live u r under read = carried w (collected w) u (λ h. sent h) (λ h. held h) (λ h. replied h) (old live u r under read)
+pub collected_way : (w : World) (answers : Map Answer) → ReadAreOnTheirWay w → ReadAreOnTheirWay (with_answers w answers)
+collected_way w answers old live u r under read = carried w (with_answers w answers) u (λ h. sent h) (λ h. held h) (λ h. replied h) (old live u r under read)

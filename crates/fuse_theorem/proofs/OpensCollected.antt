@@ -1,11 +1,13 @@
 -- Open numbers stay balanced, and of one open file at most, as answers are collected.
-use Rattle.fuse_spec.specs.Records.{collected}
+use Rattle.fuse_spec.specs.Maps.{Map}
+use Rattle.fuse_spec.specs.Answers.{Answer}
 use Rattle.fuse_spec.specs.Worlds.{World}
 use Rattle.fuse_theorem.specs.OpenNumbers.{OpensSound}
 use Rattle.fuse_theorem.specs.OpensOnce.{OpensOnceWhileLive}
+use Rattle.fuse_theorem.proofs.WithAnswers.{with_answers}
 
-pub collected_opens : (w : World) → OpensSound w → OpensSound (collected w)
-collected_opens w old =
+pub collected_opens : (w : World) (answers : Map Answer) → OpensSound w → OpensSound (with_answers w answers)
+collected_opens w answers old =
     let apart = old.apart in
     record {
       apart = record { once = apart.once; below = apart.below; opens = apart.opens; closing = apart.closing; uses = apart.uses };
@@ -14,5 +16,5 @@ collected_opens w old =
       unopened = old.unopened;
     }
 
-pub collected_once : (w : World) → OpensOnceWhileLive w → OpensOnceWhileLive (collected w)
-collected_once w old live = let now = old live in record { below = now.below; one = now.one; unopened = now.unopened; once = now.once }
+pub collected_once : (w : World) (answers : Map Answer) → OpensOnceWhileLive w → OpensOnceWhileLive (with_answers w answers)
+collected_once w answers old live = let now = old live in record { below = now.below; one = now.one; unopened = now.unopened; once = now.once }

@@ -43,7 +43,7 @@ use Rattle.fuse_spec.specs.Signals.{signal_effect, reply_effect}
 use Rattle.fuse_spec.proofs.QueueSoundness.{IsSound-enqueue, IsSound-mark, IsSound-interrupt, IsSound-without, IsSound-dequeue, IsSound-read_interrupt, IsSound-draw, IsSound-mark_interrupted, mark_under-pending, is_interrupted-marked, count_by-absent}
 use Rattle.fuse_theorem.proofs.Accepted.{next_within, after_next}
 use Rattle.fuse_theorem.proofs.Happened.{Happened, by_mount, by_call, by_read_interrupt, by_read_forgets, by_read_pending, by_take, by_perform, by_again, by_write, by_settle, by_signal, by_tick, by_drop, by_evict, by_abort, happened}
-use Rattle.fuse_theorem.proofs.FirstMounts.{empty_sound}
+use Rattle.fuse_theorem.proofs.EmptyQueues.{empty_sound}
 
 -- ---- the queues by themselves
 

@@ -34,7 +34,7 @@ use Rattle.fuse_theorem.specs.KnownNodes.{IsKnown, NodesKnown}
 use Rattle.fuse_theorem.specs.ReleasesKnown.{ReleaseKnown}
 use Rattle.fuse_theorem.proofs.CountsStay.{advanced_same}
 use Rattle.fuse_theorem.proofs.Finding.{All-removed}
-use Rattle.fuse_theorem.proofs.FirstQueues.{All-marked}
+use Rattle.fuse_theorem.proofs.SetMarks.{All-marked}
 use Rattle.fuse_theorem.proofs.KnownWalks.{OpenKnown}
 use Rattle.fuse_theorem.proofs.NodesKnown.{All-more, learnt_more}
 use Rattle.fuse_theorem.proofs.Values.{All-put, All-gone, All-get}

@@ -33,7 +33,7 @@ use Rattle.fuse_theorem.specs.Faultless.{Faultless}
 use Rattle.fuse_theorem.specs.Numbering.{IsNumbered}
 use Rattle.fuse_theorem.specs.RepliesFit.{IsEmptyUnder, FitsPurpose, RepliesFit, RepliesFitWhileLive}
 use Rattle.fuse_theorem.proofs.Finding.{All-removed}
-use Rattle.fuse_theorem.proofs.FirstQueues.{All-marked}
+use Rattle.fuse_theorem.proofs.SetMarks.{All-marked}
 use Rattle.fuse_theorem.proofs.GoingOn.{begun_goes_on}
 use Rattle.fuse_theorem.proofs.Happened.{Happened, by_mount, by_call, by_read_interrupt, by_read_forgets, by_read_pending, by_take, by_perform, by_again, by_write, by_settle, by_signal, by_tick, by_drop, by_evict, by_abort, happened}
 use Rattle.fuse_theorem.proofs.KeptReplies.{taken_kept, served_kept, settled_kept}

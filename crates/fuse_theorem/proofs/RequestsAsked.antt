@@ -14,10 +14,9 @@ use Rattle.fuse_spec.specs.Server.{HeldRequest}
 use Rattle.fuse_spec.specs.Worlds.{World, Sent}
 use Rattle.fuse_spec.proofs.QueueCounts.{lookup-no_key, key_count}
 use Rattle.fuse_theorem.specs.AskedRequests.{serves_call, IsAsked, IsInterrupted, SentAsked, HeldAsked, RequestsAsked}
-use Rattle.fuse_theorem.specs.FirstPath.{unperformed}
-use Rattle.fuse_theorem.specs.Unperformed.{RequestsSound}
+use Rattle.fuse_theorem.specs.Unperformed.{unperformed, RequestsSound}
 use Rattle.fuse_theorem.proofs.Finding.{same_is, none_passes}
-use Rattle.fuse_theorem.proofs.FirstReads.{number_below, number_even}
+use Rattle.fuse_theorem.proofs.DrawnNumbers.{number_below, number_even}
 use Rattle.fuse_theorem.proofs.Queuing.{All-at}
 use Rattle.fuse_theorem.proofs.StandsOnce.{one_held}
 use Rattle.fuse_theorem.proofs.StillAsked.{StillThere, Follows}

@@ -28,10 +28,9 @@ use Rattle.fuse_spec.specs.Events.{Event, Outcome}
 use Rattle.fuse_spec.specs.Steps.{step}
 use Rattle.fuse_spec.proofs.QueueCounts.{key_count-found}
 use Rattle.fuse_spec.proofs.Tables.{get_put_there, get_gone_here}
-use Rattle.fuse_theorem.specs.FirstPath.{unperformed}
+use Rattle.fuse_theorem.specs.Unperformed.{unperformed, BearsNumber, IsUnanswered, RequestsSound}
 use Rattle.fuse_theorem.specs.Numbering.{IsNumberedWhileLive}
-use Rattle.fuse_theorem.specs.Unperformed.{BearsNumber, IsUnanswered, RequestsSound}
-use Rattle.fuse_theorem.proofs.FirstReads.{number_even}
+use Rattle.fuse_theorem.proofs.DrawnNumbers.{number_even}
 use Rattle.fuse_theorem.proofs.Happened.{Happened, by_mount, by_call, by_read_interrupt, by_read_forgets, by_read_pending, by_take, by_perform, by_again, by_write, by_settle, by_signal, by_tick, by_drop, by_evict, by_abort, happened}
 use Rattle.fuse_theorem.proofs.NodesSound.{left_none}
 use Rattle.fuse_theorem.proofs.PerformedRest.{performed_rest}

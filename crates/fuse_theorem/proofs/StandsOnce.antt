@@ -30,11 +30,10 @@ use Rattle.fuse_spec.proofs.QueueCounts.{key_count, count_by-push}
 use Rattle.fuse_spec.proofs.QueueReadings.{pending-read_pending}
 use Rattle.fuse_spec.proofs.Tables.{get_put_there, get_gone_here, get_gone_there}
 use Rattle.fuse_theorem.specs.Conditions.{UnreadAreUnsent}
-use Rattle.fuse_theorem.specs.FirstPath.{unperformed}
+use Rattle.fuse_theorem.specs.Unperformed.{unperformed, StandsOnce}
 use Rattle.fuse_theorem.specs.Numbering.{IsNumbered, IsNumberedWhileLive}
-use Rattle.fuse_theorem.specs.Unperformed.{StandsOnce}
 use Rattle.fuse_theorem.proofs.Finding.{same_is, other_is, none_passes, all_fail}
-use Rattle.fuse_theorem.proofs.FirstReads.{number_below, number_even}
+use Rattle.fuse_theorem.proofs.DrawnNumbers.{number_below, number_even}
 use Rattle.fuse_theorem.proofs.GoingOn.{begun_goes_on}
 use Rattle.fuse_theorem.proofs.Happened.{Happened, by_mount, by_call, by_read_interrupt, by_read_forgets, by_read_pending, by_take, by_perform, by_again, by_write, by_settle, by_signal, by_tick, by_drop, by_evict, by_abort, happened}
 use Rattle.fuse_theorem.proofs.LinkSums.{sum_removed}

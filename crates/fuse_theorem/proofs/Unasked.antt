@@ -13,7 +13,7 @@ use Rattle.fuse_spec.specs.Worlds.{World, after_read_interrupt, after_read_forge
 use Rattle.fuse_spec.specs.Plain.{Plain, Ask}
 use Rattle.fuse_spec.specs.Alike.{Alike}
 use Rattle.fuse_theorem.proofs.Finding.{found_key}
-use Rattle.fuse_theorem.proofs.FirstReads.{number_even}
+use Rattle.fuse_theorem.proofs.DrawnNumbers.{number_even}
 use Rattle.fuse_theorem.proofs.Reading.{read_interrupt_alike, read_forgets_alike}
 use Rattle.fuse_theorem.proofs.Releasing.{next_unasked}
 

@@ -7,7 +7,7 @@ use Rattle.fuse_spec.specs.Steps.{Happens}
 use Rattle.fuse_spec.specs.Plain.{Plain}
 use Rattle.fuse_theorem.specs.EachEvent.{Needs}
 use Rattle.fuse_theorem.specs.WorldSound.{WorldSound, NeedsNoMore}
-use Rattle.fuse_theorem.proofs.FirstMounts.{empty_sound}
+use Rattle.fuse_theorem.proofs.EmptyQueues.{empty_sound}
 use Rattle.fuse_theorem.proofs.Learning.{one_to_one}
 use Rattle.fuse_theorem.proofs.LookupsStay.{first_lookups, lookups_stay, known_held}
 use Rattle.fuse_theorem.proofs.QueuesSound.{stays_sound}

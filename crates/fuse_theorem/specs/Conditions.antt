@@ -23,7 +23,7 @@ use Rattle.fuse_spec.specs.Worlds.{World, Sent}
 use Rattle.fuse_spec.specs.Plain.{Plain, Ask}
 use Rattle.fuse_spec.specs.Plain as plain
 use Rattle.fuse_spec.specs.Denotes.{Denotes, MeansIn, MeansOpenIn, generation_known, OperationAlike, ReplyAlike, Names, Opens}
-use Rattle.fuse_theorem.specs.FirstPath.{unperformed}
+use Rattle.fuse_theorem.specs.Unperformed.{unperformed}
 
 -- No two nodes of the server's table have the same file.
 abbrev pub OneId : NodeTable → Type 0

@@ -3,9 +3,7 @@ pub mod ServerTables
 pub mod Copies
 pub mod Lookups
 pub mod Conditions
-pub mod FirstPath
 pub mod EachEvent
-pub mod FirstWorld
 pub mod AnswersSound
 pub mod Unperformed
 pub mod WorldSound
@@ -26,3 +24,5 @@ pub mod OpenNumbers
 pub mod OpensOnce
 pub mod AllSound
 pub mod OnTheWay
+pub mod Reached
+pub mod Recorded

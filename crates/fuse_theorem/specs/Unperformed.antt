@@ -1,10 +1,17 @@
 -- What is true of the requests that are not performed, whatever happened.
-use Rattle.std.specs.Prelude.{◌≡◌, ◌≢◌, ◌≤◌, ◌%◌, ℕ, None, All}
+use Rattle.std.specs.Prelude.{◌≡◌, ◌≢◌, ◌≤◌, ◌+◌, ◌%◌, ℕ, None, All, cond, count_by, is_some, nat_eq}
+use Rattle.fuse_spec.specs.declared.Purpose.{Purpose}
+use Rattle.fuse_spec.specs.declared.QueuedRequest.{QueuedRequest}
+use Rattle.fuse_spec.specs.Queues.{pending}
 use Rattle.fuse_spec.specs.Maps.{get}
 use Rattle.fuse_spec.specs.Messages.{Request, RequestBody, init, asks, release, forget, batch_forget, interrupt}
 use Rattle.fuse_spec.specs.Uniques.{interrupt_number}
 use Rattle.fuse_spec.specs.Worlds.{World, Sent}
-use Rattle.fuse_theorem.specs.FirstPath.{unperformed}
+
+-- How often a request that is not performed stands under a number: pending, on the link, or held.
+abbrev pub unperformed : World → ℕ → ℕ
+unperformed w unique =
+    count_by (λ (e : ℕ × QueuedRequest Purpose). nat_eq unique e.0) (pending w.kernel.queues) + count_by (λ (r : Request). nat_eq unique r.unique) w.requests + cond (is_some (get w.server.held unique)) 1 0
 
 -- Under an even number one request at most is pending, on the link or held. INTERRUPTs, which bear odd numbers, may be queued anew.
 abbrev pub StandsOnce : World → Type 0

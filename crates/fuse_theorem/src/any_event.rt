@@ -56,7 +56,7 @@ ghost use Rattle.fuse_theorem.specs.WorldSound.{WorldSound, NeedsNoMore};
 ghost use Rattle.fuse_theorem.specs.Conditions.{OneId, KnownAreHeld, TablesSound, CanPerform, CanDecline, CanRelease, IsReply, IsDeclined, UnreadAreUnsent, HoldsAll, HoldsOpens, IsInterrupt, IsUnsent, awaiting};
 ghost use Rattle.fuse_spec.specs.Records.{Record, collected};
 ghost use Rattle.fuse_spec.specs.Runs.{AnswersOnce};
-ghost use Rattle.fuse_theorem.specs.FirstPath.{Recorded};
+ghost use Rattle.fuse_theorem.specs.Recorded.{Recorded};
 ghost use Rattle.fuse_theorem.specs.AnswersSound.{AnswersSound};
 
 /// The world before its first mount is alike to the plain world with the root alone.

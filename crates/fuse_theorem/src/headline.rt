@@ -13,7 +13,7 @@ ghost use Rattle.fuse_spec.specs.Steps.{Happens};
 ghost use Rattle.fuse_spec.specs.Worlds.{World, first_world};
 ghost use Rattle.fuse_theorem.specs.AllSound.{AllSound};
 ghost use Rattle.fuse_theorem.specs.AnswersSound.{AnswersSound};
-ghost use Rattle.fuse_theorem.specs.FirstPath.{Recorded};
+ghost use Rattle.fuse_theorem.specs.Recorded.{Recorded};
 
 /// Before the first mount all is sound. With any event that the machine does not refuse the plain world takes a step, and all is sound again: so the two
 /// are alike. It stays so as answers are collected.

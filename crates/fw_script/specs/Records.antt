@@ -12,8 +12,8 @@ use Rattle.fuse_spec.specs.declared.Refusal.{Refusal}
 use Rattle.fuse_spec.specs.declared.Refusal.TheVariants as refusal
 use Rattle.fuse_spec.specs.declared.Kind.{Kind}
 use Rattle.fuse_spec.specs.declared.Kind.TheVariants as kind
-use Rattle.fk_kernel.specs.declared.call.Answer.{Answer}
-use Rattle.fk_kernel.specs.declared.call.Answer.TheVariants as answer
+use Rattle.fk_syscalls.specs.declared.call.Answer.{Answer}
+use Rattle.fk_syscalls.specs.declared.call.Answer.TheVariants as answer
 use Rattle.fw_world.specs.declared.record.Record.{Record}
 use Rattle.fw_world.specs.declared.record.Record.TheVariants as records
 use Rattle.fw_script.specs.declared.line.LineFault.{LineFault}
@@ -95,12 +95,24 @@ outcome_line (outcome.Done unique errno len) =
     codes "done " ++ decimal unique ++ codes " " ++ decimal errno ++ codes " " ++ decimal len
 outcome_line (outcome.Written unique errno) = codes "written " ++ decimal unique ++ codes " " ++ decimal errno
 outcome_line (outcome.Settled unique errno) = codes "settled " ++ decimal unique ++ codes " " ++ decimal errno
+outcome_line (outcome.Now clock) = codes "now " ++ decimal clock
+outcome_line outcome.Dropped = codes "dropped"
+outcome_line (outcome.Evicted node count) = codes "evicted " ++ decimal node ++ codes " " ++ decimal count
 
 -- the rest of an answer's line, after the call's number
 abbrev pub answer_words : Answer → List ℕ
+answer_words answer.Done = codes "0"
 answer_words (answer.Attributes a) =
     codes "0 " ++ kind_word a.kind ++ codes " " ++ decimal a.ino ++ codes " " ++ decimal a.size ++ codes " " ++ decimal a.nlink
 answer_words (answer.Failed errno) = decimal errno
+
+-- a node in a list of nodes: its id, its generation and its lookup count
+abbrev pub node_words : ℕ × ℕ × ℕ → List ℕ
+node_words node = codes " " ++ decimal node.0 ++ codes ":" ++ decimal node.1 ++ codes ":" ++ decimal node.2
+
+-- the line of a side and its nodes
+abbrev pub nodes_text : List ℕ → List (ℕ × ℕ × ℕ) → List ℕ
+nodes_text side nodes = side ++ flat_map node_words nodes ++ codes "\n"
 
 -- a record's line
 abbrev pub record_line : Record → List ℕ

@@ -4,7 +4,7 @@ use Rattle.std.specs.List.{slice_split}
 use Rattle.fw_script.specs.Lines.{FaultIs, Names}
 use Rattle.fw_script.specs.Words.{parts_left, words_of}
 use Rattle.fw_script.specs.declared.line.LineFault.{LineFault}
-use Rattle.fw_world.specs.declared.event.Event.{Event}
+use Rattle.fw_script.specs.declared.line.Line.{Line}
 
 -- the lines: what stands before, between and after the line feeds
 abbrev pub lines_of : List ℕ → List (List ℕ)
@@ -20,7 +20,7 @@ IsPassedOver line = (length line ≡ 0) ⊎ (slice_index line 0 ≡ 35)
 
 -- a line of a good script
 abbrev pub IsGoodLine : List ℕ → Type 0
-IsGoodLine line = IsPassedOver line ⊎ ((e : Event) × Names e (words_of line))
+IsGoodLine line = IsPassedOver line ⊎ ((l : Line) × Names l (words_of line))
 
 -- a script that is run
 abbrev pub IsGoodScript : List ℕ → Type 0

@@ -14,11 +14,8 @@ mod word;
 
 pub use frame::run_frame;
 pub use hex_text::{HexFault, read_hex, write_hex};
-pub use line::{LineFault, read_event};
+pub use line::{Line, LineFault, read_line};
 pub use number::read_number;
 pub use print::{AnswerLine, OutcomeLine, RecordLine};
 pub use script::run_script;
 pub use stop::{cannot_read, no_memory};
-
-#[cfg(test)]
-mod tests;

@@ -1,6 +1,6 @@
 //! Lines as events.
 
-ghost use Rattle.std.specs.Prelude.{◌≡◌, ◌≢◌, ◌≤◌, ◌++◌, ◌∷◌, ◌↔◌, [], ℕ, List, IsTrue, MatchOption, MatchResult, codes, decimal, option_copied};
+ghost use Rattle.std.specs.Prelude.{◌≡◌, ◌≢◌, ◌≤◌, ◌++◌, ◌∷◌, ◌↔◌, [], ℕ, List, IsTrue, MatchOption, MatchResult, codes, decimal, drop, option_copied, take};
 ghost use Rattle.fw_script.specs.Words.{words_of, words_left};
 ghost use Rattle.fw_script.specs.Lines.{ArgumentFaultIs, FaultIs, IsText, Names, name_of};
 ghost use Rattle.fw_script.specs.declared.line.Form.{Form};
@@ -22,16 +22,31 @@ pub enum LineFault {
     BadText,
 }
 
+/// What a line says.
+#[derive(Clone, Copy, Debug)]
+pub enum Line<'a> {
+    /// An event.
+    Event(Event<'a>),
+    /// The nodes of kernel and server are to be printed.
+    Show,
+}
+
 /// What a line begins with.
 #[derive(Clone, Copy, Debug)]
 pub(crate) enum Form {
     Mount,
     CallStat,
+    CallMkdir,
+    ReadForgets,
     ReadPending,
     Take,
     Do,
     Write,
     Settle,
+    Tick,
+    DropName,
+    Evict,
+    Show,
 }
 
 /// The form that one word names.
@@ -46,6 +61,10 @@ fn form_of_word(word: &[u8]) -> Option<Form>
         b"do" => Some(Form::Do),
         b"write" => Some(Form::Write),
         b"settle" => Some(Form::Settle),
+        b"tick" => Some(Form::Tick),
+        b"drop" => Some(Form::DropName),
+        b"evict" => Some(Form::Evict),
+        b"show" => Some(Form::Show),
         _ => None,
     }
 }
@@ -58,6 +77,7 @@ fn form_of_call(word: &[u8]) -> Option<Form>
 {
     match word {
         b"stat" => Some(Form::CallStat),
+        b"mkdir" => Some(Form::CallMkdir),
         _ => None,
     }
 }
@@ -69,6 +89,7 @@ fn form_of_read(word: &[u8]) -> Option<Form>
         (λ f. name_of f ≡ codes "read" ∷ word.now ∷ []) }
 {
     match word {
+        b"f" => Some(Form::ReadForgets),
         b"p" => Some(Form::ReadPending),
         _ => None,
     }
@@ -141,31 +162,75 @@ fn one_text(rest: Option<&[u8]>) -> Result<&[u8], LineFault>
     Ok(word)
 }
 
-/// The event that a line names. Its path is lent from the line.
+/// The number and the text that a rest of two words is.
+fn number_and_text(rest: Option<&[u8]>) -> Result<(u64, &[u8]), LineFault>
+    ensures { let words = words_left (option_copied rest.entry) in MatchResult result
+        (λ two. (words ≡ decimal two.0 ∷ two.1.now ∷ []) × IsText two.1.now)
+        (ArgumentFaultIs 2 words (take 1 words) (drop 1 words)) }
+{
+    let Some((first, second)) = two_words(rest) else {
+        return Err(LineFault::WrongWords);
+    };
+    let Some(number) = read_number(first) else {
+        return Err(LineFault::BadNumber);
+    };
+    if !is_text(second) {
+        return Err(LineFault::BadText);
+    }
+    Ok((number, second))
+}
+
+/// Refuses words after a line's form.
+fn no_words(rest: Option<&[u8]>) -> Result<(), LineFault>
+    ensures { let words = words_left (option_copied rest.entry) in MatchResult result
+        (λ none. words ≡ [])
+        (ArgumentFaultIs 0 words [] []) }
+{
+    match rest {
+        Some(_) => Err(LineFault::WrongWords),
+        None => Ok(()),
+    }
+}
+
+/// What a line says. Its path or name is lent from the line.
 ///
 /// The fault is the first of `UnknownEvent`, `WrongWords`, `BadNumber` and `BadText` that applies.
-pub fn read_event(line: &[u8]) -> Result<Event<'_>, LineFault>
-    ensures { MatchResult result (λ event. Names event (words_of line.now)) (FaultIs (words_of line.now)) }
+pub fn read_line(line: &[u8]) -> Result<Line<'_>, LineFault>
+    ensures { MatchResult result (λ l. Names l (words_of line.now)) (FaultIs (words_of line.now)) }
 {
     let Some((form, rest)) = split_form(line) else {
         return Err(LineFault::UnknownEvent);
     };
-    match form {
+    let event = match form {
         Form::Mount => {
             let (found_ms, missing_ms) = two_numbers(rest)?;
-            Ok(Event::Mount {
+            Event::Mount {
                 found_ms,
                 missing_ms,
-            })
+            }
         }
-        Form::CallStat => {
-            let path = one_text(rest)?;
-            Ok(Event::Call(Call::Stat { path }))
+        Form::CallStat => Event::Call(Call::Stat {
+            path: one_text(rest)?,
+        }),
+        Form::CallMkdir => Event::Call(Call::Mkdir {
+            path: one_text(rest)?,
+        }),
+        Form::ReadForgets => Event::ReadForgets(one_number(rest)?),
+        Form::ReadPending => Event::ReadPending(one_number(rest)?),
+        Form::Take => Event::Take(one_number(rest)?),
+        Form::Do => Event::Do(one_number(rest)?),
+        Form::Write => Event::Write(one_number(rest)?),
+        Form::Settle => Event::Settle(one_number(rest)?),
+        Form::Tick => Event::Tick(one_number(rest)?),
+        Form::DropName => {
+            let (directory, name) = number_and_text(rest)?;
+            Event::DropName { directory, name }
         }
-        Form::ReadPending => Ok(Event::ReadPending(one_number(rest)?)),
-        Form::Take => Ok(Event::Take(one_number(rest)?)),
-        Form::Do => Ok(Event::Do(one_number(rest)?)),
-        Form::Write => Ok(Event::Write(one_number(rest)?)),
-        Form::Settle => Ok(Event::Settle(one_number(rest)?)),
-    }
+        Form::Evict => Event::Evict(one_number(rest)?),
+        Form::Show => {
+            no_words(rest)?;
+            return Ok(Line::Show);
+        }
+    };
+    Ok(Line::Event(event))
 }

@@ -4,7 +4,7 @@ ghost use Rattle.std.specs.Prelude.{◌≡◌, ◌↔◌, IsTrue, MatchOption, o
 ghost use Rattle.std.specs.Iterator.{YieldsFirstRef, item_count};
 ghost use Rattle.fw_script.specs.Scripts.{FirstFaultIs, IsGoodLine, IsGoodScript, IsPassedOver, LineFaultIs, lines_left, lines_of};
 
-use crate::line::{LineFault, read_event};
+use crate::line::{LineFault, read_line};
 use crate::split::split_once;
 
 /// What is left of a script, line by line.
@@ -36,7 +36,7 @@ impl<'a> Iterator for Lines<'a> {
     }
 }
 
-/// Whether a line names no event: an empty one, or one that begins with `#`.
+/// Whether a line says nothing: an empty one, or one that begins with `#`.
 pub(crate) fn is_passed_over(line: &[u8]) -> bool
     ensures { IsTrue result ↔ IsPassedOver line.now }
 {
@@ -50,7 +50,7 @@ fn fault_of(line: &[u8]) -> Option<LineFault>
     if is_passed_over(line) {
         return None;
     }
-    match read_event(line) {
+    match read_line(line) {
         Ok(_) => None,
         Err(fault) => Some(fault),
     }

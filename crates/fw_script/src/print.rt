@@ -75,6 +75,9 @@ impl fmt::Display for OutcomeLine {
             Outcome::Done { unique, errno, len } => write!(f, "done {unique} {errno} {len}"),
             Outcome::Written { unique, errno } => write!(f, "written {unique} {errno}"),
             Outcome::Settled { unique, errno } => write!(f, "settled {unique} {errno}"),
+            Outcome::Now { clock } => write!(f, "now {clock}"),
+            Outcome::Dropped => write!(f, "dropped"),
+            Outcome::Evicted { node, count } => write!(f, "evicted {node} {count}"),
         }
     }
 }
@@ -88,6 +91,7 @@ impl fmt::Display for AnswerLine {
 
     fn fmt<W: fmt::Write>(&self, f: &mut fmt::Formatter<W>) -> fmt::Result {
         match self.0 {
+            Answer::Done => write!(f, "0"),
             Answer::Attributes(
                 Attributes {
                     kind,

@@ -2,12 +2,12 @@
 
 ghost use Rattle.std.specs.Prelude.{◌≡◌, ◌≢◌, ◌⊎◌, ◌∷◌, [], Contains, IfErr, IfOk, IfSome, OnOk, flat_map, option_copied};
 ghost use Rattle.std.specs.Io.KnownBytes.{Appends};
-ghost use Rattle.fw_script.specs.Records.{event_text, frame_text, record_text};
+ghost use Rattle.fw_script.specs.Records.{event_text, frame_text, node_words, nodes_text, record_text};
 ghost use Rattle.fw_script.specs.Scripts.{IsGoodScript};
 ghost use Rattle.fw_script.specs.Stops.{status_of};
 
 use crate::hex_text::write_hex;
-use crate::line::read_event;
+use crate::line::{Line, read_line};
 use crate::lines::{Lines, first_fault, is_passed_over};
 use crate::print::RecordLine;
 use crate::stop::Stop;
@@ -80,6 +80,63 @@ fn run_event<A: Allocator + Copy, W: Write>(
     write_records(out, records.as_slice(), frame).map_err(|_| Stop::OutputRefused)
 }
 
+/// Writes a node: its id, its generation and its lookup count.
+fn write_node<W: Write>(out: &mut W, node: (u64, u64, u64)) -> io::Result<()>
+    ensures { OnOk result (Appends (W.contents out.old) (W.contents out.new) (node_words node)) }
+{
+    let (id, generation, count) = node;
+    write!(out, " {id}:{generation}:{count}")
+}
+
+/// Writes nodes one after another.
+fn write_list<W: Write>(out: &mut W, nodes: &[(u64, u64, u64)]) -> io::Result<()>
+    ensures { OnOk result (Appends (W.contents out.old) (W.contents out.new) (flat_map node_words nodes.now)) }
+{
+    for node in nodes {
+        write_node(out, *node)?;
+    }
+    Ok(())
+}
+
+/// Writes the line of one side's nodes.
+fn write_nodes<W: Write>(out: &mut W, side: &str, nodes: &[(u64, u64, u64)]) -> io::Result<()>
+    ensures { OnOk result (Appends (W.contents out.old) (W.contents out.new) (nodes_text side.now nodes.now)) }
+{
+    write!(out, "{side}")?;
+    write_list(out, nodes)?;
+    out.write_all(b"\n")
+}
+
+/// Writes the nodes that the kernel counts and those that the server holds.
+fn show<A: Allocator + Copy, W: Write>(world: &WorldIn<A>, out: &mut W) -> Result<(), Stop<'static>>
+    ensures { IfErr result (λ stop. status_of stop ≢ 1) }
+{
+    let (Ok(kernel), Ok(server)) = (world.kernel_nodes(), world.server_nodes()) else {
+        return Err(Stop::NoMemory);
+    };
+    if write_nodes(out, "kernel", kernel.as_slice()).is_err() {
+        return Err(Stop::OutputRefused);
+    }
+    write_nodes(out, "server", server.as_slice()).map_err(|_| Stop::OutputRefused)
+}
+
+/// Does what a good line says, and writes what it came to.
+fn run_line<A: Allocator + Copy, W: Write>(
+    world: &mut WorldIn<A>,
+    line: &[u8],
+    records: &mut Vec<Record, A>,
+    hex: bool,
+    out: &mut W,
+) -> Result<(), Stop<'static>>
+    ensures { IfErr result (λ stop. status_of stop ≢ 1) }
+{
+    match read_line(line) {
+        Ok(Line::Event(event)) => run_event(world, event, records, hex, out),
+        Ok(Line::Show) => show(world, out),
+        Err(_) => Ok(()),
+    }
+}
+
 /// Runs the events of a script whose lines are good.
 fn run_events<A: Allocator + Copy, W: Write>(
     alloc: A,
@@ -99,10 +156,8 @@ fn run_events<A: Allocator + Copy, W: Write>(
         if is_passed_over(line) {
             continue;
         }
-        if let Ok(event) = read_event(line) {
-            if let Err(stop) = run_event(&mut world, event, &mut records, hex, out) {
-                return Err(stop);
-            }
+        if let Err(stop) = run_line(&mut world, line, &mut records, hex, out) {
+            return Err(stop);
         }
     }
     flush(out)

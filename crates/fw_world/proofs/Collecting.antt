@@ -13,9 +13,9 @@ use Rattle.fuse_spec.specs.Worlds.{World}
 use Rattle.fuse_spec.specs.Records as records
 use Rattle.fuse_spec.specs.Records.{answers_of, collected}
 use Rattle.fuse_spec.proofs.Tables.{cmp_same}
-use Rattle.fuse_theorem.proofs.FirstAnswers.{with_answers}
-use Rattle.fk_kernel.specs.Values.{answer_of}
-use Rattle.fk_kernel.specs.declared.call.Answer.{Answer as GivenAnswer}
+use Rattle.fuse_theorem.proofs.WithAnswers.{with_answers}
+use Rattle.fk_syscalls.specs.Values.{answer_of}
+use Rattle.fk_syscalls.specs.declared.call.Answer.{Answer as GivenAnswer}
 use Rattle.fw_world.specs.declared.record.Record.{Record}
 use Rattle.fw_world.specs.declared.record.Record.TheVariants.{Answered}
 use Rattle.fw_world.specs.Values.{record_of}

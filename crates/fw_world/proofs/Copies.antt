@@ -1,6 +1,7 @@
 -- The kernel takes a copy on the reply link as the machine takes what it says.
-use Rattle.std.proofs.Common.{◌≡◌, ◌≤◌, ℕ, ◌-◌, ◌%◌, cond, List, length, Option, Some, None, nat_eq, slice_get, refl, ap, sym, subst, ◌∙◌, arith}
+use Rattle.std.proofs.Common.{◌≡◌, ◌≤◌, ℕ, ◌-◌, ◌%◌, Bool, true, false, cond, List, length, Option, Some, None, nat_eq, slice_get, inl, inr, refl, ap, sym, subst, ◌∙◌, arith}
 use Rattle.std.specs.Int.{w32, cast_signed}
+use Rattle.std.proofs.lemmas.Bool.Decides.{nat_tests}
 use Rattle.std.proofs.lemmas.Int.{to_z-of_z}
 use Rattle.fk_wire.specs.declared.opcode.Opcode.{Opcode}
 use Rattle.fk_wire.specs.declared.opcode.Opcode.TheVariants as opcode
@@ -8,66 +9,192 @@ use Rattle.fk_wire.specs.Fields.{number_at}
 use Rattle.fk_wire.specs.Replies.{reply_body, IsErrorNumber}
 use Rattle.fk_wire.proofs.OneRequest.{within}
 use Rattle.fk_wire.proofs.OneReply.{error_fits}
-use Rattle.fuse_spec.specs.declared.Attributes.{Attributes}
+use Rattle.fuse_spec.specs.declared.Opened.{Opened}
 use Rattle.fuse_spec.specs.declared.Purpose.{Purpose}
+use Rattle.fuse_spec.specs.declared.Refusal.{Refusal}
 use Rattle.fuse_spec.specs.declared.Purpose.TheVariants as purpose
 use Rattle.fuse_spec.specs.declared.WriteResult.{WriteResult}
 use Rattle.fuse_spec.specs.declared.WriteResult.TheVariants.{NoEntry}
+use Rattle.fuse_spec.specs.Maps.{get}
 use Rattle.fuse_spec.specs.Operations as op
-use Rattle.fuse_spec.specs.Messages.{WireReply}
+use Rattle.fuse_spec.specs.Operations.{Operation, lookup, getattr, mkdir, create, unlink, rmdir, rename, link, opening, readdir, read, write}
+use Rattle.fuse_spec.specs.Messages.{WireReply, asks}
 use Rattle.fuse_spec.specs.QueueCalls.{waiting}
-use Rattle.fuse_spec.specs.Kernel.{Kernel}
-use Rattle.fuse_spec.specs.Replies.{reply_written}
+use Rattle.fuse_spec.specs.Kernel.{Kernel, is_live}
+use Rattle.fuse_spec.specs.Events as event
+use Rattle.fuse_spec.specs.Steps.{RefusedWith}
+use Rattle.fuse_spec.specs.Replies.{reply_written, reply_taken, odd_taken, goes_with, is_init_reply, is_empty_reply}
+use Rattle.fuse_spec.specs.Vfs.{CallState, asked}
 use Rattle.fuse_spec.specs.Worlds.{World, Sent}
 use Rattle.fuse_frames.specs.ReplyTies.{SaysReply}
-use Rattle.fuse_theorem.specs.FirstPath.{OnlyRoot}
-use Rattle.fuse_theorem.proofs.FirstCopies.{Hears, nothing, of_init, of_missing, of_attributes, hears}
+use Rattle.fuse_frames.specs.RequestTies.{asked_opcode}
+use Rattle.fuse_theorem.specs.EachEvent.{CanHear}
+use Rattle.fuse_theorem.specs.EachEvent as each
+use Rattle.fuse_theorem.specs.Conditions.{awaiting}
+use Rattle.fuse_theorem.specs.Reached.{IsReached}
 use Rattle.fuse_theorem.proofs.Queuing.{All-at}
-use Rattle.fk_kernel.specs.Said.{Says, HasReplyHead, head_unique, Awaited, awaited, awaited_by, awaited_by_call, awaited_by_interrupt, IsTaken}
+use Rattle.fuse_theorem.proofs.WriteNeeds.{write_met}
+use Rattle.fk_kernel.specs.Said.{Says, HasReplyHead, head_unique, Awaited, reply_to, awaited, awaited_by, awaited_by_call, awaited_by_interrupt, opcode_of, IsTaken, IsAwaited, IsJudged}
 use Rattle.fk_kernel.specs.Said as said
+use Rattle.fk_kernel.specs.Refused.{is_past_end, WriteRefused, no_memory, exhausted}
+use Rattle.fk_kernel.proofs.Sayings.{says_one}
+use Rattle.fw_world.proofs.Refusing.{past_written}
 
 -- What says a reply has its head.
-says_head : (o : Opcode) (bytes : List ℕ) (unique : ℕ) (wire : WireReply) → SaysReply o bytes unique wire → HasReplyHead bytes × (head_unique bytes ≡ unique)
+pub says_head : (o : Opcode) (bytes : List ℕ) (unique : ℕ) (wire : WireReply) → SaysReply o bytes unique wire → HasReplyHead bytes × (head_unique bytes ≡ unique)
 says_head o bytes unique wire h =
     let s = h.spells in
     let long : 16 ≤ length bytes = within 16 (reply_body h.message.content) bytes s.5.1.1.1 in
     let error : IsErrorNumber (cast_signed w32 (number_at 4 4 bytes)) = subst IsErrorNumber (sym (ap (cast_signed w32) s.5.1.0 ∙ to_z-of_z w32 h.message.error (error_fits h.message.error s.1))) s.1 in
     (((long, s.5.0), error), s.5.1.1.0 ∙ h.unique_is)
 
--- A copy that stands on the reply link, and what the kernel made of its bytes.
-module _ (w : World) (root : OnlyRoot w) (place : ℕ) (sent : Sent) (found : slice_get w.replies place ≡ Some sent) (bytes : List ℕ) (written : WriteResult) (new : Kernel)
+same_opcode : (operation : Operation ℕ Opened) → asked_opcode (asks operation) ≡ opcode_of operation
+same_opcode (lookup d name) = refl
+same_opcode (getattr x) = refl
+same_opcode (mkdir d name) = refl
+same_opcode (create d name) = refl
+same_opcode (unlink d name) = refl
+same_opcode (rmdir d name) = refl
+same_opcode (rename d old e new) = refl
+same_opcode (link x d name) = refl
+same_opcode (opening x) = refl
+same_opcode (readdir d after size) = refl
+same_opcode (read o offset size) = refl
+same_opcode (write o offset bytes) = refl
+
+-- What awaits a reply for a call is judged as the machine judges it.
+is_judged : (operation : Operation ℕ Opened) → IsAwaited (reply_to (opcode_of operation)) → IsJudged (opcode_of operation)
+is_judged (lookup d name) h = h
+is_judged (getattr x) h = h
+is_judged (mkdir d name) h = h
+is_judged (create d name) h = h
+is_judged (unlink d name) h = h
+is_judged (rmdir d name) h = h
+is_judged (rename d old e new) h = h
+is_judged (link x d name) h = h
+is_judged (opening x) h = h
+is_judged (readdir d after size) h = h
+is_judged (read o offset size) h = h
+is_judged (write o offset bytes) h = h
+
+-- What awaits a number.
+module _ (k : Kernel) (unique : ℕ) where
+  awaits_even : (o : Option Purpose) → nat_eq (unique % 2) 1 ≡ false → waiting k.queues unique ≡ o → awaited k unique ≡ awaited_by k o
+  awaits_even o even is = ap (λ (b : Bool). cond b (awaited_by_interrupt (waiting k.queues (unique - 1))) (awaited_by k (waiting k.queues unique))) even ∙ ap (awaited_by k) is
+
+  awaits_odd : (o : Option Purpose) → nat_eq (unique % 2) 1 ≡ true → waiting k.queues (unique - 1) ≡ o → awaited k unique ≡ awaited_by_interrupt o
+  awaits_odd o odd is = ap (λ (b : Bool). cond b (awaited_by_interrupt (waiting k.queues (unique - 1))) (awaited_by k (waiting k.queues unique))) odd ∙ ap awaited_by_interrupt is
+
+  -- No request awaits it.
+  awaits_none : (wire : WireReply) → awaiting k unique ≡ None → (awaited k unique ≡ said.nothing) × (reply_written k unique wire ≡ (NoEntry, k))
+  awaits_none wire none = by (nat_eq (unique % 2) 1) refl none
+    where
+      by : (b : Bool) → nat_eq (unique % 2) 1 ≡ b → cond b (waiting k.queues (unique - 1)) (waiting k.queues unique) ≡ None → (awaited k unique ≡ said.nothing) × (reply_written k unique wire ≡ (NoEntry, k))
+      by true odd is = (awaits_odd None odd is, ap (λ (b : Bool). cond b (odd_taken k unique wire (waiting k.queues (unique - 1))) (reply_taken k unique wire (waiting k.queues unique))) odd ∙ ap (odd_taken k unique wire) is)
+      by false even is = (awaits_even None even is, ap (λ (b : Bool). cond b (odd_taken k unique wire (waiting k.queues (unique - 1))) (reply_taken k unique wire (waiting k.queues unique))) even ∙ ap (reply_taken k unique wire) is)
+
+-- A copy that stands on the reply link, in its frame.
+module _ (w : World) (here : IsReached w) (place : ℕ) (sent : Sent) (found : slice_get w.replies place ≡ Some sent) (bytes : List ℕ)
     (frame : (o : Opcode) × SaysReply o bytes sent.unique sent.wire)
-    (agreed : (major minor : ℕ) → sent.wire ≡ op.agreed major minor → SaysReply opcode.Init bytes sent.unique sent.wire)
-    (missing : (valid : ℕ) → sent.wire ≡ op.missing valid → SaysReply opcode.Lookup bytes sent.unique sent.wire)
-    (attributes : (a : Attributes) → sent.wire ≡ op.attributes a → SaysReply opcode.Getattr bytes sent.unique sent.wire)
-    (unawaited : HasReplyHead bytes → awaited w.kernel (head_unique bytes) ≡ said.nothing → (written ≡ NoEntry) × (new ≡ w.kernel))
-    (taken : HasReplyHead bytes → IsTaken w.kernel (head_unique bytes) bytes (awaited w.kernel (head_unique bytes)) written new) where
+    (fits : (operation : Operation ℕ Opened) → goes_with operation sent.wire ≡ true → SaysReply (asked_opcode (asks operation)) bytes sent.unique sent.wire)
+    (init : is_init_reply sent.wire ≡ true → SaysReply opcode.Init bytes sent.unique sent.wire)
+    (empty : is_empty_reply sent.wire ≡ true → SaysReply opcode.Interrupt bytes sent.unique sent.wire) where
   head : HasReplyHead bytes × (head_unique bytes ≡ sent.unique)
   head = says_head frame.0 bytes sent.unique sent.wire frame.1
 
-  taken_so : IsTaken w.kernel sent.unique bytes (awaited w.kernel sent.unique) written new
-  taken_so = subst (λ (u : ℕ). IsTaken w.kernel u bytes (awaited w.kernel u) written new) head.1 (taken head.0)
-
-  unawaited_so : awaited w.kernel sent.unique ≡ said.nothing → (written ≡ NoEntry) × (new ≡ w.kernel)
-  unawaited_so none = unawaited head.0 (ap (awaited w.kernel) head.1 ∙ none)
-
-  awaits : (o : Option Purpose) → waiting w.kernel.queues sent.unique ≡ o → awaited w.kernel sent.unique ≡ awaited_by w.kernel o
-  awaits o is =
-      let even : sent.unique % 2 ≡ 0 = All-at (λ (s : Sent). s.unique % 2 ≡ 0) w.replies place sent root.even_copies found in
-      ap (λ (n : ℕ). cond (nat_eq n 1) (awaited_by_interrupt (waiting w.kernel.queues (sent.unique - 1))) (awaited_by w.kernel (waiting w.kernel.queues sent.unique))) even ∙ ap (awaited_by w.kernel) is
+  pub has_head : HasReplyHead bytes
+  has_head = head.0
 
   says : (o : Opcode) (wire : WireReply) → sent.wire ≡ wire → SaysReply o bytes sent.unique sent.wire → Says o bytes wire
   says o wire is h = record { unique = sent.unique; says = subst (λ (x : WireReply). SaysReply o bytes sent.unique x) is h }
 
-  by : (took : WriteResult × Kernel) → Hears w sent took → reply_written w.kernel sent.unique sent.wire ≡ took → reply_written w.kernel sent.unique sent.wire ≡ (written, new)
-  by took (nothing e) is = let none = unawaited_so (awaits None e) in is ∙ (λ i. (sym none.0 i, sym none.1 i))
-  by took (of_init waits wire_is) is =
-      ap (reply_written w.kernel sent.unique) wire_is ∙ taken_so.init (awaits (Some purpose.Init) waits) 31 (omega arith) (says opcode.Init (op.agreed 7 31) wire_is (agreed 7 31 wire_is))
-  by took (of_missing call word words valid waits there wire_is) is =
-      ap (reply_written w.kernel sent.unique) wire_is ∙ taken_so.missing (awaits (Some (purpose.Call call)) waits ∙ ap awaited_by_call there) valid (says opcode.Lookup (op.missing valid) wire_is (missing valid wire_is))
-  by took (of_attributes call a waits there wire_is) is =
-      ap (reply_written w.kernel sent.unique) wire_is ∙ taken_so.getattr (awaits (Some (purpose.Call call)) waits ∙ ap awaited_by_call there) (op.attributes a) (says opcode.Getattr (op.attributes a) wire_is (attributes a wire_is))
+  can_hear : CanHear w here.plain sent
+  can_hear =
+      let both = here.sound.both in
+      write_met (λ n. n) w here.plain both.world both.asked both.links both.served both.alike place sent found
 
-  -- The kernel made of it what the machine makes of it.
-  pub written_so : reply_written w.kernel sent.unique sent.wire ≡ (written, new)
-  written_so = by (reply_written w.kernel sent.unique sent.wire) (hears w root place sent found) refl
+  -- It replies to the request of a call, and goes with what is asked.
+  to_call : (call : ℕ) (state : CallState Opened) → nat_eq (sent.unique % 2) 1 ≡ false → waiting w.kernel.queues sent.unique ≡ Some (purpose.Call call) → get w.kernel.vfs.calls call ≡ Some state → goes_with (asked state) sent.wire ≡ true
+      → (awaited w.kernel sent.unique ≡ reply_to (opcode_of (asked state))) × Says (opcode_of (asked state)) bytes sent.wire
+  to_call call state even waits there goes = (
+    awaits_even w.kernel sent.unique (Some (purpose.Call call)) even waits ∙ ap awaited_by_call there,
+    says (opcode_of (asked state)) sent.wire refl (subst (λ (x : Opcode). SaysReply x bytes sent.unique sent.wire) (same_opcode (asked state)) (fits (asked state) goes)),
+  )
+
+  to_interrupt : (kept : Purpose) → is_live w.kernel.phase ≡ true → nat_eq (sent.unique % 2) 1 ≡ true → waiting w.kernel.queues (sent.unique - 1) ≡ Some kept → (awaited w.kernel sent.unique ≡ reply_to opcode.Interrupt) × Says opcode.Interrupt bytes sent.wire
+  to_interrupt kept live odd waits =
+      let number : sent.unique % 2 ≡ 1 = grind (arith, nat_tests, odd) in
+      let fit = here.sound.fits live in
+      let none_said = All-at (λ (s : Sent). s.unique % 2 ≡ 1 → is_empty_reply s.wire ≡ true) w.replies place sent fit.interrupted found number in
+      (awaits_odd w.kernel sent.unique (Some kept) odd waits, says opcode.Interrupt sent.wire refl (empty none_said))
+
+  goes_failed : (operation : Operation ℕ Opened) → goes_with operation (op.failed 4) ≡ true
+  goes_failed operation = refl
+
+  -- The bytes say it to the request that awaits them.
+  abbrev SaysTo : Opcode → Type 0
+  SaysTo o = (awaited w.kernel sent.unique ≡ reply_to o) × Says o bytes sent.wire
+
+  as_awaited : (o : Opcode) → awaited w.kernel sent.unique ≡ reply_to o → (other : Opcode) → SaysTo other → Says o bytes sent.wire
+  as_awaited o awaits other it =
+      let same : reply_to other ≡ reply_to o = sym it.0 ∙ awaits in
+      subst (λ (x : Opcode). Says x bytes sent.wire) (cc same) it.1
+
+  is_judged_so : (o : Opcode) → IsJudged o → awaited w.kernel sent.unique ≡ reply_to o → (other : Opcode) → awaited w.kernel sent.unique ≡ reply_to other → IsJudged other
+  is_judged_so o judged awaits other is =
+      let same : reply_to o ≡ reply_to other = sym awaits ∙ is in
+      subst IsJudged (cc same) judged
+
+  heard_by : CanHear w here.plain sent → (o : Opcode) → IsJudged o → awaited w.kernel sent.unique ≡ reply_to o → Says o bytes sent.wire
+  heard_by (each.nothing e) o judged awaits =
+      let none = awaits_none w.kernel sent.unique sent.wire e in
+      let no : said.nothing ≡ reply_to o = sym none.0 ∙ awaits in
+      absurd (cc no)
+  heard_by (each.of_interrupt kept numbered live odd waits) o judged awaits = as_awaited o awaits opcode.Interrupt (to_interrupt kept live odd waits)
+  heard_by (each.of_release file numbered live even waits) o judged awaits = absurd (is_judged_so o judged awaits opcode.Release (awaits_even w.kernel sent.unique (Some (purpose.Release file)) even waits))
+  heard_by (each.of_init numbered live even waits wire_is) o judged awaits = absurd (is_judged_so o judged awaits opcode.Init (awaits_even w.kernel sent.unique (Some purpose.Init) even waits))
+  heard_by (each.of_call call state reply numbered one live even waits is) o judged awaits = as_awaited o awaits (opcode_of (asked state)) (to_call call state even waits is.state_is is.goes)
+  heard_by (each.of_declined call state numbered one live even waits is) o judged awaits =
+      as_awaited o awaits (opcode_of (asked state)) (to_call call state even waits is.state_is (ap (goes_with (asked state)) is.wire_is ∙ goes_failed (asked state)))
+
+  -- ---- what the kernel made of its bytes
+  module _ (written : WriteResult) (new : Kernel)
+      (unawaited : HasReplyHead bytes → awaited w.kernel (head_unique bytes) ≡ said.nothing → (written ≡ NoEntry) × (new ≡ w.kernel))
+      (taken : HasReplyHead bytes → IsTaken w.kernel (head_unique bytes) bytes (awaited w.kernel (head_unique bytes)) written new) where
+    taken_so : IsTaken w.kernel sent.unique bytes (awaited w.kernel sent.unique) written new
+    taken_so = subst (λ (u : ℕ). IsTaken w.kernel u bytes (awaited w.kernel u) written new) head.1 (taken head.0)
+
+    unawaited_so : awaited w.kernel sent.unique ≡ said.nothing → (written ≡ NoEntry) × (new ≡ w.kernel)
+    unawaited_so none = unawaited head.0 (ap (awaited w.kernel) head.1 ∙ none)
+
+    kinds_of : (awaits : Awaited) → awaited w.kernel sent.unique ≡ awaits → IsAwaited awaits
+    kinds_of awaits is = subst IsAwaited is taken_so.kinds
+
+    of_call : (state : CallState Opened) → SaysTo (opcode_of (asked state)) → reply_written w.kernel sent.unique sent.wire ≡ (written, new)
+    of_call state it = let o = opcode_of (asked state) in taken_so.said o (is_judged (asked state) (kinds_of (reply_to o) it.0)) it.0 sent.wire it.1
+
+    by : CanHear w here.plain sent → reply_written w.kernel sent.unique sent.wire ≡ (written, new)
+    by (each.nothing e) =
+        let none = awaits_none w.kernel sent.unique sent.wire e in
+        let so = unawaited_so none.0 in
+        none.1 ∙ (λ i. (sym so.0 i, sym so.1 i))
+    by (each.of_interrupt kept numbered live odd waits) = let it = to_interrupt kept live odd waits in taken_so.said opcode.Interrupt tt it.0 sent.wire it.1
+    by (each.of_release o numbered live even waits) = absurd (kinds_of (reply_to opcode.Release) (awaits_even w.kernel sent.unique (Some (purpose.Release o)) even waits))
+    by (each.of_init numbered live even waits wire_is) =
+        ap (reply_written w.kernel sent.unique) wire_is
+        ∙ taken_so.init (awaits_even w.kernel sent.unique (Some purpose.Init) even waits) 31 (omega arith) (says opcode.Init (op.agreed 7 31) wire_is (init (ap is_init_reply wire_is)))
+    by (each.of_call call state reply numbered one live even waits is) = of_call state (to_call call state even waits is.state_is is.goes)
+    by (each.of_declined call state numbered one live even waits is) = of_call state (to_call call state even waits is.state_is (ap (goes_with (asked state)) is.wire_is ∙ goes_failed (asked state)))
+
+    -- The kernel made of it what the machine makes of it.
+    pub written_so : reply_written w.kernel sent.unique sent.wire ≡ (written, new)
+    written_so = by can_hear
+
+  -- The kernel refused its bytes.
+  pub write_refused : (r : Refusal) → WriteRefused w.kernel bytes r → RefusedWith w (event.write place) r
+  write_refused r (exhausted it) =
+      let awaits : awaited w.kernel sent.unique ≡ reply_to it.opcode = ap (awaited w.kernel) (sym head.1) ∙ it.awaits in
+      let same : it.wire ≡ sent.wire = says_one it.opcode bytes it.wire sent.wire it.says (heard_by can_hear it.opcode it.judged awaits) in
+      let past : is_past_end (reply_written w.kernel sent.unique sent.wire).1 ≡ true = (λ i. is_past_end (reply_written w.kernel (sym head.1 i) (sym same i)).1) ∙ it.past in
+      inl (past_written w place sent found past)
+  write_refused r no_memory = inr refl

@@ -1,23 +1,30 @@
 -- No counter of a world is past its end where none of its kernel's and of its server's is.
-use Rattle.std.proofs.Common.{◌≡◌, ◌≤◌, ◌^◌, ℕ, Bool, true, false, ◌||◌, nat_lt, refl, ◌∙◌}
-use Rattle.std.proofs.lemmas.Bool.{le-ltb}
+use Rattle.std.proofs.Common.{◌≡◌, Bool, true, false, ◌||◌, nat_lt, refl, sym, ◌∙◌}
 use Rattle.fuse_spec.specs.Numbers.{counter_end}
-use Rattle.fuse_spec.specs.Trees.{Tree}
-use Rattle.fuse_spec.specs.Nodes.{NodeTable, HandleTable}
 use Rattle.fuse_spec.specs.Kernel.{Kernel}
 use Rattle.fuse_spec.specs.Server.{Server}
 use Rattle.fuse_spec.specs.Worlds.{World}
 use Rattle.fuse_spec.specs.Steps.{is_past}
 use Rattle.fk_kernel.specs.Refused.{is_past_end}
-use Rattle.fs_server.specs.Values.{root_alone, no_nodes, no_handles}
+use Rattle.fs_server.specs.Effects as server
 
--- the counters of the server
-abbrev pub server_past : Tree → NodeTable → HandleTable → ℕ → Bool
-server_past tree nodes handles copy =
-    nat_lt counter_end tree.next_birth || (nat_lt counter_end tree.next_serial || (nat_lt counter_end nodes.next_generation || (nat_lt counter_end handles.next_fh || nat_lt counter_end copy)))
+-- the server's counters, in the order in which a step has them
+abbrev pub server_past : Server → Bool
+server_past s =
+    nat_lt counter_end s.tree.next_birth || (nat_lt counter_end s.tree.next_serial || (nat_lt counter_end s.nodes.next_generation || (nat_lt counter_end s.handles.next_fh || nat_lt counter_end s.next_copy)))
+
+in_order : (a b c d e : Bool) → (a || b || c || d || e) ≡ (a || (b || (c || (d || e))))
+in_order true b c d e = refl
+in_order false true c d e = refl
+in_order false false true d e = refl
+in_order false false false true e = refl
+in_order false false false false e = refl
+
+pub as_judged : (s : Server) → server.is_past_end s ≡ server_past s
+as_judged s = in_order (nat_lt counter_end s.tree.next_birth) (nat_lt counter_end s.tree.next_serial) (nat_lt counter_end s.nodes.next_generation) (nat_lt counter_end s.handles.next_fh) (nat_lt counter_end s.next_copy)
 
 abbrev past_with : Kernel → Server → Bool
-past_with k s = nat_lt counter_end k.queues.next || (nat_lt counter_end k.vfs.next_call || server_past s.tree s.nodes s.handles s.next_copy)
+past_with k s = nat_lt counter_end k.queues.next || (nat_lt counter_end k.vfs.next_call || server_past s)
 
 none_past : (a b c : Bool) → (a || b) ≡ false → c ≡ false → (a || (b || c)) ≡ false
 none_past true b c h e = h
@@ -29,11 +36,7 @@ some_past true b c h = refl
 some_past false true c h = refl
 some_past false false c h = absurd (cc h)
 
--- A kernel and a server with no counter past its end.
-module _ (k : Kernel) (s : Server) (kernel_within : is_past_end k ≡ false) (tree : s.tree ≡ root_alone) (nodes : s.nodes ≡ no_nodes) (handles : s.handles ≡ no_handles) (copies : s.next_copy ≤ 2 ^ 62) where
-  server_within : server_past s.tree s.nodes s.handles s.next_copy ≡ false
-  server_within = (λ i. server_past (tree i) (nodes i) (handles i) s.next_copy) ∙ le-ltb _ _ copies
-
-  pub world_within : (w : World) → w.kernel ≡ k → w.server ≡ s → is_past w ≡ false
-  world_within w same_kernel same_server =
-      (λ i. past_with (same_kernel i) (same_server i)) ∙ none_past (nat_lt counter_end k.queues.next) (nat_lt counter_end k.vfs.next_call) (server_past s.tree s.nodes s.handles s.next_copy) kernel_within server_within
+-- With this kernel and this server.
+pub world_within : (k : Kernel) (s : Server) → is_past_end k ≡ false → server.is_past_end s ≡ false → (w : World) → w.kernel ≡ k → w.server ≡ s → is_past w ≡ false
+world_within k s kernel_within server_within w same_kernel same_server =
+    (λ i. past_with (same_kernel i) (same_server i)) ∙ none_past (nat_lt counter_end k.queues.next) (nat_lt counter_end k.vfs.next_call) (server_past s) kernel_within (sym (as_judged s) ∙ server_within)

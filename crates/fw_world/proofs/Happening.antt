@@ -1,25 +1,28 @@
 -- Where kernel and server accept an event, and nothing is past its end, it happens so in the machine.
-use Rattle.std.proofs.Common.{◌≡◌, ℕ, Bool, true, false, not, cond, Option, Some, None, Ok, Err, nat_eq, nat_lt, nat_le, max, length, slice_get, refl, ap, ◌∙◌}
+use Rattle.std.proofs.Common.{◌≡◌, ℕ, ◌+◌, ◌||◌, List, Bool, true, false, not, cond, Option, Some, None, Ok, Err, nat_eq, nat_lt, nat_le, max, length, slice_get, is_some, refl, ap, sym, ◌∙◌}
+use Rattle.fuse_spec.specs.declared.Binding.{Binding}
+use Rattle.fuse_spec.specs.declared.Counted.{Counted}
 use Rattle.fuse_spec.specs.declared.Refusal.{Refusal}
 use Rattle.fuse_spec.specs.declared.Refusal.TheVariants as refusal
 use Rattle.fuse_spec.specs.declared.ReplyResult.{ReplyResult}
 use Rattle.fuse_spec.specs.declared.WriteResult.{WriteResult}
-use Rattle.fuse_spec.specs.Maps.{get}
-use Rattle.fuse_spec.specs.Numbers.{max_validity, max_calls}
+use Rattle.fuse_spec.specs.Maps.{get, get_name}
+use Rattle.fuse_spec.specs.Numbers.{max_validity, max_calls, clock_end}
 use Rattle.fuse_spec.specs.Operations.{errno_of}
 use Rattle.fuse_spec.specs.Calls.{Call}
-use Rattle.fuse_spec.specs.Messages.{Request}
-use Rattle.fuse_spec.specs.Kernel.{Kernel, is_live, call_begun}
-use Rattle.fuse_spec.specs.QueueCalls.{pending_at}
+use Rattle.fuse_spec.specs.Messages.{Forget, Request}
+use Rattle.fuse_spec.specs.Kernel.{Kernel, is_live, is_pinned, is_bound, call_begun}
+use Rattle.fuse_spec.specs.QueueCalls.{pending_at, first_forgets, after_read_forgets}
 use Rattle.fuse_spec.specs.Replies.{reply_written}
 use Rattle.fuse_spec.specs.Server.{HeldRequest, Copy}
 use Rattle.fuse_spec.specs.Taking.{taking}
 use Rattle.fuse_spec.specs.Performs.{PerformResult, served}
-use Rattle.fuse_spec.specs.Worlds.{World, Sent, after_mount, after_call, after_read_pending, after_take, after_perform, after_write, after_settle}
+use Rattle.fuse_spec.specs.Worlds.{World, Sent, after_mount, after_call, after_read_pending, after_read_forgets as after_forgets, after_take, after_perform, after_write, after_settle, after_tick, after_drop, after_evict}
 use Rattle.fuse_spec.specs.Events.{Event, Outcome}
 use Rattle.fuse_spec.specs.Events as event
-use Rattle.fuse_spec.specs.Steps.{Stepped, going, is_past, is_busy, is_ready, unless, reading_pending, taking_request, performing_held, writing_copy, settling, MayStep, Happens}
+use Rattle.fuse_spec.specs.Steps.{Stepped, going, is_past, is_busy, is_ready, unless, reading_pending, reading_forgets, taking_request, performing_held, writing_copy, settling, dropping, evicting, MayStep, Happens}
 use Rattle.fk_kernel.specs.Refused.{begin_refusal, mount_refusal, read_refusal, place_refusal, is_past_end, IsPendingRequest}
+use Rattle.fk_kernel.specs.RefusedUpkeep.{read_forgets_refusal, forgets_refusal, tick_refusal, name_refusal, drop_refusal, counted_refusal, evict_refusal}
 
 -- any ids will do, where none is given
 abbrev any_id : ℕ → ℕ
@@ -86,3 +89,38 @@ pub settles : (w : World) (place : ℕ) (result : ReplyResult) (copy : Copy) →
     → Happens w (event.settle place) (event.settled result.unique result.result) (after_settle w place result (Some copy))
 settles w place result copy there known =
     (any_id, tt, ap (settling w place) there ∙ ap (λ (o : Option Copy). Ok (event.settled result.unique result.result, after_settle w place result o)) known)
+
+pub reads_forgets : (w : World) (n : ℕ) (forgets : List Forget) → read_forgets_refusal w.kernel n ≡ None → first_forgets w.kernel.queues n ≡ Some (w.kernel.queues.next, forgets) → is_past (after_forgets w n forgets) ≡ false
+    → Happens w (event.read_forgets n) (event.is_read w.kernel.queues.next) (after_forgets w n forgets)
+reads_forgets w n forgets judged first within =
+    let after = after_forgets w n forgets in
+    let read = first_forgets w.kernel.queues n in (
+      any_id,
+      tt,
+      live_judged (not (is_live w.kernel.phase)) (not (nat_eq (length w.kernel.queues.interrupts) 0)) (forgets_refusal w.kernel n read) judged (reading_forgets w n read) (event.is_read w.kernel.queues.next, after)
+          (ap (reading_forgets w n) first ∙ accepted (event.is_read w.kernel.queues.next) after within),
+    )
+
+pub ticks : (w : World) (ms : ℕ) → tick_refusal w.kernel ms ≡ None → Happens w (event.tick ms) (event.now (w.kernel.vfs.clock + ms)) (after_tick w ms)
+ticks w ms judged =
+    (any_id, tt, ap (λ (b : Bool). unless b refusal.BadTime (Ok (event.now (w.kernel.vfs.clock + ms), after_tick w ms))) (none_refused (nat_le clock_end (w.kernel.vfs.clock + ms)) refusal.BadTime judged))
+
+drops_as : (not_live : Bool) (o : Option Binding) (after : World) → ◌≡◌ {A = Option Refusal} (cond not_live (Some refusal.NotReady) (name_refusal o)) None → unless not_live refusal.NotReady (dropping after o) ≡ Ok (event.dropped, after)
+drops_as true o after e = absurd (cc e)
+drops_as false None after e = absurd (cc e)
+drops_as false (Some bound) after e = refl
+
+pub drops : (w : World) (directory : ℕ) (name : List ℕ) → drop_refusal w.kernel directory name ≡ None → Happens w (event.drop_name directory name) event.dropped (after_drop w directory name)
+drops w directory name judged = (any_id, tt, drops_as (not (is_live w.kernel.phase)) (get_name w.kernel.vfs.names (directory, name)) (after_drop w directory name) judged)
+
+evicts_as : (not_live busy : Bool) (x : Outcome × World) → ◌≡◌ {A = Option Refusal} (cond not_live (Some refusal.NotReady) (cond busy (Some refusal.Busy) None)) None → unless not_live refusal.NotReady (unless busy refusal.Busy (Ok x)) ≡ Ok x
+evicts_as true busy x e = absurd (cc e)
+evicts_as false true x e = absurd (cc e)
+evicts_as false false x e = refl
+
+pub evicts : (w : World) (node : ℕ) (counted : Counted) → evict_refusal w.kernel node ≡ None → get w.kernel.nodes node ≡ Some counted → Happens w (event.evict node) (event.evicted node counted.count) (after_evict w node counted)
+evicts w node counted judged there =
+    let not_live = not (is_live w.kernel.phase) in
+    let busy = is_pinned w.kernel node || is_bound w.kernel node in
+    let judged_so : ◌≡◌ {A = Option Refusal} (cond not_live (Some refusal.NotReady) (cond busy (Some refusal.Busy) None)) None = ap (λ (o : Option Counted). cond not_live (Some refusal.NotReady) (counted_refusal w.kernel node o)) (sym there) ∙ judged in
+    (any_id, tt, ap (λ (o : Option Counted). unless not_live refusal.NotReady (evicting w node o)) there ∙ evicts_as not_live busy (event.evicted node counted.count, after_evict w node counted) judged_so)

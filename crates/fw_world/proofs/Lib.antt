@@ -3,7 +3,6 @@ pub mod Happening
 pub mod LastFrames
 pub mod Refusing
 pub mod Parts
-pub mod Serving
 pub mod Made
 pub mod Copies
 pub mod Collecting

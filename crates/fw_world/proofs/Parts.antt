@@ -2,6 +2,7 @@
 use Rattle.std.proofs.Common.{◌++◌, [], ◌∷◌, ◌∙◌, ◌≡◌, ◌≤◌, ◌<◌, ℕ, ◌+◌, Result, Ok, Err, arith, true, false, List, length, Option, Some, None, nat_lt, slice_get, refl, sym, subst}
 use Rattle.std.specs.Prelude.{slice_index_or, OnOk, is_err, IfNone, IfSome}
 use Rattle.std.proofs.lemmas.Bool.{ltb-true, ltb-false}
+use Rattle.std.proofs.lemmas.List.Elements.{All-nil}
 use Rattle.std.proofs.lemmas.Option.{slice_get_read, slice_get_past}
 use Rattle.fuse_spec.specs.declared.Refusal.{Refusal}
 use Rattle.fuse_spec.specs.declared.ReplyResult.{ReplyResult}
@@ -10,13 +11,12 @@ use Rattle.fuse_spec.specs.Maps.{remove}
 use Rattle.fuse_spec.specs.Messages.{Request}
 use Rattle.fuse_spec.specs.Kernel.{Kernel}
 use Rattle.fuse_spec.specs.Server.{Server}
-use Rattle.fuse_spec.specs.Worlds.{World, Sent}
+use Rattle.fuse_spec.specs.Worlds.{World, Sent, first_world}
 use Rattle.fuse_spec.specs.Events.{Event, Outcome}
 use Rattle.fuse_spec.specs.Steps.{Happens}
-use Rattle.fuse_theorem.specs.FirstPath.{IsFirst}
-use Rattle.fuse_theorem.specs.FirstWorld.{IsFirstWorld}
-use Rattle.fuse_theorem.proofs.FirstAnswers.{handed_out_first}
-use Rattle.fuse_theorem.proofs.FirstPath.{first_stays}
+use Rattle.fuse_theorem.proofs.ReachedWorlds.{first_reached, handed_out_reached}
+use Rattle.fs_server.specs.Effects.{is_served}
+use Rattle.fw_world.specs.Sound.{IsSound}
 
 -- the world of these parts
 abbrev pub world_of : Kernel → Server → List Request → List Sent → List ReplyResult → World
@@ -25,10 +25,6 @@ world_of kernel server requests replies results = record { kernel = kernel; serv
 pub is_made : (w : World) (kernel : Kernel) (server : Server) (requests : List Request) (replies : List Sent) (results : List ReplyResult) → kernel ≡ w.kernel → server ≡ w.server → requests ≡ w.requests → replies ≡ w.replies
     → results ≡ w.results → world_of kernel server requests replies results ≡ w
 is_made w kernel server requests replies results k s a b c = λ i. world_of (k i) (s i) (a i) (b i) (c i)
-
--- What came of an event on a world of the first path is one again.
-pub stays : (w : World) → IsFirstWorld w → (e : Event) → IsFirst e → (o : Outcome) (after made : World) → made ≡ after → Happens w e o after → IsFirstWorld made
-stays w sound e first o after made is happens = subst IsFirstWorld (sym is) (first_stays w sound e first o after happens)
 
 pub happens_so : (w : World) (e : Event) (o : Outcome) (after made : World) → made ≡ after → Happens w e o after → Happens w e o made
 happens_so w e o after made is happens = subst (Happens w e o) (sym is) happens
@@ -56,8 +52,12 @@ pub after_result : (old made new : List ReplyResult) (number unique : ℕ) (resu
     → new ≡ old ++ record { number = sent.number; unique = sent.unique; result = result } ∷ []
 after_result old made new number unique result sent same appended number_is unique_is = appended ∙ (λ i. same i ++ record { number = number_is i; unique = unique_is i; result = result } ∷ [])
 
--- A world of the first path stays one as an answer is handed out.
+-- A world stays sound as an answer is handed out.
 pub handed_out : {X : Type 0} (w : World) (kernel : Kernel) (o : Option (ℕ × X)) → IfNone o (kernel ≡ w.kernel) → IfSome o (λ r. kernel ≡ record w.kernel { vfs = record w.kernel.vfs { answers = remove w.kernel.vfs.answers r.0 } })
-    → IsFirstWorld w → IsFirstWorld (record w { kernel = kernel })
-handed_out w kernel None none some sound = subst (λ (k : Kernel). IsFirstWorld (record w { kernel = k })) (sym none) sound
-handed_out w kernel (Some r) none some sound = subst (λ (k : Kernel). IsFirstWorld (record w { kernel = k })) (sym some) (handed_out_first w r.0 sound)
+    → IsSound w → IsSound (record w { kernel = kernel })
+handed_out w kernel None none some sound = subst (λ (k : Kernel). IsSound (record w { kernel = k })) (sym none) sound
+handed_out w kernel (Some r) none some sound =
+    subst (λ (k : Kernel). IsSound (record w { kernel = k })) (sym some) (record { reached = handed_out_reached w r.0 sound.reached; served = sound.served })
+
+pub first_sound : IsSound first_world
+first_sound = record { reached = first_reached; served = All-nil (λ (r : Request). is_served r.body ≡ true) }

@@ -1,7 +1,6 @@
 -- Lists of events, and what is recorded of each.
-use Rattle.std.proofs.Common.{◌≡◌, ℕ, ◌+◌, ◌<◌, ◌≤◌, List, [], ◌∷◌, ◌++◌, Result, Ok, Err, OnOk, OnErr, is_err, true, false, length, map, take, get_or, ap, sym, subst, ◌∙◌, All}
+use Rattle.std.proofs.Common.{◌≡◌, ℕ, ◌+◌, ◌<◌, ◌≤◌, List, [], ◌∷◌, ◌++◌, Result, Ok, Err, OnOk, OnErr, is_err, true, false, length, map, take, get_or, ap, sym, subst, ◌∙◌}
 use Rattle.std.proofs.lemmas.List.{append_assoc, append-nil, map-append, take_more, take_all}
-use Rattle.std.proofs.lemmas.List.Elements.{All-nil, All-cons}
 use Rattle.fuse_spec.specs.declared.Refusal.{Refusal}
 use Rattle.fuse_spec.specs.Worlds.{World}
 use Rattle.fuse_spec.specs.Events.{Event, Outcome}
@@ -10,32 +9,17 @@ use Rattle.fuse_spec.specs.Records.{answers_of, collected}
 use Rattle.fuse_spec.specs.Steps.{Happens, RefusedWith}
 use Rattle.fuse_spec.specs.Plain.{Plain}
 use Rattle.fuse_spec.specs.Alike.{Alike}
-use Rattle.fuse_theorem.specs.FirstPath.{IsFirst, first_mount, first_call, first_read, first_take, first_perform, first_write, first_settle, Recorded, none_left, one_refused, one_accepted}
-use Rattle.fuse_theorem.specs.FirstWorld.{IsFirstWorld}
-use Rattle.fuse_theorem.proofs.FirstRuns.{first_runs}
-use Rattle.fuse_theorem.proofs.FirstAnswered.{first_answered}
-use Rattle.fk_kernel.specs.declared.call.Call.TheVariants.{Stat}
+use Rattle.fuse_theorem.specs.AllSound.{AllSound}
+use Rattle.fuse_theorem.specs.AsksServed.{AsksServed}
+use Rattle.fuse_theorem.specs.Recorded.{Recorded, none_left, one_refused, one_accepted}
+use Rattle.fuse_theorem.specs.Reached.{IsReached}
+use Rattle.fuse_theorem.proofs.AllRun.{all_run}
 use Rattle.fw_world.specs.declared.event.Event.{Event as EventValue}
-use Rattle.fw_world.specs.declared.event.Event.TheVariants.{Mount, Call, ReadPending, Take, Do, Write, Settle}
 use Rattle.fw_world.specs.declared.event.Outcome.{Outcome as OutcomeValue}
 use Rattle.fw_world.specs.declared.record.Record.{Record}
 use Rattle.fw_world.specs.declared.record.Record.TheVariants as recorded
 use Rattle.fw_world.specs.Values.{event_of, outcome_of, record_of}
 use Rattle.fw_world.specs.Runs.{RunsAs}
-
--- Every event is one of the first path.
-pub is_first : (e : EventValue) → IsFirst (event_of e)
-is_first (Mount found_ms missing_ms) = first_mount found_ms missing_ms
-is_first (Call (Stat path)) = first_call path.now
-is_first (ReadPending place) = first_read place
-is_first (Take place) = first_take place
-is_first (Do unique) = first_perform unique
-is_first (Write place) = first_write place
-is_first (Settle place) = first_settle place
-
-all_first : (events : List EventValue) → All IsFirst (map event_of events)
-all_first [] = All-nil IsFirst
-all_first (e ∷ events) = All-cons IsFirst (event_of e) (map event_of events) (is_first e) (all_first events)
 
 -- ---- lists one after another
 
@@ -103,25 +87,39 @@ pub wanted_room : {T E : Type 0} (r : Result T E) (len more capacity : ℕ) → 
 wanted_room (Ok x) len more capacity full e = absurd (cc e)
 wanted_room (Err x) len more capacity full e = full
 
--- How many answers wait after an event that happens.
-pub few_answers : (w : World) → IsFirstWorld w → (e : EventValue) (o : Outcome) (after : World) → Happens w (event_of e) o after → length after.kernel.vfs.answers ≤ length w.kernel.vfs.answers + 1
-few_answers w here e o after happens = first_answered w here (event_of e) (is_first e) o after happens
-
 -- ---- the whole run
 
-module _ (old : World) (here : IsFirstWorld old) (events : List EventValue) (had : List Record) where
+module _ (old : World) (here : IsReached old) (events : List EventValue) (had : List Record) where
   -- What is said of the events that ran.
   abbrev pub Comes : World → List Record → Type 0
   Comes new has = (added : List Record) × (has ≡ had ++ added) × RunsAs old (map event_of events) (map record_of added) new
 
+  -- All that is sound with the plain world that is known is sound with any other that is alike.
+  sound_with : (p : Plain) → Alike old p → AsksServed p → AllSound old p
+  sound_with p same served =
+      let all = here.sound in
+      let both = all.both in
+      record {
+        both = record { alike = same; world = both.world; asked = both.asked; links = both.links; nodes = both.nodes; held = both.held; kept = both.kept; served = served };
+        releases = all.releases;
+        taken = all.taken;
+        faultless = all.faultless;
+        fits = all.fits;
+        still = all.still;
+        opens = all.opens;
+        left = all.left;
+        waiting = all.waiting;
+        once = all.once;
+      }
+
   pub comes_to : (new : World) (has : List Record) → RanSo old events had new has → Comes new has
   comes_to new has ran =
-      let run = λ (p : Plain) (same : Alike old p). first_runs old p here same (map event_of events) (map record_of ran.added) new (all_first events) ran.recorded in (
+      let run = λ (p : Plain) (all : AllSound old p). all_run old p all here.answers (map event_of events) (map record_of ran.added) new ran.recorded in (
         ran.added,
         ran.items,
         record {
-          plain_run = λ p same. let at = run p same in (at.0, at.1, at.2);
-          once = (run here.plain here.alike).4;
+          plain_run = λ p same served. let at = run p (sound_with p same served) in (at.0, at.1, at.2.both.alike, at.2.both.served);
+          once = (run here.plain here.sound).3;
         },
       )
 

@@ -1,49 +1,50 @@
--- What kernel and server refuse, the machine refuses as well, want of memory aside.
-use Rattle.std.proofs.Common.{◌≡◌, inl, inr, ℕ, Bool, true, false, true≢false, not, cond, List, Option, Some, None, Ok, Err, is_some, nat_eq, nat_lt, nat_le, max, length, slice_get, refl, ap, sym, subst, ◌∙◌}
+-- An event that kernel or server refused is refused so in the machine, or memory was wanting.
+use Rattle.std.proofs.Common.{◌≡◌, ◌≢◌, ℕ, ◌+◌, ◌||◌, Bool, true, false, cond, not, List, Option, Some, None, Ok, Err, inl, inr, nat_eq, nat_lt, nat_le, max, length, slice_get, is_some, refl, ap, sym, subst, ◌∙◌}
+use Rattle.fuse_spec.specs.declared.Binding.{Binding}
+use Rattle.fuse_spec.specs.declared.Counted.{Counted}
 use Rattle.fuse_spec.specs.declared.Refusal.{Refusal}
 use Rattle.fuse_spec.specs.declared.Refusal.TheVariants as refusal
-use Rattle.fuse_spec.specs.Maps.{get}
-use Rattle.fuse_spec.specs.Numbers.{max_validity, max_calls, counter_end}
+use Rattle.fuse_spec.specs.declared.Purpose.{Purpose}
+use Rattle.fuse_spec.specs.declared.ReplyResult.{ReplyResult}
+use Rattle.fuse_spec.specs.Maps.{get, get_name}
+use Rattle.fuse_spec.specs.Numbers.{max_validity, max_calls, counter_end, clock_end}
 use Rattle.fuse_spec.specs.Operations.{errno_of}
 use Rattle.fuse_spec.specs.Calls.{Call}
-use Rattle.fuse_spec.specs.Messages.{Request, RequestBody}
-use Rattle.fuse_spec.specs.Kernel.{is_live, body_of, call_begun}
-use Rattle.fuse_spec.specs.QueueCalls.{pending_at}
-use Rattle.fuse_spec.specs.declared.Purpose.{Purpose}
-use Rattle.fuse_spec.specs.Server.{HeldRequest}
-use Rattle.fuse_spec.specs.Performs.{served}
-use Rattle.fuse_spec.specs.Worlds.{World, after_mount, after_call, after_perform}
+use Rattle.fuse_spec.specs.Messages.{Forget, Request, RequestBody, WireReply}
+use Rattle.fuse_spec.specs.Kernel.{Kernel, is_live, is_pinned, is_bound, body_of, call_begun}
+use Rattle.fuse_spec.specs.Nodes.{MayChoose}
+use Rattle.fuse_spec.specs.QueueCalls.{pending_at, first_forgets, after_read_forgets}
+use Rattle.fuse_spec.specs.Replies.{reply_written}
+use Rattle.fuse_spec.specs.Server.{Server, HeldRequest, Copy, RequestFault, fault_of}
+use Rattle.fuse_spec.specs.Performs.{served, files_given}
+use Rattle.fuse_spec.specs.Worlds as worlds
+use Rattle.fuse_spec.specs.Worlds.{World, Sent, after_mount, after_call, after_perform, after_write, after_tick, after_drop}
 use Rattle.fuse_spec.specs.Events.{Event, Outcome}
 use Rattle.fuse_spec.specs.Events as event
-use Rattle.fuse_spec.specs.Steps.{Stepped, going, is_past, is_busy, is_ready, unless, reading_body, reading_pending, taking_request, performing_held, writing_copy, settling, IsRefused, RefusedWith}
+use Rattle.fuse_spec.specs.Steps.{Stepped, going, is_past, is_busy, is_ready, unless, reading_body, reading_pending, reading_forgets, taking_request, performing_held, writing_copy, settling, dropping, evicting, MayChooseFor, IsRefused, RefusedWith}
+use Rattle.std.specs.Prelude.{◌⊎◌, Result, IfErr, IfSome}
 use Rattle.std.specs.Option.{unwrap_or}
-use Rattle.fuse_spec.specs.declared.ReplyResult.{ReplyResult}
-use Rattle.fuse_spec.specs.Server.{Copy, RequestFault, fault_of}
 use Rattle.fuse_frames.specs.RequestTies.{IsRequestFrame}
 use Rattle.fuse_frames.proofs.RequestLemmas.{frame_says}
-use Rattle.fuse_theorem.specs.FirstPath.{IsFirstBody, first_init, first_lookup, first_getattr, Serves}
-use Rattle.fuse_theorem.specs.FirstWorld.{IsFirstWorld}
+use Rattle.fuse_theorem.proofs.NoFault.{no_fault}
 use Rattle.fuse_theorem.proofs.Queuing.{All-at}
 use Rattle.fs_server.specs.declared.server.ServerFault.{ServerFault}
-use Rattle.fs_server.specs.declared.server.ServerFault.TheVariants.{Memory}
+use Rattle.fs_server.specs.declared.server.ServerFault.TheVariants.{Memory, Wire}
 use Rattle.fk_kernel.specs.Refused.{begin_refusal, mount_refusal, read_refusal, place_refusal, body_refusal, is_past_end}
 use Rattle.fk_kernel.specs.Refused as kernel
 use Rattle.fs_server.specs.Effects as server
-use Rattle.fs_server.specs.Effects.{performing_refusal}
-use Rattle.fw_world.proofs.Counters.{server_past, some_past}
+use Rattle.fw_world.specs.Sound.{IsSound}
+use Rattle.fk_kernel.specs.RefusedUpkeep.{read_forgets_refusal, forgets_refusal, tick_refusal, name_refusal, drop_refusal, counted_refusal, evict_refusal}
+use Rattle.fs_server.specs.Effects.{RefusesHeld, not_held, exhausted, is_served, RefusesFrame}
+use Rattle.fw_world.proofs.Counters.{server_past, as_judged, some_past}
 
 -- a refusal that the kernel gave
 pub by_kernel : (w : World) (e : Event) (judged : Option Refusal) (given : Refusal) → ((r : Refusal) → judged ≡ Some r → IsRefused w e r) → given ≡ kernel.or_no_memory judged → RefusedWith w e given
 by_kernel w e None given refuses is = inr is
 by_kernel w e (Some r) given refuses is = inl (subst (IsRefused w e) (sym is) (refuses r refl))
 
--- a refusal that the server gave
-pub by_server : (w : World) (e : Event) (judged : Option Refusal) (given : Refusal) → ((r : Refusal) → judged ≡ Some r → IsRefused w e r) → given ≡ server.or_no_memory judged → RefusedWith w e given
-by_server w e None given refuses is = inr is
-by_server w e (Some r) given refuses is = inl (subst (IsRefused w e) (sym is) (refuses r refl))
-
-exhausted : (o : Outcome) (after : World) → is_past after ≡ true → going o after ≡ Err refusal.Exhausted
-exhausted o after past = ap (λ (b : Bool). cond b (Err refusal.Exhausted) (Ok (o, after))) past
+is_exhausted : (o : Outcome) (after : World) → is_past after ≡ true → going o after ≡ Err refusal.Exhausted
+is_exhausted o after past = ap (λ (b : Bool). cond b (Err refusal.Exhausted) (Ok (o, after))) past
 
 -- ---- a mount
 
@@ -67,7 +68,7 @@ pub call_refused : (w : World) (call : Call) (r : Refusal) → begin_refusal w.k
 call_refused w call r judged choice may =
     let after = after_call w call in
     call_as (not (is_ready w.kernel.phase)) (nat_le max_calls (length w.kernel.vfs.calls)) (is_past_end (call_begun w.kernel call)) (going (event.begun w.kernel.vfs.next_call) after) r judged
-    (λ past. exhausted (event.begun w.kernel.vfs.next_call) after (some_past (nat_lt counter_end after.kernel.queues.next) (nat_lt counter_end after.kernel.vfs.next_call) (server_past w.server.tree w.server.nodes w.server.handles w.server.next_copy) past))
+    (λ past. is_exhausted (event.begun w.kernel.vfs.next_call) after (some_past (nat_lt counter_end after.kernel.queues.next) (nat_lt counter_end after.kernel.vfs.next_call) (server_past w.server) past))
 
 -- ---- a read
 
@@ -91,18 +92,99 @@ read_refused w place r judged choice may =
 
 -- ---- a request performed
 
-perform_as : (choice : ℕ → ℕ) (w : World) (unique : ℕ) (o : Option HeldRequest) (left : Bool) (r : Refusal) → cond (is_some o) (cond left None (Some refusal.Exhausted)) (Some refusal.NoSuch) ≡ Some r
-    → ((held : HeldRequest) → o ≡ Some held → left ≡ false → is_past (after_perform w unique (served choice w.server unique held)) ≡ true) → performing_held choice w unique o ≡ Err r
-perform_as choice w unique None left r e past = cc e
-perform_as choice w unique (Some held) true r e past = absurd (cc e)
-perform_as choice w unique (Some held) false r e past =
-    let did = served choice w.server unique held in
-    exhausted (event.performed unique (errno_of did.wire) w.server.aborted) (after_perform w unique did) (past held refl refl) ∙ cc e
+-- ---- forgets
 
-pub perform_refused : (w : World) (unique : ℕ) (r : Refusal) → performing_refusal w.server unique ≡ Some r
-    → ((choice : ℕ → ℕ) (held : HeldRequest) → get w.server.held unique ≡ Some held → nat_lt w.server.next_copy counter_end ≡ false → is_past (after_perform w unique (served choice w.server unique held)) ≡ true)
-    → IsRefused w (event.perform unique) r
-perform_refused w unique r judged past choice may = perform_as choice w unique (get w.server.held unique) (nat_lt w.server.next_copy counter_end) r judged (past choice)
+forgets_as : (w : World) (n : ℕ) (not_live interrupted : Bool) (o : Option (ℕ × List Forget)) (r : Refusal) → cond not_live (Some refusal.NotReady) (cond interrupted (Some refusal.InterruptFirst) (forgets_refusal w.kernel n o)) ≡ Some r
+    → ((x : ℕ × List Forget) → is_past_end (record w.kernel { queues = after_read_forgets w.kernel.queues n }) ≡ true → reading_forgets w n (Some x) ≡ Err refusal.Exhausted)
+    → unless not_live refusal.NotReady (unless interrupted refusal.InterruptFirst (reading_forgets w n o)) ≡ Err r
+forgets_as w n true interrupted o r e over = cc e
+forgets_as w n false true o r e over = cc e
+forgets_as w n false false None r e over = cc e
+forgets_as w n false false (Some x) r e over = by (is_past_end (record w.kernel { queues = after_read_forgets w.kernel.queues n })) e (over x)
+  where
+    by : (past : Bool) → ◌≡◌ {A = Option Refusal} (cond past (Some refusal.Exhausted) None) (Some r) → (past ≡ true → reading_forgets w n (Some x) ≡ Err refusal.Exhausted) → reading_forgets w n (Some x) ≡ Err r
+    by true is past = past refl ∙ cc is
+    by false is past = absurd (cc is)
+
+pub forgets_refused : (w : World) (n : ℕ) (r : Refusal) → read_forgets_refusal w.kernel n ≡ Some r → IsRefused w (event.read_forgets n) r
+forgets_refused w n r judged choice may =
+    forgets_as w n (not (is_live w.kernel.phase)) (not (nat_eq (length w.kernel.queues.interrupts) 0)) (first_forgets w.kernel.queues n) r judged
+    (λ x past.
+    let after = worlds.after_read_forgets w n x.1 in
+    is_exhausted (event.is_read x.0) after (some_past (nat_lt counter_end after.kernel.queues.next) (nat_lt counter_end after.kernel.vfs.next_call) (server_past w.server) past))
+
+-- ---- the time, names and nodes
+
+timely_as : (late : Bool) (s : Stepped) (r : Refusal) → ◌≡◌ {A = Option Refusal} (cond late (Some refusal.BadTime) None) (Some r) → unless late refusal.BadTime s ≡ Err r
+timely_as true s r e = cc e
+timely_as false s r e = absurd (cc e)
+
+pub tick_refused : (w : World) (ms : ℕ) (r : Refusal) → tick_refusal w.kernel ms ≡ Some r → IsRefused w (event.tick ms) r
+tick_refused w ms r judged choice may = timely_as (nat_le clock_end (w.kernel.vfs.clock + ms)) (Ok (event.now (w.kernel.vfs.clock + ms), after_tick w ms)) r judged
+
+drop_as : (not_live : Bool) (o : Option Binding) (after : World) (r : Refusal) → ◌≡◌ {A = Option Refusal} (cond not_live (Some refusal.NotReady) (name_refusal o)) (Some r) → unless not_live refusal.NotReady (dropping after o) ≡ Err r
+drop_as true o after r e = cc e
+drop_as false None after r e = cc e
+drop_as false (Some bound) after r e = absurd (cc e)
+
+pub drop_refused : (w : World) (directory : ℕ) (name : List ℕ) (r : Refusal) → drop_refusal w.kernel directory name ≡ Some r → IsRefused w (event.drop_name directory name) r
+drop_refused w directory name r judged choice may = drop_as (not (is_live w.kernel.phase)) (get_name w.kernel.vfs.names (directory, name)) (after_drop w directory name) r judged
+
+busy_as : (busy : Bool) (s : Stepped) (r : Refusal) → ◌≡◌ {A = Option Refusal} (cond busy (Some refusal.Busy) None) (Some r) → unless busy refusal.Busy s ≡ Err r
+busy_as true s r e = cc e
+busy_as false s r e = absurd (cc e)
+
+evict_as : (w : World) (node : ℕ) (not_live : Bool) (o : Option Counted) (r : Refusal) → cond not_live (Some refusal.NotReady) (counted_refusal w.kernel node o) ≡ Some r → unless not_live refusal.NotReady (evicting w node o) ≡ Err r
+evict_as w node true o r e = cc e
+evict_as w node false None r e = cc e
+evict_as w node false (Some counted) r e = busy_as (is_pinned w.kernel node || is_bound w.kernel node) _ r e
+
+pub evict_refused : (w : World) (node : ℕ) (r : Refusal) → evict_refusal w.kernel node ≡ Some r → IsRefused w (event.evict node) r
+evict_refused w node r judged choice may = evict_as w node (not (is_live w.kernel.phase)) (get w.kernel.nodes node) r judged
+
+-- ---- a request performed
+
+past_by_server : (a b c : Bool) → c ≡ true → (a || (b || c)) ≡ true
+past_by_server true b c e = refl
+past_by_server false true c e = refl
+past_by_server false false c e = e
+
+sent_server : (w : World) (number unique : ℕ) (wire : Option WireReply) → (worlds.replying w number unique wire).server ≡ w.server
+sent_server w number unique None = refl
+sent_server w number unique (Some wire) = refl
+
+pub perform_refused : (w : World) (unique : ℕ) (r : Refusal) → RefusesHeld w.server unique r → IsRefused w (event.perform unique) r
+perform_refused w unique r (not_held none) choice may = ap (performing_held choice w unique) none
+perform_refused w unique r (exhausted held there past) choice may =
+    let did = served choice w.server unique held in
+    let after = after_perform w unique did in
+    let same : after.server ≡ did.server = sent_server (record w { server = did.server }) w.server.next_copy unique (cond w.server.aborted None (Some did.wire)) in
+    let over : server_past after.server ≡ true = sym (as_judged after.server) ∙ ap server.is_past_end same ∙ past choice (subst (MayChooseFor choice w) there may) in
+    ap (performing_held choice w unique) there
+    ∙ is_exhausted (event.performed unique (errno_of did.wire) w.server.aborted) after (past_by_server (nat_lt counter_end after.kernel.queues.next) (nat_lt counter_end after.kernel.vfs.next_call) (server_past after.server) over)
+
+-- Where memory is not wanting.
+pub refused_with : {X : Type 0} (w : World) (e : Event) (r : Result X Refusal) → IfErr r (IsRefused w e) → IfErr r (RefusedWith w e)
+refused_with w e (Ok x) h = tt
+refused_with w e (Err refusal) h = inl h
+
+-- what the server judges, or else want of memory
+pub perform_judged : (w : World) (unique : ℕ) (judged : Option Refusal) (given : Refusal) → IfSome judged (RefusesHeld w.server unique) → given ≡ unwrap_or judged refusal.NoMemory → RefusedWith w (event.perform unique) given
+perform_judged w unique None given refuses is = inr is
+perform_judged w unique (Some r) given refuses is = inl (subst (IsRefused w (event.perform unique)) (sym is) (perform_refused w unique r refuses))
+
+pub perform_or_memory : (w : World) (unique : ℕ) (given : Refusal) → RefusesHeld w.server unique given ⊎ (given ≡ refusal.NoMemory) → RefusedWith w (event.perform unique) given
+perform_or_memory w unique given (inl refuses) = inl (perform_refused w unique given refuses)
+perform_or_memory w unique given (inr is) = inr is
+
+-- ---- a copy written
+
+pub past_written : (w : World) (place : ℕ) (sent : Sent) → slice_get w.replies place ≡ Some sent → is_past_end (reply_written w.kernel sent.unique sent.wire).1 ≡ true → IsRefused w (event.write place) refusal.Exhausted
+past_written w place sent there past choice may =
+    let took = reply_written w.kernel sent.unique sent.wire in
+    let after = after_write w place sent took in
+    ap (writing_copy w place) there
+    ∙ is_exhausted (event.written sent.unique took.0) after (some_past (nat_lt counter_end after.kernel.queues.next) (nat_lt counter_end after.kernel.vfs.next_call) (server_past w.server) past)
 
 -- ---- nothing stands at a place
 
@@ -112,32 +194,26 @@ no_request w place none = inl (λ choice may. ap (taking_request w place) none)
 pub no_copy : (w : World) (place : ℕ) → slice_get w.replies place ≡ None → RefusedWith w (event.write place) refusal.NoSuch
 no_copy w place none = inl (λ choice may. ap (writing_copy w place) none)
 
-pub no_result : (w : World) (place : ℕ) → slice_get w.results place ≡ None → RefusedWith w (event.settle place) refusal.NoSuch
-no_result w place none = inl (λ choice may. ap (settling w place) none)
+pub no_result : (w : World) (place : ℕ) → slice_get w.results place ≡ None → IsRefused w (event.settle place) refusal.NoSuch
+no_result w place none choice may = ap (settling w place) none
 
 -- the default of a refusal
 pub or_default : (o : Option Refusal) → unwrap_or o refusal.NoMemory ≡ kernel.or_no_memory o
 or_default None = refl
 or_default (Some r) = refl
 
-pub or_server_default : (o : Option Refusal) → unwrap_or o refusal.NoMemory ≡ server.or_no_memory o
-or_server_default None = refl
-or_server_default (Some r) = refl
-
--- A request of the first path that stands on the link is refused for want of memory alone.
-pub take_refused : (w : World) → IsFirstWorld w → (place : ℕ) (request : Request) (bytes : List ℕ) (fault : ServerFault) → slice_get w.requests place ≡ Some request → IsRequestFrame bytes request → server.RefusesFrame w.server bytes fault → fault ≡ Memory
+-- A request on the link is refused for want of memory alone.
+pub take_refused : (w : World) → IsSound w → (place : ℕ) (request : Request) (bytes : List ℕ) (fault : ServerFault) → slice_get w.requests place ≡ Some request → IsRequestFrame bytes request → RefusesFrame w.server bytes fault → fault ≡ Memory
 take_refused w sound place request bytes fault there frame refuses =
-    let first = (All-at (λ (r : Request). IsFirstBody r.body × Serves w.kernel r.unique r.body) w.requests place request sound.root.sent there).0 in
-    let none : fault_of w.server request ≡ None = All-at (λ (r : Request). fault_of w.server r ≡ None) w.requests place request sound.more.no_fault there in
-    refuses.of_request request (frame_says bytes request frame) ∙ faultless request.body first none
-  where
-    faultless : (body : RequestBody) → IsFirstBody body → fault_of w.server (record { unique = request.unique; body = body }) ≡ None → server.or_memory (server.request_fault w.server request.unique (Some body)) ≡ Memory
-    faultless body first_init none = ap (λ (o : Option RequestFault). server.or_memory (server.as_fault o)) none
-    faultless body (first_lookup name) none = ap (λ (o : Option RequestFault). server.or_memory (server.as_fault o)) none
-    faultless body first_getattr none = ap (λ (o : Option RequestFault). server.or_memory (server.as_fault o)) none
+    let all = sound.reached.sound in
+    let served : is_served request.body ≡ true = All-at (λ (r : Request). is_served r.body ≡ true) w.requests place request sound.served there in
+    let none : fault_of w.server request ≡ None = All-at (λ (r : Request). fault_of w.server r ≡ None) w.requests place request (no_fault w sound.reached.plain all.both all.releases all.faultless) there in
+    refuses.of_request request (frame_says bytes request frame)
+    ∙ ap (λ (b : Bool). server.or_memory (cond b (server.as_fault (fault_of w.server request)) (Some Wire))) served ∙ ap (λ (o : Option RequestFault). server.or_memory (server.as_fault o)) none
 
 -- A result on the link is that of a copy which the server knows.
-pub is_known : (w : World) → IsFirstWorld w → (place : ℕ) (result : ReplyResult) (r : Refusal) → slice_get w.results place ≡ Some result → server.HasNoCopy w.server result r → ⊥
+pub is_known : (w : World) → IsSound w → (place : ℕ) (result : ReplyResult) (r : Refusal) → slice_get w.results place ≡ Some result → server.HasNoCopy w.server result r → ⊥
 is_known w sound place result r there none =
-    let known : is_some (get w.server.copies result.number) ≡ true = All-at (λ (x : ReplyResult). is_some (get w.server.copies x.number) ≡ true) w.results place result sound.more.results there in
-    true≢false (sym known ∙ ap (λ (o : Option Copy). is_some o) none.absent)
+    let all = sound.reached.sound in
+    let lookups = all.both.world.lookups in
+    All-at (λ (x : ReplyResult). get w.server.copies x.number ≢ None) w.results place result lookups.copies.results there none.absent

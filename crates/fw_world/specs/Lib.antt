@@ -1,3 +1,4 @@
 pub mod Values
 pub mod Runs
 pub mod Frames
+pub mod Sound

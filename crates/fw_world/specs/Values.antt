@@ -1,12 +1,15 @@
 -- What contracts see of events and records.
-use Rattle.std.specs.Prelude.{ℕ, false, cond, nat_eq}
+use Rattle.std.specs.Prelude.{ℕ, false, cond, nat_eq, List, map}
+use Rattle.fuse_spec.specs.Maps.{Map}
+use Rattle.fuse_spec.specs.Nodes.{HeldNode}
+use Rattle.fuse_spec.specs.declared.Counted.{Counted}
 use Rattle.fuse_spec.specs.declared.WriteResult.{WriteResult}
 use Rattle.fuse_spec.specs.declared.WriteResult.TheVariants.{Accepted, NoEntry, Invalid}
 use Rattle.fuse_spec.specs.Events as event
 use Rattle.fuse_spec.specs.Records as record_of_run
-use Rattle.fk_kernel.specs.Values.{call_of, answer_of}
+use Rattle.fk_syscalls.specs.Values.{call_of, answer_of}
 use Rattle.fw_world.specs.declared.event.Event.{Event}
-use Rattle.fw_world.specs.declared.event.Event.TheVariants.{Mount, Call, ReadPending, Take, Do, Write, Settle}
+use Rattle.fw_world.specs.declared.event.Event.TheVariants.{Mount, Call, ReadPending, ReadForgets, Take, Do, Write, Settle, Tick, DropName, Evict}
 use Rattle.fw_world.specs.declared.event.Outcome.{Outcome}
 use Rattle.fw_world.specs.declared.event.Outcome.TheVariants as outcome
 use Rattle.fw_world.specs.declared.record.Record.{Record}
@@ -21,6 +24,18 @@ event_of (Take place) = event.take place
 event_of (Do unique) = event.perform unique
 event_of (Write place) = event.write place
 event_of (Settle place) = event.settle place
+event_of (ReadForgets count) = event.read_forgets count
+event_of (Tick ms) = event.tick ms
+event_of (DropName directory name) = event.drop_name directory name.now
+event_of (Evict node) = event.evict node
+
+-- The event takes no memory.
+abbrev pub NeedsNoMemory : Event → Type 0
+NeedsNoMemory (Settle place) = Unit {0}
+NeedsNoMemory (Tick ms) = Unit {0}
+NeedsNoMemory (DropName directory name) = Unit {0}
+NeedsNoMemory (Evict node) = Unit {0}
+NeedsNoMemory event = ⊥
 
 -- the result of a reply, by its error number
 abbrev pub result_of : ℕ → WriteResult
@@ -35,9 +50,19 @@ outcome_of (outcome.Taken unique word) = event.taken unique word
 outcome_of (outcome.Done unique errno len) = event.performed unique errno false
 outcome_of (outcome.Written unique errno) = event.written unique (result_of errno)
 outcome_of (outcome.Settled unique errno) = event.settled unique (result_of errno)
+outcome_of (outcome.Now clock) = event.now clock
+outcome_of outcome.Dropped = event.dropped
+outcome_of (outcome.Evicted node count) = event.evicted node count
 
 -- the record of the definitions
 abbrev pub record_of : Record → record_of_run.Record
 record_of (recorded.Outcome outcome) = record_of_run.outcome (outcome_of outcome)
 record_of (recorded.Refused refusal) = record_of_run.refused refusal
 record_of (recorded.Answered call answer) = record_of_run.answered call (answer_of answer)
+
+-- each counted node with its generation and its count, and each held one
+abbrev pub counted_nodes : Map Counted → List (ℕ × ℕ × ℕ)
+counted_nodes nodes = map (λ e. (e.0, e.1.generation, e.1.count)) nodes
+
+abbrev pub held_nodes : Map HeldNode → List (ℕ × ℕ × ℕ)
+held_nodes rows = map (λ e. (e.0, e.1.generation, e.1.count)) rows

@@ -13,6 +13,9 @@ pub enum Event<'a> {
     Call(Call<'a>),
     /// The pending request at a place, counted from 0, is read and goes into the request link.
     ReadPending(u64),
+    /// So many of the oldest forgets are read as one request, which goes into the request link: FORGET for 1, else
+    /// BATCH_FORGET, for 64 at most.
+    ReadForgets(u64),
     /// The server takes the request at a place of the request link.
     Take(u64),
     /// The server performs the request that it holds under a unique, and a copy of its reply goes into the reply link.
@@ -21,6 +24,12 @@ pub enum Event<'a> {
     Write(u64),
     /// The server takes the result at a place of the result link.
     Settle(u64),
+    /// So many milliseconds pass.
+    Tick(u64),
+    /// The name of a directory, which is a node, is in force no longer.
+    DropName { directory: u64, name: &'a [u8] },
+    /// The kernel gives a node up, and its whole lookup count is to be forgotten.
+    Evict(u64),
 }
 
 /// What an accepted event came to. Lengths are those of the frames, in bytes; error numbers are 0 or positive.
@@ -51,5 +60,14 @@ pub enum Outcome {
     Settled {
         unique: u64,
         errno: u32,
+    },
+    /// The time since the first world, in milliseconds.
+    Now {
+        clock: u64,
+    },
+    Dropped,
+    Evicted {
+        node: u64,
+        count: u64,
     },
 }

@@ -12,6 +12,3 @@ pub use fuse_spec::{Attributes, Kind, Refusal, Taken};
 pub use record::Record;
 pub use runs::run;
 pub use world::{World, WorldIn};
-
-#[cfg(test)]
-mod tests;

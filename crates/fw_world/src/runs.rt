@@ -1,9 +1,9 @@
 //! Whole lists of events.
 
-ghost use Rattle.std.specs.Prelude.{◌≡◌, ◌+◌, ◌*◌, ◌<◌, ◌≤◌, ◌++◌, ◌∷◌, [], false, List, IsTrue, IfErr, OnErr, length, map};
+ghost use Rattle.std.specs.Prelude.{◌≡◌, ◌+◌, ◌*◌, ◌<◌, ◌≤◌, ◌++◌, ◌∷◌, [], false, List, IsTrue, IfErr, IfNone, IfSome, OnErr, ◌^◌, length, map};
 ghost use Rattle.std.specs.Vec.{vec_len, vec_capacity};
 ghost use Rattle.fuse_spec.specs.Records.{answers_of, collected};
-ghost use Rattle.fuse_theorem.specs.FirstPath.{Recorded};
+ghost use Rattle.fuse_theorem.specs.Recorded.{Recorded};
 ghost use Rattle.fw_world.specs.declared.record.Record.{Record as RecordValue};
 ghost use Rattle.fw_world.specs.Values.{event_of, record_of};
 ghost use Rattle.fw_world.specs.Runs.{RunsAs, events_run};
@@ -19,7 +19,7 @@ use std::alloc::Allocator;
 /// # Errors
 ///
 /// `Err(k)` where the list of records could not grow, after exactly k events; the events from the k-th on have not run. With room for
-/// the answers that wait and two records an event it does not come to that.
+/// the answers that wait, those of the unanswered calls, and two records an event it does not come to that.
 pub fn run<A: Allocator + Copy>(
     world: &mut WorldIn<A>,
     events: &[Event<'_>],
@@ -27,15 +27,24 @@ pub fn run<A: Allocator + Copy>(
 ) -> Result<(), usize>
     ensures ran { (added : List RecordValue) × (records.new.items ≡ records.old.items ++ added) × RunsAs world.old (map event_of (events_run result events.now)) (map record_of added) world.new }
     ensures err { IfErr result (λ k. k < length events.now) }
-    ensures full { OnErr result (vec_capacity records.old < vec_len records.old + length world.old.kernel.vfs.answers + 2 * length events.now) }
+    ensures full { OnErr result (vec_capacity records.old < vec_len records.old + (length world.old.kernel.vfs.answers + length world.old.kernel.vfs.calls) + 2 * length events.now) }
 {
-    world.is_first();
+    world.is_sound();
     for (k, event) in events.iter().enumerate() {
         if !run_one(world, event, records) {
             return Err(k);
         }
     }
     Ok(())
+}
+
+/// At most so many records the next event comes to: one of its own, and the answers of calls that wait or of one that begins.
+fn most_records<A: Allocator + Copy>(world: &WorldIn<A>) -> Option<usize>
+    ensures some { IfSome result (λ room. room ≡ length world.now.kernel.vfs.answers + length world.now.kernel.vfs.calls + 2) }
+    ensures none { IfNone result (2 ^ 64 ≤ length world.now.kernel.vfs.answers + length world.now.kernel.vfs.calls + 2) }
+{
+    let waiting = world.answered().checked_add(world.unanswered())?;
+    waiting.checked_add(2)
 }
 
 /// Runs one event and records what it came to, or does nothing where there is no memory for the records.
@@ -45,12 +54,12 @@ fn run_one<A: Allocator + Copy>(
     records: &mut Vec<Record, A>,
 ) -> bool
     ensures not_run { result ≡ false → (world.new ≡ world.old) × (records.new.items ≡ records.old.items) }
-    ensures full { result ≡ false → vec_capacity records.old < vec_len records.old + length world.old.kernel.vfs.answers + 2 }
+    ensures full { result ≡ false → vec_capacity records.old < vec_len records.old + (length world.old.kernel.vfs.answers + length world.old.kernel.vfs.calls) + 2 }
     ensures ran { IsTrue result → (added : List RecordValue) × (records.new.items ≡ records.old.items ++ added) × Recorded world.old (event_of event.now ∷ []) (map record_of added) world.new }
-    ensures room { IsTrue result → vec_len records.new + length world.new.kernel.vfs.answers + vec_capacity records.old ≤ vec_len records.old + length world.old.kernel.vfs.answers + 2 + vec_capacity records.new }
+    ensures room { IsTrue result → vec_len records.new + (length world.new.kernel.vfs.answers + length world.new.kernel.vfs.calls) + vec_capacity records.old ≤ vec_len records.old + (length world.old.kernel.vfs.answers + length world.old.kernel.vfs.calls) + 2 + vec_capacity records.new }
 {
-    world.is_first();
-    let Some(room) = world.answered().checked_add(2) else {
+    world.is_sound();
+    let Some(room) = most_records(world) else {
         return false;
     };
     if records.reserve(room).is_err() {
@@ -74,7 +83,7 @@ fn collect_all<A: Allocator + Copy>(world: &mut WorldIn<A>, records: &mut Vec<Re
     ensures len { vec_len records.new ≡ vec_len records.old + length world.old.kernel.vfs.answers }
     ensures capacity { vec_capacity records.old ≤ vec_capacity records.new }
 {
-    world.is_first();
+    world.is_sound();
     while let Some((call, answer)) = world.collect() {
         add(records, Record::Answered { call, answer });
     }

@@ -4,14 +4,16 @@ ghost use Rattle.std.specs.Prelude.{◌≡◌, ◌≤◌, ◌<◌, ◌++◌, ◌
 ghost use Rattle.std.specs.Vec.{vec_len, vec_capacity};
 ghost use Rattle.fuse_spec.specs.Events as event;
 ghost use Rattle.fuse_spec.specs.Maps.{remove};
-ghost use Rattle.fuse_spec.specs.Steps.{Happens, is_past, RefusedWith};
+ghost use Rattle.fuse_spec.specs.Steps.{Happens, is_past, IsRefused, RefusedWith};
 ghost use Rattle.fuse_spec.specs.Worlds.{World as WorldState, first_world};
 ghost use Rattle.fuse_spec.specs.Plain.{first_plain};
 ghost use Rattle.fuse_spec.specs.Alike.{Alike};
-ghost use Rattle.fuse_theorem.specs.FirstWorld.{IsFirstWorld};
-ghost use Rattle.fk_kernel.specs.Values.{call_of, answer_of};
+ghost use Rattle.fuse_spec.specs.declared.Refusal.TheVariants.{NoMemory};
+ghost use Rattle.fw_world.specs.Sound.{IsSound};
+ghost use Rattle.fk_syscalls.specs.Values.{call_of, answer_of};
+ghost use Rattle.fuse_theorem.specs.AsksServed.{AsksServed};
 ghost use Rattle.fw_world.specs.Frames.{IsLastFrame};
-ghost use Rattle.fw_world.specs.Values.{event_of, outcome_of, result_of};
+ghost use Rattle.fw_world.specs.Values.{NeedsNoMemory, counted_nodes, event_of, held_nodes, outcome_of, result_of};
 
 use crate::event::{Event, Outcome};
 use fk_kernel::{Answer, Call, Kernel};
@@ -53,7 +55,7 @@ pub type World = WorldIn<Global>;
 impl<A: Allocator + Copy> Model for WorldIn<A> {
     ghost use Rattle.std.specs.Coded.{codes};
     ghost use Rattle.fuse_spec.specs.Worlds.{World as WorldState};
-    ghost use Rattle.fuse_theorem.specs.FirstWorld.{IsFirstWorld};
+    ghost use Rattle.fw_world.specs.Sound.{IsSound};
 
     ghost Value = { WorldState };
 
@@ -61,7 +63,7 @@ impl<A: Allocator + Copy> Model for WorldIn<A> {
 
     ghost view = { λ w. record { kernel = w.kernel; server = w.server; requests = w.requests.items; replies = w.replies.items; results = w.results.items } };
 
-    ghost invariant = { λ w. IsFirstWorld (record { kernel = w.kernel; server = w.server; requests = w.requests.items; replies = w.replies.items; results = w.results.items }) };
+    ghost invariant = { λ w. IsSound (record { kernel = w.kernel; server = w.server; requests = w.requests.items; replies = w.replies.items; results = w.results.items }) };
 }
 
 impl<A: Allocator + Copy> WorldIn<A> {
@@ -69,14 +71,18 @@ impl<A: Allocator + Copy> WorldIn<A> {
     ///
     /// # Errors
     ///
-    /// None so far: nothing is allocated yet.
+    /// `NoMemory`.
     pub fn new(alloc: A) -> Result<WorldIn<A>, Refusal>
         ensures first { IfOk result (λ world. world ≡ first_world) }
         ensures alike { IfOk result (λ world. Alike world first_plain) }
+        ensures served { AsksServed first_plain }
     {
+        let Ok(server) = Server::new(alloc) else {
+            return Err(Refusal::NoMemory);
+        };
         Ok(WorldIn {
             kernel: Kernel::new(alloc),
-            server: Server::new(alloc),
+            server,
             requests: Vec::new(alloc),
             replies: Vec::new(alloc),
             results: Vec::new(alloc),
@@ -88,10 +94,12 @@ impl<A: Allocator + Copy> WorldIn<A> {
     ///
     /// # Errors
     ///
-    /// Each event has its refusals in the order of their numbers, with `NoMemory` last.
+    /// Each event has its refusals in the order of their numbers, with `NoMemory` last. `Settle`, `Tick`, `DropName` and `Evict`
+    /// take no memory.
     pub fn step(&mut self, event: &Event<'_>) -> Result<Outcome, Refusal>
         ensures err { OnErr result (self.new ≡ self.old) }
         ensures refusal { IfErr result (RefusedWith self.old (event_of event.now)) }
+        ensures memory { NeedsNoMemory event.now → IfErr result (IsRefused self.old (event_of event.now)) }
         ensures happens { IfOk result (λ outcome. Happens self.old (event_of event.now) (outcome_of outcome) self.new) }
     {
         self.last_put = LastPut::Nothing;
@@ -106,6 +114,10 @@ impl<A: Allocator + Copy> WorldIn<A> {
             Event::Do(unique) => self.perform(*unique),
             Event::Write(place) => self.write(*place),
             Event::Settle(place) => self.settle(*place),
+            Event::ReadForgets(count) => self.read_forgets(*count),
+            Event::Tick(ms) => self.tick(*ms),
+            Event::DropName { directory, name } => self.drop_name(*directory, name),
+            Event::Evict(node) => self.evict(*node),
         }
     }
 
@@ -125,9 +137,16 @@ impl<A: Allocator + Copy> WorldIn<A> {
         self.kernel.answered()
     }
 
-    /// The world is one of the first path.
-    pub(crate) fn is_first(&self)
-        ensures { IsFirstWorld self.now }
+    /// How many calls are unanswered.
+    pub(crate) fn unanswered(&self) -> usize
+        ensures { result ≡ length self.now.kernel.vfs.calls }
+    {
+        self.kernel.unanswered()
+    }
+
+    /// Events led to the world.
+    pub(crate) fn is_sound(&self)
+        ensures { IsSound self.now }
     {
         // A field is touched so that the type's invariant is at hand.
         let _ = &self.kernel;
@@ -147,6 +166,36 @@ impl<A: Allocator + Copy> WorldIn<A> {
                 Some(copy) => Some(copy.bytes()),
                 None => None,
             },
+        }
+    }
+
+    /// The nodes that the kernel counts, in rising id and without the root: id, generation and lookup count of each.
+    ///
+    /// # Errors
+    ///
+    /// `NoMemory`, for the list.
+    pub fn kernel_nodes(&self) -> Result<Vec<(u64, u64, u64), A>, Refusal>
+        ensures nodes { IfOk result (λ nodes. nodes.items ≡ counted_nodes self.now.kernel.nodes) }
+        ensures refusal { IfErr result (λ refusal. refusal ≡ NoMemory) }
+    {
+        match self.kernel.nodes(*self.requests.allocator()) {
+            Ok(nodes) => Ok(nodes),
+            Err(_) => Err(Refusal::NoMemory),
+        }
+    }
+
+    /// The nodes that the server holds, in rising id and without the root: id, generation and lookup count of each.
+    ///
+    /// # Errors
+    ///
+    /// `NoMemory`, for the list.
+    pub fn server_nodes(&self) -> Result<Vec<(u64, u64, u64), A>, Refusal>
+        ensures nodes { IfOk result (λ nodes. nodes.items ≡ held_nodes self.now.server.nodes.rows) }
+        ensures refusal { IfErr result (λ refusal. refusal ≡ NoMemory) }
+    {
+        match self.server.nodes(*self.requests.allocator()) {
+            Ok(nodes) => Ok(nodes),
+            Err(_) => Err(Refusal::NoMemory),
         }
     }
 
@@ -205,6 +254,69 @@ impl<A: Allocator + Copy> WorldIn<A> {
         })
     }
 
+    fn read_forgets(&mut self, count: u64) -> Result<Outcome, Refusal>
+        ensures err { OnErr result (self.new ≡ self.old) }
+        ensures refusal { IfErr result (RefusedWith self.old (event.read_forgets count)) }
+        ensures happens { IfOk result (λ outcome. Happens self.old (event.read_forgets count) (outcome_of outcome) self.new) }
+    {
+        if self.requests.reserve(1).is_err() {
+            return Err(
+                self.kernel
+                    .read_forgets_refusal(count)
+                    .unwrap_or(Refusal::NoMemory),
+            );
+        }
+        let frame = match self.kernel.read_forgets(count) {
+            Ok(frame) => frame,
+            Err(refusal) => return Err(refusal),
+        };
+        let (unique, opcode) = frame.head();
+        let len = frame.bytes().len();
+        append(&mut self.requests, frame);
+        within(&self.kernel, &self.server);
+        self.last_put = LastPut::Request;
+        Ok(Outcome::Read {
+            unique,
+            opcode,
+            len,
+        })
+    }
+
+    fn tick(&mut self, ms: u64) -> Result<Outcome, Refusal>
+        ensures err { OnErr result (self.new ≡ self.old) }
+        ensures refusal { IfErr result (IsRefused self.old (event.tick ms)) }
+        ensures happens { IfOk result (λ outcome. Happens self.old (event.tick ms) (outcome_of outcome) self.new) }
+    {
+        let clock = match self.kernel.tick(ms) {
+            Ok(clock) => clock,
+            Err(refusal) => return Err(refusal),
+        };
+        Ok(Outcome::Now { clock })
+    }
+
+    fn drop_name(&mut self, directory: u64, name: &[u8]) -> Result<Outcome, Refusal>
+        ensures err { OnErr result (self.new ≡ self.old) }
+        ensures refusal { IfErr result (IsRefused self.old (event.drop_name directory name.now)) }
+        ensures happens { IfOk result (λ outcome. Happens self.old (event.drop_name directory name.now) (outcome_of outcome) self.new) }
+    {
+        if let Err(refusal) = self.kernel.drop_name(directory, name) {
+            return Err(refusal);
+        }
+        Ok(Outcome::Dropped)
+    }
+
+    fn evict(&mut self, node: u64) -> Result<Outcome, Refusal>
+        ensures err { OnErr result (self.new ≡ self.old) }
+        ensures refusal { IfErr result (IsRefused self.old (event.evict node)) }
+        ensures happens { IfOk result (λ outcome. Happens self.old (event.evict node) (outcome_of outcome) self.new) }
+    {
+        let count = match self.kernel.evict(node) {
+            Ok(count) => count,
+            Err(refusal) => return Err(refusal),
+        };
+        Ok(Outcome::Evicted { node, count })
+    }
+
     fn take(&mut self, place: u64) -> Result<Outcome, Refusal>
         ensures err { OnErr result (self.new ≡ self.old) }
         ensures refusal { IfErr result (RefusedWith self.old (event.take place)) }
@@ -229,6 +341,7 @@ impl<A: Allocator + Copy> WorldIn<A> {
         ensures refusal { IfErr result (RefusedWith self.old (event.perform unique)) }
         ensures happens { IfOk result (λ outcome. Happens self.old (event.perform unique) (outcome_of outcome) self.new) }
     {
+        self.server.within();
         if self.replies.reserve(1).is_err() {
             return Err(
                 self.server
@@ -285,7 +398,7 @@ impl<A: Allocator + Copy> WorldIn<A> {
 
     fn settle(&mut self, place: u64) -> Result<Outcome, Refusal>
         ensures err { OnErr result (self.new ≡ self.old) }
-        ensures refusal { IfErr result (RefusedWith self.old (event.settle place)) }
+        ensures refusal { IfErr result (IsRefused self.old (event.settle place)) }
         ensures happens { IfOk result (λ outcome. Happens self.old (event.settle place) (outcome_of outcome) self.new) }
     {
         let place = place as usize;

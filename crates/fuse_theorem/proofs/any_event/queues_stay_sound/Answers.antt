@@ -1,4 +1,4 @@
-use Rattle.fuse_theorem.proofs.FirstMounts.{empty_sound}
+use Rattle.fuse_theorem.proofs.EmptyQueues.{empty_sound}
 use Rattle.fuse_theorem.proofs.QueuesSound.{stays_sound}
 use Rattle.fuse_theorem.proofs.any_event.queues_stay_sound.Goals as goal
 

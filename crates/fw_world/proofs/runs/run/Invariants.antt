@@ -3,8 +3,8 @@ use Rattle.std.specs.Vec.{vec_len, vec_capacity}
 use Rattle.fw_world.proofs.Recording.{RanSo}
 use Rattle.fw_world.proofs.runs.run.Given as goal
 
--- The first k events ran, and used room for two records each, beside that of the answers that waited.
+-- The first k events ran, and used room for two records each, beside that of the calls that waited.
 abbrev pub invariant-loop-k : goal.invariant-loop-k
 invariant-loop-k g l =
     RanSo l.fn.world (take l.k l.events) l.fn.records.items l.world l.records.items
-    × (vec_len l.records + length l.world.kernel.vfs.answers + vec_capacity l.fn.records ≤ vec_len l.fn.records + length l.fn.world.kernel.vfs.answers + 2 * l.k + vec_capacity l.records)
+    × (vec_len l.records + (length l.world.kernel.vfs.answers + length l.world.kernel.vfs.calls) + vec_capacity l.fn.records ≤ vec_len l.fn.records + (length l.fn.world.kernel.vfs.answers + length l.fn.world.kernel.vfs.calls) + 2 * l.k + vec_capacity l.records)

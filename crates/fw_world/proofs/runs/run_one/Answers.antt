@@ -1,15 +1,16 @@
 use Rattle.std.proofs.Common.{◌+◌, ◌≤◌, sym, ap, length, ◌∙◌, arith}
 use Rattle.fuse_spec.specs.Worlds.{World}
 use Rattle.std.specs.Vec.{vec_len, vec_capacity}
-use Rattle.fw_world.specs.Values.{outcome_of}
-use Rattle.fw_world.proofs.Recording.{adds_refusal, adds_outcome, made_room, wanted_room, few_answers}
+use Rattle.fuse_theorem.proofs.WaitingAnswers.{one_more_waits}
+use Rattle.fw_world.specs.Values.{event_of, outcome_of}
+use Rattle.fw_world.proofs.Recording.{adds_refusal, adds_outcome, made_room, wanted_room}
 use Rattle.fw_world.proofs.runs.run_one.Goals as goal
 
 pub collect_all-requires : goal.collect_all-requires
 collect_all-requires g c =
     let room : vec_len c.reserve.new.self + c.in-Some.room ≤ vec_capacity c.reserve.new.self = made_room c.reserve.result _ _ _ c.reserve.ensures.ok (sym c.is_err.ensures.value ∙ c.if-is_err.false) in
-    let few = few_answers c.args.world.now c.is_first.ensures c.args.event.now (outcome_of c.in-Ok.outcome) c.step.new.self c.in-Ok.ensures.happens in
-    omega (arith, room, few, c.in-Some.ensures.0, c.in-Some.ensures.1, c.answered.ensures, c.add.ensures.len, c.add.ensures.capacity)
+    let few = one_more_waits c.args.world.now (event_of c.args.event.now) (outcome_of c.in-Ok.outcome) c.step.new.self c.in-Ok.ensures.happens in
+    omega (arith, room, few, c.in-Some.ensures, c.add.ensures.len, c.add.ensures.capacity)
 
 pub returns-in-Ok-clause-ran : goal.returns-in-Ok-clause-ran
 returns-in-Ok-clause-ran g c ran =
@@ -22,11 +23,12 @@ returns-in-Err-clause-ran g c ran =
 
 pub returns-in-Ok-clause-room : goal.returns-in-Ok-clause-room
 returns-in-Ok-clause-room g c ran =
-    let few = few_answers c.args.world.now c.is_first.ensures c.args.event.now (outcome_of c.in-Ok.outcome) c.step.new.self c.in-Ok.ensures.happens in
+    let few = one_more_waits c.args.world.now (event_of c.args.event.now) (outcome_of c.in-Ok.outcome) c.step.new.self c.in-Ok.ensures.happens in
     let none_left = ap (λ (w : World). length w.kernel.vfs.answers) c.collect_all.ensures.world in
-    omega (arith, few, none_left, c.reserve.ensures.len, c.reserve.ensures.capacity, c.add.ensures.len, c.add.ensures.capacity, c.collect_all.ensures.len, c.collect_all.ensures.capacity)
+    let calls_left = ap (λ (w : World). length w.kernel.vfs.calls) c.collect_all.ensures.world in
+    omega (arith, few, none_left, calls_left, c.reserve.ensures.len, c.reserve.ensures.capacity, c.add.ensures.len, c.add.ensures.capacity, c.collect_all.ensures.len, c.collect_all.ensures.capacity)
 
 pub returns-then-is_err-clause-full : goal.returns-then-is_err-clause-full
 returns-then-is_err-clause-full g c not_run =
     let full = wanted_room c.reserve.result _ _ _ c.reserve.ensures.full (sym c.is_err.ensures.value ∙ c.if-is_err.true) in
-    omega (arith, full, c.in-Some.ensures.1, c.answered.ensures)
+    omega (arith, full, c.in-Some.ensures)

@@ -12,7 +12,7 @@ invariant_of-self-2 g c =
     let room : length k.calls.entries ≤ c.put.new.self.room = omega (arith, few, reserved, left) in
     let old = c.self.invariant in
     rw (c.put.ensures.entries, c.in-Ok.ensures.entries)
-    (record { numbers = sound_begun_answered k.calls.entries k.answers.entries k.answers.room k.next_call old.numbers c.new.result c.put.new.self.room low room; idle = old.idle; stats = old.stats; releases = old.releases; clock_low = old.clock_low })
+    (record { numbers = sound_begun_answered k.calls.entries k.answers.entries k.answers.room k.next_call old.numbers c.new.result c.put.new.self.room low room; idle = old.idle; kinds = old.kinds; sorted = old.sorted; nodes = old.nodes; releases = old.releases; clock_low = old.clock_low })
 
 pub returns-clause-vfs : goal.returns-clause-vfs
 returns-clause-vfs g c =

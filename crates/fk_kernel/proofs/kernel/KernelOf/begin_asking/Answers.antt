@@ -4,7 +4,8 @@ use Rattle.fuse_spec.specs.Steps.{is_ready}
 use Rattle.fk_kernel.proofs.Phases.{live_if}
 use Rattle.fk_kernel.proofs.Requests.{call_queued}
 use Rattle.fk_kernel.proofs.Sound.{sound_begun_asking}
-use Rattle.fk_kernel.proofs.Stats.{put_of_stat}
+use Rattle.fk_kernel.proofs.CallKinds.{put_kind}
+use Rattle.fk_kernel.proofs.Nodes.{request_queued, sorted_put}
 use Rattle.fk_kernel.proofs.kernel.KernelOf.begin_asking.Goals as goal
 
 pub invariant_of-self-2 : goal.invariant_of-self-2
@@ -19,4 +20,4 @@ invariant_of-self-2 g c =
     let live = live_if k.phase ready going in
     let old = c.self.invariant in
     rw (c.put.ensures.entries, c.in-Ok-reserve.ensures.entries, c.in-Ok.ensures.entries)
-    (record { numbers = sound_begun_asking k.calls.entries k.answers.entries k.answers.room k.next_call old.numbers c.args.state c.reserve.new.self.room low room; idle = λ down. absurd (true≢false (sym live ∙ down)); stats = put_of_stat k.calls.entries k.next_call c.args.state c.requires.of_stat old.stats; releases = rw (c.enqueue-unique.ensures.state, c.reserve-3.ensures.state) (call_queued (g.Q.QueueTable.state k.queues) k.next_call old.releases); clock_low = old.clock_low })
+    (record { numbers = sound_begun_asking k.calls.entries k.answers.entries k.answers.room k.next_call old.numbers c.args.state c.reserve.new.self.room low room; idle = λ down. absurd (true≢false (sym live ∙ down)); kinds = put_kind k.calls.entries k.next_call c.args.state c.requires.kind old.kinds; sorted = sorted_put k.calls.entries k.next_call c.args.state old.sorted; nodes = rw (c.enqueue-unique.ensures.state, c.reserve-3.ensures.state) (request_queued k.nodes (g.Q.QueueTable.state k.queues) (g.Q.QueueTable.room k.queues).forgets (g.Q.QueueTable.room c.enqueue-unique.new.self).forgets old.nodes (omega (arith, c.reserve-3.ensures.kept.forgets, c.enqueue-unique.ensures.forgets_room)) _); releases = rw (c.enqueue-unique.ensures.state, c.reserve-3.ensures.state) (call_queued (g.Q.QueueTable.state k.queues) k.next_call old.releases); clock_low = old.clock_low })

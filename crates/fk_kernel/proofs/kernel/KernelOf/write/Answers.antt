@@ -1,8 +1,9 @@
 use Rattle.std.proofs.Common.{rules, ◌≡◌, ℕ, ◌-◌, Some, None, sym, ap, ◌∙◌}
 use Rattle.fuse_spec.specs.QueueCalls.{waiting}
-use Rattle.fuse_spec.specs.declared.Purpose.TheVariants.{Init}
+use Rattle.fuse_spec.specs.declared.Purpose.TheVariants.{Init, Call}
+use Rattle.fuse_spec.specs.declared.WriteResult.TheVariants.{Invalid}
 use Rattle.fk_kernel.specs.Said.{head_unique}
-use Rattle.fk_kernel.proofs.Taken.{odd_test, even_test, taken_odd, taken_even, taken_by_init}
+use Rattle.fk_kernel.proofs.Taken.{odd_test, even_test, taken_odd, taken_even, awaited_even, taken_none, taken_init}
 use Rattle.fk_wire.specs.declared.opcode.Opcode.TheVariants as op
 use Rattle.fk_wire.specs.Opcodes.{served}
 use Rattle.fk_kernel.proofs.Heads.{no_head}
@@ -33,7 +34,7 @@ returns-in_default-waiting-clause-taken g c = λ head.
     let same = c.in-Ok.ensures.ok.3 in
     let at : waiting queues c.in-Ok.unique ≡ None = search rules in
     let waits : waiting c.args.self.now.queues unique ≡ None = rw (← c.self.view_is) (ap (waiting queues) (sym same) ∙ at) in
-    taken_even _ unique _ _ _ (even_test c.in-Ok.unique unique same c.if-unique-eq1.false) None waits tt
+    taken_even _ unique _ _ _ (even_test c.in-Ok.unique unique same c.if-unique-eq1.false) None waits (taken_none _ unique _ _ _)
 
 pub returns-in-Init-clause-taken : goal.returns-in-Init-clause-taken
 returns-in-Init-clause-taken g c = λ head.
@@ -44,10 +45,30 @@ returns-in-Init-clause-taken g c = λ head.
     let waits : waiting c.args.self.now.queues unique ≡ Some Init = rw (← c.self.view_is) (ap (waiting queues) (sym same) ∙ at ∙ ap Some c.in-Init.is) in
     let say = c.write_to_init.ensures in
     taken_even c.args.self.now unique c.args.bytes.now _ _ (even_test c.in-Ok.unique unique same c.if-unique-eq1.false) (Some Init) waits
-    (taken_by_init c.args.self.now unique c.args.bytes.now _ _ c.in-Ok.unique same say.agreed say.refused say.unsaid)
+    (taken_init c.args.self.now unique c.args.bytes.now _ _ (rw (← same) say.agreed) say.refused say.unsaid)
 
 pub returns-in-Release-clause-taken : goal.returns-in-Release-clause-taken
 returns-in-Release-clause-taken g c = λ head.
     let queues = g.Q.QueueTable.state c.self.inside.queues in
     let at : waiting queues c.in-Ok.unique ≡ Some c.in-Some.purpose.now = search rules in
     absurd (waiting_purpose queues c.in-Ok.unique c.in-Some.purpose.now c.self.invariant.releases at c.in-Release.field-0 c.in-Release.is)
+
+pub returns-in-Call-clause-refusal : goal.returns-in-Call-clause-refusal
+returns-in-Call-clause-refusal g c = λ head.
+    let queues = g.Q.QueueTable.state c.self.inside.queues in
+    let unique = head_unique c.args.bytes.now in
+    let same = c.in-Ok.ensures.ok.3 in
+    let at : waiting queues c.in-Ok.unique ≡ Some c.in-Some.purpose.now = search rules in
+    let waits : waiting c.args.self.now.queues unique ≡ Some (Call c.in-Call.call) = rw (← c.self.view_is) (ap (waiting queues) (sym same) ∙ at ∙ ap Some c.in-Call.is) in
+    let awaits = awaited_even c.args.self.now unique c.args.bytes.now Invalid c.args.self.now (even_test c.in-Ok.unique unique same c.if-unique-eq1.false) (Some (Call c.in-Call.call)) waits in
+    rw (awaits, ← same) c.write_to_call.ensures.refusal
+
+pub returns-in-Call-clause-taken : goal.returns-in-Call-clause-taken
+returns-in-Call-clause-taken g c = λ head.
+    let queues = g.Q.QueueTable.state c.self.inside.queues in
+    let unique = head_unique c.args.bytes.now in
+    let same = c.in-Ok.ensures.ok.3 in
+    let at : waiting queues c.in-Ok.unique ≡ Some c.in-Some.purpose.now = search rules in
+    let waits : waiting c.args.self.now.queues unique ≡ Some (Call c.in-Call.call) = rw (← c.self.view_is) (ap (waiting queues) (sym same) ∙ at ∙ ap Some c.in-Call.is) in
+    let awaits = awaited_even c.args.self.now unique c.args.bytes.now Invalid c.args.self.now (even_test c.in-Ok.unique unique same c.if-unique-eq1.false) (Some (Call c.in-Call.call)) waits in
+    rw (awaits, ← same) c.write_to_call.ensures.taken

@@ -4,12 +4,12 @@ use Rattle.fs_nodes.proofs.nodes_of.NodesOfNodeStore.take_back.Goals as goal
 
 pub invariant_of-self : goal.invariant_of-self
 invariant_of-self g c = record {
-  limit = c.args.self.now.limit;
-  sound = sound_counted _ c.args.id _ _ c.args.self.now.sound (sym c.in-Some.ensures) refl refl (omega arith) c.write.ensures.rows;
+  limit = c.self.invariant.limit;
+  sound = sound_counted _ c.args.id _ _ c.self.invariant.sound (sym c.in-Some.ensures) refl refl (omega arith) c.write.ensures.rows;
 }
 
 pub invariant_of-self-else-count-node : goal.invariant_of-self-else-count-node
 invariant_of-self-else-count-node g c = record {
-  limit = c.args.self.now.limit;
-  sound = sound_gone _ c.args.id c.args.self.now.sound c.take_out.ensures.rows;
+  limit = c.self.invariant.limit;
+  sound = sound_gone _ c.args.id c.self.invariant.sound c.take_out.ensures.rows;
 }

@@ -1,4 +1,4 @@
-use Rattle.fuse_frames.proofs.ReplyLemmas.{says, says_agreed, says_missing, says_attributes}
+use Rattle.fuse_frames.proofs.ReplyLemmas.{says, fits, init, empty}
 use Rattle.fuse_frames.proofs.reply_copy.ReplyCopy.bytes.Goals as goal
 
 pub returns-clause-written : goal.returns-clause-written
@@ -7,11 +7,11 @@ returns-clause-written g c = (c.self.inside.opcode, rw c.deref.ensures.value c.s
 pub returns-clause-frame : goal.returns-clause-frame
 returns-clause-frame g c = (c.self.inside.opcode, rw (c.deref.ensures.value, ← c.self.view_is) (says c.self.inside.opcode c.self.inside.bytes.items c.self.invariant))
 
-pub returns-clause-agreed : goal.returns-clause-agreed
-returns-clause-agreed g c major minor e = rw (c.deref.ensures.value, ← c.self.view_is) (says_agreed c.self.inside.opcode c.self.inside.bytes.items c.self.invariant major minor (rw (← c.self.view_is) at e))
+pub returns-clause-fits : goal.returns-clause-fits
+returns-clause-fits g c operation e = rw (c.deref.ensures.value, ← c.self.view_is) (fits c.self.inside.opcode c.self.inside.bytes.items c.self.invariant operation (rw (← c.self.view_is) at e))
 
-pub returns-clause-missing : goal.returns-clause-missing
-returns-clause-missing g c valid e = rw (c.deref.ensures.value, ← c.self.view_is) (says_missing c.self.inside.opcode c.self.inside.bytes.items c.self.invariant valid (rw (← c.self.view_is) at e))
+pub returns-clause-init : goal.returns-clause-init
+returns-clause-init g c e = rw (c.deref.ensures.value, ← c.self.view_is) (init c.self.inside.opcode c.self.inside.bytes.items c.self.invariant (rw (← c.self.view_is) at e))
 
-pub returns-clause-attributes : goal.returns-clause-attributes
-returns-clause-attributes g c attributes e = rw (c.deref.ensures.value, ← c.self.view_is) (says_attributes c.self.inside.opcode c.self.inside.bytes.items c.self.invariant attributes (rw (← c.self.view_is) at e))
+pub returns-clause-empty : goal.returns-clause-empty
+returns-clause-empty g c e = rw (c.deref.ensures.value, ← c.self.view_is) (empty c.self.inside.opcode c.self.inside.bytes.items c.self.invariant (rw (← c.self.view_is) at e))

@@ -1,6 +1,6 @@
 use Rattle.std.proofs.Common.{refl}
 use Rattle.fuse_spec.specs.Events as event
-use Rattle.fk_kernel.specs.Values.{call_of}
+use Rattle.fk_syscalls.specs.Values.{call_of}
 use Rattle.fk_kernel.specs.Refused.{begin_refusal}
 use Rattle.fw_world.proofs.Parts.{world_of}
 use Rattle.fw_world.proofs.Made.{called}
@@ -15,11 +15,11 @@ returns-in-Err-clause-refusal g c =
 
 pub invariant_of-self-2 : goal.invariant_of-self-2
 invariant_of-self-2 g c =
-    (called (world_of c.self.inside.kernel c.self.inside.server c.self.inside.requests.items c.self.inside.replies.items c.self.inside.results.items) c.self.invariant c.begin.new.self c.self.inside.server c.self.inside.requests.items c.self.inside.replies.items c.self.inside.results.items c.args.call.now c.in-Ok.call
+    (called (world_of c.self.inside.kernel c.self.inside.server c.self.inside.requests.items c.self.inside.replies.items c.self.inside.results.items) c.self.invariant c.begin.new.self c.self.inside.server c.self.inside.requests.items c.self.inside.replies.items c.self.inside.results.items (call_of c.args.call.now) c.in-Ok.call
     c.in-Ok.ensures.judged c.in-Ok.ensures.number c.in-Ok.ensures.begun refl refl refl refl c.within.ensures).1
 
 pub returns-clause-happens : goal.returns-clause-happens
 returns-clause-happens g c =
     rw (← c.self.view_is)
-    (called (world_of c.self.inside.kernel c.self.inside.server c.self.inside.requests.items c.self.inside.replies.items c.self.inside.results.items) c.self.invariant c.begin.new.self c.self.inside.server c.self.inside.requests.items c.self.inside.replies.items c.self.inside.results.items c.args.call.now c.in-Ok.call
+    (called (world_of c.self.inside.kernel c.self.inside.server c.self.inside.requests.items c.self.inside.replies.items c.self.inside.results.items) c.self.invariant c.begin.new.self c.self.inside.server c.self.inside.requests.items c.self.inside.replies.items c.self.inside.results.items (call_of c.args.call.now) c.in-Ok.call
     c.in-Ok.ensures.judged c.in-Ok.ensures.number c.in-Ok.ensures.begun refl refl refl refl c.within.ensures).0

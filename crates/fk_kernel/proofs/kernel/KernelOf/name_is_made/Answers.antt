@@ -1,0 +1,51 @@
+use Rattle.std.proofs.Common.{◌≡◌, ◌≤◌, ◌+◌, length, true, Some, ap, arith}
+use Rattle.std.specs.Prelude.{is_some}
+use Rattle.fuse_spec.specs.Maps.{get}
+use Rattle.fuse_spec.specs.Operations.{mkdir}
+use Rattle.fuse_spec.specs.QueueCalls.{waiting}
+use Rattle.fuse_spec.specs.Vfs.{doing}
+use Rattle.fk_kernel.specs.Entries.{made}
+use Rattle.fk_kernel.proofs.Nodes.{learnt_counted, answered_is}
+use Rattle.fk_kernel.proofs.Replied.{mkdir_found}
+use Rattle.fk_kernel.proofs.Requests.{one_answered}
+use Rattle.fk_kernel.proofs.kernel.KernelOf.name_is_made.Goals as goal
+
+pub bind_entry-requires-clause-names_one : goal.bind_entry-requires-clause-names_one
+bind_entry-requires-clause-names_one g c =
+    let makes = c.requires.makes in
+    ((makes.directory, makes.name), made makes.directory makes.name (rw (← c.self.view_is) at makes.is))
+
+pub invariant_of-self-2 : goal.invariant_of-self-2
+invariant_of-self-2 g c =
+    let k = c.self.inside in
+    let s = g.Q.QueueTable.state k.queues in
+    let old = c.self.invariant in
+    let waits : is_some (waiting s c.args.unique) ≡ true = rw (← c.self.view_is) at (ap is_some c.requires.waits) in
+    let kept = c.answer-kept.ensures.room.forgets in
+    let reserved = c.in-Ok.ensures.forgets in
+    let most = c.most.ensures in
+    let room : length k.nodes + 1 ≤ (g.Q.QueueTable.room c.answer-kept.new.self).forgets = omega (arith, c.in-Some.ensures) in
+    rw (c.answer-kept.ensures.state, c.reserve.ensures.state, c.in-Ok-bind_entry.ensures.nodes)
+    (record {
+      numbers = old.numbers;
+      idle = old.idle;
+      kinds = old.kinds;
+      sorted = old.sorted;
+      releases = one_answered s old.releases c.args.unique;
+      nodes = learnt_counted k.nodes s (g.Q.QueueTable.room k.queues).forgets (g.Q.QueueTable.room c.answer-kept.new.self).forgets old.nodes room c.args.unique waits c.args.entry.now;
+      clock_low = old.clock_low;
+    })
+
+pub returns-clause-ok : goal.returns-clause-ok
+returns-clause-ok g c =
+    let k = c.self.inside in
+    let s = g.Q.QueueTable.state k.queues in
+    let makes = c.requires.makes in
+    let waits : is_some (waiting s c.args.unique) ≡ true = rw (← c.self.view_is) at (ap is_some c.requires.waits) in
+    let here : get k.calls.entries c.args.call ≡ Some (doing (mkdir makes.directory makes.name)) = rw (← c.self.view_is) at makes.is in
+    let low = c.self.invariant.clock_low in
+    let day = c.requires.day in
+    let until : c.saturating_add-until.result ≡ k.clock + c.args.valid_ms = omega (arith, c.saturating_add-until.ensures) in
+    let names = c.in-Ok-bind_entry.ensures.names (makes.directory, makes.name) (made makes.directory makes.name here) in
+    rw (c.finish.ensures, c.answer-kept.ensures.state, c.reserve.ensures.state, answered_is s c.args.unique waits, names, until, c.in-Ok-bind_entry.ensures.nodes, ← c.self.view_is)
+    (rw (← c.self.view_is) at (mkdir_found c.args.self.now c.args.unique c.args.call c.requires.even c.requires.waits makes.directory makes.name makes.is c.args.entry.now c.args.valid_ms c.requires.usable))

@@ -1,0 +1,50 @@
+use Rattle.std.proofs.Common.{rules, ◌≡◌, ◌+◌, ℕ, List, [], ◌∷◌, Some, refl, ap, sym, ◌∙◌, arith}
+use Rattle.std.specs.Prelude.{is_some}
+use Rattle.fuse_spec.specs.declared.Opened.{Opened}
+use Rattle.fuse_spec.specs.declared.WriteResult.{WriteResult}
+use Rattle.fuse_spec.specs.Kernel.{Kernel}
+use Rattle.fuse_spec.specs.Maps.{get}
+use Rattle.fuse_spec.specs.QueueCalls.{without}
+use Rattle.fuse_spec.specs.Replies.{learnt}
+use Rattle.fuse_spec.specs.Uniques.{numbers_left_from}
+use Rattle.fuse_spec.specs.Vfs.{Advance, asked, walking, walks_on, bound}
+use Rattle.fuse_spec.specs.Operations.{Operation, lookup}
+use Rattle.fuse_spec.specs.Paths.{Name}
+use Rattle.fuse_spec.specs.Walks.{WalkPlan}
+use Rattle.fk_kernel.specs.Refused.{is_past_end}
+use Rattle.fk_kernel.proofs.Replied.{lookup_found}
+use Rattle.fk_kernel.proofs.Walking.{asks_past, asks_none}
+use Rattle.fk_kernel.proofs.kernel.KernelOf.runs_out.Given as given
+use Rattle.fk_kernel.proofs.kernel.KernelOf.runs_out.Goals as goal
+
+-- whether it would ask is whether the machine's walk asks
+walks_so : (g : given.Over) (c : goal.After-would_ask g) (directory : ℕ) (word : Name) (words : List Name) (plan : WalkPlan ℕ)
+    → get c.args.self.now.vfs.calls c.args.call ≡ Some (walking directory word words plan)
+    → is_some (walks_on (bound c.args.self.now.vfs directory word (Some c.args.entry.now.nodeid) c.args.valid_ms) c.args.call c.args.entry.now.nodeid words plan).operation ≡ c.would_ask.result
+walks_so g c directory word words plan stands =
+    let k = c.self.inside in
+    let at : get k.calls.entries c.args.call ≡ Some c.in-Some.waiting.now = search rules in
+    let here : get k.calls.entries c.args.call ≡ Some (walking directory word words plan) = rw (← c.self.view_is) at stands in
+    let same : c.in-Some.waiting.now ≡ walking directory word words plan = cc (at, here) in
+    let asks : ◌≡◌ {A = Operation ℕ Opened} (lookup c.in-Lookup.directory c.in-Lookup.name.now) (lookup directory word) = c.in-Lookup.ensures.operation ∙ ap asked same in
+    let first : c.in-Lookup.directory ≡ directory = cc asks in
+    let second : c.in-Lookup.name.now ≡ word = cc asks in
+    let low = c.self.invariant.clock_low in
+    let day = c.requires.day in
+    let until : c.saturating_add.result ≡ k.clock + c.args.valid_ms = omega (arith, c.saturating_add.ensures) in
+    c.would_ask.ensures (bound c.args.self.now.vfs directory word (Some c.args.entry.now.nodeid) c.args.valid_ms) c.args.call directory word words plan (rw (← c.self.view_is, first, second, until) (record { names = refl; clock = refl; root = refl })) same
+
+pub returns-clause-past : goal.returns-clause-past
+returns-clause-past g c = λ would.
+    let now = c.args.self.now in
+    let entry = c.args.entry.now in
+    let stands = c.requires.looks_up in
+    let none : numbers_left_from now.queues.next ≡ 0 = rw (← c.self.view_is) (sym c.numbers_left.ensures ∙ c.if-numbers_left-ne0.false) in
+    let asks = walks_so g c stands.directory stands.word stands.words stands.plan stands.is ∙ would in
+    let next : Advance Opened = walks_on (bound now.vfs stands.directory stands.word (Some entry.nodeid) c.args.valid_ms) c.args.call entry.nodeid stands.words stands.plan in
+    ap (λ (r : WriteResult × Kernel). is_past_end r.1) (lookup_found now c.args.unique c.args.call c.requires.even c.requires.waits stands.directory stands.word stands.words stands.plan stands.is entry c.args.valid_ms c.requires.usable)
+    ∙ asks_past (record now { vfs = next.vfs; queues = without now.queues c.args.unique; nodes = learnt now.nodes (entry ∷ []) }) c.args.call next.operation asks none
+
+pub returns-clause-enough : goal.returns-clause-enough
+returns-clause-enough g c = λ would directory word words plan state stands asks.
+    asks_none _ c.args.call state _ (walks_so g c directory word words plan stands ∙ would) asks

@@ -1,0 +1,161 @@
+use Rattle.std.proofs.Common.{◌≡◌, ◌≤◌, ◌+◌, [], ◌∷◌, length, true, Some, refl, ap, ◌∙◌, arith}
+use Rattle.std.specs.Prelude.{is_some}
+use Rattle.fuse_spec.specs.Maps.{get}
+use Rattle.fuse_spec.specs.QueueCalls.{waiting, without, after_answer}
+use Rattle.fuse_spec.specs.Kernel.{advanced}
+use Rattle.fuse_spec.specs.Replies.{learnt}
+use Rattle.fuse_spec.specs.Answers.{failed}
+use Rattle.fuse_spec.specs.declared.WriteResult.TheVariants.{Accepted}
+use Rattle.fk_syscalls.specs.States.{HasNames}
+use Rattle.fk_syscalls.specs.Values.{comes_to}
+use Rattle.fuse_spec.specs.Vfs.{Vfs, Advance, walking, walks_on, bound, asking, answered, no_more}
+use Rattle.fuse_spec.specs.declared.Opened.{Opened}
+use Rattle.fuse_spec.proofs.Tables.{get_gone_here}
+use Rattle.fk_kernel.specs.Entries.{looked_up, no_memory, exhausted}
+use Rattle.fk_kernel.specs.Soundness.{IsStatOrMkdir}
+use Rattle.fk_kernel.proofs.CallKinds.{put_kind, gone_kinds, walks_of_kind}
+use Rattle.fk_kernel.proofs.Nodes.{learnt_counted, answered_is, request_queued, put_gone, length_again, sorted_put, sorted_gone}
+use Rattle.fk_kernel.proofs.Replied.{lookup_found}
+use Rattle.fk_kernel.proofs.Requests.{one_answered, call_queued}
+use Rattle.fk_kernel.proofs.Sound.{sound_answered, sound_walks, there_is}
+use Rattle.fk_kernel.proofs.kernel.KernelOf.walk_on.Goals as goal
+
+pub returns-then-runs_out-clause-refusal : goal.returns-then-runs_out-clause-refusal
+returns-then-runs_out-clause-refusal g c = exhausted (c.runs_out.ensures.past c.if-runs_out.true)
+
+pub returns-in_default-clause-refusal : goal.returns-in_default-clause-refusal
+returns-in_default-clause-refusal g c = no_memory
+
+pub returns-in_default-reserve-clause-refusal : goal.returns-in_default-reserve-clause-refusal
+returns-in_default-reserve-clause-refusal g c = no_memory
+
+pub returns-in_default-bind_entry-clause-refusal : goal.returns-in_default-bind_entry-clause-refusal
+returns-in_default-bind_entry-clause-refusal g c = no_memory
+
+pub bind_entry-requires-clause-names_one : goal.bind_entry-requires-clause-names_one
+bind_entry-requires-clause-names_one g c =
+    let stands = c.requires.looks_up in
+    ((stands.directory, stands.word), looked_up stands.directory stands.word stands.words stands.plan (rw (← c.self.view_is) at stands.is))
+
+pub enqueue-unique-requires-clause-number : goal.enqueue-unique-requires-clause-number
+enqueue-unique-requires-clause-number g c =
+    let k = c.self.inside in
+    let s = g.Q.QueueTable.state k.queues in
+    let stands = c.requires.looks_up in
+    let here : get k.calls.entries c.args.call ≡ Some (walking stands.directory stands.word stands.words stands.plan) = rw (← c.self.view_is) at stands.is in
+    let waits : is_some (waiting s c.args.unique) ≡ true = rw (← c.self.view_is) at (ap is_some c.requires.waits) in
+    let state : c.in-Some-remove.state ≡ walking stands.directory stands.word stands.words stands.plan = cc (here, c.remove.ensures.value, c.in-Some-remove.is) in
+    let now = c.args.self.now in
+    let low = c.self.invariant.clock_low in
+    let day = c.requires.day in
+    let until : c.saturating_add-until.result ≡ k.clock + c.args.valid_ms = omega (arith, c.saturating_add-until.ensures) in
+    let names = c.in-Ok-bind_entry.ensures.names (stands.directory, stands.word) (looked_up stands.directory stands.word stands.words stands.plan here) in
+    let vfs : Vfs Opened = bound now.vfs stands.directory stands.word (Some c.args.entry.now.nodeid) c.args.valid_ms in
+    let has : HasNames vfs c.bind_entry.new.names.names k.clock = rw (← c.self.view_is, names, until) (record { names = refl; clock = refl; root = refl }) in
+    let comes : walks_on vfs c.args.call c.args.entry.now.nodeid stands.words stands.plan ≡ asking vfs c.args.call c.in-Waits.state = c.found.ensures vfs c.args.call stands.directory stands.word stands.words stands.plan has state ∙ ap (comes_to vfs c.args.call) c.in-Waits.is in
+    let left = c.runs_out.ensures.enough c.if-runs_out.false stands.directory stands.word stands.words stands.plan c.in-Waits.state stands.is comes in
+    rw (c.answer-kept.ensures.state, c.reserve.ensures.state, answered_is s c.args.unique waits) (rw (← c.self.view_is) at left)
+
+pub put-requires-clause-absent : goal.put-requires-clause-absent
+put-requires-clause-absent g c = rw c.remove.ensures.entries (get_gone_here c.self.inside.calls.entries c.args.call)
+
+pub invariant_of-self-in-Waits : goal.invariant_of-self-in-Waits
+invariant_of-self-in-Waits g c =
+    let k = c.self.inside in
+    let s = g.Q.QueueTable.state k.queues in
+    let stands = c.requires.looks_up in
+    let here : get k.calls.entries c.args.call ≡ Some (walking stands.directory stands.word stands.words stands.plan) = rw (← c.self.view_is) at stands.is in
+    let waits : is_some (waiting s c.args.unique) ≡ true = rw (← c.self.view_is) at (ap is_some c.requires.waits) in
+    let state : c.in-Some-remove.state ≡ walking stands.directory stands.word stands.words stands.plan = cc (here, c.remove.ensures.value, c.in-Some-remove.is) in
+    let now = c.args.self.now in
+    let low = c.self.invariant.clock_low in
+    let day = c.requires.day in
+    let until : c.saturating_add-until.result ≡ k.clock + c.args.valid_ms = omega (arith, c.saturating_add-until.ensures) in
+    let names = c.in-Ok-bind_entry.ensures.names (stands.directory, stands.word) (looked_up stands.directory stands.word stands.words stands.plan here) in
+    let vfs : Vfs Opened = bound now.vfs stands.directory stands.word (Some c.args.entry.now.nodeid) c.args.valid_ms in
+    let has : HasNames vfs c.bind_entry.new.names.names k.clock = rw (← c.self.view_is, names, until) (record { names = refl; clock = refl; root = refl }) in
+    let comes : walks_on vfs c.args.call c.args.entry.now.nodeid stands.words stands.plan ≡ asking vfs c.args.call c.in-Waits.state = c.found.ensures vfs c.args.call stands.directory stands.word stands.words stands.plan has state ∙ ap (comes_to vfs c.args.call) c.in-Waits.is in
+    let old = c.self.invariant in
+    let some : is_some (get k.calls.entries c.args.call) ≡ true = ap is_some here in
+    let there = there_is (get k.calls.entries c.args.call) some in
+    let kind : IsStatOrMkdir c.in-Waits.state = walks_of_kind vfs c.args.call c.in-Waits.state c.args.entry.now.nodeid stands.words stands.plan stands.planned comes in
+    let kept = c.answer-kept.ensures.room.forgets in
+    let reserved = c.in-Ok.ensures.forgets in
+    let queued = c.enqueue-unique.ensures.forgets_room in
+    let most = c.most.ensures in
+    let room : length k.nodes + 1 ≤ (g.Q.QueueTable.room c.answer-kept.new.self).forgets = omega (arith, c.in-Some.ensures) in
+    let counted = learnt_counted k.nodes s (g.Q.QueueTable.room k.queues).forgets (g.Q.QueueTable.room c.answer-kept.new.self).forgets old.nodes room c.args.unique waits c.args.entry.now in
+    rw (c.enqueue-unique.ensures.state, c.answer-kept.ensures.state, c.reserve.ensures.state, c.in-Ok-bind_entry.ensures.nodes, c.put.ensures.entries, c.remove.ensures.entries, put_gone k.calls.entries c.args.call c.in-Waits.state old.sorted)
+    (record {
+      numbers = sound_walks k.calls.entries k.answers.entries k.answers.room k.next_call old.numbers c.args.call c.in-Waits.state there (length_again k.calls.entries c.args.call c.in-Waits.state old.sorted some);
+      idle = λ down. absurd (there (ap (λ m. get m c.args.call) (old.idle down)));
+      kinds = put_kind k.calls.entries c.args.call c.in-Waits.state kind old.kinds;
+      sorted = sorted_put k.calls.entries c.args.call c.in-Waits.state old.sorted;
+      releases = call_queued (after_answer s c.args.unique) c.args.call (one_answered s old.releases c.args.unique);
+      nodes = request_queued _ (after_answer s c.args.unique) (g.Q.QueueTable.room c.answer-kept.new.self).forgets (g.Q.QueueTable.room c.enqueue-unique.new.self).forgets counted queued _;
+      clock_low = old.clock_low;
+    })
+
+pub invariant_of-self-in-Answered : goal.invariant_of-self-in-Answered
+invariant_of-self-in-Answered g c =
+    let k = c.self.inside in
+    let s = g.Q.QueueTable.state k.queues in
+    let stands = c.requires.looks_up in
+    let here : get k.calls.entries c.args.call ≡ Some (walking stands.directory stands.word stands.words stands.plan) = rw (← c.self.view_is) at stands.is in
+    let waits : is_some (waiting s c.args.unique) ≡ true = rw (← c.self.view_is) at (ap is_some c.requires.waits) in
+    let old = c.self.invariant in
+    let there = there_is (get k.calls.entries c.args.call) (ap is_some here) in
+    let kept = c.answer-kept.ensures.room.forgets in
+    let reserved = c.in-Ok.ensures.forgets in
+    let most = c.most.ensures in
+    let room : length k.nodes + 1 ≤ (g.Q.QueueTable.room c.answer-kept.new.self).forgets = omega (arith, c.in-Some.ensures) in
+    rw (c.answer-kept.ensures.state, c.reserve.ensures.state, c.in-Ok-bind_entry.ensures.nodes, c.put-in-Answered.ensures.entries, c.remove.ensures.entries)
+    (record {
+      numbers = sound_answered k.calls.entries k.answers.entries k.answers.room k.next_call old.numbers c.args.call _ c.put-in-Answered.new.self.room there c.put-in-Answered.ensures.room;
+      idle = λ down. absurd (there (ap (λ m. get m c.args.call) (old.idle down)));
+      kinds = gone_kinds k.calls.entries c.args.call old.kinds;
+      sorted = sorted_gone k.calls.entries c.args.call old.sorted;
+      releases = one_answered s old.releases c.args.unique;
+      nodes = learnt_counted k.nodes s (g.Q.QueueTable.room k.queues).forgets (g.Q.QueueTable.room c.answer-kept.new.self).forgets old.nodes room c.args.unique waits c.args.entry.now;
+      clock_low = old.clock_low;
+    })
+
+pub returns-in-Waits-clause-ok : goal.returns-in-Waits-clause-ok
+returns-in-Waits-clause-ok g c =
+    let k = c.self.inside in
+    let s = g.Q.QueueTable.state k.queues in
+    let stands = c.requires.looks_up in
+    let here : get k.calls.entries c.args.call ≡ Some (walking stands.directory stands.word stands.words stands.plan) = rw (← c.self.view_is) at stands.is in
+    let waits : is_some (waiting s c.args.unique) ≡ true = rw (← c.self.view_is) at (ap is_some c.requires.waits) in
+    let state : c.in-Some-remove.state ≡ walking stands.directory stands.word stands.words stands.plan = cc (here, c.remove.ensures.value, c.in-Some-remove.is) in
+    let now = c.args.self.now in
+    let low = c.self.invariant.clock_low in
+    let day = c.requires.day in
+    let until : c.saturating_add-until.result ≡ k.clock + c.args.valid_ms = omega (arith, c.saturating_add-until.ensures) in
+    let names = c.in-Ok-bind_entry.ensures.names (stands.directory, stands.word) (looked_up stands.directory stands.word stands.words stands.plan here) in
+    let vfs : Vfs Opened = bound now.vfs stands.directory stands.word (Some c.args.entry.now.nodeid) c.args.valid_ms in
+    let has : HasNames vfs c.bind_entry.new.names.names k.clock = rw (← c.self.view_is, names, until) (record { names = refl; clock = refl; root = refl }) in
+    let comes : walks_on vfs c.args.call c.args.entry.now.nodeid stands.words stands.plan ≡ asking vfs c.args.call c.in-Waits.state = c.found.ensures vfs c.args.call stands.directory stands.word stands.words stands.plan has state ∙ ap (comes_to vfs c.args.call) c.in-Waits.is in
+    lookup_found now c.args.unique c.args.call c.requires.even c.requires.waits stands.directory stands.word stands.words stands.plan stands.is c.args.entry.now c.args.valid_ms c.requires.usable
+    ∙ ap (λ (a : Advance Opened). (Accepted, advanced (record now { queues = without now.queues c.args.unique; nodes = learnt now.nodes (c.args.entry.now ∷ []) }) c.args.call a)) comes
+    ∙ rw (← c.self.view_is, c.enqueue-unique.ensures.state, c.answer-kept.ensures.state, c.reserve.ensures.state, answered_is s c.args.unique waits, names, until, c.in-Ok-bind_entry.ensures.nodes, c.put.ensures.entries, c.remove.ensures.entries, put_gone k.calls.entries c.args.call c.in-Waits.state c.self.invariant.sorted) refl
+
+pub returns-in-Answered-clause-ok : goal.returns-in-Answered-clause-ok
+returns-in-Answered-clause-ok g c =
+    let k = c.self.inside in
+    let s = g.Q.QueueTable.state k.queues in
+    let stands = c.requires.looks_up in
+    let here : get k.calls.entries c.args.call ≡ Some (walking stands.directory stands.word stands.words stands.plan) = rw (← c.self.view_is) at stands.is in
+    let waits : is_some (waiting s c.args.unique) ≡ true = rw (← c.self.view_is) at (ap is_some c.requires.waits) in
+    let state : c.in-Some-remove.state ≡ walking stands.directory stands.word stands.words stands.plan = cc (here, c.remove.ensures.value, c.in-Some-remove.is) in
+    let now = c.args.self.now in
+    let low = c.self.invariant.clock_low in
+    let day = c.requires.day in
+    let until : c.saturating_add-until.result ≡ k.clock + c.args.valid_ms = omega (arith, c.saturating_add-until.ensures) in
+    let names = c.in-Ok-bind_entry.ensures.names (stands.directory, stands.word) (looked_up stands.directory stands.word stands.words stands.plan here) in
+    let vfs : Vfs Opened = bound now.vfs stands.directory stands.word (Some c.args.entry.now.nodeid) c.args.valid_ms in
+    let has : HasNames vfs c.bind_entry.new.names.names k.clock = rw (← c.self.view_is, names, until) (record { names = refl; clock = refl; root = refl }) in
+    let comes : walks_on vfs c.args.call c.args.entry.now.nodeid stands.words stands.plan ≡ no_more (answered vfs c.args.call (failed c.in-Answered.errno)) = c.found.ensures vfs c.args.call stands.directory stands.word stands.words stands.plan has state ∙ ap (comes_to vfs c.args.call) c.in-Answered.is in
+    lookup_found now c.args.unique c.args.call c.requires.even c.requires.waits stands.directory stands.word stands.words stands.plan stands.is c.args.entry.now c.args.valid_ms c.requires.usable
+    ∙ ap (λ (a : Advance Opened). (Accepted, advanced (record now { queues = without now.queues c.args.unique; nodes = learnt now.nodes (c.args.entry.now ∷ []) }) c.args.call a)) comes
+    ∙ rw (← c.self.view_is, c.answer-kept.ensures.state, c.reserve.ensures.state, answered_is s c.args.unique waits, names, until, c.in-Ok-bind_entry.ensures.nodes, c.put-in-Answered.ensures.entries, c.new.ensures, c.remove.ensures.entries) refl

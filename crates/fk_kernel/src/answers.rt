@@ -1,0 +1,65 @@
+//! Answers of calls.
+
+ghost use Rattle.std.specs.Prelude.{length, ◌≡◌, ◌<◌, ◌+◌, Some, None, true, is_some, option_map, slice_get, IfNone, IfSome};
+ghost use Rattle.fuse_spec.specs.Maps.{get, remove};
+ghost use Rattle.fuse_spec.specs.Vfs.{answered};
+ghost use Rattle.fk_syscalls.specs.Values.{answer_of};
+ghost use Rattle.fuse_spec.specs.QueueCalls.{waiting, without};
+
+use crate::kernel::KernelOf;
+use crate::stored_answer::StoredAnswer;
+use fk_queues::QueueTable;
+use fk_syscalls::Answer;
+use fuse_spec::Purpose;
+
+impl<Q: QueueTable<Purpose> + Drop> KernelOf<Q> {
+    /// The call's request ends, and the call is answered.
+    pub(crate) fn answer_call(&mut self, unique: u64, call: u64, answer: Answer)
+        requires waits { is_some (waiting self.old.queues unique) ≡ true }
+        requires unanswered { is_some (get self.old.vfs.calls call) ≡ true }
+        ensures { self.new ≡ record self.old { vfs = answered self.old.vfs call (answer_of answer); queues = without self.old.queues unique } }
+    {
+        let _kept = self.queues.answer(unique);
+        self.finish(call, answer);
+    }
+
+    /// The call is answered.
+    pub(crate) fn finish(&mut self, call: u64, answer: Answer)
+        requires unanswered { is_some (get self.old.vfs.calls call) ≡ true }
+        ensures { self.new ≡ record self.old { vfs = answered self.old.vfs call (answer_of answer) } }
+    {
+        if self.calls.remove(call).is_none() {
+            return;
+        }
+        self.answers.put(call, StoredAnswer::new(answer));
+    }
+
+    /// How many calls are unanswered.
+    pub fn unanswered(&self) -> usize
+        ensures { result ≡ length self.now.vfs.calls }
+    {
+        self.calls.len()
+    }
+
+    /// How many answers wait to be collected.
+    pub fn answered(&self) -> usize
+        ensures { result ≡ length self.now.vfs.answers }
+    {
+        self.answers.len()
+    }
+
+    /// Hands out, once, the answer of the lowest answered call.
+    pub fn collect(&mut self) -> Option<(u64, Answer)>
+        ensures answer { option_map (λ r. (r.0, answer_of r.1)) result ≡ slice_get self.old.vfs.answers 0 }
+        ensures none { IfNone result (self.new ≡ self.old) }
+        ensures taken { IfSome result (λ r. self.new ≡ record self.old { vfs = record self.old.vfs { answers = remove self.old.vfs.answers r.0 } }) }
+    {
+        let Some(call) = self.answers.first_key() else {
+            return None;
+        };
+        let Some(answer) = self.answers.remove(call) else {
+            return None;
+        };
+        Some((call, answer.into_answer()))
+    }
+}

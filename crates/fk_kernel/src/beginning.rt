@@ -1,0 +1,152 @@
+//! How a call begins.
+
+ghost use Rattle.std.specs.Prelude.{length, ◌≡◌, ◌<◌, ◌^◌, ◌+◌, None, Ok, OnOk, OnErr, IfOk, IfErr, true, false, cond, nat_eq};
+ghost use Rattle.fuse_spec.specs.Uniques.{numbers_left_from};
+ghost use Rattle.fuse_spec.specs.declared.Opened.{Opened};
+ghost use Rattle.fuse_spec.specs.Kernel.{is_aborted, call_begun};
+ghost use Rattle.fuse_spec.specs.Steps.{is_ready};
+ghost use Rattle.fuse_spec.specs.Vfs.{CallState as State, begun, asking, answered, numbered};
+ghost use Rattle.fk_syscalls.specs.Values.{comes_to, call_of, answer_of};
+ghost use Rattle.fk_kernel.specs.Soundness.{IsStatOrMkdir};
+ghost use Rattle.fk_kernel.specs.Refused.{or_no_memory, begin_refusal};
+ghost use Rattle.fuse_spec.specs.QueueCalls.{after_enqueue};
+
+use crate::kernel::KernelOf;
+use crate::stored_answer::StoredAnswer;
+use fk_queues::QueueTable;
+use fk_syscalls::{Answer, Call, CallState, Next, begin};
+use fuse_spec::{Purpose, Refusal};
+
+/// At most so many calls are unanswered.
+const MAX_CALLS: usize = 64;
+
+/// No counter gives a number from here on.
+const COUNTER_END: u64 = 0x4000_0000_0000_0000;
+
+const ENOTCONN: u32 = 107;
+
+impl<Q: QueueTable<Purpose> + Drop> KernelOf<Q> {
+    /// Begins a call and gives its number. It is answered at once, or its first request is queued.
+    ///
+    /// # Errors
+    ///
+    /// `NotReady` before INIT is answered, `Full` with 64 unanswered calls, `Exhausted` where no number is left; then
+    /// `NoMemory`. The kernel is as before.
+    pub fn begin(&mut self, call: &Call<'_>) -> Result<u64, Refusal>
+        ensures err { OnErr result (self.new ≡ self.old) }
+        ensures refusal { IfErr result (λ refusal. refusal ≡ or_no_memory (begin_refusal self.old (call_of call.now))) }
+        ensures judged { OnOk result (begin_refusal self.old (call_of call.now) ≡ None) }
+        ensures number { IfOk result (λ n. n ≡ self.old.vfs.next_call) }
+        ensures begun { OnOk result (self.new ≡ call_begun self.old (call_of call.now)) }
+    {
+        if !self.is_ready() {
+            return Err(Refusal::NotReady);
+        }
+        if self.calls.len() >= MAX_CALLS {
+            return Err(Refusal::Full);
+        }
+        if self.next_call >= COUNTER_END {
+            return Err(Refusal::Exhausted);
+        }
+        self.begin_next(call)
+    }
+
+    /// A call of the next number begins: it is answered at once, or it asks its first request.
+    fn begin_next(&mut self, call: &Call<'_>) -> Result<u64, Refusal>
+        requires number { self.old.vfs.next_call < 2 ^ 62 }
+        requires few { length self.old.vfs.calls < 64 }
+        requires ready { is_ready self.old.phase ≡ true }
+        ensures err { OnErr result (self.new ≡ self.old) }
+        ensures refusal { IfErr result (λ refusal. refusal ≡ or_no_memory (begin_refusal self.old (call_of call.now))) }
+        ensures judged { OnOk result (begin_refusal self.old (call_of call.now) ≡ None) }
+        ensures number { IfOk result (λ n. n ≡ self.old.vfs.next_call) }
+        ensures begun { OnOk result (self.new ≡ call_begun self.old (call_of call.now)) }
+    {
+        // A field is touched so that the type's invariant is at hand.
+        let _ = &self.next_call;
+        if self.is_aborted() {
+            return self.begin_answered(Answer::Failed { errno: ENOTCONN });
+        }
+        match self.set_out(call)? {
+            Next::Answered { errno } => self.begin_answered(Answer::Failed { errno }),
+            Next::Waits(state) => self.begin_asking(state),
+        }
+    }
+
+    /// Where a call comes to along the names in force.
+    fn set_out(&self, call: &Call<'_>) -> Result<Next<Q::Heap>, Refusal>
+        requires not_aborted { is_aborted self.now.phase ≡ false }
+        ensures begun { IfOk result (λ next. begun (is_aborted self.now.phase) self.now.vfs (call_of call.now) ≡ comes_to (numbered self.now.vfs) self.now.vfs.next_call next) }
+        ensures asks { OnErr result ((state : State Opened) × (begun (is_aborted self.now.phase) self.now.vfs (call_of call.now) ≡ asking (numbered self.now.vfs) self.now.vfs.next_call state)) }
+        ensures refusal { IfErr result (λ refusal. refusal ≡ cond (nat_eq (numbers_left_from self.now.queues.next) 0) Refusal.Exhausted Refusal.NoMemory) }
+    {
+        match begin(self.alloc, &self.names, self.clock, call) {
+            Ok(next) => Ok(next),
+            Err(_) => Err(self.no_room_to_ask()),
+        }
+    }
+
+    /// Why a call that has no memory to ask is refused: first that no number is left for its request.
+    fn no_room_to_ask(&self) -> Refusal
+        ensures { result ≡ cond (nat_eq (numbers_left_from self.now.queues.next) 0) Refusal.Exhausted Refusal.NoMemory }
+    {
+        if self.queues.numbers_left() == 0 {
+            Refusal::Exhausted
+        } else {
+            Refusal::NoMemory
+        }
+    }
+
+    /// A call of the next number begins and is answered at once.
+    fn begin_answered(&mut self, answer: Answer) -> Result<u64, Refusal>
+        requires number { self.old.vfs.next_call < 2 ^ 62 }
+        requires few { length self.old.vfs.calls < 64 }
+        ensures err { OnErr result (self.new ≡ self.old) }
+        ensures refusal { IfErr result (λ refusal. refusal ≡ Refusal.NoMemory) }
+        ensures number { IfOk result (λ n. n ≡ self.old.vfs.next_call) }
+        ensures vfs { OnOk result (self.new.vfs ≡ answered (numbered self.old.vfs) self.old.vfs.next_call (answer_of answer)) }
+        ensures same { OnOk result (self.new ≡ record self.old { vfs = self.new.vfs }) }
+    {
+        let Ok(()) = self.answers.reserve(MAX_CALLS) else {
+            return Err(Refusal::NoMemory);
+        };
+        let call = self.next_call;
+        self.answers.put(call, StoredAnswer::new(answer));
+        self.next_call = call + 1;
+        Ok(call)
+    }
+
+    /// A call of the next number begins, and its first request is queued.
+    fn begin_asking(&mut self, state: CallState<Q::Heap>) -> Result<u64, Refusal>
+        requires kind { IsStatOrMkdir state }
+        requires number { self.old.vfs.next_call < 2 ^ 62 }
+        requires few { length self.old.vfs.calls < 64 }
+        requires ready { is_ready self.old.phase ≡ true }
+        requires not_aborted { is_aborted self.old.phase ≡ false }
+        ensures err { OnErr result (self.new ≡ self.old) }
+        ensures refusal { IfErr result (λ refusal. refusal ≡ cond (nat_eq (numbers_left_from self.old.queues.next) 0) Refusal.Exhausted Refusal.NoMemory) }
+        ensures number { IfOk result (λ n. n ≡ self.old.vfs.next_call) }
+        ensures left { OnOk result (0 < numbers_left_from self.old.queues.next) }
+        ensures vfs { OnOk result (self.new.vfs ≡ (asking (numbered self.old.vfs) self.old.vfs.next_call state).vfs) }
+        ensures queues { OnOk result (self.new.queues ≡ after_enqueue self.old.queues (Purpose.Call self.old.vfs.next_call)) }
+        ensures same { OnOk result (self.new ≡ record self.old { vfs = self.new.vfs; queues = self.new.queues }) }
+    {
+        if self.queues.numbers_left() == 0 {
+            return Err(Refusal::Exhausted);
+        }
+        let Ok(()) = self.answers.reserve(MAX_CALLS) else {
+            return Err(Refusal::NoMemory);
+        };
+        let Ok(()) = self.calls.reserve(1) else {
+            return Err(Refusal::NoMemory);
+        };
+        let Ok(()) = self.queues.reserve(1, 0) else {
+            return Err(Refusal::NoMemory);
+        };
+        let call = self.next_call;
+        let _unique = self.queues.enqueue(Purpose::Call(call));
+        self.calls.put(call, state);
+        self.next_call = call + 1;
+        Ok(call)
+    }
+}

@@ -1,0 +1,371 @@
+//! How replies with an entry are taken: to a LOOKUP or a MKDIR.
+
+ghost use Rattle.std.specs.Prelude.{◌≡◌, ◌<◌, ◌^◌, ◌+◌, [], ◌∷◌, ◌≤◌, ◌%◌, ℕ, List, Some, None, Ok, OnOk, OnErr, IfOk, IfErr, true, false, is_some, nat_eq};
+ghost use Rattle.fuse_spec.specs.Answers.{failed};
+ghost use Rattle.fuse_spec.specs.Maps.{get, remove};
+ghost use Rattle.fuse_spec.specs.Vfs.{walking, answered, bound};
+ghost use Rattle.fuse_spec.specs.Walks.{WalkPlan};
+ghost use Rattle.fuse_spec.specs.Messages.{WireReply};
+ghost use Rattle.fuse_spec.specs.Numbers.{max_validity};
+ghost use Rattle.fuse_spec.specs.Operations as reply;
+ghost use Rattle.fuse_spec.specs.Paths.{Name};
+ghost use Rattle.fuse_spec.specs.Replies.{usable, use_of, learnt, reply_written};
+ghost use Rattle.fuse_spec.specs.declared.Entry.{Entry};
+ghost use Rattle.fk_kernel.specs.Said.{entry_wire, IsValidADay, reply_to, Says, SaysNothing, wrong_body};
+ghost use Rattle.fk_kernel.specs.Refused.{is_past_end, IsWriteRefusal};
+ghost use Rattle.fuse_spec.specs.QueueCalls.{after_forget, waiting, without};
+ghost use Rattle.std.specs.Option.{ForSome};
+ghost use Rattle.fuse_spec.specs.Maps.{Place, put_name};
+ghost use Rattle.fk_wire.specs.declared.opcode.Opcode.TheVariants as Opcode;
+ghost use Rattle.fk_kernel.specs.Entries.{NamesPlace, LooksUp, Makes, use_meant, WalksWithin, IsEntryRefusal};
+
+use crate::counted_nodes::CountedNodes;
+use crate::kernel::KernelOf;
+use crate::said::{EntrySaid, said_to_lookup, said_to_mkdir};
+use crate::stored_answer::StoredAnswer;
+use fk_dentry::Bindings;
+use fk_queues::QueueTable;
+use fk_syscalls::{Answer, Asked, CallState, NewName, Next};
+use fuse_spec::{Entry, Purpose, Refusal, WriteResult};
+use fuse_tables::Table;
+use std::alloc::{AllocError, Allocator};
+
+const ENOENT: u32 = 2;
+
+const EIO: u32 = 5;
+
+/// Whether an entry can be used.
+#[derive(Clone, Copy)]
+pub(crate) enum EntryUse {
+    Usable,
+    /// It names the root or no node.
+    Useless,
+    /// Its node is counted under another generation.
+    Stale,
+}
+
+/// The word or name that a call asks for leads to the node of an entry until a time, and one lookup more of the node is counted.
+fn bind_entry<A: Allocator + Copy>(
+    calls: &Table<CallState<A>, A>,
+    names: &mut Bindings<A>,
+    nodes: &mut CountedNodes<A>,
+    call: u64,
+    entry: &Entry,
+    until: u64,
+) -> Result<(), AllocError>
+    requires alike { ForSome (get nodes.old entry.now.nodeid) (λ counted. counted.generation ≡ entry.now.generation) }
+    requires fits { ForSome (get nodes.old entry.now.nodeid) (λ counted. counted.count + 1 < 2 ^ 64) }
+    requires names_one { (place : Place) × NamesPlace (get calls.now.entries call) place }
+    ensures err_names { OnErr result (names.new.names ≡ names.old.names) }
+    ensures err_nodes { OnErr result (nodes.new ≡ nodes.old) }
+    ensures names { OnOk result ((place : Place) → NamesPlace (get calls.now.entries call) place → names.new.names ≡ put_name names.old.names place (record { target = Some entry.now.nodeid; until = until })) }
+    ensures nodes { OnOk result (nodes.new ≡ learnt nodes.old (entry.now ∷ [])) }
+{
+    let Some(waiting) = calls.get(call) else {
+        return Ok(());
+    };
+    let (Asked::Lookup { directory, name } | Asked::Mkdir { directory, name }) = waiting.asks()
+    else {
+        return Ok(());
+    };
+    names.reserve(directory, name)?;
+    nodes.learn(entry)?;
+    names.put(directory, name, Some(entry.nodeid), until);
+    Ok(())
+}
+
+impl<Q: QueueTable<Purpose> + Drop> KernelOf<Q> {
+    /// A reply to the LOOKUP of a name. Bytes that are none answer the call EIO.
+    pub(crate) fn write_to_lookup(
+        &mut self,
+        unique: u64,
+        call: u64,
+        bytes: &[u8],
+    ) -> Result<WriteResult, Refusal>
+        requires even { nat_eq (unique % 2) 1 ≡ false }
+        requires waits { waiting self.old.queues unique ≡ Some (Purpose.Call call) }
+        requires looks_up { LooksUp (get self.old.vfs.calls call) }
+        ensures err { OnErr result (self.new ≡ self.old) }
+        ensures refusal { IfErr result (IsWriteRefusal self.old unique bytes.now (reply_to Opcode.Lookup)) }
+        ensures said { (wire : WireReply) → Says Opcode.Lookup bytes.now wire → IfOk result (λ written. reply_written self.old unique wire ≡ (written, self.new)) }
+        ensures unsaid { SaysNothing Opcode.Lookup bytes.now → IfOk result (λ written. reply_written self.old unique wrong_body ≡ (written, self.new)) }
+    {
+        let Some(said) = said_to_lookup(bytes) else {
+            self.answer_call(unique, call, Answer::Failed { errno: EIO });
+            return Ok(WriteResult::Invalid);
+        };
+        match self.looked_up(unique, call, said) {
+            Ok(()) => Ok(WriteResult::Accepted),
+            Err(refusal) => Err(refusal),
+        }
+    }
+
+    /// A reply to the MKDIR of a name. Bytes that are none answer the call EIO.
+    pub(crate) fn write_to_mkdir(
+        &mut self,
+        unique: u64,
+        call: u64,
+        bytes: &[u8],
+    ) -> Result<WriteResult, Refusal>
+        requires even { nat_eq (unique % 2) 1 ≡ false }
+        requires waits { waiting self.old.queues unique ≡ Some (Purpose.Call call) }
+        requires makes { Makes (get self.old.vfs.calls call) }
+        ensures err { OnErr result (self.new ≡ self.old) }
+        ensures refusal { IfErr result (λ refusal. refusal ≡ Refusal.NoMemory) }
+        ensures said { (wire : WireReply) → Says Opcode.Mkdir bytes.now wire → IfOk result (λ written. reply_written self.old unique wire ≡ (written, self.new)) }
+        ensures unsaid { SaysNothing Opcode.Mkdir bytes.now → IfOk result (λ written. reply_written self.old unique wrong_body ≡ (written, self.new)) }
+    {
+        let Some(said) = said_to_mkdir(bytes) else {
+            self.answer_call(unique, call, Answer::Failed { errno: EIO });
+            return Ok(WriteResult::Invalid);
+        };
+        self.made(unique, call, said)?;
+        Ok(WriteResult::Accepted)
+    }
+
+    /// What a LOOKUP's reply says reaches the call.
+    fn looked_up(&mut self, unique: u64, call: u64, said: EntrySaid) -> Result<(), Refusal>
+        requires even { nat_eq (unique % 2) 1 ≡ false }
+        requires waits { waiting self.old.queues unique ≡ Some (Purpose.Call call) }
+        requires looks_up { LooksUp (get self.old.vfs.calls call) }
+        requires day { IsValidADay said }
+        ensures err { OnErr result (self.new ≡ self.old) }
+        ensures refusal { IfErr result (IsEntryRefusal self.old unique (entry_wire said)) }
+        ensures ok { OnOk result (reply_written self.old unique (entry_wire said) ≡ (WriteResult.Accepted, self.new)) }
+    {
+        match said {
+            EntrySaid::Failed { errno } => {
+                self.answer_call(unique, call, Answer::Failed { errno });
+                Ok(())
+            }
+            EntrySaid::Missing { valid_ms } => self.word_is_missing(unique, call, valid_ms),
+            EntrySaid::Found { entry, valid_ms } => match self.use_of(&entry) {
+                EntryUse::Usable => self.walk_on(unique, call, &entry, valid_ms),
+                EntryUse::Useless => {
+                    self.answer_call(unique, call, Answer::Failed { errno: EIO });
+                    Ok(())
+                }
+                EntryUse::Stale => self.give_back(unique, call, entry.nodeid),
+            },
+        }
+    }
+
+    /// What a MKDIR's reply says reaches the call. It has to name the new directory's node.
+    fn made(&mut self, unique: u64, call: u64, said: EntrySaid) -> Result<(), Refusal>
+        requires even { nat_eq (unique % 2) 1 ≡ false }
+        requires waits { waiting self.old.queues unique ≡ Some (Purpose.Call call) }
+        requires makes { Makes (get self.old.vfs.calls call) }
+        requires day { IsValidADay said }
+        ensures err { OnErr result (self.new ≡ self.old) }
+        ensures refusal { IfErr result (λ refusal. refusal ≡ Refusal.NoMemory) }
+        ensures ok { OnOk result (reply_written self.old unique (entry_wire said) ≡ (WriteResult.Accepted, self.new)) }
+    {
+        match said {
+            EntrySaid::Failed { errno } => {
+                self.answer_call(unique, call, Answer::Failed { errno });
+                Ok(())
+            }
+            EntrySaid::Missing { .. } => {
+                self.answer_call(unique, call, Answer::Failed { errno: EIO });
+                Ok(())
+            }
+            EntrySaid::Found { entry, valid_ms } => match self.use_of(&entry) {
+                EntryUse::Usable => self.name_is_made(unique, call, &entry, valid_ms),
+                EntryUse::Useless => {
+                    self.answer_call(unique, call, Answer::Failed { errno: EIO });
+                    Ok(())
+                }
+                EntryUse::Stale => self.give_back(unique, call, entry.nodeid),
+            },
+        }
+    }
+
+    /// Whether an entry can be used.
+    fn use_of(&self, entry: &Entry) -> EntryUse
+        ensures { use_meant entry.now.nodeid result ≡ use_of self.now.nodes entry.now }
+    {
+        if entry.nodeid < 2 {
+            return EntryUse::Useless;
+        }
+        match self.nodes.generation_of(entry.nodeid) {
+            Some(generation) if generation != entry.generation => EntryUse::Stale,
+            _ => EntryUse::Usable,
+        }
+    }
+
+    /// The one lookup of an entry that cannot be used is forgotten at once, and the call is answered EIO.
+    fn give_back(&mut self, unique: u64, call: u64, node: u64) -> Result<(), Refusal>
+        requires waits { is_some (waiting self.old.queues unique) ≡ true }
+        requires unanswered { is_some (get self.old.vfs.calls call) ≡ true }
+        ensures err { OnErr result (self.new ≡ self.old) }
+        ensures refusal { IfErr result (λ refusal. refusal ≡ Refusal.NoMemory) }
+        ensures ok { OnOk result (self.new ≡ record self.old { vfs = answered self.old.vfs call (failed 5); queues = after_forget (without self.old.queues unique) node 1 }) }
+    {
+        self.forget_one(node)?;
+        self.answer_call(unique, call, Answer::Failed { errno: EIO });
+        Ok(())
+    }
+
+    /// Queues a forget of one lookup of a node.
+    fn forget_one(&mut self, node: u64) -> Result<(), Refusal>
+        ensures err { OnErr result (self.new ≡ self.old) }
+        ensures refusal { IfErr result (λ refusal. refusal ≡ Refusal.NoMemory) }
+        ensures ok { OnOk result (self.new ≡ record self.old { queues = after_forget self.old.queues node 1 }) }
+    {
+        let Some(forgets) = self.nodes.most().checked_add(1) else {
+            return Err(Refusal::NoMemory);
+        };
+        let Ok(()) = self.queues.reserve(0, forgets) else {
+            return Err(Refusal::NoMemory);
+        };
+        self.queues.forget(node, 1);
+        Ok(())
+    }
+
+    /// The word that a call looks up leads to the node of an entry, for so many milliseconds from now on. The call walks on.
+    fn walk_on(
+        &mut self,
+        unique: u64,
+        call: u64,
+        entry: &Entry,
+        valid_ms: u64,
+    ) -> Result<(), Refusal>
+        requires even { nat_eq (unique % 2) 1 ≡ false }
+        requires waits { waiting self.old.queues unique ≡ Some (Purpose.Call call) }
+        requires looks_up { LooksUp (get self.old.vfs.calls call) }
+        requires usable { use_of self.old.nodes entry.now ≡ usable }
+        requires day { valid_ms ≤ max_validity }
+        ensures err { OnErr result (self.new ≡ self.old) }
+        ensures refusal { IfErr result (IsEntryRefusal self.old unique (reply.found entry.now valid_ms)) }
+        ensures ok { OnOk result (reply_written self.old unique (reply.found entry.now valid_ms) ≡ (WriteResult.Accepted, self.new)) }
+    {
+        if self.runs_out(unique, call, entry, valid_ms) {
+            return Err(Refusal::Exhausted);
+        }
+        let Some(forgets) = self.nodes.most().checked_add(1) else {
+            return Err(Refusal::NoMemory);
+        };
+        let Ok(()) = self.queues.reserve(1, forgets) else {
+            return Err(Refusal::NoMemory);
+        };
+        let until = self.clock.saturating_add(valid_ms);
+        let (names, nodes) = (&mut self.names, &mut self.nodes);
+        let Ok(()) = bind_entry(&self.calls, names, nodes, call, entry, until) else {
+            return Err(Refusal::NoMemory);
+        };
+        let _kept = self.queues.answer(unique);
+        let Some(state) = self.calls.remove(call) else {
+            return Ok(());
+        };
+        match state.found(&self.names, self.clock, entry.nodeid) {
+            Next::Waits(state) => {
+                let _unique = self.queues.enqueue(Purpose::Call(call));
+                self.calls.put(call, state);
+            }
+            Next::Answered { errno } => {
+                self.answers
+                    .put(call, StoredAnswer::new(Answer::Failed { errno }));
+            }
+        }
+        Ok(())
+    }
+
+    /// Whether a call that walks on from the node of an entry would queue a request for which no number is left.
+    fn runs_out(&self, unique: u64, call: u64, entry: &Entry, valid_ms: u64) -> bool
+        requires even { nat_eq (unique % 2) 1 ≡ false }
+        requires waits { waiting self.now.queues unique ≡ Some (Purpose.Call call) }
+        requires looks_up { LooksUp (get self.now.vfs.calls call) }
+        requires usable { use_of self.now.nodes entry.now ≡ usable }
+        requires day { valid_ms ≤ max_validity }
+        ensures past { result ≡ true → is_past_end (reply_written self.now unique (reply.found entry.now valid_ms)).1 ≡ true }
+        ensures enough { result ≡ false → WalksWithin self.now call entry.now.nodeid valid_ms }
+    {
+        if self.queues.numbers_left() != 0 {
+            return false;
+        }
+        let Some(waiting) = self.calls.get(call) else {
+            return false;
+        };
+        let Asked::Lookup { directory, name } = waiting.asks() else {
+            return false;
+        };
+        let new = NewName {
+            directory,
+            name,
+            node: entry.nodeid,
+            until: self.clock.saturating_add(valid_ms),
+        };
+        waiting.would_ask(&self.names, self.clock, &new)
+    }
+
+    /// The name that a call has made leads to the node of an entry, for so many milliseconds from now on. The call is
+    /// answered that it is done.
+    fn name_is_made(
+        &mut self,
+        unique: u64,
+        call: u64,
+        entry: &Entry,
+        valid_ms: u64,
+    ) -> Result<(), Refusal>
+        requires even { nat_eq (unique % 2) 1 ≡ false }
+        requires waits { waiting self.old.queues unique ≡ Some (Purpose.Call call) }
+        requires makes { Makes (get self.old.vfs.calls call) }
+        requires usable { use_of self.old.nodes entry.now ≡ usable }
+        requires day { valid_ms ≤ max_validity }
+        ensures err { OnErr result (self.new ≡ self.old) }
+        ensures refusal { IfErr result (λ refusal. refusal ≡ Refusal.NoMemory) }
+        ensures ok { OnOk result (reply_written self.old unique (reply.found entry.now valid_ms) ≡ (WriteResult.Accepted, self.new)) }
+    {
+        let Some(forgets) = self.nodes.most().checked_add(1) else {
+            return Err(Refusal::NoMemory);
+        };
+        let Ok(()) = self.queues.reserve(0, forgets) else {
+            return Err(Refusal::NoMemory);
+        };
+        let until = self.clock.saturating_add(valid_ms);
+        let (names, nodes) = (&mut self.names, &mut self.nodes);
+        let Ok(()) = bind_entry(&self.calls, names, nodes, call, entry, until) else {
+            return Err(Refusal::NoMemory);
+        };
+        let _kept = self.queues.answer(unique);
+        self.finish(call, Answer::Done);
+        Ok(())
+    }
+
+    /// The word that a call looks up is missing for so many milliseconds from now on, and the call is answered that no such
+    /// file is there.
+    fn word_is_missing(&mut self, unique: u64, call: u64, valid_ms: u64) -> Result<(), Refusal>
+        requires even { nat_eq (unique % 2) 1 ≡ false }
+        requires waits { waiting self.old.queues unique ≡ Some (Purpose.Call call) }
+        requires looks_up { LooksUp (get self.old.vfs.calls call) }
+        requires day { valid_ms ≤ max_validity }
+        ensures err { OnErr result (self.new ≡ self.old) }
+        ensures refusal { IfErr result (λ refusal. refusal ≡ Refusal.NoMemory) }
+        ensures ok { OnOk result (reply_written self.old unique (reply.missing valid_ms) ≡ (WriteResult.Accepted, self.new)) }
+    {
+        self.name_is_missing(call, valid_ms)?;
+        self.answer_call(unique, call, Answer::Failed { errno: ENOENT });
+        Ok(())
+    }
+
+    /// The word that a call looks up is missing for so many milliseconds from now on.
+    fn name_is_missing(&mut self, call: u64, valid_ms: u64) -> Result<(), Refusal>
+        requires day { valid_ms ≤ max_validity }
+        ensures err { OnErr result (self.new ≡ self.old) }
+        ensures refusal { IfErr result (λ refusal. refusal ≡ Refusal.NoMemory) }
+        ensures bound { OnOk result ((directory : ℕ) (word : Name) (words : List Name) (plan : WalkPlan ℕ) → get self.old.vfs.calls call ≡ Some (walking directory word words plan) → self.new ≡ record self.old { vfs = bound self.old.vfs directory word None valid_ms }) }
+    {
+        let Some(waiting) = self.calls.get(call) else {
+            return Ok(());
+        };
+        let Asked::Lookup { directory, name } = waiting.asks() else {
+            return Ok(());
+        };
+        let Ok(()) = self.names.reserve(directory, name) else {
+            return Err(Refusal::NoMemory);
+        };
+        let until = self.clock.saturating_add(valid_ms);
+        self.names.put(directory, name, None, until);
+        Ok(())
+    }
+}

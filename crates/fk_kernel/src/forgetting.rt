@@ -1,0 +1,145 @@
+//! How nodes are given up, and forgets are read.
+
+ghost use Rattle.std.specs.Prelude.{◌≡◌, ℕ, List, Some, None, OnOk, OnErr, IfOk, IfErr, map, nat_eq};
+ghost use Rattle.std.specs.List.{list_any};
+ghost use Rattle.fuse_spec.specs.Kernel.{evicted, is_pinned, is_bound, nodes_of_state};
+ghost use Rattle.fuse_spec.specs.Maps.{get, values};
+ghost use Rattle.fuse_spec.specs.QueueCalls.{first_forgets, after_read_forgets};
+ghost use Rattle.fuse_spec.specs.declared.Counted.{Counted};
+ghost use Rattle.fk_kernel.specs.Refused.{or_no_memory};
+ghost use Rattle.fk_kernel.specs.RefusedUpkeep.{evict_refusal, read_forgets_refusal, IsForgetFrame};
+
+use crate::kernel::KernelOf;
+use fk_queues::{Forgets, QueueTable};
+use fk_syscalls::CallState;
+use fuse_frames::RequestFrame;
+use fuse_spec::{Purpose, Refusal};
+use std::alloc::{AllocError, Allocator};
+
+/// Whether one of the calls stands on the node or names it.
+fn is_named<A: Allocator + Copy>(calls: &[(u64, CallState<A>)], node: u64) -> bool
+    ensures { result ≡ list_any (λ state. list_any (nat_eq node) (nodes_of_state state)) (values calls.now) }
+{
+    for call in calls {
+        if call.1.names_node(node) {
+            return true;
+        }
+    }
+    false
+}
+
+impl<Q: QueueTable<Purpose> + Drop> KernelOf<Q> {
+    /// Whether an unanswered call stands on the node or names it. So far no file is open, and no RELEASE is queued.
+    fn is_pinned(&self, node: u64) -> bool
+        ensures { result ≡ is_pinned self.now node }
+    {
+        // A field is touched so that the type's invariant is at hand.
+        let _ = &self.next_call;
+        is_named(self.calls.rows(), node)
+    }
+
+    /// Why a node cannot be given up: `NotReady` where the mount is not live, `NoSuch` where the node is not counted,
+    /// `Busy` where an unanswered call or a name in force, valid or not, names it.
+    pub fn evict_refusal(&self, node: u64) -> Option<Refusal>
+        ensures { result ≡ evict_refusal self.now node }
+    {
+        if !self.is_live() {
+            return Some(Refusal::NotReady);
+        }
+        if self.nodes.generation_of(node).is_none() {
+            return Some(Refusal::NoSuch);
+        }
+        if self.is_pinned(node) || self.names.names_node(node) {
+            return Some(Refusal::Busy);
+        }
+        None
+    }
+
+    /// Gives a node up and queues the forget of its whole count, which is given. Takes no memory.
+    ///
+    /// # Errors
+    ///
+    /// As `evict_refusal`. The kernel is as before.
+    pub fn evict(&mut self, node: u64) -> Result<u64, Refusal>
+        ensures err { OnErr result (self.new ≡ self.old) }
+        ensures refusal { IfErr result (λ refusal. evict_refusal self.old node ≡ Some refusal) }
+        ensures judged { OnOk result (evict_refusal self.old node ≡ None) }
+        ensures evicted { IfOk result (λ count. (counted : Counted) × (get self.old.nodes node ≡ Some counted) × (counted.count ≡ count) × (self.new ≡ evicted self.old node counted)) }
+    {
+        if let Some(refusal) = self.evict_refusal(node) {
+            return Err(refusal);
+        }
+        match self.nodes.evict(node) {
+            Some(count) => {
+                self.queues.forget(node, count);
+                Ok(count)
+            }
+            // Ruled out: it is counted.
+            None => Err(Refusal::NoSuch),
+        }
+    }
+
+    /// The first forgets, with the number of their frame, or why they cannot be read.
+    fn forgets_to_read(&self, count: u64) -> Result<(u64, Forgets), Refusal>
+        ensures refusal { IfErr result (λ refusal. read_forgets_refusal self.now count ≡ Some refusal) }
+        ensures judged { OnOk result (read_forgets_refusal self.now count ≡ None) }
+        ensures read { IfOk result (λ read. first_forgets self.now.queues count ≡ Some read) }
+    {
+        if !self.is_live() {
+            return Err(Refusal::NotReady);
+        }
+        if self.queues.first_interrupt().is_some() {
+            return Err(Refusal::InterruptFirst);
+        }
+        let Some(read) = self.queues.first_forgets(count as usize) else {
+            return Err(Refusal::NoSuch);
+        };
+        if self.queues.numbers_left() == 0 {
+            return Err(Refusal::Exhausted);
+        }
+        Ok(read)
+    }
+
+    /// Why so many forgets cannot be read as one frame, want of memory aside: `NotReady` where the mount is not live,
+    /// `InterruptFirst` while an INTERRUPT is queued, `NoSuch` for 0, for more than 64 and for more than are queued,
+    /// `Exhausted` where no number is left.
+    pub fn read_forgets_refusal(&self, count: u64) -> Option<Refusal>
+        ensures { result ≡ read_forgets_refusal self.now count }
+    {
+        match self.forgets_to_read(count) {
+            Ok(_) => None,
+            Err(refusal) => Some(refusal),
+        }
+    }
+
+    /// Reads the first so many forgets as one frame, which draws a number: a FORGET for 1, a BATCH_FORGET for more.
+    ///
+    /// # Errors
+    ///
+    /// As `read_forgets_refusal`; then `NoMemory`. The kernel is as before.
+    pub fn read_forgets(&mut self, count: u64) -> Result<RequestFrame<Q::Heap>, Refusal>
+        ensures err { OnErr result (self.new ≡ self.old) }
+        ensures refusal { IfErr result (λ refusal. refusal ≡ or_no_memory (read_forgets_refusal self.old count)) }
+        ensures judged { OnOk result (read_forgets_refusal self.old count ≡ None) }
+        ensures frame { IfOk result (λ frame. IsForgetFrame self.old count frame) }
+        ensures read { OnOk result (self.new ≡ record self.old { queues = after_read_forgets self.old.queues count }) }
+    {
+        let (unique, forgets) = self.forgets_to_read(count)?;
+        let Ok(frame) = RequestFrame::forgets(self.alloc, unique, forgets.as_slice()) else {
+            return Err(Refusal::NoMemory);
+        };
+        let _read = self.queues.read_forgets(count as usize);
+        Ok(frame)
+    }
+
+    /// Id, generation and lookup count of each counted node, in rising id.
+    ///
+    /// # Errors
+    ///
+    /// Memory was wanting for the list.
+    pub fn nodes(&self, alloc: Q::Heap) -> Result<Vec<(u64, u64, u64), Q::Heap>, AllocError>
+        ensures { IfOk result (λ nodes. nodes.items ≡ map (λ e. (e.0, e.1.generation, e.1.count)) self.now.nodes) }
+    {
+        self.nodes.list(alloc)
+    }
+}

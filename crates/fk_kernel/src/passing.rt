@@ -1,0 +1,54 @@
+//! How time passes, and names go.
+
+ghost use Rattle.std.specs.Prelude.{◌≡◌, ◌+◌, Some, None, OnOk, OnErr, IfOk, IfErr};
+ghost use Rattle.fuse_spec.specs.Maps.{remove_name};
+ghost use Rattle.fuse_spec.specs.Vfs.{later};
+ghost use Rattle.fk_kernel.specs.RefusedUpkeep.{tick_refusal, drop_refusal};
+
+use crate::kernel::KernelOf;
+use fk_queues::QueueTable;
+use fuse_spec::{Purpose, Refusal};
+
+/// The time stays below this, in milliseconds.
+const CLOCK_END: u64 = 0x20_0000_0000_0000;
+
+impl<Q: QueueTable<Purpose> + Drop> KernelOf<Q> {
+    /// The clock goes on so many milliseconds. Gives the new time. Takes no memory.
+    ///
+    /// # Errors
+    ///
+    /// `BadTime` where the time would reach 2^53. The kernel is as before.
+    pub fn tick(&mut self, ms: u64) -> Result<u64, Refusal>
+        ensures err { OnErr result (self.new ≡ self.old) }
+        ensures refusal { IfErr result (λ refusal. tick_refusal self.old ms ≡ Some refusal) }
+        ensures judged { OnOk result (tick_refusal self.old ms ≡ None) }
+        ensures time { IfOk result (λ time. time ≡ self.old.vfs.clock + ms) }
+        ensures ticked { OnOk result (self.new ≡ record self.old { vfs = later self.old.vfs ms }) }
+    {
+        if CLOCK_END - self.clock <= ms {
+            return Err(Refusal::BadTime);
+        }
+        self.clock += ms;
+        Ok(self.clock)
+    }
+
+    /// Drops a name in force, valid or not. Takes no memory.
+    ///
+    /// # Errors
+    ///
+    /// `NotReady` where the mount is not live, `NoSuch` where no such name is in force. The kernel is as before.
+    pub fn drop_name(&mut self, directory: u64, name: &[u8]) -> Result<(), Refusal>
+        ensures err { OnErr result (self.new ≡ self.old) }
+        ensures refusal { IfErr result (λ refusal. drop_refusal self.old directory name.now ≡ Some refusal) }
+        ensures judged { OnOk result (drop_refusal self.old directory name.now ≡ None) }
+        ensures dropped { OnOk result (self.new ≡ record self.old { vfs = record self.old.vfs { names = remove_name self.old.vfs.names (directory, name.now) } }) }
+    {
+        if !self.is_live() {
+            return Err(Refusal::NotReady);
+        }
+        if !self.names.remove(directory, name) {
+            return Err(Refusal::NoSuch);
+        }
+        Ok(())
+    }
+}

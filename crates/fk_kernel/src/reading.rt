@@ -1,0 +1,107 @@
+//! How requests are read.
+
+ghost use Rattle.std.specs.Prelude.{◌≡◌, ◌<◌, ◌+◌, Some, None, Ok, OnOk, OnErr, IfOk, IfErr, true, ◌≢◌, is_some};
+ghost use Rattle.fuse_spec.specs.declared.Opened.{Opened};
+ghost use Rattle.fuse_spec.specs.Kernel.{is_live, body_of};
+ghost use Rattle.fuse_spec.specs.Maps.{get};
+ghost use Rattle.fuse_spec.specs.Operations.{getattr};
+ghost use Rattle.fk_kernel.specs.Refused.{or_no_memory, read_refusal, IsPendingRequest, IsAskedSoFar};
+ghost use Rattle.fuse_spec.specs.QueueCalls.{after_read_pending, waiting};
+
+use crate::kernel::KernelOf;
+use fk_queues::QueueTable;
+use fk_syscalls::Asked;
+use fuse_frames::RequestFrame;
+use fuse_spec::{Purpose, Refusal};
+
+impl<Q: QueueTable<Purpose> + Drop> KernelOf<Q> {
+    /// Whether a request has something to ask: that of a call has while the call is unanswered.
+    fn asks(&self, purpose: Purpose) -> bool
+        ensures { result ≡ is_some (body_of self.now purpose) }
+    {
+        match purpose {
+            Purpose::Init | Purpose::Release(_) => true,
+            Purpose::Call(call) => self.calls.get(call).is_some(),
+        }
+    }
+
+    /// Why the pending request at a place cannot be read, want of memory aside: `NotReady` where the mount is not live,
+    /// `InterruptFirst` while an INTERRUPT is queued, `NoSuch` where no request is pending there.
+    pub fn read_refusal(&self, place: u64) -> Option<Refusal>
+        ensures { result ≡ read_refusal self.now place }
+    {
+        if !self.is_live() {
+            return Some(Refusal::NotReady);
+        }
+        if self.queues.first_interrupt().is_some() {
+            return Some(Refusal::InterruptFirst);
+        }
+        let Some((_, purpose)) = self.queues.pending(place as usize) else {
+            return Some(Refusal::NoSuch);
+        };
+        if self.asks(*purpose) {
+            None
+        } else {
+            Some(Refusal::NoSuch)
+        }
+    }
+
+    /// Reads the pending request at a place, counted from 0 in order of queuing. It is in processing from then on.
+    ///
+    /// # Errors
+    ///
+    /// `NotReady` where the mount is not live, `InterruptFirst` while an INTERRUPT is queued, `NoSuch` where no request
+    /// is pending there; then `NoMemory`. The kernel is as before.
+    pub fn read_pending(&mut self, place: u64) -> Result<RequestFrame<Q::Heap>, Refusal>
+        ensures err { OnErr result (self.new ≡ self.old) }
+        ensures refusal { IfErr result (λ refusal. refusal ≡ or_no_memory (read_refusal self.old place)) }
+        ensures judged { OnOk result (read_refusal self.old place ≡ None) }
+        ensures frame { IfOk result (λ frame. IsPendingRequest self.old place frame) }
+        ensures asked { IfOk result (λ frame. IsAskedSoFar frame.body) }
+        ensures read { OnOk result (self.new ≡ record self.old { queues = after_read_pending self.old.queues place }) }
+    {
+        if let Some(refusal) = self.read_refusal(place) {
+            return Err(refusal);
+        }
+        let place = place as usize;
+        let Some((unique, purpose)) = self.queues.pending(place) else {
+            return Err(Refusal::NoSuch);
+        };
+        let frame = self.request_frame(unique, *purpose)?;
+        let _unique = self.queues.read_pending(place);
+        Ok(frame)
+    }
+
+    /// The frame of a request that has something to ask. No file is open so far, so that none is a RELEASE.
+    fn request_frame(&self, unique: u64, purpose: Purpose) -> Result<RequestFrame<Q::Heap>, Refusal>
+        requires asks { is_some (body_of self.now purpose) ≡ true }
+        requires no_release { (opened : Opened) → purpose ≢ Purpose.Release opened }
+        ensures refusal { IfErr result (λ refusal. refusal ≡ Refusal.NoMemory) }
+        ensures unique { IfOk result (λ frame. frame.unique ≡ unique) }
+        ensures body { IfOk result (λ frame. body_of self.now purpose ≡ Some frame.body) }
+        ensures asked { IfOk result (λ frame. IsAskedSoFar frame.body) }
+    {
+        let frame = match purpose {
+            Purpose::Init => RequestFrame::init(self.alloc, unique),
+            Purpose::Release(_) => return Err(Refusal::NoSuch),
+            Purpose::Call(call) => {
+                let Some(waiting) = self.calls.get(call) else {
+                    return Err(Refusal::NoSuch);
+                };
+                match waiting.asks() {
+                    Asked::Lookup { directory, name } => {
+                        RequestFrame::lookup(self.alloc, unique, directory, name)
+                    }
+                    Asked::Getattr { node } => RequestFrame::getattr(self.alloc, unique, node),
+                    Asked::Mkdir { directory, name } => {
+                        RequestFrame::mkdir(self.alloc, unique, directory, name)
+                    }
+                }
+            }
+        };
+        match frame {
+            Ok(frame) => Ok(frame),
+            Err(_) => Err(Refusal::NoMemory),
+        }
+    }
+}

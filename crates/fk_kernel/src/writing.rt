@@ -1,0 +1,153 @@
+//! How replies are taken.
+
+ghost use Rattle.std.specs.Prelude.{◌≡◌, ◌<◌, ◌+◌, ◌≤◌, ◌%◌, ℕ, Some, None, Ok, OnErr, IfOk, IfErr, true, false, is_some, nat_eq};
+ghost use Rattle.fuse_spec.specs.Maps.{get};
+ghost use Rattle.fuse_spec.specs.Vfs.{doing, answered};
+ghost use Rattle.fuse_spec.specs.Messages.{WireReply};
+ghost use Rattle.fuse_spec.specs.Operations as reply;
+ghost use Rattle.fuse_spec.specs.Operations.{getattr};
+ghost use Rattle.fuse_spec.specs.Replies.{reply_written, is_agreement, interrupt_reply_of, interrupt_replied};
+ghost use Rattle.fk_kernel.specs.Said.{Says, SaysNothing, HasReplyHead, head_unique, awaited, awaited_by_call, nothing, wrong_body, IsTaken};
+ghost use Rattle.fk_kernel.specs.Refused.{IsWriteRefusal, WriteRefused};
+ghost use Rattle.fuse_spec.specs.QueueCalls.{after_interrupt_reply, waiting};
+
+use crate::kernel::KernelOf;
+use crate::said::{
+    GetattrSaid, InitSaid, InterruptSaid, said_to_getattr, said_to_init, said_to_interrupt,
+};
+use fk_queues::QueueTable;
+use fk_syscalls::{Answer, Asked};
+use fk_wire::{Opcode, read_reply_head};
+use fuse_spec::{Phase, Purpose, Refusal, WriteResult};
+
+const EIO: u32 = 5;
+
+const EAGAIN: u32 = 11;
+
+const ENOSYS: u32 = 38;
+
+impl<Q: QueueTable<Purpose> + Drop> KernelOf<Q> {
+    /// Takes any bytes as a reply.
+    ///
+    /// # Errors
+    ///
+    /// `Exhausted` where no number is left for the request that a walk would queue next; then `NoMemory`. The kernel is as
+    /// before.
+    pub fn write(&mut self, bytes: &[u8]) -> Result<WriteResult, Refusal>
+        ensures err { OnErr result (self.new ≡ self.old) }
+        ensures refusal { HasReplyHead bytes.now → IfErr result (WriteRefused self.old bytes.now) }
+        ensures headless { (HasReplyHead bytes.now → ⊥) → (result ≡ Ok WriteResult.Invalid) × (self.new ≡ self.old) }
+        ensures unawaited { HasReplyHead bytes.now → awaited self.old (head_unique bytes.now) ≡ nothing → (result ≡ Ok WriteResult.NoEntry) × (self.new ≡ self.old) }
+        ensures taken { HasReplyHead bytes.now → IfOk result (λ written. IsTaken self.old (head_unique bytes.now) bytes.now (awaited self.old (head_unique bytes.now)) written self.new) }
+    {
+        let Ok((_, unique)) = read_reply_head(bytes) else {
+            return Ok(WriteResult::Invalid);
+        };
+        if unique % 2 == 1 {
+            return Ok(self.write_to_interrupt(unique - 1, bytes));
+        }
+        let Some(purpose) = self.queues.waiting(unique) else {
+            return Ok(WriteResult::NoEntry);
+        };
+        match *purpose {
+            Purpose::Init => Ok(self.write_to_init(unique, bytes)),
+            // No file is opened so far, so that none is a RELEASE.
+            Purpose::Release(_) => Ok(WriteResult::Invalid),
+            Purpose::Call(call) => self.write_to_call(unique, call, bytes),
+        }
+    }
+
+    /// A reply to the INTERRUPT of a request: it counts while that request is read and unanswered.
+    fn write_to_interrupt(&mut self, original: u64, bytes: &[u8]) -> WriteResult
+        ensures unawaited { waiting self.old.queues original ≡ None → (result ≡ WriteResult.NoEntry) × (self.new ≡ self.old) }
+        ensures said { is_some (waiting self.old.queues original) ≡ true → (wire : WireReply) → Says Opcode.Interrupt bytes.now wire → interrupt_replied self.old original wire ≡ (result, self.new) }
+        ensures unsaid { is_some (waiting self.old.queues original) ≡ true → SaysNothing Opcode.Interrupt bytes.now → interrupt_replied self.old original wrong_body ≡ (result, self.new) }
+    {
+        if self.queues.waiting(original).is_none() {
+            return WriteResult::NoEntry;
+        }
+        let Some(said) = said_to_interrupt(bytes) else {
+            return WriteResult::Invalid;
+        };
+        match said {
+            InterruptSaid::Failed { errno } => self.interrupt_failed(original, errno),
+            InterruptSaid::Done => {}
+        }
+        WriteResult::Accepted
+    }
+
+    /// An INTERRUPT was answered an error: EAGAIN queues it again, and after ENOSYS none is queued any more.
+    fn interrupt_failed(&mut self, original: u64, errno: u32)
+        requires { is_some (waiting self.old.queues original) ≡ true }
+        ensures { self.new ≡ record self.old { queues = after_interrupt_reply self.old.queues original (interrupt_reply_of errno) } }
+    {
+        match errno {
+            EAGAIN => self.queues.again(original),
+            ENOSYS => self.queues.no_interrupts(),
+            _ => {}
+        }
+    }
+
+    /// An agreement on 7.31 or later makes the mount ready. For now any other reply is refused and changes nothing.
+    fn write_to_init(&mut self, unique: u64, bytes: &[u8]) -> WriteResult
+        requires even { nat_eq (unique % 2) 1 ≡ false }
+        requires waits { waiting self.old.queues unique ≡ Some Purpose.Init }
+        ensures agreed { (minor : ℕ) → 31 ≤ minor → Says Opcode.Init bytes.now (reply.agreed 7 minor) → reply_written self.old unique (reply.agreed 7 minor) ≡ (result, self.new) }
+        ensures refused { (wire : WireReply) → is_agreement wire ≡ false → Says Opcode.Init bytes.now wire → (result ≡ WriteResult.Invalid) × (self.new ≡ self.old) }
+        ensures unsaid { SaysNothing Opcode.Init bytes.now → (result ≡ WriteResult.Invalid) × (self.new ≡ self.old) }
+    {
+        let Some(InitSaid::Agreed { major, minor }) = said_to_init(bytes) else {
+            return WriteResult::Invalid;
+        };
+        if major != 7 || minor < 31 {
+            return WriteResult::Invalid;
+        }
+        let _kept = self.queues.answer(unique);
+        self.phase = Phase::Ready;
+        WriteResult::Accepted
+    }
+
+    /// A reply to the LOOKUP, GETATTR or MKDIR of a call. Where the call is not unanswered, its request just ends.
+    fn write_to_call(
+        &mut self,
+        unique: u64,
+        call: u64,
+        bytes: &[u8],
+    ) -> Result<WriteResult, Refusal>
+        requires even { nat_eq (unique % 2) 1 ≡ false }
+        requires waits { waiting self.old.queues unique ≡ Some (Purpose.Call call) }
+        ensures err { OnErr result (self.new ≡ self.old) }
+        ensures refusal { IfErr result (IsWriteRefusal self.old unique bytes.now (awaited_by_call (get self.old.vfs.calls call))) }
+        ensures taken { IfOk result (λ written. IsTaken self.old unique bytes.now (awaited_by_call (get self.old.vfs.calls call)) written self.new) }
+    {
+        let Some(waiting) = self.calls.get(call) else {
+            let _kept = self.queues.answer(unique);
+            return Ok(WriteResult::Accepted);
+        };
+        match waiting.asks() {
+            Asked::Lookup { .. } => self.write_to_lookup(unique, call, bytes),
+            Asked::Getattr { .. } => Ok(self.write_to_getattr(unique, call, bytes)),
+            Asked::Mkdir { .. } => self.write_to_mkdir(unique, call, bytes),
+        }
+    }
+
+    /// A reply to the GETATTR of a node. Bytes that are none answer the call EIO.
+    fn write_to_getattr(&mut self, unique: u64, call: u64, bytes: &[u8]) -> WriteResult
+        requires even { nat_eq (unique % 2) 1 ≡ false }
+        requires waits { waiting self.old.queues unique ≡ Some (Purpose.Call call) }
+        requires asks { (node : ℕ) × (get self.old.vfs.calls call ≡ Some (doing (getattr node))) }
+        ensures said { (wire : WireReply) → Says Opcode.Getattr bytes.now wire → reply_written self.old unique wire ≡ (result, self.new) }
+        ensures unsaid { SaysNothing Opcode.Getattr bytes.now → reply_written self.old unique wrong_body ≡ (result, self.new) }
+    {
+        let Some(said) = said_to_getattr(bytes) else {
+            self.answer_call(unique, call, Answer::Failed { errno: EIO });
+            return WriteResult::Invalid;
+        };
+        let answer = match said {
+            GetattrSaid::Failed { errno } => Answer::Failed { errno },
+            GetattrSaid::Attributes(attributes) => Answer::Attributes(attributes),
+        };
+        self.answer_call(unique, call, answer);
+        WriteResult::Accepted
+    }
+}

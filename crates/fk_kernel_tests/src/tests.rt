@@ -1,0 +1,3 @@
+//! What no clause says: replies against a written table.
+
+mod waiting_lookup;

@@ -1,0 +1,87 @@
+//! Both representations give the same answers.
+use super::{learn, pin};
+use fk_lookup_count::{CountTable, Forget, KernelNodes, ListCounts, Unlike};
+use std::alloc::{AllocError, Global};
+use std::process::Abort;
+use std::test::Fail;
+
+/// What a call gave.
+#[derive(Clone, Copy, Debug, PartialEq, Eq)]
+enum Answer {
+    Nothing,
+    Learnt(Result<(), Unlike>),
+    Evicted(Option<Forget>),
+}
+
+/// The call that a number below 32 picks, on one of twelve ids.
+fn call<T: CountTable>(table: &mut T, pick: u64, argument: u64) -> Result<Answer, AllocError> {
+    let id = argument % 12;
+    if pick < 14 {
+        let generation = (argument / 12 % 8 == 0) as u64;
+        return Ok(Answer::Learnt(learn(table, id, generation)?));
+    }
+    if pick < 22 {
+        return Ok(Answer::Evicted(table.evict(id)));
+    }
+    if pick < 25 {
+        pin(table, id)?;
+    } else if pick < 29 {
+        table.unpin(id);
+    } else if pick < 31 {
+        table.reserve(id)?;
+    } else if argument % 16 == 0 {
+        table.clear();
+    }
+    Ok(Answer::Nothing)
+}
+
+/// What the looks say of an id.
+fn looks<T: CountTable>(table: &T, id: u64) -> (u64, u64, Option<u64>) {
+    (
+        table.count_of(id),
+        table.pins_of(id),
+        table.generation_of(id),
+    )
+}
+
+/// The next of a fixed row of numbers (xorshift).
+fn next_number(number: u64) -> u64 {
+    let mut next = number ^ number << 13;
+    next ^= next >> 7;
+    next ^ next << 17
+}
+
+/// One call on both. Says whether it gave a forget.
+fn same_step(
+    rt: &impl Abort,
+    alloc: Global,
+    slab: &mut KernelNodes,
+    list: &mut ListCounts,
+    number: u64,
+) -> Result<bool, AllocError> {
+    let pick = number % 32;
+    let argument = number / 32 % 0x1_0000;
+    let answer = call(slab, pick, argument)?;
+    assert_eq!(rt; answer, call(list, pick, argument)?);
+    for id in 0..13u64 {
+        assert_eq!(rt; looks(slab, id), looks(list, id));
+    }
+    assert!(rt; slab.nodes(alloc)?.as_slice() == list.nodes(alloc)?.as_slice());
+    Ok(matches!(answer, Answer::Evicted(Some(_))))
+}
+
+#[test]
+fn both_answer_alike(rt: HostRuntime) -> Result<(), Fail> {
+    let mut slab: KernelNodes = CountTable::new(rt.alloc());
+    let mut list: ListCounts = CountTable::new(rt.alloc());
+    let mut number = 0x2545_f491_4f6c_dd1du64;
+    let mut forgets = 0u64;
+    for _step in 0..600u64 {
+        number = next_number(number);
+        if same_step(&rt, rt.alloc(), &mut slab, &mut list, number)? {
+            forgets = forgets.saturating_add(1);
+        }
+    }
+    assert!(rt; forgets > 30);
+    Ok(())
+}

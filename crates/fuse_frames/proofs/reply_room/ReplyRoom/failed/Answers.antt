@@ -1,0 +1,12 @@
+use Rattle.std.proofs.Common.{◌∙◌}
+use Rattle.std.specs.Int.{w32}
+use Rattle.std.proofs.lemmas.Int.{to_z-of_z}
+use Rattle.fk_wire.proofs.OneReply.{error_fits}
+use Rattle.fuse_frames.proofs.ReplyLemmas.{error_goes, error_in_range}
+use Rattle.fuse_frames.proofs.reply_room.ReplyRoom.failed.Goals as goal
+
+pub written-requires-clause-goes : goal.written-requires-clause-goes
+written-requires-clause-goes g c =
+    let z = c.negated.result in
+    let same = to_z-of_z w32 z (error_fits z (error_in_range c.args.errno z c.requires.some c.requires.most c.negated.ensures)) in
+    error_goes c.args.opcode c.args.unique c.args.errno _ c.requires.goes c.requires.some c.requires.most (same ∙ c.negated.ensures)

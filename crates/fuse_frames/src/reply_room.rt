@@ -1,0 +1,183 @@
+//! Room for one reply.
+
+ghost use Rattle.std.specs.Prelude.{◌≡◌, ◌≢◌, ◌≤◌, IsTrue, pos, negsuc, ◌-◌, Some, [], vec_capacity};
+ghost use Rattle.fk_wire.specs.Opcodes.{served};
+ghost use Rattle.fk_wire.specs.Replies.{reply_content, kind_of_content, reply_kind};
+ghost use Rattle.fuse_spec.specs.Numbers.{max_validity};
+ghost use Rattle.fuse_spec.specs.Operations as reply;
+ghost use Rattle.fuse_frames.specs.ReplyTies.{FitsRoom, has_entry_reply, has_empty_reply, has_reply, reply_room, wire_body, attributes_in};
+ghost use Rattle.fuse_frames.specs.ReplyTies.{milliseconds as milliseconds_in};
+
+use crate::reply_copy::ReplyCopy;
+use fk_wire::{Attr, InitFlags, Opcode, Reply, ReplyBody};
+use fuse_spec::{Attributes, Entry, Kind};
+use std::alloc::{AllocError, Allocator, Global};
+
+/// How many bytes the longest reply of a fixed length has, which is CREATE's.
+const ROOM: usize = 160;
+
+/// Room for one reply of a fixed length: a server takes it first, then changes its state, and then writes the reply, which cannot fail.
+#[derive(Drop)]
+pub struct ReplyRoom<A: Allocator = Global> {
+    bytes: Vec<u8, A>,
+    ghost empty: { bytes.items ≡ [] },
+    ghost roomy: { reply_room ≤ vec_capacity bytes },
+}
+
+impl<A: Allocator> ReplyRoom<A> {
+    /// Takes the memory.
+    pub fn new(alloc: A) -> Result<ReplyRoom<A>, AllocError> {
+        let bytes = Vec::with_capacity(alloc, ROOM)?;
+        Ok(ReplyRoom { bytes })
+    }
+
+    /// The copy of a reply without error.
+    fn said(self, number: u64, unique: u64, opcode: Opcode, body: ReplyBody<'_>) -> ReplyCopy<A>
+        requires goes { reply_kind served opcode ≡ Some (kind_of_content (reply_content body)) }
+        requires fits { FitsRoom (record { unique = unique; error = pos 0; content = reply_content body }) }
+        ensures { result ≡ record { number = number; unique = unique; wire = wire_body (reply_content body.entry) } }
+    {
+        let reply = Reply {
+            unique,
+            error: 0,
+            body,
+        };
+        ReplyCopy::written(number, opcode, self.bytes, &reply)
+    }
+
+    /// The answer to INIT: version 7.31, and which flags of those that were offered are taken up.
+    pub fn agreed(self, number: u64, unique: u64, flags: InitFlags) -> ReplyCopy<A>
+        ensures { result ≡ record { number = number; unique = unique; wire = reply.agreed 7 31 } }
+    {
+        let body = ReplyBody::Init {
+            major: 7,
+            minor: 31,
+            flags,
+        };
+        self.said(number, unique, Opcode::Init, body)
+    }
+
+    /// The answer to a LOOKUP that found nothing: the name is missing for so many milliseconds, at most a day.
+    pub fn missing(self, number: u64, unique: u64, missing_ms: u64) -> ReplyCopy<A>
+        requires { missing_ms ≤ max_validity }
+        ensures { result ≡ record { number = number; unique = unique; wire = reply.missing missing_ms } }
+    {
+        let entry = no_entry(missing_ms);
+        self.said(number, unique, Opcode::Lookup, ReplyBody::Entry { entry })
+    }
+
+    /// The answer to a LOOKUP, MKDIR or LINK: the name leads to this node for so many milliseconds, at most a day.
+    pub fn found(
+        self,
+        number: u64,
+        unique: u64,
+        opcode: Opcode,
+        entry: &Entry,
+        found_ms: u64,
+    ) -> ReplyCopy<A>
+        requires goes { IsTrue (has_entry_reply opcode) }
+        requires node { entry.now.nodeid ≢ 0 }
+        requires valid { found_ms ≤ max_validity }
+        ensures { result ≡ record { number = number; unique = unique; wire = reply.found entry.now found_ms } }
+    {
+        let entry = entry_of(entry, found_ms);
+        self.said(number, unique, opcode, ReplyBody::Entry { entry })
+    }
+
+    /// The answer to GETATTR.
+    pub fn attributes(self, number: u64, unique: u64, attributes: &Attributes) -> ReplyCopy<A>
+        ensures { result ≡ record { number = number; unique = unique; wire = reply.attributes attributes.now } }
+    {
+        let attr = attr_of(attributes);
+        self.said(number, unique, Opcode::Getattr, ReplyBody::Attr { attr })
+    }
+
+    /// The answer to UNLINK, RMDIR, RENAME, RELEASE or INTERRUPT: it is done.
+    pub fn done(self, number: u64, unique: u64, opcode: Opcode) -> ReplyCopy<A>
+        requires goes { IsTrue (has_empty_reply opcode) }
+        ensures { result ≡ record { number = number; unique = unique; wire = reply.done } }
+    {
+        self.said(number, unique, opcode, ReplyBody::Empty)
+    }
+
+    /// An error, from 1 to 511, to a request that has a reply.
+    pub fn failed(self, number: u64, unique: u64, opcode: Opcode, errno: u32) -> ReplyCopy<A>
+        requires goes { IsTrue (has_reply opcode) }
+        requires some { 1 ≤ errno }
+        requires most { errno ≤ 511 }
+        ensures { result ≡ record { number = number; unique = unique; wire = reply.failed errno } }
+    {
+        let reply = Reply {
+            unique,
+            error: negated(errno),
+            body: ReplyBody::Empty,
+        };
+        ReplyCopy::written(number, opcode, self.bytes, &reply)
+    }
+}
+
+/// The entry of a name that leads to a node.
+fn entry_of(entry: &Entry, found_ms: u64) -> fk_wire::Entry
+    requires { found_ms ≤ max_validity }
+    ensures nodeid { result.nodeid ≡ entry.now.nodeid }
+    ensures generation { result.generation ≡ entry.now.generation }
+    ensures attributes { attributes_in result.attr ≡ entry.now.attributes }
+    ensures timed { result.entry_valid_nsec ≤ 999999999 }
+    ensures valid { milliseconds_in result.entry_valid result.entry_valid_nsec ≡ found_ms }
+{
+    fk_wire::Entry {
+        nodeid: entry.nodeid,
+        generation: entry.generation,
+        entry_valid: found_ms / 1000,
+        entry_valid_nsec: (found_ms % 1000) as u32 * 1_000_000,
+        attr: attr_of(&entry.attributes),
+    }
+}
+
+/// The entry of a name that leads nowhere.
+fn no_entry(missing_ms: u64) -> fk_wire::Entry
+    requires { missing_ms ≤ max_validity }
+    ensures nodeid { result.nodeid ≡ 0 }
+    ensures timed { result.entry_valid_nsec ≤ 999999999 }
+    ensures valid { milliseconds_in result.entry_valid result.entry_valid_nsec ≡ missing_ms }
+{
+    let attr = Attr {
+        ino: 0,
+        size: 0,
+        mode: 0,
+        nlink: 0,
+    };
+    fk_wire::Entry {
+        nodeid: 0,
+        generation: 0,
+        entry_valid: missing_ms / 1000,
+        entry_valid_nsec: (missing_ms % 1000) as u32 * 1_000_000,
+        attr,
+    }
+}
+
+/// Attributes as their struct has them. The permission bits are 0755 of a directory and 0644 of a file.
+fn attr_of(attributes: &Attributes) -> Attr
+    ensures { attributes_in result ≡ attributes.now }
+{
+    let mode = match attributes.kind {
+        Kind::Directory => 0o040755,
+        Kind::Regular => 0o100644,
+        Kind::Other => 0,
+    };
+    Attr {
+        ino: attributes.ino,
+        size: attributes.size,
+        mode,
+        nlink: attributes.nlink,
+    }
+}
+
+/// An error number as the header of a reply has it.
+fn negated(errno: u32) -> i32
+    requires some { 1 ≤ errno }
+    requires most { errno ≤ 511 }
+    ensures { result ≡ negsuc (errno - 1) }
+{
+    -(errno as i32)
+}

@@ -1,0 +1,46 @@
+-- A world that events led to stays one, with any event, and as answers are collected.
+use Rattle.std.proofs.Common.{◌≡◌, ℕ, Option, Some, None, refl, sym, ◌∙◌}
+use Rattle.fuse_spec.specs.Answers.{Answer}
+use Rattle.fuse_spec.specs.Maps.{get, remove}
+use Rattle.fuse_spec.specs.Plain.{first_plain}
+use Rattle.fuse_spec.specs.Records.{collected}
+use Rattle.fuse_spec.specs.Runs.{plain_collected}
+use Rattle.fuse_spec.specs.Worlds.{World, first_world}
+use Rattle.fuse_spec.specs.Events.{Event, Outcome}
+use Rattle.fuse_spec.specs.Steps.{Happens}
+use Rattle.fuse_theorem.specs.Reached.{IsReached}
+use Rattle.fuse_theorem.proofs.AllCollected.{collected_all, handed_out_all}
+use Rattle.fuse_theorem.proofs.AllStaySound.{first_all, all_move}
+use Rattle.fuse_theorem.proofs.AnswersStay.{calls_stay, collected_sound, first_sound}
+use Rattle.fuse_theorem.proofs.WithAnswers.{with_answers, plain_with_answers}
+use Rattle.fuse_theorem.proofs.Settling.{left_was}
+
+pub first_reached : IsReached first_world
+first_reached = record { plain = first_plain; sound = first_all; answers = first_sound }
+
+pub reached_next : (w : World) → IsReached w → (e : Event) (o : Outcome) (after : World) → Happens w e o after → IsReached after
+reached_next w here e o after happens =
+    let went = all_move w here.plain here.sound e o after happens in
+    record { plain = went.0; sound = went.2; answers = (calls_stay w here.answers e o after happens).sound }
+
+pub collected_reached : (w : World) → IsReached w → IsReached (collected w)
+collected_reached w here = record { plain = plain_collected here.plain; sound = collected_all w here.plain here.sound; answers = collected_sound w here.answers }
+
+-- The answer of one call is collected.
+pub handed_out_reached : (w : World) (call : ℕ) → IsReached w → IsReached (with_answers w (remove w.kernel.vfs.answers call))
+handed_out_reached w call here =
+    record {
+      plain = plain_with_answers here.plain (remove w.kernel.vfs.answers call);
+      sound = handed_out_all w call here.plain here.sound;
+      answers = record {
+        one = λ q a at. here.answers.one q a (left_was w.kernel.vfs.answers call q a at);
+        calls_below = here.answers.calls_below;
+        answers_below = λ q le. none_left q (here.answers.answers_below q le) (get (remove w.kernel.vfs.answers call) q) refl;
+      };
+    }
+  where
+    none_left : (q : ℕ) → get w.kernel.vfs.answers q ≡ None → (o : Option Answer) → get (remove w.kernel.vfs.answers call) q ≡ o → o ≡ None
+    none_left q none None at = refl
+    none_left q none (Some a) at =
+        let no : ◌≡◌ {A = Option Answer} None (Some a) = sym none ∙ left_was w.kernel.vfs.answers call q a at in
+        absurd (cc no)

@@ -1,0 +1,8 @@
+//! What no clause says: printed text, and that runs succeed.
+
+mod frames;
+mod growths;
+mod lines;
+mod many_calls;
+mod rows;
+mod want;

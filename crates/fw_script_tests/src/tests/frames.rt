@@ -1,0 +1,95 @@
+//! The command `frame`.
+
+use fw_script::run_frame;
+use std::test::Fail;
+
+#[derive(Drop)]
+struct Case {
+    hex: &'static str,
+    output: &'static str,
+    fault: &'static str,
+    status: u8,
+}
+
+/// A LOOKUP of `a` in node 1, and frames that are nearly one.
+const CASES: [Case; 9] = [
+    Case {
+        hex: "2a0000000100000004000000000000000100000000000000000000000000000000000000000000006100",
+        output: "LOOKUP 4 1 42\n",
+        fault: "",
+        status: 0,
+    },
+    Case {
+        hex: "2a00000001000000040000000000000001000000000000000000000000000000000000000000000061",
+        output: "fault 2 Length\n",
+        fault: "",
+        status: 0,
+    },
+    Case {
+        hex: "2900000001000000040000000000000001000000000000000000000000000000000000000000000061",
+        output: "fault 4 Name\n",
+        fault: "",
+        status: 0,
+    },
+    Case {
+        hex: "2a0000000100000004000000000000000100000000000000000000000000000000000000000000",
+        output: "fault 1 Short\n",
+        fault: "",
+        status: 0,
+    },
+    Case {
+        hex: "",
+        output: "",
+        fault: "bad hex\n",
+        status: 1,
+    },
+    Case {
+        hex: "2a0",
+        output: "",
+        fault: "bad hex\n",
+        status: 1,
+    },
+    Case {
+        hex: "2A",
+        output: "",
+        fault: "bad hex\n",
+        status: 1,
+    },
+    Case {
+        hex: "0x",
+        output: "",
+        fault: "bad hex\n",
+        status: 1,
+    },
+    Case {
+        hex: "-",
+        output: "",
+        fault: "bad hex\n",
+        status: 1,
+    },
+];
+
+#[test]
+fn reads_each_frame(rt: HostRuntime) -> Result<(), Fail> {
+    for case in &CASES {
+        let mut out = Vec::new(rt.alloc());
+        let mut faults = Vec::new(rt.alloc());
+        let status = run_frame(rt.alloc(), case.hex, &mut out, &mut faults);
+        assert_eq!(rt; status, case.status, "{}", case.hex);
+        assert!(rt; out.as_slice() == case.output.as_bytes(), "{}", case.hex);
+        assert!(rt; faults.as_slice() == case.fault.as_bytes(), "{}", case.hex);
+    }
+    Ok(())
+}
+
+#[test]
+fn frame_output_refused(rt: HostRuntime) -> Result<(), Fail> {
+    let mut room = [0u8; 13];
+    let mut out: &mut [u8] = &mut room;
+    let mut faults = Vec::new(rt.alloc());
+    let hex =
+        "2a0000000100000004000000000000000100000000000000000000000000000000000000000000006100";
+    assert_eq!(rt; run_frame(rt.alloc(), hex, &mut out, &mut faults), 5);
+    assert!(rt; faults.is_empty());
+    Ok(())
+}

@@ -1,0 +1,130 @@
+//! Each growth of each event of the scripts, refused in turn.
+
+use super::rows::{ROWS, Row};
+use fail_at::FailAt;
+use fw_script::{Line, RecordLine, read_line};
+use fw_world::{Event, Record, Refusal, WorldIn};
+use std::alloc::{Allocator, Global};
+use std::io::Write;
+use std::process::Abort;
+use std::test::Fail;
+
+/// Steps once, and again where a growth was refused. `NoMemory` comes only then, and the same event given again goes on.
+fn step<A: Allocator + Copy>(
+    rt: &impl Abort,
+    heap: &FailAt<Global>,
+    world: &mut WorldIn<A>,
+    event: &Event<'_>,
+) -> Record {
+    let before = heap.left();
+    let mut stepped = world.step(event);
+    if stepped == Err(Refusal::NoMemory) {
+        assert!(rt; before != 0 && heap.left() == 0, "{event:?}");
+        stepped = world.step(event);
+    }
+    match stepped {
+        Ok(outcome) => Record::Outcome(outcome),
+        Err(refusal) => Record::Refused(refusal),
+    }
+}
+
+/// The nodes of one side as they are printed.
+fn write_nodes(out: &mut Vec<u8>, side: &str, nodes: &[(u64, u64, u64)]) -> Result<(), Fail> {
+    write!(out, "{side}")?;
+    for (node, generation, count) in nodes {
+        write!(out, " {node}:{generation}:{count}")?;
+    }
+    writeln!(out)?;
+    Ok(())
+}
+
+/// Runs an event, and prints what it came to and what it answered.
+fn write_event<A: Allocator + Copy>(
+    rt: &impl Abort,
+    heap: &FailAt<Global>,
+    world: &mut WorldIn<A>,
+    event: &Event<'_>,
+    out: &mut Vec<u8>,
+) -> Result<(), Fail> {
+    let record = step(rt, heap, world, event);
+    writeln!(out, "{}", RecordLine(record))?;
+    for _ in 0..world.answered() {
+        if let Some((call, answer)) = world.collect() {
+            writeln!(out, "{}", RecordLine(Record::Answered { call, answer }))?;
+        }
+    }
+    Ok(())
+}
+
+/// Prints the nodes of both sides. No growth is refused meanwhile.
+fn write_both<A: Allocator + Copy>(
+    heap: &FailAt<Global>,
+    world: &WorldIn<A>,
+    out: &mut Vec<u8>,
+) -> Result<(), Fail> {
+    let left = heap.left();
+    heap.refuse(0);
+    write_nodes(out, "kernel", &world.kernel_nodes()?)?;
+    write_nodes(out, "server", &world.server_nodes()?)?;
+    heap.refuse(left);
+    Ok(())
+}
+
+/// Runs a script whose n-th growth is refused, and gives what it prints.
+fn printed<A: Allocator + Copy>(
+    rt: &impl Abort,
+    alloc: A,
+    heap: &FailAt<Global>,
+    outer: Global,
+    n: u64,
+    script: &str,
+) -> Result<Vec<u8>, Fail> {
+    let mut world = WorldIn::new(alloc)?;
+    let mut out = Vec::new(outer);
+    heap.refuse(n);
+    for line in script.lines() {
+        match read_line(line.as_bytes()) {
+            Ok(Line::Event(event)) => write_event(rt, heap, &mut world, &event, &mut out)?,
+            Ok(Line::Show) => write_both(heap, &world, &mut out)?,
+            Err(_) => {}
+        }
+    }
+    Ok(out)
+}
+
+/// Runs a script whose n-th growth is refused, and says whether one was. What it prints is the same.
+fn is_refused_at<A: Allocator + Copy>(
+    rt: &impl Abort,
+    alloc: A,
+    heap: &FailAt<Global>,
+    outer: Global,
+    n: u64,
+    row: &Row,
+) -> Result<bool, Fail> {
+    let out = printed(rt, alloc, heap, outer, n, row.script)?;
+    let is_refused = heap.left() == 0;
+    assert!(rt; out.as_slice() == row.output.as_bytes(), "{} {n}", row.name);
+    heap.refuse(0);
+    Ok(is_refused)
+}
+
+#[test]
+fn each_growth_of_each_row_refused(rt: HostRuntime) -> Result<(), Fail> {
+    let heap = FailAt::new(rt.alloc());
+    for row in &ROWS {
+        if row.hex {
+            continue;
+        }
+        let mut refused = 0;
+        for n in 1..4000u64 {
+            if !is_refused_at(&rt, &heap, &heap, rt.alloc(), n, row)? {
+                break;
+            }
+            refused = n;
+        }
+        assert!(rt; refused < 3999, "{}", row.name);
+        let mounts = row.script.contains("read p");
+        assert!(rt; !mounts || 9 < refused, "{} {refused}", row.name);
+    }
+    Ok(())
+}
