@@ -1,5 +1,5 @@
 -- What each call of the server does, and what it is refused for.
-use Rattle.std.specs.Prelude.{◌≡◌, ℕ, Bool, true, false, ◌||◌, cond, nat_eq, nat_lt, List, Option, Some, None}
+use Rattle.std.specs.Prelude.{◌≡◌, ◌<◌, ◌^◌, ℕ, Bool, true, false, ◌||◌, cond, nat_eq, nat_lt, List, Option, Some, None}
 use Rattle.fuse_spec.specs.Maps.{get}
 use Rattle.fuse_spec.specs.Numbers.{counter_end}
 use Rattle.fuse_spec.specs.Messages.{RequestBody, init, asks, forget, batch_forget, Request}
@@ -9,12 +9,12 @@ use Rattle.fuse_spec.specs.Nodes.{MayChoose}
 use Rattle.fuse_spec.specs.Performs.{served, files_given}
 use Rattle.fuse_spec.specs.Worlds.{Sent}
 use Rattle.fuse_spec.specs.Server.{Server, HeldRequest, Kept, Copy, RequestFault, unknown_node, too_many_forgets, repeated_unique, fault_of}
-use Rattle.fuse_spec.specs.Copies.{settled}
+use Rattle.fuse_spec.specs.Copies.{is_current, sent_again, settled}
 use Rattle.fuse_spec.specs.Taking.{taking}
 use Rattle.fuse_spec.specs.declared.Taken.{Taken}
 use Rattle.fuse_spec.specs.declared.ReplyResult.{ReplyResult}
 use Rattle.fuse_spec.specs.declared.Refusal.{Refusal}
-use Rattle.fuse_spec.specs.declared.Refusal.TheVariants.{NoSuch, Exhausted}
+use Rattle.fuse_spec.specs.declared.Refusal.TheVariants.{NoSuch, NoCopy, Exhausted}
 use Rattle.fuse_frames.specs.RequestTies.{SaysRequest}
 use Rattle.fs_server.specs.declared.server.ServerFault.{ServerFault}
 use Rattle.fs_server.specs.declared.server.ServerFault.TheVariants.{Wire, UnknownNode, TooManyForgets, RepeatedUnique, Memory}
@@ -96,3 +96,24 @@ pub record PerformsHeld (old : Server) (unique errno : ℕ) (copy : Sent) (new :
   pub served_so : served choice old unique held ≡ record { server = new; wire = copy.wire }
   pub copy_is : copy ≡ record { number = old.next_copy; unique = unique; wire = copy.wire }
   pub errno_is : errno ≡ errno_of copy.wire
+
+-- Why no copy of a kept reply can be sent, want of memory aside.
+pub data RefusesAgain (s : Server) (unique : ℕ) : Refusal → Type 0 where
+  not_kept : get s.kept unique ≡ None → RefusesAgain s unique NoCopy
+  not_current : (kept : Kept) → get s.kept unique ≡ Some kept → is_current s kept.wire ≡ false → RefusesAgain s unique NoCopy
+  no_number : (kept : Kept) → get s.kept unique ≡ Some kept → is_current s kept.wire ≡ true → is_past_end (sent_again s unique kept) ≡ true → RefusesAgain s unique Exhausted
+
+-- A reply is kept under this unique, each node that it names is still held under the same generation, and a copy number is left.
+pub record CanSendAgain (s : Server) (unique : ℕ) : Type 0 where
+  pub kept : Kept
+  pub there : get s.kept unique ≡ Some kept
+  pub current : is_current s kept.wire ≡ true
+  pub number : s.next_copy < 2 ^ 62
+
+-- One more copy of a kept reply is sent, and each node that it names has one lookup more.
+pub record SendsAgain (old : Server) (unique : ℕ) (copy : Sent) (new : Server) : Type 0 where
+  pub kept : Kept
+  pub there : get old.kept unique ≡ Some kept
+  pub current : is_current old kept.wire ≡ true
+  pub copy_is : copy ≡ record { number = old.next_copy; unique = unique; wire = kept.wire }
+  pub after : new ≡ sent_again old unique kept
