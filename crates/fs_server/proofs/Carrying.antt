@@ -233,7 +233,7 @@ any_past false false false true e h = refl
 any_past false false false false true h = refl
 any_past false false false false false h = elim h [ inl x ↦ absurd (true≢false (sym x)) | inr y ↦ elim y [ inl x ↦ absurd (true≢false (sym x)) | inr z ↦ elim z [ inl x ↦ absurd (true≢false (sym x)) | inr x ↦ absurd (true≢false (sym x)) ] ] ]
 
-over : (n : ℕ) → 2 ^ 62 ≤ n → nat_lt counter_end (n + 1) ≡ true
+pub over : (n : ℕ) → 2 ^ 62 ≤ n → nat_lt counter_end (n + 1) ≡ true
 over n le = lt-ltb counter_end (n + 1) (omega (arith, le))
 
 abbrev pub Past : Tree → NodeTable → Type 0
@@ -266,7 +266,7 @@ past_nodes s past =
     any_past (nat_lt counter_end s.tree.next_birth) (nat_lt counter_end s.tree.next_serial) (nat_lt counter_end s.nodes.next_generation) (nat_lt counter_end s.handles.next_fh) (nat_lt counter_end s.next_copy)
     (elim past [ inl a ↦ inl a | inr r ↦ elim r [ inl b ↦ inr (inl b) | inr c ↦ inr (inr (inl c)) ] ])
 
-past_copies : (s : Server) → nat_lt counter_end s.next_copy ≡ true → is_past_end s ≡ true
+pub past_copies : (s : Server) → nat_lt counter_end s.next_copy ≡ true → is_past_end s ≡ true
 past_copies s past =
     any_past (nat_lt counter_end s.tree.next_birth) (nat_lt counter_end s.tree.next_serial) (nat_lt counter_end s.nodes.next_generation) (nat_lt counter_end s.handles.next_fh) (nat_lt counter_end s.next_copy)
     (inr (inr (inr past)))

@@ -7,3 +7,4 @@ pub mod Sending
 pub mod Forgets
 pub mod Settled
 pub mod Frames
+pub mod SentAgain

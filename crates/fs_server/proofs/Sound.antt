@@ -1,4 +1,4 @@
--- The server is sound at first, and stays it as requests are taken and performed, and copies are settled.
+-- The server is sound at first, and stays it as requests are taken and performed, and copies are sent again and settled.
 use Rattle.std.proofs.Common.{◌≡◌, ◌≢◌, ℕ, ◌+◌, true, true≢false, Option, Some, None, [], refl, sym, ap, subst, ◌∙◌, arith, inl, inr}
 use Rattle.std.specs.Prelude.{is_some}
 use Rattle.std.proofs.lemmas.Bool.{cases_eq}
@@ -45,6 +45,12 @@ module _ {V W X : Type 0} (held : Map V) (kept : Map W) (copies : Map X) (coming
       | inl e ↦ absurd (still (subst (λ (m : ℕ). get (remove held unique) m ≡ None) (sym e) (get_gone_here held unique)))
       | inr ne ↦ get_put_there kept unique w n ne ∙ old.apart n (λ none. still (gone_none held unique n none))
     ];
+    copies_below = λ n le. get_put_there copies coming x n (λ e. absurd (omega arith)) ∙ old.copies_below n (omega arith);
+  }
+
+  pub apart_again : (x : X) → AreApart held kept (put copies coming x) (coming + 1)
+  apart_again x = record {
+    apart = old.apart;
     copies_below = λ n le. get_put_there copies coming x n (λ e. absurd (omega arith)) ∙ old.copies_below n (omega arith);
   }
 

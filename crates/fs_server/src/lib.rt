@@ -1,6 +1,7 @@
 //! The server's half of the protocol, against any frames.
 #![tactic(auto)]
 
+mod again;
 mod held;
 mod nodes;
 mod performing;

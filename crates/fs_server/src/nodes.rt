@@ -2,7 +2,7 @@
 
 ghost use Rattle.std.specs.Prelude.{◌≡◌, ◌+◌, ◌^◌, ◌<◌, ◌≤◌, ℕ, [], true, false, Some, OnOk, IfOk, is_some};
 ghost use Rattle.fuse_spec.specs.Maps.{get};
-ghost use Rattle.fuse_spec.specs.Nodes.{HeldNode, row_of, file_of, is_held, given, taken_back, MayName, IsUnheld};
+ghost use Rattle.fuse_spec.specs.Nodes.{HeldNode, row_of, file_of, is_held, given, row_more, taken_back, MayName, IsUnheld};
 ghost use Rattle.fuse_spec.specs.Server.{count_in, generation_in, is_known};
 ghost use Rattle.fuse_spec.specs.Copies.{row_back};
 ghost use Rattle.fs_nodes.specs.Rows.{listed};
@@ -135,6 +135,18 @@ impl<S: NodeStore> Nodes<S> {
     {
         self.store.keeps_sound();
         self.store.give(file)
+    }
+
+    /// Counts one lookup more of a node, if it is held. The root has no count.
+    pub(crate) fn count_again(&mut self, id: u64)
+        requires { (id : ℕ) (row : HeldNode) → get self.old.table.rows id ≡ Some row → row.count + 1 < 2 ^ 64 }
+        ensures { self.new.table ≡ row_more self.old.table id }
+    {
+        self.store.keeps_sound();
+        let Some(file) = self.store.file_of(id) else {
+            return;
+        };
+        let _again = self.store.give(file);
     }
 
     /// Gives so many lookups of a node back, if it is held; it has as many.

@@ -4,22 +4,17 @@ ghost use Rattle.std.specs.Prelude.{◌≡◌, ◌≤◌, ◌<◌, ◌^◌, ◌�
 ghost use Rattle.fuse_spec.specs.Nodes.{IsUnheld};
 ghost use Rattle.fuse_spec.specs.declared.Refusal.TheVariants.{NoMemory};
 ghost use Rattle.fs_server.specs.Effects.{PerformsHeld, RefusesHeld};
-ghost use Rattle.fs_server.specs.Steps.{CanPerform, CarriesOut, Gives, HasNumbers, IsPossible, AreCounted, IsSendable, IsSendableFrom, TellsNode};
-ghost use Rattle.fs_server.specs.Values.{wire_of};
+ghost use Rattle.fs_server.specs.Steps.{CanPerform, CarriesOut, Gives, HasNumbers, IsPossible, AreCounted, IsSendableFrom, TellsNode};
 
 use crate::nodes::Nodes;
 use crate::replies::{KeptReply, SentCopy, SentReply};
-use crate::server::{Done, Server};
+use crate::server::{COUNTER_END, Done, Server};
 use crate::steps::{Step, has_numbers, step_for};
-use fk_wire::{InitFlags, Opcode};
 use fs_nodes::NodeStore;
 use fs_tree::Tree;
-use fuse_frames::{ReplyCopy, ReplyRoom};
+use fuse_frames::ReplyRoom;
 use fuse_spec::{Entry, Refusal};
 use std::alloc::{AllocError, Allocator};
-
-/// No counter gives a number from here on.
-const COUNTER_END: u64 = 0x4000_0000_0000_0000;
 
 impl<A: Allocator + Copy> Server<A> {
     /// Why a held request cannot be performed, want of memory aside: `NoSuch` where none is held under the unique, `Exhausted`
@@ -78,9 +73,10 @@ impl<A: Allocator + Copy> Server<A> {
         else {
             return Err(Refusal::NoMemory);
         };
-        let copy = framed(room, number, unique, held.opcode(), held.flags(), &reply);
+        let kept = KeptReply::new(reply, number, held.opcode(), held.flags());
+        let copy = kept.framed(room, number, unique);
         let _held = self.held.remove(unique);
-        self.kept.put(unique, KeptReply::new(reply, number));
+        self.kept.put(unique, kept);
         self.copies
             .put(number, SentCopy::new(unique, reply, number));
         self.next_copy = number + 1;
@@ -140,27 +136,4 @@ fn give<A: Allocator + Copy, S: NodeStore>(
         attributes,
     };
     SentReply::Found { entry, found_ms }
-}
-
-/// The first copy of a reply.
-fn framed<A: Allocator>(
-    room: ReplyRoom<A>,
-    number: u64,
-    unique: u64,
-    opcode: Opcode,
-    flags: InitFlags,
-    reply: &SentReply,
-) -> ReplyCopy<A>
-    requires { IsSendable opcode reply.now }
-    ensures { result ≡ record { number = number; unique = unique; wire = wire_of reply.now } }
-{
-    match reply {
-        SentReply::Agreed => room.agreed(number, unique, flags),
-        SentReply::Missing { missing_ms } => room.missing(number, unique, *missing_ms),
-        SentReply::Found { entry, found_ms } => {
-            room.found(number, unique, opcode, entry, *found_ms)
-        }
-        SentReply::Attributes(attributes) => room.attributes(number, unique, attributes),
-        SentReply::Failed { errno } => room.failed(number, unique, opcode, *errno),
-    }
 }

@@ -1,9 +1,13 @@
 //! Replies that are kept, and copies of them.
 
 ghost use Rattle.std.specs.Prelude.{◌≡◌};
+ghost use Rattle.fs_server.specs.Steps.{IsSendable};
 ghost use Rattle.fs_server.specs.Values.{wire_of, entry_of};
 
+use fk_wire::{InitFlags, Opcode};
+use fuse_frames::{ReplyCopy, ReplyRoom};
 use fuse_spec::{Attributes, Entry};
+use std::alloc::Allocator;
 use std::marker::Model;
 
 /// What a reply says, as far as it is sent so far.
@@ -42,16 +46,20 @@ impl SentReply {
     }
 }
 
-/// A reply that is kept until one of its copies is settled.
+/// A reply that is kept until one of its copies is settled, with what else its frame tells: the opcode of its request, and the flags
+/// of an INIT.
 #[derive(Drop)]
 pub(crate) struct KeptReply {
     reply: SentReply,
     first: u64,
+    opcode: Opcode,
+    flags: InitFlags,
 }
 
 impl Model for KeptReply {
     ghost use Rattle.std.specs.Coded.{codes};
     ghost use Rattle.fuse_spec.specs.Server.{Kept};
+    ghost use Rattle.fs_server.specs.Steps.{IsSendable};
     ghost use Rattle.fs_server.specs.Values.{wire_of};
 
     ghost Value = { Kept };
@@ -59,14 +67,29 @@ impl Model for KeptReply {
     ghost coded = { Prim.hlevel (codes) };
 
     ghost view = { λ k. record { wire = wire_of k.reply; first = k.first } };
+
+    ghost invariant = { λ k. IsSendable k.opcode k.reply };
 }
 
 impl KeptReply {
-    /// A reply whose first copy has this number.
-    pub(crate) fn new(reply: SentReply, first: u64) -> Self
+    /// A reply to a request of this opcode, whose first copy has this number.
+    pub(crate) fn new(reply: SentReply, first: u64, opcode: Opcode, flags: InitFlags) -> Self
+        requires { IsSendable opcode reply }
         ensures { result ≡ record { wire = wire_of reply; first = first } }
     {
-        KeptReply { reply, first }
+        KeptReply {
+            reply,
+            first,
+            opcode,
+            flags,
+        }
+    }
+
+    /// What it says.
+    pub(crate) fn reply(&self) -> SentReply
+        ensures { self.now.wire ≡ wire_of result }
+    {
+        self.reply
     }
 
     /// The number of its first copy.
@@ -74,6 +97,26 @@ impl KeptReply {
         ensures { result ≡ self.now.first }
     {
         self.first
+    }
+
+    /// A copy of it, in its frame.
+    pub(crate) fn framed<A: Allocator>(
+        &self,
+        room: ReplyRoom<A>,
+        number: u64,
+        unique: u64,
+    ) -> ReplyCopy<A>
+        ensures { result ≡ record { number = number; unique = unique; wire = self.now.wire } }
+    {
+        match &self.reply {
+            SentReply::Agreed => room.agreed(number, unique, self.flags),
+            SentReply::Missing { missing_ms } => room.missing(number, unique, *missing_ms),
+            SentReply::Found { entry, found_ms } => {
+                room.found(number, unique, self.opcode, entry, *found_ms)
+            }
+            SentReply::Attributes(attributes) => room.attributes(number, unique, attributes),
+            SentReply::Failed { errno } => room.failed(number, unique, self.opcode, *errno),
+        }
     }
 }
 

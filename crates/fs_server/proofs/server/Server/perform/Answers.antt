@@ -20,7 +20,7 @@ invariant_of-self-2 g c =
     let fit = fit_after s.tree s.nodes.table _ s.next_copy _ _ _ _ _ out c.self.invariant.files (possible s.tree s.nodes.table s.validity c.keeps_shape.ensures h) numbers in
     rw (c.remove-held.ensures.entries, c.put.ensures.entries, c.in-Ok.ensures.entries, c.put-2.ensures.entries, c.in-Ok-reserve.ensures.entries)
     (record {
-      requests = apart_performed s.held.entries s.kept.entries s.copies.entries s.next_copy c.self.invariant.requests c.args.unique c.new-2.result c.new-3.result;
+      requests = apart_performed s.held.entries s.kept.entries s.copies.entries s.next_copy c.self.invariant.requests c.args.unique c.new-kept.result c.new-2.result;
       files = fit;
       numbers = let low = can.copy in omega (arith, low);
       found_day = c.self.invariant.found_day;
@@ -35,5 +35,5 @@ returns-clause-performed g c =
     let able = c.step_for-step.ensures.holdable in
     let out = rw (c.step_for-step.ensures.step, c.name.ensures, c.in-Ok-reserve-2.ensures.table) at c.in-Ok-carry_out.ensures.effect in
     let all = performs s.tree s.nodes.table s.held.entries s.kept.entries s.copies.entries s.next_copy s.validity c.args.unique h there able.unmarked able.body c.self.invariant.files.named
-    c.carry_out.new.tree c.carry_out.new.nodes.table c.in-Ok-carry_out.reply out c.framed-copy.result c.errno-errno.result c.framed-copy.ensures c.errno-errno.ensures in
-    rw (← c.self.view_is, c.remove-held.ensures.entries, c.put.ensures.entries, c.in-Ok.ensures.entries, c.put-2.ensures.entries, c.in-Ok-reserve.ensures.entries, c.new-2.ensures, c.new-3.ensures) all
+    c.carry_out.new.tree c.carry_out.new.nodes.table c.in-Ok-carry_out.reply out c.framed-copy.result c.errno-errno.result (rw c.new-kept.ensures at c.framed-copy.ensures) c.errno-errno.ensures in
+    rw (← c.self.view_is, c.remove-held.ensures.entries, c.put.ensures.entries, c.in-Ok.ensures.entries, c.put-2.ensures.entries, c.in-Ok-reserve.ensures.entries, c.new-kept.ensures, c.new-2.ensures) all

@@ -1,0 +1,37 @@
+use Rattle.std.proofs.Common.{rules, ◌≡◌, Some, None, sym, ◌∙◌}
+use Rattle.fuse_spec.specs.Maps.{get}
+use Rattle.fs_server.specs.Effects.{not_kept}
+use Rattle.fs_server.proofs.SentAgain.{names_gone, without_number, can_send}
+use Rattle.fs_server.proofs.server.Server.again_refusal.Goals as goal
+
+pub returns-in_default-clause-refuses : goal.returns-in_default-clause-refuses
+returns-in_default-clause-refuses g c =
+    let s = c.self.inside in
+    let none : get s.kept.entries c.args.unique ≡ None = search rules in
+    rw (← c.self.view_is) (not_kept none)
+
+pub returns-then-not-is_current-clause-refuses : goal.returns-then-not-is_current-clause-refuses
+returns-then-not-is_current-clause-refuses g c =
+    let s = c.self.inside in
+    let k = c.in-Some.kept.now in
+    let there : get s.kept.entries c.args.unique ≡ Some k = search rules in
+    rw (← c.self.view_is)
+    (names_gone s.tree s.nodes.table s.held.entries s.kept.entries s.copies.entries s.next_copy s.validity c.args.unique k there c.reply-reply.result c.reply-reply.ensures (sym c.is_current.ensures ∙ c.if-not-is_current.true))
+
+pub returns-then-self-ge-COUNTER_END-clause-refuses : goal.returns-then-self-ge-COUNTER_END-clause-refuses
+returns-then-self-ge-COUNTER_END-clause-refuses g c =
+    let s = c.self.inside in
+    let k = c.in-Some.kept.now in
+    let there : get s.kept.entries c.args.unique ≡ Some k = search rules in
+    rw (← c.self.view_is)
+    (without_number s.tree s.nodes.table s.held.entries s.kept.entries s.copies.entries s.next_copy s.validity c.args.unique k there c.reply-reply.result c.reply-reply.ensures (sym c.is_current.ensures ∙ c.if-not-is_current.false)
+    c.if-self-ge-COUNTER_END.true)
+
+pub returns-clause-none : goal.returns-clause-none
+returns-clause-none g c =
+    let s = c.self.inside in
+    let k = c.in-Some.kept.now in
+    let there : get s.kept.entries c.args.unique ≡ Some k = search rules in
+    rw (← c.self.view_is)
+    (can_send s.tree s.nodes.table s.held.entries s.kept.entries s.copies.entries s.next_copy s.validity c.args.unique k there c.reply-reply.result c.reply-reply.ensures (sym c.is_current.ensures ∙ c.if-not-is_current.false)
+    c.if-self-ge-COUNTER_END.false)
