@@ -1,6 +1,5 @@
 -- One more copy of a kept reply is sent.
 use Rattle.std.proofs.Common.{◌≡◌, ℕ, ◌+◌, ◌≤◌, ◌<◌, ◌^◌, Bool, true, false, ◌&&◌, Option, Some, None, refl, sym, ap, subst, ◌∙◌, arith, inl, inr}
-use Rattle.std.specs.Prelude.{MatchOption}
 use Rattle.std.specs.List.{list_all}
 use Rattle.std.proofs.lemmas.Bool.{cases_eq}
 use Rattle.std.proofs.lemmas.Option.{same_Some}
@@ -9,32 +8,18 @@ use Rattle.fuse_spec.specs.declared.Entry.{Entry}
 use Rattle.fuse_spec.specs.declared.Refusal.TheVariants.{NoCopy, Exhausted}
 use Rattle.fuse_spec.specs.declared.Validity.{Validity}
 use Rattle.fuse_spec.specs.Operations.{files_in_reply}
-use Rattle.fuse_spec.specs.Nodes.{HeldNode, NodeTable, MayName, IsUnheld, given, given_row, generation_after, is_held, row_more, rows_more}
+use Rattle.fuse_spec.specs.Nodes.{HeldNode, NodeTable, is_held, row_more, rows_more}
 use Rattle.fuse_spec.specs.Trees.{Tree}
 use Rattle.fuse_spec.specs.Server.{Server, HeldRequest, Kept, Copy}
 use Rattle.fuse_spec.specs.Copies.{is_current, rows_counted, sent_again}
 use Rattle.fuse_spec.specs.Worlds.{Sent}
 use Rattle.fuse_spec.proofs.Tables.{get_put_here, get_put_there}
-use Rattle.fs_nodes.specs.Sound.{IsSound}
 use Rattle.fs_server.specs.declared.replies.SentReply.{SentReply}
 use Rattle.fs_server.specs.declared.replies.SentReply.TheVariants.{Agreed, Missing, Found, Attributes, Failed}
 use Rattle.fs_server.specs.Values.{server_with, wire_of}
 use Rattle.fs_server.specs.Sound.{FitNodes}
 use Rattle.fs_server.specs.Effects.{RefusesAgain, not_current, no_number, CanSendAgain, SendsAgain}
 use Rattle.fs_server.proofs.Carrying.{over, past_copies}
-
--- Giving the file of a held node counts one lookup more of that node.
-pub given_again : (t : NodeTable) (file id other : ℕ) (row : HeldNode) → IsSound t → get t.rows id ≡ Some row → row.file ≡ file → MayName t file other → given t file other ≡ row_more t id
-given_again t file id other row sound there of may = by (get t.rows other) refl may
-  where
-    at : (same : HeldNode) → get t.rows other ≡ Some same → id ≡ other → given t file other ≡ row_more t id
-    at same e is =
-        ap (λ (o : Option HeldNode). record { rows = put t.rows other (given_row t file o); next_generation = generation_after t o }) e
-        ∙ sym (ap (λ (k : ℕ). record t { rows = rows_more t.rows k (get t.rows k) }) is ∙ ap (λ (o : Option HeldNode). record t { rows = rows_more t.rows other o }) e)
-
-    by : (o : Option HeldNode) → get t.rows other ≡ o → MatchOption o ((2 ≤ other) × IsUnheld t file) (λ r. r.file ≡ file) → given t file other ≡ row_more t id
-    by None e m = absurd (m.1 id row there of)
-    by (Some same) e m = at same e (sound.one_each id other row same there e (of ∙ sym m))
 
 -- each node was there, of the same file, with one lookup less at least
 pub record Counted (t new : NodeTable) : Type 0 where

@@ -6,6 +6,7 @@ ghost use Rattle.fuse_spec.specs.Nodes.{HeldNode, row_of, file_of, is_held, give
 ghost use Rattle.fuse_spec.specs.Server.{count_in, generation_in, is_known};
 ghost use Rattle.fuse_spec.specs.Copies.{row_back};
 ghost use Rattle.fs_nodes.specs.Rows.{listed};
+ghost use Rattle.fs_server.specs.Steps.{AreCounted};
 ghost use Rattle.fs_server.specs.Values.{no_nodes};
 
 use crate::held::NamedNode;
@@ -139,14 +140,14 @@ impl<S: NodeStore> Nodes<S> {
 
     /// Counts one lookup more of a node, if it is held. The root has no count.
     pub(crate) fn count_again(&mut self, id: u64)
-        requires { (id : ℕ) (row : HeldNode) → get self.old.table.rows id ≡ Some row → row.count + 1 < 2 ^ 64 }
+        requires { AreCounted (2 ^ 62) self.old.table }
         ensures { self.new.table ≡ row_more self.old.table id }
     {
         self.store.keeps_sound();
         let Some(file) = self.store.file_of(id) else {
             return;
         };
-        let _again = self.store.give(file);
+        self.store.give(file);
     }
 
     /// Gives so many lookups of a node back, if it is held; it has as many.

@@ -1,6 +1,7 @@
 use Rattle.std.proofs.Common.{rules, ◌≡◌, Some, arith}
 use Rattle.fuse_spec.specs.Maps.{get}
 use Rattle.fs_server.proofs.Carrying.{possible, performs, numbers_of, fit_after}
+use Rattle.fs_server.proofs.Sending.{fits, sendable}
 use Rattle.fs_server.proofs.Sound.{apart_performed}
 use Rattle.fs_server.proofs.server.Server.perform.Goals as goal
 
@@ -8,6 +9,14 @@ pub carry_out-requires-clause-possible : goal.carry_out-requires-clause-possible
 carry_out-requires-clause-possible g c =
     let s = c.self.inside in
     rw (c.step_for-step.ensures.step, c.name.ensures) (possible s.tree c.reserve-3.new.self.table s.validity c.keeps_shape.ensures c.in-Some-get.held.now)
+
+pub new-kept-requires : goal.new-kept-requires
+new-kept-requires g c =
+    let s = c.self.inside in
+    let h = c.in-Some-get.held.now in
+    let fit = fits s.tree c.reserve-3.new.self.table s.validity c.self.invariant.missing_day h in
+    let from = rw c.step_for-step.ensures.step at c.in-Ok-carry_out.ensures.sendable in
+    rw c.opcode.ensures (sendable _ _ s.validity.found_ms c.in-Ok-carry_out.reply fit from c.self.invariant.found_day)
 
 pub invariant_of-self-2 : goal.invariant_of-self-2
 invariant_of-self-2 g c =
