@@ -1,5 +1,6 @@
 //! What no clause says: printed text, and that runs succeed.
 
+mod copies;
 mod frames;
 mod growths;
 mod lines;

@@ -14,13 +14,14 @@ use Rattle.fuse_spec.specs.Messages.{Forget, Request}
 use Rattle.fuse_spec.specs.Kernel.{Kernel, is_live, is_pinned, is_bound, call_begun}
 use Rattle.fuse_spec.specs.QueueCalls.{pending_at, first_forgets, after_read_forgets}
 use Rattle.fuse_spec.specs.Replies.{reply_written}
-use Rattle.fuse_spec.specs.Server.{HeldRequest, Copy}
+use Rattle.fuse_spec.specs.Server.{HeldRequest, Kept, Copy}
+use Rattle.fuse_spec.specs.Copies.{is_current}
 use Rattle.fuse_spec.specs.Taking.{taking}
 use Rattle.fuse_spec.specs.Performs.{PerformResult, served}
-use Rattle.fuse_spec.specs.Worlds.{World, Sent, after_mount, after_call, after_read_pending, after_read_forgets as after_forgets, after_take, after_perform, after_write, after_settle, after_tick, after_drop, after_evict}
+use Rattle.fuse_spec.specs.Worlds.{World, Sent, after_mount, after_call, after_read_pending, after_read_forgets as after_forgets, after_take, after_perform, after_again, after_write, after_settle, after_tick, after_drop, after_evict}
 use Rattle.fuse_spec.specs.Events.{Event, Outcome}
 use Rattle.fuse_spec.specs.Events as event
-use Rattle.fuse_spec.specs.Steps.{Stepped, going, is_past, is_busy, is_ready, unless, reading_pending, reading_forgets, taking_request, performing_held, writing_copy, settling, dropping, evicting, MayStep, Happens}
+use Rattle.fuse_spec.specs.Steps.{Stepped, going, is_past, is_busy, is_ready, unless, reading_pending, reading_forgets, taking_request, performing_held, sending_again, writing_copy, settling, dropping, evicting, MayStep, Happens}
 use Rattle.fk_kernel.specs.Refused.{begin_refusal, mount_refusal, read_refusal, place_refusal, is_past_end, IsPendingRequest}
 use Rattle.fk_kernel.specs.RefusedUpkeep.{read_forgets_refusal, forgets_refusal, tick_refusal, name_refusal, drop_refusal, counted_refusal, evict_refusal}
 
@@ -78,6 +79,13 @@ pub performs : (choice : ℕ → ℕ) (w : World) (unique : ℕ) (held : HeldReq
 performs choice w unique held there may did is within =
     let outcome = event.performed unique (errno_of did.wire) w.server.aborted in
     (choice, may, ap (performing_held choice w unique) there ∙ ap (λ (d : PerformResult). going (event.performed unique (errno_of d.wire) w.server.aborted) (after_perform w unique d)) is ∙ accepted outcome (after_perform w unique did) within)
+
+pub sends_again : (w : World) (unique : ℕ) (kept : Kept) → get w.server.kept unique ≡ Some kept → is_current w.server kept.wire ≡ true → is_past (after_again w unique kept) ≡ false
+    → Happens w (event.again unique) (event.sent_again unique) (after_again w unique kept)
+sends_again w unique kept there current within =
+    let outcome = event.sent_again unique in
+    let after = after_again w unique kept in
+    (any_id, tt, ap (sending_again w unique) there ∙ ap (λ (b : Bool). unless (not b) refusal.NoCopy (going outcome after)) current ∙ accepted outcome after within)
 
 pub writes : (w : World) (place : ℕ) (sent : Sent) (took : WriteResult × Kernel) → slice_get w.replies place ≡ Some sent → reply_written w.kernel sent.unique sent.wire ≡ took → is_past (after_write w place sent took) ≡ false
     → Happens w (event.write place) (event.written sent.unique took.0) (after_write w place sent took)

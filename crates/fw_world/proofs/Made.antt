@@ -23,7 +23,7 @@ use Rattle.fuse_spec.specs.Taking.{TakeResult, taking}
 use Rattle.fuse_spec.specs.Performs.{PerformResult}
 use Rattle.fuse_spec.specs.Vfs.{later}
 use Rattle.fuse_spec.specs.Worlds as worlds
-use Rattle.fuse_spec.specs.Worlds.{World, Sent, replying, forget_body, after_mount, after_call, after_take, after_perform, after_write, after_settle, after_tick, after_drop, after_evict}
+use Rattle.fuse_spec.specs.Worlds.{World, Sent, replying, forget_body, after_mount, after_call, after_take, after_perform, after_again, after_write, after_settle, after_tick, after_drop, after_evict}
 use Rattle.fuse_spec.specs.Events.{Event, Outcome}
 use Rattle.fuse_spec.specs.Events as event
 use Rattle.fuse_spec.specs.Steps.{Happens, is_past, MayChooseFor}
@@ -33,11 +33,11 @@ use Rattle.fuse_theorem.specs.Reached.{IsReached}
 use Rattle.fuse_theorem.proofs.ReachedWorlds.{reached_next}
 use Rattle.fuse_theorem.proofs.Queuing.{All-at, All-without}
 use Rattle.fk_kernel.specs.Refused.{mount_refusal, begin_refusal, read_refusal, IsPendingRequest, IsAskedSoFar}
-use Rattle.fs_server.specs.Effects.{is_served, TakesFrame, PerformsHeld, Settles}
+use Rattle.fs_server.specs.Effects.{is_served, TakesFrame, PerformsHeld, SendsAgain, Settles}
 use Rattle.fk_kernel.specs.RefusedUpkeep.{read_forgets_refusal, tick_refusal, drop_refusal, evict_refusal, IsForgetFrame}
 use Rattle.fw_world.specs.Sound.{IsSound}
 use Rattle.fw_world.proofs.Parts.{world_of, is_made, happens_so}
-use Rattle.fw_world.proofs.Happening.{mounts, calls, reads, reads_forgets, takes, performs, writes, settles, ticks, drops, evicts}
+use Rattle.fw_world.proofs.Happening.{mounts, calls, reads, reads_forgets, takes, performs, sends_again, writes, settles, ticks, drops, evicts}
 
 pub day_at_most : (found_ms missing_ms : ℕ) → found_ms ≤ max_validity → missing_ms ≤ max_validity → nat_lt max_validity (max found_ms missing_ms) ≡ false
 day_at_most found_ms missing_ms f m = le-ltb max_validity (max found_ms missing_ms) (omega (arith, f, m))
@@ -158,6 +158,12 @@ module _ (w : World) (sound : IsSound w) (kernel : Kernel) (server : Server) (re
       let may = subst (MayChooseFor does.choice w) (sym does.there) does.may in
       subst (Made (event.perform unique)) outcome_is
       (made_by (event.perform unique) (event.performed unique (errno_of copy.wire) w.server.aborted) (after_perform w unique did) is (performs does.choice w unique does.held does.there may did does.served_so past) (same_sent a))
+
+  pub copied : (unique : ℕ) (copy : Sent) → SendsAgain w.server unique copy server → kernel ≡ w.kernel → requests ≡ w.requests → replies ≡ w.replies ++ copy ∷ [] → results ≡ w.results → Within → Made (event.again unique) (event.sent_again unique)
+  copied unique copy does k a b c within =
+      let after = after_again w unique does.kept in
+      made_by (event.again unique) (event.sent_again unique) after (is_made after kernel server requests replies results k does.after a (b ∙ ap (λ (x : Sent). w.replies ++ x ∷ []) does.copy_is) c)
+      (sends_again w unique does.kept does.there does.current (within after (sym k) (sym does.after))) (same_sent a)
 
   pub wrote : (place : ℕ) (sent : Sent) (result : WriteResult) → slice_get w.replies place ≡ Some sent → reply_written w.kernel sent.unique sent.wire ≡ (result, kernel) → server ≡ w.server → requests ≡ w.requests → replies ≡ without w.replies place
       → results ≡ w.results ++ record { number = sent.number; unique = sent.unique; result = result } ∷ [] → Within → Made (event.write place) (event.written sent.unique result)

@@ -15,13 +15,14 @@ use Rattle.fuse_spec.specs.Kernel.{Kernel, is_live, is_pinned, is_bound, body_of
 use Rattle.fuse_spec.specs.Nodes.{MayChoose}
 use Rattle.fuse_spec.specs.QueueCalls.{pending_at, first_forgets, after_read_forgets}
 use Rattle.fuse_spec.specs.Replies.{reply_written}
-use Rattle.fuse_spec.specs.Server.{Server, HeldRequest, Copy, RequestFault, fault_of}
+use Rattle.fuse_spec.specs.Server.{Server, HeldRequest, Kept, Copy, RequestFault, fault_of}
+use Rattle.fuse_spec.specs.Copies.{is_current}
 use Rattle.fuse_spec.specs.Performs.{served, files_given}
 use Rattle.fuse_spec.specs.Worlds as worlds
-use Rattle.fuse_spec.specs.Worlds.{World, Sent, after_mount, after_call, after_perform, after_write, after_tick, after_drop}
+use Rattle.fuse_spec.specs.Worlds.{World, Sent, after_mount, after_call, after_perform, after_again, after_write, after_tick, after_drop}
 use Rattle.fuse_spec.specs.Events.{Event, Outcome}
 use Rattle.fuse_spec.specs.Events as event
-use Rattle.fuse_spec.specs.Steps.{Stepped, going, is_past, is_busy, is_ready, unless, reading_body, reading_pending, reading_forgets, taking_request, performing_held, writing_copy, settling, dropping, evicting, MayChooseFor, IsRefused, RefusedWith}
+use Rattle.fuse_spec.specs.Steps.{Stepped, going, is_past, is_busy, is_ready, unless, reading_body, reading_pending, reading_forgets, taking_request, performing_held, sending_again, writing_copy, settling, dropping, evicting, MayChooseFor, IsRefused, RefusedWith}
 use Rattle.std.specs.Prelude.{◌⊎◌, Result, IfErr, IfSome}
 use Rattle.std.specs.Option.{unwrap_or}
 use Rattle.fuse_frames.specs.RequestTies.{IsRequestFrame}
@@ -35,7 +36,7 @@ use Rattle.fk_kernel.specs.Refused as kernel
 use Rattle.fs_server.specs.Effects as server
 use Rattle.fw_world.specs.Sound.{IsSound}
 use Rattle.fk_kernel.specs.RefusedUpkeep.{read_forgets_refusal, forgets_refusal, tick_refusal, name_refusal, drop_refusal, counted_refusal, evict_refusal}
-use Rattle.fs_server.specs.Effects.{RefusesHeld, not_held, exhausted, is_served, RefusesFrame}
+use Rattle.fs_server.specs.Effects.{RefusesHeld, not_held, exhausted, RefusesAgain, not_kept, not_current, no_number, is_served, RefusesFrame}
 use Rattle.fw_world.proofs.Counters.{server_past, as_judged, some_past}
 
 -- a refusal that the kernel gave
@@ -168,14 +169,29 @@ pub refused_with : {X : Type 0} (w : World) (e : Event) (r : Result X Refusal) �
 refused_with w e (Ok x) h = tt
 refused_with w e (Err refusal) h = inl h
 
--- what the server judges, or else want of memory
-pub perform_judged : (w : World) (unique : ℕ) (judged : Option Refusal) (given : Refusal) → IfSome judged (RefusesHeld w.server unique) → given ≡ unwrap_or judged refusal.NoMemory → RefusedWith w (event.perform unique) given
-perform_judged w unique None given refuses is = inr is
-perform_judged w unique (Some r) given refuses is = inl (subst (IsRefused w (event.perform unique)) (sym is) (perform_refused w unique r refuses))
+-- What the server refuses, the machine refuses.
+module _ (w : World) (e : Event) (Refuses : Refusal → Type 0) (refused : (r : Refusal) → Refuses r → IsRefused w e r) where
+  -- what the server judges, or else want of memory
+  pub judged_or_memory : (judged : Option Refusal) (given : Refusal) → IfSome judged Refuses → given ≡ unwrap_or judged refusal.NoMemory → RefusedWith w e given
+  judged_or_memory None given refuses is = inr is
+  judged_or_memory (Some r) given refuses is = inl (subst (IsRefused w e) (sym is) (refused r refuses))
 
-pub perform_or_memory : (w : World) (unique : ℕ) (given : Refusal) → RefusesHeld w.server unique given ⊎ (given ≡ refusal.NoMemory) → RefusedWith w (event.perform unique) given
-perform_or_memory w unique given (inl refuses) = inl (perform_refused w unique given refuses)
-perform_or_memory w unique given (inr is) = inr is
+  pub refused_or_memory : (given : Refusal) → Refuses given ⊎ (given ≡ refusal.NoMemory) → RefusedWith w e given
+  refused_or_memory given (inl refuses) = inl (refused given refuses)
+  refused_or_memory given (inr is) = inr is
+
+-- ---- one more copy
+
+pub again_refused : (w : World) (unique : ℕ) (r : Refusal) → RefusesAgain w.server unique r → IsRefused w (event.again unique) r
+again_refused w unique r (not_kept none) choice may = ap (sending_again w unique) none
+again_refused w unique r (not_current kept there stale) choice may =
+    ap (sending_again w unique) there ∙ ap (λ (b : Bool). unless (not b) refusal.NoCopy (going (event.sent_again unique) (after_again w unique kept))) stale
+again_refused w unique r (no_number kept there current past) choice may =
+    let outcome = event.sent_again unique in
+    let after = after_again w unique kept in
+    let over : server_past after.server ≡ true = sym (as_judged after.server) ∙ past in
+    ap (sending_again w unique) there ∙ ap (λ (b : Bool). unless (not b) refusal.NoCopy (going outcome after)) current
+    ∙ is_exhausted outcome after (past_by_server (nat_lt counter_end after.kernel.queues.next) (nat_lt counter_end after.kernel.vfs.next_call) (server_past after.server) over)
 
 -- ---- a copy written
 

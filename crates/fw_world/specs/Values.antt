@@ -9,7 +9,7 @@ use Rattle.fuse_spec.specs.Events as event
 use Rattle.fuse_spec.specs.Records as record_of_run
 use Rattle.fk_syscalls.specs.Values.{call_of, answer_of}
 use Rattle.fw_world.specs.declared.event.Event.{Event}
-use Rattle.fw_world.specs.declared.event.Event.TheVariants.{Mount, Call, ReadPending, ReadForgets, Take, Do, Write, Settle, Tick, DropName, Evict}
+use Rattle.fw_world.specs.declared.event.Event.TheVariants.{Mount, Call, ReadPending, ReadForgets, Take, Do, Again, Write, Settle, Tick, DropName, Evict}
 use Rattle.fw_world.specs.declared.event.Outcome.{Outcome}
 use Rattle.fw_world.specs.declared.event.Outcome.TheVariants as outcome
 use Rattle.fw_world.specs.declared.record.Record.{Record}
@@ -22,6 +22,7 @@ event_of (Call call) = event.call (call_of call)
 event_of (ReadPending place) = event.read_pending place
 event_of (Take place) = event.take place
 event_of (Do unique) = event.perform unique
+event_of (Again unique) = event.again unique
 event_of (Write place) = event.write place
 event_of (Settle place) = event.settle place
 event_of (ReadForgets count) = event.read_forgets count
@@ -48,6 +49,7 @@ outcome_of (outcome.Begun call) = event.begun call
 outcome_of (outcome.Read unique opcode len) = event.is_read unique
 outcome_of (outcome.Taken unique word) = event.taken unique word
 outcome_of (outcome.Done unique errno len) = event.performed unique errno false
+outcome_of (outcome.SentAgain unique len) = event.sent_again unique
 outcome_of (outcome.Written unique errno) = event.written unique (result_of errno)
 outcome_of (outcome.Settled unique errno) = event.settled unique (result_of errno)
 outcome_of (outcome.Now clock) = event.now clock

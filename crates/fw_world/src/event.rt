@@ -20,6 +20,8 @@ pub enum Event<'a> {
     Take(u64),
     /// The server performs the request that it holds under a unique, and a copy of its reply goes into the reply link.
     Do(u64),
+    /// The server sends one more copy of the reply that it keeps under a unique, and the copy goes into the reply link.
+    Again(u64),
     /// The kernel takes the copy at a place of the reply link, and its result goes into the result link.
     Write(u64),
     /// The server takes the result at a place of the result link.
@@ -51,6 +53,10 @@ pub enum Outcome {
     Done {
         unique: u64,
         errno: u32,
+        len: usize,
+    },
+    SentAgain {
+        unique: u64,
         len: usize,
     },
     Written {

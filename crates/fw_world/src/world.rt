@@ -112,6 +112,7 @@ impl<A: Allocator + Copy> WorldIn<A> {
             Event::ReadPending(place) => self.read_pending(*place),
             Event::Take(place) => self.take(*place),
             Event::Do(unique) => self.perform(*unique),
+            Event::Again(unique) => self.again(*unique),
             Event::Write(place) => self.write(*place),
             Event::Settle(place) => self.settle(*place),
             Event::ReadForgets(count) => self.read_forgets(*count),
@@ -359,6 +360,29 @@ impl<A: Allocator + Copy> WorldIn<A> {
         within(&self.kernel, &self.server);
         self.last_put = LastPut::Reply;
         Ok(Outcome::Done { unique, errno, len })
+    }
+
+    fn again(&mut self, unique: u64) -> Result<Outcome, Refusal>
+        ensures err { OnErr result (self.new ≡ self.old) }
+        ensures refusal { IfErr result (RefusedWith self.old (event.again unique)) }
+        ensures happens { IfOk result (λ outcome. Happens self.old (event.again unique) (outcome_of outcome) self.new) }
+    {
+        if self.replies.reserve(1).is_err() {
+            return Err(
+                self.server
+                    .again_refusal(unique)
+                    .unwrap_or(Refusal::NoMemory),
+            );
+        }
+        let copy = match self.server.again(unique) {
+            Ok(copy) => copy,
+            Err(refusal) => return Err(refusal),
+        };
+        let len = copy.bytes().len();
+        append(&mut self.replies, copy);
+        within(&self.kernel, &self.server);
+        self.last_put = LastPut::Reply;
+        Ok(Outcome::SentAgain { unique, len })
     }
 
     fn write(&mut self, place: u64) -> Result<Outcome, Refusal>

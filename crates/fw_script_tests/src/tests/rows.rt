@@ -1,5 +1,9 @@
 //! Scripts and what they print.
 
+use super::copies::{
+    COPY_IN_FLIGHT_HOLDS_NODE_AND_ID, ID_USED_AGAIN_WHILE_OLDER_REPLY_IS_KEPT,
+    NO_COPY_AFTER_SETTLE, REFUSED_COPY_GIVES_COUNT_BACK, STORM_OF_SIXTY_FOUR_COPIES,
+};
 use super::many_calls::SIXTY_FOUR_CALLS_THEN_FULL;
 use fw_script::run_script;
 use std::test::Fail;
@@ -409,7 +413,7 @@ pub(super) const WALK_OF_TWO_WORDS_AND_EXPIRY: Row = Row {
             settled 14 0\n",
 };
 
-pub(super) const ROWS: [Row; 12] = [
+pub(super) const ROWS: [Row; 17] = [
     STAT_OF_ROOT,
     STAT_OF_MISSING_NAME,
     LOOKUP_FRAME_IN_HEX,
@@ -422,6 +426,11 @@ pub(super) const ROWS: [Row; 12] = [
     CLOCK_AND_VALIDITY_LIMITS,
     WALK_OF_TWO_WORDS_AND_EXPIRY,
     SIXTY_FOUR_CALLS_THEN_FULL,
+    REFUSED_COPY_GIVES_COUNT_BACK,
+    COPY_IN_FLIGHT_HOLDS_NODE_AND_ID,
+    NO_COPY_AFTER_SETTLE,
+    ID_USED_AGAIN_WHILE_OLDER_REPLY_IS_KEPT,
+    STORM_OF_SIXTY_FOUR_COPIES,
 ];
 
 #[test]

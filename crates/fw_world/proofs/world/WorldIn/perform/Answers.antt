@@ -1,18 +1,20 @@
 use Rattle.std.proofs.Common.{refl, sym, ◌∙◌}
 use Rattle.fw_world.proofs.Parts.{world_of, has_room}
+use Rattle.fuse_spec.specs.Events as event
+use Rattle.fs_server.specs.Effects.{RefusesHeld}
 use Rattle.fw_world.proofs.Made.{performed}
-use Rattle.fw_world.proofs.Refusing.{perform_refused, perform_judged, perform_or_memory}
+use Rattle.fw_world.proofs.Refusing.{perform_refused, judged_or_memory, refused_or_memory}
 use Rattle.fw_world.proofs.world.WorldIn.perform.Goals as goal
 
 pub returns-then-is_err-clause-refusal : goal.returns-then-is_err-clause-refusal
 returns-then-is_err-clause-refusal g c =
     rw (← c.self.view_is)
-    (perform_judged (world_of c.self.inside.kernel c.self.inside.server c.self.inside.requests.items c.self.inside.replies.items c.self.inside.results.items) c.args.unique c.perform_refusal.result c.unwrap_or.result c.perform_refusal.ensures.refuses c.unwrap_or.ensures)
+    (judged_or_memory (world_of c.self.inside.kernel c.self.inside.server c.self.inside.requests.items c.self.inside.replies.items c.self.inside.results.items) (event.perform c.args.unique) (RefusesHeld c.self.inside.server c.args.unique) (perform_refused (world_of c.self.inside.kernel c.self.inside.server c.self.inside.requests.items c.self.inside.replies.items c.self.inside.results.items) c.args.unique) c.perform_refusal.result c.unwrap_or.result c.perform_refusal.ensures.refuses c.unwrap_or.ensures)
 
 pub returns-in-Err-clause-refusal : goal.returns-in-Err-clause-refusal
 returns-in-Err-clause-refusal g c =
     rw (← c.self.view_is)
-    (perform_or_memory (world_of c.self.inside.kernel c.self.inside.server c.self.inside.requests.items c.self.inside.replies.items c.self.inside.results.items) c.args.unique c.in-Err.refusal c.in-Err.ensures.refusal)
+    (refused_or_memory (world_of c.self.inside.kernel c.self.inside.server c.self.inside.requests.items c.self.inside.replies.items c.self.inside.results.items) (event.perform c.args.unique) (RefusesHeld c.self.inside.server c.args.unique) (perform_refused (world_of c.self.inside.kernel c.self.inside.server c.self.inside.requests.items c.self.inside.replies.items c.self.inside.results.items) c.args.unique) c.in-Err.refusal c.in-Err.ensures.refusal)
 
 pub invariant_of-self-2 : goal.invariant_of-self-2
 invariant_of-self-2 g c =
