@@ -101,11 +101,9 @@ fn looks<Q: QueueTable<u64>>(queues: &Q, argument: u64) -> [Option<u64>; 5] {
     ]
 }
 
-/// The next of a fixed row of numbers (xorshift).
+/// The next of a fixed row of numbers, from 1 to 2^31 - 2 (the minimal standard generator).
 fn next_number(number: u64) -> u64 {
-    let mut next = number ^ number << 13;
-    next ^= next >> 7;
-    next ^ next << 17
+    number.wrapping_mul(48_271) % 0x7fff_ffff
 }
 
 /// One call on both. Says whether it was a signal that took a request out or queued an INTERRUPT.
@@ -130,7 +128,7 @@ fn same_step(
 fn both_answer_alike(rt: HostRuntime) -> Result<(), Fail> {
     let mut map: Queues<u64> = QueueTable::new(rt.alloc());
     let mut lists: ListQueues<u64> = QueueTable::new(rt.alloc());
-    let mut number = 0x2545_f491_4f6c_dd1du64;
+    let mut number = 1u64;
     let mut signals = 0u64;
     for _step in 0..600u64 {
         number = next_number(number);
