@@ -62,6 +62,14 @@ module _ (k : Kernel) (made : Call) where
       let past = ap is_past_end begun_is ∙ ap (λ (b : Advance Opened). is_past_end (advanced k k.vfs.next_call b)) ends ∙ none_past_end k.queues.next (k.vfs.next_call + 1) high (omega arith) in
       unrefused _ _ _ ready full past
 
+  pub unready_refused : is_ready k.phase ≡ false → NotReady ≡ or_no_memory (begin_refusal k (call_of made))
+  unready_refused unready = rw unready refl
+
+  pub full_refused : is_ready k.phase ≡ true → 64 ≤ length k.vfs.calls → Full ≡ or_no_memory (begin_refusal k (call_of made))
+  full_refused ready many =
+      let full : nat_le 64 (length k.vfs.calls) ≡ true = grind (arith, nat_tests, many) in
+      rw (ready, full) refl
+
 pub if_ok : {T : Type 0} (r : Result T Refusal) {X : Type 0} → X → OnOk r X
 if_ok (Ok t) x = x
 if_ok (Err e) x = tt

@@ -13,6 +13,7 @@ pub mod Nodes
 pub mod First
 pub mod Dropped
 pub mod Evicted
+pub mod ForgetReads
 pub mod Named
 pub mod EntryReplies
 pub mod Walking

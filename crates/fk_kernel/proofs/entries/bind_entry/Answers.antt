@@ -18,3 +18,6 @@ returns-clause-names g c = λ place named.
     ]
     in
     rw (c.put.ensures.names, c.reserve.ensures.names, same) refl
+
+pub returns-clause-nodes : goal.returns-clause-nodes
+returns-clause-nodes g c = search rules

@@ -1,4 +1,4 @@
-use Rattle.std.proofs.Common.{◌≡◌, ◌+◌, ◌≤◌, arith, refl}
+use Rattle.std.proofs.Common.{◌≡◌, ◌+◌, ◌≤◌, arith, refl, rules}
 use Rattle.fk_wire.specs.Fields.{sizes}
 use Rattle.fk_wire.specs.Requests.{request_message, request_body, request_content, opcode_of}
 use Rattle.fk_wire.specs.Opcodes.{code_of}
@@ -12,3 +12,6 @@ returns-clause-ok g c =
     let code : c.code.result ≡ code_of (opcode_of (request_content c.args.request.now.body)) = cc in
     frame c.args.minor (request_message c.args.request.now) c.args.out.now.items c.put_body.new.out.items (40 + c.body_size-size.result)
     (omega (arith, total)) (omega arith) (omega arith) (omega arith) (omega (arith, code)) (rw (← c.opcode-opcode.ensures) (c.if-not-is_known.ensures.0 refl)) (rw (← c.opcode-opcode.ensures) (c.if-not-is_node_of.ensures.0 refl)) c.put_body.ensures.fits (c.if-not-has_names.ensures.0 refl) (cc)
+
+pub returns-then-not-has_names-clause-err : goal.returns-then-not-has_names-clause-err
+returns-then-not-has_names-clause-err g c = search rules

@@ -1,4 +1,4 @@
-use Rattle.std.proofs.Common.{◌≡◌, ◌≤◌, ◌^◌, Bool, true, ap, sym, ◌∙◌}
+use Rattle.std.proofs.Common.{◌≡◌, ◌≤◌, ◌^◌, Bool, true, ap, sym, ◌∙◌, rules}
 use Rattle.fuse_spec.specs.Answers.{failed}
 use Rattle.fk_syscalls.specs.Values.{call_of}
 use Rattle.fuse_spec.specs.Kernel.{is_aborted}
@@ -47,3 +47,6 @@ returns-in-Answered-clause-judged g c =
     let high : k.queues.next ≤ 2 ^ 62 = rw (← c.self.view_is) (g.met.Q.QueueTable.sound c.self.inside.queues).next.high in
     let ends = rw c.in-Answered.is at c.in_ok-errno.ensures.begun in
     if_ok c.begin_answered-in-Answered.result (answered_unrefused k c.args.call.now (failed c.in-Answered.errno) c.requires.ready c.requires.few c.requires.number high ends)
+
+pub returns-in-Answered-clause-begun : goal.returns-in-Answered-clause-begun
+returns-in-Answered-clause-begun g c = search rules

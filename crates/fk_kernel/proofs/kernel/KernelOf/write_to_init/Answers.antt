@@ -1,4 +1,4 @@
-use Rattle.std.proofs.Common.{true≢false}
+use Rattle.std.proofs.Common.{true≢false, rules}
 use Rattle.fk_kernel.proofs.Nodes.{answer_counted}
 use Rattle.fk_kernel.proofs.Requests.{one_answered}
 use Rattle.fk_kernel.proofs.kernel.KernelOf.write_to_init.Goals as goal
@@ -12,3 +12,9 @@ pub returns-in_default-2-clause-agreed : goal.returns-in_default-2-clause-agreed
 returns-in_default-2-clause-agreed g c = λ minor late says.
     let none = rw c.in_default.is at c.said_to_init.ensures in
     absurd (none _ says)
+
+pub returns-clause-agreed : goal.returns-clause-agreed
+returns-clause-agreed g c = search rules
+
+pub returns-clause-refused : goal.returns-clause-refused
+returns-clause-refused g c = search rules

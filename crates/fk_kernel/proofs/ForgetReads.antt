@@ -1,0 +1,48 @@
+-- Which refusal a read of forgets gets.
+use Rattle.std.proofs.Common.{◌≡◌, ℕ, ◌+◌, ◌-◌, ◌/◌, ◌<◌, ◌≤◌, ◌^◌, Bool, true, false, List, [], ◌∷◌, Option, Some, None, length, slice_get, nat_eq, refl, arith}
+use Rattle.std.specs.Prelude.{if◌then◌else◌, nat_lt, is_some}
+use Rattle.std.proofs.lemmas.Bool.Decides.{nat_tests}
+use Rattle.fuse_spec.specs.Kernel.{Kernel, is_live}
+use Rattle.fuse_spec.specs.Uniques.{numbers_left_from}
+use Rattle.fuse_spec.specs.QueueCalls.{first_forgets, can_read_forgets}
+use Rattle.fuse_spec.specs.declared.Refusal.TheVariants.{InterruptFirst, NoSuch, Exhausted}
+use Rattle.fk_kernel.specs.RefusedUpkeep.{read_forgets_refusal}
+use Rattle.fk_kernel.proofs.Phases.{none_past_end}
+
+has_none : (xs : List ℕ) → is_some (slice_get xs 0) ≡ false → nat_eq (length xs) 0 ≡ true
+has_none [] none = refl
+has_none (x ∷ xs) none = cc
+
+has_some : (xs : List ℕ) → is_some (slice_get xs 0) ≡ true → nat_eq (length xs) 0 ≡ false
+has_some [] some = cc
+has_some (x ∷ xs) some = grind (arith, nat_tests)
+
+chosen : {X : Type 0} (b : Bool) (x y : X) → (if b then Some x else None) ≡ Some y → b ≡ true
+chosen true x y is = refl
+chosen {X = X} false x y is =
+    let no : ◌≡◌ {A = Option X} None (Some y) = is in
+    cc
+
+past : (next : ℕ) → (2 ^ 62 - next) / 2 ≡ 0 → nat_lt (2 ^ 62) (next + 2) ≡ true
+past next none = grind (arith, nat_tests)
+
+below : (next : ℕ) → 0 < (2 ^ 62 - next) / 2 → next + 2 ≤ 2 ^ 62
+below next some = omega arith
+
+module _ (k : Kernel) (count : ℕ) (live : is_live k.phase ≡ true) where
+  pub interrupts_first : is_some (slice_get k.queues.interrupts 0) ≡ true → read_forgets_refusal k count ≡ Some InterruptFirst
+  interrupts_first some = rw (live, has_some k.queues.interrupts some) refl
+
+  module _ (none : is_some (slice_get k.queues.interrupts 0) ≡ false) where
+    pub no_forgets : first_forgets k.queues count ≡ None → read_forgets_refusal k count ≡ Some NoSuch
+    no_forgets nothing = rw (live, has_none k.queues.interrupts none, nothing) refl
+
+    module _ (read : ℕ × List (ℕ × ℕ)) (first : first_forgets k.queues count ≡ Some read) where
+      can_read : can_read_forgets k.queues count ≡ true
+      can_read = chosen (can_read_forgets k.queues count) _ read first
+
+      pub no_number_left : numbers_left_from k.queues.next ≡ 0 → read_forgets_refusal k count ≡ Some Exhausted
+      no_number_left left = rw (live, has_none k.queues.interrupts none, first, can_read, past k.queues.next left) refl
+
+      pub read_unrefused : 0 < numbers_left_from k.queues.next → k.vfs.next_call ≤ 2 ^ 62 → read_forgets_refusal k count ≡ None
+      read_unrefused left low = rw (live, has_none k.queues.interrupts none, first, can_read, none_past_end (k.queues.next + 2) k.vfs.next_call (below k.queues.next left) low) refl

@@ -1,0 +1,5 @@
+use Rattle.std.proofs.Common.{rules}
+use Rattle.fk_kernel.proofs.kernel.KernelOf.evict_refusal.Goals as goal
+
+pub returns : goal.returns
+returns g c = search rules
