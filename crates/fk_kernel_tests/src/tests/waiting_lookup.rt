@@ -2,6 +2,7 @@
 
 use fk_kernel::{Answer, Call, Kernel};
 use fk_wire::Opcode;
+use fuse_frames::RequestFrame;
 use fuse_spec::{Refusal, WriteResult};
 use std::alloc::Global;
 use std::process::Abort;
@@ -73,7 +74,13 @@ fn write(kernel: &mut Kernel, alloc: Global, text: &str) -> Result<WriteResult, 
 
 /// Reads the oldest pending request, and gives its unique and opcode.
 fn read(kernel: &mut Kernel) -> Result<(u64, Opcode), Fail> {
-    Ok(kernel.read_pending(0)?.head())
+    let frame = kernel.read_pending(0)?;
+    Ok(head(&frame))
+}
+
+/// Its unique and its opcode.
+fn head(frame: &RequestFrame) -> (u64, Opcode) {
+    frame.head()
 }
 
 /// Begins a call, and gives its number.

@@ -128,7 +128,7 @@ fn same_step(
 fn both_answer_alike(rt: HostRuntime) -> Result<(), Fail> {
     let mut map: Queues<u64> = QueueTable::new(rt.alloc());
     let mut lists: ListQueues<u64> = QueueTable::new(rt.alloc());
-    let mut number = 1u64;
+    let mut number = 42u64;
     let mut signals = 0u64;
     for _step in 0..600u64 {
         number = next_number(number);

@@ -3,11 +3,19 @@
 use super::rows::{ROWS, Row};
 use fail_at::FailAt;
 use fw_script::{Line, RecordLine, read_line};
-use fw_world::{Event, Record, Refusal, WorldIn};
+use fw_world::{Event, Outcome, Record, Refusal, WorldIn};
 use std::alloc::{Allocator, Global};
 use std::io::Write;
 use std::process::Abort;
 use std::test::Fail;
+
+/// Steps once.
+fn step_once<A: Allocator + Copy>(
+    world: &mut WorldIn<A>,
+    event: &Event<'_>,
+) -> Result<Outcome, Refusal> {
+    world.step(event)
+}
 
 /// Steps once, and again where a growth was refused. `NoMemory` comes only then, and the same event given again goes on.
 fn step<A: Allocator + Copy>(
@@ -17,10 +25,10 @@ fn step<A: Allocator + Copy>(
     event: &Event<'_>,
 ) -> Record {
     let before = heap.left();
-    let mut stepped = world.step(event);
+    let mut stepped = step_once(world, event);
     if stepped == Err(Refusal::NoMemory) {
         assert!(rt; before != 0 && heap.left() == 0, "{event:?}");
-        stepped = world.step(event);
+        stepped = step_once(world, event);
     }
     match stepped {
         Ok(outcome) => Record::Outcome(outcome),
