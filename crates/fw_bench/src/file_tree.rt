@@ -1,9 +1,6 @@
-//! How long a look-up, a create and an unlink take in a directory of 16, 256 and 4,096 names, in one thread.
-//!
-//! With a number of rounds as its argument the program prints nanoseconds for each operation. Without one it makes a few rounds
-//! and prints no times, so that its output is always the same.
-#![tactic(auto)]
+//! The file tree: a look-up, a create and an unlink in a directory of 16, 256 and 4,096 names.
 
+use crate::nanos;
 use anyhow::Error;
 use fs_tree::{ROOT, Tree, TreeError};
 use std::time::{Duration, Instant};
@@ -67,24 +64,20 @@ fn replace_often(
 }
 
 /// Nanoseconds for each round.
-fn nanos(time: Duration, rounds: u32) -> u64 {
-    let nanos = time
-        .as_secs()
-        .saturating_mul(1_000_000_000)
-        .saturating_add(u64::from(time.subsec_nanos()));
-    nanos / u64::from(rounds.max(1))
+fn nanos_each(time: Duration, rounds: u32) -> u64 {
+    nanos(time) / u64::from(rounds.max(1))
 }
 
-fn measure(rt: &HostRuntime, names: u64, rounds: u32, timed: bool) -> Result<(), Error> {
+fn replace_names(rt: &HostRuntime, names: u64, rounds: u32, timed: bool) -> Result<(), Error> {
     let mut tree = tree_with(rt, names)?;
     let start = Instant::now(rt)?;
     let found = look_up_often(&tree, names, rounds)?;
     let looking_up = Instant::now(rt)?.duration_since(start);
     let (unlinking, creating) = replace_often(rt, &mut tree, names, rounds)?;
     if timed {
-        let look_up = nanos(looking_up, rounds);
-        let unlink = nanos(unlinking, rounds);
-        let create = nanos(creating, rounds);
+        let look_up = nanos_each(looking_up, rounds);
+        let unlink = nanos_each(unlinking, rounds);
+        let create = nanos_each(creating, rounds);
         println!(rt;
             "{names} names: look-up {look_up} ns, create {create} ns, unlink {unlink} ns ({found})"
         )?;
@@ -94,13 +87,10 @@ fn measure(rt: &HostRuntime, names: u64, rounds: u32, timed: bool) -> Result<(),
     Ok(())
 }
 
-fn main(rt: HostRuntime) -> Result<(), Error> {
-    let words = std::env::args(&rt)?.collect::<Vec<String>>(rt.alloc())?;
-    let rounds = words
-        .get(1)
-        .and_then(|word| word.as_str().parse::<u32>().ok());
+/// Measures directories of each size, in so many rounds.
+pub fn measure(rt: &HostRuntime, rounds: Option<u32>) -> Result<(), Error> {
     for names in [16, 256, 4096] {
-        measure(&rt, names, rounds.unwrap_or(16), rounds.is_some())?;
+        replace_names(rt, names, rounds.unwrap_or(16), rounds.is_some())?;
     }
     Ok(())
 }

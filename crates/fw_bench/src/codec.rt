@@ -1,11 +1,6 @@
-//! How long it takes to read and to write a request, in one thread.
-//!
-//! With a number of rounds as its argument the program prints nanoseconds for each of its requests.
-//! Without one it makes a few rounds and prints no times, so that its output is always the same.
-#![tactic(auto)]
+//! Reading and writing a request.
 
-mod samples;
-
+use crate::nanos;
 use crate::samples::{Sample, forget_pairs, samples};
 use anyhow::Error;
 use fk_wire::{Request, RequestBody, read_request, write_request};
@@ -81,14 +76,15 @@ fn write_often(out: &mut Vec<u8>, request: &Request<'_>, rounds: u32) -> Result<
 
 /// Tenths of nanoseconds for each round.
 fn tenths(time: Duration, rounds: u32) -> u64 {
-    let nanos = time
-        .as_secs()
-        .saturating_mul(1_000_000_000)
-        .saturating_add(time.subsec_nanos() as u64);
-    nanos.saturating_mul(10) / (rounds as u64).max(1)
+    nanos(time).saturating_mul(10) / (rounds as u64).max(1)
 }
 
-fn measure(rt: &HostRuntime, sample: &Sample<'_>, rounds: u32, timed: bool) -> Result<(), Error> {
+fn read_and_write(
+    rt: &HostRuntime,
+    sample: &Sample<'_>,
+    rounds: u32,
+    timed: bool,
+) -> Result<(), Error> {
     let mut frame = Vec::new(rt.alloc());
     write_request(&mut frame, &sample.request)?;
     let mut out = Vec::new(rt.alloc());
@@ -115,14 +111,11 @@ fn measure(rt: &HostRuntime, sample: &Sample<'_>, rounds: u32, timed: bool) -> R
     Ok(())
 }
 
-fn main(rt: HostRuntime) -> Result<(), Error> {
-    let words = std::env::args(&rt)?.collect::<Vec<String>>(rt.alloc())?;
-    let rounds = words
-        .get(1)
-        .and_then(|word| word.as_str().parse::<u32>().ok());
+/// Measures each request, in so many rounds.
+pub fn measure(rt: &HostRuntime, rounds: Option<u32>) -> Result<(), Error> {
     let mut bytes = Vec::new(rt.alloc());
     for sample in samples(forget_pairs(&mut bytes)?) {
-        measure(&rt, &sample, rounds.unwrap_or(100), rounds.is_some())?;
+        read_and_write(rt, &sample, rounds.unwrap_or(100), rounds.is_some())?;
     }
     Ok(())
 }

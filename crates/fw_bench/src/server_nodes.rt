@@ -1,14 +1,10 @@
-//! How long it takes to count the first lookup of a file and to take it back, in one thread, while a table fills to few and
-//! to many nodes and empties again.
-//!
-//! With a number of rounds as its argument the program prints nanoseconds for each call. A `give` is timed with the
-//! `reserve`, `generations_left` and `has` before it. Without an argument it makes a few rounds and prints no times, so
-//! that its output is always the same.
-#![tactic(auto)]
+//! The server's nodes: counting the first lookup of a file and taking it back, while a table fills to few and to many nodes and empties
+//! again. A `give` is timed with the `reserve`, `generations_left` and `has` before it.
 
+use crate::nanos;
 use anyhow::Error;
 use fs_nodes::{ListNodes, NodeStore, NodeTable};
-use std::time::{Duration, Instant};
+use std::time::Instant;
 
 /// Makes room and counts the first lookup of a file, as a server does.
 fn give_first<S: NodeStore>(store: &mut S, file: u64) -> Result<u64, Error> {
@@ -50,12 +46,6 @@ struct Total {
     sum: u64,
 }
 
-fn nanos(time: Duration) -> u64 {
-    time.as_secs()
-        .saturating_mul(1_000_000_000)
-        .saturating_add(time.subsec_nanos() as u64)
-}
-
 fn run<S: NodeStore>(
     rt: &HostRuntime,
     store: &mut S,
@@ -85,7 +75,7 @@ fn run<S: NodeStore>(
     Ok(total)
 }
 
-fn measure<S: NodeStore + Drop>(
+fn fill_and_empty<S: NodeStore + Drop>(
     rt: &HostRuntime,
     name: &str,
     mut store: S,
@@ -112,24 +102,21 @@ fn measure<S: NodeStore + Drop>(
 }
 
 /// Fewer rounds where there are more nodes, so that each line takes about as long.
-fn rounds_at(rounds: Option<u64>, files: u64) -> Option<u64> {
+fn rounds_at(rounds: Option<u32>, files: u64) -> Option<u64> {
     match rounds {
-        Some(rounds) => Some((rounds / files.max(1)).max(1)),
+        Some(rounds) => Some((u64::from(rounds) / files.max(1)).max(1)),
         None => None,
     }
 }
 
-fn main(rt: HostRuntime) -> Result<(), Error> {
-    let words = std::env::args(&rt)?.collect::<Vec<String>>(rt.alloc())?;
-    let rounds = words
-        .get(1)
-        .and_then(|word| word.as_str().parse::<u64>().ok());
+/// Measures both tables with few and with many nodes, in so many rounds in all.
+pub fn measure(rt: &HostRuntime, rounds: Option<u32>) -> Result<(), Error> {
     for files in [16, 4096] {
         let rounds = rounds_at(rounds, files);
         let table: NodeTable = NodeStore::new(rt.alloc());
-        measure(&rt, "NodeTable", table, files, rounds)?;
+        fill_and_empty(rt, "NodeTable", table, files, rounds)?;
         let list: ListNodes = NodeStore::new(rt.alloc());
-        measure(&rt, "ListNodes", list, files, rounds)?;
+        fill_and_empty(rt, "ListNodes", list, files, rounds)?;
     }
     Ok(())
 }

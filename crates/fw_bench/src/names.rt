@@ -1,5 +1,6 @@
 //! The names in force.
-use crate::{Measured, nanos};
+use crate::name_tables::Measured;
+use crate::nanos;
 use anyhow::Error;
 use fk_dentry::{Bindings, Found};
 use std::time::Instant;

@@ -1,5 +1,6 @@
 //! The counted nodes.
-use crate::{Measured, nanos};
+use crate::name_tables::Measured;
+use crate::nanos;
 use anyhow::Error;
 use fk_lookup_count::{CountTable, KernelNodes};
 use std::time::Instant;
