@@ -137,7 +137,28 @@ fn run_line<A: Allocator + Copy, W: Write>(
     }
 }
 
-/// Runs the events of a script whose lines are good.
+/// Runs the events of a script whose lines are good, one after another.
+fn run_lines<A: Allocator + Copy, W: Write>(
+    world: &mut WorldIn<A>,
+    script: &[u8],
+    records: &mut Vec<Record, A>,
+    hex: bool,
+    out: &mut W,
+) -> Result<(), Stop<'static>>
+    ensures { IfErr result (λ stop. status_of stop ≢ 1) }
+{
+    for line in Lines::of(script) {
+        if is_passed_over(line) {
+            continue;
+        }
+        if let Err(stop) = run_line(world, line, records, hex, out) {
+            return Err(stop);
+        }
+    }
+    flush(out)
+}
+
+/// Runs them on a new world.
 fn run_events<A: Allocator + Copy, W: Write>(
     alloc: A,
     script: &[u8],
@@ -146,21 +167,13 @@ fn run_events<A: Allocator + Copy, W: Write>(
 ) -> Result<(), Stop<'static>>
     ensures { IfErr result (λ stop. status_of stop ≢ 1) }
 {
-    let Ok(mut world) = WorldIn::new(alloc) else {
-        return Err(Stop::NoMemory);
-    };
     let Ok(mut records) = Vec::with_capacity(alloc, MAX_RECORDS) else {
         return Err(Stop::NoMemory);
     };
-    for line in Lines::of(script) {
-        if is_passed_over(line) {
-            continue;
-        }
-        if let Err(stop) = run_line(&mut world, line, &mut records, hex, out) {
-            return Err(stop);
-        }
-    }
-    flush(out)
+    let Ok(mut world) = WorldIn::new(alloc) else {
+        return Err(Stop::NoMemory);
+    };
+    run_lines(&mut world, script, &mut records, hex, out)
 }
 
 /// Hands on all that was written.
