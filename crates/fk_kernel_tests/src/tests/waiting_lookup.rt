@@ -9,16 +9,19 @@ use std::process::Abort;
 use std::test::Fail;
 
 /// The reply to INIT that agrees on 7.31.
-const AGREED: &str =
-    "50000000000000000200000000000000070000001f0000000000000001000400000000000010000001000000000000000000000000000000000000000000000000000000000000000000000000000000";
+fn agreed() -> &'static str {
+    "50000000000000000200000000000000070000001f0000000000000001000400000000000010000001000000000000000000000000000000000000000000000000000000000000000000000000000000"
+}
 
 /// The reply to the MKDIR of unique 4: node 2 of generation 1, valid for a second.
-const MADE: &str =
-    "9000000000000000040000000000000002000000000000000100000000000000010000000000000000000000000000000000000000000000020000000000000000000000000000000000000000000000000000000000000000000000000000000000000000000000000000000000000000000000ed410000010000000000000000000000000000000010000000000000";
+fn made_reply() -> &'static str {
+    "9000000000000000040000000000000002000000000000000100000000000000010000000000000000000000000000000000000000000000020000000000000000000000000000000000000000000000000000000000000000000000000000000000000000000000000000000000000000000000ed410000010000000000000000000000000000000010000000000000"
+}
 
 /// A reply for the LOOKUP of unique 6: node 2 again, of generation 9.
-const ANOTHER_GENERATION: &str =
-    "9000000000000000060000000000000002000000000000000900000000000000010000000000000000000000000000000000000000000000020000000000000000000000000000000000000000000000000000000000000000000000000000000000000000000000000000000000000000000000ed410000010000000000000000000000000000000010000000000000";
+fn another_generation() -> &'static str {
+    "9000000000000000060000000000000002000000000000000900000000000000010000000000000000000000000000000000000000000000020000000000000000000000000000000000000000000000000000000000000000000000000000000000000000000000000000000000000000000000ed410000010000000000000000000000000000000010000000000000"
+}
 
 /// Bytes, what the writer gets, and what the call is answered, if it is.
 #[derive(Drop)]
@@ -83,9 +86,29 @@ fn head(frame: &RequestFrame) -> (u64, Opcode) {
     frame.head()
 }
 
+/// Its length in bytes.
+fn len(frame: &RequestFrame) -> usize {
+    frame.bytes().len()
+}
+
 /// Begins a call, and gives its number.
 fn begin(kernel: &mut Kernel, call: &Call<'_>) -> Result<u64, Fail> {
     Ok(kernel.begin(call)?)
+}
+
+/// Takes the answer of a call, if one waits.
+fn collected(kernel: &mut Kernel) -> Option<(u64, Answer)> {
+    kernel.collect()
+}
+
+/// Lets so many milliseconds pass, and gives the time.
+fn pass(kernel: &mut Kernel, milliseconds: u64) -> Result<u64, Fail> {
+    Ok(kernel.tick(milliseconds)?)
+}
+
+/// Reads so many forgets as one request.
+fn read_forgets(kernel: &mut Kernel, count: u64) -> Result<RequestFrame, Refusal> {
+    kernel.read_forgets(count)
 }
 
 /// The error that a call is answered.
@@ -93,70 +116,93 @@ fn failed(call: u64, errno: u32) -> Option<(u64, Answer)> {
     Some((call, Answer::Failed { errno }))
 }
 
-/// A kernel whose INIT is answered.
-fn mounted(rt: &impl Abort, alloc: Global) -> Result<Kernel, Fail> {
-    let mut kernel = Kernel::new(alloc);
-    kernel.mount()?;
-    assert_eq!(rt; read(&mut kernel)?, (2, Opcode::Init));
-    assert_eq!(rt; write(&mut kernel, alloc, AGREED)?, WriteResult::Accepted);
-    Ok(kernel)
+/// The answer of a call that is done.
+fn done(call: u64) -> Option<(u64, Answer)> {
+    Some((call, Answer::Done))
 }
 
-/// What the bytes of a case come to.
-fn judge(rt: &impl Abort, alloc: Global, case: &Case) -> Result<(), Fail> {
-    let mut kernel = mounted(rt, alloc)?;
-    assert_eq!(rt; begin(&mut kernel, &Call::Stat { path: b"/a" })?, 1);
-    assert_eq!(rt; read(&mut kernel)?, (4, Opcode::Lookup));
-    assert_eq!(rt;
-        write(&mut kernel, alloc, case.bytes)?,
-        case.result,
-        "{}",
-        case.bytes
-    );
+/// Mounts, and answers INIT.
+fn mount(rt: &impl Abort, alloc: Global, kernel: &mut Kernel) -> Result<(), Fail> {
+    kernel.mount()?;
+    assert_eq!(rt; read(kernel)?, (2, Opcode::Init));
+    assert_eq!(rt; write(kernel, alloc, agreed())?, WriteResult::Accepted);
+    Ok(())
+}
+
+/// Begins `stat /a`, and reads its LOOKUP.
+fn look_up(rt: &impl Abort, kernel: &mut Kernel, call: u64, unique: u64) -> Result<(), Fail> {
+    assert_eq!(rt; begin(kernel, &Call::Stat { path: b"/a" })?, call);
+    assert_eq!(rt; read(kernel)?, (unique, Opcode::Lookup));
+    Ok(())
+}
+
+/// What the call is answered, and that no forget is queued.
+fn check_answer(rt: &impl Abort, kernel: &mut Kernel, case: &Case) {
     let answer = match case.errno {
         Some(errno) => failed(1, errno),
         None => None,
     };
-    assert_eq!(rt; kernel.collect(), answer, "{}", case.bytes);
-    assert!(rt; kernel.read_forgets(1).is_err(), "{}", case.bytes);
+    assert_eq!(rt; collected(kernel), answer, "{}", case.bytes);
+    assert!(rt; read_forgets(kernel, 1).is_err(), "{}", case.bytes);
+}
+
+/// What the bytes of a case come to in a new kernel.
+fn judge(rt: &impl Abort, alloc: Global, kernel: &mut Kernel, case: &Case) -> Result<(), Fail> {
+    mount(rt, alloc, kernel)?;
+    look_up(rt, kernel, 1, 4)?;
+    let result = write(kernel, alloc, case.bytes)?;
+    assert_eq!(rt; result, case.result, "{}", case.bytes);
+    check_answer(rt, kernel, case);
     Ok(())
 }
 
 #[test]
 fn bytes_to_a_waiting_lookup(rt: HostRuntime) -> Result<(), Fail> {
     for case in &CASES {
-        judge(&rt, rt.alloc(), case)?;
+        let mut kernel = Kernel::new(rt.alloc());
+        judge(&rt, rt.alloc(), &mut kernel, case)?;
     }
     Ok(())
 }
 
-/// A kernel that made the directory `/a`, node 2 of generation 1, a second ago.
-fn made(rt: &impl Abort, alloc: Global) -> Result<Kernel, Fail> {
-    let mut kernel = mounted(rt, alloc)?;
-    assert_eq!(rt; begin(&mut kernel, &Call::Mkdir { path: b"/a" })?, 1);
-    assert_eq!(rt; read(&mut kernel)?, (4, Opcode::Mkdir));
-    assert_eq!(rt; write(&mut kernel, alloc, MADE)?, WriteResult::Accepted);
-    assert_eq!(rt; kernel.collect(), Some((1, Answer::Done)));
-    assert_eq!(rt; kernel.tick(1000)?, 1000);
-    Ok(kernel)
+/// Makes the directory `/a`, node 2 of generation 1.
+fn make(rt: &impl Abort, alloc: Global, kernel: &mut Kernel) -> Result<(), Fail> {
+    assert_eq!(rt; begin(kernel, &Call::Mkdir { path: b"/a" })?, 1);
+    assert_eq!(rt; read(kernel)?, (4, Opcode::Mkdir));
+    assert_eq!(rt; write(kernel, alloc, made_reply())?, WriteResult::Accepted);
+    assert_eq!(rt; collected(kernel), done(1));
+    Ok(())
+}
+
+/// A second later, looks it up, and finds node 2 under another generation.
+fn find_another(rt: &impl Abort, alloc: Global, kernel: &mut Kernel) -> Result<(), Fail> {
+    assert_eq!(rt; pass(kernel, 1000)?, 1000);
+    look_up(rt, kernel, 2, 6)?;
+    let result = write(kernel, alloc, another_generation())?;
+    assert_eq!(rt; result, WriteResult::Accepted);
+    assert_eq!(rt; collected(kernel), failed(2, 5));
+    Ok(())
+}
+
+/// All that, and the forget that comes of it.
+fn run(rt: &impl Abort, alloc: Global, kernel: &mut Kernel) -> Result<(), Fail> {
+    mount(rt, alloc, kernel)?;
+    make(rt, alloc, kernel)?;
+    find_another(rt, alloc, kernel)?;
+    one_forget_is_queued(rt, kernel)
 }
 
 #[test]
 fn entry_of_a_counted_node_under_another_generation(rt: HostRuntime) -> Result<(), Fail> {
-    let mut kernel = made(&rt, rt.alloc())?;
-    assert_eq!(rt; begin(&mut kernel, &Call::Stat { path: b"/a" })?, 2);
-    assert_eq!(rt; read(&mut kernel)?, (6, Opcode::Lookup));
-    let written = write(&mut kernel, rt.alloc(), ANOTHER_GENERATION)?;
-    assert_eq!(rt; written, WriteResult::Accepted);
-    assert_eq!(rt; kernel.collect(), failed(2, 5));
-    one_forget_is_queued(&rt, &mut kernel)
+    let mut kernel = Kernel::new(rt.alloc());
+    run(&rt, rt.alloc(), &mut kernel)
 }
 
 /// One forget of one lookup is queued, and it is read under the next number.
 fn one_forget_is_queued(rt: &impl Abort, kernel: &mut Kernel) -> Result<(), Fail> {
-    assert!(rt; kernel.read_forgets(2).err() == Some(Refusal::NoSuch));
-    let frame = kernel.read_forgets(1)?;
-    assert_eq!(rt; frame.head(), (8, Opcode::Forget));
-    assert_eq!(rt; frame.bytes().len(), 48);
+    assert!(rt; read_forgets(kernel, 2).err() == Some(Refusal::NoSuch));
+    let frame = read_forgets(kernel, 1)?;
+    assert_eq!(rt; head(&frame), (8, Opcode::Forget));
+    assert_eq!(rt; len(&frame), 48);
     Ok(())
 }
