@@ -5,40 +5,44 @@ use std::alloc::{AllocError, Global};
 use std::process::Abort;
 use std::test::Fail;
 
-fn forgets_the_whole_count<T: CountTable + Drop>(
+/// Two lookups of node 9 under generation 4; another generation is refused.
+fn count_two<T: CountTable>(rt: &impl Abort, table: &mut T) -> Result<(), AllocError> {
+    assert!(rt; table.generation_of(9).is_none());
+    assert!(rt; learn(table, 9, 4)? == Ok(()) && learn(table, 9, 4)? == Ok(()));
+    assert_eq!(rt; learn(table, 9, 5)?, Err(Unlike));
+    assert!(rt; table.count_of(9) == 2 && table.generation_of(9) == Some(4));
+    Ok(())
+}
+
+fn forgets_the_whole_count<T: CountTable>(
     rt: &impl Abort,
-    mut table: T,
+    table: &mut T,
 ) -> Result<(), AllocError> {
-    assert_eq!(rt; table.generation_of(9), None);
-    assert_eq!(rt; learn(&mut table, 9, 4)?, Ok(()));
-    assert_eq!(rt; learn(&mut table, 9, 4)?, Ok(()));
-    assert_eq!(rt; learn(&mut table, 9, 5)?, Err(Unlike));
-    assert_eq!(rt; table.count_of(9), 2);
-    assert_eq!(rt; table.generation_of(9), Some(4));
+    count_two(rt, table)?;
     let forget = Forget {
         nodeid: 9,
         nlookup: 2,
     };
     assert_eq!(rt; table.evict(9), Some(forget));
-    assert_eq!(rt; table.evict(9), None);
-    assert_eq!(rt; table.count_of(9), 0);
-    assert_eq!(rt; learn(&mut table, 9, 5)?, Ok(()));
+    assert!(rt; table.evict(9).is_none() && table.count_of(9) == 0);
+    assert_eq!(rt; learn(table, 9, 5)?, Ok(()));
     Ok(())
 }
 
-fn a_pinned_node_stays<T: CountTable + Drop>(
-    rt: &impl Abort,
-    mut table: T,
-) -> Result<(), AllocError> {
-    pin(&mut table, 2)?;
+/// A node that is not counted has no pins; one that is has as many as it is given.
+fn pin_twice<T: CountTable>(rt: &impl Abort, table: &mut T) -> Result<(), AllocError> {
+    pin(table, 2)?;
     assert_eq!(rt; table.pins_of(2), 0);
-    assert_eq!(rt; learn(&mut table, 2, 1)?, Ok(()));
-    pin(&mut table, 2)?;
-    pin(&mut table, 2)?;
+    assert_eq!(rt; learn(table, 2, 1)?, Ok(()));
+    pin(table, 2)?;
+    pin(table, 2)?;
+    Ok(())
+}
+
+fn a_pinned_node_stays<T: CountTable>(rt: &impl Abort, table: &mut T) -> Result<(), AllocError> {
+    pin_twice(rt, table)?;
     table.unpin(2);
-    assert_eq!(rt; table.pins_of(2), 1);
-    assert_eq!(rt; table.evict(2), None);
-    assert_eq!(rt; table.count_of(2), 1);
+    assert!(rt; table.pins_of(2) == 1 && table.evict(2).is_none() && table.count_of(2) == 1);
     table.unpin(2);
     table.unpin(2);
     let forget = Forget {
@@ -50,13 +54,13 @@ fn a_pinned_node_stays<T: CountTable + Drop>(
     Ok(())
 }
 
-fn nodes_are_listed_in_rising_id<T: CountTable<Heap = Global> + Drop>(
+fn nodes_are_listed_in_rising_id<T: CountTable<Heap = Global>>(
     rt: &impl Abort,
     alloc: Global,
-    mut table: T,
+    table: &mut T,
 ) -> Result<(), AllocError> {
     for id in [9, 3, 5, 3] {
-        assert_eq!(rt; learn(&mut table, id, 7)?, Ok(()));
+        assert_eq!(rt; learn(table, id, 7)?, Ok(()));
     }
     table.reserve(4)?;
     let nodes = table.nodes(alloc)?;
@@ -71,9 +75,9 @@ fn all<T: CountTable<Heap = Global> + Drop>(
     rt: &impl Abort,
     alloc: Global,
 ) -> Result<(), AllocError> {
-    forgets_the_whole_count(rt, T::new(alloc))?;
-    a_pinned_node_stays(rt, T::new(alloc))?;
-    nodes_are_listed_in_rising_id(rt, alloc, T::new(alloc))
+    forgets_the_whole_count(rt, &mut T::new(alloc))?;
+    a_pinned_node_stays(rt, &mut T::new(alloc))?;
+    nodes_are_listed_in_rising_id(rt, alloc, &mut T::new(alloc))
 }
 
 #[test]

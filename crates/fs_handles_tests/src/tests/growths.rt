@@ -25,19 +25,8 @@ fn fill<A: Allocator + Copy>(
     Ok(opened)
 }
 
-/// Asks for room in a full table with the `n`th growth refused. Says whether that growth came.
-fn refused_at<A: Allocator + Copy>(
-    rt: &impl Abort,
-    mut table: HandleTable<A>,
-    heap: &FailAt<Global>,
-    n: u64,
-) -> Result<bool, AllocError> {
-    let opened = fill(&mut table, heap)?;
-    heap.refuse(n);
-    let outcome = table.reserve();
-    let refused = heap.left() == 0;
-    heap.refuse(0);
-    assert_eq!(rt; outcome.is_err(), refused, "{n}");
+/// What is seen of a table of so many open files, each opened once, from 0 on.
+fn check_full<A: Allocator + Copy>(rt: &impl Abort, table: &HandleTable<A>, opened: u64, n: u64) {
     assert!(rt; 0 < opened && opened < 64, "{opened}");
     assert_eq!(rt;
         table.numbers_left(),
@@ -46,11 +35,37 @@ fn refused_at<A: Allocator + Copy>(
     );
     assert!(rt; table.file_of(1) == Some(0) && table.has(0), "{n}");
     assert!(rt; !table.has(opened), "{n}");
+}
+
+/// Asks for room, and then once more: there is room already.
+fn reserve_twice<A: Allocator + Copy>(
+    rt: &impl Abort,
+    table: &mut HandleTable<A>,
+    heap: &FailAt<Global>,
+) -> Result<(), AllocError> {
     table.reserve()?;
     heap.refuse(1);
     table.reserve()?;
     assert_eq!(rt; heap.left(), 1, "the room was there");
     heap.refuse(0);
+    Ok(())
+}
+
+/// Asks for room in a full table with the `n`th growth refused. Says whether that growth came.
+fn refused_at<A: Allocator + Copy>(
+    rt: &impl Abort,
+    table: &mut HandleTable<A>,
+    heap: &FailAt<Global>,
+    n: u64,
+) -> Result<bool, AllocError> {
+    let opened = fill(table, heap)?;
+    heap.refuse(n);
+    let outcome = table.reserve();
+    let refused = heap.left() == 0;
+    heap.refuse(0);
+    assert_eq!(rt; outcome.is_err(), refused, "{n}");
+    check_full(rt, table, opened, n);
+    reserve_twice(rt, table, heap)?;
     Ok(refused)
 }
 
@@ -82,7 +97,8 @@ fn each_refused<A: Allocator + Copy>(
 ) -> Result<(), AllocError> {
     let mut growths = 0u64;
     for n in 1..24u64 {
-        if refused_at(rt, HandleTable::new(alloc), heap, n)? {
+        let mut table = HandleTable::new(alloc);
+        if refused_at(rt, &mut table, heap, n)? {
             growths = n;
         }
     }

@@ -1,7 +1,7 @@
 //! Both representations give the same answers.
 use super::{give_again, give_first};
 use fs_nodes::{ListNodes, NodeStore, NodeTable, TooMany};
-use std::alloc::AllocError;
+use std::alloc::{AllocError, Global};
 use std::process::Abort;
 use std::test::Fail;
 
@@ -72,20 +72,41 @@ fn same_step(
     Ok(matches!(answer, Answer::Taken(Ok(()))))
 }
 
-#[test]
-fn both_answer_alike(rt: HostRuntime) -> Result<(), Fail> {
-    let mut table: NodeTable = NodeStore::new(rt.alloc());
-    let mut list: ListNodes = NodeStore::new(rt.alloc());
+/// Six hundred drawn calls on both, of which some take lookups back.
+fn same_steps(
+    rt: &impl Abort,
+    table: &mut NodeTable,
+    list: &mut ListNodes,
+) -> Result<(), AllocError> {
     let mut number = 1u64;
     let mut taken = 0u64;
     for _step in 0..600u64 {
         number = next_number(number);
-        if same_step(&rt, &mut table, &mut list, number)? {
+        if same_step(rt, table, list, number)? {
             taken = taken.saturating_add(1);
         }
     }
     assert!(rt; taken > 20, "{taken}");
-    let nodes = table.nodes(rt.alloc())?;
-    assert!(rt; nodes.as_slice() == list.nodes(rt.alloc())?.as_slice());
+    Ok(())
+}
+
+/// Both list the same nodes.
+fn same_nodes(
+    rt: &impl Abort,
+    alloc: Global,
+    table: &NodeTable,
+    list: &ListNodes,
+) -> Result<(), AllocError> {
+    let nodes = table.nodes(alloc)?;
+    assert!(rt; nodes.as_slice() == list.nodes(alloc)?.as_slice());
+    Ok(())
+}
+
+#[test]
+fn both_answer_alike(rt: HostRuntime) -> Result<(), Fail> {
+    let mut table: NodeTable = NodeStore::new(rt.alloc());
+    let mut list: ListNodes = NodeStore::new(rt.alloc());
+    same_steps(&rt, &mut table, &mut list)?;
+    same_nodes(&rt, rt.alloc(), &table, &list)?;
     Ok(())
 }

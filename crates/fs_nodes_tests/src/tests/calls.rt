@@ -29,16 +29,27 @@ fn order_after_clear<S: NodeStore>(rt: &impl Abort, store: &mut S) -> Result<(),
     Ok(())
 }
 
-/// Lookups are counted one by one, and taken back in any number.
-fn counts<S: NodeStore>(rt: &impl Abort, store: &mut S) -> Result<(), AllocError> {
+/// Counts three lookups of one file.
+fn count_three<S: NodeStore>(rt: &impl Abort, store: &mut S) -> Result<(), AllocError> {
     assert!(rt; give_first(store, 70)? == (2, 1));
     assert!(rt; give_again(store, 70, 2)? == (2, 1));
     assert!(rt; give_again(store, 70, 2)? == (2, 1));
-    assert!(rt; store.take_back(2, 4) == Err(TooMany) && store.count_of(2) == 3);
-    assert!(rt; store.take_back(2, 2) == Ok(()) && store.count_of(2) == 1);
-    assert!(rt; store.take_back(2, 0) == Ok(()) && store.count_of(2) == 1);
-    assert!(rt; store.take_back(2, 1) == Ok(()) && store.count_of(2) == 0);
-    assert!(rt; store.take_back(2, 0) == Err(TooMany) && !store.has(70));
+    Ok(())
+}
+
+/// Takes lookups back, and gives how many are left.
+fn left<S: NodeStore>(store: &mut S, nlookup: u64) -> Result<u64, TooMany> {
+    store.take_back(2, nlookup)?;
+    Ok(store.count_of(2))
+}
+
+/// Lookups are counted one by one, and taken back in any number.
+fn counts<S: NodeStore>(rt: &impl Abort, store: &mut S) -> Result<(), AllocError> {
+    count_three(rt, store)?;
+    assert!(rt; left(store, 4) == Err(TooMany) && store.count_of(2) == 3);
+    assert!(rt; left(store, 2) == Ok(1) && left(store, 0) == Ok(1));
+    assert!(rt; left(store, 1) == Ok(0) && left(store, 0) == Err(TooMany));
+    assert!(rt; !store.has(70));
     Ok(())
 }
 

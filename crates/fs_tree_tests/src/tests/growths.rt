@@ -19,14 +19,27 @@ const EVENTS: [(Operation, Answer); 9] = [
     (Operation::Lookup(0, "moved"), Answer::File(2)),
 ];
 
+/// How many names the root lists.
+fn names_listed<A: Allocator + Copy>(tree: &Tree<A>) -> Result<usize, TreeError> {
+    Ok(tree.readdir(0, 0, 4096)?.len())
+}
+
+fn size_of<A: Allocator + Copy>(tree: &Tree<A>, file: u64) -> u64 {
+    if file < 1 << 62 {
+        tree.getattr(file).size
+    } else {
+        0
+    }
+}
+
 /// What can be seen of the tree.
 fn seen<A: Allocator + Copy>(tree: &Tree<A>) -> Result<(u64, u64, usize, usize, u64), TreeError> {
     Ok((
         tree.births_left(),
         tree.serials_left(),
-        tree.readdir(0, 0, 4096)?.len(),
+        names_listed(tree)?,
         tree.names_of(2),
-        tree.getattr(2).size,
+        size_of(tree, 2),
     ))
 }
 
@@ -53,6 +66,22 @@ fn one_event<A: Allocator + Copy>(
 }
 
 /// A run with the `n`th growth refused. Says whether that growth came.
+fn refused_in<A: Allocator + Copy>(
+    rt: &impl Abort,
+    tree: &mut Tree<A>,
+    heap: &FailAt<Global>,
+    n: u64,
+) -> Result<bool, TreeError> {
+    heap.refuse(n);
+    let mut refused = false;
+    for event in &EVENTS {
+        refused |= one_event(rt, tree, heap, event)?;
+    }
+    heap.refuse(0);
+    Ok(refused)
+}
+
+/// The same in a new tree.
 fn refused_at<A: Allocator + Copy>(
     rt: &impl Abort,
     alloc: A,
@@ -61,13 +90,7 @@ fn refused_at<A: Allocator + Copy>(
 ) -> Result<bool, TreeError> {
     heap.refuse(0);
     let mut tree = Tree::new(alloc)?;
-    heap.refuse(n);
-    let mut refused = false;
-    for event in &EVENTS {
-        refused |= one_event(rt, &mut tree, heap, event)?;
-    }
-    heap.refuse(0);
-    Ok(refused)
+    refused_in(rt, &mut tree, heap, n)
 }
 
 #[test]
@@ -84,14 +107,17 @@ fn each_growth_refused(rt: HostRuntime) -> Result<(), Fail> {
     Ok(())
 }
 
-/// Look-ups and what takes names or files away need no memory.
-fn takes_none<A: Allocator + Copy>(rt: &impl Abort, tree: &mut Tree<A>) {
-    assert!(rt; tree.lookup(1, b"f") == Ok(Some(2)));
-    assert!(rt; tree.unlink(1, b"f") == Ok(()) && tree.unlink(0, b"g") == Ok(()));
-    assert!(rt; tree.rmdir(0, b"d") == Ok(()));
+/// Look-ups and what takes names away.
+const REMOVALS: [(Operation, Answer); 4] = [
+    (Operation::Lookup(1, "f"), Answer::File(2)),
+    (Operation::Unlink(1, "f"), Answer::Done),
+    (Operation::Unlink(0, "g"), Answer::Done),
+    (Operation::Rmdir(0, "d"), Answer::Done),
+];
+
+fn discard_all<A: Allocator + Copy>(tree: &mut Tree<A>) {
     tree.discard(2);
     tree.discard_nameless();
-    assert_eq!(rt; tree.next_birth(), 3);
 }
 
 fn perform_events<A: Allocator + Copy>(
@@ -104,18 +130,31 @@ fn perform_events<A: Allocator + Copy>(
     Ok(())
 }
 
+/// They, and what takes files away, need no memory.
+fn takes_none<A: Allocator + Copy>(
+    rt: &impl Abort,
+    tree: &mut Tree<A>,
+    heap: &FailAt<Global>,
+) -> Result<(), TreeError> {
+    perform_events(tree, &EVENTS[..4])?;
+    heap.refuse(1);
+    for (operation, answer) in &REMOVALS {
+        assert!(rt; perform(tree, *operation) == Ok(*answer));
+    }
+    discard_all(tree);
+    assert_eq!(rt; tree.next_birth(), 3);
+    assert_eq!(rt; heap.left(), 1);
+    heap.refuse(0);
+    Ok(())
+}
+
 fn removals_at<A: Allocator + Copy>(
     rt: &impl Abort,
     alloc: A,
     heap: &FailAt<Global>,
 ) -> Result<(), TreeError> {
     let mut tree = Tree::new(alloc)?;
-    perform_events(&mut tree, &EVENTS[..4])?;
-    heap.refuse(1);
-    takes_none(rt, &mut tree);
-    assert_eq!(rt; heap.left(), 1);
-    heap.refuse(0);
-    Ok(())
+    takes_none(rt, &mut tree, heap)
 }
 
 #[test]

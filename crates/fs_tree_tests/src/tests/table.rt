@@ -125,46 +125,43 @@ const RENAMES: [Row; 13] = [
     (Operation::Rename(0, "d", 3, "inner"), Ok(Answer::Done)),
 ];
 
-fn started(rt: &impl Abort, alloc: Global) -> Result<Tree, TreeError> {
+/// Checks rows in a tree that is as `START` leaves it. Gives the coming birth, and how many names the file 2 has.
+fn check_table(rt: &impl Abort, alloc: Global, rows: &[Row]) -> Result<(u64, usize), TreeError> {
     let mut tree = Tree::new(alloc)?;
     check_rows(rt, &mut tree, &START);
-    Ok(tree)
+    check_rows(rt, &mut tree, rows);
+    Ok((tree.next_birth(), tree.names_of(2)))
 }
 
 #[test]
 fn lookups_and_makes(rt: HostRuntime) -> Result<(), Fail> {
-    let mut tree = started(&rt, rt.alloc())?;
-    check_rows(&rt, &mut tree, &LOOKUPS_AND_MAKES);
-    assert_eq!(rt; tree.next_birth(), 7);
+    let (next_birth, _names) = check_table(&rt, rt.alloc(), &LOOKUPS_AND_MAKES)?;
+    assert_eq!(rt; next_birth, 7);
     Ok(())
 }
 
 #[test]
 fn removals(rt: HostRuntime) -> Result<(), Fail> {
-    let mut tree = started(&rt, rt.alloc())?;
-    check_rows(&rt, &mut tree, &REMOVALS);
+    let _seen = check_table(&rt, rt.alloc(), &REMOVALS)?;
     Ok(())
 }
 
 #[test]
 fn links(rt: HostRuntime) -> Result<(), Fail> {
-    let mut tree = started(&rt, rt.alloc())?;
-    check_rows(&rt, &mut tree, &LINKS);
-    assert_eq!(rt; tree.names_of(2), 2);
+    let (_next_birth, names) = check_table(&rt, rt.alloc(), &LINKS)?;
+    assert_eq!(rt; names, 2);
     Ok(())
 }
 
 #[test]
 fn refused_renames(rt: HostRuntime) -> Result<(), Fail> {
-    let mut tree = started(&rt, rt.alloc())?;
-    check_rows(&rt, &mut tree, &REFUSED_RENAMES);
+    let _seen = check_table(&rt, rt.alloc(), &REFUSED_RENAMES)?;
     Ok(())
 }
 
 #[test]
 fn renames(rt: HostRuntime) -> Result<(), Fail> {
-    let mut tree = started(&rt, rt.alloc())?;
-    check_rows(&rt, &mut tree, &RENAMES);
+    let _seen = check_table(&rt, rt.alloc(), &RENAMES)?;
     Ok(())
 }
 
@@ -177,7 +174,8 @@ fn check_refusals(rt: &impl Abort, tree: &Tree) {
 
 #[test]
 fn what_would_be_refused(rt: HostRuntime) -> Result<(), Fail> {
-    let tree = started(&rt, rt.alloc())?;
+    let mut tree = Tree::new(rt.alloc())?;
+    check_rows(&rt, &mut tree, &START);
     check_refusals(&rt, &tree);
     Ok(())
 }

@@ -2,7 +2,7 @@
 
 use super::plain::{Plain, Row};
 use super::{Operation, perform};
-use fs_tree::{Record, Tree, TreeError};
+use fs_tree::{Kind, Record, Tree, TreeError};
 use std::process::Abort;
 use std::test::Fail;
 
@@ -54,16 +54,30 @@ impl Draws {
     }
 }
 
-fn check_file(rt: &impl Abort, tree: &Tree, plain: &Plain, file: u64) {
+/// What is seen of a file: its kind, size and names, and whether it has none.
+type Seen = (Kind, u64, usize, bool);
+
+fn seen_in_tree(tree: &Tree, file: u64) -> Seen {
     if file >= 1 << 62 {
-        return;
+        return (Kind::Other, 0, 0, true);
     }
-    let seen = tree.getattr(file);
-    assert!(rt; seen.kind == plain.kind(file) && seen.size == plain.size(file));
-    assert!(rt;
-        seen.nlink as usize == plain.links(file)
-            && tree.is_nameless(file) == plain.is_nameless(file)
-    );
+    let attributes = tree.getattr(file);
+    let links = attributes.nlink as usize;
+    (
+        attributes.kind,
+        attributes.size,
+        links,
+        tree.is_nameless(file),
+    )
+}
+
+fn seen_in_plain(plain: &Plain, file: u64) -> Seen {
+    let links = plain.links(file);
+    (plain.kind(file), plain.size(file), links, links == 0)
+}
+
+fn check_file(rt: &impl Abort, tree: &Tree, plain: &Plain, file: u64) {
+    assert!(rt; seen_in_tree(tree, file) == seen_in_plain(plain, file));
 }
 
 fn is_row(record: &Record<'_>, plain: &Plain, row: &Row) -> bool {

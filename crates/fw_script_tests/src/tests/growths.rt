@@ -78,6 +78,24 @@ fn write_both<A: Allocator + Copy>(
     Ok(())
 }
 
+/// Runs the lines of a script, and prints what they come to.
+fn print_lines<A: Allocator + Copy>(
+    rt: &impl Abort,
+    heap: &FailAt<Global>,
+    world: &mut WorldIn<A>,
+    script: &str,
+    out: &mut Vec<u8>,
+) -> Result<(), Fail> {
+    for line in script.lines() {
+        match read_line(line.as_bytes()) {
+            Ok(Line::Event(event)) => write_event(rt, heap, world, &event, out)?,
+            Ok(Line::Show) => write_both(heap, world, out)?,
+            Err(_) => {}
+        }
+    }
+    Ok(())
+}
+
 /// Runs a script whose n-th growth is refused, and gives what it prints.
 fn printed<A: Allocator + Copy>(
     rt: &impl Abort,
@@ -87,16 +105,10 @@ fn printed<A: Allocator + Copy>(
     n: u64,
     script: &str,
 ) -> Result<Vec<u8>, Fail> {
-    let mut world = WorldIn::new(alloc)?;
     let mut out = Vec::new(outer);
+    let mut world = WorldIn::new(alloc)?;
     heap.refuse(n);
-    for line in script.lines() {
-        match read_line(line.as_bytes()) {
-            Ok(Line::Event(event)) => write_event(rt, heap, &mut world, &event, &mut out)?,
-            Ok(Line::Show) => write_both(heap, &world, &mut out)?,
-            Err(_) => {}
-        }
-    }
+    print_lines(rt, heap, &mut world, script, &mut out)?;
     Ok(out)
 }
 
@@ -116,6 +128,22 @@ fn is_refused_at<A: Allocator + Copy>(
     Ok(is_refused)
 }
 
+/// Runs a row with each of its growths refused in turn, and gives how many there are.
+fn growths_of<A: Allocator + Copy>(
+    rt: &impl Abort,
+    alloc: A,
+    heap: &FailAt<Global>,
+    outer: Global,
+    row: &Row,
+) -> Result<u64, Fail> {
+    for n in 1..4000u64 {
+        if !is_refused_at(rt, alloc, heap, outer, n, row)? {
+            return Ok(n - 1);
+        }
+    }
+    Ok(4000)
+}
+
 #[test]
 fn each_growth_of_each_row_refused(rt: HostRuntime) -> Result<(), Fail> {
     let heap = FailAt::new(rt.alloc());
@@ -123,16 +151,13 @@ fn each_growth_of_each_row_refused(rt: HostRuntime) -> Result<(), Fail> {
         if row.hex {
             continue;
         }
-        let mut refused = 0;
-        for n in 1..4000u64 {
-            if !is_refused_at(&rt, &heap, &heap, rt.alloc(), n, row)? {
-                break;
-            }
-            refused = n;
-        }
-        assert!(rt; refused < 3999, "{}", row.name);
+        let growths = growths_of(&rt, &heap, &heap, rt.alloc(), row)?;
         let mounts = row.script.contains("read p");
-        assert!(rt; !mounts || 9 < refused, "{} {refused}", row.name);
+        assert!(rt;
+            growths < 4000 && (!mounts || 9 < growths),
+            "{} {growths}",
+            row.name
+        );
     }
     Ok(())
 }

@@ -6,6 +6,7 @@ use super::copies::{
 };
 use super::many_calls::SIXTY_FOUR_CALLS_THEN_FULL;
 use fw_script::run_script;
+use std::process::Abort;
 use std::test::Fail;
 
 #[derive(Drop)]
@@ -433,6 +434,13 @@ pub(super) const ROWS: [Row; 17] = [
     STORM_OF_SIXTY_FOUR_COPIES,
 ];
 
+/// What a row's run gives: the exit status 0, its output, and nothing on standard error.
+pub(super) fn check_row(rt: &impl Abort, row: &Row, status: u8, out: &[u8], faults: &[u8]) {
+    assert_eq!(rt; status, 0, "{}", row.name);
+    assert!(rt; out == row.output.as_bytes(), "{}", row.name);
+    assert!(rt; faults.is_empty(), "{}", row.name);
+}
+
 #[test]
 fn prints_each_row(rt: HostRuntime) -> Result<(), Fail> {
     for row in &ROWS {
@@ -440,9 +448,7 @@ fn prints_each_row(rt: HostRuntime) -> Result<(), Fail> {
         let mut out = Vec::new(rt.alloc());
         let mut faults = Vec::new(rt.alloc());
         let status = run_script(rt.alloc(), "-", row.hex, &mut input, &mut out, &mut faults);
-        assert_eq!(rt; status, 0, "{}", row.name);
-        assert!(rt; out.as_slice() == row.output.as_bytes(), "{}", row.name);
-        assert!(rt; faults.is_empty(), "{}", row.name);
+        check_row(&rt, row, status, &out, &faults);
     }
     Ok(())
 }

@@ -1,6 +1,6 @@
 //! Readers and writers that fail, and memory that is wanting.
 
-use super::rows::STAT_OF_ROOT;
+use super::rows::{STAT_OF_ROOT, check_row};
 use fail_at::FailAt;
 use fw_script::{run_frame, run_script};
 use std::alloc::{Allocator, Global};
@@ -97,6 +97,19 @@ fn output_refused_at_the_flush(rt: HostRuntime) -> Result<(), Fail> {
     Ok(())
 }
 
+/// What a run comes to in which a growth was refused: no memory before the first event, or a refused event.
+fn check_refused(rt: &impl Abort, n: u64, status: u8, out: &[u8], faults: &[u8]) {
+    if status == 3 {
+        assert!(rt; out.is_empty(), "{n}");
+        assert!(rt; faults == b"no memory\n".as_slice(), "{n}");
+    } else {
+        assert_eq!(rt; status, 0, "{n}");
+        let printed = str::from_utf8(out).unwrap_or("");
+        assert!(rt; printed.contains("refused 1 NoMemory\n"), "{n}");
+        assert!(rt; faults.is_empty(), "{n}");
+    }
+}
+
 /// Runs a script whose n-th growth is refused, and says whether one was.
 fn is_refused_at<A: Allocator + Copy>(
     rt: &impl Abort,
@@ -111,17 +124,10 @@ fn is_refused_at<A: Allocator + Copy>(
     heap.refuse(n);
     let status = run_script(alloc, "-", false, &mut input, &mut out, &mut faults);
     let is_refused = heap.left() == 0;
-    if !is_refused {
-        assert_eq!(rt; status, 0, "{n}");
-        assert!(rt; out.as_slice() == STAT_OF_ROOT.output.as_bytes(), "{n}");
-    } else if status == 3 {
-        assert!(rt; out.is_empty(), "{n}");
-        assert!(rt; faults.as_slice() == b"no memory\n".as_slice(), "{n}");
+    if is_refused {
+        check_refused(rt, n, status, &out, &faults);
     } else {
-        assert_eq!(rt; status, 0, "{n}");
-        let printed = str::from_utf8(out.as_slice()).unwrap_or("");
-        assert!(rt; printed.contains("refused 1 NoMemory\n"), "{n}");
-        assert!(rt; faults.is_empty(), "{n}");
+        check_row(rt, &STAT_OF_ROOT, status, &out, &faults);
     }
     is_refused
 }
