@@ -22,3 +22,9 @@ fn queue_forget<Q: QueueTable<u64>>(queues: &mut Q, node: u64, count: u64) -> Re
     queues.forget(node, count);
     Ok(())
 }
+
+/// The number of the pending request at a place, and what is kept of it.
+fn pending<Q: QueueTable<u64>>(queues: &Q, place: usize) -> Option<(u64, u64)> {
+    let (unique, kept) = queues.pending(place)?;
+    Some((unique, *kept))
+}

@@ -1,11 +1,11 @@
 //! Both representations give the same answers.
-use super::{queue, queue_forget};
+use super::{pending, queue, queue_forget};
 use fk_queues::{Forgets, IntrEffect, ListQueues, NoMemory, QueueTable, Queues};
 use std::process::Abort;
 use std::test::Fail;
 
 /// What a call gave.
-#[derive(Debug, PartialEq, Eq, Drop)]
+#[derive(Clone, Copy, PartialEq, Eq)]
 enum Answer {
     Nothing,
     Number(Option<u64>),
@@ -88,13 +88,10 @@ fn call<Q: QueueTable<u64>>(queues: &mut Q, pick: u64, argument: u64) -> Result<
 
 /// What the looks say at a place and under a number.
 fn looks<Q: QueueTable<u64>>(queues: &Q, argument: u64) -> [Option<u64>; 5] {
-    let pending = match queues.pending((argument % 5) as usize) {
-        Some((unique, kept)) => (Some(unique), Some(*kept)),
-        None => (None, None),
-    };
+    let request = pending(queues, (argument % 5) as usize);
     [
-        pending.0,
-        pending.1,
+        request.map(|(unique, _kept)| unique),
+        request.map(|(_unique, kept)| kept),
         queues.waiting(argument % 80 * 2).copied(),
         queues.first_interrupt(),
         Some(queues.numbers_left()),
@@ -106,36 +103,47 @@ fn next_number(number: u64) -> u64 {
     number.wrapping_mul(48_271) % 0x7fff_ffff
 }
 
-/// One call on both. Says whether it was a signal that took a request out or queued an INTERRUPT.
-fn same_step(
-    rt: &impl Abort,
-    map: &mut Queues<u64>,
-    lists: &mut ListQueues<u64>,
+/// One call on both, and the looks after it. What the call gave, if both say the same.
+fn same_step<M: QueueTable<u64>, L: QueueTable<u64>>(
+    map: &mut M,
+    lists: &mut L,
     number: u64,
-) -> Result<bool, NoMemory> {
+) -> Result<Option<Answer>, NoMemory> {
     let pick = number % 64;
     let argument = number / 64 % 0x1_0000;
     let answer = call(map, pick, argument)?;
-    assert_eq!(rt; answer, call(lists, pick, argument)?);
-    assert_eq!(rt; looks(map, argument), looks(lists, argument));
-    Ok(matches!(
-        answer,
-        Answer::Effect(IntrEffect::Queued | IntrEffect::Dequeued)
-    ))
+    let is_same = answer == call(lists, pick, argument)?
+        && looks(map, argument) == looks(lists, argument);
+    Ok(is_same.then_some(answer))
+}
+
+/// Six hundred calls on both. Gives how many were signals that took a request out or queued an INTERRUPT.
+fn same_steps<M: QueueTable<u64>, L: QueueTable<u64>>(
+    rt: &impl Abort,
+    map: &mut M,
+    lists: &mut L,
+) -> Result<u64, NoMemory> {
+    let mut number = 42u64;
+    let mut signals = 0u64;
+    for step in 0..600u64 {
+        number = next_number(number);
+        let answer = same_step(map, lists, number)?;
+        assert!(rt; answer.is_some(), "step {step}");
+        if matches!(
+            answer,
+            Some(Answer::Effect(IntrEffect::Queued | IntrEffect::Dequeued))
+        ) {
+            signals = signals.saturating_add(1);
+        }
+    }
+    Ok(signals)
 }
 
 #[test]
 fn both_answer_alike(rt: HostRuntime) -> Result<(), Fail> {
     let mut map: Queues<u64> = QueueTable::new(rt.alloc());
     let mut lists: ListQueues<u64> = QueueTable::new(rt.alloc());
-    let mut number = 42u64;
-    let mut signals = 0u64;
-    for _step in 0..600u64 {
-        number = next_number(number);
-        if same_step(&rt, &mut map, &mut lists, number)? {
-            signals = signals.saturating_add(1);
-        }
-    }
+    let signals = same_steps(&rt, &mut map, &mut lists)?;
     assert!(rt; signals > 10);
     Ok(())
 }

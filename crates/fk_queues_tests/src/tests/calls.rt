@@ -1,110 +1,184 @@
 //! Each call once, and what an abort leaves.
-use super::{queue, queue_forget};
+use super::{pending, queue, queue_forget};
 use fk_queues::{Forgets, IntrEffect, ListQueues, NoMemory, QueueTable, Queues};
 use std::alloc::Global;
 use std::process::Abort;
 use std::test::Fail;
 
-fn requests_by_number_and_place<Q: QueueTable<u64, Heap = Global> + Drop>(
-    rt: &impl Abort,
-    mut queues: Q,
-) -> Result<(), NoMemory> {
-    assert_eq!(rt; queues.numbers_left(), 0x1fff_ffff_ffff_ffff);
-    assert_eq!(rt; queue(&mut queues, 70)?, 2);
-    assert_eq!(rt; queue(&mut queues, 71)?, 4);
-    assert_eq!(rt; queue(&mut queues, 72)?, 6);
-    assert!(rt; matches!(queues.pending(1), Some((4, 71))));
-    assert_eq!(rt; queues.read_pending(1), Some(4));
-    assert!(rt; matches!(queues.pending(1), Some((6, 72))));
-    assert_eq!(rt; queues.read_pending(2), None);
-    answers_by_number(rt, queues);
-    Ok(())
-}
-
-/// Requests 2, 4 and 6 were queued, and 4 was read.
-fn answers_by_number<Q: QueueTable<u64, Heap = Global> + Drop>(rt: &impl Abort, mut queues: Q) {
-    assert!(rt; matches!(queues.waiting(4), Some(71)));
-    assert!(rt; queues.waiting(2).is_none());
-    assert_eq!(rt; queues.answer(2), None);
-    assert_eq!(rt; queues.answer(5), None);
-    assert_eq!(rt; queues.answer(4), Some(71));
-    assert_eq!(rt; queues.answer(4), None);
-    assert_eq!(rt; queues.interrupt(4, true), IntrEffect::None);
-    assert_eq!(rt; queues.numbers_left(), 0x1fff_ffff_ffff_fffc);
-}
-
-fn forgets_in_frames<Q: QueueTable<u64, Heap = Global> + Drop>(
-    rt: &impl Abort,
-    mut queues: Q,
-) -> Result<(), NoMemory> {
-    for node in 2..72 {
-        queue_forget(&mut queues, node, 100 - node)?;
-    }
-    assert!(rt; queues.first_forgets(0).is_none());
-    assert!(rt; queues.first_forgets(65).is_none());
-    assert!(rt; matches!(queues.first_forgets(1), Some((2, _))));
-    if queues.numbers_left() == 0 {
-        return Err(NoMemory);
-    }
-    assert!(rt; is_frame(queues.read_forgets(64), 2, 64, (2, 98), (65, 35)));
-    assert!(rt; queues.first_forgets(7).is_none());
-    assert!(rt; is_frame(queues.first_forgets(6), 4, 6, (66, 34), (71, 29)));
-    Ok(())
-}
-
-/// Whether a read gave this number and so many forgets, from the first to the last.
-fn is_frame(
-    read: Option<(u64, Forgets)>,
+/// The forgets of a frame: its number, how many there are, the first and the last.
+#[derive(Clone, Copy)]
+struct Frame {
     unique: u64,
     count: usize,
     first: (u64, u64),
     last: (u64, u64),
-) -> bool {
-    let Some((number, forgets)) = read else {
+}
+
+/// A call, and what it must give.
+#[derive(Clone, Copy)]
+enum Row {
+    NumbersLeft(u64),
+    /// Queues a request with what is kept of it: its number.
+    Queue(u64, u64),
+    /// The request at a place: its number, and what is kept.
+    Pending(usize, Option<(u64, u64)>),
+    ReadPending(usize, Option<u64>),
+    /// What is kept of the request under a number.
+    Waiting(u64, Option<u64>),
+    Answer(u64, Option<u64>),
+    /// Signals the request under a number, fatally or not.
+    Interrupt(u64, bool, IntrEffect),
+    FirstInterrupt(Option<u64>),
+    /// Queues so many lookups of a node to forget.
+    Forget(u64, u64),
+    /// So many forgets make no frame.
+    NoForgets(usize),
+    FirstForgets(Frame),
+    ReadForgets(Frame),
+    NoInterrupts,
+    Abort,
+}
+
+/// Whether this is the frame.
+fn is_frame(read: Option<(u64, Forgets)>, frame: &Frame) -> bool {
+    let Some((unique, forgets)) = read else {
         return false;
     };
     let pairs = forgets.as_slice();
-    number == unique
-        && pairs.len() == count
-        && pairs.first().copied() == Some(first)
-        && pairs.last().copied() == Some(last)
+    unique == frame.unique
+        && pairs.len() == frame.count
+        && pairs.first().copied() == Some(frame.first)
+        && pairs.last().copied() == Some(frame.last)
 }
 
-fn abort_empties_all<Q: QueueTable<u64, Heap = Global> + Drop>(
-    rt: &impl Abort,
-    mut queues: Q,
-) -> Result<(), NoMemory> {
-    for kept in 70..73 {
-        let _unique = queue(&mut queues, kept)?;
+/// Reads forgets, and says whether they are the frame.
+fn reads<Q: QueueTable<u64>>(queues: &mut Q, frame: &Frame) -> Result<bool, NoMemory> {
+    if queues.numbers_left() == 0 {
+        return Err(NoMemory);
     }
-    queue_forget(&mut queues, 9, 3)?;
-    assert_eq!(rt; queues.read_pending(0), Some(2));
-    assert_eq!(rt; queues.read_pending(0), Some(4));
-    assert_eq!(rt; queues.interrupt(2, true), IntrEffect::Queued);
-    queues.no_interrupts();
-    queues.abort();
-    is_empty(rt, &queues);
-    assert_eq!(rt; queue(&mut queues, 73)?, 2);
-    assert_eq!(rt; queues.interrupt(2, false), IntrEffect::Flagged);
+    Ok(is_frame(queues.read_forgets(frame.count), frame))
+}
+
+/// Makes the call, and says whether it gave what it must.
+fn gives<Q: QueueTable<u64>>(queues: &mut Q, row: &Row) -> Result<bool, NoMemory> {
+    Ok(match *row {
+        Row::NumbersLeft(left) => queues.numbers_left() == left,
+        Row::Queue(kept, unique) => queue(queues, kept)? == unique,
+        Row::Pending(place, request) => pending(queues, place) == request,
+        Row::ReadPending(place, unique) => queues.read_pending(place) == unique,
+        Row::Waiting(unique, kept) => queues.waiting(unique).copied() == kept,
+        Row::Answer(unique, kept) => queues.answer(unique) == kept,
+        Row::Interrupt(unique, fatal, effect) => queues.interrupt(unique, fatal) == effect,
+        Row::FirstInterrupt(unique) => queues.first_interrupt() == unique,
+        Row::Forget(node, count) => {
+            queue_forget(queues, node, count)?;
+            true
+        }
+        Row::NoForgets(count) => queues.first_forgets(count).is_none(),
+        Row::FirstForgets(frame) => is_frame(queues.first_forgets(frame.count), &frame),
+        Row::ReadForgets(frame) => reads(queues, &frame)?,
+        Row::NoInterrupts => {
+            queues.no_interrupts();
+            true
+        }
+        Row::Abort => {
+            queues.abort();
+            true
+        }
+    })
+}
+
+/// Makes the calls of the rows in their order.
+fn check<Q: QueueTable<u64>>(
+    rt: &impl Abort,
+    queues: &mut Q,
+    rows: &[Row],
+) -> Result<(), NoMemory> {
+    for (place, row) in rows.iter().enumerate() {
+        assert!(rt; gives(queues, row)?, "row {place}");
+    }
     Ok(())
 }
 
-/// The queues are those of a new mount.
-fn is_empty<Q: QueueTable<u64>>(rt: &impl Abort, queues: &Q) {
-    assert!(rt; queues.pending(0).is_none());
-    assert!(rt; queues.waiting(2).is_none() && queues.waiting(4).is_none());
-    assert_eq!(rt; queues.first_interrupt(), None);
-    assert!(rt; queues.first_forgets(1).is_none());
-    assert_eq!(rt; queues.numbers_left(), 0x1fff_ffff_ffff_ffff);
+static REQUESTS: [Row; 16] = [
+    Row::NumbersLeft(0x1fff_ffff_ffff_ffff),
+    Row::Queue(70, 2),
+    Row::Queue(71, 4),
+    Row::Queue(72, 6),
+    Row::Pending(1, Some((4, 71))),
+    Row::ReadPending(1, Some(4)),
+    Row::Pending(1, Some((6, 72))),
+    Row::ReadPending(2, None),
+    Row::Waiting(4, Some(71)),
+    Row::Waiting(2, None),
+    Row::Answer(2, None),
+    Row::Answer(5, None),
+    Row::Answer(4, Some(71)),
+    Row::Answer(4, None),
+    Row::Interrupt(4, true, IntrEffect::None),
+    Row::NumbersLeft(0x1fff_ffff_ffff_fffc),
+];
+
+/// After 70 forgets were queued: of node 2 with 98 lookups, of node 3 with 97, and so on.
+static FRAMES: [Row; 6] = [
+    Row::NoForgets(0),
+    Row::NoForgets(65),
+    Row::FirstForgets(Frame {
+        unique: 2,
+        count: 1,
+        first: (2, 98),
+        last: (2, 98),
+    }),
+    Row::ReadForgets(Frame {
+        unique: 2,
+        count: 64,
+        first: (2, 98),
+        last: (65, 35),
+    }),
+    Row::NoForgets(7),
+    Row::FirstForgets(Frame {
+        unique: 4,
+        count: 6,
+        first: (66, 34),
+        last: (71, 29),
+    }),
+];
+
+fn forgets_in_frames<Q: QueueTable<u64>>(rt: &impl Abort, queues: &mut Q) -> Result<(), NoMemory> {
+    for node in 2..72 {
+        queue_forget(queues, node, 100 - node)?;
+    }
+    check(rt, queues, &FRAMES)
 }
+
+static ABORTED: [Row; 17] = [
+    Row::Queue(70, 2),
+    Row::Queue(71, 4),
+    Row::Queue(72, 6),
+    Row::Forget(9, 3),
+    Row::ReadPending(0, Some(2)),
+    Row::ReadPending(0, Some(4)),
+    Row::Interrupt(2, true, IntrEffect::Queued),
+    Row::NoInterrupts,
+    Row::Abort,
+    // As in a new mount.
+    Row::Pending(0, None),
+    Row::Waiting(2, None),
+    Row::Waiting(4, None),
+    Row::FirstInterrupt(None),
+    Row::NoForgets(1),
+    Row::NumbersLeft(0x1fff_ffff_ffff_ffff),
+    Row::Queue(73, 2),
+    Row::Interrupt(2, false, IntrEffect::Flagged),
+];
 
 fn all<Q: QueueTable<u64, Heap = Global> + Drop>(
     rt: &impl Abort,
     alloc: Global,
 ) -> Result<(), NoMemory> {
-    requests_by_number_and_place(rt, Q::new(alloc))?;
-    forgets_in_frames(rt, Q::new(alloc))?;
-    abort_empties_all(rt, Q::new(alloc))
+    check(rt, &mut Q::new(alloc), &REQUESTS)?;
+    forgets_in_frames(rt, &mut Q::new(alloc))?;
+    check(rt, &mut Q::new(alloc), &ABORTED)
 }
 
 #[test]

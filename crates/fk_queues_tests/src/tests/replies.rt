@@ -7,7 +7,7 @@ use std::process::Abort;
 use std::test::Fail;
 
 /// How far the request under number 2 has come whose INTERRUPT is replied to.
-#[derive(Clone, Copy, Debug, PartialEq, Eq)]
+#[derive(Clone, Copy, PartialEq, Eq)]
 enum Original {
     NeverSignalled,
     InterruptRead,
@@ -17,7 +17,9 @@ enum Original {
 
 /// The reply, the original, and the numbers on the list of INTERRUPTs afterwards, 0 for none: that of request 4 was queued
 /// last before.
-const ROWS: [(InterruptReply, Original, [u64; 2]); 12] = [
+type Row = (InterruptReply, Original, [u64; 2]);
+
+static ROWS: [Row; 12] = [
     (InterruptReply::Again, Original::NeverSignalled, [4, 0]),
     (InterruptReply::Again, Original::InterruptRead, [4, 2]),
     (InterruptReply::Again, Original::InterruptQueued, [2, 4]),
@@ -73,44 +75,52 @@ fn reply_to<Q: QueueTable<u64>>(queues: &mut Q, unique: u64, reply: InterruptRep
     }
 }
 
-/// What signals to requests 6 to 10 do once INTERRUPTs are off, or not.
-fn signals_after<Q: QueueTable<u64>>(rt: &impl Abort, queues: &mut Q, off: bool) {
-    let flagged = if off {
-        IntrEffect::None
-    } else {
-        IntrEffect::Flagged
-    };
-    let queued = if off {
-        IntrEffect::None
-    } else {
-        IntrEffect::Queued
-    };
-    assert_eq!(rt; queues.interrupt(6, false), flagged);
-    assert_eq!(rt; queues.interrupt(8, true), IntrEffect::Dequeued);
-    assert_eq!(rt; queues.read_pending(1), Some(10));
-    assert_eq!(rt; queues.interrupt(10, true), queued);
+/// Whether the numbers are the list of INTERRUPTs, all of which are read: 0 for none.
+fn are_interrupts<Q: QueueTable<u64>>(queues: &mut Q, list: [u64; 2]) -> bool {
+    for unique in list {
+        if queues.read_interrupt().unwrap_or(0) != unique {
+            return false;
+        }
+    }
+    queues.read_interrupt().is_none()
+}
+
+/// What a signal does, or nothing once INTERRUPTs are off.
+fn unless_off(off: bool, effect: IntrEffect) -> IntrEffect {
+    if off { IntrEffect::None } else { effect }
+}
+
+/// Whether signals to requests 6 to 10 do what they must once INTERRUPTs are off, or not.
+fn are_signals<Q: QueueTable<u64>>(queues: &mut Q, off: bool) -> bool {
+    let are_right = queues.interrupt(6, false) == unless_off(off, IntrEffect::Flagged)
+        && queues.interrupt(8, true) == IntrEffect::Dequeued
+        && queues.read_pending(1) == Some(10)
+        && queues.interrupt(10, true) == unless_off(off, IntrEffect::Queued);
     queues.again(4);
-    assert_eq!(rt; queues.read_interrupt().is_some(), !off);
-    assert_eq!(rt; queues.read_interrupt().is_some(), !off);
+    are_right
+        && queues.read_interrupt().is_some() == !off
+        && queues.read_interrupt().is_some() == !off
+}
+
+/// Whether queues of a new mount do what the row says.
+fn row_holds<Q: QueueTable<u64, Heap = Global> + Drop>(
+    alloc: Global,
+    row: &Row,
+) -> Result<bool, NoMemory> {
+    let (reply, original, list) = *row;
+    let mut queues = Q::new(alloc);
+    queues_with(&mut queues, original)?;
+    reply_to(&mut queues, 2, reply);
+    let off = reply == InterruptReply::NotSupported;
+    Ok(are_interrupts(&mut queues, list) && are_signals(&mut queues, off))
 }
 
 fn table_holds<Q: QueueTable<u64, Heap = Global> + Drop>(
     rt: &impl Abort,
     alloc: Global,
 ) -> Result<(), NoMemory> {
-    for (reply, original, list) in ROWS {
-        let mut queues = Q::new(alloc);
-        queues_with(&mut queues, original)?;
-        reply_to(&mut queues, 2, reply);
-        for unique in list {
-            assert_eq!(rt;
-                queues.read_interrupt().unwrap_or(0),
-                unique,
-                "{reply:?} {original:?}"
-            );
-        }
-        assert_eq!(rt; queues.read_interrupt(), None, "{reply:?} {original:?}");
-        signals_after(rt, &mut queues, reply == InterruptReply::NotSupported);
+    for (place, row) in ROWS.iter().enumerate() {
+        assert!(rt; row_holds::<Q>(alloc, row)?, "row {place}");
     }
     Ok(())
 }

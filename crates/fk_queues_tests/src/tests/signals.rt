@@ -9,7 +9,9 @@ use std::test::Fail;
 /// The mark of the request, whether the signal is fatal, whether an INTERRUPT was answered ENOSYS before, the effect, and
 /// whether the request's INTERRUPT is queued in the end, after the request is read if it still can be. In the last four rows
 /// the INTERRUPT was read before.
-const ROWS: [(Mark, bool, bool, IntrEffect, bool); 16] = [
+type Row = (Mark, bool, bool, IntrEffect, bool);
+
+static ROWS: [Row; 16] = [
     (Mark::Unread, false, false, IntrEffect::Flagged, true),
     (Mark::Unread, false, true, IntrEffect::None, false),
     (Mark::Unread, true, false, IntrEffect::Dequeued, false),
@@ -49,7 +51,7 @@ fn request_at<Q: QueueTable<u64>>(queues: &mut Q, mark: Mark) -> Result<u64, NoM
 }
 
 /// Where a request is after a signal.
-#[derive(Clone, Copy, Debug, PartialEq, Eq)]
+#[derive(Clone, Copy)]
 struct Place {
     pending: bool,
     processing: bool,
@@ -57,45 +59,40 @@ struct Place {
     interrupt: bool,
 }
 
-/// The place of the one request, which is read if it still can be. An INTERRUPT is queued once at most.
-fn place_of<Q: QueueTable<u64>>(rt: &impl Abort, queues: &mut Q, unique: u64) -> Place {
-    let processing = queues.waiting(unique).is_some();
-    let pending = queues.read_pending(0).is_some();
-    let interrupt = queues.read_interrupt().is_some();
-    assert_eq!(rt; queues.read_interrupt(), None);
-    Place {
-        pending,
-        processing,
-        interrupt,
+/// Whether the one request is at this place. It is read if it still can be, and an INTERRUPT is queued once at most.
+fn is_at<Q: QueueTable<u64>>(queues: &mut Q, unique: u64, place: Place) -> bool {
+    queues.waiting(unique).is_some() == place.processing
+        && queues.read_pending(0).is_some() == place.pending
+        && queues.read_interrupt().is_some() == place.interrupt
+        && queues.read_interrupt().is_none()
+}
+
+/// Whether queues of a new mount do what the row says.
+fn row_holds<Q: QueueTable<u64, Heap = Global> + Drop>(
+    alloc: Global,
+    row: &Row,
+) -> Result<bool, NoMemory> {
+    let (mark, fatal, off, effect, interrupt) = *row;
+    let mut queues = Q::new(alloc);
+    let unique = request_at(&mut queues, mark)?;
+    if off {
+        queues.no_interrupts();
     }
+    let unread = matches!(mark, Mark::Unread | Mark::Flagged);
+    let place = Place {
+        pending: unread && effect != IntrEffect::Dequeued,
+        processing: !unread,
+        interrupt,
+    };
+    Ok(queues.interrupt(unique, fatal) == effect && is_at(&mut queues, unique, place))
 }
 
 fn table_holds<Q: QueueTable<u64, Heap = Global> + Drop>(
     rt: &impl Abort,
     alloc: Global,
 ) -> Result<(), NoMemory> {
-    for (mark, fatal, off, effect, interrupt) in ROWS {
-        let mut queues = Q::new(alloc);
-        let unique = request_at(&mut queues, mark)?;
-        if off {
-            queues.no_interrupts();
-        }
-        assert_eq!(rt;
-            queues.interrupt(unique, fatal),
-            effect,
-            "{mark:?} {fatal} {off}"
-        );
-        let unread = matches!(mark, Mark::Unread | Mark::Flagged);
-        let place = Place {
-            pending: unread && effect != IntrEffect::Dequeued,
-            processing: !unread,
-            interrupt,
-        };
-        assert_eq!(rt;
-            place_of(rt, &mut queues, unique),
-            place,
-            "{mark:?} {fatal} {off}"
-        );
+    for (place, row) in ROWS.iter().enumerate() {
+        assert!(rt; row_holds::<Q>(alloc, row)?, "row {place}");
     }
     Ok(())
 }
