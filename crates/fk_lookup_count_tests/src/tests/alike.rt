@@ -6,7 +6,7 @@ use std::process::Abort;
 use std::test::Fail;
 
 /// What a call gave.
-#[derive(Clone, Copy, Debug, PartialEq, Eq)]
+#[derive(Clone, Copy, PartialEq, Eq)]
 enum Answer {
     Nothing,
     Learnt(Result<(), Unlike>),
@@ -49,37 +49,66 @@ fn next_number(number: u64) -> u64 {
     number.wrapping_mul(48_271) % 0x7fff_ffff
 }
 
-/// One call on both. Says whether it gave a forget.
-fn same_step(
-    rt: &impl Abort,
+/// Whether both say the same of each id.
+fn look_alike<S: CountTable, L: CountTable>(slab: &S, list: &L) -> bool {
+    for id in 0..13u64 {
+        if looks(slab, id) != looks(list, id) {
+            return false;
+        }
+    }
+    true
+}
+
+/// Whether both give the same list of nodes.
+fn list_alike<S: CountTable<Heap = Global>, L: CountTable<Heap = Global>>(
     alloc: Global,
-    slab: &mut KernelNodes,
-    list: &mut ListCounts,
-    number: u64,
+    slab: &S,
+    list: &L,
 ) -> Result<bool, AllocError> {
+    Ok(slab.nodes(alloc)?.as_slice() == list.nodes(alloc)?.as_slice())
+}
+
+/// One call on both, and the looks after it. What the call gave, if both say the same.
+fn same_step<S: CountTable<Heap = Global>, L: CountTable<Heap = Global>>(
+    alloc: Global,
+    slab: &mut S,
+    list: &mut L,
+    number: u64,
+) -> Result<Option<Answer>, AllocError> {
     let pick = number % 32;
     let argument = number / 32 % 0x1_0000;
     let answer = call(slab, pick, argument)?;
-    assert_eq!(rt; answer, call(list, pick, argument)?);
-    for id in 0..13u64 {
-        assert_eq!(rt; looks(slab, id), looks(list, id));
+    let is_same = answer == call(list, pick, argument)?
+        && look_alike(slab, list)
+        && list_alike(alloc, slab, list)?;
+    Ok(is_same.then_some(answer))
+}
+
+/// Six hundred calls on both. Gives how many forgets came.
+fn same_steps<S: CountTable<Heap = Global>, L: CountTable<Heap = Global>>(
+    rt: &impl Abort,
+    alloc: Global,
+    slab: &mut S,
+    list: &mut L,
+) -> Result<u64, AllocError> {
+    let mut number = 1u64;
+    let mut forgets = 0u64;
+    for step in 0..600u64 {
+        number = next_number(number);
+        let answer = same_step(alloc, slab, list, number)?;
+        assert!(rt; answer.is_some(), "step {step}");
+        if matches!(answer, Some(Answer::Evicted(Some(_)))) {
+            forgets = forgets.saturating_add(1);
+        }
     }
-    assert!(rt; slab.nodes(alloc)?.as_slice() == list.nodes(alloc)?.as_slice());
-    Ok(matches!(answer, Answer::Evicted(Some(_))))
+    Ok(forgets)
 }
 
 #[test]
 fn both_answer_alike(rt: HostRuntime) -> Result<(), Fail> {
     let mut slab: KernelNodes = CountTable::new(rt.alloc());
     let mut list: ListCounts = CountTable::new(rt.alloc());
-    let mut number = 1u64;
-    let mut forgets = 0u64;
-    for _step in 0..600u64 {
-        number = next_number(number);
-        if same_step(&rt, rt.alloc(), &mut slab, &mut list, number)? {
-            forgets = forgets.saturating_add(1);
-        }
-    }
+    let forgets = same_steps(&rt, rt.alloc(), &mut slab, &mut list)?;
     assert!(rt; forgets > 30);
     Ok(())
 }

@@ -5,79 +5,120 @@ use std::alloc::{AllocError, Global};
 use std::process::Abort;
 use std::test::Fail;
 
-/// Two lookups of node 9 under generation 4; another generation is refused.
-fn count_two<T: CountTable>(rt: &impl Abort, table: &mut T) -> Result<(), AllocError> {
-    assert!(rt; table.generation_of(9).is_none());
-    assert!(rt; learn(table, 9, 4)? == Ok(()) && learn(table, 9, 4)? == Ok(()));
-    assert_eq!(rt; learn(table, 9, 5)?, Err(Unlike));
-    assert!(rt; table.count_of(9) == 2 && table.generation_of(9) == Some(4));
-    Ok(())
+/// A call, and what it must give.
+#[derive(Clone, Copy)]
+enum Row {
+    /// Makes room for an id.
+    Reserve(u64),
+    /// Counts an entry reply with an id and a generation.
+    Learn(u64, u64, Result<(), Unlike>),
+    Evict(u64, Option<Forget>),
+    Pin(u64),
+    Unpin(u64),
+    Clear,
+    CountOf(u64, u64),
+    PinsOf(u64, u64),
+    GenerationOf(u64, Option<u64>),
+    /// The list of ids with their generations and counts.
+    Nodes(&'static [(u64, u64, u64)]),
 }
 
-fn forgets_the_whole_count<T: CountTable>(
-    rt: &impl Abort,
+/// Makes the call, and says whether it gave what it must.
+fn gives<T: CountTable<Heap = Global>>(
+    alloc: Global,
     table: &mut T,
-) -> Result<(), AllocError> {
-    count_two(rt, table)?;
-    let forget = Forget {
-        nodeid: 9,
-        nlookup: 2,
-    };
-    assert_eq!(rt; table.evict(9), Some(forget));
-    assert!(rt; table.evict(9).is_none() && table.count_of(9) == 0);
-    assert_eq!(rt; learn(table, 9, 5)?, Ok(()));
-    Ok(())
+    row: &Row,
+) -> Result<bool, AllocError> {
+    match *row {
+        Row::Reserve(id) => table.reserve(id)?,
+        Row::Learn(id, generation, outcome) => return Ok(learn(table, id, generation)? == outcome),
+        Row::Evict(id, forget) => return Ok(table.evict(id) == forget),
+        Row::Pin(id) => pin(table, id)?,
+        Row::Unpin(id) => table.unpin(id),
+        Row::Clear => table.clear(),
+        Row::CountOf(id, count) => return Ok(table.count_of(id) == count),
+        Row::PinsOf(id, pins) => return Ok(table.pins_of(id) == pins),
+        Row::GenerationOf(id, generation) => return Ok(table.generation_of(id) == generation),
+        Row::Nodes(nodes) => return Ok(table.nodes(alloc)?.as_slice() == nodes),
+    }
+    Ok(true)
 }
 
-/// A node that is not counted has no pins; one that is has as many as it is given.
-fn pin_twice<T: CountTable>(rt: &impl Abort, table: &mut T) -> Result<(), AllocError> {
-    pin(table, 2)?;
-    assert_eq!(rt; table.pins_of(2), 0);
-    assert_eq!(rt; learn(table, 2, 1)?, Ok(()));
-    pin(table, 2)?;
-    pin(table, 2)?;
-    Ok(())
-}
-
-fn a_pinned_node_stays<T: CountTable>(rt: &impl Abort, table: &mut T) -> Result<(), AllocError> {
-    pin_twice(rt, table)?;
-    table.unpin(2);
-    assert!(rt; table.pins_of(2) == 1 && table.evict(2).is_none() && table.count_of(2) == 1);
-    table.unpin(2);
-    table.unpin(2);
-    let forget = Forget {
-        nodeid: 2,
-        nlookup: 1,
-    };
-    assert_eq!(rt; table.evict(2), Some(forget));
-    table.unpin(2);
-    Ok(())
-}
-
-fn nodes_are_listed_in_rising_id<T: CountTable<Heap = Global>>(
+/// Makes the calls of the rows in their order on an empty table.
+fn check<T: CountTable<Heap = Global>>(
     rt: &impl Abort,
     alloc: Global,
     table: &mut T,
+    rows: &[Row],
 ) -> Result<(), AllocError> {
-    for id in [9, 3, 5, 3] {
-        assert_eq!(rt; learn(table, id, 7)?, Ok(()));
+    for (place, row) in rows.iter().enumerate() {
+        assert!(rt; gives(alloc, table, row)?, "row {place}");
     }
-    table.reserve(4)?;
-    let nodes = table.nodes(alloc)?;
-    assert!(rt; nodes.as_slice() == [(3u64, 7u64, 2u64), (5, 7, 1), (9, 7, 1)].as_slice());
-    table.clear();
-    assert!(rt; table.nodes(alloc)?.is_empty());
-    assert_eq!(rt; table.count_of(3), 0);
     Ok(())
 }
+
+static WHOLE_COUNT: [Row; 10] = [
+    Row::GenerationOf(9, None),
+    Row::Learn(9, 4, Ok(())),
+    Row::Learn(9, 4, Ok(())),
+    Row::Learn(9, 5, Err(Unlike)),
+    Row::CountOf(9, 2),
+    Row::GenerationOf(9, Some(4)),
+    Row::Evict(
+        9,
+        Some(Forget {
+            nodeid: 9,
+            nlookup: 2,
+        }),
+    ),
+    Row::Evict(9, None),
+    Row::CountOf(9, 0),
+    Row::Learn(9, 5, Ok(())),
+];
+
+/// A node that is not counted has no pins; one that is has as many as it is given, and stays while it has one.
+static PINNED: [Row; 13] = [
+    Row::Pin(2),
+    Row::PinsOf(2, 0),
+    Row::Learn(2, 1, Ok(())),
+    Row::Pin(2),
+    Row::Pin(2),
+    Row::Unpin(2),
+    Row::PinsOf(2, 1),
+    Row::Evict(2, None),
+    Row::CountOf(2, 1),
+    Row::Unpin(2),
+    Row::Unpin(2),
+    Row::Evict(
+        2,
+        Some(Forget {
+            nodeid: 2,
+            nlookup: 1,
+        }),
+    ),
+    Row::Unpin(2),
+];
+
+/// Nodes are listed in rising id.
+static LISTED: [Row; 9] = [
+    Row::Learn(9, 7, Ok(())),
+    Row::Learn(3, 7, Ok(())),
+    Row::Learn(5, 7, Ok(())),
+    Row::Learn(3, 7, Ok(())),
+    Row::Reserve(4),
+    Row::Nodes(&[(3, 7, 2), (5, 7, 1), (9, 7, 1)]),
+    Row::Clear,
+    Row::Nodes(&[]),
+    Row::CountOf(3, 0),
+];
 
 fn all<T: CountTable<Heap = Global> + Drop>(
     rt: &impl Abort,
     alloc: Global,
 ) -> Result<(), AllocError> {
-    forgets_the_whole_count(rt, &mut T::new(alloc))?;
-    a_pinned_node_stays(rt, &mut T::new(alloc))?;
-    nodes_are_listed_in_rising_id(rt, alloc, &mut T::new(alloc))
+    check(rt, alloc, &mut T::new(alloc), &WHOLE_COUNT)?;
+    check(rt, alloc, &mut T::new(alloc), &PINNED)?;
+    check(rt, alloc, &mut T::new(alloc), &LISTED)
 }
 
 #[test]

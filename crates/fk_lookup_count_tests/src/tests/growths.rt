@@ -9,12 +9,33 @@ use std::test::Fail;
 /// The last id that is counted.
 const LAST: u64 = 40;
 
-/// The table counts each id from 2 up to `below` once, and no other.
-fn is_filled<T: CountTable>(rt: &impl Abort, table: &T, below: u64) {
+/// Whether the table counts each id from 2 up to `below` once, and no other.
+fn is_filled<T: CountTable>(table: &T, below: u64) -> bool {
     for id in 0..LAST {
-        let count = (2 <= id && id < below) as u64;
-        assert_eq!(rt; table.count_of(id), count, "{id} of {below}");
+        if table.count_of(id) != (2 <= id && id < below) as u64 {
+            return false;
+        }
     }
+    true
+}
+
+/// Makes room for an id. Gives whether a growth was refused in this, and whether the call said so and changed nothing.
+fn reserve<T: CountTable>(table: &mut T, heap: &FailAt<Global>, id: u64) -> (bool, bool) {
+    let before = heap.left();
+    let outcome = table.reserve(id);
+    let refused = before != 0 && heap.left() == 0;
+    (refused, outcome.is_err() == refused && is_filled(table, id))
+}
+
+/// Counts an id, where room was made before. Says whether that took no memory.
+fn learn_in_room<T: CountTable>(
+    table: &mut T,
+    heap: &FailAt<Global>,
+    id: u64,
+) -> Result<bool, AllocError> {
+    table.reserve(id)?;
+    let left = heap.left();
+    Ok(learn(table, id, 1)? == Ok(()) && heap.left() == left)
 }
 
 /// Makes room for an id and counts it. Says whether a growth was refused in this.
@@ -24,15 +45,8 @@ fn add<T: CountTable>(
     heap: &FailAt<Global>,
     id: u64,
 ) -> Result<bool, AllocError> {
-    let before = heap.left();
-    let outcome = table.reserve(id);
-    let refused = before != 0 && heap.left() == 0;
-    assert_eq!(rt; outcome.is_err(), refused, "{id} at {before}");
-    is_filled(rt, table, id);
-    table.reserve(id)?;
-    let left = heap.left();
-    assert_eq!(rt; learn(table, id, 1)?, Ok(()));
-    assert_eq!(rt; heap.left(), left, "the room was there");
+    let (refused, is_told) = reserve(table, heap, id);
+    assert!(rt; is_told && learn_in_room(table, heap, id)?, "{id}");
     Ok(refused)
 }
 
@@ -54,28 +68,54 @@ fn refused_at<T: CountTable>(
     Ok(came)
 }
 
-/// The list of a filled table, with its first growth refused, and then no memory taken by the other calls.
+/// Asks for the list with its first growth refused, and again. Says whether it was refused once, and had each node.
+fn nodes_refused_once<T: CountTable>(
+    table: &T,
+    alloc: T::Heap,
+    heap: &FailAt<Global>,
+) -> Result<bool, AllocError> {
+    heap.refuse(1);
+    let is_refused = table.nodes(alloc).is_err() && heap.left() == 0;
+    Ok(is_refused && table.nodes(alloc)?.len() == 38)
+}
+
+/// Calls that need no room. Says whether each gave what it must.
+fn changes<T: CountTable>(table: &mut T) -> Result<bool, AllocError> {
+    pin(table, 7)?;
+    let stays = table.evict(7).is_none();
+    table.unpin(7);
+    Ok(stays && table.evict(7).is_some() && table.count_of(7) == 0 && learn(table, 8, 1)? == Ok(()))
+}
+
+/// The list of a filled table, and then no memory taken by the other calls.
 fn takes_none<T: CountTable>(
     rt: &impl Abort,
     table: &mut T,
     alloc: T::Heap,
     heap: &FailAt<Global>,
 ) -> Result<(), AllocError> {
+    assert!(rt; nodes_refused_once(table, alloc, heap)?);
     heap.refuse(1);
-    assert!(rt; table.nodes(alloc).is_err());
-    assert_eq!(rt; heap.left(), 0);
-    assert_eq!(rt; table.nodes(alloc)?.len(), 38);
-    heap.refuse(1);
-    pin(table, 7)?;
-    assert_eq!(rt; table.evict(7), None);
-    table.unpin(7);
-    assert!(rt; table.evict(7).is_some());
-    assert_eq!(rt; table.count_of(7), 0);
-    assert_eq!(rt; learn(table, 8, 1)?, Ok(()));
+    assert!(rt; changes(table)?);
     table.clear();
-    assert_eq!(rt; heap.left(), 1);
+    assert!(rt; heap.left() == 1);
     heap.refuse(0);
     Ok(())
+}
+
+/// Fills an empty table with the `n`th growth refused. Says whether that growth came.
+fn growth_came<T: CountTable>(
+    rt: &impl Abort,
+    table: &mut T,
+    alloc: T::Heap,
+    heap: &FailAt<Global>,
+    n: u64,
+) -> Result<bool, AllocError> {
+    let came = refused_at(rt, table, heap, n)?;
+    if !came {
+        takes_none(rt, table, alloc, heap)?;
+    }
+    Ok(came)
 }
 
 /// Each growth refused in turn, until none is left to refuse. Gives how many there are.
@@ -86,11 +126,8 @@ fn each_refused<T: CountTable + Drop>(
 ) -> Result<u64, AllocError> {
     let mut growths = 0u64;
     for n in 1..60u64 {
-        let mut table = T::new(alloc);
-        if refused_at(rt, &mut table, heap, n)? {
+        if growth_came(rt, &mut T::new(alloc), alloc, heap, n)? {
             growths = n;
-        } else {
-            takes_none(rt, &mut table, alloc, heap)?;
         }
     }
     Ok(growths)
@@ -102,9 +139,9 @@ fn both_refused<A: Allocator + Copy>(
     heap: &FailAt<Global>,
 ) -> Result<(), AllocError> {
     let slab_growths = each_refused::<KernelNodes<A>>(rt, alloc, heap)?;
-    assert!(rt; 3 <= slab_growths && slab_growths < 59);
     let list_growths = each_refused::<ListCounts<A>>(rt, alloc, heap)?;
-    assert!(rt; 3 <= list_growths && list_growths < 59);
+    let are_some = 3 <= slab_growths && 3 <= list_growths;
+    assert!(rt; are_some && slab_growths < 59 && list_growths < 59);
     Ok(())
 }
 
