@@ -2,17 +2,17 @@
 
 use super::replies::{ANSWERS, Answer};
 use super::requests::{SAMPLES, Sample};
-use super::unhex;
+use super::{rest, unhex};
 use fk_wire::*;
 use std::alloc::Global;
 use std::process::Abort;
 use std::test::*;
 
-/// The first bytes of a frame, with their number as `len`.
-fn beginning(alloc: Global, frame: &[u8], len: usize) -> Result<Vec<u8>, Fail> {
+/// The first bytes of a frame, or the frame with a byte more, with their number as `len`.
+fn beginning(alloc: Global, first: &[u8]) -> Result<Vec<u8>, Fail> {
     let mut cut = Vec::new(alloc);
-    cut.extend_from_slice(&(len as u64).to_le_bytes()[..4])?;
-    cut.extend_from_slice(frame.get(4..len).unwrap_or(&[]))?;
+    cut.extend_from_slice(&(first.len() as u64).to_le_bytes()[..4])?;
+    cut.extend_from_slice(rest(first, 4))?;
     Ok(cut)
 }
 
@@ -27,37 +27,43 @@ fn wanted(sample: &Sample, len: usize) -> WireFault {
     }
 }
 
-fn check_request(rt: &impl Abort, alloc: Global, sample: &Sample) -> Result<(), Fail> {
-    let mut frame = unhex(alloc, sample.hex)?;
+/// Whether the first bytes of a request, or the request with a byte more, get their fault, with the `len` of the whole
+/// frame and with their own.
+fn is_request_refused(alloc: Global, first: &[u8], sample: &Sample) -> Result<bool, Fail> {
+    let length = if first.len() < 40 {
+        WireFault::Short
+    } else {
+        WireFault::Length
+    };
+    let cut = beginning(alloc, first)?;
+    Ok(
+        read_request(first).err() == Some(length)
+            && read_request(&cut).err() == Some(wanted(sample, first.len())),
+    )
+}
+
+fn check_cut_requests(
+    rt: &impl Abort,
+    alloc: Global,
+    frame: &[u8],
+    sample: &Sample,
+) -> Result<(), Fail> {
     let name = sample.opcode.name();
     for len in 0..frame.len() {
-        let length = if len < 40 {
-            WireFault::Short
-        } else {
-            WireFault::Length
-        };
         assert!(rt;
-            read_request(&frame[..len]).err() == Some(length),
+            is_request_refused(alloc, &frame[..len], sample)?,
             "{name} {len}"
         );
-        let cut = beginning(alloc, &frame, len)?;
-        let fault = if len < 4 {
-            WireFault::Short
-        } else {
-            wanted(sample, len)
-        };
-        assert!(rt; read_request(&cut).err() == Some(fault), "{name} {len}");
     }
+    Ok(())
+}
+
+fn check_request(rt: &impl Abort, alloc: Global, sample: &Sample) -> Result<(), Fail> {
+    let mut frame = unhex(alloc, sample.hex)?;
+    check_cut_requests(rt, alloc, &frame, sample)?;
     frame.push(0)?;
-    assert!(rt;
-        read_request(&frame).err() == Some(WireFault::Length),
-        "{name}"
-    );
-    let longer = beginning(alloc, &frame, frame.len())?;
-    assert!(rt;
-        read_request(&longer).err() == Some(wanted(sample, frame.len())),
-        "{name}"
-    );
+    let name = sample.opcode.name();
+    assert!(rt; is_request_refused(alloc, &frame, sample)?, "{name}");
     Ok(())
 }
 
@@ -69,37 +75,52 @@ fn of_requests(rt: HostRuntime) -> Result<(), Fail> {
     Ok(())
 }
 
+/// The fault of a reply that is cut at this length, or followed by a zero.
+fn wanted_of_reply(answer: &Answer, len: usize) -> Option<WireFault> {
+    if len < 16 {
+        Some(WireFault::Short)
+    } else if answer.is_whole_at(len) {
+        None
+    } else {
+        Some(WireFault::Body)
+    }
+}
+
+/// Whether the first bytes of a reply, or the reply with a byte more, get their fault, with the `len` of the whole frame and
+/// with their own. The whole frame has its own `len`.
+fn is_reply_judged(alloc: Global, first: &[u8], answer: &Answer) -> Result<bool, Fail> {
+    let length = if first.len() < 16 {
+        WireFault::Short
+    } else {
+        WireFault::Length
+    };
+    let cut = beginning(alloc, first)?;
+    let is_told = first.len() == answer.len
+        || read_reply(answer.opcode, first).err() == Some(length);
+    let fault = read_reply(answer.opcode, &cut).err();
+    Ok(is_told && fault == wanted_of_reply(answer, first.len()))
+}
+
+fn check_cut_replies(
+    rt: &impl Abort,
+    alloc: Global,
+    frame: &[u8],
+    answer: &Answer,
+) -> Result<(), Fail> {
+    let name = answer.opcode.name();
+    for len in 0..=frame.len() {
+        assert!(rt;
+            is_reply_judged(alloc, &frame[..len], answer)?,
+            "{name} {len}"
+        );
+    }
+    Ok(())
+}
+
 fn check_reply(rt: &impl Abort, alloc: Global, answer: &Answer) -> Result<(), Fail> {
     let mut frame = unhex(alloc, answer.hex)?;
-    let name = answer.opcode.name();
     frame.push(0)?;
-    for len in 0..=frame.len() {
-        if len < answer.len {
-            let length = if len < 16 {
-                WireFault::Short
-            } else {
-                WireFault::Length
-            };
-            assert!(rt;
-                read_reply(answer.opcode, &frame[..len]).err() == Some(length),
-                "{name} {len}"
-            );
-        }
-        let cut = beginning(alloc, &frame, len)?;
-        let fault = read_reply(answer.opcode, &cut).err();
-        if len < 16 {
-            assert!(rt; fault == Some(WireFault::Short), "{name} {len}");
-        } else if answer.is_whole_at(len) {
-            assert!(rt; fault.is_none(), "{name} {len}");
-        } else {
-            assert!(rt; fault == Some(WireFault::Body), "{name} {len}");
-        }
-    }
-    assert!(rt;
-        read_reply(answer.opcode, &frame).err() == Some(WireFault::Length),
-        "{name}"
-    );
-    Ok(())
+    check_cut_replies(rt, alloc, &frame, answer)
 }
 
 #[test]

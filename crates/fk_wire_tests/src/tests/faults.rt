@@ -1,11 +1,11 @@
 //! Faults of frames that are broken otherwise than by their length.
 
-use super::unhex;
+use super::{rest, unhex};
 use fk_wire::*;
 use std::alloc::Global;
 use std::test::*;
 
-const REQUEST_FAULTS: [(&str, WireFault); 9] = [
+static REQUEST_FAULTS: [(&str, WireFault); 9] = [
     // An opcode that is not known: 99, and READDIRPLUS.
     (
         "28000000 63000000 6400000000000000 0100000000000000 00000000 00000000 00000000 00000000",
@@ -47,7 +47,7 @@ const REQUEST_FAULTS: [(&str, WireFault); 9] = [
     ),
 ];
 
-const REPLY_FAULTS: [(Opcode, &str, WireFault); 14] = [
+static REPLY_FAULTS: [(Opcode, &str, WireFault); 14] = [
     (
         Opcode::Lookup,
         "000000000000000000000000000000",
@@ -128,19 +128,31 @@ fn fault_of(alloc: Global, hex: &str) -> Result<Option<WireFault>, Fail> {
     Ok(read_request(&frame).err())
 }
 
+/// Whether the frame is read as the LOOKUP under number 4 in the root.
+fn is_lookup(frame: &[u8]) -> bool {
+    let Ok(request) = read_request(frame) else {
+        return false;
+    };
+    request.body.opcode().name() == "LOOKUP"
+        && request.unique == 4
+        && request.nodeid == 1
+        && read_request_head(frame) == Ok((1, 4))
+}
+
+/// The fault of the frame's first bytes.
+fn fault_of_cut(frame: &[u8], len: usize) -> Option<WireFault> {
+    read_request(frame.get(..len)?).err()
+}
+
 #[test]
 fn a_lookup_is_cut(rt: HostRuntime) -> Result<(), Fail> {
-    let mut frame = unhex(
+    let frame = unhex(
         rt.alloc(),
         "2a000000 01000000 0400000000000000 0100000000000000 00000000 00000000 00000000 00000000 6100",
     )?;
-    let request = read_request(&frame)?;
-    assert!(rt; request.body.opcode().name() == "LOOKUP");
-    assert!(rt; request.unique == 4 && request.nodeid == 1);
-    assert!(rt; read_request_head(&frame) == Ok((1, 4)));
-    frame.truncate(41);
-    assert!(rt; read_request(&frame).err() == Some(WireFault::Length));
-    assert!(rt; read_request(frame.get(..39).unwrap_or(&[])).err() == Some(WireFault::Short));
+    assert!(rt; is_lookup(&frame));
+    assert!(rt; fault_of_cut(&frame, 41) == Some(WireFault::Length));
+    assert!(rt; fault_of_cut(&frame, 39) == Some(WireFault::Short));
     Ok(())
 }
 
@@ -161,51 +173,69 @@ fn of_requests(rt: HostRuntime) -> Result<(), Fail> {
     Ok(())
 }
 
-fn request_of(body: RequestBody<'_>) -> Request<'_> {
+/// Writes a request under number 4 about the root.
+fn write(out: &mut Vec<u8>, body: RequestBody<'_>) -> Result<(), WireFault> {
     let (unique, nodeid) = (4, 1);
-    Request {
+    let request = Request {
         unique,
         nodeid,
         body,
-    }
+    };
+    write_request(out, &request)
+}
+
+/// Whether the name is written and read without its first byte, and refused whole.
+fn is_a_byte_too_long(out: &mut Vec<u8>, name: &[u8]) -> bool {
+    let shorter = RequestBody::Lookup {
+        name: rest(name, 1),
+    };
+    write(out, shorter).is_ok()
+        && read_request(out).is_ok()
+        && write(out, RequestBody::Lookup { name }) == Err(WireFault::Name)
 }
 
 #[test]
 fn names_have_up_to_255_bytes(rt: HostRuntime) -> Result<(), Fail> {
     let mut name = Vec::new(rt.alloc());
-    name.resize(255, b'n')?;
-    let mut out = Vec::new(rt.alloc());
-    let body = RequestBody::Lookup { name: &name };
-    write_request(&mut out, &request_of(body))?;
-    assert!(rt; read_request(&out).is_ok());
-    name.push(b'n')?;
-    let body = RequestBody::Lookup { name: &name };
-    assert!(rt; write_request(&mut out, &request_of(body)) == Err(WireFault::Name));
+    name.resize(256, b'n')?;
+    assert!(rt; is_a_byte_too_long(&mut Vec::new(rt.alloc()), &name));
     Ok(())
+}
+
+/// A WRITE to open file 1.
+fn write_of(bytes: &[u8]) -> RequestBody<'_> {
+    let (fh, offset) = (1, 0);
+    RequestBody::Write { fh, offset, bytes }
+}
+
+/// Whether a WRITE of the data is refused, and without its first byte written in 4176 bytes and read.
+fn are_a_byte_too_many(out: &mut Vec<u8>, data: &[u8]) -> bool {
+    write(out, write_of(data)) == Err(WireFault::Body)
+        && write(out, write_of(rest(data, 1))).is_ok()
+        && out.len() == 4176
+        && read_request(out).is_ok()
 }
 
 #[test]
 fn frames_have_up_to_4176_bytes(rt: HostRuntime) -> Result<(), Fail> {
     let mut data = Vec::new(rt.alloc());
     data.resize(4097, 0)?;
-    let mut out = Vec::new(rt.alloc());
-    let (fh, offset) = (1, 0);
-    let bytes = data.as_slice();
-    let body = RequestBody::Write { fh, offset, bytes };
-    assert!(rt; write_request(&mut out, &request_of(body)) == Err(WireFault::Body));
-    let bytes = data.get(1..).unwrap_or(&[]);
-    let body = RequestBody::Write { fh, offset, bytes };
-    write_request(&mut out, &request_of(body))?;
-    assert!(rt; out.len() == 4176);
-    assert!(rt; read_request(&out).is_ok());
+    assert!(rt; are_a_byte_too_many(&mut Vec::new(rt.alloc()), &data));
     Ok(())
+}
+
+fn fault_of_reply(alloc: Global, opcode: Opcode, hex: &str) -> Result<Option<WireFault>, Fail> {
+    let frame = unhex(alloc, hex)?;
+    Ok(read_reply(opcode, &frame).err())
 }
 
 #[test]
 fn of_replies(rt: HostRuntime) -> Result<(), Fail> {
     for (opcode, hex, fault) in &REPLY_FAULTS {
-        let frame = unhex(rt.alloc(), hex)?;
-        assert!(rt; read_reply(*opcode, &frame).err() == Some(*fault), "{hex}");
+        assert!(rt;
+            fault_of_reply(rt.alloc(), *opcode, hex)? == Some(*fault),
+            "{hex}"
+        );
     }
     Ok(())
 }

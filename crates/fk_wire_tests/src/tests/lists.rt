@@ -3,8 +3,6 @@
 use super::replies::LISTING;
 use super::{rest, unhex};
 use fk_wire::*;
-use std::alloc::Global;
-use std::process::Abort;
 use std::test::*;
 
 fn is_record(record: &Dirent<'_>, ino: u64, off: u64, kind: u32, name: &[u8]) -> bool {
@@ -26,46 +24,52 @@ fn two_records(bytes: &[u8]) -> Option<(Dirent<'_>, Dirent<'_>)> {
     Some((first, second))
 }
 
+/// Whether the bytes are the records of the directory `a` and of the file `bb`.
+fn are_listing(bytes: &[u8]) -> bool {
+    let Some((first, second)) = two_records(bytes) else {
+        return false;
+    };
+    is_record(&first, 2, 1, 4, b"a") && is_record(&second, 3, 2, 8, b"bb")
+}
+
 #[test]
 fn records_are_read(rt: HostRuntime) -> Result<(), Fail> {
     let frame = unhex(rt.alloc(), LISTING)?;
-    let (first, second) = two_records(rest(&frame, 16)).ok_or("two records")?;
-    assert!(rt; is_record(&first, 2, 1, 4, b"a"));
-    assert!(rt; is_record(&second, 3, 2, 8, b"bb"));
-    assert!(rt; are_records(&[]));
+    assert!(rt; are_listing(rest(&frame, 16)) && are_records(&[]));
     Ok(())
 }
 
-/// A record without a name is refused, and one of the parent is written.
-fn put_unusual(rt: &impl Abort, out: &mut Vec<u8>, first: &Dirent<'_>) -> Result<(), Fail> {
+/// Whether a record without a name is refused, and one of the parent is written.
+fn puts_unusual(out: &mut Vec<u8>, first: &Dirent<'_>) -> bool {
     let unnamed = Dirent {
         name: b"",
         ..*first
     };
-    assert!(rt; put_record(out, &unnamed) == Err(WireFault::Name));
     let parent = Dirent {
         name: b"..",
         ..*first
     };
-    put_record(out, &parent)?;
-    Ok(())
+    put_record(out, &unnamed) == Err(WireFault::Name) && put_record(out, &parent).is_ok()
 }
 
-fn write_records(rt: &impl Abort, alloc: Global, bytes: &[u8]) -> Result<(), Fail> {
-    let (first, second) = two_records(bytes).ok_or("two records")?;
-    let mut out = Vec::new(alloc);
-    put_record(&mut out, &first)?;
-    put_record(&mut out, &second)?;
-    assert!(rt; out.as_slice() == bytes);
-    put_unusual(rt, &mut out, &first)?;
-    assert!(rt; are_records(&out) && !are_records(rest(&out, 1)));
-    Ok(())
+/// Whether the two records of the bytes are written as they stand there, and others behind them.
+fn are_written(out: &mut Vec<u8>, bytes: &[u8]) -> bool {
+    let Some((first, second)) = two_records(bytes) else {
+        return false;
+    };
+    put_record(out, &first).is_ok()
+        && put_record(out, &second).is_ok()
+        && out.as_slice() == bytes
+        && puts_unusual(out, &first)
+        && are_records(out)
+        && !are_records(rest(out, 1))
 }
 
 #[test]
 fn records_are_written(rt: HostRuntime) -> Result<(), Fail> {
     let frame = unhex(rt.alloc(), LISTING)?;
-    write_records(&rt, rt.alloc(), rest(&frame, 16))
+    assert!(rt; are_written(&mut Vec::new(rt.alloc()), rest(&frame, 16)));
+    Ok(())
 }
 
 /// Whether the bytes are the pairs of node 2 and 1, and of node 3 and 5.
@@ -79,18 +83,23 @@ fn are_two_pairs(bytes: &[u8]) -> bool {
     }
 }
 
+/// Whether the pairs are written as these bytes, and read again.
+fn are_pairs_written(out: &mut Vec<u8>, written: &[u8]) -> bool {
+    put_pair(out, 2, 1).is_ok()
+        && put_pair(out, 3, 5).is_ok()
+        && out.as_slice() == written
+        && are_two_pairs(out)
+        && Pairs::over(rest(out, 1)).is_none()
+        && Pairs::over(&[]).is_some()
+}
+
 #[test]
 fn pairs(rt: HostRuntime) -> Result<(), Fail> {
     let written = unhex(
         rt.alloc(),
         "0200000000000000 0100000000000000 0300000000000000 0500000000000000",
     )?;
-    let mut bytes = Vec::new(rt.alloc());
-    put_pair(&mut bytes, 2, 1)?;
-    put_pair(&mut bytes, 3, 5)?;
-    assert!(rt; bytes == written);
-    assert!(rt; are_two_pairs(&bytes));
-    assert!(rt; Pairs::over(rest(&bytes, 1)).is_none() && Pairs::over(&[]).is_some());
+    assert!(rt; are_pairs_written(&mut Vec::new(rt.alloc()), &written));
     Ok(())
 }
 
@@ -118,21 +127,21 @@ fn pair_of(name: &'static [u8], entry_valid_nsec: u32) -> DirentPlus<'static> {
     DirentPlus { entry_out, dirent }
 }
 
-/// Writes two pairs, and fails to write two that are broken.
-fn put_pairs_with_entries(rt: &impl Abort, out: &mut Vec<u8>) -> Result<(), Fail> {
-    put_record_plus(out, &pair_of(b"a", 0))?;
-    put_record_plus(out, &pair_of(b"..", 0))?;
-    assert!(rt; put_record_plus(out, &pair_of(b"", 0)) == Err(WireFault::Name));
-    assert!(rt; put_record_plus(out, &pair_of(b"", 1_000_000_000)) == Err(WireFault::Body));
-    Ok(())
+/// Whether two pairs are written, in 320 bytes, and two that are broken refused.
+fn puts_pairs_with_entries(out: &mut Vec<u8>) -> bool {
+    put_record_plus(out, &pair_of(b"a", 0)).is_ok()
+        && put_record_plus(out, &pair_of(b"..", 0)).is_ok()
+        && put_record_plus(out, &pair_of(b"", 0)) == Err(WireFault::Name)
+        && put_record_plus(out, &pair_of(b"", 1_000_000_000)) == Err(WireFault::Body)
+        && out.len() == 320
 }
 
-/// Writes the reply where READDIRPLUS is known, and fails where it is not.
-fn write_by_minor(rt: &impl Abort, out: &mut Vec<u8>, reply: &Reply<'_>) -> Result<(), Fail> {
-    assert!(rt; write_reply(out, reply) == Err(WireFault::Opcode));
-    assert!(rt; write_reply_at(Minor::M15, out, reply) == Err(WireFault::Opcode));
-    write_reply_at(Minor::M31, out, reply)?;
-    Ok(())
+/// Whether the reply is written where READDIRPLUS is known, in 336 bytes, and refused where it is not.
+fn is_written_by_minor(out: &mut Vec<u8>, reply: &Reply<'_>) -> bool {
+    write_reply(out, reply) == Err(WireFault::Opcode)
+        && write_reply_at(Minor::M15, out, reply) == Err(WireFault::Opcode)
+        && write_reply_at(Minor::M31, out, reply).is_ok()
+        && out.len() == 336
 }
 
 /// Whether the body is two pairs, first the one of the name `a`.
@@ -150,22 +159,31 @@ fn is_two_pairs(body: &ReplyBody<'_>) -> bool {
         && records.next().is_none()
 }
 
-#[test]
-fn records_with_entries(rt: HostRuntime) -> Result<(), Fail> {
-    let mut bytes = Vec::new(rt.alloc());
-    put_pairs_with_entries(&rt, &mut bytes)?;
-    assert!(rt; bytes.len() == 320);
-    let records = RecordsPlus::over(&bytes).ok_or("two pairs")?;
-    let body = ReplyBody::RecordsPlus { records };
+/// Whether the frame is read as two pairs.
+fn is_read_as_two_pairs(frame: &[u8]) -> bool {
+    match read_reply_at(Minor::M31, Opcode::Readdirplus, frame) {
+        Ok(reply) => is_two_pairs(&reply.body),
+        Err(_) => false,
+    }
+}
+
+/// Whether a reply with the pairs is written and read.
+fn is_reply_of_pairs(out: &mut Vec<u8>, bytes: &[u8]) -> bool {
+    let Some(records) = RecordsPlus::over(bytes) else {
+        return false;
+    };
     let reply = Reply {
         unique: 8,
         error: 0,
-        body,
+        body: ReplyBody::RecordsPlus { records },
     };
-    let mut out = Vec::new(rt.alloc());
-    write_by_minor(&rt, &mut out, &reply)?;
-    assert!(rt; out.len() == 336);
-    let read = read_reply_at(Minor::M31, Opcode::Readdirplus, &out)?;
-    assert!(rt; is_two_pairs(&read.body));
+    is_written_by_minor(out, &reply) && is_read_as_two_pairs(out)
+}
+
+#[test]
+fn records_with_entries(rt: HostRuntime) -> Result<(), Fail> {
+    let mut bytes = Vec::new(rt.alloc());
+    assert!(rt; puts_pairs_with_entries(&mut bytes));
+    assert!(rt; is_reply_of_pairs(&mut Vec::new(rt.alloc()), &bytes));
     Ok(())
 }

@@ -35,91 +35,104 @@ fn front<A: Allocator>(alloc: A) -> Result<Vec<u8, A>, Fail> {
     Ok(out)
 }
 
-fn request_refused_at<A: Allocator + Copy>(
-    rt: &impl Abort,
-    alloc: A,
-    heap: &FailAt<Global>,
-    n: u64,
-    frame: &[u8],
-) -> Result<(), Fail> {
-    let request = read_request(frame)?;
-    let mut out = front(alloc)?;
-    heap.refuse(n);
-    let first = write_request(&mut out, &request);
-    let was_refused = heap.left() == 0;
-    assert!(rt; is_right(&out, &first, frame, was_refused), "{n}");
-    assert!(rt; was_refused == (n == 1), "{n}");
-    heap.refuse(0);
-    if was_refused {
-        let second = write_request(&mut out, &request);
-        assert!(rt; is_right(&out, &second, frame, false), "{n}");
-    }
-    Ok(())
+/// A request or a reply.
+#[derive(Clone, Copy)]
+enum Message<'a> {
+    Request(Request<'a>),
+    Reply(Reply<'a>),
 }
 
-fn reply_refused_at<A: Allocator + Copy>(
-    rt: &impl Abort,
-    alloc: A,
-    heap: &FailAt<Global>,
-    n: u64,
-    opcode: Opcode,
-    frame: &[u8],
-) -> Result<(), Fail> {
-    let reply = read_reply(opcode, frame)?;
-    let mut out = front(alloc)?;
-    heap.refuse(n);
-    let first = write_reply(&mut out, &reply);
-    let was_refused = heap.left() == 0;
-    assert!(rt; is_right(&out, &first, frame, was_refused), "{n}");
-    assert!(rt; was_refused == (n == 1), "{n}");
-    heap.refuse(0);
-    if was_refused {
-        let second = write_reply(&mut out, &reply);
-        assert!(rt; is_right(&out, &second, frame, false), "{n}");
+/// Reads a reply to the opcode, or a request where there is none.
+fn read(opcode: Option<Opcode>, frame: &[u8]) -> Result<Message<'_>, WireFault> {
+    match opcode {
+        Some(opcode) => Ok(Message::Reply(read_reply(opcode, frame)?)),
+        None => Ok(Message::Request(read_request(frame)?)),
     }
-    Ok(())
 }
 
-fn record_refused<A: Allocator + Copy>(
-    rt: &impl Abort,
-    alloc: A,
+fn write<A: Allocator>(out: &mut Vec<u8, A>, message: &Message<'_>) -> Result<(), WireFault> {
+    match message {
+        Message::Request(request) => write_request(out, request),
+        Message::Reply(reply) => write_reply(out, reply),
+    }
+}
+
+/// Writes the message with the `n`th growth refused, and again where one was. Says whether each write did what it had to.
+fn is_written_at_last<A: Allocator>(
+    out: &mut Vec<u8, A>,
     heap: &FailAt<Global>,
-    bytes: &[u8],
-) -> Result<(), Fail> {
-    let mut records = Records::over(bytes).ok_or("records")?;
-    let dirent = records.next().ok_or("a record")?;
-    let mut out = front(alloc)?;
+    n: u64,
+    message: &Message<'_>,
+    frame: &[u8],
+) -> bool {
+    heap.refuse(n);
+    let first = write(out, message);
+    let was_refused = heap.left() == 0;
+    heap.refuse(0);
+    let is_first_right = was_refused == (n == 1) && is_right(out, &first, frame, was_refused);
+    if !is_first_right || !was_refused {
+        return is_first_right;
+    }
+    let second = write(out, message);
+    is_right(out, &second, frame, false)
+}
+
+/// The first of the records.
+fn first_record(bytes: &[u8]) -> Option<Dirent<'_>> {
+    Records::over(bytes)?.next()
+}
+
+/// Whether the first record is refused, and written when it is made again.
+fn is_record_refused(heap: &FailAt<Global>, bytes: &[u8]) -> Result<bool, Fail> {
+    let dirent = first_record(bytes).ok_or("a record")?;
+    let mut out = front(heap)?;
     heap.refuse(1);
     let first = put_record(&mut out, &dirent);
-    assert!(rt; is_right(&out, &first, &[], true));
-    put_record(&mut out, &dirent)?;
-    assert!(rt; out.get(FRONT.len()..) == bytes.get(..32));
-    Ok(())
+    Ok(
+        is_right(&out, &first, &[], true)
+            && put_record(&mut out, &dirent).is_ok()
+            && out.get(FRONT.len()..) == bytes.get(..32),
+    )
 }
 
-fn pair_refused<A: Allocator + Copy>(
-    rt: &impl Abort,
-    alloc: A,
-    heap: &FailAt<Global>,
-) -> Result<(), Fail> {
-    let mut out = front(alloc)?;
+/// Whether a pair is refused, and written when it is made again.
+fn is_pair_refused(heap: &FailAt<Global>) -> Result<bool, Fail> {
+    let mut out = front(heap)?;
     heap.refuse(1);
     let first = put_pair(&mut out, 2, 1);
-    assert!(rt; is_right(&out, &first, &[], true));
-    put_pair(&mut out, 2, 1)?;
-    Ok(())
+    Ok(is_right(&out, &first, &[], true) && put_pair(&mut out, 2, 1).is_ok())
 }
 
-fn result_refused<A: Allocator + Copy>(
-    rt: &impl Abort,
-    alloc: A,
-    heap: &FailAt<Global>,
-) -> Result<(), Fail> {
-    let mut out = front(alloc)?;
+/// Whether a result is refused, and written when it is made again.
+fn is_result_refused(heap: &FailAt<Global>) -> Result<bool, Fail> {
+    let mut out = front(heap)?;
     heap.refuse(1);
     let first = write_result(&mut out, -2, 6);
-    assert!(rt; is_right(&out, &first, &[], true));
-    write_result(&mut out, -2, 6)?;
+    Ok(is_right(&out, &first, &[], true) && write_result(&mut out, -2, 6).is_ok())
+}
+
+/// Whether the message of a frame is written, though the `n`th growth is refused at first.
+fn is_frame_written(
+    heap: &FailAt<Global>,
+    n: u64,
+    opcode: Option<Opcode>,
+    frame: &[u8],
+) -> Result<bool, Fail> {
+    let message = read(opcode, frame)?;
+    let mut out = front(heap)?;
+    Ok(is_written_at_last(&mut out, heap, n, &message, frame))
+}
+
+fn check(
+    rt: &impl Abort,
+    alloc: Global,
+    heap: &FailAt<Global>,
+    n: u64,
+    opcode: Option<Opcode>,
+    hex: &str,
+) -> Result<(), Fail> {
+    let frame = unhex(alloc, hex)?;
+    assert!(rt; is_frame_written(heap, n, opcode, &frame)?, "{n}");
     Ok(())
 }
 
@@ -128,21 +141,20 @@ fn writes(rt: HostRuntime) -> Result<(), Fail> {
     let heap = FailAt::new(rt.alloc());
     for n in 1..3u64 {
         for sample in &SAMPLES {
-            let frame = unhex(rt.alloc(), sample.hex)?;
-            request_refused_at(&rt, &heap, &heap, n, &frame)?;
+            check(&rt, rt.alloc(), &heap, n, None, sample.hex)?;
         }
         for answer in &ANSWERS {
-            let frame = unhex(rt.alloc(), answer.hex)?;
-            reply_refused_at(&rt, &heap, &heap, n, answer.opcode, &frame)?;
+            check(&rt, rt.alloc(), &heap, n, Some(answer.opcode), answer.hex)?;
         }
     }
     let frame = unhex(rt.alloc(), LISTING)?;
-    record_refused(&rt, &heap, &heap, rest(&frame, 16))
+    assert!(rt; is_record_refused(&heap, rest(&frame, 16))?);
+    Ok(())
 }
 
 #[test]
 fn pairs_and_results(rt: HostRuntime) -> Result<(), Fail> {
     let heap = FailAt::new(rt.alloc());
-    pair_refused(&rt, &heap, &heap)?;
-    result_refused(&rt, &heap, &heap)
+    assert!(rt; is_pair_refused(&heap)? && is_result_refused(&heap)?);
+    Ok(())
 }

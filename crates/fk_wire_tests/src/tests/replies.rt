@@ -46,7 +46,7 @@ pub const LISTING: &str =
     "50000000 00000000 0400000000000000 0200000000000000 0100000000000000 01000000 04000000 6100000000000000 0300000000000000 0200000000000000 02000000 08000000 6262000000000000";
 
 /// A reply to each opcode that has replies.
-pub const ANSWERS: [Answer; 15] = [
+pub static ANSWERS: [Answer; 15] = [
     Answer {
         opcode: Opcode::Lookup,
         len: 144,
@@ -179,17 +179,26 @@ fn is_right_body(body: &ReplyBody<'_>) -> bool {
     }
 }
 
-/// Reads the frame as what it says, and writes it back byte for byte.
+/// Whether the frame is read as what it says, and written back byte for byte.
+fn is_read_and_written(out: &mut Vec<u8>, frame: &[u8], answer: &Answer) -> bool {
+    let Ok(reply) = read_reply(answer.opcode, frame) else {
+        return false;
+    };
+    frame.len() == answer.len
+        && reply.unique == 4
+        && reply.error == 0
+        && is_right_body(&reply.body)
+        && write_reply(out, &reply).is_ok()
+        && out.as_slice() == frame
+}
+
 fn check(rt: &impl Abort, alloc: Global, answer: &Answer) -> Result<(), Fail> {
     let frame = unhex(alloc, answer.hex)?;
     let name = answer.opcode.name();
-    let reply = read_reply(answer.opcode, &frame)?;
-    assert!(rt; frame.len() == answer.len, "{name}");
-    assert!(rt; reply.unique == 4 && reply.error == 0, "{name}");
-    assert!(rt; is_right_body(&reply.body), "{name}");
-    let mut out = Vec::new(alloc);
-    write_reply(&mut out, &reply)?;
-    assert!(rt; out == frame, "{name}");
+    assert!(rt;
+        is_read_and_written(&mut Vec::new(alloc), &frame, answer),
+        "{name}"
+    );
     Ok(())
 }
 
@@ -201,43 +210,37 @@ fn are_read_and_written(rt: HostRuntime) -> Result<(), Fail> {
     Ok(())
 }
 
+/// Whether the frame is read as the result -2 of copy 6, and written back; a result above 0 is refused.
+fn is_result(out: &mut Vec<u8>, frame: &[u8]) -> bool {
+    read_result(frame) == Ok((-2, 6))
+        && read_reply_head(frame) == Ok((-2, 6))
+        && write_result(out, -2, 6).is_ok()
+        && out.as_slice() == frame
+        && write_result(out, 1, 6) == Err(WireFault::ErrorRange)
+}
+
 #[test]
 fn results_are_read_and_written(rt: HostRuntime) -> Result<(), Fail> {
     let frame = unhex(rt.alloc(), "10000000 feffffff 0600000000000000")?;
-    assert!(rt; read_result(&frame) == Ok((-2, 6)));
-    assert!(rt; read_reply_head(&frame) == Ok((-2, 6)));
-    let mut out = Vec::new(rt.alloc());
-    write_result(&mut out, -2, 6)?;
-    assert!(rt; out == frame);
-    assert!(rt; write_result(&mut out, 1, 6) == Err(WireFault::ErrorRange));
+    assert!(rt; is_result(&mut Vec::new(rt.alloc()), &frame));
     Ok(())
+}
+
+/// Whether the frame is read as this error, and written back.
+fn is_error(out: &mut Vec<u8>, opcode: Opcode, frame: &[u8], error: i32) -> bool {
+    let Ok(reply) = read_reply(opcode, frame) else {
+        return false;
+    };
+    reply.error == error
+        && matches!(reply.body, ReplyBody::Empty)
+        && write_reply(out, &reply).is_ok()
+        && out.as_slice() == frame
 }
 
 #[test]
 fn errors_are_read_and_written(rt: HostRuntime) -> Result<(), Fail> {
-    frame_is_an_error(
-        &rt,
-        rt.alloc(),
-        Opcode::Mkdir,
-        "10000000 01feffff 0400000000000000",
-        -511,
-    )
-}
-
-/// The frame is read as this error, and written back.
-fn frame_is_an_error(
-    rt: &impl Abort,
-    alloc: Global,
-    opcode: Opcode,
-    hex: &str,
-    error: i32,
-) -> Result<(), Fail> {
-    let frame = unhex(alloc, hex)?;
-    let reply = read_reply(opcode, &frame)?;
-    assert!(rt; reply.error == error);
-    assert!(rt; matches!(reply.body, ReplyBody::Empty));
-    let mut out = Vec::new(alloc);
-    write_reply(&mut out, &reply)?;
-    assert!(rt; out == frame);
+    let frame = unhex(rt.alloc(), "10000000 01feffff 0400000000000000")?;
+    let mut out = Vec::new(rt.alloc());
+    assert!(rt; is_error(&mut out, Opcode::Mkdir, &frame, -511));
     Ok(())
 }
