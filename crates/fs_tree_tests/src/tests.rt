@@ -9,6 +9,7 @@ mod growths;
 mod limits;
 mod listing;
 mod plain;
+mod rows;
 mod table;
 mod twin;
 
@@ -85,15 +86,4 @@ fn move_name<A: Allocator + Copy>(
 fn done(outcome: Result<(), TreeError>) -> Result<Answer, TreeError> {
     outcome?;
     Ok(Answer::Done)
-}
-
-/// Performs operations of which none is to be refused.
-fn perform_all<A: Allocator + Copy>(
-    tree: &mut Tree<A>,
-    operations: &[Operation],
-) -> Result<(), TreeError> {
-    for operation in operations {
-        let _ = perform(tree, *operation)?;
-    }
-    Ok(())
 }

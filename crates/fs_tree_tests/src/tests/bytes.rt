@@ -1,83 +1,78 @@
 //! Opening, reading and writing.
 
-use super::table::{Row, check_rows};
-use super::{Answer, Operation, perform_all};
-use fs_tree::{Kind, Tree, TreeError};
-use std::process::Abort;
+use super::rows::{Look, Row, check};
+use super::{Answer, Operation};
+use fs_tree::{Attributes, Kind, TreeError};
 use std::test::Fail;
 
-const WRITES: [Operation; 5] = [
-    Operation::Create(0, "f"),
-    Operation::Write(1, 2, "abc"),
-    Operation::Write(1, 4, "xyz"),
-    Operation::Write(1, 0, "-"),
-    Operation::Write(1, 900, ""),
+static WRITES: [Row; 9] = [
+    Row::Performs(Operation::Create(0, "f")),
+    Row::Performs(Operation::Write(1, 2, "abc")),
+    Row::Performs(Operation::Write(1, 4, "xyz")),
+    Row::Performs(Operation::Write(1, 0, "-")),
+    Row::Performs(Operation::Write(1, 900, "")),
+    Row::Sees(Look::Read(0, 100, "-\0abxyz")),
+    Row::Sees(Look::Read(5, 100, "yz")),
+    Row::Sees(Look::Read(1, 3, "\0ab")),
+    Row::Sees(Look::Read(7, 100, "")),
 ];
-
-fn check_writes(rt: &impl Abort, tree: &mut Tree) -> Result<(), TreeError> {
-    perform_all(tree, &WRITES)?;
-    assert_eq!(rt; tree.read(1, 0, 100), b"-\0abxyz".as_slice());
-    assert_eq!(rt; tree.read(1, 5, 100), b"yz".as_slice());
-    assert_eq!(rt; tree.read(1, 1, 3), b"\0ab".as_slice());
-    assert!(rt; tree.read(1, 7, 100).is_empty());
-    Ok(())
-}
 
 #[test]
 fn writes_over_behind_and_past_the_end(rt: HostRuntime) -> Result<(), Fail> {
-    let mut tree = Tree::new(rt.alloc())?;
-    check_writes(&rt, &mut tree)?;
+    check(&rt, rt.alloc(), &WRITES)?;
     Ok(())
 }
 
-const LIMITS: [Row; 5] = [
-    (Operation::Create(0, "f"), Ok(Answer::File(1))),
-    (Operation::Write(1, 65_533, "end"), Ok(Answer::Done)),
-    (Operation::Write(1, 65_536, ""), Ok(Answer::Done)),
-    (
+static LIMITS: [Row; 8] = [
+    Row::Gives(Operation::Create(0, "f"), Ok(Answer::File(1))),
+    Row::Gives(Operation::Write(1, 65_533, "end"), Ok(Answer::Done)),
+    Row::Gives(Operation::Write(1, 65_536, ""), Ok(Answer::Done)),
+    Row::Gives(
         Operation::Write(1, 65_534, "end"),
         Err(TreeError::FileTooLarge),
     ),
-    (
+    Row::Gives(
         Operation::Write(1, 65_537, ""),
         Err(TreeError::FileTooLarge),
     ),
+    Row::Sees(Look::ReadLength(0, 65_536, 4096)),
+    Row::Sees(Look::Read(65_532, 3, "\0en")),
+    Row::Sees(Look::Size(1, 65_536)),
 ];
-
-fn check_limits(rt: &impl Abort, tree: &mut Tree) {
-    check_rows(rt, tree, &LIMITS);
-    assert_eq!(rt; tree.read(1, 0, 65_536).len(), 4096);
-    assert_eq!(rt; tree.read(1, 65_532, 3), b"\0en".as_slice());
-    assert_eq!(rt; tree.getattr(1).size, 65_536);
-}
 
 #[test]
 fn reads_at_most_a_page_and_writes_no_further_than_the_limit(rt: HostRuntime) -> Result<(), Fail> {
-    let mut tree = Tree::new(rt.alloc())?;
-    check_limits(&rt, &mut tree);
+    check(&rt, rt.alloc(), &LIMITS)?;
     Ok(())
 }
 
-const OPENED: [Row; 5] = [
-    (Operation::Create(0, "f"), Ok(Answer::File(1))),
-    (Operation::Link(1, 0, "g"), Ok(Answer::Done)),
-    (Operation::Write(1, 0, "abc"), Ok(Answer::Done)),
-    (Operation::Open(0), Err(TreeError::IsADirectory)),
-    (Operation::Open(1), Ok(Answer::Done)),
-];
+const FILE: Attributes = Attributes {
+    kind: Kind::Regular,
+    ino: 2,
+    size: 3,
+    nlink: 2,
+};
 
-fn check_attributes(rt: &impl Abort, tree: &mut Tree) {
-    check_rows(rt, tree, &OPENED);
-    let file = tree.getattr(1);
-    assert!(rt; file.kind == Kind::Regular && file.ino == 2 && file.size == 3 && file.nlink == 2);
-    let root = tree.getattr(0);
-    assert!(rt; root.kind == Kind::Directory && root.ino == 1 && root.size == 0 && root.nlink == 1);
-    assert_eq!(rt; TreeError::NotEmpty.errno(), 39);
-}
+const ROOT: Attributes = Attributes {
+    kind: Kind::Directory,
+    ino: 1,
+    size: 0,
+    nlink: 1,
+};
+
+static OPENED: [Row; 7] = [
+    Row::Gives(Operation::Create(0, "f"), Ok(Answer::File(1))),
+    Row::Gives(Operation::Link(1, 0, "g"), Ok(Answer::Done)),
+    Row::Gives(Operation::Write(1, 0, "abc"), Ok(Answer::Done)),
+    Row::Gives(Operation::Open(0), Err(TreeError::IsADirectory)),
+    Row::Gives(Operation::Open(1), Ok(Answer::Done)),
+    Row::Sees(Look::Attributes(1, FILE)),
+    Row::Sees(Look::Attributes(0, ROOT)),
+];
 
 #[test]
 fn attributes_and_opening(rt: HostRuntime) -> Result<(), Fail> {
-    let mut tree = Tree::new(rt.alloc())?;
-    check_attributes(&rt, &mut tree);
+    check(&rt, rt.alloc(), &OPENED)?;
+    assert!(rt; TreeError::NotEmpty.errno() == 39);
     Ok(())
 }

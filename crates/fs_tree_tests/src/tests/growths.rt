@@ -56,12 +56,14 @@ fn one_event<A: Allocator + Copy>(
     heap.refuse(refuse);
     let outcome = perform(tree, event.0);
     let refused = refuse != 0 && heap.left() == 0;
-    if refused {
-        assert!(rt; outcome == Err(TreeError::NoMemory) && seen(tree)? == before);
-        assert!(rt; perform(tree, event.0) == Ok(event.1));
+    let right = if refused {
+        outcome == Err(TreeError::NoMemory)
+            && seen(tree)? == before
+            && perform(tree, event.0) == Ok(event.1)
     } else {
-        assert!(rt; outcome == Ok(event.1));
-    }
+        outcome == Ok(event.1)
+    };
+    assert!(rt; right);
     Ok(refused)
 }
 
@@ -130,37 +132,43 @@ fn perform_events<A: Allocator + Copy>(
     Ok(())
 }
 
-/// They, and what takes files away, need no memory.
-fn takes_none<A: Allocator + Copy>(
-    rt: &impl Abort,
-    tree: &mut Tree<A>,
-    heap: &FailAt<Global>,
-) -> Result<(), TreeError> {
-    perform_events(tree, &EVENTS[..4])?;
-    heap.refuse(1);
+/// Whether each of them answers as it must.
+fn removals_answer<A: Allocator + Copy>(tree: &mut Tree<A>) -> bool {
     for (operation, answer) in &REMOVALS {
-        assert!(rt; perform(tree, *operation) == Ok(*answer));
+        if perform(tree, *operation) != Ok(*answer) {
+            return false;
+        }
     }
-    discard_all(tree);
-    assert_eq!(rt; tree.next_birth(), 3);
-    assert_eq!(rt; heap.left(), 1);
-    heap.refuse(0);
-    Ok(())
+    true
 }
 
-fn removals_at<A: Allocator + Copy>(
-    rt: &impl Abort,
+/// Whether they, and what takes files away, need no memory.
+fn takes_none<A: Allocator + Copy>(
+    tree: &mut Tree<A>,
+    heap: &FailAt<Global>,
+) -> Result<bool, TreeError> {
+    perform_events(tree, &EVENTS[..4])?;
+    heap.refuse(1);
+    let answered = removals_answer(tree);
+    discard_all(tree);
+    let took_none = tree.next_birth() == 3 && heap.left() == 1;
+    heap.refuse(0);
+    Ok(answered && took_none)
+}
+
+/// The same in a new tree.
+fn takes_none_in_new<A: Allocator + Copy>(
     alloc: A,
     heap: &FailAt<Global>,
-) -> Result<(), TreeError> {
+) -> Result<bool, TreeError> {
     let mut tree = Tree::new(alloc)?;
-    takes_none(rt, &mut tree, heap)
+    takes_none(&mut tree, heap)
 }
 
 #[test]
 fn removals_take_no_memory(rt: HostRuntime) -> Result<(), Fail> {
     let heap = FailAt::new(rt.alloc());
-    removals_at(&rt, &heap, &heap)?;
+    assert!(rt; takes_none_in_new(&heap, &heap) == Ok(true));
     Ok(())
 }
 

@@ -3,6 +3,7 @@
 use super::plain::{Plain, Row};
 use super::{Operation, perform};
 use fs_tree::{Kind, Record, Tree, TreeError};
+use std::alloc::Global;
 use std::process::Abort;
 use std::test::Fail;
 
@@ -150,16 +151,32 @@ const ERRORS: u64 = 1 << 1
     | 1 << 27
     | 1 << 39;
 
-#[test]
-fn answers_as_a_plain_tree(rt: HostRuntime) -> Result<(), Fail> {
-    let mut tree = Tree::new(rt.alloc())?;
-    let mut plain = Plain::new(rt.alloc())?;
+/// Four thousand operations on both. Says whether each error came, and whether both have made as many files.
+fn all_steps(rt: &impl Abort, tree: &mut Tree, plain: &mut Plain) -> Result<bool, TreeError> {
     let mut draws = Draws { state: 1 };
     let mut met = 0u64;
     for _step in 0..4000u32 {
-        met |= one_step(&rt, &mut tree, &mut plain, &mut draws)?;
+        met |= one_step(rt, tree, plain, &mut draws)?;
     }
-    assert_eq!(rt; met, ERRORS);
-    assert_eq!(rt; tree.next_birth(), plain.next_birth());
+    Ok(met == ERRORS && tree.next_birth() == plain.next_birth())
+}
+
+/// The same with a new plain tree.
+fn steps_beside(rt: &impl Abort, tree: &mut Tree, alloc: Global) -> Result<bool, TreeError> {
+    let mut plain = Plain::new(alloc)?;
+    all_steps(rt, tree, &mut plain)
+}
+
+/// The same with two new trees. Says whether all went so.
+fn new_trees_agree(rt: &impl Abort, alloc: Global) -> bool {
+    match Tree::new(alloc) {
+        Ok(mut tree) => steps_beside(rt, &mut tree, alloc) == Ok(true),
+        Err(_) => false,
+    }
+}
+
+#[test]
+fn answers_as_a_plain_tree(rt: HostRuntime) -> Result<(), Fail> {
+    assert!(rt; new_trees_agree(&rt, rt.alloc()));
     Ok(())
 }
