@@ -1,6 +1,6 @@
 //! Each call on its happy path, and under a number that is not in use.
 use fs_handles::{HandleTable, LIMIT};
-use std::alloc::{AllocError, Allocator};
+use std::alloc::{AllocError, Allocator, Global};
 use std::process::Abort;
 use std::test::Fail;
 
@@ -16,71 +16,120 @@ pub(super) fn open<A: Allocator + Copy>(
     Ok(table.open(file))
 }
 
-fn check_numbers(rt: &impl Abort, table: &mut HandleTable) -> Result<(), AllocError> {
-    assert!(rt; open(table, 7)? == 1 && open(table, 7)? == 2 && open(table, 9)? == 3);
-    assert_eq!(rt; table.numbers_left(), LIMIT - 4);
-    assert!(rt; table.file_of(2) == Some(7) && table.file_of(4).is_none());
-    assert!(rt; table.has(7) && table.has(9) && !table.has(8));
-    Ok(())
+/// A call, and what it must give.
+#[derive(Clone, Copy)]
+enum Row {
+    /// Opens a file: the number.
+    Open(u64, u64),
+    /// Counts one more copy of a number that is not in use, which is not counted.
+    AgainUnused(u64),
+    TakeBack(u64),
+    Clear,
+    FileOf(u64, Option<u64>),
+    Has(u64, bool),
+    NumbersLeft(u64),
 }
+
+/// Makes the call, and says whether it gave what it must.
+fn gives(table: &mut HandleTable, row: Row) -> bool {
+    match row {
+        Row::Open(file, number) => return matches!(open(table, file), Ok(fh) if fh == number),
+        Row::AgainUnused(number) => {
+            if table.file_of(number).is_some() {
+                return false;
+            }
+            table.again(number);
+        }
+        Row::TakeBack(number) => table.take_back(number),
+        Row::Clear => table.clear(),
+        Row::FileOf(number, file) => return table.file_of(number) == file,
+        Row::Has(file, expected) => return table.has(file) == expected,
+        Row::NumbersLeft(left) => return table.numbers_left() == left,
+    }
+    true
+}
+
+fn check_rows(rt: &impl Abort, table: &mut HandleTable, rows: &[Row]) {
+    for (place, row) in rows.iter().enumerate() {
+        assert!(rt; gives(table, *row), "row {place}");
+    }
+}
+
+/// Makes the calls of the rows in their order on an empty table.
+fn check(rt: &impl Abort, alloc: Global, rows: &[Row]) {
+    let mut table: HandleTable = HandleTable::new(alloc);
+    check_rows(rt, &mut table, rows);
+}
+
+static RISING: [Row; 10] = [
+    Row::NumbersLeft(LIMIT - 1),
+    Row::Open(7, 1),
+    Row::Open(7, 2),
+    Row::Open(9, 3),
+    Row::NumbersLeft(LIMIT - 4),
+    Row::FileOf(2, Some(7)),
+    Row::FileOf(4, None),
+    Row::Has(7, true),
+    Row::Has(9, true),
+    Row::Has(8, false),
+];
 
 #[test]
 fn numbers_rise_and_are_of_a_file(rt: HostRuntime) -> Result<(), Fail> {
-    let mut table: HandleTable = HandleTable::new(rt.alloc());
-    assert_eq!(rt; table.numbers_left(), LIMIT - 1);
-    check_numbers(&rt, &mut table)?;
+    check(&rt, rt.alloc(), &RISING);
     Ok(())
 }
 
 /// A number that is not in use is neither counted nor taken back.
-fn close_and_close_again(rt: &impl Abort, table: &mut HandleTable) {
-    table.take_back(1);
-    assert!(rt; table.has(7) && table.file_of(1).is_none());
-    table.take_back(1);
-    table.again(1);
-    assert!(rt; table.has(7) && table.file_of(1).is_none());
-    table.take_back(2);
-    assert!(rt; !table.has(7));
-}
-
-fn open_close_and_open(rt: &impl Abort, table: &mut HandleTable) -> Result<(), AllocError> {
-    assert!(rt; open(table, 7)? == 1 && open(table, 7)? == 2);
-    close_and_close_again(rt, table);
-    assert_eq!(rt; open(table, 7)?, 3);
-    Ok(())
-}
+static HELD: [Row; 12] = [
+    Row::Open(7, 1),
+    Row::Open(7, 2),
+    Row::TakeBack(1),
+    Row::Has(7, true),
+    Row::FileOf(1, None),
+    Row::TakeBack(1),
+    Row::AgainUnused(1),
+    Row::Has(7, true),
+    Row::FileOf(1, None),
+    Row::TakeBack(2),
+    Row::Has(7, false),
+    Row::Open(7, 3),
+];
 
 #[test]
 fn a_file_is_held_until_its_last_number_goes(rt: HostRuntime) -> Result<(), Fail> {
-    let mut table: HandleTable = HandleTable::new(rt.alloc());
-    open_close_and_open(&rt, &mut table)?;
+    check(&rt, rt.alloc(), &HELD);
     Ok(())
 }
 
-#[test]
-fn one_more_copy_keeps_a_number(rt: HostRuntime) -> Result<(), Fail> {
-    let mut table: HandleTable = HandleTable::new(rt.alloc());
+/// Whether a number that was copied once is kept once.
+fn copy_keeps_number(alloc: Global) -> Result<bool, AllocError> {
+    let mut table: HandleTable = HandleTable::new(alloc);
     table.reserve()?;
     let fh = table.open(7);
     table.again(fh);
     table.take_back(fh);
-    assert_eq!(rt; table.file_of(fh), Some(7));
+    let kept = table.file_of(fh) == Some(7);
     table.take_back(fh);
-    assert_eq!(rt; table.file_of(fh), None);
-    Ok(())
-}
-
-fn open_clear_and_open(rt: &impl Abort, table: &mut HandleTable) -> Result<(), AllocError> {
-    assert_eq!(rt; open(table, 7)?, 1);
-    table.clear();
-    assert!(rt; !table.has(7) && table.file_of(1).is_none());
-    assert_eq!(rt; open(table, 8)?, 2);
-    Ok(())
+    Ok(kept && table.file_of(fh).is_none())
 }
 
 #[test]
+fn one_more_copy_keeps_a_number(rt: HostRuntime) -> Result<(), Fail> {
+    assert!(rt; matches!(copy_keeps_number(rt.alloc()), Ok(true)));
+    Ok(())
+}
+
+static CLEARED: [Row; 5] = [
+    Row::Open(7, 1),
+    Row::Clear,
+    Row::Has(7, false),
+    Row::FileOf(1, None),
+    Row::Open(8, 2),
+];
+
+#[test]
 fn numbers_go_on_after_clear(rt: HostRuntime) -> Result<(), Fail> {
-    let mut table: HandleTable = HandleTable::new(rt.alloc());
-    open_clear_and_open(&rt, &mut table)?;
+    check(&rt, rt.alloc(), &CLEARED);
     Ok(())
 }

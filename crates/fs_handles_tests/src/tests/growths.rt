@@ -25,34 +25,31 @@ fn fill<A: Allocator + Copy>(
     Ok(opened)
 }
 
-/// What is seen of a table of so many open files, each opened once, from 0 on.
-fn check_full<A: Allocator + Copy>(rt: &impl Abort, table: &HandleTable<A>, opened: u64, n: u64) {
-    assert!(rt; 0 < opened && opened < 64, "{opened}");
-    assert_eq!(rt;
-        table.numbers_left(),
-        (LIMIT - 1).saturating_sub(opened),
-        "{n}"
-    );
-    assert!(rt; table.file_of(1) == Some(0) && table.has(0), "{n}");
-    assert!(rt; !table.has(opened), "{n}");
+/// Whether a table of so many open files, each opened once, from 0 on, is seen as it is.
+fn is_full<A: Allocator + Copy>(table: &HandleTable<A>, opened: u64) -> bool {
+    0 < opened
+        && opened < 64
+        && table.numbers_left() == (LIMIT - 1).saturating_sub(opened)
+        && table.file_of(1) == Some(0)
+        && table.has(0)
+        && !table.has(opened)
 }
 
-/// Asks for room, and then once more: there is room already.
+/// Asks for room, and then once more: whether there was room already.
 fn reserve_twice<A: Allocator + Copy>(
-    rt: &impl Abort,
     table: &mut HandleTable<A>,
     heap: &FailAt<Global>,
-) -> Result<(), AllocError> {
+) -> Result<bool, AllocError> {
     table.reserve()?;
     heap.refuse(1);
     table.reserve()?;
-    assert_eq!(rt; heap.left(), 1, "the room was there");
+    let was_there = heap.left() == 1;
     heap.refuse(0);
-    Ok(())
+    Ok(was_there)
 }
 
 /// Asks for room in a full table with the `n`th growth refused. Says whether that growth came.
-fn refused_at<A: Allocator + Copy>(
+fn refused_in<A: Allocator + Copy>(
     rt: &impl Abort,
     table: &mut HandleTable<A>,
     heap: &FailAt<Global>,
@@ -63,18 +60,26 @@ fn refused_at<A: Allocator + Copy>(
     let outcome = table.reserve();
     let refused = heap.left() == 0;
     heap.refuse(0);
-    assert_eq!(rt; outcome.is_err(), refused, "{n}");
-    check_full(rt, table, opened, n);
-    reserve_twice(rt, table, heap)?;
+    let right = outcome.is_err() == refused
+        && is_full(table, opened)
+        && reserve_twice(table, heap)?;
+    assert!(rt; right, "{n}");
     Ok(refused)
 }
 
-/// After `reserve` no call takes memory.
-fn takes_none<A: Allocator + Copy>(
+/// The same in a new table.
+fn refused_at<A: Allocator + Copy>(
     rt: &impl Abort,
     alloc: A,
     heap: &FailAt<Global>,
-) -> Result<(), AllocError> {
+    n: u64,
+) -> Result<bool, AllocError> {
+    let mut table = HandleTable::new(alloc);
+    refused_in(rt, &mut table, heap, n)
+}
+
+/// Whether after `reserve` no call takes memory, and the file is closed with its last number.
+fn takes_none<A: Allocator + Copy>(alloc: A, heap: &FailAt<Global>) -> Result<bool, AllocError> {
     let mut table = HandleTable::new(alloc);
     table.reserve()?;
     heap.refuse(1);
@@ -82,33 +87,38 @@ fn takes_none<A: Allocator + Copy>(
     table.again(fh);
     table.take_back(fh);
     table.take_back(fh);
-    assert!(rt; !table.has(7));
+    let is_closed = !table.has(7);
     table.clear();
-    assert_eq!(rt; heap.left(), 1);
+    let took_none = heap.left() == 1;
     heap.refuse(0);
-    Ok(())
+    Ok(is_closed && took_none)
 }
 
-/// Each growth refused in turn, until none is left to refuse.
+/// Each growth refused in turn, until none is left to refuse. Says whether some came, and the last run had none.
 fn each_refused<A: Allocator + Copy>(
     rt: &impl Abort,
     alloc: A,
     heap: &FailAt<Global>,
-) -> Result<(), AllocError> {
+) -> Result<bool, AllocError> {
     let mut growths = 0u64;
     for n in 1..24u64 {
-        let mut table = HandleTable::new(alloc);
-        if refused_at(rt, &mut table, heap, n)? {
+        if refused_at(rt, alloc, heap, n)? {
             growths = n;
         }
     }
-    assert!(rt; 1 <= growths && growths < 23, "{growths}");
-    takes_none(rt, alloc, heap)
+    Ok(1 <= growths && growths < 23)
 }
 
 #[test]
 fn refused_growths_change_nothing(rt: HostRuntime) -> Result<(), Fail> {
     let heap = FailAt::new(rt.alloc());
-    each_refused(&rt, &heap, &heap)?;
+    assert!(rt;
+        matches!(each_refused(&rt, &heap, &heap), Ok(true)),
+        "growths"
+    );
+    assert!(rt;
+        matches!(takes_none(&heap, &heap), Ok(true)),
+        "calls after them"
+    );
     Ok(())
 }
