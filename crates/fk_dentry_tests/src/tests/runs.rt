@@ -3,7 +3,6 @@ use super::bind;
 use fk_dentry::{Bindings, Found};
 use fuse_spec::Binding;
 use std::alloc::{AllocError, Global};
-use std::process::Abort;
 use std::test::Fail;
 
 /// Four directories with four names each.
@@ -39,14 +38,13 @@ fn is_named(plain: &Plain, id: u64) -> bool {
     named
 }
 
-/// The call that a number below 16 picks, on both.
+/// The call that a number below 16 picks, on both. Says whether they give the same.
 fn step(
-    rt: &impl Abort,
     names: &mut Bindings,
     plain: &mut Plain,
     pick: u64,
     argument: u64,
-) -> Result<(), AllocError> {
+) -> Result<bool, AllocError> {
     let place = (argument % 16) as usize;
     let (directory, name) = (directory_of(place), name_of(place));
     if pick < 9 {
@@ -56,26 +54,31 @@ fn step(
         bind(names, directory, &name, target, until)?;
         plain[place] = Some(Binding { target, until });
     } else if pick < 14 {
-        assert_eq!(rt; names.remove(directory, &name), plain[place].is_some());
-        plain[place] = None;
+        let was_bound = plain[place].take().is_some();
+        return Ok(names.remove(directory, &name) == was_bound);
     } else if argument % 32 == 0 {
         names.clear();
         *plain = [None; 16];
     } else {
         names.reserve(directory, &name)?;
     }
-    Ok(())
+    Ok(true)
 }
 
-/// Every look says what the array says.
-fn same_looks(rt: &impl Abort, names: &Bindings, plain: &Plain) {
+/// Whether every look says what the array says.
+fn looks_the_same(names: &Bindings, plain: &Plain) -> bool {
     for place in 0..16usize {
         let sought = names.find(directory_of(place), &name_of(place), 1);
-        assert_eq!(rt; sought, found(plain[place], 1));
+        if sought != found(plain[place], 1) {
+            return false;
+        }
     }
     for id in 0..9u64 {
-        assert_eq!(rt; names.names_node(id), is_named(plain, id), "{id}");
+        if names.names_node(id) != is_named(plain, id) {
+            return false;
+        }
     }
+    true
 }
 
 /// The next of a fixed row of numbers, from 1 to 2^31 - 2 (the minimal standard generator).
@@ -88,16 +91,11 @@ fn names_are_as_in_an_array(rt: HostRuntime) -> Result<(), Fail> {
     let mut names: Bindings<Global> = Bindings::new(rt.alloc());
     let mut plain: Plain = [None; 16];
     let mut number = 1u64;
-    for _step in 0..600u64 {
+    for place in 0..600u64 {
         number = next_number(number);
-        step(
-            &rt,
-            &mut names,
-            &mut plain,
-            number % 16,
-            number / 16 % 0x1_0000,
-        )?;
-        same_looks(&rt, &names, &plain);
+        let (pick, argument) = (number % 16, number / 16 % 0x1_0000);
+        let is_same = step(&mut names, &mut plain, pick, argument)?;
+        assert!(rt; is_same && looks_the_same(&names, &plain), "{place}");
     }
     Ok(())
 }
