@@ -7,6 +7,18 @@ use fk_dentry::Bindings;
 use fk_syscalls::{Asked, Call, Next, begin};
 use std::alloc::{AllocError, Allocator};
 
+/// What a call comes to: the operation that it asks for, or the error number that answers it.
+#[derive(Clone, Copy)]
+enum Gives {
+    Lookup(u64, &'static str),
+    Mkdir(u64, &'static str),
+    Getattr(u64),
+    Errno(u32),
+}
+
+/// A time, a call that begins then, what it comes to, and what it comes to after each node that is found.
+type Row = (u64, Call<'static>, Gives, &'static [(u64, Gives)]);
+
 /// Binds a name.
 fn bind<A: Allocator + Copy>(
     names: &mut Bindings<A>,
@@ -36,6 +48,28 @@ fn asks<A: Allocator + Copy>(next: &Next<A>, asked: Asked<'_>) -> bool {
     }
 }
 
+/// Whether the call comes to this.
+fn comes_to<A: Allocator + Copy>(next: &Next<A>, gives: Gives) -> bool {
+    match gives {
+        Gives::Lookup(directory, name) => asks(
+            next,
+            Asked::Lookup {
+                directory,
+                name: name.as_bytes(),
+            },
+        ),
+        Gives::Mkdir(directory, name) => asks(
+            next,
+            Asked::Mkdir {
+                directory,
+                name: name.as_bytes(),
+            },
+        ),
+        Gives::Getattr(node) => asks(next, Asked::Getattr { node }),
+        Gives::Errno(errno) => errno_of(next) == Some(errno),
+    }
+}
+
 /// The word that the call asked for leads to this node.
 fn found<A: Allocator + Copy>(
     next: Next<A>,
@@ -49,20 +83,28 @@ fn found<A: Allocator + Copy>(
     }
 }
 
-fn stat<A: Allocator + Copy>(
-    alloc: A,
+/// Whether the call comes to what the row says after each node that is found.
+fn walks_on<A: Allocator + Copy>(
+    mut next: Next<A>,
     names: &Bindings<A>,
-    clock: u64,
-    path: &[u8],
-) -> Result<Next<A>, AllocError> {
-    begin(alloc, names, clock, &Call::Stat { path })
+    now: u64,
+    rest: &[(u64, Gives)],
+) -> bool {
+    let mut is_right = true;
+    for (node, gives) in rest {
+        next = found(next, names, now, *node);
+        is_right &= comes_to(&next, *gives);
+    }
+    is_right
 }
 
-fn mkdir<A: Allocator + Copy>(
+/// Begins the row's call, and says whether it comes to what the row says.
+fn is_walked<A: Allocator + Copy>(
     alloc: A,
     names: &Bindings<A>,
-    clock: u64,
-    path: &[u8],
-) -> Result<Next<A>, AllocError> {
-    begin(alloc, names, clock, &Call::Mkdir { path })
+    row: &Row,
+) -> Result<bool, AllocError> {
+    let (now, call, first, rest) = row;
+    let next = begin(alloc, names, *now, call)?;
+    Ok(comes_to(&next, *first) && walks_on(next, names, *now, rest))
 }

@@ -1,7 +1,7 @@
 //! Path faults, judged alike for each call.
-use super::{asks, errno_of, mkdir, stat};
+use super::{Gives, comes_to, errno_of};
 use fk_dentry::Bindings;
-use fk_syscalls::{Asked, Next};
+use fk_syscalls::{Call, begin};
 use std::alloc::{AllocError, Global};
 use std::process::Abort;
 use std::test::Fail;
@@ -10,60 +10,64 @@ const EINVAL: u32 = 22;
 
 const ENAMETOOLONG: u32 = 36;
 
-/// Both calls of the path are answered this error number, or neither is answered.
-fn judged(
-    rt: &impl Abort,
-    names: &Bindings,
+/// Whether both calls of the path are answered this error number at once, or neither is answered.
+fn is_judged(
     alloc: Global,
+    names: &Bindings<Global>,
     path: &[u8],
     fault: Option<u32>,
-) -> Result<(), AllocError> {
-    assert_eq!(rt;
-        errno_of(&stat(alloc, names, 0, path)?),
-        fault,
-        "stat {path:?}"
-    );
-    assert_eq!(rt;
-        errno_of(&mkdir(alloc, names, 0, path)?),
-        fault,
-        "mkdir {path:?}"
-    );
+) -> Result<bool, AllocError> {
+    let stat = begin(alloc, names, 0, &Call::Stat { path })?;
+    let mkdir = begin(alloc, names, 0, &Call::Mkdir { path })?;
+    Ok(errno_of(&stat) == fault && errno_of(&mkdir) == fault)
+}
+
+static PATHS: [(&[u8], Option<u32>); 18] = [
+    (b"", Some(EINVAL)),
+    (b"a", Some(EINVAL)),
+    (b"a//b", Some(EINVAL)),
+    (b"//", Some(EINVAL)),
+    (b"/a//b", Some(EINVAL)),
+    (b"/a/", Some(EINVAL)),
+    (b"/.", Some(EINVAL)),
+    (b"/..", Some(EINVAL)),
+    (b"/a/../b", Some(EINVAL)),
+    (b"/a/.", Some(EINVAL)),
+    (b"/a\0b", Some(EINVAL)),
+    (b"\0", Some(EINVAL)),
+    (b"/a", None),
+    (b"/...", None),
+    (b"/.a", None),
+    (b"/a.", None),
+    (b"/..a/ ", None),
+    (b"/\xff\\", None),
+];
+
+fn check_paths(rt: &impl Abort, alloc: Global) -> Result<(), AllocError> {
+    let names = Bindings::new(alloc);
+    for (path, fault) in PATHS {
+        assert!(rt; is_judged(alloc, &names, path, fault)?, "{path:?}");
+    }
     Ok(())
 }
 
 #[test]
 fn the_first_fault_from_the_left_decides(rt: HostRuntime) -> Result<(), Fail> {
-    let alloc = rt.alloc();
-    let names: Bindings<Global> = Bindings::new(alloc);
-    let invalid = [
-        b"".as_slice(),
-        b"a".as_slice(),
-        b"a//b".as_slice(),
-        b"//".as_slice(),
-        b"/a//b".as_slice(),
-        b"/a/".as_slice(),
-        b"/.".as_slice(),
-        b"/..".as_slice(),
-        b"/a/../b".as_slice(),
-        b"/a/.".as_slice(),
-        b"/a\0b".as_slice(),
-        b"\0".as_slice(),
-    ];
-    for path in invalid {
-        judged(&rt, &names, alloc, path, Some(EINVAL))?;
-    }
-    for path in [
-        b"/a".as_slice(),
-        b"/...".as_slice(),
-        b"/.a".as_slice(),
-        b"/a.".as_slice(),
-        b"/..a/ ".as_slice(),
-        b"/\xff\\".as_slice(),
-    ] {
-        judged(&rt, &names, alloc, path, None)?;
-    }
+    check_paths(&rt, rt.alloc())?;
     Ok(())
 }
+
+/// A number, and what stands behind so many bytes or words.
+type Long = (usize, &'static [u8], Option<u32>);
+
+static LONG_WORDS: [Long; 6] = [
+    (255, b"", None),
+    (255, b"/a", None),
+    (255, b"/", Some(EINVAL)),
+    (256, b"", Some(ENAMETOOLONG)),
+    (256, b"//", Some(ENAMETOOLONG)),
+    (256, b"\0", Some(EINVAL)),
+];
 
 /// A path of one long word, with more behind it.
 fn long_word(alloc: Global, len: usize, tail: &[u8]) -> Result<Vec<u8>, AllocError> {
@@ -73,23 +77,31 @@ fn long_word(alloc: Global, len: usize, tail: &[u8]) -> Result<Vec<u8>, AllocErr
     Ok(path)
 }
 
-#[test]
-fn a_word_has_at_most_255_bytes(rt: HostRuntime) -> Result<(), Fail> {
-    let alloc = rt.alloc();
-    let names: Bindings<Global> = Bindings::new(alloc);
-    for (len, tail, fault) in [
-        (255, b"".as_slice(), None),
-        (255, b"/a".as_slice(), None),
-        (255, b"/".as_slice(), Some(EINVAL)),
-        (256, b"".as_slice(), Some(ENAMETOOLONG)),
-        (256, b"//".as_slice(), Some(ENAMETOOLONG)),
-        (256, b"\0".as_slice(), Some(EINVAL)),
-    ] {
+fn check_long_words(rt: &impl Abort, alloc: Global) -> Result<(), AllocError> {
+    let names = Bindings::new(alloc);
+    for (len, tail, fault) in LONG_WORDS {
         let path = long_word(alloc, len, tail)?;
-        judged(&rt, &names, alloc, &path, fault)?;
+        assert!(rt; is_judged(alloc, &names, &path, fault)?, "{len} {tail:?}");
     }
     Ok(())
 }
+
+#[test]
+fn a_word_has_at_most_255_bytes(rt: HostRuntime) -> Result<(), Fail> {
+    check_long_words(&rt, rt.alloc())?;
+    Ok(())
+}
+
+static MANY_WORDS: [Long; 8] = [
+    (32, b"", None),
+    (32, b"/", Some(ENAMETOOLONG)),
+    (32, b"/.", Some(ENAMETOOLONG)),
+    (32, b"/\0", Some(ENAMETOOLONG)),
+    (33, b"", Some(ENAMETOOLONG)),
+    (34, b"", Some(ENAMETOOLONG)),
+    (31, b"/..", Some(EINVAL)),
+    (31, b"//a", Some(EINVAL)),
+];
 
 /// A path of so many words of one byte, with more behind them.
 fn many_words(alloc: Global, words: usize, tail: &[u8]) -> Result<Vec<u8>, AllocError> {
@@ -101,32 +113,31 @@ fn many_words(alloc: Global, words: usize, tail: &[u8]) -> Result<Vec<u8>, Alloc
     Ok(path)
 }
 
-#[test]
-fn of_the_33rd_word_its_place_alone_is_judged(rt: HostRuntime) -> Result<(), Fail> {
-    let alloc = rt.alloc();
-    let names: Bindings<Global> = Bindings::new(alloc);
-    for (words, tail, fault) in [
-        (32, b"".as_slice(), None),
-        (32, b"/".as_slice(), Some(ENAMETOOLONG)),
-        (32, b"/.".as_slice(), Some(ENAMETOOLONG)),
-        (32, b"/\0".as_slice(), Some(ENAMETOOLONG)),
-        (33, b"".as_slice(), Some(ENAMETOOLONG)),
-        (34, b"".as_slice(), Some(ENAMETOOLONG)),
-        (31, b"/..".as_slice(), Some(EINVAL)),
-        (31, b"//a".as_slice(), Some(EINVAL)),
-    ] {
+fn check_many_words(rt: &impl Abort, alloc: Global) -> Result<(), AllocError> {
+    let names = Bindings::new(alloc);
+    for (words, tail, fault) in MANY_WORDS {
         let path = many_words(alloc, words, tail)?;
-        judged(&rt, &names, alloc, &path, fault)?;
+        assert!(rt; is_judged(alloc, &names, &path, fault)?, "{words} {tail:?}");
     }
     Ok(())
 }
 
 #[test]
+fn of_the_33rd_word_its_place_alone_is_judged(rt: HostRuntime) -> Result<(), Fail> {
+    check_many_words(&rt, rt.alloc())?;
+    Ok(())
+}
+
+/// Whether a stat of the root asks for its attributes, and a mkdir is answered `EINVAL`.
+fn root_is_judged(alloc: Global) -> Result<bool, AllocError> {
+    let names = Bindings::new(alloc);
+    let stat = begin(alloc, &names, 0, &Call::Stat { path: b"/" })?;
+    let mkdir = begin(alloc, &names, 0, &Call::Mkdir { path: b"/" })?;
+    Ok(comes_to(&stat, Gives::Getattr(1)) && errno_of(&mkdir) == Some(EINVAL))
+}
+
+#[test]
 fn the_root_has_no_last_word(rt: HostRuntime) -> Result<(), Fail> {
-    let alloc = rt.alloc();
-    let names: Bindings<Global> = Bindings::new(alloc);
-    let next: Next<Global> = stat(alloc, &names, 0, b"/")?;
-    assert!(rt; asks(&next, Asked::Getattr { node: 1 }));
-    assert_eq!(rt; errno_of(&mkdir(alloc, &names, 0, b"/")?), Some(EINVAL));
+    assert!(rt; root_is_judged(rt.alloc())?);
     Ok(())
 }

@@ -1,78 +1,76 @@
 //! Refused growths: `begin` alone takes memory.
-use super::{asks, bind, found};
+use super::{Gives, bind, walks_on};
 use fail_at::FailAt;
 use fk_dentry::Bindings;
-use fk_syscalls::{Asked, Call, Next, begin};
+use fk_syscalls::{Call, begin};
 use std::alloc::{AllocError, Allocator, Global};
 use std::process::Abort;
 use std::test::Fail;
 
-/// Begins a call with each of its growths refused once, and then with none refused. Says how many growths it has.
-fn begun<A: Allocator + Copy>(
-    rt: &impl Abort,
+/// How many growths a call's begin has, each refused once; `None` where it does not say that one was refused.
+fn growths_of<A: Allocator + Copy>(
     alloc: A,
     heap: &FailAt<Global>,
     names: &Bindings<A>,
     call: &Call<'_>,
-) -> Result<(u64, Next<A>), AllocError> {
+) -> Option<u64> {
     let mut growths = 0;
     for n in 1..6u64 {
         heap.refuse(n);
-        let outcome = begin(alloc, names, 0, call);
-        let refused = heap.left() == 0;
+        let is_told = begin(alloc, names, 0, call).is_err();
+        let is_refused = heap.left() == 0;
         heap.refuse(0);
-        assert_eq!(rt; outcome.is_err(), refused, "{n}");
-        if refused {
+        if is_told != is_refused {
+            return None;
+        }
+        if is_refused {
             growths = n;
         }
     }
-    Ok((growths, begin(alloc, names, 0, call)?))
+    Some(growths)
 }
 
+/// Begins a call, and says whether it walks on as it must and takes no memory in this.
+fn takes_none<A: Allocator + Copy>(
+    alloc: A,
+    heap: &FailAt<Global>,
+    names: &Bindings<A>,
+    call: &Call<'_>,
+    rest: &[(u64, Gives)],
+) -> Result<bool, AllocError> {
+    let next = begin(alloc, names, 0, call)?;
+    heap.refuse(1);
+    let is_right = walks_on(next, names, 0, rest);
+    let left = heap.left();
+    heap.refuse(0);
+    Ok(is_right && left == 1)
+}
+
+const STAT: Call<'static> = Call::Stat { path: b"/a/b/c" };
+
+const MKDIR: Call<'static> = Call::Mkdir { path: b"/a/b/c" };
+
 /// Each growth of both calls refused once; and a walk on takes no memory.
-fn each_refused<A: Allocator + Copy>(
+fn check<A: Allocator + Copy>(
     rt: &impl Abort,
     alloc: A,
     heap: &FailAt<Global>,
+    names: &Bindings<A>,
 ) -> Result<(), AllocError> {
-    let mut names = Bindings::new(alloc);
-    bind(&mut names, 1, b"a", Some(2), 1)?;
-    let path = b"/a/b/c".as_slice();
-    let (growths, stat) = begun(rt, alloc, heap, &names, &Call::Stat { path })?;
-    assert_eq!(rt; growths, 1);
-    let (growths, mkdir) = begun(rt, alloc, heap, &names, &Call::Mkdir { path })?;
-    assert_eq!(rt; growths, 2);
-    heap.refuse(1);
-    let stat = found(stat, &names, 0, 3);
-    assert!(rt;
-        asks(
-            &stat,
-            Asked::Lookup {
-                directory: 3,
-                name: b"c"
-            }
-        )
-    );
-    let stat = found(stat, &names, 0, 4);
-    assert!(rt; asks(&stat, Asked::Getattr { node: 4 }));
-    let mkdir = found(mkdir, &names, 0, 3);
-    assert!(rt;
-        asks(
-            &mkdir,
-            Asked::Mkdir {
-                directory: 3,
-                name: b"c"
-            }
-        )
-    );
-    assert_eq!(rt; heap.left(), 1);
-    heap.refuse(0);
+    assert!(rt; growths_of(alloc, heap, names, &STAT) == Some(1));
+    assert!(rt; growths_of(alloc, heap, names, &MKDIR) == Some(2));
+    let looked_up = [(3, Gives::Lookup(3, "c")), (4, Gives::Getattr(4))];
+    assert!(rt; takes_none(alloc, heap, names, &STAT, &looked_up)?);
+    let made = [(3, Gives::Mkdir(3, "c"))];
+    assert!(rt; takes_none(alloc, heap, names, &MKDIR, &made)?);
     Ok(())
 }
 
 #[test]
 fn refused_growths_begin_no_call(rt: HostRuntime) -> Result<(), Fail> {
     let heap = FailAt::new(rt.alloc());
-    each_refused(&rt, &heap, &heap)?;
+    let mut names = Bindings::new(&heap);
+    bind(&mut names, 1, b"a", Some(2), 1)?;
+    check(&rt, &heap, &heap, &names)?;
     Ok(())
 }

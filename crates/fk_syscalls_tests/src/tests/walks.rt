@@ -1,117 +1,175 @@
 //! Walks along names in force.
-use super::{asks, bind, errno_of, found, mkdir, stat};
+use super::{Gives, Row, bind, is_walked};
 use fk_dentry::Bindings;
-use fk_syscalls::{Asked, Next};
+use fk_syscalls::{Call, Next, begin};
 use std::alloc::{AllocError, Global};
+use std::process::Abort;
 use std::test::Fail;
 
 const ENOENT: u32 = 2;
 
-/// `/a` and `/a/b` are known, and `/gone` is missing; `/a/b` for 500 ms, and the others for 1,000.
+/// `/a` and `/a/b` are known, and `/gone` is missing, as is `y` in node 7; `/a/b` for 500 ms, and the others for 1,000.
 fn some_names(alloc: Global) -> Result<Bindings<Global>, AllocError> {
     let mut names = Bindings::new(alloc);
     bind(&mut names, 1, b"a", Some(2), 1000)?;
     bind(&mut names, 2, b"b", Some(3), 500)?;
     bind(&mut names, 1, b"gone", None, 1000)?;
+    bind(&mut names, 7, b"y", None, 1000)?;
     Ok(names)
 }
 
-fn lookup(directory: u64, name: &[u8]) -> Asked<'_> {
-    Asked::Lookup { directory, name }
+fn check(rt: &impl Abort, alloc: Global, rows: &[Row]) -> Result<(), AllocError> {
+    let names = some_names(alloc)?;
+    for (place, row) in rows.iter().enumerate() {
+        assert!(rt; is_walked(alloc, &names, row)?, "row {place}");
+    }
+    Ok(())
 }
 
-fn made(directory: u64, name: &[u8]) -> Asked<'_> {
-    Asked::Mkdir { directory, name }
-}
+static KNOWN: [Row; 6] = [
+    (0, Call::Stat { path: b"/a" }, Gives::Getattr(2), &[]),
+    (499, Call::Stat { path: b"/a/b" }, Gives::Getattr(3), &[]),
+    (
+        499,
+        Call::Stat { path: b"/a/b/c" },
+        Gives::Lookup(3, "c"),
+        &[],
+    ),
+    (
+        500,
+        Call::Stat { path: b"/a/b/c" },
+        Gives::Lookup(2, "b"),
+        &[],
+    ),
+    (
+        1000,
+        Call::Stat { path: b"/a/b" },
+        Gives::Lookup(1, "a"),
+        &[],
+    ),
+    (0, Call::Stat { path: b"/b/a" }, Gives::Lookup(1, "b"), &[]),
+];
 
 #[test]
 fn known_names_are_not_looked_up(rt: HostRuntime) -> Result<(), Fail> {
-    let alloc = rt.alloc();
-    let names = some_names(alloc)?;
-    assert!(rt; asks(&stat(alloc, &names, 0, b"/a")?, Asked::Getattr { node: 2 }));
-    assert!(rt;
-        asks(
-            &stat(alloc, &names, 499, b"/a/b")?,
-            Asked::Getattr { node: 3 }
-        )
-    );
-    assert!(rt; asks(&stat(alloc, &names, 499, b"/a/b/c")?, lookup(3, b"c")));
-    assert!(rt; asks(&stat(alloc, &names, 500, b"/a/b/c")?, lookup(2, b"b")));
-    assert!(rt; asks(&stat(alloc, &names, 1000, b"/a/b")?, lookup(1, b"a")));
-    assert!(rt; asks(&stat(alloc, &names, 0, b"/b/a")?, lookup(1, b"b")));
+    check(&rt, rt.alloc(), &KNOWN)?;
     Ok(())
 }
+
+static MISSING: [Row; 5] = [
+    (
+        999,
+        Call::Stat { path: b"/gone" },
+        Gives::Errno(ENOENT),
+        &[],
+    ),
+    (
+        999,
+        Call::Stat { path: b"/gone/b" },
+        Gives::Errno(ENOENT),
+        &[],
+    ),
+    (
+        999,
+        Call::Mkdir { path: b"/gone/b" },
+        Gives::Errno(ENOENT),
+        &[],
+    ),
+    (
+        1000,
+        Call::Stat { path: b"/gone" },
+        Gives::Lookup(1, "gone"),
+        &[],
+    ),
+    (
+        0,
+        Call::Stat { path: b"/x/y/z" },
+        Gives::Lookup(1, "x"),
+        &[(7, Gives::Errno(ENOENT))],
+    ),
+];
 
 #[test]
 fn a_missing_name_answers_at_once(rt: HostRuntime) -> Result<(), Fail> {
-    let alloc = rt.alloc();
-    let mut names = some_names(alloc)?;
-    assert_eq!(rt;
-        errno_of(&stat(alloc, &names, 999, b"/gone")?),
-        Some(ENOENT)
-    );
-    assert_eq!(rt;
-        errno_of(&stat(alloc, &names, 999, b"/gone/b")?),
-        Some(ENOENT)
-    );
-    assert_eq!(rt;
-        errno_of(&mkdir(alloc, &names, 999, b"/gone/b")?),
-        Some(ENOENT)
-    );
-    assert!(rt; asks(&stat(alloc, &names, 1000, b"/gone")?, lookup(1, b"gone")));
-    bind(&mut names, 7, b"y", None, 1000)?;
-    let next = found(stat(alloc, &names, 0, b"/x/y/z")?, &names, 0, 7);
-    assert_eq!(rt; errno_of(&next), Some(ENOENT));
+    check(&rt, rt.alloc(), &MISSING)?;
     Ok(())
 }
+
+static LED_ON: [Row; 2] = [
+    (
+        500,
+        Call::Stat { path: b"/x/y/zz" },
+        Gives::Lookup(1, "x"),
+        &[
+            (8, Gives::Lookup(8, "y")),
+            (1, Gives::Lookup(1, "zz")),
+            (9, Gives::Getattr(9)),
+        ],
+    ),
+    (
+        0,
+        Call::Stat { path: b"/x/a/b/c" },
+        Gives::Lookup(1, "x"),
+        &[(1, Gives::Lookup(3, "c"))],
+    ),
+];
 
 #[test]
 fn each_found_word_leads_on(rt: HostRuntime) -> Result<(), Fail> {
-    let alloc = rt.alloc();
-    let names = some_names(alloc)?;
-    let next = stat(alloc, &names, 500, b"/x/y/zz")?;
-    assert!(rt; asks(&next, lookup(1, b"x")));
-    let next = found(next, &names, 500, 8);
-    assert!(rt; asks(&next, lookup(8, b"y")));
-    let next = found(next, &names, 500, 1);
-    assert!(rt; asks(&next, lookup(1, b"zz")));
-    let next = found(next, &names, 500, 9);
-    assert!(rt; asks(&next, Asked::Getattr { node: 9 }));
-    let next = found(stat(alloc, &names, 0, b"/x/a/b/c")?, &names, 0, 1);
-    assert!(rt; asks(&next, lookup(3, b"c")));
+    check(&rt, rt.alloc(), &LED_ON)?;
     Ok(())
 }
 
+static MADE: [Row; 5] = [
+    (0, Call::Mkdir { path: b"/a" }, Gives::Mkdir(1, "a"), &[]),
+    (
+        0,
+        Call::Mkdir { path: b"/gone" },
+        Gives::Mkdir(1, "gone"),
+        &[],
+    ),
+    (0, Call::Mkdir { path: b"/a/b" }, Gives::Mkdir(2, "b"), &[]),
+    (
+        0,
+        Call::Mkdir { path: b"/a/b/dir" },
+        Gives::Mkdir(3, "dir"),
+        &[],
+    ),
+    (
+        0,
+        Call::Mkdir { path: b"/x/yy/a" },
+        Gives::Lookup(1, "x"),
+        &[(5, Gives::Lookup(5, "yy")), (1, Gives::Mkdir(1, "a"))],
+    ),
+];
+
 #[test]
 fn mkdir_walks_all_words_but_the_last(rt: HostRuntime) -> Result<(), Fail> {
-    let alloc = rt.alloc();
-    let names = some_names(alloc)?;
-    assert!(rt; asks(&mkdir(alloc, &names, 0, b"/a")?, made(1, b"a")));
-    assert!(rt; asks(&mkdir(alloc, &names, 0, b"/gone")?, made(1, b"gone")));
-    assert!(rt; asks(&mkdir(alloc, &names, 0, b"/a/b")?, made(2, b"b")));
-    assert!(rt; asks(&mkdir(alloc, &names, 0, b"/a/b/dir")?, made(3, b"dir")));
-    let next = mkdir(alloc, &names, 0, b"/x/yy/a")?;
-    assert!(rt; asks(&next, lookup(1, b"x")));
-    let next = found(next, &names, 0, 5);
-    assert!(rt; asks(&next, lookup(5, b"yy")));
-    let next = found(next, &names, 0, 1);
-    assert!(rt; asks(&next, made(1, b"a")));
+    check(&rt, rt.alloc(), &MADE)?;
     Ok(())
+}
+
+/// Whether a call waits, and names this node and no other below 4.
+fn names_only(next: &Next<Global>, node: u64) -> bool {
+    let Next::Waits(state) = next else {
+        return false;
+    };
+    for other in 1..4u64 {
+        if state.names_node(other) != (other == node) {
+            return false;
+        }
+    }
+    true
+}
+
+fn begun_names_only(alloc: Global, call: &Call<'_>, node: u64) -> Result<bool, AllocError> {
+    let names = some_names(alloc)?;
+    Ok(names_only(&begin(alloc, &names, 0, call)?, node))
 }
 
 #[test]
 fn a_call_names_the_node_where_it_stands(rt: HostRuntime) -> Result<(), Fail> {
-    let alloc = rt.alloc();
-    let names = some_names(alloc)?;
-    let next: Next<Global> = stat(alloc, &names, 0, b"/a/b/c")?;
-    if let Next::Waits(state) = &next {
-        assert!(rt; state.names_node(3));
-        assert!(rt; !state.names_node(1) && !state.names_node(2));
-    }
-    let next: Next<Global> = mkdir(alloc, &names, 0, b"/a/b")?;
-    if let Next::Waits(state) = &next {
-        assert!(rt; state.names_node(2));
-        assert!(rt; !state.names_node(1) && !state.names_node(3));
-    }
+    assert!(rt; begun_names_only(rt.alloc(), &Call::Stat { path: b"/a/b/c" }, 3)?);
+    assert!(rt; begun_names_only(rt.alloc(), &Call::Mkdir { path: b"/a/b" }, 2)?);
     Ok(())
 }
