@@ -1,6 +1,7 @@
 //! The command `frame`.
 
 use fw_script::run_frame;
+use std::alloc::Global;
 use std::test::Fail;
 
 #[derive(Drop)]
@@ -12,7 +13,7 @@ struct Case {
 }
 
 /// A LOOKUP of `a` in node 1, and frames that are nearly one.
-const CASES: [Case; 9] = [
+static CASES: [Case; 9] = [
     Case {
         hex: "2a0000000100000004000000000000000100000000000000000000000000000000000000000000006100",
         output: "LOOKUP 4 1 42\n",
@@ -69,27 +70,33 @@ const CASES: [Case; 9] = [
     },
 ];
 
+/// Whether reading the frame gives what the case says.
+fn is_read(alloc: Global, case: &Case) -> bool {
+    let mut out = Vec::new(alloc);
+    let mut faults = Vec::new(alloc);
+    run_frame(alloc, case.hex, &mut out, &mut faults) == case.status
+        && out.as_slice() == case.output.as_bytes()
+        && faults.as_slice() == case.fault.as_bytes()
+}
+
 #[test]
 fn reads_each_frame(rt: HostRuntime) -> Result<(), Fail> {
     for case in &CASES {
-        let mut out = Vec::new(rt.alloc());
-        let mut faults = Vec::new(rt.alloc());
-        let status = run_frame(rt.alloc(), case.hex, &mut out, &mut faults);
-        assert_eq!(rt; status, case.status, "{}", case.hex);
-        assert!(rt; out.as_slice() == case.output.as_bytes(), "{}", case.hex);
-        assert!(rt; faults.as_slice() == case.fault.as_bytes(), "{}", case.hex);
+        assert!(rt; is_read(rt.alloc(), case), "{}", case.hex);
     }
     Ok(())
 }
 
-#[test]
-fn frame_output_refused(rt: HostRuntime) -> Result<(), Fail> {
+/// Whether a frame's line of 14 bytes is refused where there is room for one byte less, and nothing is told.
+fn is_refused(alloc: Global) -> bool {
     let mut room = [0u8; 13];
     let mut out: &mut [u8] = &mut room;
-    let mut faults = Vec::new(rt.alloc());
-    let hex =
-        "2a0000000100000004000000000000000100000000000000000000000000000000000000000000006100";
-    assert_eq!(rt; run_frame(rt.alloc(), hex, &mut out, &mut faults), 5);
-    assert!(rt; faults.is_empty());
+    let mut faults = Vec::new(alloc);
+    run_frame(alloc, CASES[0].hex, &mut out, &mut faults) == 5 && faults.is_empty()
+}
+
+#[test]
+fn frame_output_refused(rt: HostRuntime) -> Result<(), Fail> {
+    assert!(rt; is_refused(rt.alloc()));
     Ok(())
 }

@@ -1,6 +1,6 @@
 //! Lines that are no events, and lines that are passed over.
 
-use fw_script::run_script;
+use super::run_gives;
 use std::test::Fail;
 
 #[derive(Drop)]
@@ -9,7 +9,7 @@ struct Case {
     fault: &'static str,
 }
 
-const CASES: [Case; 43] = [
+static CASES: [Case; 43] = [
     // The first word, or the second after `call` and `read`.
     Case {
         script: b"mounts 1 0",
@@ -192,14 +192,9 @@ const CASES: [Case; 43] = [
 #[test]
 fn refuses_each_bad_line(rt: HostRuntime) -> Result<(), Fail> {
     for case in &CASES {
-        let mut input = case.script;
-        let mut out = Vec::new(rt.alloc());
-        let mut faults = Vec::new(rt.alloc());
-        let status = run_script(rt.alloc(), "-", false, &mut input, &mut out, &mut faults);
-        assert_eq!(rt; status, 1, "{:?}", case.script);
-        assert!(rt; out.is_empty(), "{:?}", case.script);
+        let fault = case.fault.as_bytes();
         assert!(rt;
-            faults.as_slice() == case.fault.as_bytes(),
+            run_gives(rt.alloc(), case.script, false, 1, b"", fault),
             "{:?}",
             case.script
         );
@@ -209,13 +204,9 @@ fn refuses_each_bad_line(rt: HostRuntime) -> Result<(), Fail> {
 
 #[test]
 fn passes_over_notes_and_empty_lines(rt: HostRuntime) -> Result<(), Fail> {
-    let mut input =
+    let script =
         b"\n# a note\n#\n\nmount 86400001 0\n\ntake 18446744073709551615\n# the last line".as_slice();
-    let mut out = Vec::new(rt.alloc());
-    let mut faults = Vec::new(rt.alloc());
-    let status = run_script(rt.alloc(), "-", true, &mut input, &mut out, &mut faults);
-    assert_eq!(rt; status, 0);
-    assert!(rt; out.as_slice() == b"refused 9 BadTime\nrefused 2 NoSuch\n".as_slice());
-    assert!(rt; faults.is_empty());
+    let output = b"refused 9 BadTime\nrefused 2 NoSuch\n".as_slice();
+    assert!(rt; run_gives(rt.alloc(), script, true, 0, output, b""));
     Ok(())
 }

@@ -5,8 +5,7 @@ use super::copies::{
     NO_COPY_AFTER_SETTLE, REFUSED_COPY_GIVES_COUNT_BACK, STORM_OF_SIXTY_FOUR_COPIES,
 };
 use super::many_calls::SIXTY_FOUR_CALLS_THEN_FULL;
-use fw_script::run_script;
-use std::process::Abort;
+use super::run_gives;
 use std::test::Fail;
 
 #[derive(Drop)]
@@ -414,7 +413,7 @@ pub(super) const WALK_OF_TWO_WORDS_AND_EXPIRY: Row = Row {
             settled 14 0\n",
 };
 
-pub(super) const ROWS: [Row; 17] = [
+static ROWS: [Row; 17] = [
     STAT_OF_ROOT,
     STAT_OF_MISSING_NAME,
     LOOKUP_FRAME_IN_HEX,
@@ -434,21 +433,20 @@ pub(super) const ROWS: [Row; 17] = [
     STORM_OF_SIXTY_FOUR_COPIES,
 ];
 
-/// What a row's run gives: the exit status 0, its output, and nothing on standard error.
-pub(super) fn check_row(rt: &impl Abort, row: &Row, status: u8, out: &[u8], faults: &[u8]) {
-    assert_eq!(rt; status, 0, "{}", row.name);
-    assert!(rt; out == row.output.as_bytes(), "{}", row.name);
-    assert!(rt; faults.is_empty(), "{}", row.name);
+/// All rows.
+pub(super) fn rows() -> &'static [Row] {
+    &ROWS
 }
 
 #[test]
 fn prints_each_row(rt: HostRuntime) -> Result<(), Fail> {
-    for row in &ROWS {
-        let mut input = row.script.as_bytes();
-        let mut out = Vec::new(rt.alloc());
-        let mut faults = Vec::new(rt.alloc());
-        let status = run_script(rt.alloc(), "-", row.hex, &mut input, &mut out, &mut faults);
-        check_row(&rt, row, status, &out, &faults);
+    for row in rows() {
+        let (script, output) = (row.script.as_bytes(), row.output.as_bytes());
+        assert!(rt;
+            run_gives(rt.alloc(), script, row.hex, 0, output, b""),
+            "{}",
+            row.name
+        );
     }
     Ok(())
 }

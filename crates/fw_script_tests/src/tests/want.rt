@@ -1,12 +1,11 @@
 //! Readers and writers that fail, and memory that is wanting.
 
-use super::rows::{STAT_OF_ROOT, check_row};
+use super::rows::STAT_OF_ROOT;
 use fail_at::FailAt;
 use fw_script::{run_frame, run_script};
 use std::alloc::{Allocator, Global};
 use std::io;
 use std::io::{ErrorKind, Read, Write};
-use std::process::Abort;
 use std::test::Fail;
 
 /// Gives some bytes, and then an error.
@@ -41,95 +40,90 @@ impl Write for NeverFlushed {
     }
 }
 
+/// Whether a script that cannot be read to its end runs nothing, and is told of.
+fn cannot_be_read(alloc: Global) -> bool {
+    let mut input = Breaks(b"mount 1000 0\nread p 0\n");
+    let mut out = Vec::new(alloc);
+    let mut faults = Vec::new(alloc);
+    let status = run_script(alloc, "a.script", false, &mut input, &mut out, &mut faults);
+    status == 1 && out.is_empty() && faults.as_slice() == b"cannot read a.script\n".as_slice()
+}
+
 #[test]
 fn reader_fails_in_mid_stream(rt: HostRuntime) -> Result<(), Fail> {
-    let mut input = Breaks(b"mount 1000 0\nread p 0\n");
-    let mut out = Vec::new(rt.alloc());
-    let mut faults = Vec::new(rt.alloc());
-    let status = run_script(
-        rt.alloc(),
-        "a.script",
-        false,
-        &mut input,
-        &mut out,
-        &mut faults,
-    );
-    assert_eq!(rt; status, 1);
-    assert!(rt; out.is_empty());
-    assert!(rt; faults.as_slice() == b"cannot read a.script\n".as_slice());
+    assert!(rt; cannot_be_read(rt.alloc()));
     Ok(())
+}
+
+/// Whether a run whose output has this much room gives the beginning that fits, and the status that says so.
+fn fills(alloc: Global, room: &mut [u8]) -> bool {
+    let wanted = STAT_OF_ROOT.output.as_bytes();
+    let status = if room.len() == wanted.len() { 0 } else { 5 };
+    let mut out: &mut [u8] = room;
+    let mut input = STAT_OF_ROOT.script.as_bytes();
+    let mut faults = Vec::new(alloc);
+    let given = run_script(alloc, "-", false, &mut input, &mut out, &mut faults);
+    given == status && faults.is_empty() && wanted.starts_with(room)
 }
 
 #[test]
 fn output_refused_at_each_byte(rt: HostRuntime) -> Result<(), Fail> {
-    let wanted = STAT_OF_ROOT.output.as_bytes();
-    for room in 0..=wanted.len() {
-        let mut kept = vec![in rt.alloc(); 0u8; room]?;
-        let mut out: &mut [u8] = kept.as_mut_slice();
-        let mut input = STAT_OF_ROOT.script.as_bytes();
-        let mut faults = Vec::new(rt.alloc());
-        let status = run_script(rt.alloc(), "-", false, &mut input, &mut out, &mut faults);
-        assert_eq!(rt; status, if room == wanted.len() { 0 } else { 5 }, "{room}");
-        assert!(rt; faults.is_empty(), "{room}");
-        assert!(rt; wanted.starts_with(kept.as_slice()), "{room}");
+    for length in 0..=STAT_OF_ROOT.output.len() {
+        let mut room = vec![in rt.alloc(); 0u8; length]?;
+        assert!(rt; fills(rt.alloc(), &mut room), "{length}");
     }
     Ok(())
 }
 
-#[test]
-fn output_refused_at_the_flush(rt: HostRuntime) -> Result<(), Fail> {
+/// Whether output that is taken and not handed on is refused, of a script and of a frame.
+fn flush_is_heard(alloc: Global) -> bool {
     let mut input = STAT_OF_ROOT.script.as_bytes();
-    let mut faults = Vec::new(rt.alloc());
+    let mut faults = Vec::new(alloc);
     let status = run_script(
-        rt.alloc(),
+        alloc,
         "-",
         false,
         &mut input,
         &mut NeverFlushed,
         &mut faults,
     );
-    assert_eq!(rt; status, 5);
-    assert_eq!(rt;
-        run_frame(rt.alloc(), "00", &mut NeverFlushed, &mut faults),
-        5
-    );
-    assert!(rt; faults.is_empty());
+    status == 5 && run_frame(alloc, "00", &mut NeverFlushed, &mut faults) == 5 && faults.is_empty()
+}
+
+#[test]
+fn output_refused_at_the_flush(rt: HostRuntime) -> Result<(), Fail> {
+    assert!(rt; flush_is_heard(rt.alloc()));
     Ok(())
 }
 
-/// What a run comes to in which a growth was refused: no memory before the first event, or a refused event.
-fn check_refused(rt: &impl Abort, n: u64, status: u8, out: &[u8], faults: &[u8]) {
+/// Whether a run in which a growth was refused gives no memory before the first event, or a refused event.
+fn tells_of_no_memory(status: u8, out: &[u8], faults: &[u8]) -> bool {
     if status == 3 {
-        assert!(rt; out.is_empty(), "{n}");
-        assert!(rt; faults == b"no memory\n".as_slice(), "{n}");
-    } else {
-        assert_eq!(rt; status, 0, "{n}");
-        let printed = str::from_utf8(out).unwrap_or("");
-        assert!(rt; printed.contains("refused 1 NoMemory\n"), "{n}");
-        assert!(rt; faults.is_empty(), "{n}");
+        return out.is_empty() && faults == b"no memory\n".as_slice();
     }
+    let printed = str::from_utf8(out).unwrap_or("");
+    status == 0 && printed.contains("refused 1 NoMemory\n") && faults.is_empty()
 }
 
-/// Runs a script whose n-th growth is refused, and says whether one was.
-fn is_refused_at<A: Allocator + Copy>(
-    rt: &impl Abort,
+/// Runs a script whose n-th growth is refused. Gives whether one was, and whether the run is as it must be then.
+fn run_refused_at<A: Allocator + Copy>(
     alloc: A,
     heap: &FailAt<Global>,
     outer: Global,
     n: u64,
-) -> bool {
+) -> (bool, bool) {
     let mut input = STAT_OF_ROOT.script.as_bytes();
     let mut out = Vec::new(outer);
     let mut faults = Vec::new(outer);
     heap.refuse(n);
     let status = run_script(alloc, "-", false, &mut input, &mut out, &mut faults);
     let is_refused = heap.left() == 0;
-    if is_refused {
-        check_refused(rt, n, status, &out, &faults);
+    let is_right = if is_refused {
+        tells_of_no_memory(status, &out, &faults)
     } else {
-        check_row(rt, &STAT_OF_ROOT, status, &out, &faults);
-    }
-    is_refused
+        status == 0 && out.as_slice() == STAT_OF_ROOT.output.as_bytes() && faults.is_empty()
+    };
+    (is_refused, is_right)
 }
 
 #[test]
@@ -137,7 +131,9 @@ fn each_growth_refused_in_a_script(rt: HostRuntime) -> Result<(), Fail> {
     let heap = FailAt::new(rt.alloc());
     let mut most = 0;
     for n in 1..200u64 {
-        if is_refused_at(&rt, &heap, &heap, rt.alloc(), n) {
+        let (is_refused, is_right) = run_refused_at(&heap, &heap, rt.alloc(), n);
+        assert!(rt; is_right, "{n}");
+        if is_refused {
             most = n;
         }
     }
@@ -145,26 +141,20 @@ fn each_growth_refused_in_a_script(rt: HostRuntime) -> Result<(), Fail> {
     Ok(())
 }
 
-/// Reads a frame whose n-th growth is refused.
-fn frame_refused_at<A: Allocator + Copy>(
-    rt: &impl Abort,
-    alloc: A,
-    heap: &FailAt<Global>,
-    outer: Global,
-) {
+/// Whether a frame whose first growth is refused is told of, and read when it is given again.
+fn frame_is_refused<A: Allocator + Copy>(alloc: A, heap: &FailAt<Global>, outer: Global) -> bool {
     let mut out = Vec::new(outer);
     let mut faults = Vec::new(outer);
     heap.refuse(1);
-    assert_eq!(rt; run_frame(alloc, "00", &mut out, &mut faults), 3);
-    assert!(rt; out.is_empty());
-    assert!(rt; faults.as_slice() == b"no memory\n".as_slice());
-    assert_eq!(rt; run_frame(alloc, "00", &mut out, &mut faults), 0);
-    assert!(rt; out.as_slice() == b"fault 1 Short\n".as_slice());
+    let refused = run_frame(alloc, "00", &mut out, &mut faults);
+    let is_told = out.is_empty() && faults.as_slice() == b"no memory\n".as_slice();
+    let again = run_frame(alloc, "00", &mut out, &mut faults);
+    refused == 3 && is_told && again == 0 && out.as_slice() == b"fault 1 Short\n".as_slice()
 }
 
 #[test]
 fn growth_refused_in_a_frame(rt: HostRuntime) -> Result<(), Fail> {
     let heap = FailAt::new(rt.alloc());
-    frame_refused_at(&rt, &heap, &heap, rt.alloc());
+    assert!(rt; frame_is_refused(&heap, &heap, rt.alloc()));
     Ok(())
 }
