@@ -79,43 +79,58 @@ fn tenths(time: Duration, rounds: u32) -> u64 {
     nanos(time).saturating_mul(10) / (rounds as u64).max(1)
 }
 
-fn read_and_write(
+fn report(
     rt: &HostRuntime,
-    sample: &Sample<'_>,
-    rounds: u32,
-    timed: bool,
+    name: &str,
+    len: usize,
+    totals: (u64, u64),
+    tenths: Option<(u64, u64)>,
 ) -> Result<(), Error> {
-    let mut frame = Vec::new(rt.alloc());
-    write_request(&mut frame, &sample.request)?;
-    let mut out = Vec::new(rt.alloc());
-    let start = Instant::now(rt)?;
-    let read = read_often(&mut frame, rounds, sample.whole);
-    let middle = Instant::now(rt)?;
-    let written = write_often(&mut out, &sample.request, rounds)?;
-    let end = Instant::now(rt)?;
-    let len = frame.len();
-    if timed {
-        let reading = tenths(middle.duration_since(start), rounds);
-        let writing = tenths(end.duration_since(middle), rounds);
+    let (read, written) = totals;
+    if let Some((reading, writing)) = tenths {
         println!(rt;
-            "{}, {len} bytes: read {}.{} ns, write {}.{} ns ({read}, {written})",
-            sample.name,
+            "{name}, {len} bytes: read {}.{} ns, write {}.{} ns ({read}, {written})",
             reading / 10,
             reading % 10,
             writing / 10,
             writing % 10
         )?;
     } else {
-        println!(rt; "{}, {len} bytes ({read}, {written})", sample.name)?;
+        println!(rt; "{name}, {len} bytes ({read}, {written})")?;
     }
     Ok(())
+}
+
+/// Measures a request, which is written to `frame` first.
+fn read_and_write(
+    rt: &HostRuntime,
+    frame: &mut Vec<u8>,
+    out: &mut Vec<u8>,
+    sample: &Sample<'_>,
+    rounds: u32,
+    timed: bool,
+) -> Result<(), Error> {
+    frame.clear();
+    write_request(frame, &sample.request)?;
+    let start = Instant::now(rt)?;
+    let read = read_often(frame, rounds, sample.whole);
+    let middle = Instant::now(rt)?;
+    let written = write_often(out, &sample.request, rounds)?;
+    let end = Instant::now(rt)?;
+    let reading = tenths(middle.duration_since(start), rounds);
+    let writing = tenths(end.duration_since(middle), rounds);
+    let tenths = timed.then_some((reading, writing));
+    report(rt, sample.name, frame.len(), (read, written), tenths)
 }
 
 /// Measures each request, in so many rounds.
 pub fn measure(rt: &HostRuntime, rounds: Option<u32>) -> Result<(), Error> {
     let mut bytes = Vec::new(rt.alloc());
+    let mut frame = Vec::new(rt.alloc());
+    let mut out = Vec::new(rt.alloc());
+    let (given, timed) = (rounds.unwrap_or(100), rounds.is_some());
     for sample in samples(forget_pairs(&mut bytes)?) {
-        read_and_write(rt, &sample, rounds.unwrap_or(100), rounds.is_some())?;
+        read_and_write(rt, &mut frame, &mut out, &sample, given, timed)?;
     }
     Ok(())
 }

@@ -10,13 +10,12 @@ fn name_of(number: u64) -> [u8; 8] {
     number.to_le_bytes()
 }
 
-/// A tree with so many names in its root.
-fn tree_with(rt: &HostRuntime, names: u64) -> Result<Tree, Error> {
-    let mut tree = Tree::new(rt.alloc())?;
+/// Makes so many names in the root.
+fn fill(tree: &mut Tree, names: u64) -> Result<(), TreeError> {
     for number in 0..names {
-        create(&mut tree, number)?;
+        create(tree, number)?;
     }
-    Ok(tree)
+    Ok(())
 }
 
 /// Makes a file under its number. No counter comes to its end here.
@@ -68,16 +67,13 @@ fn nanos_each(time: Duration, rounds: u32) -> u64 {
     nanos(time) / u64::from(rounds.max(1))
 }
 
-fn replace_names(rt: &HostRuntime, names: u64, rounds: u32, timed: bool) -> Result<(), Error> {
-    let mut tree = tree_with(rt, names)?;
-    let start = Instant::now(rt)?;
-    let found = look_up_often(&tree, names, rounds)?;
-    let looking_up = Instant::now(rt)?.duration_since(start);
-    let (unlinking, creating) = replace_often(rt, &mut tree, names, rounds)?;
-    if timed {
-        let look_up = nanos_each(looking_up, rounds);
-        let unlink = nanos_each(unlinking, rounds);
-        let create = nanos_each(creating, rounds);
+fn report(
+    rt: &HostRuntime,
+    names: u64,
+    found: u64,
+    nanos: Option<(u64, u64, u64)>,
+) -> Result<(), Error> {
+    if let Some((look_up, create, unlink)) = nanos {
         println!(rt;
             "{names} names: look-up {look_up} ns, create {create} ns, unlink {unlink} ns ({found})"
         )?;
@@ -87,10 +83,28 @@ fn replace_names(rt: &HostRuntime, names: u64, rounds: u32, timed: bool) -> Resu
     Ok(())
 }
 
+fn replace_names(
+    rt: &HostRuntime,
+    tree: &mut Tree,
+    names: u64,
+    rounds: u32,
+    timed: bool,
+) -> Result<(), Error> {
+    fill(tree, names)?;
+    let start = Instant::now(rt)?;
+    let found = look_up_often(tree, names, rounds)?;
+    let looking_up = Instant::now(rt)?.duration_since(start);
+    let (unlinking, creating) = replace_often(rt, tree, names, rounds)?;
+    let each = |time| nanos_each(time, rounds);
+    let nanos = timed.then_some((each(looking_up), each(creating), each(unlinking)));
+    report(rt, names, found, nanos)
+}
+
 /// Measures directories of each size, in so many rounds.
 pub fn measure(rt: &HostRuntime, rounds: Option<u32>) -> Result<(), Error> {
     for names in [16, 256, 4096] {
-        replace_names(rt, names, rounds.unwrap_or(16), rounds.is_some())?;
+        let mut tree = Tree::new(rt.alloc())?;
+        replace_names(rt, &mut tree, names, rounds.unwrap_or(16), rounds.is_some())?;
     }
     Ok(())
 }

@@ -8,7 +8,7 @@
 mod codec;
 mod file_tree;
 mod kernel_nodes;
-mod name_tables;
+mod kernel_tables;
 mod names;
 mod samples;
 mod server_nodes;
@@ -29,7 +29,7 @@ fn main(rt: HostRuntime) -> Result<(), Error> {
         .get(1)
         .and_then(|word| word.as_str().parse::<u32>().ok());
     codec::measure(&rt, rounds)?;
-    name_tables::measure(&rt, rounds)?;
+    kernel_tables::measure(&rt, rounds)?;
     server_nodes::measure(&rt, rounds)?;
     file_tree::measure(&rt, rounds)
 }
