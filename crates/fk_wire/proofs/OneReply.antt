@@ -139,13 +139,13 @@ one_reply minor o bytes t u h k =
 -- ---- what a frame decodes to
 
 -- records take room
-ends_beyond : (plus : Bool) (count place : ℕ) (bytes : List ℕ) → place + count ≤ end_from plus count place bytes
+pub ends_beyond : (plus : Bool) (count place : ℕ) (bytes : List ℕ) → place + count ≤ end_from plus count place bytes
 unfolding end_from record_end
 ends_beyond plus zero place bytes = omega arith
 ends_beyond plus (suc count) place bytes = let k = ends_beyond plus count (record_end plus place bytes) bytes in omega (arith, k, record_after plus place)
 
 -- records that come to the end are counted
-counted_from : (most : ℕ) (plus : Bool) (count place : ℕ) (bytes : List ℕ) → end_from plus count place bytes ≡ length bytes → count ≤ most → count_from most plus place bytes ≡ count
+pub counted_from : (most : ℕ) (plus : Bool) (count place : ℕ) (bytes : List ℕ) → end_from plus count place bytes ≡ length bytes → count ≤ most → count_from most plus place bytes ≡ count
 unfolding end_from record_end count_from
 counted_from zero plus zero place bytes e h = refl
 counted_from zero plus (suc count) place bytes e h = absurd (omega arith)

@@ -63,6 +63,7 @@ pub(crate) fn put_direntpluses<A: Allocator>(out: &mut Vec<u8, A>, records: Reco
 #[tactic(auto, using(std::proofs::Common::append_assoc))]
 pub fn put_record<A: Allocator>(out: &mut Vec<u8, A>, dirent: &Dirent<'_>) -> Result<(), WireFault>
     ensures ok { OnOk result (IsRecordName dirent.now.name.now × (out.new.items ≡ out.old.items ++ spellings (dirents (dirent_content dirent.now ∷ [])))) }
+    ensures fits { OnOk result (InRange (dirents (dirent_content dirent.now ∷ []))) }
     ensures err { OnErr result (out.new.items ≡ out.old.items) }
     ensures fault { IfErr result (RecordRefusalIs (dirent_content dirent.now)) }
     ensures room { vec_len out.old + sizes (dirents (dirent_content dirent.now ∷ [])) ≤ vec_capacity out.old → result ≢ Err MemoryFault }

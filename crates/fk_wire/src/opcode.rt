@@ -1,6 +1,6 @@
 //! What a request asks for, by its number.
 
-ghost use Rattle.std.specs.Prelude.{◌≡◌, ◌≢◌, ◌↔◌, IsTrue, MatchOption};
+ghost use Rattle.std.specs.Prelude.{◌≡◌, ◌≢◌, ◌↔◌, true, false, IsTrue, MatchOption};
 ghost use Rattle.fk_wire.specs.Opcodes.{code_of, has_node, is_later, knows, name_of, served};
 ghost use Rattle.fk_wire.specs.Requests.{IsNodeOf};
 ghost use Rattle.fk_wire.specs.declared.opcode.Opcode.{Opcode};
@@ -91,6 +91,14 @@ fn opcode_of_code(code: u32) -> Option<Opcode>
         44 => Some(Opcode::Readdirplus),
         _ => None,
     }
+}
+
+/// Whether a number is that of an opcode that is served.
+pub fn is_served_opcode(code: u32) -> bool
+    ensures yes { result ≡ true → (o : Opcode) × IsTrue (knows served o) × (code_of o ≡ code) }
+    ensures no { result ≡ false → (o : Opcode) → IsTrue (knows served o) → code_of o ≢ code }
+{
+    opcode_at(served_minor(), code).is_some()
 }
 
 /// The opcode of a number, if the minor version knows it.

@@ -1,27 +1,23 @@
 -- Request frames as the server takes and refuses them.
-use Rattle.std.proofs.Common.{◌≡◌, ℕ, Bool, true, false, true≢false, cond, ◌&&◌, ◌||◌, List, [], ◌∷◌, Option, Some, None, refl, sym, ap, subst, ◌∙◌, arith}
+use Rattle.std.proofs.Common.{◌≡◌, ℕ, Bool, true, false, true≢false, cond, ◌&&◌, ◌||◌, List, [], ◌∷◌, Option, Some, None, refl, sym, ap, ◌∙◌, arith}
 use Rattle.std.specs.Prelude.{is_some, nat_lt}
-use Rattle.fuse_spec.specs.Maps.{Map, get, put}
+use Rattle.fuse_spec.specs.Maps.{get}
 use Rattle.fuse_spec.specs.Operations as operation
-use Rattle.fuse_spec.specs.Messages.{RequestBody, Request, init, asks, forget, batch_forget}
-use Rattle.fuse_spec.specs.Nodes.{NodeTable}
-use Rattle.fuse_spec.specs.Trees.{Tree}
-use Rattle.fuse_spec.specs.Server.{Server, HeldRequest, Kept, Copy, unknown_node, too_many_forgets, repeated_unique, is_known, is_forgettable, count_in, forgotten}
+use Rattle.fuse_spec.specs.Messages.{RequestBody, Request, init, asks, release, forget, batch_forget, interrupt}
+use Rattle.fuse_spec.specs.Server.{Server, unknown_node, too_many_forgets, repeated_unique, is_known, is_forgettable, count_in, forgotten, holding, forgetting}
 use Rattle.fuse_spec.specs.Taking.{taking}
-use Rattle.fuse_spec.specs.declared.Taken.{Taken}
 use Rattle.fuse_spec.specs.declared.Taken.TheVariants.{Held, Forgot}
-use Rattle.fuse_spec.specs.declared.Validity.{Validity}
 use Rattle.fk_wire.specs.Requests as wire
 use Rattle.fk_wire.specs.Requests.{RequestContent, RequestMessage, Spells}
 use Rattle.fuse_frames.specs.RequestTies.{SaysRequest, body_in}
 use Rattle.fs_server.specs.declared.server.ServerFault.{ServerFault}
-use Rattle.fs_server.specs.declared.server.ServerFault.TheVariants.{Wire, UnknownNode, TooManyForgets, RepeatedUnique, Memory}
-use Rattle.fs_server.specs.Effects.{TakesFrame, RefusesFrame, request_fault, as_fault, or_memory}
-use Rattle.fs_server.specs.Taking.{serves, is_forgetting, knows, forgets_too_many, rows_forgotten, held_for}
-use Rattle.fs_server.specs.Values.{server_with}
-use Rattle.fs_server.specs.Sound.{AreNamed}
-use Rattle.fs_server.proofs.Named.{none_goes}
+use Rattle.fs_server.specs.declared.server.ServerFault.TheVariants.{Wire, UnknownNode, TooManyForgets, RepeatedUnique}
+use Rattle.fs_server.specs.declared.server.Took.{Took}
+use Rattle.fs_server.specs.Effects.{TakesFrame, RefusesFrame, request_fault, as_fault, copy_of, fault_or, is_past_end, past_or_memory, refused_for}
+use Rattle.fs_server.specs.Interrupts.{Interrupts}
+use Rattle.fs_server.specs.Taking.{body_of, forgets_in, is_forgetting, is_held, serves, knows, forgets_too_many}
 use Rattle.fs_server.proofs.Forgets.{forgotten_here}
+use Rattle.std.proofs.lemmas.Option.{same_Some}
 
 -- what the message that a frame spells has wrong
 abbrev pub fault_in : Server → RequestMessage → Option ServerFault
@@ -29,21 +25,34 @@ fault_in s m = request_fault s m.unique (body_in m.nodeid m.content)
 
 -- the frame spells this message and no other
 module _ (s : Server) (bytes : List ℕ) (m : RequestMessage) (spells : Spells bytes m) (only : (n : RequestMessage) → Spells bytes n → m ≡ n) where
-  refuses : RefusesFrame s bytes (or_memory (fault_in s m))
-  refuses = record {
-    of_request = λ request says. ap (λ (n : RequestMessage). or_memory (fault_in s n)) (only says.message says.spells) ∙ (λ i. or_memory (request_fault s (says.unique i) (says.says i)));
+  -- it is refused for its fault
+  pub refuses_as : (fault : ServerFault) → fault_in s m ≡ Some fault → RefusesFrame s bytes fault
+  refuses_as fault e = record {
+    of_request = λ request says.
+        sym (ap (λ (o : Option ServerFault). fault_or o (past_or_memory (is_past_end (taking s request.unique request.body).server)))
+        (sym (λ i. request_fault s (says.unique i) (says.says i)) ∙ sym (ap (fault_in s) (only says.message says.spells)) ∙ e));
     of_none = λ none. by none (body_in m.nodeid m.content) refl;
   }
     where
-      by : ((request : Request) → SaysRequest bytes request → ⊥) → (o : Option RequestBody) → body_in m.nodeid m.content ≡ o → or_memory (request_fault s m.unique o) ≡ Wire
-      by none None e = refl
-      by none (Some body) e = absurd (none (record { unique = m.unique; body = body }) (record { message = m; spells = spells; unique = refl; says = e }))
+      by : ((request : Request) → SaysRequest bytes request → ⊥) → (o : Option RequestBody) → body_in m.nodeid m.content ≡ o → fault ≡ Wire
+      by none None is = same_Some fault Wire (sym e ∙ ap (request_fault s m.unique) is)
+      by none (Some body) is = absurd (none (record { unique = m.unique; body = body }) (record { message = m; spells = spells; unique = refl; says = is }))
 
-  pub refuses_as : (fault : ServerFault) → fault_in s m ≡ Some fault → RefusesFrame s bytes fault
-  refuses_as fault e = subst (λ (f : ServerFault). RefusesFrame s bytes f) (ap or_memory e) refuses
-
-  pub refuses_memory : fault_in s m ≡ None → RefusesFrame s bytes Memory
-  refuses_memory e = subst (λ (f : ServerFault). RefusesFrame s bytes f) (ap or_memory e) refuses
+  -- It is refused for want of a number or of memory, where it asks this and has no fault.
+  pub refuses_for : (body : RequestBody) (fault : ServerFault) → body_in m.nodeid m.content ≡ Some body → fault_in s m ≡ None → fault ≡ past_or_memory (is_past_end (taking s m.unique body).server) → RefusesFrame s bytes fault
+  refuses_for body fault is none e = record {
+    of_request = λ request says. e ∙ same request says;
+    of_none = λ not. absurd (not (record { unique = m.unique; body = body }) (record { message = m; spells = spells; unique = refl; says = is }));
+  }
+    where
+      same : (request : Request) → SaysRequest bytes request → past_or_memory (is_past_end (taking s m.unique body).server) ≡ refused_for s request
+      same request says =
+          let one = only says.message says.spells in
+          let unique : m.unique ≡ request.unique = ap (λ (n : RequestMessage). n.unique) one ∙ says.unique in
+          let asked : Some body ≡ Some request.body = sym is ∙ ap (λ (n : RequestMessage). body_in n.nodeid n.content) one ∙ says.says in
+          let body_is : body ≡ request.body = same_Some body request.body asked in
+          let no_fault : request_fault s request.unique (Some request.body) ≡ None = sym (λ i. request_fault s (unique i) (asked i)) ∙ ap (request_fault s m.unique) (sym is) ∙ none in
+          (λ i. past_or_memory (is_past_end (taking s (unique i) (body_is i)).server)) ∙ sym (ap (λ (o : Option ServerFault). fault_or o (past_or_memory (is_past_end (taking s request.unique request.body).server))) no_fault)
 
 -- ---- the fault of a request, by its node and by what it asks
 
@@ -59,6 +68,11 @@ judged false b c = refl
 one_known : (k : Bool) → ((k && true) && true) ≡ k
 one_known true = refl
 one_known false = refl
+
+two_known : (j k : Bool) → ((j && (k && true)) && true) ≡ (j && k)
+two_known true true = refl
+two_known true false = refl
+two_known false k = refl
 
 one_forgettable : (k : Bool) → (true && (k && true)) ≡ k
 one_forgettable true = refl
@@ -80,6 +94,10 @@ module _ (s : Server) (unique : ℕ) where
       ≡ first_fault (is_known s.nodes nodeid) false repeated
   of_node nodeid = judged ((is_known s.nodes nodeid && true) && true) false repeated ∙ ap (λ (k : Bool). first_fault k false repeated) (one_known (is_known s.nodes nodeid))
 
+  of_two : (nodeid other : ℕ) → as_fault (cond ((is_known s.nodes nodeid && (is_known s.nodes other && true)) && true) (cond false (Some too_many_forgets) (cond repeated (Some repeated_unique) None)) (Some unknown_node))
+      ≡ first_fault (is_known s.nodes nodeid && is_known s.nodes other) false repeated
+  of_two nodeid other = judged ((is_known s.nodes nodeid && (is_known s.nodes other && true)) && true) false repeated ∙ ap (λ (k : Bool). first_fault k false repeated) (two_known (is_known s.nodes nodeid) (is_known s.nodes other))
+
   of_forget : (nodeid n : ℕ) → request_fault s unique (Some (forget (nodeid, n))) ≡ fault_by nodeid (wire.forget n)
   of_forget nodeid n =
       judged (true && (is_forgettable s.nodes (nodeid, n) && true)) (nat_lt (count_in (get s.nodes.rows nodeid)) (forgotten nodeid ((nodeid, n) ∷ [])) || false) repeated
@@ -92,9 +110,20 @@ module _ (s : Server) (unique : ℕ) where
   fault_is nodeid (wire.lookup name) is = of_node nodeid
   fault_is nodeid wire.getattr is = of_node nodeid
   fault_is nodeid (wire.mkdir name) is = of_node nodeid
+  fault_is nodeid (wire.create name) is = of_node nodeid
+  fault_is nodeid (wire.unlink name) is = of_node nodeid
+  fault_is nodeid (wire.rmdir name) is = of_node nodeid
+  fault_is nodeid wire.opening is = of_node nodeid
+  fault_is nodeid (wire.read fh offset size) is = of_node nodeid
+  fault_is nodeid (wire.write fh offset bytes) is = of_node nodeid
+  fault_is nodeid (wire.release fh) is = of_node nodeid
+  fault_is nodeid (wire.readdir offset size) is = of_node nodeid
+  fault_is nodeid (wire.rename newdir old new) is = of_two nodeid newdir
+  fault_is nodeid (wire.link oldnodeid name) is = of_two nodeid oldnodeid
+  fault_is nodeid (wire.interrupt original) is = judged true false repeated
   fault_is nodeid (wire.forget n) is = of_forget nodeid n
   fault_is nodeid (wire.batch_forget fs) is = judged (knows s.nodes nodeid (wire.batch_forget fs)) (forgets_too_many s.nodes nodeid (wire.batch_forget fs)) repeated
-  fault_is nodeid content is = absurd (true≢false (sym is))
+  fault_is nodeid (wire.readdirplus offset size) is = absurd (true≢false (sym is))
 
   module _ (nodeid : ℕ) (content : RequestContent) (is : serves content ≡ true) where
     pub unknown : knows s.nodes nodeid content ≡ false → Some UnknownNode ≡ request_fault s unique (body_in nodeid content)
@@ -109,44 +138,54 @@ module _ (s : Server) (unique : ℕ) where
 
 -- ---- what a request without fault makes of the server
 
-module _ (tree : Tree) (nodes : NodeTable) (held : Map HeldRequest) (kept : Map Kept) (copies : Map Copy) (next_copy : ℕ) (validity : Validity) (named : AreNamed tree) (bytes : List ℕ) (unique nodeid : ℕ) where
-  abbrev s : Server
-  s = server_with tree nodes held kept copies next_copy validity
-
+module _ (s : Server) (bytes : List ℕ) (unique nodeid : ℕ) where
   abbrev message : RequestContent → RequestMessage
   message content = record { unique = unique; nodeid = nodeid; content = content }
 
   -- the request that is taken, and what becomes of it
-  so : (content : RequestContent) (body : RequestBody) (word : Taken) (after : Server) → body_in nodeid content ≡ Some body → (taking s unique body).word ≡ word → after ≡ (taking s unique body).server
-      → Spells bytes (message content) → fault_in s (message content) ≡ None → TakesFrame s bytes unique word after
-  so content body word after is word_is server spells e = record {
+  so : {A : Type 0} (content : RequestContent) (body : RequestBody) (took : Took A) (new : Server) → body_in nodeid content ≡ Some body → unique ≡ took.unique → (taking s unique body).word ≡ took.word
+      → new ≡ (taking s unique body).server → took.copy ≡ copy_of s.next_copy unique (taking s unique body).reply → Spells bytes (message content) → fault_in s (message content) ≡ None → TakesFrame s bytes took new
+  so content body took new is under word_is server copy spells e = record {
     request = record { unique = unique; body = body };
     says = record { message = message content; spells = spells; unique = refl; says = is };
-    under = refl;
+    under = under;
     faultless = ap (request_fault s unique) (sym is) ∙ e;
     as_word = word_is;
     after = server;
+    copy = copy;
   }
 
-  abbrev holding_it : RequestContent → Server
-  holding_it content = server_with tree nodes (put held unique (held_for nodes nodeid content)) kept copies next_copy validity
+  -- an INTERRUPT
+  pub interrupts : {A : Type 0} (original : ℕ) (took : Took A) (new : Server) → Interrupts s unique original took new → Spells bytes (message (wire.interrupt original)) → fault_in s (message (wire.interrupt original)) ≡ None
+      → TakesFrame s bytes took new
+  interrupts original took new i = so (wire.interrupt original) (interrupt original) took new refl (sym i.under) (sym i.word) i.after i.copy
 
-  pub holds : (content : RequestContent) → serves content ≡ true → is_forgetting content ≡ false → Spells bytes (message content) → fault_in s (message content) ≡ None
-      → TakesFrame s bytes unique Held (holding_it content)
-  holds (wire.init major minor flags) served keeps = so (wire.init major minor flags) init Held (holding_it (wire.init major minor flags)) refl refl refl
-  holds (wire.lookup name) served keeps = so (wire.lookup name) (asks (operation.lookup nodeid name)) Held (holding_it (wire.lookup name)) refl refl refl
-  holds wire.getattr served keeps = so wire.getattr (asks (operation.getattr nodeid)) Held (holding_it wire.getattr) refl refl refl
-  holds (wire.mkdir name) served keeps = so (wire.mkdir name) (asks (operation.mkdir nodeid name)) Held (holding_it (wire.mkdir name)) refl refl refl
-  holds (wire.forget n) served keeps = absurd (true≢false keeps)
-  holds (wire.batch_forget fs) served keeps = absurd (true≢false keeps)
-  holds content served keeps = absurd (true≢false (sym served))
+  module _ {A : Type 0} (took : Took A) (new : Server) where
+    -- what is held
+    pub holds : (content : RequestContent) → is_held content ≡ true → took ≡ record { unique = unique; word = Held; copy = None } → new ≡ holding s unique (body_of nodeid content) → Spells bytes (message content)
+        → fault_in s (message content) ≡ None → TakesFrame s bytes took new
+    holds (wire.init major minor flags) is e server = so (wire.init major minor flags) (init) took new refl (sym (ap (λ (t : Took A). t.unique) e)) (sym (ap (λ (t : Took A). t.word) e)) server (ap (λ (t : Took A). t.copy) e)
+    holds (wire.lookup name) is e server = so (wire.lookup name) (asks (operation.lookup nodeid name)) took new refl (sym (ap (λ (t : Took A). t.unique) e)) (sym (ap (λ (t : Took A). t.word) e)) server (ap (λ (t : Took A). t.copy) e)
+    holds wire.getattr is e server = so wire.getattr (asks (operation.getattr nodeid)) took new refl (sym (ap (λ (t : Took A). t.unique) e)) (sym (ap (λ (t : Took A). t.word) e)) server (ap (λ (t : Took A). t.copy) e)
+    holds (wire.mkdir name) is e server = so (wire.mkdir name) (asks (operation.mkdir nodeid name)) took new refl (sym (ap (λ (t : Took A). t.unique) e)) (sym (ap (λ (t : Took A). t.word) e)) server (ap (λ (t : Took A). t.copy) e)
+    holds (wire.create name) is e server = so (wire.create name) (asks (operation.create nodeid name)) took new refl (sym (ap (λ (t : Took A). t.unique) e)) (sym (ap (λ (t : Took A). t.word) e)) server (ap (λ (t : Took A). t.copy) e)
+    holds (wire.unlink name) is e server = so (wire.unlink name) (asks (operation.unlink nodeid name)) took new refl (sym (ap (λ (t : Took A). t.unique) e)) (sym (ap (λ (t : Took A). t.word) e)) server (ap (λ (t : Took A). t.copy) e)
+    holds (wire.rmdir name) is e server = so (wire.rmdir name) (asks (operation.rmdir nodeid name)) took new refl (sym (ap (λ (t : Took A). t.unique) e)) (sym (ap (λ (t : Took A). t.word) e)) server (ap (λ (t : Took A). t.copy) e)
+    holds (wire.rename newdir old new_name) is e server = so (wire.rename newdir old new_name) (asks (operation.rename nodeid old newdir new_name)) took new refl (sym (ap (λ (t : Took A). t.unique) e)) (sym (ap (λ (t : Took A). t.word) e)) server (ap (λ (t : Took A). t.copy) e)
+    holds (wire.link oldnodeid name) is e server = so (wire.link oldnodeid name) (asks (operation.link oldnodeid nodeid name)) took new refl (sym (ap (λ (t : Took A). t.unique) e)) (sym (ap (λ (t : Took A). t.word) e)) server (ap (λ (t : Took A). t.copy) e)
+    holds wire.opening is e server = so wire.opening (asks (operation.opening nodeid)) took new refl (sym (ap (λ (t : Took A). t.unique) e)) (sym (ap (λ (t : Took A). t.word) e)) server (ap (λ (t : Took A). t.copy) e)
+    holds (wire.readdir offset size) is e server = so (wire.readdir offset size) (asks (operation.readdir nodeid offset size)) took new refl (sym (ap (λ (t : Took A). t.unique) e)) (sym (ap (λ (t : Took A). t.word) e)) server (ap (λ (t : Took A). t.copy) e)
+    holds (wire.read fh offset size) is e server = so (wire.read fh offset size) (asks (operation.read (record { nodeid = nodeid; fh = fh }) offset size)) took new refl (sym (ap (λ (t : Took A). t.unique) e)) (sym (ap (λ (t : Took A). t.word) e)) server (ap (λ (t : Took A). t.copy) e)
+    holds (wire.write fh offset written) is e server = so (wire.write fh offset written) (asks (operation.write (record { nodeid = nodeid; fh = fh }) offset written)) took new refl (sym (ap (λ (t : Took A). t.unique) e)) (sym (ap (λ (t : Took A). t.word) e)) server (ap (λ (t : Took A). t.copy) e)
+    holds (wire.release fh) is e server = so (wire.release fh) (release (record { nodeid = nodeid; fh = fh })) took new refl (sym (ap (λ (t : Took A). t.unique) e)) (sym (ap (λ (t : Took A). t.word) e)) server (ap (λ (t : Took A). t.copy) e)
+    holds (wire.forget n) is e server = absurd (true≢false (sym is))
+    holds (wire.batch_forget fs) is e server = absurd (true≢false (sym is))
+    holds (wire.interrupt original) is e server = absurd (true≢false (sym is))
+    holds (wire.readdirplus offset size) is e server = absurd (true≢false (sym is))
 
-  abbrev forgetting_it : RequestContent → Server
-  forgetting_it content = server_with tree (rows_forgotten nodes nodeid content) held kept copies next_copy validity
-
-  pub forgets : (content : RequestContent) → is_forgetting content ≡ true → Spells bytes (message content) → fault_in s (message content) ≡ None → TakesFrame s bytes unique Forgot (forgetting_it content)
-  forgets (wire.forget n) gives =
-      so (wire.forget n) (forget (nodeid, n)) Forgot (forgetting_it (wire.forget n)) refl refl (sym (none_goes (forgetting_it (wire.forget n)) named))
-  forgets (wire.batch_forget fs) gives =
-      so (wire.batch_forget fs) (batch_forget fs) Forgot (forgetting_it (wire.batch_forget fs)) refl refl (sym (none_goes (forgetting_it (wire.batch_forget fs)) named))
-  forgets content gives = absurd (true≢false (sym gives))
+    -- lookups that are given back
+    pub forgets : (content : RequestContent) → is_forgetting content ≡ true → took ≡ record { unique = unique; word = Forgot; copy = None } → new ≡ forgetting s (forgets_in nodeid content) → Spells bytes (message content)
+        → fault_in s (message content) ≡ None → TakesFrame s bytes took new
+    forgets (wire.forget n) is e server = so (wire.forget n) (forget (nodeid, n)) took new refl (sym (ap (λ (t : Took A). t.unique) e)) (sym (ap (λ (t : Took A). t.word) e)) server (ap (λ (t : Took A). t.copy) e)
+    forgets (wire.batch_forget fs) is e server = so (wire.batch_forget fs) (batch_forget fs) took new refl (sym (ap (λ (t : Took A). t.unique) e)) (sym (ap (λ (t : Took A). t.word) e)) server (ap (λ (t : Took A). t.copy) e)
+    forgets content is e server = absurd (true≢false (sym is))

@@ -1,33 +1,27 @@
 -- What each call of the server does, and what it is refused for.
-use Rattle.std.specs.Prelude.{◌≡◌, ◌<◌, ◌^◌, ℕ, Bool, true, false, ◌||◌, cond, nat_eq, nat_lt, List, Option, Some, None}
+use Rattle.std.specs.Prelude.{◌≡◌, ◌<◌, ◌^◌, ℕ, Bool, true, false, ◌||◌, nat_eq, nat_lt, List, Option, Some, None}
 use Rattle.fuse_spec.specs.Maps.{get}
 use Rattle.fuse_spec.specs.Numbers.{counter_end}
-use Rattle.fuse_spec.specs.Messages.{RequestBody, init, asks, forget, batch_forget, Request}
-use Rattle.fuse_spec.specs.Operations as operation
+use Rattle.fuse_spec.specs.Messages.{Forget, RequestBody, Request, WireReply}
 use Rattle.fuse_spec.specs.Operations.{errno_of}
 use Rattle.fuse_spec.specs.Nodes.{MayChoose}
 use Rattle.fuse_spec.specs.Performs.{served, files_given}
 use Rattle.fuse_spec.specs.Worlds.{Sent}
-use Rattle.fuse_spec.specs.Server.{Server, HeldRequest, Kept, Copy, RequestFault, unknown_node, too_many_forgets, repeated_unique, fault_of}
-use Rattle.fuse_spec.specs.Copies.{is_current, sent_again, settled}
+use Rattle.fuse_spec.specs.Server.{Server, HeldRequest, Kept, Copy, RequestFault, unknown_node, too_many_forgets, repeated_unique, fault_of, forgetting}
+use Rattle.fuse_spec.specs.Copies.{given_back, is_current, sent_again, settled}
 use Rattle.fuse_spec.specs.Taking.{taking}
-use Rattle.fuse_spec.specs.declared.Taken.{Taken}
 use Rattle.fuse_spec.specs.declared.ReplyResult.{ReplyResult}
 use Rattle.fuse_spec.specs.declared.Refusal.{Refusal}
 use Rattle.fuse_spec.specs.declared.Refusal.TheVariants.{NoSuch, NoCopy, Exhausted}
+use Rattle.fuse_spec.specs.declared.Validity.{Validity}
+use Rattle.fuse_spec.specs.declared.WriteResult.{WriteResult}
+use Rattle.fuse_spec.specs.declared.WriteResult.TheVariants.{Accepted, NoEntry, Invalid}
 use Rattle.fuse_frames.specs.RequestTies.{SaysRequest}
+use Rattle.fs_files.specs.Values.{FilesState, server_of}
 use Rattle.fs_server.specs.declared.server.ServerFault.{ServerFault}
 use Rattle.fs_server.specs.declared.server.ServerFault.TheVariants.{Wire, UnknownNode, TooManyForgets, RepeatedUnique, Memory}
-
--- INIT, LOOKUP, GETATTR, MKDIR, FORGET and BATCH_FORGET are served so far.
-abbrev pub is_served : RequestBody → Bool
-is_served init = true
-is_served (asks (operation.lookup directory name)) = true
-is_served (asks (operation.getattr node)) = true
-is_served (asks (operation.mkdir directory name)) = true
-is_served (forget f) = true
-is_served (batch_forget fs) = true
-is_served body = false
+use Rattle.fs_server.specs.declared.server.ServerFault.TheVariants as fault
+use Rattle.fs_server.specs.declared.server.Took.{Took}
 
 abbrev pub as_fault : Option RequestFault → Option ServerFault
 as_fault None = None
@@ -35,30 +29,65 @@ as_fault (Some unknown_node) = Some UnknownNode
 as_fault (Some too_many_forgets) = Some TooManyForgets
 as_fault (Some repeated_unique) = Some RepeatedUnique
 
--- What is wrong with a request under this unique, want of memory aside. Where the machine has no such request it isn't served.
+-- What is wrong with a request under this unique, want of memory and of a number aside. Where the machine has no such request it
+-- isn't served.
 abbrev pub request_fault : Server → ℕ → Option RequestBody → Option ServerFault
 request_fault s unique None = Some Wire
-request_fault s unique (Some body) = cond (is_served body) (as_fault (fault_of s (record { unique = unique; body = body }))) (Some Wire)
+request_fault s unique (Some body) = as_fault (fault_of s (record { unique = unique; body = body }))
 
--- that fault, or else want of memory
-abbrev pub or_memory : Option ServerFault → ServerFault
-or_memory None = Memory
-or_memory (Some fault) = fault
+-- Whether a counter of the server would have given a number past its end.
+abbrev pub is_past_end : Server → Bool
+is_past_end s =
+    nat_lt counter_end s.tree.next_birth || nat_lt counter_end s.tree.next_serial || nat_lt counter_end s.nodes.next_generation || nat_lt counter_end s.handles.next_fh || nat_lt counter_end s.next_copy
+
+-- what a request is refused for that has no fault: a counter at its end, or else want of memory
+abbrev pub past_or_memory : Bool → ServerFault
+past_or_memory true = fault.Exhausted
+past_or_memory false = Memory
+
+-- the fault, or else one of these
+abbrev pub fault_or : Option ServerFault → ServerFault → ServerFault
+fault_or None other = other
+fault_or (Some fault) other = fault
+
+-- What a request that is refused is refused for.
+abbrev pub refused_for : Server → Request → ServerFault
+refused_for s request = fault_or (request_fault s request.unique (Some request.body)) (past_or_memory (is_past_end (taking s request.unique request.body).server))
+
+-- the copy of a reply that is sent at once
+abbrev pub copy_of : (number unique : ℕ) → Option WireReply → Option Sent
+copy_of number unique None = None
+copy_of number unique (Some wire) = Some (record { number = number; unique = unique; wire = wire })
 
 -- A frame is taken as the request that it spells, which has no fault.
-pub record TakesFrame (old : Server) (bytes : List ℕ) (unique : ℕ) (word : Taken) (new : Server) : Type 0 where
+pub record TakesFrame {A : Type 0} (old : Server) (bytes : List ℕ) (took : Took A) (new : Server) : Type 0 where
   pub request : Request
   pub says : SaysRequest bytes request
-  pub under : request.unique ≡ unique
+  pub under : request.unique ≡ took.unique
   pub faultless : request_fault old request.unique (Some request.body) ≡ None
-  pub as_word : (taking old request.unique request.body).word ≡ word
+  pub as_word : (taking old request.unique request.body).word ≡ took.word
   pub after : new ≡ (taking old request.unique request.body).server
+  pub copy : took.copy ≡ copy_of old.next_copy request.unique (taking old request.unique request.body).reply
 
--- A frame is refused for the first fault of the request that it spells, or for want of memory, and where it spells none as no
--- request.
+-- A frame is refused for the first fault of the request that it spells, or for want of a number or of memory, and where it spells none
+-- as no request.
 pub record RefusesFrame (old : Server) (bytes : List ℕ) (fault : ServerFault) : Type 0 where
-  pub of_request : (request : Request) → SaysRequest bytes request → fault ≡ or_memory (request_fault old request.unique (Some request.body))
+  pub of_request : (request : Request) → SaysRequest bytes request → fault ≡ refused_for old request
   pub of_none : ((request : Request) → SaysRequest bytes request → ⊥) → fault ≡ Wire
+
+-- These lookups are given back, and nameless files that nothing holds go.
+abbrev pub Forgets : FilesState → List Forget → FilesState → Type 0
+Forgets old fs new = (v : Validity) → server_of new v ≡ forgetting (server_of old v) fs
+
+-- What a copy of this reply carried is given back, and nameless files that nothing holds go.
+abbrev pub GivesBack : FilesState → WireReply → FilesState → Type 0
+GivesBack old wire new = (v : Validity) → server_of new v ≡ given_back (server_of old v) wire
+
+-- What the result of a copy of this reply makes of the files: a refused copy is counted back.
+abbrev pub SettlesFiles : FilesState → WireReply → WriteResult → FilesState → Type 0
+SettlesFiles old wire Accepted new = new ≡ old
+SettlesFiles old wire NoEntry new = GivesBack old wire new
+SettlesFiles old wire Invalid new = GivesBack old wire new
 
 -- A copy that was sent is settled by the result of its write.
 pub record Settles (old : Server) (result : ReplyResult) (new : Server) : Type 0 where
@@ -76,26 +105,26 @@ abbrev pub is_of_copy : Option Kept → ℕ → Bool
 is_of_copy None first = false
 is_of_copy (Some kept) first = nat_eq kept.first first
 
--- Whether a counter of the server would have given a number past its end.
-abbrev pub is_past_end : Server → Bool
-is_past_end s =
-    nat_lt counter_end s.tree.next_birth || nat_lt counter_end s.tree.next_serial || nat_lt counter_end s.nodes.next_generation || nat_lt counter_end s.handles.next_fh || nat_lt counter_end s.next_copy
-
 -- Why a held request can't be performed, want of memory aside.
 pub data RefusesHeld (s : Server) (unique : ℕ) : Refusal → Type 0 where
   not_held : get s.held unique ≡ None → RefusesHeld s unique NoSuch
   exhausted : (held : HeldRequest) → get s.held unique ≡ Some held
       → ((choice : ℕ → ℕ) → MayChoose choice s.nodes (files_given s held) → is_past_end (served choice s unique held).server ≡ true) → RefusesHeld s unique Exhausted
 
+-- the first copy of a reply: none after an abort
+abbrev pub first_copy : (aborted : Bool) (number unique : ℕ) → WireReply → Option Sent
+first_copy true number unique wire = None
+first_copy false number unique wire = Some (record { number = number; unique = unique; wire = wire })
+
 -- A held request is performed, with these ids for the files that get a node, and this is the first copy of its reply.
-pub record PerformsHeld (old : Server) (unique errno : ℕ) (copy : Sent) (new : Server) : Type 0 where
+pub record PerformsHeld (old : Server) (unique errno : ℕ) (copy : Option Sent) (new : Server) : Type 0 where
   pub held : HeldRequest
   pub there : get old.held unique ≡ Some held
   pub choice : ℕ → ℕ
   pub may : MayChoose choice old.nodes (files_given old held)
-  pub served_so : served choice old unique held ≡ record { server = new; wire = copy.wire }
-  pub copy_is : copy ≡ record { number = old.next_copy; unique = unique; wire = copy.wire }
-  pub errno_is : errno ≡ errno_of copy.wire
+  pub server_is : new ≡ (served choice old unique held).server
+  pub copy_is : copy ≡ first_copy old.aborted old.next_copy unique (served choice old unique held).wire
+  pub errno_is : errno ≡ errno_of (served choice old unique held).wire
 
 -- Why no copy of a kept reply can be sent, want of memory aside.
 pub data RefusesAgain (s : Server) (unique : ℕ) : Refusal → Type 0 where
@@ -103,14 +132,14 @@ pub data RefusesAgain (s : Server) (unique : ℕ) : Refusal → Type 0 where
   not_current : (kept : Kept) → get s.kept unique ≡ Some kept → is_current s kept.wire ≡ false → RefusesAgain s unique NoCopy
   no_number : (kept : Kept) → get s.kept unique ≡ Some kept → is_current s kept.wire ≡ true → is_past_end (sent_again s unique kept) ≡ true → RefusesAgain s unique Exhausted
 
--- A reply is kept under this unique, each node that it names is still held under the same generation, and a copy number is left.
+-- A reply is kept under this unique, each node and open number that it names is still held, and a copy number is left.
 pub record CanSendAgain (s : Server) (unique : ℕ) : Type 0 where
   pub kept : Kept
   pub there : get s.kept unique ≡ Some kept
   pub current : is_current s kept.wire ≡ true
   pub number : s.next_copy < 2 ^ 62
 
--- One more copy of a kept reply is sent, and each node that it names has one lookup more.
+-- One more copy of a kept reply is sent, and what it names is counted once more.
 pub record SendsAgain (old : Server) (unique : ℕ) (copy : Sent) (new : Server) : Type 0 where
   pub kept : Kept
   pub there : get old.kept unique ≡ Some kept

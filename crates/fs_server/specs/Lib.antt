@@ -1,5 +1,7 @@
 pub mod Values
-pub mod Steps
 pub mod Sound
+pub mod Steps
 pub mod Taking
 pub mod Effects
+pub mod Interrupts
+pub mod Faults

@@ -1,23 +1,26 @@
 -- What is taken of a request, by its node and by what it asks.
-use Rattle.std.specs.Prelude.{◌≡◌, ℕ, Bool, true, false, [], ◌∷◌, None, nat_lt, is_some}
+use Rattle.std.specs.Prelude.{◌≡◌, ℕ, Bool, true, false, ◌&&◌, List, [], ◌∷◌, None, map, nat_lt, is_some}
 use Rattle.std.specs.List.{list_all, list_any}
 use Rattle.fuse_spec.specs.Maps.{get}
-use Rattle.fuse_spec.specs.Operations as operation
-use Rattle.fuse_spec.specs.Messages.{RequestBody, init, asks}
-use Rattle.fuse_spec.specs.Nodes.{NodeTable, row_of, taken_back}
-use Rattle.fuse_spec.specs.Server.{Server, HeldRequest, is_known, is_forgettable, count_in, forgotten, generation_in, all_taken_back}
+use Rattle.fuse_spec.specs.Messages.{Forget, RequestBody}
+use Rattle.fuse_spec.specs.Nodes.{NodeTable, row_of}
+use Rattle.fuse_spec.specs.Server.{Server, HeldRequest, is_known, is_forgettable, count_in, forgotten, generation_in, nodes_of_body}
 use Rattle.fk_wire.specs.Requests as wire
 use Rattle.fk_wire.specs.Requests.{RequestContent}
+use Rattle.fuse_frames.specs.RequestTies.{body_in, body_or}
 
--- what is served so far
+-- what is served: READDIRPLUS isn't so far
 abbrev pub serves : RequestContent → Bool
-serves (wire.init major minor flags) = true
-serves (wire.lookup name) = true
-serves wire.getattr = true
-serves (wire.mkdir name) = true
-serves (wire.forget nlookup) = true
-serves (wire.batch_forget forgets) = true
-serves content = false
+serves (wire.readdirplus offset size) = false
+serves content = true
+
+-- what is held until it is performed
+abbrev pub is_held : RequestContent → Bool
+is_held (wire.forget nlookup) = false
+is_held (wire.batch_forget forgets) = false
+is_held (wire.interrupt original) = false
+is_held (wire.readdirplus offset size) = false
+is_held content = true
 
 -- what gives lookups back
 abbrev pub is_forgetting : RequestContent → Bool
@@ -25,14 +28,46 @@ is_forgetting (wire.forget nlookup) = true
 is_forgetting (wire.batch_forget forgets) = true
 is_forgetting content = false
 
+-- what asks an operation
+abbrev pub is_operation : RequestContent → Bool
+is_operation (wire.init major minor flags) = false
+is_operation (wire.release fh) = false
+is_operation content = is_held content
+
+-- what comes with a name or with bytes
+abbrev pub has_bytes : RequestContent → Bool
+has_bytes wire.getattr = false
+has_bytes wire.opening = false
+has_bytes (wire.readdir offset size) = false
+has_bytes (wire.read fh offset size) = false
+has_bytes content = is_operation content
+
+-- what names two nodes or comes with bytes to write
+abbrev pub has_two : RequestContent → Bool
+has_two (wire.rename newdir old new) = true
+has_two (wire.link oldnodeid name) = true
+has_two (wire.write fh offset bytes) = true
+has_two content = false
+
+-- what a request of this node asks
+abbrev pub body_of : ℕ → RequestContent → RequestBody
+body_of nodeid content = body_or (body_in nodeid content)
+
+-- the lookups that it gives back
+abbrev pub forgets_in : ℕ → RequestContent → List Forget
+forgets_in nodeid (wire.forget nlookup) = (nodeid, nlookup) ∷ []
+forgets_in nodeid (wire.batch_forget forgets) = forgets
+forgets_in nodeid content = []
+
 -- Whether each node is held that a request of this node names, or whose lookups it gives back.
 abbrev pub knows : NodeTable → ℕ → RequestContent → Bool
-knows nodes nodeid (wire.lookup name) = is_known nodes nodeid
-knows nodes nodeid wire.getattr = is_known nodes nodeid
-knows nodes nodeid (wire.mkdir name) = is_known nodes nodeid
 knows nodes nodeid (wire.forget nlookup) = is_some (get nodes.rows nodeid)
 knows nodes nodeid (wire.batch_forget forgets) = list_all (is_forgettable nodes) forgets
-knows nodes nodeid content = true
+knows nodes nodeid (wire.init major minor flags) = true
+knows nodes nodeid (wire.interrupt original) = true
+knows nodes nodeid (wire.rename newdir old new) = is_known nodes nodeid && is_known nodes newdir
+knows nodes nodeid (wire.link oldnodeid name) = is_known nodes nodeid && is_known nodes oldnodeid
+knows nodes nodeid content = is_known nodes nodeid
 
 -- Whether more lookups of a node are given back than it has.
 abbrev pub forgets_too_many : NodeTable → ℕ → RequestContent → Bool
@@ -40,22 +75,13 @@ forgets_too_many nodes nodeid (wire.forget nlookup) = nat_lt (count_in (get node
 forgets_too_many nodes nodeid (wire.batch_forget forgets) = list_any (λ f. nat_lt (count_in (get nodes.rows f.0)) (forgotten f.0 forgets)) forgets
 forgets_too_many nodes nodeid content = false
 
--- the nodes after the lookups are given back
-abbrev pub rows_forgotten : NodeTable → ℕ → RequestContent → NodeTable
-rows_forgotten nodes nodeid (wire.forget nlookup) = taken_back nodes nodeid nlookup
-rows_forgotten nodes nodeid (wire.batch_forget forgets) = all_taken_back nodes forgets
-rows_forgotten nodes nodeid content = nodes
+-- the nodes that a request names, with the generations that they have
+abbrev pub generations_for : NodeTable → ℕ → RequestContent → List (ℕ × ℕ)
+generations_for nodes nodeid content = map (λ id. (id, generation_in (row_of nodes id))) (nodes_of_body (body_of nodeid content))
 
--- what is held for an operation on this node
-abbrev pub holding_of : NodeTable → ℕ → RequestBody → HeldRequest
-holding_of nodes nodeid body = record { body = body; generations = (nodeid, generation_in (row_of nodes nodeid)) ∷ []; marked = false }
-
--- what is held for a request that gives no lookups back
+-- what is held for it
 abbrev pub held_for : NodeTable → ℕ → RequestContent → HeldRequest
-held_for nodes nodeid (wire.lookup name) = holding_of nodes nodeid (asks (operation.lookup nodeid name))
-held_for nodes nodeid wire.getattr = holding_of nodes nodeid (asks (operation.getattr nodeid))
-held_for nodes nodeid (wire.mkdir name) = holding_of nodes nodeid (asks (operation.mkdir nodeid name))
-held_for nodes nodeid content = record { body = init; generations = []; marked = false }
+held_for nodes nodeid content = record { body = body_of nodeid content; generations = generations_for nodes nodeid content; marked = false }
 
 -- A request of this node with nothing wrong.
 pub record IsFaultless (s : Server) (unique nodeid : ℕ) (content : RequestContent) : Type 0 where

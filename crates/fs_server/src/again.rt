@@ -1,28 +1,27 @@
 //! More copies of kept replies are sent.
 
-ghost use Rattle.std.specs.Prelude.{◌≡◌, ◌≤◌, ◌^◌, ◌⊎◌, OnErr, IfOk, IfErr, IfSome, IfNone};
+ghost use Rattle.std.specs.Prelude.{◌≡◌, ◌^◌, ◌⊎◌, ◌&&◌, OnErr, IfOk, IfErr, IfSome, IfNone, is_some};
 ghost use Rattle.std.specs.List.{list_all};
+ghost use Rattle.fuse_spec.specs.Maps.{get};
 ghost use Rattle.fuse_spec.specs.Nodes.{is_held};
-ghost use Rattle.fuse_spec.specs.Copies.{rows_counted};
-ghost use Rattle.fuse_spec.specs.Operations.{files_in_reply};
+ghost use Rattle.fuse_spec.specs.Copies.{handles_counted, rows_counted};
+ghost use Rattle.fuse_spec.specs.Operations.{files_in_reply, opens_in_reply};
 ghost use Rattle.fuse_spec.specs.declared.Entry.{Entry as ReplyEntry};
 ghost use Rattle.fuse_spec.specs.declared.Refusal.TheVariants.{NoMemory};
+ghost use Rattle.fs_files.specs.Bounds.{AreCounted, AreUsed};
+ghost use Rattle.fs_files.specs.Replies.{sent_wire};
 ghost use Rattle.fs_server.specs.Effects.{CanSendAgain, RefusesAgain, SendsAgain};
-ghost use Rattle.fs_server.specs.Steps.{AreCounted};
-ghost use Rattle.fs_server.specs.Values.{wire_of};
 
-use crate::held::NamedNode;
-use crate::nodes::Nodes;
-use crate::replies::{SentCopy, SentReply};
+use crate::replies::SentCopy;
 use crate::server::{COUNTER_END, Server};
-use fs_nodes::NodeStore;
+use fs_files::{Files, NamedNode, SentReply};
 use fuse_frames::{ReplyCopy, ReplyRoom};
 use fuse_spec::Refusal;
-use std::alloc::Allocator;
+use std::alloc::{AllocError, Allocator};
 
 impl<A: Allocator + Copy> Server<A> {
     /// Why no copy of a kept reply can be sent, want of memory aside: `NoCopy` where no reply is kept under the unique, or a node
-    /// that it names is no longer held under the same generation; `Exhausted` where no copy number is left.
+    /// or open number that it names is no longer held, the node under the same generation; `Exhausted` where no copy number is left.
     pub fn again_refusal(&self, unique: u64) -> Option<Refusal>
         ensures refuses { IfSome result (RefusesAgain self.now unique) }
         ensures none { IfNone result (CanSendAgain self.now unique) }
@@ -30,8 +29,7 @@ impl<A: Allocator + Copy> Server<A> {
         let Some(kept) = self.kept.get(unique) else {
             return Some(Refusal::NoCopy);
         };
-        let reply = kept.reply();
-        if !is_current(&self.nodes, &reply) {
+        if !is_current(&self.files, kept.reply()) {
             return Some(Refusal::NoCopy);
         }
         if self.next_copy >= COUNTER_END {
@@ -40,12 +38,12 @@ impl<A: Allocator + Copy> Server<A> {
         None
     }
 
-    /// Sends one more copy of a kept reply, and counts one lookup more of the node that it names.
+    /// Sends one more copy of a kept reply, and counts once more the node and the open number that it names.
     ///
     /// # Errors
     ///
-    /// `NoCopy` where no reply is kept under the unique, or a node that it names is no longer held under the same generation;
-    /// `Exhausted` where no copy number is left; then `NoMemory`. The server is as before.
+    /// `NoCopy` where no reply is kept under the unique, or a node or open number that it names is no longer held, the node under the
+    /// same generation; `Exhausted` where no copy number is left; then `NoMemory`. The server is as before.
     pub fn again(&mut self, unique: u64) -> Result<ReplyCopy<A>, Refusal>
         ensures err { OnErr result (self.new ≡ self.old) }
         ensures refusal { IfErr result (λ refusal. RefusesAgain self.old unique refusal ⊎ (refusal ≡ NoMemory)) }
@@ -54,45 +52,67 @@ impl<A: Allocator + Copy> Server<A> {
         if let Some(refusal) = self.again_refusal(unique) {
             return Err(refusal);
         }
-        let Ok(()) = self.copies.reserve(1) else {
-            return Err(Refusal::NoMemory);
-        };
-        let Ok(room) = ReplyRoom::new(self.alloc) else {
-            return Err(Refusal::NoMemory);
-        };
+        match self.send_again(unique) {
+            Ok(copy) => Ok(copy),
+            Err(AllocError) => Err(Refusal::NoMemory),
+        }
+    }
+
+    /// Sends one more copy of a kept reply that can be sent.
+    fn send_again(&mut self, unique: u64) -> Result<ReplyCopy<A>, AllocError>
+        requires { CanSendAgain self.old unique }
+        ensures err { OnErr result (self.new ≡ self.old) }
+        ensures sent { IfOk result (λ copy. SendsAgain self.old unique copy self.new) }
+    {
+        self.copies.reserve(1)?;
         let Some(kept) = self.kept.get(unique) else {
-            return Err(Refusal::NoCopy);
+            // It was found before.
+            return Err(AllocError);
         };
-        let number = self.next_copy;
         let reply = kept.reply();
-        let sent = SentCopy::new(unique, reply, kept.first());
-        let copy = kept.framed(room, number, unique);
-        count_again(&mut self.nodes, &reply);
+        let len = reply.len();
+        let room = ReplyRoom::new(self.alloc, len)?;
+        let spare = Vec::with_capacity(self.alloc, len)?;
+        let number = self.next_copy;
+        let copy = reply.framed(room, number, unique);
+        let sent = SentCopy::new(unique, reply.copied(spare), kept.first());
+        count_again(&mut self.files, reply);
         self.copies.put(number, sent);
         self.next_copy = number + 1;
         Ok(copy)
     }
 }
 
-/// Whether the node that a reply names, if it names one, is still held under the same generation.
-fn is_current<S: NodeStore>(nodes: &Nodes<S>, reply: &SentReply) -> bool
-    ensures { result ≡ list_all (λ (g : ReplyEntry). is_held nodes.now.table g.nodeid g.generation) (files_in_reply (wire_of reply.now)) }
+/// Whether the node and the open number that a reply names, if it names one, are still held, the node under the same generation.
+fn is_current<A: Allocator + Copy>(files: &Files<A>, reply: &SentReply<A>) -> bool
+    ensures { result ≡ (list_all (λ (g : ReplyEntry). is_held files.now.nodes g.nodeid g.generation) (files_in_reply (sent_wire reply.now)) && list_all (λ fh. is_some (get files.now.handles.handles fh)) (opens_in_reply (sent_wire reply.now))) }
 {
-    match reply.entry() {
-        Some(entry) => nodes.is_held(NamedNode {
+    let has_node = match reply.entry() {
+        Some(entry) => files.nodes().is_held(NamedNode {
             nodeid: entry.nodeid,
             generation: entry.generation,
         }),
         None => true,
-    }
+    };
+    let has_number = match reply.opened() {
+        Some(fh) => files.has_number(fh),
+        None => true,
+    };
+    has_node && has_number
 }
 
-/// Counts one lookup more of the node that a reply names, if it names one.
-fn count_again<S: NodeStore>(nodes: &mut Nodes<S>, reply: &SentReply)
-    requires { AreCounted (2 ^ 62) nodes.old.table }
-    ensures { nodes.new.table ≡ rows_counted nodes.old.table (files_in_reply (wire_of reply.now)) }
+/// Counts once more the node and the open number that a reply names, if it names one.
+fn count_again<A: Allocator + Copy>(files: &mut Files<A>, reply: &SentReply<A>)
+    requires counted { AreCounted (2 ^ 62) files.old.nodes }
+    requires used { AreUsed (2 ^ 62) files.old.handles }
+    ensures tree { files.new.tree ≡ files.old.tree }
+    ensures nodes { files.new.nodes ≡ rows_counted files.old.nodes (files_in_reply (sent_wire reply.now)) }
+    ensures handles { files.new.handles ≡ handles_counted files.old.handles (opens_in_reply (sent_wire reply.now)) }
 {
     if let Some(entry) = reply.entry() {
-        nodes.count_again(entry.nodeid);
+        files.count_again(entry.nodeid);
+    }
+    if let Some(fh) = reply.opened() {
+        files.count_number_again(fh);
     }
 }

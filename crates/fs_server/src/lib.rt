@@ -2,13 +2,14 @@
 #![tactic(auto)]
 
 mod again;
-mod held;
-mod nodes;
+mod faults;
+mod holding;
+mod interrupting;
 mod performing;
 mod replies;
 mod server;
 mod settling;
-mod steps;
 mod taking;
 
-pub use server::{Done, Server, ServerFault};
+pub use faults::fault_reply;
+pub use server::{Done, Server, ServerFault, Took};

@@ -1,19 +1,14 @@
 //! Held requests are performed.
 
-ghost use Rattle.std.specs.Prelude.{◌≡◌, ◌≤◌, ◌<◌, ◌^◌, ◌⊎◌, OnErr, IfOk, IfErr, IfSome, IfNone};
-ghost use Rattle.fuse_spec.specs.Nodes.{IsUnheld};
+ghost use Rattle.std.specs.Prelude.{◌≡◌, ◌⊎◌, true, false, OnErr, IfOk, IfErr, IfSome, IfNone};
 ghost use Rattle.fuse_spec.specs.declared.Refusal.TheVariants.{NoMemory};
 ghost use Rattle.fs_server.specs.Effects.{PerformsHeld, RefusesHeld};
-ghost use Rattle.fs_server.specs.Steps.{CanPerform, CarriesOut, Gives, HasNumbers, IsPossible, AreCounted, IsSendableFrom, TellsNode};
+ghost use Rattle.fs_server.specs.Steps.{CanPerform};
 
-use crate::nodes::Nodes;
-use crate::replies::{KeptReply, SentCopy, SentReply};
+use crate::replies::{KeptReply, SentCopy};
 use crate::server::{COUNTER_END, Done, Server};
-use crate::steps::{Step, has_numbers, step_for};
-use fs_nodes::NodeStore;
-use fs_tree::Tree;
 use fuse_frames::ReplyRoom;
-use fuse_spec::{Entry, Refusal};
+use fuse_spec::Refusal;
 use std::alloc::{AllocError, Allocator};
 
 impl<A: Allocator + Copy> Server<A> {
@@ -26,17 +21,17 @@ impl<A: Allocator + Copy> Server<A> {
         let Some(held) = self.held.get(unique) else {
             return Some(Refusal::NoSuch);
         };
-        let step = step_for(held, &self.tree, &self.nodes, self.validity);
-        if self.next_copy >= COUNTER_END {
+        if !self.is_aborted && self.next_copy >= COUNTER_END {
             return Some(Refusal::Exhausted);
         }
-        if !has_numbers(step, &self.tree, &self.nodes) {
+        if !self.files.has_numbers(held, self.is_aborted) {
             return Some(Refusal::Exhausted);
         }
         None
     }
 
-    /// Performs a held request, and gives the first copy of its reply. A request whose node is gone is answered EIO.
+    /// Performs a held request, and gives the first copy of its reply. A request that an INTERRUPT marked is answered EINTR, one
+    /// whose node is gone EIO. After an abort a request is performed, but no node and no open number is given, and no copy is sent.
     ///
     /// # Errors
     ///
@@ -50,90 +45,68 @@ impl<A: Allocator + Copy> Server<A> {
         if let Some(refusal) = self.perform_refusal(unique) {
             return Err(refusal);
         }
-        let Ok(()) = self.kept.reserve(1) else {
-            return Err(Refusal::NoMemory);
+        let done = if self.is_aborted {
+            self.perform_lost(unique)
+        } else {
+            self.perform_live(unique)
         };
-        let Ok(()) = self.copies.reserve(1) else {
-            return Err(Refusal::NoMemory);
-        };
-        let Ok(()) = self.nodes.reserve() else {
-            return Err(Refusal::NoMemory);
-        };
-        let Ok(room) = ReplyRoom::new(self.alloc) else {
-            return Err(Refusal::NoMemory);
-        };
-        let Some(held) = self.held.get(unique) else {
-            return Err(Refusal::NoSuch);
-        };
-        self.tree.keeps_shape();
-        let number = self.next_copy;
-        let step = step_for(held, &self.tree, &self.nodes, self.validity);
-        let found_ms = self.validity.found_ms;
-        let Ok(reply) = carry_out(step, held.name(), &mut self.tree, &mut self.nodes, found_ms)
-        else {
-            return Err(Refusal::NoMemory);
-        };
-        let kept = KeptReply::new(reply, number, held.opcode(), held.flags());
-        let copy = kept.framed(room, number, unique);
-        let _held = self.held.remove(unique);
-        self.kept.put(unique, kept);
-        self.copies
-            .put(number, SentCopy::new(unique, reply, number));
-        self.next_copy = number + 1;
-        let errno = reply.errno();
-        Ok(Done { errno, copy })
+        match done {
+            Ok(done) => Ok(done),
+            Err(AllocError) => Err(Refusal::NoMemory),
+        }
     }
-}
 
-/// Carries a step out. Only a directory that is made takes memory.
-fn carry_out<A: Allocator + Copy, S: NodeStore>(
-    step: Step,
-    name: &[u8],
-    tree: &mut Tree<A>,
-    nodes: &mut Nodes<S>,
-    found_ms: u64,
-) -> Result<SentReply, AllocError>
-    requires room { 0 < nodes.old.room }
-    requires numbers { HasNumbers tree.old nodes.old.table step }
-    requires possible { IsPossible tree.old name.now step }
-    requires births { tree.old.next_birth ≤ 2 ^ 62 }
-    requires counted { AreCounted (2 ^ 62) nodes.old.table }
-    ensures tree { OnErr result (tree.new ≡ tree.old) }
-    ensures nodes { OnErr result (nodes.new.table ≡ nodes.old.table) }
-    ensures effect { IfOk result (CarriesOut tree.old nodes.old.table found_ms name.now step tree.new nodes.new.table) }
-    ensures sendable { IfOk result (IsSendableFrom step found_ms) }
-{
-    let file = match step {
-        Step::Answer(reply) => return Ok(reply),
-        Step::Give { file } => file,
-        Step::Make { directory } => match tree.mkdir(directory, name) {
-            Ok(file) => file,
-            Err(_) => return Err(AllocError),
-        },
-    };
-    Ok(give(file, tree, nodes, found_ms))
-}
+    /// Performs a held request after an abort.
+    fn perform_lost(&mut self, unique: u64) -> Result<Done<A>, AllocError>
+        requires aborted { self.old.aborted ≡ true }
+        requires can { CanPerform self.old unique }
+        ensures err { OnErr result (self.new ≡ self.old) }
+        ensures performed { IfOk result (λ done. PerformsHeld self.old unique done.errno done.copy self.new) }
+    {
+        let Some(held) = self.held.get(unique) else {
+            // It was found before.
+            return Err(AllocError);
+        };
+        let outcome = self.files.answer(held, self.validity)?;
+        self.files.discard_unheld();
+        let _lost = self.held.remove(unique);
+        Ok(Done {
+            errno: outcome.errno(),
+            copy: None,
+        })
+    }
 
-/// Counts a lookup of a file, and gives the reply that tells its node.
-fn give<A: Allocator + Copy, S: NodeStore>(
-    file: u64,
-    tree: &Tree<A>,
-    nodes: &mut Nodes<S>,
-    found_ms: u64,
-) -> SentReply
-    requires file { file < 2 ^ 62 }
-    requires room { 0 < nodes.old.room }
-    requires generation { IsUnheld nodes.old.table file → nodes.old.table.next_generation < 2 ^ 62 }
-    requires counted { AreCounted (2 ^ 62) nodes.old.table }
-    ensures gives { Gives tree.now nodes.old.table found_ms file nodes.new.table result }
-    ensures sendable { TellsNode found_ms result }
-{
-    let (nodeid, generation) = nodes.give(file);
-    let attributes = tree.getattr(file);
-    let entry = Entry {
-        nodeid,
-        generation,
-        attributes,
-    };
-    SentReply::Found { entry, found_ms }
+    /// Performs a held request while the mount is not aborted.
+    fn perform_live(&mut self, unique: u64) -> Result<Done<A>, AllocError>
+        requires serving { self.old.aborted ≡ false }
+        requires can { CanPerform self.old unique }
+        ensures err { OnErr result (self.new ≡ self.old) }
+        ensures performed { IfOk result (λ done. PerformsHeld self.old unique done.errno done.copy self.new) }
+    {
+        self.kept.reserve(1)?;
+        self.copies.reserve(1)?;
+        self.files.reserve()?;
+        let Some(held) = self.held.get(unique) else {
+            // It was found before.
+            return Err(AllocError);
+        };
+        let len = held.reply_len();
+        let room = ReplyRoom::new(self.alloc, len)?;
+        let spare = Vec::with_capacity(self.alloc, len)?;
+        let outcome = self.files.answer(held, self.validity)?;
+        let number = self.next_copy;
+        let reply = self.files.tell(outcome, self.validity.found_ms);
+        self.files.discard_unheld();
+        let errno = reply.errno();
+        let copy = reply.framed(room, number, unique);
+        let sent = SentCopy::new(unique, reply.copied(spare), number);
+        let _held = self.held.remove(unique);
+        self.kept.put(unique, KeptReply::new(reply, number));
+        self.copies.put(number, sent);
+        self.next_copy = number + 1;
+        Ok(Done {
+            errno,
+            copy: Some(copy),
+        })
+    }
 }

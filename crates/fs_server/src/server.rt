@@ -3,17 +3,14 @@
 ghost use Rattle.std.specs.Prelude.{◌≡◌, ◌≤◌, false, IfOk};
 ghost use Rattle.fuse_spec.specs.Numbers.{max_validity};
 ghost use Rattle.fuse_spec.specs.Worlds.{first_server};
-ghost use Rattle.fuse_spec.specs.Copies.{remounted};
+ghost use Rattle.fuse_spec.specs.Copies.{connection_lost, remounted};
 ghost use Rattle.fs_nodes.specs.Rows.{listed};
 ghost use Rattle.fs_server.specs.Effects.{is_past_end};
 
-use crate::held::HeldRequest;
-use crate::nodes::Nodes;
 use crate::replies::{KeptReply, SentCopy};
-use fs_nodes::{NodeTable, SlabRows};
-use fs_tree::Tree;
+use fs_files::{Files, HeldRequest};
 use fuse_frames::ReplyCopy;
-use fuse_spec::Validity;
+use fuse_spec::{Taken, Validity};
 use fuse_tables::Table;
 use std::alloc::{AllocError, Allocator, Global};
 use std::marker::Model;
@@ -25,7 +22,7 @@ pub(crate) const COUNTER_END: u64 = 0x4000_0000_0000_0000;
 /// What is wrong with a request frame: the first that applies.
 #[derive(Clone, Copy, Debug, PartialEq, Eq, Error)]
 pub enum ServerFault {
-    #[error("the frame is no request that is served")]
+    #[error("the frame is no request")]
     Wire = 1,
     #[error("the request names a node that is not held")]
     UnknownNode = 2,
@@ -39,24 +36,33 @@ pub enum ServerFault {
     Memory = 6,
 }
 
-/// What performing a request came to: the reply's error, and its first copy.
+/// What performing a request came to: the reply's error, and its first copy. After an abort there is no copy.
 #[derive(Drop)]
 pub struct Done<A: Allocator = Global> {
     pub errno: u32,
-    pub copy: ReplyCopy<A>,
+    pub copy: Option<ReplyCopy<A>>,
 }
 
-/// The server's half of the protocol. So far no name of a file is taken away, so no file is nameless, and no file is opened.
+/// What became of a request that was taken, and the copy of a reply that was sent at once: that to an INTERRUPT of a request that is
+/// not known.
+#[derive(Drop)]
+pub struct Took<A: Allocator = Global> {
+    pub unique: u64,
+    pub word: Taken,
+    pub copy: Option<ReplyCopy<A>>,
+}
+
+/// The server's half of the protocol.
 #[derive(Drop)]
 pub struct Server<A: Allocator + Copy = Global> {
     pub(crate) alloc: A,
-    pub(crate) tree: Tree<A>,
-    pub(crate) nodes: Nodes<NodeTable<A>>,
+    pub(crate) files: Files<A>,
     pub(crate) held: Table<HeldRequest<A>, A>,
-    pub(crate) kept: Table<KeptReply, A>,
-    pub(crate) copies: Table<SentCopy, A>,
+    pub(crate) kept: Table<KeptReply<A>, A>,
+    pub(crate) copies: Table<SentCopy<A>, A>,
     pub(crate) next_copy: u64,
     pub(crate) validity: Validity,
+    pub(crate) is_aborted: bool,
 }
 
 impl<A: Allocator + Copy> Model for Server<A> {
@@ -69,9 +75,9 @@ impl<A: Allocator + Copy> Model for Server<A> {
 
     ghost coded = { Prim.hlevel (codes) };
 
-    ghost view = { λ s. server_with s.tree s.nodes.table s.held.entries s.kept.entries s.copies.entries s.next_copy s.validity };
+    ghost view = { λ s. server_with s.files s.held.entries s.kept.entries s.copies.entries s.next_copy s.validity s.is_aborted };
 
-    ghost invariant = { λ s. IsSound s.tree s.nodes.table s.held.entries s.kept.entries s.copies.entries s.next_copy s.validity };
+    ghost invariant = { λ s. IsSound s.files s.held.entries s.kept.entries s.copies.entries s.next_copy s.validity };
 }
 
 impl<A: Allocator + Copy> Server<A> {
@@ -79,11 +85,10 @@ impl<A: Allocator + Copy> Server<A> {
     pub fn new(alloc: A) -> Result<Self, AllocError>
         ensures { IfOk result (λ server. server ≡ first_server) }
     {
-        let tree = Tree::new(alloc)?;
+        let files = Files::new(alloc)?;
         Ok(Server {
             alloc,
-            tree,
-            nodes: Nodes::new(alloc),
+            files,
             held: Table::new(alloc),
             kept: Table::new(alloc),
             copies: Table::new(alloc),
@@ -92,30 +97,46 @@ impl<A: Allocator + Copy> Server<A> {
                 found_ms: 0,
                 missing_ms: 0,
             },
+            is_aborted: false,
         })
     }
 
-    /// No counter has given a number past its end, 2^62, and no abort is known of so far.
+    /// No counter has given a number past its end, 2^62.
     pub fn within(&self)
-        ensures counters { is_past_end self.now ≡ false }
-        ensures serving { self.now.aborted ≡ false }
+        ensures { is_past_end self.now ≡ false }
     {
-        let _births = self.tree.births_left();
-        let _serials = self.tree.serials_left();
-        let _generations = self.nodes.generations_left();
+        self.files.within();
     }
 
-    /// A new mount: the nodes, held requests, kept replies and copies go; the tree stays, and generations and copy numbers go on.
-    /// Validities are in milliseconds.
+    /// Whether the mount was aborted: then no copy is sent until the next one.
+    pub fn is_aborted(&self) -> bool
+        ensures { result ≡ self.now.aborted }
+    {
+        self.is_aborted
+    }
+
+    /// The mount is aborted: kept replies and copies go, and what is held stays until the next mount. No memory is taken.
+    pub fn connection_lost(&mut self)
+        ensures { self.new ≡ connection_lost self.old }
+    {
+        self.kept.clear();
+        self.copies.clear();
+        self.is_aborted = true;
+    }
+
+    /// A new mount: the nodes, open numbers, held requests, kept replies and copies go, and so do nameless files; the tree stays, and
+    /// generations, open numbers and copy numbers go on. Validities are in milliseconds.
     pub fn remount(&mut self, found_ms: u64, missing_ms: u64)
         requires found { found_ms ≤ max_validity }
         requires missing { missing_ms ≤ max_validity }
         ensures { self.new ≡ remounted self.old (record { found_ms = found_ms; missing_ms = missing_ms }) }
     {
-        self.nodes.clear();
+        self.files.clear();
+        self.files.discard_unheld();
         self.held.clear();
         self.kept.clear();
         self.copies.clear();
+        self.is_aborted = false;
         self.validity = Validity {
             found_ms,
             missing_ms,
@@ -126,6 +147,6 @@ impl<A: Allocator + Copy> Server<A> {
     pub fn nodes(&self, alloc: A) -> Result<Vec<(u64, u64, u64), A>, AllocError>
         ensures { IfOk result (λ nodes. nodes.items ≡ listed self.now.nodes.rows) }
     {
-        self.nodes.nodes(alloc)
+        self.files.nodes().nodes(alloc)
     }
 }

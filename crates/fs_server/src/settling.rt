@@ -1,17 +1,17 @@
 //! Copies are settled by the results of their writes.
 
 ghost use Rattle.std.specs.Prelude.{◌≡◌, OnErr, MatchResult};
+ghost use Rattle.fuse_spec.specs.Copies.{handles_back, kept_after, rows_back};
 ghost use Rattle.fuse_spec.specs.Maps.{get};
-ghost use Rattle.fuse_spec.specs.Copies.{rows_back};
-ghost use Rattle.fuse_spec.specs.Operations.{files_in_reply};
-ghost use Rattle.fs_server.specs.Effects.{Settles, HasNoCopy, is_of_copy};
-ghost use Rattle.fs_server.specs.Values.{wire_of, rows_after};
+ghost use Rattle.fuse_spec.specs.Operations.{files_in_reply, opens_in_reply};
+ghost use Rattle.fs_files.specs.Replies.{sent_wire};
+ghost use Rattle.fs_server.specs.Effects.{GivesBack, SettlesFiles, Settles, HasNoCopy, is_of_copy};
 
-use crate::nodes::Nodes;
-use crate::replies::SentReply;
+use crate::replies::{KeptReply, SentCopy};
 use crate::server::Server;
-use fs_nodes::NodeStore;
+use fs_files::{Files, SentReply};
 use fuse_spec::{Refusal, ReplyResult, WriteResult};
+use fuse_tables::Table;
 use std::alloc::Allocator;
 
 impl<A: Allocator + Copy> Server<A> {
@@ -28,33 +28,64 @@ impl<A: Allocator + Copy> Server<A> {
         let Some(copy) = self.copies.remove(settled.number) else {
             return Err(Refusal::NoSuch);
         };
-        let reply = copy.reply();
-        give_back(&mut self.nodes, &reply, settled.result);
-        if self.keeps_first(copy.unique(), copy.first()) {
-            let _kept = self.kept.remove(copy.unique());
-        }
+        settle_files(&mut self.files, copy.reply(), settled.result);
+        drop_kept(&mut self.kept, &copy);
         Ok(())
-    }
-
-    /// Whether the reply under a unique is kept, and its first copy has this number.
-    fn keeps_first(&self, unique: u64, first: u64) -> bool
-        ensures { result ≡ is_of_copy (get self.now.kept unique) first }
-    {
-        match self.kept.get(unique) {
-            Some(kept) => kept.first() == first,
-            None => false,
-        }
     }
 }
 
-/// Gives back what a refused copy carried, where its node is still held under the entry's generation.
-fn give_back<S: NodeStore>(nodes: &mut Nodes<S>, reply: &SentReply, written: WriteResult)
-    ensures { nodes.new.table ≡ rows_after nodes.old.table (wire_of reply.now) written }
+/// The reply of which this was a copy is not kept any longer, if it was.
+fn drop_kept<A: Allocator + Copy>(kept: &mut Table<KeptReply<A>, A>, copy: &SentCopy<A>)
+    ensures { kept.new.entries ≡ kept_after kept.old.entries copy.now (get kept.old.entries copy.now.unique) }
 {
-    if written == WriteResult::Accepted {
-        return;
+    if keeps_first(kept, copy.unique(), copy.first()) {
+        let _kept = kept.remove(copy.unique());
     }
+}
+
+/// Whether the reply under a unique is kept, and its first copy has this number.
+fn keeps_first<A: Allocator + Copy>(kept: &Table<KeptReply<A>, A>, unique: u64, first: u64) -> bool
+    ensures { result ≡ is_of_copy (get kept.now.entries unique) first }
+{
+    match kept.get(unique) {
+        Some(kept) => kept.first() == first,
+        None => false,
+    }
+}
+
+/// What the result of a copy makes of the files: a refused copy is counted back.
+fn settle_files<A: Allocator + Copy>(
+    files: &mut Files<A>,
+    reply: &SentReply<A>,
+    settled: WriteResult,
+)
+    ensures { SettlesFiles files.old (sent_wire reply.now) settled files.new }
+{
+    match settled {
+        WriteResult::Accepted => {}
+        WriteResult::NoEntry | WriteResult::Invalid => give_back(files, reply),
+    }
+}
+
+/// Gives back what a refused copy carried, where it is still held, the node under the entry's generation. Nameless files that nothing
+/// holds then go.
+fn give_back<A: Allocator + Copy>(files: &mut Files<A>, reply: &SentReply<A>)
+    ensures { GivesBack files.old (sent_wire reply.now) files.new }
+{
+    count_back(files, reply);
+    files.discard_unheld();
+}
+
+/// Counts back the node and the open number that a reply names, if it names one.
+fn count_back<A: Allocator + Copy>(files: &mut Files<A>, reply: &SentReply<A>)
+    ensures tree { files.new.tree ≡ files.old.tree }
+    ensures nodes { files.new.nodes ≡ rows_back files.old.nodes (files_in_reply (sent_wire reply.now)) }
+    ensures handles { files.new.handles ≡ handles_back files.old.handles (opens_in_reply (sent_wire reply.now)) }
+{
     if let Some(entry) = reply.entry() {
-        nodes.give_back(&entry);
+        files.give_back(&entry);
+    }
+    if let Some(fh) = reply.opened() {
+        files.give_number_back(fh);
     }
 }

@@ -1,57 +1,85 @@
 //! Request frames are taken.
 
-ghost use Rattle.std.specs.Prelude.{◌≡◌, ◌||◌, false, None, nat_lt, is_some, OnErr, IfOk, IfNone, MatchResult};
+ghost use Rattle.std.specs.Prelude.{◌≡◌, ◌||◌, true, false, None, nat_lt, is_some, OnErr, OnOk, IfErr, IfOk, IfNone, MatchResult};
 ghost use Rattle.std.specs.List.{list_all, list_any};
 ghost use Rattle.fuse_spec.specs.Maps.{get};
-ghost use Rattle.fuse_spec.specs.Server.{count_in, forgotten, is_forgettable, all_taken_back};
+ghost use Rattle.fuse_spec.specs.Server.{count_in, forgetting, forgotten, holding, is_forgettable, all_taken_back};
+ghost use Rattle.fuse_spec.specs.declared.Taken.TheVariants.{Held as HeldWord};
 ghost use Rattle.fk_wire.specs.Pairs.{pairs_in};
 ghost use Rattle.fuse_frames.specs.RequestTies.{body_in};
 ghost use Rattle.fk_wire.specs.Requests.{request_content};
-ghost use Rattle.fs_server.specs.Effects.{TakesFrame, RefusesFrame, request_fault};
-ghost use Rattle.fs_server.specs.Taking.{IsFaultless, serves, is_forgetting, knows, forgets_too_many, held_for, rows_forgotten};
+ghost use Rattle.fs_server.specs.declared.server.ServerFault.TheVariants.{Memory as MemoryFault};
+ghost use Rattle.fs_server.specs.Effects.{Forgets, TakesFrame, RefusesFrame, request_fault};
+ghost use Rattle.fs_server.specs.Taking.{IsFaultless, body_of, forgets_in, forgets_too_many, is_forgetting, is_held, knows, serves};
 
-use crate::held::{HeldBody, HeldRequest};
-use crate::nodes::Nodes;
-use crate::server::{Server, ServerFault};
-use bitflags::Flags;
-use fk_wire::{InitFlags, Pairs, Request, RequestBody, read_request};
+use crate::holding::held_request;
+use crate::interrupting::took;
+use crate::server::{Server, ServerFault, Took};
+use fk_wire::{Pairs, Request, RequestBody, read_request};
+use fs_files::{Files, Nodes};
 use fs_nodes::NodeStore;
 use fuse_spec::Taken;
-use std::alloc::{AllocError, Allocator};
+use std::alloc::Allocator;
 
 impl<A: Allocator + Copy> Server<A> {
-    /// Takes a request frame: forgets are done at once, and any other request is held until it is performed. Forgets take no memory.
+    /// Takes a request frame: forgets and INTERRUPTs are done at once, and any other request is held until it is performed. Forgets
+    /// take no memory.
     ///
     /// # Errors
     ///
-    /// The first of `Wire`, `UnknownNode`, `TooManyForgets`, `RepeatedUnique` and `Memory` that applies; the server is as before.
-    /// So far INIT, LOOKUP, GETATTR, MKDIR, FORGET and BATCH_FORGET are served.
-    pub fn take(&mut self, bytes: &[u8]) -> Result<(u64, Taken), ServerFault>
+    /// The first of `Wire`, `UnknownNode`, `TooManyForgets`, `RepeatedUnique`, `Exhausted` and `Memory` that applies; the server is as
+    /// before.
+    pub fn take(&mut self, bytes: &[u8]) -> Result<Took<A>, ServerFault>
         ensures refused { OnErr result (self.new ≡ self.old) }
-        ensures effect { MatchResult result (λ taken. TakesFrame self.old bytes.now taken.0 taken.1 self.new) (RefusesFrame self.old bytes.now) }
+        ensures effect { MatchResult result (λ took. TakesFrame self.old bytes.now took self.new) (RefusesFrame self.old bytes.now) }
     {
+        self.within();
         let Ok(request) = read_request(bytes) else {
             return Err(ServerFault::Wire);
         };
         if let Some(fault) = self.request_fault(&request) {
             return Err(fault);
         }
-        let unique = request.unique;
         if is_forget(&request.body) {
-            forget(&mut self.nodes, request.nodeid, &request.body);
-            return Ok((unique, Taken::Forgot));
+            self.forget(&request);
+            return Ok(took(request.unique, Taken::Forgot));
         }
+        match request.body {
+            RequestBody::Interrupt { unique: original } => {
+                self.interrupt(request.unique, original)
+            }
+            _ => self.hold(&request),
+        }
+    }
+
+    /// Holds a request until it is performed.
+    fn hold(&mut self, request: &Request<'_>) -> Result<Took<A>, ServerFault>
+        requires faultless { IsFaultless self.old request.now.unique request.now.nodeid (request_content request.now.body) }
+        requires holds { is_held (request_content request.now.body) ≡ true }
+        ensures refused { OnErr result (self.new ≡ self.old) }
+        ensures fault { IfErr result (λ fault. fault ≡ MemoryFault) }
+        ensures took { IfOk result (λ took. took ≡ record { unique = request.now.unique; word = HeldWord; copy = None }) }
+        ensures held { OnOk result (self.new ≡ holding self.old request.now.unique (body_of request.now.nodeid (request_content request.now.body))) }
+    {
         let Ok(()) = self.held.reserve(1) else {
             return Err(ServerFault::Memory);
         };
-        let Ok(held) = held_request(self.alloc, &self.nodes, &request) else {
+        let Ok(held) = held_request(self.alloc, self.files.nodes(), request) else {
             return Err(ServerFault::Memory);
         };
-        self.held.put(unique, held);
-        Ok((unique, Taken::Held))
+        self.held.put(request.unique, held);
+        Ok(took(request.unique, Taken::Held))
     }
 
-    /// What is wrong with a request, want of memory aside.
+    /// Gives the lookups back that a FORGET or a BATCH_FORGET tells. Nameless files that nothing holds then go.
+    fn forget(&mut self, request: &Request<'_>)
+        requires { forgets_too_many self.old.nodes request.now.nodeid (request_content request.now.body) ≡ false }
+        ensures { self.new ≡ forgetting self.old (forgets_in request.now.nodeid (request_content request.now.body)) }
+    {
+        forget(&mut self.files, request.nodeid, &request.body);
+    }
+
+    /// What is wrong with a request, want of memory and of a number aside.
     fn request_fault(&self, request: &Request<'_>) -> Option<ServerFault>
         ensures fault { result ≡ request_fault self.now request.now.unique (body_in request.now.nodeid (request_content request.now.body)) }
         ensures faultless { IfNone result (IsFaultless self.now request.now.unique request.now.nodeid (request_content request.now.body)) }
@@ -59,10 +87,10 @@ impl<A: Allocator + Copy> Server<A> {
         if !is_served(&request.body) {
             return Some(ServerFault::Wire);
         }
-        if !names_known(&self.nodes, request.nodeid, &request.body) {
+        if !names_known(self.files.nodes(), request.nodeid, &request.body) {
             return Some(ServerFault::UnknownNode);
         }
-        if forgets_too_many(&self.nodes, request.nodeid, &request.body) {
+        if forgets_too_many(self.files.nodes(), request.nodeid, &request.body) {
             return Some(ServerFault::TooManyForgets);
         }
         if self.has_unique(request.unique) {
@@ -83,19 +111,11 @@ impl<A: Allocator + Copy> Server<A> {
     }
 }
 
-/// Whether a request is served so far.
+/// Whether a request is served: READDIRPLUS is not so far.
 fn is_served(body: &RequestBody<'_>) -> bool
     ensures { result ≡ serves (request_content body.now) }
 {
-    matches!(
-        body,
-        RequestBody::Init { .. }
-            | RequestBody::Lookup { .. }
-            | RequestBody::Getattr
-            | RequestBody::Mkdir { .. }
-            | RequestBody::Forget { .. }
-            | RequestBody::BatchForget { .. }
-    )
+    !matches!(body, RequestBody::Readdirplus { .. })
 }
 
 /// Whether a request gives lookups back.
@@ -113,12 +133,14 @@ fn names_known<S: NodeStore>(nodes: &Nodes<S>, nodeid: u64, body: &RequestBody<'
     ensures { result ≡ knows nodes.now.table nodeid (request_content body.now) }
 {
     match body {
-        RequestBody::Lookup { .. } | RequestBody::Getattr | RequestBody::Mkdir { .. } => {
-            nodes.is_known(nodeid)
-        }
         RequestBody::Forget { .. } => nodes.is_counted(nodeid),
         RequestBody::BatchForget { pairs } => are_counted(nodes, *pairs),
-        _ => true,
+        RequestBody::Init { .. } | RequestBody::Interrupt { .. } => true,
+        RequestBody::Rename { newdir, .. } => nodes.is_known(nodeid) && nodes.is_known(*newdir),
+        RequestBody::Link { oldnodeid, .. } => {
+            nodes.is_known(nodeid) && nodes.is_known(*oldnodeid)
+        }
+        _ => nodes.is_known(nodeid),
     }
 }
 
@@ -173,52 +195,37 @@ fn has_fewer(count: u64, node: u64, pairs: Pairs<'_>) -> bool
     false
 }
 
-/// Gives the lookups back that a FORGET or a BATCH_FORGET tells; each node has as many.
-fn forget<S: NodeStore>(nodes: &mut Nodes<S>, nodeid: u64, body: &RequestBody<'_>)
-    requires { forgets_too_many nodes.old.table nodeid (request_content body.now) ≡ false }
-    ensures { nodes.new.table ≡ rows_forgotten nodes.old.table nodeid (request_content body.now) }
+/// The same of the files that are served; each node has as many lookups.
+fn forget<A: Allocator + Copy>(files: &mut Files<A>, nodeid: u64, body: &RequestBody<'_>)
+    requires { forgets_too_many files.old.nodes nodeid (request_content body.now) ≡ false }
+    ensures { Forgets files.old (forgets_in nodeid (request_content body.now)) files.new }
+{
+    take_back(files, nodeid, body);
+    files.discard_unheld();
+}
+
+/// Gives the lookups back that a request tells; each node has as many.
+fn take_back<A: Allocator + Copy>(files: &mut Files<A>, nodeid: u64, body: &RequestBody<'_>)
+    requires { forgets_too_many files.old.nodes nodeid (request_content body.now) ≡ false }
+    ensures tree { files.new.tree ≡ files.old.tree }
+    ensures nodes { files.new.nodes ≡ all_taken_back files.old.nodes (forgets_in nodeid (request_content body.now)) }
+    ensures handles { files.new.handles ≡ files.old.handles }
 {
     match body {
-        RequestBody::Forget { nlookup } => nodes.take_back(nodeid, *nlookup),
-        RequestBody::BatchForget { pairs } => forget_all(nodes, *pairs),
+        RequestBody::Forget { nlookup } => files.take_back(nodeid, *nlookup),
+        RequestBody::BatchForget { pairs } => forget_all(files, *pairs),
         _ => {}
     }
 }
 
 /// Gives lookups back, pair by pair.
-fn forget_all<S: NodeStore>(nodes: &mut Nodes<S>, pairs: Pairs<'_>)
-    requires { list_any (λ f. nat_lt (count_in (get nodes.old.table.rows f.0)) (forgotten f.0 (pairs_in pairs))) (pairs_in pairs) ≡ false }
-    ensures { nodes.new.table ≡ all_taken_back nodes.old.table (pairs_in pairs.entry) }
+fn forget_all<A: Allocator + Copy>(files: &mut Files<A>, pairs: Pairs<'_>)
+    requires { list_any (λ f. nat_lt (count_in (get files.old.nodes.rows f.0)) (forgotten f.0 (pairs_in pairs))) (pairs_in pairs) ≡ false }
+    ensures tree { files.new.tree ≡ files.old.tree }
+    ensures nodes { files.new.nodes ≡ all_taken_back files.old.nodes (pairs_in pairs.entry) }
+    ensures handles { files.new.handles ≡ files.old.handles }
 {
     'pairs: for (nodeid, nlookup) in pairs {
-        nodes.take_back(nodeid, nlookup);
+        files.take_back(nodeid, nlookup);
     }
-}
-
-/// What is held for a request that is served and gives no lookups back: the nodes that it names have the generations of this time.
-fn held_request<A: Allocator + Copy, S: NodeStore>(
-    alloc: A,
-    nodes: &Nodes<S>,
-    request: &Request<'_>,
-) -> Result<HeldRequest<A>, AllocError>
-    ensures { IfOk result (λ held. held ≡ held_for nodes.now.table request.now.nodeid (request_content request.now.body)) }
-{
-    let body = match request.body {
-        RequestBody::Lookup { name } => HeldBody::Lookup {
-            directory: nodes.named(request.nodeid),
-            name: name.to_vec(alloc)?,
-        },
-        RequestBody::Getattr => HeldBody::Getattr {
-            node: nodes.named(request.nodeid),
-        },
-        RequestBody::Mkdir { name } => HeldBody::Mkdir {
-            directory: nodes.named(request.nodeid),
-            name: name.to_vec(alloc)?,
-        },
-        RequestBody::Init { flags, .. } => HeldBody::Init { flags },
-        _ => HeldBody::Init {
-            flags: InitFlags::empty(),
-        },
-    };
-    Ok(HeldRequest::new(body))
 }

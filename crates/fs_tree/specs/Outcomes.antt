@@ -1,5 +1,5 @@
 -- What a call of the tree answers, said with the operations of `fuse_spec`.
-use Rattle.std.specs.Prelude.{◌≡◌, ℕ, Bool, true, false, ◌&&◌, List, [], ◌∷◌, not, filter, Option, Some, None, MatchOption, cond}
+use Rattle.std.specs.Prelude.{◌≡◌, ℕ, Bool, true, false, ◌&&◌, ◌||◌, List, [], ◌∷◌, not, filter, Option, Some, None, MatchOption, cond}
 use Rattle.fuse_spec.specs.declared.Validity.{Validity}
 use Rattle.fuse_spec.specs.declared.Kind.{Kind}
 use Rattle.fuse_spec.specs.declared.Kind.TheVariants.{Directory, Regular, Other}
@@ -72,6 +72,10 @@ discarded tree file = record tree { files = cond (is_nameless tree file) (remove
 -- The tree without its nameless files.
 abbrev pub without_nameless : Tree → Tree
 without_nameless tree = record tree { files = filter (λ e. not (is_nameless tree e.0)) tree.files }
+
+-- The tree without its nameless files that aren't held.
+abbrev pub without_unheld : (ℕ → Bool) → Tree → Tree
+without_unheld holds tree = record tree { files = filter (λ e. not (is_nameless tree e.0) || holds e.0) tree.files }
 
 -- What refuses to replace a file by another one.
 abbrev pub replacing : Tree → Option ℕ → Option ℕ → List Check

@@ -71,7 +71,7 @@ impl<A: Allocator + Copy> Tree<A> {
 }
 
 /// Whether so many bytes from an offset on lie within the largest file.
-fn fits(offset: u64, len: usize) -> bool
+pub(crate) fn fits(offset: u64, len: usize) -> bool
     ensures { (result ≡ true) ↔ (offset + len ≤ 65536) }
 {
     offset <= MOST_BYTES && len as u64 <= MOST_BYTES - offset

@@ -2,13 +2,14 @@
 
 ghost use Rattle.std.specs.Prelude.{◌≡◌, ◌≢◌, ◌+◌, ◌^◌, ◌<◌, ◌≤◌, IfOk, IfErr, OnOk, OnErr, None};
 ghost use Rattle.fuse_spec.specs.Operations.{mkdir, create, unlink, rmdir, link, rename};
-ghost use Rattle.fuse_spec.specs.Trees.{with_birth};
+ghost use Rattle.fuse_spec.specs.Trees.{file_at, with_birth};
 ghost use Rattle.fuse_spec.specs.FileOperations.{refusal, tree_unrefused, is_same};
-ghost use Rattle.fs_tree.specs.Outcomes.{IsRefused, IsRefusedBy, discarded, without_nameless};
+ghost use Rattle.fs_tree.specs.Outcomes.{IsRefused, IsRefusedBy, discarded, without_nameless, without_unheld};
 ghost use Rattle.fs_tree.specs.Views.{content_in};
 
 use crate::error::TreeError;
 use crate::files::Content;
+use crate::holders::Holders;
 use crate::tree::Tree;
 use std::alloc::{AllocError, Allocator};
 
@@ -134,6 +135,14 @@ impl<A: Allocator + Copy> Tree<A> {
         Ok(())
     }
 
+    /// Whether two names lead to one file.
+    pub fn are_same(&self, directory: u64, name: &[u8], other_directory: u64, other: &[u8]) -> bool
+        ensures { result ≡ is_same (file_at self.now directory name.now) (file_at self.now other_directory other.now) }
+    {
+        let file = self.names.file_at(directory, name);
+        is_same(file, self.names.file_at(other_directory, other))
+    }
+
     /// Takes a file out of the tree, if it is nameless. No memory is taken.
     pub fn discard(&mut self, file: u64)
         ensures { self.new ≡ discarded self.old file }
@@ -149,6 +158,14 @@ impl<A: Allocator + Copy> Tree<A> {
         ensures { self.new ≡ without_nameless self.old }
     {
         self.files.retain_named(&self.names);
+        self.names.forget_empty();
+    }
+
+    /// Takes all nameless files out of the tree that are not held. No memory is taken.
+    pub fn discard_unheld<H: Holders>(&mut self, holders: &H)
+        ensures { self.new ≡ without_unheld (H.holding holders.now) self.old }
+    {
+        self.files.retain_held(&self.names, holders);
         self.names.forget_empty();
     }
 }

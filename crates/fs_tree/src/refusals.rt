@@ -1,12 +1,13 @@
 //! The first refusal that applies to an operation, if any.
 
 ghost use Rattle.std.specs.Prelude.{◌≡◌, ◌<◌, IfNone, length, find, Some, None};
-ghost use Rattle.fuse_spec.specs.Operations.{mkdir, unlink, rmdir, link, rename};
+ghost use Rattle.fuse_spec.specs.Operations.{mkdir, unlink, rmdir, link, rename, write};
 ghost use Rattle.fuse_spec.specs.FileOperations.{refusal, first_refusal, making};
 ghost use Rattle.fuse_spec.specs.Trees.{is_at};
 ghost use Rattle.fs_tree.specs.Outcomes.{Refuses, replacing};
 
 use crate::MOST_NAMES;
+use crate::bytes::fits;
 use crate::error::TreeError;
 use crate::tree::Tree;
 use std::alloc::Allocator;
@@ -62,7 +63,7 @@ impl<A: Allocator + Copy> Tree<A> {
     }
 
     /// The refusal of unlink.
-    pub(crate) fn refusal_of_unlink(&self, directory: u64, name: &[u8]) -> Option<TreeError>
+    pub fn refusal_of_unlink(&self, directory: u64, name: &[u8]) -> Option<TreeError>
         ensures { Refuses (refusal self.now (unlink directory name.now)) result }
     {
         if !self.is_directory(directory) {
@@ -76,7 +77,7 @@ impl<A: Allocator + Copy> Tree<A> {
     }
 
     /// The refusal of rmdir.
-    pub(crate) fn refusal_of_rmdir(&self, directory: u64, name: &[u8]) -> Option<TreeError>
+    pub fn refusal_of_rmdir(&self, directory: u64, name: &[u8]) -> Option<TreeError>
         ensures { Refuses (refusal self.now (rmdir directory name.now)) result }
     {
         if !self.is_directory(directory) {
@@ -87,6 +88,17 @@ impl<A: Allocator + Copy> Tree<A> {
             Some(file) if !self.is_directory(file) => Some(TreeError::NotADirectory),
             Some(file) if !self.names.is_empty(file) => Some(TreeError::NotEmpty),
             Some(_) => None,
+        }
+    }
+
+    /// The refusal of write: EFBIG past 65,536 bytes.
+    pub fn refusal_of_write(&self, file: u64, offset: u64, bytes: &[u8]) -> Option<TreeError>
+        ensures { Refuses (refusal self.now (write file offset bytes.now)) result }
+    {
+        if fits(offset, bytes.len()) {
+            None
+        } else {
+            Some(TreeError::FileTooLarge)
         }
     }
 

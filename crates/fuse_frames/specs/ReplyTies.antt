@@ -10,7 +10,7 @@ use Rattle.fk_wire.specs.Fields.{sizes}
 use Rattle.fk_wire.specs.Replies.{ReplyContent, empty_reply, entry_reply, attr_reply, open_reply, bytes_reply, write_reply, init_reply, create_reply, records_reply, plus_reply, ReplyMessage, GoesWith, SpellsReply, WrittenReply, IsErrorNumber, IsReplyContent, HasReplyNames, kind_of_content, knows_kind, reply_body}
 use Rattle.fk_wire.specs.Opcodes.{served}
 use Rattle.fk_wire.specs.Decoded.{decoded_reply}
-use Rattle.fuse_spec.specs.Numbers.{max_validity}
+use Rattle.fuse_spec.specs.Numbers.{max_transfer, max_validity}
 use Rattle.fuse_spec.specs.Operations as reply
 use Rattle.fuse_spec.specs.Operations.{Dirent}
 use Rattle.fuse_spec.specs.declared.Kind.{Kind}
@@ -85,22 +85,6 @@ wire_in o bytes = wire_said (decoded_reply o bytes).error (decoded_reply o bytes
 unfoldable pub unique_in : Opcode → List ℕ → ℕ
 unique_in o bytes = (decoded_reply o bytes).unique
 
--- The opcodes whose replies have an entry alone.
-abbrev pub has_entry_reply : Opcode → Bool
-has_entry_reply op.Lookup = true
-has_entry_reply op.Mkdir = true
-has_entry_reply op.Link = true
-has_entry_reply o = false
-
--- The opcodes whose replies have no body.
-abbrev pub has_empty_reply : Opcode → Bool
-has_empty_reply op.Unlink = true
-has_empty_reply op.Rmdir = true
-has_empty_reply op.Rename = true
-has_empty_reply op.Release = true
-has_empty_reply op.Interrupt = true
-has_empty_reply o = false
-
 -- The opcodes that are replied to. READDIRPLUS is not served yet.
 abbrev pub has_reply : Opcode → Bool
 has_reply op.Forget = false
@@ -112,10 +96,14 @@ has_reply o = true
 abbrev pub reply_room : ℕ
 reply_room = 160
 
--- A reply that can be written, and that room for a reply of a fixed length holds.
+-- How many bytes the longest reply has, which is that to a READ: a header, and as many bytes as one read gives.
+abbrev pub most_room : ℕ
+most_room = 16 + max_transfer
+
+-- A reply that can be written.
 pub record FitsRoom (m : ReplyMessage) : Type 0 where
   pub error : IsErrorNumber m.error
   pub entries : IsReplyContent m.content
   pub nameless : HasReplyNames m.content
   pub served_so : IsTrue (knows_kind served (kind_of_content m.content))
-  pub short : 16 + sizes (reply_body m.content) ≤ reply_room
+  pub short : 16 + sizes (reply_body m.content) ≤ most_room

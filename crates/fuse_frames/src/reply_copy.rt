@@ -1,14 +1,15 @@
 //! Copies of replies in their frames.
 
-ghost use Rattle.std.specs.Prelude.{◌≡◌, ◌≤◌, ℕ, IfOk, [], true, vec_capacity};
+ghost use Rattle.std.specs.Prelude.{◌≡◌, ◌≤◌, ◌+◌, ℕ, IfOk, [], true, vec_capacity};
+ghost use Rattle.fk_wire.specs.Fields.{sizes};
 ghost use Rattle.fk_wire.specs.Opcodes.{served};
-ghost use Rattle.fk_wire.specs.Replies.{GoesWith, reply_message, reply_content};
+ghost use Rattle.fk_wire.specs.Replies.{GoesWith, reply_body, reply_message, reply_content};
 ghost use Rattle.fuse_spec.specs.Messages.{asks};
 ghost use Rattle.fuse_spec.specs.Numbers.{max_validity};
 ghost use Rattle.fuse_spec.specs.Operations as reply;
 ghost use Rattle.fuse_spec.specs.Operations.{Operation};
 ghost use Rattle.fuse_spec.specs.Replies.{goes_with, is_init_reply, is_empty_reply};
-ghost use Rattle.fuse_frames.specs.ReplyTies.{SaysReply, IsReplyFrame, FitsRoom, reply_room, wire_said};
+ghost use Rattle.fuse_frames.specs.ReplyTies.{SaysReply, IsReplyFrame, FitsRoom, wire_said};
 ghost use Rattle.fuse_frames.specs.RequestTies.{asked_opcode};
 
 use crate::reply_room::ReplyRoom;
@@ -77,7 +78,7 @@ impl<A: Allocator> ReplyCopy<A> {
         reply: &Reply<'_>,
     ) -> ReplyCopy<A>
         requires empty { bytes.items ≡ [] }
-        requires room { reply_room ≤ vec_capacity bytes }
+        requires room { 16 + sizes (reply_body (reply_content reply.now.body)) ≤ vec_capacity bytes }
         requires goes { GoesWith served opcode (reply_message reply.now) }
         requires fits { FitsRoom (reply_message reply.now) }
         ensures { result ≡ record { number = number; unique = reply.now.unique; wire = wire_said reply.now.error (reply_content reply.now.body) } }
@@ -100,7 +101,7 @@ impl<A: Allocator> ReplyCopy<A> {
     ) -> Result<ReplyCopy<A>, AllocError>
         ensures { IfOk result (λ copy. copy ≡ record { number = number; unique = unique; wire = reply.agreed 7 31 }) }
     {
-        Ok(ReplyRoom::new(alloc)?.agreed(number, unique, flags))
+        Ok(ReplyRoom::new(alloc, 0)?.agreed(number, unique, flags))
     }
 
     /// The answer to a LOOKUP that found nothing, in memory of its own (`ReplyRoom::missing`).
@@ -113,7 +114,7 @@ impl<A: Allocator> ReplyCopy<A> {
         requires { missing_ms ≤ max_validity }
         ensures { IfOk result (λ copy. copy ≡ record { number = number; unique = unique; wire = reply.missing missing_ms }) }
     {
-        Ok(ReplyRoom::new(alloc)?.missing(number, unique, missing_ms))
+        Ok(ReplyRoom::new(alloc, 0)?.missing(number, unique, missing_ms))
     }
 
     /// The answer to GETATTR, in memory of its own (`ReplyRoom::attributes`).
@@ -125,6 +126,6 @@ impl<A: Allocator> ReplyCopy<A> {
     ) -> Result<ReplyCopy<A>, AllocError>
         ensures { IfOk result (λ copy. copy ≡ record { number = number; unique = unique; wire = reply.attributes attributes.now }) }
     {
-        Ok(ReplyRoom::new(alloc)?.attributes(number, unique, attributes))
+        Ok(ReplyRoom::new(alloc, 0)?.attributes(number, unique, attributes))
     }
 }

@@ -1,33 +1,50 @@
 //! Room for one reply.
 
-ghost use Rattle.std.specs.Prelude.{◌≡◌, ◌≢◌, ◌≤◌, IsTrue, pos, negsuc, ◌-◌, Some, [], vec_capacity};
+ghost use Rattle.std.specs.Prelude.{◌≡◌, ◌≢◌, ◌≤◌, ◌+◌, pos, negsuc, ◌-◌, Some, IfOk, length, map};
+ghost use Rattle.fk_wire.specs.Dirents.{dirents};
+ghost use Rattle.fk_wire.specs.Fields.{sizes};
 ghost use Rattle.fk_wire.specs.Opcodes.{served};
-ghost use Rattle.fk_wire.specs.Replies.{reply_content, kind_of_content, reply_kind};
-ghost use Rattle.fuse_spec.specs.Numbers.{max_validity};
+ghost use Rattle.fk_wire.specs.Records.{records_in};
+ghost use Rattle.fk_wire.specs.Replies.{reply_body, reply_content, kind_of_content, reply_kind};
+ghost use Rattle.fuse_spec.specs.Numbers.{max_transfer, max_validity};
 ghost use Rattle.fuse_spec.specs.Operations as reply;
-ghost use Rattle.fuse_frames.specs.ReplyTies.{FitsRoom, has_entry_reply, has_empty_reply, has_reply, reply_room, wire_body, attributes_in};
+ghost use Rattle.fuse_frames.specs.ReplyTies.{FitsRoom, wire_body, attributes_in, dirent_in};
 ghost use Rattle.fuse_frames.specs.ReplyTies.{milliseconds as milliseconds_in};
 
 use crate::reply_copy::ReplyCopy;
-use fk_wire::{Attr, InitFlags, Opcode, Reply, ReplyBody};
+use fk_wire::{Attr, InitFlags, Opcode, Records, Reply, ReplyBody};
 use fuse_spec::{Attributes, Entry, Kind};
 use std::alloc::{AllocError, Allocator, Global};
+use std::marker::Model;
 
 /// How many bytes the longest reply of a fixed length has, which is CREATE's.
 const ROOM: usize = 160;
 
-/// Room for one reply of a fixed length: a server takes it first, then changes its state, and then writes the reply, which cannot fail.
+/// Room for one reply, seen as how many bytes it holds: a server takes it first, then changes its state, and then writes the reply,
+/// which cannot fail. Any reply of a fixed length has room.
 #[derive(Drop)]
 pub struct ReplyRoom<A: Allocator = Global> {
     bytes: Vec<u8, A>,
-    ghost empty: { bytes.items ≡ [] },
-    ghost roomy: { reply_room ≤ vec_capacity bytes },
+}
+
+impl<A: Allocator> Model for ReplyRoom<A> {
+    ghost use Rattle.std.specs.Prelude.{◌≡◌, ◌≤◌, ℕ, [], vec_capacity};
+    ghost use Rattle.fuse_frames.specs.ReplyTies.{reply_room};
+
+    ghost Value = { ℕ };
+
+    ghost view = { λ r. vec_capacity r.bytes };
+
+    ghost invariant = { λ r. (r.bytes.items ≡ []) × (reply_room ≤ vec_capacity r.bytes) };
 }
 
 impl<A: Allocator> ReplyRoom<A> {
-    /// Takes the memory.
-    pub fn new(alloc: A) -> Result<ReplyRoom<A>, AllocError> {
-        let bytes = Vec::with_capacity(alloc, ROOM)?;
+    /// Takes the memory for a reply of a fixed length, and for one whose body is this long.
+    pub fn new(alloc: A, len: usize) -> Result<ReplyRoom<A>, AllocError>
+        requires { len ≤ max_transfer }
+        ensures { IfOk result (λ room. 16 + len ≤ room) }
+    {
+        let bytes = Vec::with_capacity(alloc, ROOM.max(16 + len))?;
         Ok(ReplyRoom { bytes })
     }
 
@@ -35,6 +52,7 @@ impl<A: Allocator> ReplyRoom<A> {
     fn said(self, number: u64, unique: u64, opcode: Opcode, body: ReplyBody<'_>) -> ReplyCopy<A>
         requires goes { reply_kind served opcode ≡ Some (kind_of_content (reply_content body)) }
         requires fits { FitsRoom (record { unique = unique; error = pos 0; content = reply_content body }) }
+        requires room { 16 + sizes (reply_body (reply_content body)) ≤ self }
         ensures { result ≡ record { number = number; unique = unique; wire = wire_body (reply_content body.entry) } }
     {
         let reply = Reply {
@@ -67,21 +85,73 @@ impl<A: Allocator> ReplyRoom<A> {
     }
 
     /// The answer to a LOOKUP, MKDIR or LINK: the name leads to this node for so many milliseconds, at most a day.
-    pub fn found(
-        self,
-        number: u64,
-        unique: u64,
-        opcode: Opcode,
-        entry: &Entry,
-        found_ms: u64,
-    ) -> ReplyCopy<A>
-        requires goes { IsTrue (has_entry_reply opcode) }
+    pub fn found(self, number: u64, unique: u64, entry: &Entry, found_ms: u64) -> ReplyCopy<A>
         requires node { entry.now.nodeid ≢ 0 }
         requires valid { found_ms ≤ max_validity }
         ensures { result ≡ record { number = number; unique = unique; wire = reply.found entry.now found_ms } }
     {
         let entry = entry_of(entry, found_ms);
-        self.said(number, unique, opcode, ReplyBody::Entry { entry })
+        self.said(number, unique, Opcode::Lookup, ReplyBody::Entry { entry })
+    }
+
+    /// The answer to CREATE: the new name leads to this node, which is open under a number.
+    pub fn created(
+        self,
+        number: u64,
+        unique: u64,
+        entry: &Entry,
+        found_ms: u64,
+        fh: u64,
+    ) -> ReplyCopy<A>
+        requires node { entry.now.nodeid ≢ 0 }
+        requires valid { found_ms ≤ max_validity }
+        ensures { result ≡ record { number = number; unique = unique; wire = reply.created entry.now found_ms fh } }
+    {
+        let entry = entry_of(entry, found_ms);
+        self.said(
+            number,
+            unique,
+            Opcode::Create,
+            ReplyBody::Create { entry, fh },
+        )
+    }
+
+    /// The answer to OPEN: the node is open under a number.
+    pub fn opened(self, number: u64, unique: u64, fh: u64) -> ReplyCopy<A>
+        ensures { result ≡ record { number = number; unique = unique; wire = reply.opened fh } }
+    {
+        self.said(number, unique, Opcode::Open, ReplyBody::Open { fh })
+    }
+
+    /// The answer to READ: the bytes, for which there is room.
+    pub fn content(self, number: u64, unique: u64, bytes: &[u8]) -> ReplyCopy<A>
+        requires room { 16 + length bytes.now ≤ self }
+        requires most { length bytes.now ≤ max_transfer }
+        ensures { result ≡ record { number = number; unique = unique; wire = reply.content bytes.now } }
+    {
+        self.said(number, unique, Opcode::Read, ReplyBody::Bytes { bytes })
+    }
+
+    /// The answer to READDIR: the records, for which there is room.
+    #[tactic(auto, using(fk_wire::proofs::RecordLists::records_are_named))]
+    pub fn listed(self, number: u64, unique: u64, records: Records<'_>) -> ReplyCopy<A>
+        requires room { 16 + sizes (dirents (records_in records)) ≤ self }
+        requires most { sizes (dirents (records_in records)) ≤ max_transfer }
+        ensures { result ≡ record { number = number; unique = unique; wire = reply.listed (map dirent_in (records_in records.entry)) } }
+    {
+        self.said(
+            number,
+            unique,
+            Opcode::Readdir,
+            ReplyBody::Records { records },
+        )
+    }
+
+    /// The answer to WRITE: how many bytes were written.
+    pub fn written(self, number: u64, unique: u64, size: u32) -> ReplyCopy<A>
+        ensures { result ≡ record { number = number; unique = unique; wire = reply.written size } }
+    {
+        self.said(number, unique, Opcode::Write, ReplyBody::Write { size })
     }
 
     /// The answer to GETATTR.
@@ -93,16 +163,14 @@ impl<A: Allocator> ReplyRoom<A> {
     }
 
     /// The answer to UNLINK, RMDIR, RENAME, RELEASE or INTERRUPT: it is done.
-    pub fn done(self, number: u64, unique: u64, opcode: Opcode) -> ReplyCopy<A>
-        requires goes { IsTrue (has_empty_reply opcode) }
+    pub fn done(self, number: u64, unique: u64) -> ReplyCopy<A>
         ensures { result ≡ record { number = number; unique = unique; wire = reply.done } }
     {
-        self.said(number, unique, opcode, ReplyBody::Empty)
+        self.said(number, unique, Opcode::Release, ReplyBody::Empty)
     }
 
-    /// An error, from 1 to 511, to a request that has a reply.
-    pub fn failed(self, number: u64, unique: u64, opcode: Opcode, errno: u32) -> ReplyCopy<A>
-        requires goes { IsTrue (has_reply opcode) }
+    /// An error, from 1 to 511, to any request that has a reply.
+    pub fn failed(self, number: u64, unique: u64, errno: u32) -> ReplyCopy<A>
         requires some { 1 ≤ errno }
         requires most { errno ≤ 511 }
         ensures { result ≡ record { number = number; unique = unique; wire = reply.failed errno } }
@@ -112,7 +180,7 @@ impl<A: Allocator> ReplyRoom<A> {
             error: negated(errno),
             body: ReplyBody::Empty,
         };
-        ReplyCopy::written(number, opcode, self.bytes, &reply)
+        ReplyCopy::written(number, Opcode::Release, self.bytes, &reply)
     }
 }
 

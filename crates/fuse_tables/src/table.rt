@@ -121,6 +121,7 @@ impl<V: Drop, A: Allocator + Copy> Table<V, A> {
     pub fn remove(&mut self, key: u64) -> Option<V>
         ensures value { result ≡ value_at self.old.entries key }
         ensures entries { self.new.entries ≡ without_key self.old.entries key }
+        ensures sorted { T (is_sorted nat_cmp self.old.entries) }
         ensures room { (if is_some result then self.old.room + 1 else self.old.room) ≤ self.new.room }
     {
         let Some(place) = find_in(&self.rows, key) else {

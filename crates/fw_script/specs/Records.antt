@@ -93,6 +93,7 @@ outcome_line (outcome.Read unique opcode len) =
 outcome_line (outcome.Taken unique word) = codes "taken " ++ decimal unique ++ codes " " ++ taken_word word
 outcome_line (outcome.Done unique errno len) =
     codes "done " ++ decimal unique ++ codes " " ++ decimal errno ++ codes " " ++ decimal len
+outcome_line (outcome.Lost unique errno) = codes "done " ++ decimal unique ++ codes " " ++ decimal errno ++ codes " lost"
 outcome_line (outcome.SentAgain unique len) = codes "again " ++ decimal unique ++ codes " " ++ decimal len
 outcome_line (outcome.Written unique errno) = codes "written " ++ decimal unique ++ codes " " ++ decimal errno
 outcome_line (outcome.Settled unique errno) = codes "settled " ++ decimal unique ++ codes " " ++ decimal errno

@@ -73,6 +73,7 @@ impl fmt::Display for OutcomeLine {
             } => write!(f, "read {unique} {} {len}", opcode.name()),
             Outcome::Taken { unique, word } => write!(f, "taken {unique} {}", word_of_taken(word)),
             Outcome::Done { unique, errno, len } => write!(f, "done {unique} {errno} {len}"),
+            Outcome::Lost { unique, errno } => write!(f, "done {unique} {errno} lost"),
             Outcome::SentAgain { unique, len } => write!(f, "again {unique} {len}"),
             Outcome::Written { unique, errno } => write!(f, "written {unique} {errno}"),
             Outcome::Settled { unique, errno } => write!(f, "settled {unique} {errno}"),

@@ -3,6 +3,7 @@ use Rattle.std.proofs.Common.{◌≡◌, ◌≤◌, ℕ, ◌+◌, Bool, true, fa
 use Rattle.std.specs.List.{remove as without}
 use Rattle.std.proofs.lemmas.Bool.{le-ltb}
 use Rattle.std.proofs.lemmas.List.Elements.{All-nil, All-push}
+use Rattle.std.proofs.lemmas.Option.{none-some, same_Some}
 use Rattle.fuse_spec.specs.declared.Binding.{Binding}
 use Rattle.fuse_spec.specs.declared.Counted.{Counted}
 use Rattle.fuse_spec.specs.declared.ReplyResult.{ReplyResult}
@@ -13,14 +14,14 @@ use Rattle.fuse_spec.specs.Maps.{get, get_name, remove_name}
 use Rattle.fuse_spec.specs.Numbers.{max_validity}
 use Rattle.fuse_spec.specs.Operations as op
 use Rattle.fuse_spec.specs.Operations.{errno_of}
-use Rattle.fuse_spec.specs.Messages.{Forget, Request, RequestBody, init, asks, release, forget, batch_forget, interrupt}
+use Rattle.fuse_spec.specs.Messages.{Forget, Request, RequestBody, WireReply, init, asks, release, forget, batch_forget, interrupt}
 use Rattle.fuse_spec.specs.Kernel.{Kernel, call_begun, kernel_mounted, evicted}
 use Rattle.fuse_spec.specs.QueueCalls.{after_read_pending, first_forgets, after_read_forgets}
 use Rattle.fuse_spec.specs.Replies.{reply_written}
 use Rattle.fuse_spec.specs.Server.{Server}
 use Rattle.fuse_spec.specs.Copies.{remounted}
 use Rattle.fuse_spec.specs.Taking.{TakeResult, taking}
-use Rattle.fuse_spec.specs.Performs.{PerformResult}
+use Rattle.fuse_spec.specs.Performs.{PerformResult, served}
 use Rattle.fuse_spec.specs.Vfs.{later}
 use Rattle.fuse_spec.specs.Worlds as worlds
 use Rattle.fuse_spec.specs.Worlds.{World, Sent, replying, forget_body, after_mount, after_call, after_take, after_perform, after_again, after_write, after_settle, after_tick, after_drop, after_evict}
@@ -33,17 +34,18 @@ use Rattle.fuse_theorem.specs.Reached.{IsReached}
 use Rattle.fuse_theorem.proofs.ReachedWorlds.{reached_next}
 use Rattle.fuse_theorem.proofs.Queuing.{All-at, All-without}
 use Rattle.fk_kernel.specs.Refused.{mount_refusal, begin_refusal, read_refusal, IsPendingRequest, IsAskedSoFar}
-use Rattle.fs_server.specs.Effects.{is_served, TakesFrame, PerformsHeld, SendsAgain, Settles}
+use Rattle.fs_server.specs.Effects.{TakesFrame, PerformsHeld, SendsAgain, Settles, first_copy}
+use Rattle.fs_server.specs.declared.server.Took.{Took}
 use Rattle.fk_kernel.specs.RefusedUpkeep.{read_forgets_refusal, tick_refusal, drop_refusal, evict_refusal, IsForgetFrame}
-use Rattle.fw_world.specs.Sound.{IsSound}
+use Rattle.fw_world.specs.Sound.{IsSound, is_sent}
 use Rattle.fw_world.proofs.Parts.{world_of, is_made, happens_so}
 use Rattle.fw_world.proofs.Happening.{mounts, calls, reads, reads_forgets, takes, performs, sends_again, writes, settles, ticks, drops, evicts}
 
 pub day_at_most : (found_ms missing_ms : ℕ) → found_ms ≤ max_validity → missing_ms ≤ max_validity → nat_lt max_validity (max found_ms missing_ms) ≡ false
 day_at_most found_ms missing_ms f m = le-ltb max_validity (max found_ms missing_ms) (omega (arith, f, m))
 
--- Nothing is replied at once to a request that is served so far.
-no_reply : (s : Server) (unique : ℕ) (body : RequestBody) → is_served body ≡ true → (taking s unique body).reply ≡ None
+-- Nothing is replied at once to a request that is sent so far.
+no_reply : (s : Server) (unique : ℕ) (body : RequestBody) → is_sent body ≡ true → (taking s unique body).reply ≡ None
 no_reply s unique init e = refl
 no_reply s unique (asks operation) e = refl
 no_reply s unique (release o) e = refl
@@ -51,34 +53,43 @@ no_reply s unique (forget f) e = refl
 no_reply s unique (batch_forget fs) e = refl
 no_reply s unique (interrupt original) e = absurd (true≢false (sym e))
 
-forgets_served : (fs : List Forget) → is_served (forget_body fs) ≡ true
-forgets_served [] = refl
-forgets_served (f ∷ []) = refl
-forgets_served (f ∷ g ∷ fs) = refl
+forgets_sent : (fs : List Forget) → is_sent (forget_body fs) ≡ true
+forgets_sent [] = refl
+forgets_sent (f ∷ []) = refl
+forgets_sent (f ∷ g ∷ fs) = refl
 
--- The server serves so far what the kernel asks so far.
-pub asked_served : (body : RequestBody) → IsAskedSoFar body → is_served body ≡ true
-asked_served init h = refl
-asked_served (asks (op.lookup d name)) h = refl
-asked_served (asks (op.getattr x)) h = refl
-asked_served (asks (op.mkdir d name)) h = refl
-asked_served (asks (op.create d name)) h = absurd h
-asked_served (asks (op.unlink d name)) h = absurd h
-asked_served (asks (op.rmdir d name)) h = absurd h
-asked_served (asks (op.rename d old e new)) h = absurd h
-asked_served (asks (op.link x d name)) h = absurd h
-asked_served (asks (op.opening x)) h = absurd h
-asked_served (asks (op.readdir d after size)) h = absurd h
-asked_served (asks (op.read o offset size)) h = absurd h
-asked_served (asks (op.write o offset bytes)) h = absurd h
-asked_served (release o) h = absurd h
-asked_served (forget f) h = absurd h
-asked_served (batch_forget fs) h = absurd h
-asked_served (interrupt original) h = absurd h
+-- What the kernel asks so far is sent so far.
+pub asked_sent : (body : RequestBody) → IsAskedSoFar body → is_sent body ≡ true
+asked_sent init h = refl
+asked_sent (asks (op.lookup d name)) h = refl
+asked_sent (asks (op.getattr x)) h = refl
+asked_sent (asks (op.mkdir d name)) h = refl
+asked_sent (asks (op.create d name)) h = absurd h
+asked_sent (asks (op.unlink d name)) h = absurd h
+asked_sent (asks (op.rmdir d name)) h = absurd h
+asked_sent (asks (op.rename d old e new)) h = absurd h
+asked_sent (asks (op.link x d name)) h = absurd h
+asked_sent (asks (op.opening x)) h = absurd h
+asked_sent (asks (op.readdir d after size)) h = absurd h
+asked_sent (asks (op.read o offset size)) h = absurd h
+asked_sent (asks (op.write o offset bytes)) h = absurd h
+asked_sent (release o) h = absurd h
+asked_sent (forget f) h = absurd h
+asked_sent (batch_forget fs) h = absurd h
+asked_sent (interrupt original) h = absurd h
 
--- The request is one that is served so far.
-abbrev IsServed : Request → Type 0
-IsServed r = is_served r.body ≡ true
+-- The request is one that is sent so far.
+abbrev IsSent : Request → Type 0
+IsSent r = is_sent r.body ≡ true
+
+-- A reply has a first copy while the mount is not aborted, and has none after.
+has_copy : (aborted : Bool) (number unique : ℕ) (wire : WireReply) (copy : Sent) → Some copy ≡ first_copy aborted number unique wire → (aborted ≡ false) × (copy ≡ record { number = number; unique = unique; wire = wire })
+has_copy true number unique wire copy is = absurd (none-some copy (sym is))
+has_copy false number unique wire copy is = (refl, same_Some copy (record { number = number; unique = unique; wire = wire }) is)
+
+has_no_copy : (aborted : Bool) (number unique : ℕ) (wire : WireReply) → None ≡ first_copy aborted number unique wire → aborted ≡ true
+has_no_copy true number unique wire is = refl
+has_no_copy false number unique wire is = absurd (none-some (record { number = number; unique = unique; wire = wire }) is)
 
 module _ (w : World) (sound : IsSound w) (kernel : Kernel) (server : Server) (requests : List Request) (replies : List Sent) (results : List ReplyResult) where
   abbrev made : World
@@ -91,19 +102,19 @@ module _ (w : World) (sound : IsSound w) (kernel : Kernel) (server : Server) (re
   abbrev Within : Type 0
   Within = (x : World) → x.kernel ≡ kernel → x.server ≡ server → is_past x ≡ false
 
-  made_by : (e : Event) (o : Outcome) (after : World) → made ≡ after → Happens w e o after → All IsServed requests → Made e o
-  made_by e o after is happens served = (happens_so w e o after made is happens, record { reached = subst IsReached (sym is) (reached_next w sound.reached e o after happens); served = served })
+  made_by : (e : Event) (o : Outcome) (after : World) → made ≡ after → Happens w e o after → All IsSent requests → Made e o
+  made_by e o after is happens sent = (happens_so w e o after made is happens, record { reached = subst IsReached (sym is) (reached_next w sound.reached e o after happens); sent = sent })
 
   -- The same requests are on the link.
-  same_sent : requests ≡ w.requests → All IsServed requests
-  same_sent a = subst (All IsServed) (sym a) sound.served
+  same_sent : requests ≡ w.requests → All IsSent requests
+  same_sent a = subst (All IsSent) (sym a) sound.sent
 
   pub mounted : (found_ms missing_ms : ℕ) → found_ms ≤ max_validity → missing_ms ≤ max_validity → mount_refusal w.kernel ≡ None → kernel ≡ kernel_mounted w.kernel
       → server ≡ remounted w.server (record { found_ms = found_ms; missing_ms = missing_ms }) → requests ≡ [] → replies ≡ [] → results ≡ [] → Made (event.mount found_ms missing_ms) event.mounted
   mounted found_ms missing_ms f m judged k s a b c =
       let after = after_mount w found_ms missing_ms in
       made_by (event.mount found_ms missing_ms) event.mounted after (is_made after kernel server requests replies results k s a b c) (mounts w found_ms missing_ms (day_at_most found_ms missing_ms f m) judged)
-      (subst (All IsServed) (sym a) (All-nil IsServed))
+      (subst (All IsSent) (sym a) (All-nil IsSent))
 
   pub called : (call : Call) (number : ℕ) → begin_refusal w.kernel call ≡ None → number ≡ w.kernel.vfs.next_call → kernel ≡ call_begun w.kernel call → server ≡ w.server → requests ≡ w.requests → replies ≡ w.replies → results ≡ w.results → Within
       → Made (event.call call) (event.begun number)
@@ -118,7 +129,7 @@ module _ (w : World) (sound : IsSound w) (kernel : Kernel) (server : Server) (re
       let after = worlds.after_read_pending w place request.unique request.body in
       subst (λ (u : ℕ). Made (event.read_pending place) (event.is_read u)) (sym is)
       (made_by (event.read_pending place) (event.is_read request.unique) after (is_made after kernel server requests replies results k s a b c) (reads w place request judged pending (within after (sym k) (sym s)))
-      (subst (All IsServed) (sym a) (All-push IsServed w.requests request sound.served (asked_served request.body asked))))
+      (subst (All IsSent) (sym a) (All-push IsSent w.requests request sound.sent (asked_sent request.body asked))))
 
   pub forgets_read : (n unique : ℕ) (request : Request) → read_forgets_refusal w.kernel n ≡ None → IsForgetFrame w.kernel n request → unique ≡ request.unique → kernel ≡ record w.kernel { queues = after_read_forgets w.kernel.queues n } → server ≡ w.server
       → requests ≡ w.requests ++ request ∷ [] → replies ≡ w.replies → results ≡ w.results → Within → Made (event.read_forgets n) (event.is_read unique)
@@ -130,34 +141,50 @@ module _ (w : World) (sound : IsSound w) (kernel : Kernel) (server : Server) (re
       let sent : requests ≡ after.requests = a ∙ ap (λ (r : Request). w.requests ++ r ∷ []) frame.is in
       subst (λ (u : ℕ). Made (event.read_forgets n) (event.is_read u)) (sym (is ∙ number))
       (made_by (event.read_forgets n) (event.is_read w.kernel.queues.next) after (is_made after kernel server requests replies results k s sent b c) (reads_forgets w n forgets judged first (within after (sym k) (sym s)))
-      (subst (All IsServed) (sym sent) (All-push IsServed w.requests (record { unique = w.kernel.queues.next; body = forget_body forgets }) sound.served (forgets_served forgets))))
+      (subst (All IsSent) (sym sent) (All-push IsSent w.requests (record { unique = w.kernel.queues.next; body = forget_body forgets }) sound.sent (forgets_sent forgets))))
 
-  pub took : (place : ℕ) (request : Request) (bytes : List ℕ) (unique : ℕ) (word : Taken) → slice_get w.requests place ≡ Some request → IsRequestFrame bytes request → TakesFrame w.server bytes unique word server → kernel ≡ w.kernel
-      → requests ≡ without w.requests place → replies ≡ w.replies → results ≡ w.results → Within → Made (event.take place) (event.taken unique word)
-  took place request bytes unique word there frame takes_it k a b c within =
+  pub took : {A : Type 0} (place : ℕ) (request : Request) (bytes : List ℕ) (t : Took A) → slice_get w.requests place ≡ Some request → IsRequestFrame bytes request → TakesFrame w.server bytes t server → kernel ≡ w.kernel
+      → requests ≡ without w.requests place → replies ≡ w.replies → results ≡ w.results → Within → Made (event.take place) (event.taken t.unique t.word)
+  took place request bytes t there frame takes_it k a b c within =
       let same : takes_it.request ≡ request = sym (one_request bytes takes_it.request takes_it.says) ∙ one_request bytes request (frame_says bytes request frame) in
       let did : TakeResult = taking w.server request.unique request.body in
       let s : server ≡ did.server = takes_it.after ∙ ap (λ (r : Request). (taking w.server r.unique r.body).server) same in
       let plain : World = record w { requests = without w.requests place; server = did.server } in
-      let after_is : after_take w place request.unique did ≡ plain = ap (replying plain w.server.next_copy request.unique) (no_reply w.server request.unique request.body (All-at IsServed w.requests place request sound.served there)) in
+      let after_is : after_take w place request.unique did ≡ plain = ap (replying plain w.server.next_copy request.unique) (no_reply w.server request.unique request.body (All-at IsSent w.requests place request sound.sent there)) in
       let is : made ≡ after_take w place request.unique did = is_made plain kernel server requests replies results k s a b c ∙ sym after_is in
       let past = within (after_take w place request.unique did) (ap (λ (x : World). x.kernel) after_is ∙ sym k) (ap (λ (x : World). x.server) after_is ∙ sym s) in
-      let outcome_is : event.taken request.unique did.word ≡ event.taken unique word = (λ i. event.taken ((ap (λ (r : Request). r.unique) (sym same) ∙ takes_it.under) i) ((ap (λ (r : Request). (taking w.server r.unique r.body).word) (sym same) ∙ takes_it.as_word) i)) in
+      let outcome_is : event.taken request.unique did.word ≡ event.taken t.unique t.word = (λ i. event.taken ((ap (λ (r : Request). r.unique) (sym same) ∙ takes_it.under) i) ((ap (λ (r : Request). (taking w.server r.unique r.body).word) (sym same) ∙ takes_it.as_word) i)) in
       subst (Made (event.take place)) outcome_is
-      (made_by (event.take place) (event.taken request.unique did.word) (after_take w place request.unique did) is (takes w place request there past) (subst (All IsServed) (sym a) (All-without IsServed w.requests place sound.served)))
+      (made_by (event.take place) (event.taken request.unique did.word) (after_take w place request.unique did) is (takes w place request there past) (subst (All IsSent) (sym a) (All-without IsSent w.requests place sound.sent)))
 
-  pub performed : (unique errno : ℕ) (copy : Sent) → w.server.aborted ≡ false → PerformsHeld w.server unique errno copy server → kernel ≡ w.kernel → requests ≡ w.requests → replies ≡ w.replies ++ copy ∷ [] → results ≡ w.results → Within → Made (event.perform unique) (event.performed unique errno false)
-  performed unique errno copy serving does k a b c within =
-      let did : PerformResult = record { server = server; wire = copy.wire } in
-      let sent : Sent = record { number = w.server.next_copy; unique = unique; wire = copy.wire } in
-      let plain : World = record w { server = server; replies = w.replies ++ sent ∷ [] } in
-      let after_is : after_perform w unique did ≡ plain = ap (λ (x : Bool). replying (record w { server = server }) w.server.next_copy unique (cond x None (Some copy.wire))) serving in
-      let is : made ≡ after_perform w unique did = is_made plain kernel server requests replies results k refl a (b ∙ ap (λ (x : Sent). w.replies ++ x ∷ []) does.copy_is) c ∙ sym after_is in
-      let past = within (after_perform w unique did) (ap (λ (x : World). x.kernel) after_is ∙ sym k) (ap (λ (x : World). x.server) after_is) in
-      let outcome_is : event.performed unique (errno_of copy.wire) w.server.aborted ≡ event.performed unique errno false = (λ i. event.performed unique (sym does.errno_is i) (serving i)) in
+  pub performed : (unique errno : ℕ) (copy : Sent) → PerformsHeld w.server unique errno (Some copy) server → kernel ≡ w.kernel → requests ≡ w.requests → replies ≡ w.replies ++ copy ∷ [] → results ≡ w.results → Within → Made (event.perform unique) (event.performed unique errno false)
+  performed unique errno copy does k a b c within =
+      let did : PerformResult = served does.choice w.server unique does.held in
+      let first = has_copy w.server.aborted w.server.next_copy unique did.wire copy does.copy_is in
+      let serving = first.0 in
+      let sent : Sent = record { number = w.server.next_copy; unique = unique; wire = did.wire } in
+      let plain : World = record w { server = did.server; replies = w.replies ++ sent ∷ [] } in
+      let after_is : after_perform w unique did ≡ plain = ap (λ (x : Bool). replying (record w { server = did.server }) w.server.next_copy unique (cond x None (Some did.wire))) serving in
+      let is : made ≡ after_perform w unique did = is_made plain kernel server requests replies results k does.server_is a (b ∙ ap (λ (x : Sent). w.replies ++ x ∷ []) first.1) c ∙ sym after_is in
+      let past = within (after_perform w unique did) (ap (λ (x : World). x.kernel) after_is ∙ sym k) (ap (λ (x : World). x.server) after_is ∙ sym does.server_is) in
+      let outcome_is : event.performed unique (errno_of did.wire) w.server.aborted ≡ event.performed unique errno false = (λ i. event.performed unique (sym does.errno_is i) (serving i)) in
       let may = subst (MayChooseFor does.choice w) (sym does.there) does.may in
       subst (Made (event.perform unique)) outcome_is
-      (made_by (event.perform unique) (event.performed unique (errno_of copy.wire) w.server.aborted) (after_perform w unique did) is (performs does.choice w unique does.held does.there may did does.served_so past) (same_sent a))
+      (made_by (event.perform unique) (event.performed unique (errno_of did.wire) w.server.aborted) (after_perform w unique did) is (performs does.choice w unique does.held does.there may did refl past) (same_sent a))
+
+  -- The same after an abort, where no copy is sent.
+  pub lost : (unique errno : ℕ) → PerformsHeld w.server unique errno None server → kernel ≡ w.kernel → requests ≡ w.requests → replies ≡ w.replies → results ≡ w.results → Within → Made (event.perform unique) (event.performed unique errno true)
+  lost unique errno does k a b c within =
+      let did : PerformResult = served does.choice w.server unique does.held in
+      let gone = has_no_copy w.server.aborted w.server.next_copy unique did.wire does.copy_is in
+      let plain : World = record w { server = did.server } in
+      let after_is : after_perform w unique did ≡ plain = ap (λ (x : Bool). replying (record w { server = did.server }) w.server.next_copy unique (cond x None (Some did.wire))) gone in
+      let is : made ≡ after_perform w unique did = is_made plain kernel server requests replies results k does.server_is a b c ∙ sym after_is in
+      let past = within (after_perform w unique did) (ap (λ (x : World). x.kernel) after_is ∙ sym k) (ap (λ (x : World). x.server) after_is ∙ sym does.server_is) in
+      let outcome_is : event.performed unique (errno_of did.wire) w.server.aborted ≡ event.performed unique errno true = (λ i. event.performed unique (sym does.errno_is i) (gone i)) in
+      let may = subst (MayChooseFor does.choice w) (sym does.there) does.may in
+      subst (Made (event.perform unique)) outcome_is
+      (made_by (event.perform unique) (event.performed unique (errno_of did.wire) w.server.aborted) (after_perform w unique did) is (performs does.choice w unique does.held does.there may did refl past) (same_sent a))
 
   pub copied : (unique : ℕ) (copy : Sent) → SendsAgain w.server unique copy server → kernel ≡ w.kernel → requests ≡ w.requests → replies ≡ w.replies ++ copy ∷ [] → results ≡ w.results → Within → Made (event.again unique) (event.sent_again unique)
   copied unique copy does k a b c within =

@@ -15,8 +15,7 @@ use Rattle.fuse_spec.specs.Worlds.{World, Sent, first_world}
 use Rattle.fuse_spec.specs.Events.{Event, Outcome}
 use Rattle.fuse_spec.specs.Steps.{Happens}
 use Rattle.fuse_theorem.proofs.ReachedWorlds.{first_reached, handed_out_reached}
-use Rattle.fs_server.specs.Effects.{is_served}
-use Rattle.fw_world.specs.Sound.{IsSound}
+use Rattle.fw_world.specs.Sound.{IsSound, is_sent}
 
 -- the world of these parts
 abbrev pub world_of : Kernel → Server → List Request → List Sent → List ReplyResult → World
@@ -57,7 +56,7 @@ pub handed_out : {X : Type 0} (w : World) (kernel : Kernel) (o : Option (ℕ × 
     → IsSound w → IsSound (record w { kernel = kernel })
 handed_out w kernel None none some sound = subst (λ (k : Kernel). IsSound (record w { kernel = k })) (sym none) sound
 handed_out w kernel (Some r) none some sound =
-    subst (λ (k : Kernel). IsSound (record w { kernel = k })) (sym some) (record { reached = handed_out_reached w r.0 sound.reached; served = sound.served })
+    subst (λ (k : Kernel). IsSound (record w { kernel = k })) (sym some) (record { reached = handed_out_reached w r.0 sound.reached; sent = sound.sent })
 
 pub first_sound : IsSound first_world
-first_sound = record { reached = first_reached; served = All-nil (λ (r : Request). is_served r.body ≡ true) }
+first_sound = record { reached = first_reached; sent = All-nil (λ (r : Request). is_sent r.body ≡ true) }

@@ -1,5 +1,5 @@
 -- An event that kernel or server refused is refused so in the machine, or memory was wanting.
-use Rattle.std.proofs.Common.{◌≡◌, ◌≢◌, ℕ, ◌+◌, ◌||◌, Bool, true, false, cond, not, List, Option, Some, None, Ok, Err, inl, inr, nat_eq, nat_lt, nat_le, max, length, slice_get, is_some, refl, ap, sym, subst, ◌∙◌}
+use Rattle.std.proofs.Common.{◌≡◌, ◌≢◌, ℕ, ◌+◌, ◌||◌, Bool, true, false, true≢false, cond, not, List, [], ◌∷◌, Option, Some, None, Ok, Err, inl, inr, nat_eq, nat_lt, nat_le, max, length, slice_get, is_some, refl, ap, sym, subst, ◌∙◌}
 use Rattle.fuse_spec.specs.declared.Binding.{Binding}
 use Rattle.fuse_spec.specs.declared.Counted.{Counted}
 use Rattle.fuse_spec.specs.declared.Refusal.{Refusal}
@@ -10,13 +10,14 @@ use Rattle.fuse_spec.specs.Maps.{get, get_name}
 use Rattle.fuse_spec.specs.Numbers.{max_validity, max_calls, counter_end, clock_end}
 use Rattle.fuse_spec.specs.Operations.{errno_of}
 use Rattle.fuse_spec.specs.Calls.{Call}
-use Rattle.fuse_spec.specs.Messages.{Forget, Request, RequestBody, WireReply}
+use Rattle.fuse_spec.specs.Messages.{Forget, Request, RequestBody, WireReply, init, asks, release, forget, batch_forget, interrupt}
 use Rattle.fuse_spec.specs.Kernel.{Kernel, is_live, is_pinned, is_bound, body_of, call_begun}
-use Rattle.fuse_spec.specs.Nodes.{MayChoose}
+use Rattle.fuse_spec.specs.Nodes.{MayChoose, NodeTable, taken_back}
 use Rattle.fuse_spec.specs.QueueCalls.{pending_at, first_forgets, after_read_forgets}
 use Rattle.fuse_spec.specs.Replies.{reply_written}
-use Rattle.fuse_spec.specs.Server.{Server, HeldRequest, Kept, Copy, RequestFault, fault_of}
+use Rattle.fuse_spec.specs.Server.{Server, HeldRequest, Kept, Copy, RequestFault, all_taken_back, fault_of}
 use Rattle.fuse_spec.specs.Copies.{is_current}
+use Rattle.fuse_spec.specs.Taking.{taking}
 use Rattle.fuse_spec.specs.Performs.{served, files_given}
 use Rattle.fuse_spec.specs.Worlds as worlds
 use Rattle.fuse_spec.specs.Worlds.{World, Sent, after_mount, after_call, after_perform, after_again, after_write, after_tick, after_drop}
@@ -30,13 +31,14 @@ use Rattle.fuse_frames.proofs.RequestLemmas.{frame_says}
 use Rattle.fuse_theorem.proofs.NoFault.{no_fault}
 use Rattle.fuse_theorem.proofs.Queuing.{All-at}
 use Rattle.fs_server.specs.declared.server.ServerFault.{ServerFault}
-use Rattle.fs_server.specs.declared.server.ServerFault.TheVariants.{Memory, Wire}
+use Rattle.fs_server.specs.declared.server.ServerFault.TheVariants.{Memory}
 use Rattle.fk_kernel.specs.Refused.{begin_refusal, mount_refusal, read_refusal, place_refusal, body_refusal, is_past_end}
 use Rattle.fk_kernel.specs.Refused as kernel
 use Rattle.fs_server.specs.Effects as server
-use Rattle.fw_world.specs.Sound.{IsSound}
+use Rattle.fw_world.specs.Sound.{IsSound, is_sent}
 use Rattle.fk_kernel.specs.RefusedUpkeep.{read_forgets_refusal, forgets_refusal, tick_refusal, name_refusal, drop_refusal, counted_refusal, evict_refusal}
-use Rattle.fs_server.specs.Effects.{RefusesHeld, not_held, exhausted, RefusesAgain, not_kept, not_current, no_number, is_served, RefusesFrame}
+use Rattle.fs_server.specs.Effects.{RefusesHeld, not_held, exhausted, RefusesAgain, not_kept, not_current, no_number, RefusesFrame}
+use Rattle.fs_server.specs.Effects.{fault_or, past_or_memory}
 use Rattle.fw_world.proofs.Counters.{server_past, as_judged, some_past}
 
 -- a refusal that the kernel gave
@@ -218,14 +220,31 @@ pub or_default : (o : Option Refusal) → unwrap_or o refusal.NoMemory ≡ kerne
 or_default None = refl
 or_default (Some r) = refl
 
+-- lookups that are given back draw no generation
+same_next : (t : NodeTable) (fs : List Forget) → (all_taken_back t fs).next_generation ≡ t.next_generation
+same_next t [] = refl
+same_next t (f ∷ fs) = same_next (taken_back t f.0 f.1) fs
+
+-- What is sent so far draws no number when it is taken.
+past_taken : (s : Server) (unique : ℕ) (body : RequestBody) → is_sent body ≡ true → server.is_past_end (taking s unique body).server ≡ server.is_past_end s
+past_taken s unique init e = refl
+past_taken s unique (asks operation) e = refl
+past_taken s unique (release o) e = refl
+past_taken s unique (forget f) e = refl
+past_taken s unique (batch_forget fs) e =
+    ap (λ (n : ℕ). nat_lt counter_end s.tree.next_birth || nat_lt counter_end s.tree.next_serial || nat_lt counter_end n || nat_lt counter_end s.handles.next_fh || nat_lt counter_end s.next_copy) (same_next s.nodes fs)
+past_taken s unique (interrupt original) e = absurd (true≢false (sym e))
+
 -- A request on the link is refused for want of memory alone.
-pub take_refused : (w : World) → IsSound w → (place : ℕ) (request : Request) (bytes : List ℕ) (fault : ServerFault) → slice_get w.requests place ≡ Some request → IsRequestFrame bytes request → RefusesFrame w.server bytes fault → fault ≡ Memory
-take_refused w sound place request bytes fault there frame refuses =
+pub take_refused : (w : World) → IsSound w → server.is_past_end w.server ≡ false → (place : ℕ) (request : Request) (bytes : List ℕ) (fault : ServerFault) → slice_get w.requests place ≡ Some request → IsRequestFrame bytes request
+    → RefusesFrame w.server bytes fault → fault ≡ Memory
+take_refused w sound within place request bytes fault there frame refuses =
     let all = sound.reached.sound in
-    let served : is_served request.body ≡ true = All-at (λ (r : Request). is_served r.body ≡ true) w.requests place request sound.served there in
+    let sent : is_sent request.body ≡ true = All-at (λ (r : Request). is_sent r.body ≡ true) w.requests place request sound.sent there in
     let none : fault_of w.server request ≡ None = All-at (λ (r : Request). fault_of w.server r ≡ None) w.requests place request (no_fault w sound.reached.plain all.both all.releases all.faultless) there in
     refuses.of_request request (frame_says bytes request frame)
-    ∙ ap (λ (b : Bool). server.or_memory (cond b (server.as_fault (fault_of w.server request)) (Some Wire))) served ∙ ap (λ (o : Option RequestFault). server.or_memory (server.as_fault o)) none
+    ∙ ap (λ (o : Option RequestFault). fault_or (server.as_fault o) (past_or_memory (server.is_past_end (taking w.server request.unique request.body).server))) none
+    ∙ ap past_or_memory (past_taken w.server request.unique request.body sent ∙ within)
 
 -- A result on the link is that of a copy which the server knows.
 pub is_known : (w : World) → IsSound w → (place : ℕ) (result : ReplyResult) (r : Refusal) → slice_get w.results place ≡ Some result → server.HasNoCopy w.server result r → ⊥

@@ -1,5 +1,5 @@
 -- What contracts see of events and records.
-use Rattle.std.specs.Prelude.{ℕ, false, cond, nat_eq, List, map}
+use Rattle.std.specs.Prelude.{true, ℕ, false, cond, nat_eq, List, map}
 use Rattle.fuse_spec.specs.Maps.{Map}
 use Rattle.fuse_spec.specs.Nodes.{HeldNode}
 use Rattle.fuse_spec.specs.declared.Counted.{Counted}
@@ -49,6 +49,7 @@ outcome_of (outcome.Begun call) = event.begun call
 outcome_of (outcome.Read unique opcode len) = event.is_read unique
 outcome_of (outcome.Taken unique word) = event.taken unique word
 outcome_of (outcome.Done unique errno len) = event.performed unique errno false
+outcome_of (outcome.Lost unique errno) = event.performed unique errno true
 outcome_of (outcome.SentAgain unique len) = event.sent_again unique
 outcome_of (outcome.Written unique errno) = event.written unique (result_of errno)
 outcome_of (outcome.Settled unique errno) = event.settled unique (result_of errno)

@@ -55,6 +55,11 @@ pub enum Outcome {
         errno: u32,
         len: usize,
     },
+    /// A request was performed after an abort: no reply is sent.
+    Lost {
+        unique: u64,
+        errno: u32,
+    },
     SentAgain {
         unique: u64,
         len: usize,

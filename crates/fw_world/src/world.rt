@@ -17,7 +17,7 @@ ghost use Rattle.fw_world.specs.Values.{NeedsNoMemory, counted_nodes, event_of, 
 
 use crate::event::{Event, Outcome};
 use fk_kernel::{Answer, Call, Kernel};
-use fs_server::{Server, ServerFault};
+use fs_server::{Server, ServerFault, Took};
 use fuse_frames::{ReplyCopy, RequestFrame};
 use fuse_spec::{Refusal, ReplyResult, WriteResult};
 use std::alloc::{Allocator, Global};
@@ -327,11 +327,13 @@ impl<A: Allocator + Copy> WorldIn<A> {
         let Some(frame) = self.requests.get(place) else {
             return Err(Refusal::NoSuch);
         };
+        self.server.within();
         match self.server.take(frame.bytes()) {
-            Ok((unique, word)) => {
+            Ok(took) => {
+                let outcome = outcome_of_take(took);
                 let _frame = self.requests.remove(place);
                 within(&self.kernel, &self.server);
-                Ok(Outcome::Taken { unique, word })
+                Ok(outcome)
             }
             Err(fault) => Err(refusal_of(fault)),
         }
@@ -342,7 +344,6 @@ impl<A: Allocator + Copy> WorldIn<A> {
         ensures refusal { IfErr result (RefusedWith self.old (event.perform unique)) }
         ensures happens { IfOk result (λ outcome. Happens self.old (event.perform unique) (outcome_of outcome) self.new) }
     {
-        self.server.within();
         if self.replies.reserve(1).is_err() {
             return Err(
                 self.server
@@ -354,10 +355,13 @@ impl<A: Allocator + Copy> WorldIn<A> {
             Ok(done) => done,
             Err(refusal) => return Err(refusal),
         };
-        let errno = done.errno;
-        let len = done.copy.bytes().len();
-        append(&mut self.replies, done.copy);
         within(&self.kernel, &self.server);
+        let errno = done.errno;
+        let Some(first) = done.copy else {
+            return Ok(Outcome::Lost { unique, errno });
+        };
+        let len = first.bytes().len();
+        append(&mut self.replies, first);
         self.last_put = LastPut::Reply;
         Ok(Outcome::Done { unique, errno, len })
     }
@@ -465,6 +469,16 @@ fn errno_of(written: WriteResult) -> u32
         WriteResult::Accepted => 0,
         WriteResult::NoEntry => ENOENT,
         WriteResult::Invalid => EINVAL,
+    }
+}
+
+/// What became of a request that was taken; no copy is sent at once so far.
+fn outcome_of_take<A: Allocator + Copy>(took: Took<A>) -> Outcome
+    ensures { outcome_of result ≡ event.taken took.unique took.word }
+{
+    Outcome::Taken {
+        unique: took.unique,
+        word: took.word,
     }
 }
 

@@ -8,5 +8,6 @@ abbrev pub invariant-pairs : goal.invariant-pairs
 invariant-pairs g l =
     (goal.iterator-pairs g).can_next l.nodeid-iterator
     × (goal.iterator-pairs g).is_finite l.nodeid-iterator
-    × (all_taken_back l.nodes.table (pairs_in l.nodeid-iterator) ≡ all_taken_back l.fn.nodes.table (pairs_in l.fn.pairs))
-    × ((id : ℕ) → forgotten id (pairs_in l.nodeid-iterator) ≤ count_in (get l.nodes.table.rows id))
+    × (all_taken_back l.files.nodes (pairs_in l.nodeid-iterator) ≡ all_taken_back l.fn.files.nodes (pairs_in l.fn.pairs))
+    × ((id : ℕ) → forgotten id (pairs_in l.nodeid-iterator) ≤ count_in (get l.files.nodes.rows id))
+    × ((l.files.tree ≡ l.fn.files.tree) × (l.files.handles ≡ l.fn.files.handles))

@@ -1,7 +1,8 @@
 use Rattle.std.proofs.Common.{rules, ◌≡◌, Some, None, sym, ◌∙◌}
 use Rattle.fuse_spec.specs.Maps.{get}
+use Rattle.fs_files.specs.Replies.{sent_wire}
 use Rattle.fs_server.specs.Effects.{not_kept}
-use Rattle.fs_server.proofs.SentAgain.{names_gone, without_number, can_send}
+use Rattle.fs_server.proofs.Copied.{names_gone, without_number, can_send}
 use Rattle.fs_server.proofs.server.Server.again_refusal.Goals as goal
 
 pub returns-in_default-clause-refuses : goal.returns-in_default-clause-refuses
@@ -16,7 +17,7 @@ returns-then-not-is_current-clause-refuses g c =
     let k = c.in-Some.kept.now in
     let there : get s.kept.entries c.args.unique ≡ Some k = search rules in
     rw (← c.self.view_is)
-    (names_gone s.tree s.nodes.table s.held.entries s.kept.entries s.copies.entries s.next_copy s.validity c.args.unique k there c.reply-reply.result c.reply-reply.ensures (sym c.is_current.ensures ∙ c.if-not-is_current.true))
+    (names_gone s.files s.held.entries s.kept.entries s.copies.entries s.next_copy s.validity s.is_aborted c.args.unique k there (sent_wire c.reply.result.now) c.reply.ensures.wire (sym c.if-not-is_current.true ∙ c.is_current.ensures))
 
 pub returns-then-self-ge-COUNTER_END-clause-refuses : goal.returns-then-self-ge-COUNTER_END-clause-refuses
 returns-then-self-ge-COUNTER_END-clause-refuses g c =
@@ -24,7 +25,7 @@ returns-then-self-ge-COUNTER_END-clause-refuses g c =
     let k = c.in-Some.kept.now in
     let there : get s.kept.entries c.args.unique ≡ Some k = search rules in
     rw (← c.self.view_is)
-    (without_number s.tree s.nodes.table s.held.entries s.kept.entries s.copies.entries s.next_copy s.validity c.args.unique k there c.reply-reply.result c.reply-reply.ensures (sym c.is_current.ensures ∙ c.if-not-is_current.false)
+    (without_number s.files s.held.entries s.kept.entries s.copies.entries s.next_copy s.validity s.is_aborted c.args.unique k there (sent_wire c.reply.result.now) c.reply.ensures.wire (sym c.if-not-is_current.false ∙ c.is_current.ensures)
     c.if-self-ge-COUNTER_END.true)
 
 pub returns-clause-none : goal.returns-clause-none
@@ -33,5 +34,5 @@ returns-clause-none g c =
     let k = c.in-Some.kept.now in
     let there : get s.kept.entries c.args.unique ≡ Some k = search rules in
     rw (← c.self.view_is)
-    (can_send s.tree s.nodes.table s.held.entries s.kept.entries s.copies.entries s.next_copy s.validity c.args.unique k there c.reply-reply.result c.reply-reply.ensures (sym c.is_current.ensures ∙ c.if-not-is_current.false)
+    (can_send s.files s.held.entries s.kept.entries s.copies.entries s.next_copy s.validity s.is_aborted c.args.unique k there (sent_wire c.reply.result.now) c.reply.ensures.wire (sym c.if-not-is_current.false ∙ c.is_current.ensures)
     c.if-self-ge-COUNTER_END.false)

@@ -1,4 +1,5 @@
-use Rattle.std.proofs.Common.{◌∙◌}
+use Rattle.std.proofs.Common.{refl, ◌∙◌}
+use Rattle.fk_wire.specs.declared.opcode.Opcode.TheVariants as op
 use Rattle.std.specs.Int.{w32}
 use Rattle.std.proofs.lemmas.Int.{to_z-of_z}
 use Rattle.fk_wire.proofs.OneReply.{error_fits}
@@ -9,4 +10,4 @@ pub written-requires-clause-goes : goal.written-requires-clause-goes
 written-requires-clause-goes g c =
     let z = c.negated.result in
     let same = to_z-of_z w32 z (error_fits z (error_in_range c.args.errno z c.requires.some c.requires.most c.negated.ensures)) in
-    error_goes c.args.opcode c.args.unique c.args.errno _ c.requires.goes c.requires.some c.requires.most (same ∙ c.negated.ensures)
+    error_goes op.Release c.args.unique c.args.errno _ refl c.requires.some c.requires.most (same ∙ c.negated.ensures)

@@ -1,0 +1,72 @@
+-- Operations that nothing refuses, one by one.
+use Rattle.std.proofs.Common.{◌≡◌, ℕ, ◌≤◌, ◌<◌, ◌^◌, Bool, true, false, true≢false, cond, nat_eq, List, [], length, take, drop, Option, Some, None, refl, sym, ap, subst, ◌∙◌, arith}
+use Rattle.std.specs.Prelude.{nat_lt, find, option_map, is_some, min, Vec}
+use Rattle.std.proofs.lemmas.List.{length-take}
+use Rattle.std.proofs.lemmas.Bool.{ltb-true, ltb-false}
+use Rattle.std.proofs.lemmas.Option.{none-some, same_Some}
+use Rattle.std.proofs.lemmas.List.Elements.{All-contains}
+use Rattle.fuse_spec.specs.Maps.{get}
+use Rattle.fuse_spec.specs.Nodes.{NodeTable, HeldNode, file_of, file_in, root_row}
+use Rattle.fuse_spec.specs.Numbers.{max_transfer}
+use Rattle.fuse_spec.specs.Operations.{Reply, content, lookup, read}
+use Rattle.fuse_spec.specs.declared.Validity.{Validity}
+use Rattle.fuse_spec.specs.Trees.{Tree, Named, bytes_of, file_at, is_at}
+use Rattle.fuse_spec.specs.TreeShape.{IsShaped, Stands}
+use Rattle.fuse_spec.specs.FileOperations.{looked_up, reply_unrefused}
+use Rattle.fs_tree.proofs.Counting.{found_there}
+use Rattle.fs_files.specs.declared.replies.Outcome.TheVariants.{Found, Plain}
+use Rattle.fs_files.specs.declared.replies.PlainReply.TheVariants.{Content}
+use Rattle.fs_files.specs.Bounds.{AreLow}
+use Rattle.fs_files.specs.Performing.{Operates}
+
+found_file : (tree : Tree) → IsShaped tree → (o : Option Named) → ((n : Named) → o ≡ Some n → Stands tree n) → (file : ℕ) → option_map (λ n. n.file) o ≡ Some file → file < tree.next_birth
+found_file tree shaped None stands file is = absurd (none-some file is)
+found_file tree shaped (Some n) stands file is = subst (λ (x : ℕ). x < tree.next_birth) (same_Some n.file file is) (by (nat_lt n.file tree.next_birth) refl)
+  where
+    by : (b : Bool) → nat_lt n.file tree.next_birth ≡ b → n.file < tree.next_birth
+    by true e = ltb-true n.file tree.next_birth e
+    by false e = let le = ltb-false n.file tree.next_birth e in absurd (true≢false (sym (stands n refl).file ∙ ap is_some (shaped.unborn n.file le)))
+
+-- the file to which a name leads was born
+pub is_born : (tree : Tree) → IsShaped tree → (d : ℕ) (name : List ℕ) (file : ℕ) → file_at tree d name ≡ Some file → file < tree.next_birth
+is_born tree shaped d name file at =
+    found_file tree shaped (find (is_at d name) tree.names) (λ n there. All-contains (Stands tree) tree.names n shaped.names (found_there (is_at d name) tree.names n there)) file at
+
+pub looks_up : {A : Type 0} (valid : Validity) (tree : Tree) → IsShaped tree → tree.next_birth ≤ 2 ^ 62 → (d : ℕ) (name : List ℕ) (file : ℕ) → file_at tree d name ≡ Some file
+    → Operates {A = A} valid tree (lookup d name) (Found file) tree
+looks_up valid tree shaped births d name file at = record {
+  says = sym (ap (looked_up valid) at);
+  tree_is = refl;
+  tellable = let low = is_born tree shaped d name file at in omega (arith, low, births);
+  short = omega arith;
+}
+
+-- the file of a node is below the end of births
+pub file_low : (nodes : NodeTable) → AreLow nodes → (id : ℕ) → file_of nodes id < 2 ^ 62
+file_low nodes low id = by (nat_eq id 1) (get nodes.rows id) refl
+  where
+    by : (b : Bool) (o : Option HeldNode) → get nodes.rows id ≡ o → file_in (cond b (Some root_row) o) < 2 ^ 62
+    by true o e = omega arith
+    by false None e = omega arith
+    by false (Some row) e = low id row e
+
+-- the bytes of a reply to READ
+abbrev bytes_in : Reply ℕ ℕ → List ℕ
+bytes_in (content bytes) = bytes
+bytes_in reply = []
+
+pub reads_bytes : {A : Type 0} (valid : Validity) (tree : Tree) (file offset size : ℕ) (bytes : Vec ℕ A) (read_now : List ℕ) → bytes.items ≡ read_now → reply_unrefused valid tree (read file offset size) ≡ content read_now
+    → Operates valid tree (read file offset size) (Plain (Content bytes)) tree
+reads_bytes valid tree file offset size bytes read_now same is = record {
+  says = ap content same ∙ sym is;
+  tree_is = refl;
+  tellable = few;
+  short = few;
+}
+  where
+    few : length bytes.items ≤ max_transfer
+    few =
+        let all : bytes.items ≡ take (min size max_transfer) (drop offset (bytes_of (get tree.files file))) = same ∙ sym (ap bytes_in is) in
+        let most = length-take (min size max_transfer) (drop offset (bytes_of (get tree.files file))) in
+        let len = ap length all in
+        omega (arith, most, len)

@@ -1,0 +1,5 @@
+use Rattle.std.proofs.Common.{arith}
+use Rattle.fs_files.proofs.files.Files.count_number_again.Goals as goal
+
+pub again-requires : goal.again-requires
+again-requires g c = λ x is. let low = (rw (← c.self.view_is, ← c.self-inside.view_is) at c.requires) c.args.fh x is in omega (arith, low)

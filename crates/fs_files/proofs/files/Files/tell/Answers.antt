@@ -1,0 +1,17 @@
+use Rattle.fs_files.proofs.Told.{tells_found, tells_created, tells_opened, tells_plain}
+use Rattle.fs_files.proofs.files.Files.tell.Goals as goal
+
+pub returns-in-Found-clause-tells : goal.returns-in-Found-clause-tells
+returns-in-Found-clause-tells g c = rw c.in-Found.is (tells_found c.args.self.now c.give.new.self c.in-Found.file c.args.found_ms c.give.result c.give.ensures.gives c.give.ensures.tree c.give.ensures.handles)
+
+pub returns-in-Created-clause-tells : goal.returns-in-Created-clause-tells
+returns-in-Created-clause-tells g c =
+    rw c.in-Created.is
+    (tells_created c.args.self.now c.give-entry.new.self c.open.new.self c.in-Created.file c.args.found_ms c.give-entry.result c.open.result c.give-entry.ensures.gives c.give-entry.ensures.tree c.give-entry.ensures.handles c.open.ensures.fh
+    c.open.ensures.tree c.open.ensures.nodes c.open.ensures.handles)
+
+pub returns-in-Opened-clause-tells : goal.returns-in-Opened-clause-tells
+returns-in-Opened-clause-tells g c = rw c.in-Opened.is (tells_opened c.args.self.now c.open-in-Opened.new.self c.in-Opened.file c.open-in-Opened.result c.open-in-Opened.ensures.fh c.open-in-Opened.ensures.tree c.open-in-Opened.ensures.nodes c.open-in-Opened.ensures.handles)
+
+pub returns-in-Plain-clause-tells : goal.returns-in-Plain-clause-tells
+returns-in-Plain-clause-tells g c = rw c.in-Plain.is (tells_plain c.args.self.now c.in-Plain.reply)

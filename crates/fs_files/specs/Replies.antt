@@ -1,0 +1,110 @@
+-- What replies say.
+use Rattle.std.specs.Prelude.{◌≢◌, ◌≤◌, ◌<◌, ◌^◌, ℕ, List, Option, Some, None, length, map, false}
+use Rattle.fuse_spec.specs.Numbers.{max_transfer, max_validity}
+use Rattle.fuse_spec.specs.Operations as operation
+use Rattle.fuse_spec.specs.Operations.{Reply}
+use Rattle.fuse_spec.specs.declared.Entry.{Entry}
+use Rattle.fuse_spec.specs.Messages.{WireReply}
+use Rattle.fk_wire.specs.Decoded.{count_from}
+use Rattle.fk_wire.specs.Dirents.{DirentContent, dirents_from}
+use Rattle.fk_wire.specs.Records.{AreRecords}
+use Rattle.fuse_frames.specs.ReplyTies.{dirent_in}
+use Rattle.fs_files.specs.declared.replies.PlainReply.{PlainReply}
+use Rattle.fs_files.specs.declared.replies.PlainReply.TheVariants.{Missing, Attributes, Listed, Content, Written, Agreed, Done, Failed}
+use Rattle.fs_files.specs.declared.replies.Outcome.{Outcome}
+use Rattle.fs_files.specs.declared.replies.Outcome.TheVariants as outcome
+use Rattle.fs_files.specs.declared.replies.SentReply.{SentReply}
+use Rattle.fs_files.specs.declared.replies.SentReply.TheVariants as sent
+
+-- the records that these bytes are, if they are any
+abbrev pub dirents_in : List ℕ → List DirentContent
+dirents_in bytes = dirents_from (count_from (length bytes) false 0 bytes) 0 bytes
+
+-- These bytes are records.
+abbrev pub AreRecordBytes : List ℕ → Type 0
+AreRecordBytes bytes = AreRecords 0 bytes (dirents_in bytes)
+
+module _ {A : Type 0} where
+  -- what a reply says that names no file, whatever files are named by
+  abbrev pub plain_reply : {F O : Type 0} → PlainReply A → Reply F O
+  plain_reply (Missing missing_ms) = operation.missing missing_ms
+  plain_reply (Attributes attributes) = operation.attributes attributes
+  plain_reply (Listed records) = operation.listed (map dirent_in (dirents_in records.items))
+  plain_reply (Content bytes) = operation.content bytes.items
+  plain_reply (Written size) = operation.written size
+  plain_reply (Agreed flags) = operation.agreed 7 31
+  plain_reply Done = operation.done
+  plain_reply (Failed errno) = operation.failed errno
+
+  abbrev pub plain_wire : PlainReply A → WireReply
+  plain_wire reply = plain_reply reply
+
+  abbrev pub plain_errno : PlainReply A → ℕ
+  plain_errno (Failed errno) = errno
+  plain_errno reply = 0
+
+  abbrev pub content_len : PlainReply A → ℕ
+  content_len (Listed records) = length records.items
+  content_len (Content bytes) = length bytes.items
+  content_len reply = 0
+
+  -- what an outcome says, with files named by their births
+  abbrev pub outcome_reply : (found_ms : ℕ) → Outcome A → Reply ℕ ℕ
+  outcome_reply found_ms (outcome.Found file) = operation.found file found_ms
+  outcome_reply found_ms (outcome.Created file) = operation.created file found_ms file
+  outcome_reply found_ms (outcome.Opened file) = operation.opened file
+  outcome_reply found_ms (outcome.Plain reply) = plain_reply reply
+
+  abbrev pub outcome_errno : Outcome A → ℕ
+  outcome_errno (outcome.Plain reply) = plain_errno reply
+  outcome_errno o = 0
+
+  abbrev pub outcome_len : Outcome A → ℕ
+  outcome_len (outcome.Plain reply) = content_len reply
+  outcome_len o = 0
+
+  -- what is sent
+  abbrev pub sent_wire : SentReply A → WireReply
+  sent_wire (sent.Found entry found_ms) = operation.found entry found_ms
+  sent_wire (sent.Created entry found_ms fh) = operation.created entry found_ms fh
+  sent_wire (sent.Opened fh) = operation.opened fh
+  sent_wire (sent.Plain reply) = plain_wire reply
+
+  abbrev pub sent_len : SentReply A → ℕ
+  sent_len (sent.Plain reply) = content_len reply
+  sent_len reply = 0
+
+  -- the entry that a reply carries
+  abbrev pub entry_of : SentReply A → Option Entry
+  entry_of (sent.Found entry found_ms) = Some entry
+  entry_of (sent.Created entry found_ms fh) = Some entry
+  entry_of (sent.Opened fh) = None
+  entry_of (sent.Plain reply) = None
+
+  -- the open number that it carries
+  abbrev pub opened_in : SentReply A → Option ℕ
+  opened_in (sent.Found entry found_ms) = None
+  opened_in (sent.Created entry found_ms fh) = Some fh
+  opened_in (sent.Opened fh) = Some fh
+  opened_in (sent.Plain reply) = None
+
+  -- A reply that can be written as a frame.
+  abbrev pub IsPlainSendable : PlainReply A → Type 0
+  IsPlainSendable (Missing missing_ms) = missing_ms ≤ max_validity
+  IsPlainSendable (Listed records) = AreRecordBytes records.items × (length records.items ≤ max_transfer)
+  IsPlainSendable (Content bytes) = length bytes.items ≤ max_transfer
+  IsPlainSendable (Failed errno) = (1 ≤ errno) × (errno ≤ 511)
+  IsPlainSendable reply = Unit {0}
+
+  abbrev pub IsSendable : SentReply A → Type 0
+  IsSendable (sent.Found entry found_ms) = (entry.nodeid ≢ 0) × (found_ms ≤ max_validity)
+  IsSendable (sent.Created entry found_ms fh) = (entry.nodeid ≢ 0) × (found_ms ≤ max_validity)
+  IsSendable (sent.Opened fh) = Unit {0}
+  IsSendable (sent.Plain reply) = IsPlainSendable reply
+
+  -- An outcome whose file is below the end of births, or whose reply can be written.
+  abbrev pub IsTellable : Outcome A → Type 0
+  IsTellable (outcome.Found file) = file < 2 ^ 62
+  IsTellable (outcome.Created file) = file < 2 ^ 62
+  IsTellable (outcome.Opened file) = Unit {0}
+  IsTellable (outcome.Plain reply) = IsPlainSendable reply

@@ -1,0 +1,26 @@
+-- How files are told by nodes and open numbers.
+use Rattle.std.specs.Prelude.{◌≡◌, ℕ}
+use Rattle.fuse_spec.specs.Operations.{Reply, files_in_reply, opens_in_reply}
+use Rattle.fuse_spec.specs.Nodes.{NodeTable, MayName, MayChoose, all_given, all_opened, given}
+use Rattle.fuse_spec.specs.Performs.{entry_for, wire_of}
+use Rattle.fuse_spec.specs.Trees.{Tree}
+use Rattle.fuse_spec.specs.declared.Entry.{Entry}
+use Rattle.fs_files.specs.Values.{FilesState}
+use Rattle.fs_files.specs.Replies.{sent_wire}
+use Rattle.fs_files.specs.declared.replies.SentReply.{SentReply}
+
+-- A file is told in this entry, with these nodes after it.
+pub record GivesEntry (tree : Tree) (nodes : NodeTable) (file : ℕ) (new : NodeTable) (entry : Entry) : Type 0 where
+  pub id : ℕ
+  pub may : MayName nodes file id
+  pub nodes_is : new ≡ given nodes file id
+  pub entry_is : entry ≡ entry_for (λ _. id) new tree file
+
+-- The files of this reply are told: nodes and open numbers are given, and this is sent.
+pub record Tells {A : Type 0} (old : FilesState) (reply : Reply ℕ ℕ) (sent : SentReply A) (new : FilesState) : Type 0 where
+  pub choice : ℕ → ℕ
+  pub may : MayChoose choice old.nodes (files_in_reply reply)
+  pub tree_is : new.tree ≡ old.tree
+  pub nodes_is : new.nodes ≡ all_given choice old.nodes (files_in_reply reply)
+  pub handles_is : new.handles ≡ all_opened old.handles (opens_in_reply reply)
+  pub wire_is : sent_wire sent ≡ wire_of choice new.nodes old.tree old.handles.next_fh reply

@@ -1,0 +1,160 @@
+//! Held requests are performed on the tree.
+
+ghost use Rattle.std.specs.Prelude.{◌≡◌, ◌≤◌, ◌^◌, IfOk, OnErr, OnOk};
+ghost use Rattle.fuse_spec.specs.Messages.{asks, release};
+ghost use Rattle.fuse_spec.specs.Nodes.{is_open, file_of};
+ghost use Rattle.fuse_spec.specs.Numbers.{max_validity};
+ghost use Rattle.fuse_spec.specs.Performs.{is_open_for, is_still_held};
+ghost use Rattle.fuse_spec.specs.declared.Validity.{Validity as ValidityValue};
+ghost use Rattle.fs_files.specs.Performing.{ComesTo, handles_by, handles_said, said, said_by, tree_said, tree_by};
+ghost use Rattle.fs_files.specs.Replies.{IsTellable, outcome_len, outcome_reply};
+ghost use Rattle.fs_files.specs.Values.{operation_of, room_for, server_of, named_in};
+
+use crate::files::Files;
+use crate::held::{HeldBody, HeldOperation, HeldRequest, Named};
+use crate::nodes::Nodes;
+use crate::operating::operate;
+use crate::refusing::refusal_of;
+use crate::replies::{Outcome, PlainReply};
+use fs_nodes::NodeStore;
+use fuse_spec::{Opened, Validity};
+use std::alloc::{AllocError, Allocator};
+
+/// EINTR, of a request that an INTERRUPT marked.
+const EINTR: u32 = 4;
+
+/// EIO, of a request whose node is gone.
+const EIO: u32 = 5;
+
+/// EBADF, of a request whose open number is none of its node's file.
+const EBADF: u32 = 9;
+
+impl<A: Allocator + Copy> Files<A> {
+    /// What a held request comes to, on the tree as it is now. Where memory is wanting nothing changes.
+    pub fn answer(
+        &mut self,
+        held: &HeldRequest<A>,
+        validity: Validity,
+    ) -> Result<Outcome<A>, AllocError>
+        requires births { (tree_said (server_of self.old validity) held.now).next_birth ≤ 2 ^ 62 }
+        requires serials { (tree_said (server_of self.old validity) held.now).next_serial ≤ 2 ^ 62 }
+        requires day { validity.missing_ms ≤ max_validity }
+        ensures err { OnErr result (self.new ≡ self.old) }
+        ensures says { IfOk result (λ outcome. outcome_reply validity.found_ms outcome ≡ said (server_of self.old validity) held.now) }
+        ensures tellable { IfOk result IsTellable }
+        ensures short { IfOk result (λ outcome. outcome_len outcome ≤ room_for held.now.body) }
+        ensures tree { OnOk result (self.new.tree ≡ tree_said (server_of self.old validity) held.now) }
+        ensures handles { OnOk result (self.new.handles ≡ handles_said (server_of self.old validity) held.now) }
+        ensures nodes { self.new.nodes ≡ self.old.nodes }
+        ensures node_room { self.new.node_room ≡ self.old.node_room }
+        ensures open_room { self.old.open_room ≤ self.new.open_room }
+    {
+        if held.is_marked() {
+            return Ok(failure(EINTR));
+        }
+        if !are_held(&self.known.nodes, held.named()) {
+            return Ok(failure(EIO));
+        }
+        match held.body() {
+            HeldBody::Init { flags } => Ok(Outcome::Plain {
+                reply: PlainReply::Agreed { flags: *flags },
+            }),
+            HeldBody::Asks { operation } => self.ask(operation, validity),
+            HeldBody::Release { opened } => Ok(self.release(*opened)),
+        }
+    }
+
+    /// An operation.
+    fn ask(
+        &mut self,
+        operation: &HeldOperation<A>,
+        validity: Validity,
+    ) -> Result<Outcome<A>, AllocError>
+        requires births { (tree_by (server_of self.old validity) (asks (operation_of operation.now))).next_birth ≤ 2 ^ 62 }
+        requires serials { (tree_by (server_of self.old validity) (asks (operation_of operation.now))).next_serial ≤ 2 ^ 62 }
+        requires day { validity.missing_ms ≤ max_validity }
+        ensures err { OnErr result (self.new ≡ self.old) }
+        ensures ok { IfOk result (λ outcome. ComesTo (server_of self.old validity) (asks (operation_of operation.now)) outcome self.new.tree) }
+        ensures handles { self.new.handles ≡ self.old.handles }
+        ensures nodes { self.new.nodes ≡ self.old.nodes }
+        ensures node_room { self.new.node_room ≡ self.old.node_room }
+        ensures open_room { self.old.open_room ≤ self.new.open_room }
+    {
+        if !self.is_open_for(operation) {
+            return Ok(failure(EBADF));
+        }
+        if let Some(error) = refusal_of(&self.tree, &self.known.nodes, operation) {
+            return Ok(failure(error.errno() as u32));
+        }
+        let alloc = self.alloc;
+        operate(
+            &mut self.tree,
+            &self.known.nodes,
+            operation,
+            validity,
+            alloc,
+        )
+    }
+
+    /// Whether the open number that a READ or WRITE names is one of its node's file.
+    pub(crate) fn is_open_for(&self, operation: &HeldOperation<A>) -> bool
+        ensures { (v : ValidityValue) → result ≡ is_open_for (server_of self.now v) (operation_of operation.now) }
+    {
+        match operation {
+            HeldOperation::Read { opened, .. } | HeldOperation::Write { opened, .. } => {
+                self.is_open(*opened)
+            }
+            _ => true,
+        }
+    }
+
+    /// Whether an open number is one of its node's file.
+    pub(crate) fn is_open(&self, opened: Opened) -> bool
+        ensures { result ≡ is_open self.now.handles opened.fh (file_of self.now.nodes opened.nodeid) }
+    {
+        match self.known.handles.file_of(opened.fh) {
+            Some(file) => file == self.known.nodes.file_of(opened.nodeid),
+            None => false,
+        }
+    }
+
+    /// A RELEASE.
+    fn release(&mut self, opened: Opened) -> Outcome<A>
+        ensures says { (v : ValidityValue) → outcome_reply v.found_ms result ≡ said_by (server_of self.old v) (release opened) }
+        ensures tellable { IsTellable result }
+        ensures short { outcome_len result ≤ 0 }
+        ensures handles { (v : ValidityValue) → self.new.handles ≡ handles_by (server_of self.old v) (release opened) }
+        ensures tree { self.new.tree ≡ self.old.tree }
+        ensures nodes { self.new.nodes ≡ self.old.nodes }
+        ensures node_room { self.new.node_room ≡ self.old.node_room }
+        ensures open_room { self.old.open_room ≤ self.new.open_room }
+    {
+        if !self.is_open(opened) {
+            return failure(EBADF);
+        }
+        self.known.handles.take_back(opened.fh);
+        Outcome::Plain {
+            reply: PlainReply::Done,
+        }
+    }
+}
+
+/// Whether each of these nodes is still held under its generation.
+pub(crate) fn are_held<S: NodeStore>(nodes: &Nodes<S>, named: Named) -> bool
+    ensures { result ≡ is_still_held nodes.now.table (named_in named) }
+{
+    match named {
+        Named::Nothing => true,
+        Named::One(node) => nodes.is_held(node),
+        Named::Two(node, other) => nodes.is_held(node) && nodes.is_held(other),
+    }
+}
+
+/// An error, from 1 to 511, in place of an outcome.
+fn failure<A: Allocator>(errno: u32) -> Outcome<A>
+    ensures { result ≡ Outcome.Plain (PlainReply.Failed errno) }
+{
+    Outcome::Plain {
+        reply: PlainReply::Failed { errno },
+    }
+}

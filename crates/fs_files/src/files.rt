@@ -1,0 +1,163 @@
+//! The files that are served.
+
+ghost use Rattle.std.specs.Prelude.{◌≡◌, ◌≤◌, ◌<◌, ◌+◌, ◌^◌, [], nat_lt, false, OnOk, IfOk, IfSome, IfNone, None, is_some, Some};
+ghost use Rattle.fuse_spec.specs.Maps.{get};
+ghost use Rattle.fuse_spec.specs.declared.Validity.{Validity as ValidityValue};
+ghost use Rattle.fuse_spec.specs.Nodes.{handle_back, handle_more, is_held, row_more, taken_back, OpenNumber};
+ghost use Rattle.fuse_spec.specs.Copies.{row_back};
+ghost use Rattle.fuse_spec.specs.Server.{count_in, is_file_held};
+ghost use Rattle.fs_nodes.specs.Rows.{listed};
+ghost use Rattle.fs_tree.specs.Outcomes.{only_root, without_unheld};
+ghost use Rattle.fs_files.specs.Bounds.{AreCounted, AreUsed};
+ghost use Rattle.fs_files.specs.Values.{no_nodes, no_handles, server_of};
+
+use crate::known::KnownFiles;
+use crate::nodes::Nodes;
+use fs_nodes::NodeTable;
+use fs_tree::Tree;
+use fuse_spec::Entry;
+use std::alloc::{AllocError, Allocator, Global};
+use std::marker::Model;
+
+/// The files that are served: the tree, and the nodes and open numbers by which the kernel knows its files. Contracts see beside
+/// these how many more files can be told with no memory.
+#[derive(Drop)]
+pub struct Files<A: Allocator + Copy = Global> {
+    pub(crate) alloc: A,
+    pub(crate) tree: Tree<A>,
+    pub(crate) known: KnownFiles<A>,
+}
+
+impl<A: Allocator + Copy> Model for Files<A> {
+    ghost use Rattle.std.specs.Coded.{codes};
+    ghost use Rattle.fs_files.specs.Bounds.{AreLow};
+    ghost use Rattle.fs_files.specs.Values.{FilesState};
+
+    ghost Value = { FilesState };
+
+    ghost coded = { Prim.hlevel (codes) };
+
+    ghost view = { λ f. record { tree = f.tree; nodes = f.known.nodes; handles = f.known.handles; node_room = f.known.node_room; open_room = f.known.open_room } };
+
+    ghost invariant = { λ f. AreLow f.known.nodes };
+}
+
+impl<A: Allocator + Copy> Files<A> {
+    /// The root alone, and nothing known.
+    pub fn new(alloc: A) -> Result<Self, AllocError>
+        ensures tree { IfOk result (λ files. files.tree ≡ only_root) }
+        ensures nodes { IfOk result (λ files. files.nodes ≡ no_nodes) }
+        ensures handles { IfOk result (λ files. files.handles ≡ no_handles) }
+    {
+        let tree = Tree::new(alloc)?;
+        Ok(Files {
+            alloc,
+            tree,
+            known: KnownFiles::new(alloc),
+        })
+    }
+
+    /// Makes room for telling one more file.
+    pub fn reserve(&mut self) -> Result<(), AllocError>
+        ensures tree { self.new.tree ≡ self.old.tree }
+        ensures nodes { self.new.nodes ≡ self.old.nodes }
+        ensures handles { self.new.handles ≡ self.old.handles }
+        ensures node_room { OnOk result (0 < self.new.node_room) }
+        ensures open_room { OnOk result (0 < self.new.open_room) }
+    {
+        self.known.reserve()
+    }
+
+    /// No counter has given a number past its end, 2^62.
+    pub fn within(&self)
+        ensures births { nat_lt (2 ^ 62) self.now.tree.next_birth ≡ false }
+        ensures serials { nat_lt (2 ^ 62) self.now.tree.next_serial ≡ false }
+        ensures generations { nat_lt (2 ^ 62) self.now.nodes.next_generation ≡ false }
+        ensures numbers { nat_lt (2 ^ 62) self.now.handles.next_fh ≡ false }
+    {
+        let _births = self.tree.births_left();
+        let _serials = self.tree.serials_left();
+        let _generations = self.known.nodes.generations_left();
+        let _numbers = self.known.handles.numbers_left();
+    }
+
+    /// The nodes that are held.
+    pub fn nodes(&self) -> &Nodes<NodeTable<A>>
+        ensures { result.now.table ≡ self.now.nodes }
+    {
+        &self.known.nodes
+    }
+
+    /// Whether an open number is in use.
+    pub fn has_number(&self, fh: u64) -> bool
+        ensures { result ≡ is_some (get self.now.handles.handles fh) }
+    {
+        self.known.handles.file_of(fh).is_some()
+    }
+
+    /// Gives so many lookups of a node back, if it is held; it has as many.
+    pub fn take_back(&mut self, id: u64, count: u64)
+        requires { count ≤ count_in (get self.old.nodes.rows id) }
+        ensures tree { self.new.tree ≡ self.old.tree }
+        ensures nodes { self.new.nodes ≡ taken_back self.old.nodes id count }
+        ensures handles { self.new.handles ≡ self.old.handles }
+    {
+        self.known.nodes.take_back(id, count);
+    }
+
+    /// Gives the lookup of an entry back, where its node is still held under the entry's generation.
+    pub fn give_back(&mut self, entry: &Entry)
+        ensures tree { self.new.tree ≡ self.old.tree }
+        ensures nodes { self.new.nodes ≡ row_back self.old.nodes entry.now }
+        ensures handles { self.new.handles ≡ self.old.handles }
+    {
+        self.known.nodes.give_back(entry);
+    }
+
+    /// Gives one use of an open number back, if it is in use.
+    pub fn give_number_back(&mut self, fh: u64)
+        ensures tree { self.new.tree ≡ self.old.tree }
+        ensures nodes { self.new.nodes ≡ self.old.nodes }
+        ensures handles { self.new.handles ≡ handle_back self.old.handles fh }
+    {
+        self.known.handles.take_back(fh);
+    }
+
+    /// Counts one lookup more of a node, if it is held.
+    pub fn count_again(&mut self, id: u64)
+        requires { AreCounted (2 ^ 62) self.old.nodes }
+        ensures tree { self.new.tree ≡ self.old.tree }
+        ensures nodes { self.new.nodes ≡ row_more self.old.nodes id }
+        ensures handles { self.new.handles ≡ self.old.handles }
+    {
+        self.known.nodes.count_again(id);
+    }
+
+    /// Counts one use more of an open number, if it is in use.
+    pub fn count_number_again(&mut self, fh: u64)
+        requires { AreUsed (2 ^ 62) self.old.handles }
+        ensures tree { self.new.tree ≡ self.old.tree }
+        ensures nodes { self.new.nodes ≡ self.old.nodes }
+        ensures handles { self.new.handles ≡ handle_more self.old.handles fh }
+    {
+        self.known.handles.again(fh);
+    }
+
+    /// Nameless files that nothing holds leave the tree.
+    pub fn discard_unheld(&mut self)
+        ensures tree { (v : ValidityValue) → self.new.tree ≡ without_unheld (is_file_held (server_of self.old v)) self.old.tree }
+        ensures nodes { self.new.nodes ≡ self.old.nodes }
+        ensures handles { self.new.handles ≡ self.old.handles }
+    {
+        self.tree.discard_unheld(&self.known);
+    }
+
+    /// Drops all nodes and open numbers. Their counters go on, and so does the tree.
+    pub fn clear(&mut self)
+        ensures tree { self.new.tree ≡ self.old.tree }
+        ensures nodes { self.new.nodes ≡ record self.old.nodes { rows = [] } }
+        ensures handles { self.new.handles ≡ record self.old.handles { handles = [] } }
+    {
+        self.known.clear();
+    }
+}

@@ -1,0 +1,165 @@
+//! Requests that are held until they are performed.
+
+ghost use Rattle.std.specs.Prelude.{◌≡◌, true, false};
+ghost use Rattle.fs_files.specs.Values.{asked_of, named_in, room_for};
+
+use fk_wire::InitFlags;
+use fuse_spec::Opened;
+use std::alloc::Allocator;
+use std::marker::Model;
+
+/// The longest body of a reply to READ or READDIR.
+pub(crate) const MOST_CONTENT: usize = 4096;
+
+/// A node that a request names, with the generation that it had when the request was taken.
+#[derive(Clone, Copy, Debug, PartialEq, Eq)]
+pub struct NamedNode {
+    pub nodeid: u64,
+    pub generation: u64,
+}
+
+/// The nodes that a request names: two at most.
+#[derive(Clone, Copy, Debug, PartialEq, Eq)]
+pub enum Named {
+    Nothing,
+    One(NamedNode),
+    Two(NamedNode, NamedNode),
+}
+
+/// One operation on nodes, with the names and bytes that it needs.
+#[derive(Drop)]
+pub enum HeldOperation<A: Allocator> {
+    Lookup {
+        directory: u64,
+        name: Vec<u8, A>,
+    },
+    Getattr {
+        node: u64,
+    },
+    Mkdir {
+        directory: u64,
+        name: Vec<u8, A>,
+    },
+    Create {
+        directory: u64,
+        name: Vec<u8, A>,
+    },
+    Unlink {
+        directory: u64,
+        name: Vec<u8, A>,
+    },
+    Rmdir {
+        directory: u64,
+        name: Vec<u8, A>,
+    },
+    Rename {
+        directory: u64,
+        old: Vec<u8, A>,
+        new_directory: u64,
+        new: Vec<u8, A>,
+    },
+    Link {
+        node: u64,
+        directory: u64,
+        name: Vec<u8, A>,
+    },
+    Open {
+        node: u64,
+    },
+    Readdir {
+        directory: u64,
+        after: u64,
+        size: u32,
+    },
+    Read {
+        opened: Opened,
+        offset: u64,
+        size: u32,
+    },
+    Write {
+        opened: Opened,
+        offset: u64,
+        bytes: Vec<u8, A>,
+    },
+}
+
+/// What a held request asks.
+#[derive(Drop)]
+pub enum HeldBody<A: Allocator> {
+    /// INIT, with the flags that the kernel offers.
+    Init { flags: InitFlags },
+    /// An operation.
+    Asks { operation: HeldOperation<A> },
+    /// RELEASE of an open number.
+    Release { opened: Opened },
+}
+
+/// A request that is held until it is performed.
+#[derive(Drop)]
+pub struct HeldRequest<A: Allocator> {
+    body: HeldBody<A>,
+    named: Named,
+    is_marked: bool,
+}
+
+impl<A: Allocator> Model for HeldRequest<A> {
+    ghost use Rattle.std.specs.Coded.{codes};
+    ghost use Rattle.fuse_spec.specs.Server.{HeldRequest as Held};
+    ghost use Rattle.fs_files.specs.Values.{asked_of, named_in};
+
+    ghost Value = { Held };
+
+    ghost coded = { Prim.hlevel (codes) };
+
+    ghost view = { λ h. record { body = asked_of h.body; generations = named_in h.named; marked = h.is_marked } };
+}
+
+impl<A: Allocator> HeldRequest<A> {
+    /// A request that no INTERRUPT has marked.
+    pub fn new(body: HeldBody<A>, named: Named) -> Self
+        ensures { result ≡ record { body = asked_of body; generations = named_in named; marked = false } }
+    {
+        HeldRequest {
+            body,
+            named,
+            is_marked: false,
+        }
+    }
+
+    /// An INTERRUPT marks it.
+    pub fn mark(&mut self)
+        ensures { self.new ≡ record self.old { marked = true } }
+    {
+        self.is_marked = true;
+    }
+
+    pub(crate) fn is_marked(&self) -> bool
+        ensures { result ≡ self.now.marked }
+    {
+        self.is_marked
+    }
+
+    pub(crate) fn named(&self) -> Named
+        ensures { named_in result ≡ self.now.generations }
+    {
+        self.named
+    }
+
+    pub(crate) fn body(&self) -> &HeldBody<A>
+        ensures { asked_of result.now ≡ self.now.body }
+    {
+        &self.body
+    }
+
+    /// How long the body of a reply is at most that has no fixed length.
+    pub fn reply_len(&self) -> usize
+        ensures { result ≡ room_for self.now.body }
+    {
+        match &self.body {
+            HeldBody::Asks {
+                operation: HeldOperation::Read { .. } | HeldOperation::Readdir { .. },
+            } => MOST_CONTENT,
+            _ => 0,
+        }
+    }
+}

@@ -1,0 +1,79 @@
+//! What the kernel knows files by: nodes and open numbers.
+
+ghost use Rattle.std.specs.Prelude.{◌≡◌, ◌≤◌, ◌<◌, ◌+◌, ◌^◌, ◌||◌, [], OnOk, nat_eq};
+ghost use Rattle.std.specs.List.{list_any};
+ghost use Rattle.fuse_spec.specs.Maps.{values};
+ghost use Rattle.fuse_spec.specs.Nodes.{HeldNode, OpenNumber};
+ghost use Rattle.fs_files.specs.Values.{no_nodes, no_handles};
+
+use crate::nodes::Nodes;
+use fs_handles::HandleTable;
+use fs_nodes::NodeTable;
+use fs_tree::Holders;
+use std::alloc::{AllocError, Allocator, Global};
+use std::marker::Model;
+
+/// The nodes and the open numbers by which files are known.
+#[derive(Drop)]
+pub(crate) struct KnownFiles<A: Allocator + Copy = Global> {
+    pub(crate) nodes: Nodes<NodeTable<A>>,
+    pub(crate) handles: HandleTable<A>,
+}
+
+impl<A: Allocator + Copy> Model for KnownFiles<A> {
+    ghost use Rattle.std.specs.Coded.{codes};
+    ghost use Rattle.fs_files.specs.Values.{KnownState};
+
+    ghost Value = { KnownState };
+
+    ghost coded = { Prim.hlevel (codes) };
+
+    ghost view = { λ k. record { nodes = k.nodes.table; handles = k.handles.table; node_room = k.nodes.room; open_room = k.handles.room } };
+}
+
+impl<A: Allocator + Copy> KnownFiles<A> {
+    pub(crate) fn new(alloc: A) -> Self
+        ensures nodes { result.nodes ≡ no_nodes }
+        ensures handles { result.handles ≡ no_handles }
+    {
+        KnownFiles {
+            nodes: Nodes::new(alloc),
+            handles: HandleTable::new(alloc),
+        }
+    }
+
+    /// Makes room for one more node and one more open number.
+    pub(crate) fn reserve(&mut self) -> Result<(), AllocError>
+        ensures nodes { self.new.nodes ≡ self.old.nodes }
+        ensures handles { self.new.handles ≡ self.old.handles }
+        ensures node_room { OnOk result (0 < self.new.node_room) }
+        ensures open_room { OnOk result (0 < self.new.open_room) }
+    {
+        self.nodes.reserve()?;
+        self.handles.reserve()
+    }
+
+    /// Drops all nodes and open numbers. Their counters go on.
+    pub(crate) fn clear(&mut self)
+        ensures nodes { self.new.nodes ≡ record self.old.nodes { rows = [] } }
+        ensures handles { self.new.handles ≡ record self.old.handles { handles = [] } }
+    {
+        self.nodes.clear();
+        self.handles.clear();
+    }
+}
+
+impl<A: Allocator + Copy> Holders for KnownFiles<A> {
+    ghost use Rattle.std.specs.Prelude.{◌||◌, nat_eq};
+    ghost use Rattle.std.specs.List.{list_any};
+    ghost use Rattle.fuse_spec.specs.Maps.{values};
+    ghost use Rattle.fuse_spec.specs.Nodes.{HeldNode, OpenNumber};
+
+    ghost holding = { λ k file. list_any (λ (row : HeldNode). nat_eq row.file file) (values k.nodes.rows) || list_any (λ (h : OpenNumber). nat_eq h.file file) (values k.handles.handles) };
+
+    fn holds(&self, file: u64) -> bool {
+        let has_node = self.nodes.has(file);
+        let is_open = self.handles.has(file);
+        has_node || is_open
+    }
+}

@@ -1,0 +1,190 @@
+//! The nodes that the server holds, the root among them.
+
+ghost use Rattle.std.specs.Prelude.{◌≡◌, ◌+◌, ◌^◌, ◌<◌, ◌≤◌, ℕ, [], true, false, Some, OnOk, IfOk, is_some, nat_eq};
+ghost use Rattle.std.specs.List.{list_any};
+ghost use Rattle.fuse_spec.specs.Maps.{get, values};
+ghost use Rattle.fuse_spec.specs.Nodes.{HeldNode, row_of, file_of, is_held, given, row_more, taken_back, MayName, IsUnheld};
+ghost use Rattle.fuse_spec.specs.Server.{count_in, generation_in, is_known};
+ghost use Rattle.fuse_spec.specs.Copies.{row_back};
+ghost use Rattle.fs_nodes.specs.Rows.{listed};
+ghost use Rattle.fs_files.specs.Bounds.{AreCounted};
+ghost use Rattle.fs_files.specs.Values.{no_nodes};
+
+use crate::held::NamedNode;
+use fs_nodes::NodeStore;
+use fuse_spec::Entry;
+use std::alloc::AllocError;
+use std::marker::Model;
+
+/// The root's node. It is of generation 0, and has no count.
+const ROOT: u64 = 1;
+
+/// The root's file.
+const ROOT_FILE: u64 = 0;
+
+/// The nodes that the server holds: the root, and those of a table.
+#[derive(Drop)]
+pub struct Nodes<S: NodeStore> {
+    store: S,
+}
+
+impl<S: NodeStore> Model for Nodes<S> {
+    ghost use Rattle.std.specs.Coded.{codes};
+    ghost use Rattle.fs_files.specs.Values.{NodesState};
+
+    ghost Value = { NodesState };
+
+    ghost coded = { Prim.hlevel (codes) };
+
+    ghost view = { λ n. record { table = S.table n.store; room = S.room n.store } };
+}
+
+impl<S: NodeStore> Nodes<S> {
+    pub fn new(alloc: S::Heap) -> Self
+        ensures { result.table ≡ no_nodes }
+    {
+        Nodes {
+            store: S::new(alloc),
+        }
+    }
+
+    /// Makes room for one more node.
+    pub fn reserve(&mut self) -> Result<(), AllocError>
+        ensures table { self.new.table ≡ self.old.table }
+        ensures room { OnOk result (0 < self.new.room) }
+    {
+        self.store.reserve([ROOT_FILE].as_slice())
+    }
+
+    /// How many generations are left below 2^62.
+    pub fn generations_left(&self) -> u64
+        ensures { result + self.now.table.next_generation ≡ 2 ^ 62 }
+    {
+        self.store.generations_left()
+    }
+
+    /// Whether a node is held.
+    pub fn is_known(&self, id: u64) -> bool
+        ensures { result ≡ is_known self.now.table id }
+    {
+        id == ROOT || self.store.file_of(id).is_some()
+    }
+
+    /// The node with the generation that it has, which is 0 for the root and where none is held.
+    pub fn named(&self, nodeid: u64) -> NamedNode
+        ensures { result ≡ record { nodeid = nodeid; generation = generation_in (row_of self.now.table nodeid) } }
+    {
+        let generation = if nodeid == ROOT {
+            0
+        } else {
+            self.store.generation_of(nodeid).unwrap_or(0)
+        };
+        NamedNode { nodeid, generation }
+    }
+
+    /// Whether a node is held under its generation.
+    pub fn is_held(&self, node: NamedNode) -> bool
+        ensures { result ≡ is_held self.now.table node.nodeid node.generation }
+    {
+        if node.nodeid == ROOT {
+            return node.generation == 0;
+        }
+        self.store.holds(node.nodeid, node.generation)
+    }
+
+    /// The file of a node, which is the root where none is held.
+    pub fn file_of(&self, id: u64) -> u64
+        ensures { result ≡ file_of self.now.table id }
+    {
+        if id == ROOT {
+            return ROOT_FILE;
+        }
+        self.store.file_of(id).unwrap_or(ROOT_FILE)
+    }
+
+    /// The lookup count of a node, without the root: 0 where it has none.
+    pub fn count_of(&self, id: u64) -> u64
+        ensures { result ≡ count_in (get self.now.table.rows id) }
+    {
+        self.store.count_of(id)
+    }
+
+    /// Whether a node but the root is held.
+    pub fn is_counted(&self, id: u64) -> bool
+        ensures { result ≡ is_some (get self.now.table.rows id) }
+    {
+        self.store.file_of(id).is_some()
+    }
+
+    /// Whether the file has a node.
+    pub fn has(&self, file: u64) -> bool
+        ensures any { result ≡ list_any (λ (row : HeldNode). nat_eq row.file file) (values self.now.table.rows) }
+        ensures none { result ≡ false → IsUnheld self.now.table file }
+        ensures some { result ≡ true → IsUnheld self.now.table file → ⊥ }
+    {
+        self.store.keeps_sound();
+        self.store.has(file)
+    }
+
+    /// Counts one lookup of a file, and gives its nodeid and generation.
+    pub fn give(&mut self, file: u64) -> (u64, u64)
+        requires room { 0 < self.old.room }
+        requires generation { IsUnheld self.old.table file → self.old.table.next_generation < 2 ^ 62 }
+        requires count { (id : ℕ) (row : HeldNode) → get self.old.table.rows id ≡ Some row → row.count + 1 < 2 ^ 64 }
+        ensures id { MayName self.old.table file result.0 }
+        ensures two { 2 ≤ result.0 }
+        ensures generation { result.1 ≡ generation_in (row_of self.new.table result.0) }
+        ensures table { self.new.table ≡ given self.old.table file result.0 }
+    {
+        self.store.keeps_sound();
+        self.store.give(file)
+    }
+
+    /// Counts one lookup more of a node, if it is held. The root has no count.
+    pub fn count_again(&mut self, id: u64)
+        requires { AreCounted (2 ^ 62) self.old.table }
+        ensures { self.new.table ≡ row_more self.old.table id }
+    {
+        self.store.keeps_sound();
+        let Some(file) = self.store.file_of(id) else {
+            return;
+        };
+        self.store.give(file);
+    }
+
+    /// Gives so many lookups of a node back, if it is held; it has as many.
+    pub fn take_back(&mut self, id: u64, count: u64)
+        requires { count ≤ count_in (get self.old.table.rows id) }
+        ensures { self.new.table ≡ taken_back self.old.table id count }
+    {
+        let _ = self.store.take_back(id, count);
+    }
+
+    /// Gives the lookup of an entry back, where its node is still held under the entry's generation.
+    pub fn give_back(&mut self, entry: &Entry)
+        ensures { self.new.table ≡ row_back self.old.table entry.now }
+    {
+        self.store.keeps_sound();
+        let node = NamedNode {
+            nodeid: entry.nodeid,
+            generation: entry.generation,
+        };
+        if self.is_held(node) {
+            let _ = self.store.take_back(entry.nodeid, 1);
+        }
+    }
+
+    /// Drops all nodes but the root. Generations go on.
+    pub fn clear(&mut self)
+        ensures { self.new.table ≡ record self.old.table { rows = [] } }
+    {
+        self.store.clear();
+    }
+
+    /// The nodes but the root, in rising nodeid, each with its generation and its lookup count.
+    pub fn nodes(&self, alloc: S::Heap) -> Result<Vec<(u64, u64, u64), S::Heap>, AllocError>
+        ensures { IfOk result (λ nodes. nodes.items ≡ listed self.now.table.rows) }
+    {
+        self.store.nodes(alloc)
+    }
+}

@@ -1,0 +1,61 @@
+//! Whether the counters have the numbers that a held request draws.
+
+ghost use Rattle.std.specs.Prelude.{◌≡◌, ◌≤◌, ◌<◌, ◌+◌, ◌^◌, ℕ, true, false, nat_le, IfSome, Some};
+ghost use Rattle.fuse_spec.specs.Nodes.{IsUnheld};
+ghost use Rattle.fuse_spec.specs.declared.Validity.{Validity as ValidityValue};
+ghost use Rattle.fs_files.specs.Performing.{said, tree_said};
+ghost use Rattle.fs_files.specs.Plans.{Draws, HasNumbers, LacksNumber};
+ghost use Rattle.fs_files.specs.Values.{server_of};
+
+use crate::answering::are_held;
+use crate::files::Files;
+use crate::held::{HeldBody, HeldRequest};
+use crate::plan::{Plan, no_numbers, plan_of};
+use std::alloc::Allocator;
+
+impl<A: Allocator + Copy> Files<A> {
+    /// Whether the counters have the numbers that performing a held request draws. Where its reply is lost it draws only those of
+    /// the tree.
+    pub fn has_numbers(&self, held: &HeldRequest<A>, is_lost: bool) -> bool
+        ensures has { (v : ValidityValue) → result ≡ true → HasNumbers (tree_said (server_of self.now v) held.now) self.now.nodes self.now.handles is_lost (said (server_of self.now v) held.now) }
+        ensures lacks { (v : ValidityValue) → result ≡ false → LacksNumber (tree_said (server_of self.now v) held.now) self.now.nodes self.now.handles is_lost (said (server_of self.now v) held.now) }
+    {
+        let plan = self.plan_for(held);
+        plan.births <= self.tree.births_left()
+            && plan.serials <= self.tree.serials_left()
+            && (is_lost || (self.can_tell(plan.told) && self.can_open(plan.opens)))
+    }
+
+    /// What performing a held request draws.
+    fn plan_for(&self, held: &HeldRequest<A>) -> Plan
+        ensures { (v : ValidityValue) → Draws self.now.tree (tree_said (server_of self.now v) held.now) (said (server_of self.now v) held.now) result }
+    {
+        if held.is_marked() || !are_held(&self.known.nodes, held.named()) {
+            return no_numbers();
+        }
+        match held.body() {
+            HeldBody::Asks { operation } if self.is_open_for(operation) => {
+                plan_of(&self.tree, &self.known.nodes, operation)
+            }
+            _ => no_numbers(),
+        }
+    }
+
+    /// Whether a file can be told by a node: it has one, or a generation is left.
+    fn can_tell(&self, told: Option<u64>) -> bool
+        ensures can { result ≡ true → IfSome told (λ file. IsUnheld self.now.nodes file → self.now.nodes.next_generation < 2 ^ 62) }
+        ensures cannot { result ≡ false → (file : ℕ) × (told ≡ Some file) × IsUnheld self.now.nodes file × (2 ^ 62 ≤ self.now.nodes.next_generation) }
+    {
+        match told {
+            Some(file) => self.known.nodes.has(file) || self.known.nodes.generations_left() > 0,
+            None => true,
+        }
+    }
+
+    /// Whether so many open numbers are left.
+    fn can_open(&self, opens: u64) -> bool
+        ensures { result ≡ nat_le (self.now.handles.next_fh + opens) (2 ^ 62) }
+    {
+        opens <= self.known.handles.numbers_left()
+    }
+}

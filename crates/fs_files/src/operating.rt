@@ -1,0 +1,299 @@
+//! Operations that nothing refuses.
+
+ghost use Rattle.std.specs.Prelude.{◌≡◌, ◌≤◌, ◌<◌, ◌^◌, true, None, IfOk, OnErr, OnOk, map};
+ghost use Rattle.fuse_spec.specs.declared.Validity.{Validity as ValidityValue};
+ghost use Rattle.fuse_spec.specs.FileOperations.{refusal, tree_unrefused};
+ghost use Rattle.fuse_spec.specs.Numbers.{max_transfer, max_validity};
+ghost use Rattle.fuse_spec.specs.Operations.{create, getattr, link, listed, lookup, mkdir, opening, read, readdir, rename, rmdir, unlink, write};
+ghost use Rattle.fs_tree.specs.Outcomes.{IsReply};
+ghost use Rattle.fs_files.specs.Bounds.{AreLow};
+ghost use Rattle.fs_files.specs.Performing.{Operates};
+ghost use Rattle.fs_files.specs.Values.{on_files};
+
+use crate::held::{HeldOperation, MOST_CONTENT};
+use crate::nodes::Nodes;
+use crate::records::record_bytes;
+use crate::replies::{Outcome, PlainReply};
+use fs_nodes::NodeStore;
+use fs_tree::Tree;
+use fuse_spec::Validity;
+use std::alloc::{AllocError, Allocator};
+
+/// Does an operation that nothing refuses. Where memory is wanting the tree is as before.
+pub(crate) fn operate<A: Allocator + Copy, S: NodeStore>(
+    tree: &mut Tree<A>,
+    nodes: &Nodes<S>,
+    operation: &HeldOperation<A>,
+    validity: Validity,
+    alloc: A,
+) -> Result<Outcome<A>, AllocError>
+    requires unrefused { refusal tree.old (on_files nodes.now.table operation.now) ≡ None }
+    requires births { (tree_unrefused tree.old (on_files nodes.now.table operation.now)).next_birth ≤ 2 ^ 62 }
+    requires serials { (tree_unrefused tree.old (on_files nodes.now.table operation.now)).next_serial ≤ 2 ^ 62 }
+    requires low { AreLow nodes.now.table }
+    requires day { validity.missing_ms ≤ max_validity }
+    ensures ok { IfOk result (λ outcome. Operates validity tree.old (on_files nodes.now.table operation.now) outcome tree.new) }
+    ensures err { OnErr result (tree.new ≡ tree.old) }
+{
+    match operation {
+        HeldOperation::Lookup { directory, name } => {
+            look_up(tree, nodes.file_of(*directory), name, validity)
+        }
+        HeldOperation::Getattr { node } => Ok(attributes(tree, nodes.file_of(*node))),
+        HeldOperation::Mkdir { directory, name } => {
+            make_directory(tree, nodes.file_of(*directory), name)
+        }
+        HeldOperation::Create { directory, name } => {
+            make_file(tree, nodes.file_of(*directory), name)
+        }
+        HeldOperation::Unlink { directory, name } => {
+            remove_file(tree, nodes.file_of(*directory), name)
+        }
+        HeldOperation::Rmdir { directory, name } => {
+            remove_directory(tree, nodes.file_of(*directory), name)
+        }
+        HeldOperation::Rename {
+            directory,
+            old,
+            new_directory,
+            new,
+        } => {
+            let from = nodes.file_of(*directory);
+            move_file(tree, from, old, nodes.file_of(*new_directory), new)
+        }
+        HeldOperation::Link {
+            node,
+            directory,
+            name,
+        } => {
+            let file = nodes.file_of(*node);
+            link_file(tree, file, nodes.file_of(*directory), name)
+        }
+        HeldOperation::Open { node } => Ok(Outcome::Opened {
+            file: nodes.file_of(*node),
+        }),
+        HeldOperation::Readdir {
+            directory,
+            after,
+            size,
+        } => list_names(tree, nodes.file_of(*directory), *after, *size, alloc),
+        HeldOperation::Read {
+            opened,
+            offset,
+            size,
+        } => read_bytes(tree, nodes.file_of(opened.nodeid), *offset, *size, alloc),
+        HeldOperation::Write {
+            opened,
+            offset,
+            bytes,
+        } => write_bytes(tree, nodes.file_of(opened.nodeid), *offset, bytes),
+    }
+}
+
+/// A LOOKUP.
+fn look_up<A: Allocator + Copy>(
+    tree: &Tree<A>,
+    directory: u64,
+    name: &[u8],
+    validity: Validity,
+) -> Result<Outcome<A>, AllocError>
+    requires day { validity.missing_ms ≤ max_validity }
+    ensures { IfOk result (λ outcome. Operates validity tree.now (lookup directory name.now) outcome tree.now) }
+{
+    tree.keeps_shape();
+    let _births = tree.births_left();
+    match tree.lookup(directory, name) {
+        Ok(Some(file)) => Ok(Outcome::Found { file }),
+        Ok(None) => Ok(Outcome::Plain {
+            reply: PlainReply::Missing {
+                missing_ms: validity.missing_ms,
+            },
+        }),
+        Err(_) => Err(AllocError),
+    }
+}
+
+/// A GETATTR.
+fn attributes<A: Allocator + Copy>(tree: &Tree<A>, file: u64) -> Outcome<A>
+    requires { file < 2 ^ 62 }
+    ensures { (v : ValidityValue) → Operates v tree.now (getattr file) result tree.now }
+{
+    let attributes = tree.getattr(file);
+    Outcome::Plain {
+        reply: PlainReply::Attributes { attributes },
+    }
+}
+
+/// A MKDIR.
+fn make_directory<A: Allocator + Copy>(
+    tree: &mut Tree<A>,
+    directory: u64,
+    name: &[u8],
+) -> Result<Outcome<A>, AllocError>
+    requires births { tree.old.next_birth < 2 ^ 62 }
+    requires serials { tree.old.next_serial < 2 ^ 62 }
+    ensures ok { IfOk result (λ outcome. (v : ValidityValue) → Operates v tree.old (mkdir directory name.now) outcome tree.new) }
+    ensures err { OnErr result (tree.new ≡ tree.old) }
+{
+    match tree.mkdir(directory, name) {
+        Ok(file) => Ok(Outcome::Found { file }),
+        Err(_) => Err(AllocError),
+    }
+}
+
+/// A CREATE.
+fn make_file<A: Allocator + Copy>(
+    tree: &mut Tree<A>,
+    directory: u64,
+    name: &[u8],
+) -> Result<Outcome<A>, AllocError>
+    requires births { tree.old.next_birth < 2 ^ 62 }
+    requires serials { tree.old.next_serial < 2 ^ 62 }
+    ensures ok { IfOk result (λ outcome. (v : ValidityValue) → Operates v tree.old (create directory name.now) outcome tree.new) }
+    ensures err { OnErr result (tree.new ≡ tree.old) }
+{
+    match tree.create(directory, name) {
+        Ok(file) => Ok(Outcome::Created { file }),
+        Err(_) => Err(AllocError),
+    }
+}
+
+/// An UNLINK.
+fn remove_file<A: Allocator + Copy>(
+    tree: &mut Tree<A>,
+    directory: u64,
+    name: &[u8],
+) -> Result<Outcome<A>, AllocError>
+    ensures ok { IfOk result (λ outcome. (v : ValidityValue) → Operates v tree.old (unlink directory name.now) outcome tree.new) }
+    ensures err { OnErr result (tree.new ≡ tree.old) }
+{
+    match tree.unlink(directory, name) {
+        Ok(()) => Ok(done()),
+        Err(_) => Err(AllocError),
+    }
+}
+
+/// An RMDIR.
+fn remove_directory<A: Allocator + Copy>(
+    tree: &mut Tree<A>,
+    directory: u64,
+    name: &[u8],
+) -> Result<Outcome<A>, AllocError>
+    ensures ok { IfOk result (λ outcome. (v : ValidityValue) → Operates v tree.old (rmdir directory name.now) outcome tree.new) }
+    ensures err { OnErr result (tree.new ≡ tree.old) }
+{
+    match tree.rmdir(directory, name) {
+        Ok(()) => Ok(done()),
+        Err(_) => Err(AllocError),
+    }
+}
+
+/// A RENAME. One onto another name of the same file changes nothing.
+fn move_file<A: Allocator + Copy>(
+    tree: &mut Tree<A>,
+    directory: u64,
+    old: &[u8],
+    new_directory: u64,
+    new: &[u8],
+) -> Result<Outcome<A>, AllocError>
+    requires unrefused { refusal tree.old (rename directory old.now new_directory new.now) ≡ None }
+    requires serials { (tree_unrefused tree.old (rename directory old.now new_directory new.now)).next_serial ≤ 2 ^ 62 }
+    ensures ok { IfOk result (λ outcome. (v : ValidityValue) → Operates v tree.old (rename directory old.now new_directory new.now) outcome tree.new) }
+    ensures err { OnErr result (tree.new ≡ tree.old) }
+{
+    if tree.are_same(directory, old, new_directory, new) {
+        return Ok(done());
+    }
+    match tree.rename(directory, old, new_directory, new) {
+        Ok(()) => Ok(done()),
+        Err(_) => Err(AllocError),
+    }
+}
+
+/// A LINK.
+fn link_file<A: Allocator + Copy>(
+    tree: &mut Tree<A>,
+    file: u64,
+    directory: u64,
+    name: &[u8],
+) -> Result<Outcome<A>, AllocError>
+    requires serials { tree.old.next_serial < 2 ^ 62 }
+    requires low { file < 2 ^ 62 }
+    ensures ok { IfOk result (λ outcome. (v : ValidityValue) → Operates v tree.old (link file directory name.now) outcome tree.new) }
+    ensures err { OnErr result (tree.new ≡ tree.old) }
+{
+    match tree.link(file, directory, name) {
+        Ok(()) => Ok(Outcome::Found { file }),
+        Err(_) => Err(AllocError),
+    }
+}
+
+/// A READDIR.
+fn list_names<A: Allocator + Copy>(
+    tree: &Tree<A>,
+    directory: u64,
+    after: u64,
+    size: u32,
+    alloc: A,
+) -> Result<Outcome<A>, AllocError>
+    ensures { IfOk result (λ outcome. (v : ValidityValue) → Operates v tree.now (readdir directory after size) outcome tree.now) }
+{
+    let Ok(records) = tree.readdir(directory, after, size) else {
+        return Err(AllocError);
+    };
+    let records = record_bytes(alloc, &records)?;
+    if records.len() > MOST_CONTENT {
+        return Err(AllocError);
+    }
+    Ok(Outcome::Plain {
+        reply: PlainReply::Listed { records },
+    })
+}
+
+/// A READ.
+fn read_bytes<A: Allocator + Copy>(
+    tree: &Tree<A>,
+    file: u64,
+    offset: u64,
+    size: u32,
+    alloc: A,
+) -> Result<Outcome<A>, AllocError>
+    ensures { IfOk result (λ outcome. (v : ValidityValue) → Operates v tree.now (read file offset size) outcome tree.now) }
+{
+    let bytes = tree.read(file, offset, size).to_vec(alloc)?;
+    Ok(Outcome::Plain {
+        reply: PlainReply::Content { bytes },
+    })
+}
+
+/// A WRITE. Only regular files have open numbers.
+fn write_bytes<A: Allocator + Copy>(
+    tree: &mut Tree<A>,
+    file: u64,
+    offset: u64,
+    bytes: &[u8],
+) -> Result<Outcome<A>, AllocError>
+    ensures ok { IfOk result (λ outcome. (v : ValidityValue) → Operates v tree.old (write file offset bytes.now) outcome tree.new) }
+    ensures err { OnErr result (tree.new ≡ tree.old) }
+{
+    if !tree.is_regular(file) {
+        return Err(AllocError);
+    }
+    match tree.write(file, offset, bytes) {
+        Ok(()) => Ok(Outcome::Plain {
+            reply: PlainReply::Written {
+                size: bytes.len() as u32,
+            },
+        }),
+        Err(_) => Err(AllocError),
+    }
+}
+
+/// The outcome of an operation with no more to say.
+fn done<A: Allocator>() -> Outcome<A>
+    ensures { result ≡ Outcome.Plain PlainReply.Done }
+{
+    Outcome::Plain {
+        reply: PlainReply::Done,
+    }
+}

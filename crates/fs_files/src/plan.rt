@@ -1,0 +1,141 @@
+//! Which numbers an operation draws.
+
+ghost use Rattle.std.specs.Prelude.{◌≡◌, None, Some};
+ghost use Rattle.fuse_spec.specs.declared.Validity.{Validity as ValidityValue};
+ghost use Rattle.fuse_spec.specs.FileOperations.{refusal, reply_by, reply_unrefused, tree_after, tree_unrefused};
+ghost use Rattle.fuse_spec.specs.Operations.{lookup, rename};
+ghost use Rattle.fuse_spec.specs.Trees.{file_at};
+ghost use Rattle.fs_files.specs.Plans.{Draws};
+ghost use Rattle.fs_files.specs.Values.{on_files};
+
+use crate::held::HeldOperation;
+use crate::nodes::Nodes;
+use crate::refusing::refusal_of;
+use fs_nodes::NodeStore;
+use fs_tree::Tree;
+use std::alloc::Allocator;
+
+/// How many births, serials and open numbers an operation draws, and the file that it tells by a node.
+#[derive(Clone, Copy, Debug, PartialEq, Eq)]
+pub(crate) struct Plan {
+    pub(crate) births: u64,
+    pub(crate) serials: u64,
+    pub(crate) opens: u64,
+    pub(crate) told: Option<u64>,
+}
+
+/// No number.
+pub(crate) fn no_numbers() -> Plan
+    ensures { result ≡ record { births = 0; serials = 0; opens = 0; told = None } }
+{
+    Plan {
+        births: 0,
+        serials: 0,
+        opens: 0,
+        told: None,
+    }
+}
+
+/// What an operation draws.
+pub(crate) fn plan_of<A: Allocator + Copy, S: NodeStore>(
+    tree: &Tree<A>,
+    nodes: &Nodes<S>,
+    operation: &HeldOperation<A>,
+) -> Plan
+    ensures { (v : ValidityValue) → Draws tree.now (tree_after tree.now (on_files nodes.now.table operation.now)) (reply_by v tree.now (on_files nodes.now.table operation.now)) result }
+{
+    if refusal_of(tree, nodes, operation).is_some() {
+        return no_numbers();
+    }
+    unrefused_plan(tree, nodes, operation)
+}
+
+/// What an operation draws that nothing refuses.
+fn unrefused_plan<A: Allocator + Copy, S: NodeStore>(
+    tree: &Tree<A>,
+    nodes: &Nodes<S>,
+    operation: &HeldOperation<A>,
+) -> Plan
+    requires unrefused { refusal tree.now (on_files nodes.now.table operation.now) ≡ None }
+    ensures { (v : ValidityValue) → Draws tree.now (tree_unrefused tree.now (on_files nodes.now.table operation.now)) (reply_unrefused v tree.now (on_files nodes.now.table operation.now)) result }
+{
+    match operation {
+        HeldOperation::Lookup { directory, name } => {
+            plan_of_lookup(tree, nodes.file_of(*directory), name)
+        }
+        HeldOperation::Mkdir { .. } => plan_of_birth(tree.next_birth(), 0),
+        HeldOperation::Create { .. } => plan_of_birth(tree.next_birth(), 1),
+        HeldOperation::Rename {
+            directory,
+            old,
+            new_directory,
+            new,
+        } => {
+            let from = nodes.file_of(*directory);
+            plan_of_rename(tree, from, old, nodes.file_of(*new_directory), new)
+        }
+        HeldOperation::Link { node, .. } => plan_of_link(nodes.file_of(*node)),
+        HeldOperation::Open { .. } => Plan {
+            opens: 1,
+            ..no_numbers()
+        },
+        _ => no_numbers(),
+    }
+}
+
+/// What a LOOKUP draws.
+fn plan_of_lookup<A: Allocator + Copy>(tree: &Tree<A>, directory: u64, name: &[u8]) -> Plan
+    requires { refusal tree.now (lookup directory name.now) ≡ None }
+    ensures { result ≡ record { births = 0; serials = 0; opens = 0; told = file_at tree.now directory name.now } }
+{
+    match tree.lookup(directory, name) {
+        Ok(told) => Plan {
+            told,
+            ..no_numbers()
+        },
+        Err(_) => no_numbers(),
+    }
+}
+
+/// What a MKDIR or a CREATE draws.
+fn plan_of_birth(birth: u64, opens: u64) -> Plan
+    ensures { result ≡ record { births = 1; serials = 1; opens = opens; told = Some birth } }
+{
+    Plan {
+        births: 1,
+        serials: 1,
+        opens,
+        told: Some(birth),
+    }
+}
+
+/// What a LINK draws.
+fn plan_of_link(file: u64) -> Plan
+    ensures { result ≡ record { births = 0; serials = 1; opens = 0; told = Some file } }
+{
+    Plan {
+        serials: 1,
+        told: Some(file),
+        ..no_numbers()
+    }
+}
+
+/// What a RENAME draws: nothing, if it is onto another name of the same file.
+fn plan_of_rename<A: Allocator + Copy>(
+    tree: &Tree<A>,
+    directory: u64,
+    old: &[u8],
+    new_directory: u64,
+    new: &[u8],
+) -> Plan
+    requires unrefused { refusal tree.now (rename directory old.now new_directory new.now) ≡ None }
+    ensures { (v : ValidityValue) → Draws tree.now (tree_unrefused tree.now (rename directory old.now new_directory new.now)) (reply_unrefused v tree.now (rename directory old.now new_directory new.now)) result }
+{
+    if tree.are_same(directory, old, new_directory, new) {
+        return no_numbers();
+    }
+    Plan {
+        serials: 1,
+        ..no_numbers()
+    }
+}

@@ -1,0 +1,51 @@
+//! The records of a READDIR.
+
+ghost use Rattle.std.specs.Prelude.{◌≡◌, IfOk, OnOk, map};
+ghost use Rattle.fk_wire.specs.Dirents.{dirents, HaveRecordNames};
+ghost use Rattle.fk_wire.specs.Fields.{InRange, spellings};
+ghost use Rattle.fk_wire.specs.Records.{dirent_content};
+ghost use Rattle.fs_files.specs.Listing.{record_of, type_of};
+
+use fk_wire::{Dirent, put_record};
+use fs_tree::{Kind, Record};
+use std::alloc::{AllocError, Allocator};
+
+/// The bytes of the records of these names.
+pub(crate) fn record_bytes<A: Allocator>(
+    alloc: A,
+    records: &[Record<'_>],
+) -> Result<Vec<u8, A>, AllocError>
+    ensures items { IfOk result (λ bytes. bytes.items ≡ spellings (dirents (map record_of records.now))) }
+    ensures fits { OnOk result (InRange (dirents (map record_of records.now))) }
+    ensures named { OnOk result (HaveRecordNames (map record_of records.now)) }
+{
+    let mut bytes = Vec::new(alloc);
+    for record in records {
+        // No birth is near the end of its type.
+        let Some(ino) = record.file.checked_add(1) else {
+            return Err(AllocError);
+        };
+        let dirent = Dirent {
+            ino,
+            off: record.serial,
+            kind: type_of(record.kind),
+            name: record.name,
+        };
+        let put = put_record(&mut bytes, &dirent);
+        if put.is_err() {
+            return Err(AllocError);
+        }
+    }
+    Ok(bytes)
+}
+
+/// The type in a record: 4 for a directory, 8 for a file.
+fn type_of(kind: Kind) -> u32
+    ensures { result ≡ type_of kind }
+{
+    match kind {
+        Kind::Directory => 4,
+        Kind::Regular => 8,
+        Kind::Other => 0,
+    }
+}

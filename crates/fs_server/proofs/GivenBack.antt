@@ -1,0 +1,43 @@
+-- Nameless files that nothing holds go, once lookups and open numbers are given back.
+use Rattle.std.proofs.Common.{◌≡◌, ℕ, Bool, false, List, [], ap, ◌∙◌}
+use Rattle.fuse_spec.specs.Copies.{handles_back, rows_back, remounted}
+use Rattle.fuse_spec.specs.Maps.{Map}
+use Rattle.fuse_spec.specs.Messages.{Forget, WireReply}
+use Rattle.fuse_spec.specs.Nodes.{NodeTable, HandleTable}
+use Rattle.fuse_spec.specs.Operations.{files_in_reply, opens_in_reply}
+use Rattle.fuse_spec.specs.Server.{Server, HeldRequest, Kept, Copy, all_taken_back, forgetting, is_file_held, without_unheld_files}
+use Rattle.fuse_spec.specs.Trees.{Tree}
+use Rattle.fuse_spec.specs.declared.Validity.{Validity}
+use Rattle.fs_tree.specs.Outcomes.{without_unheld}
+use Rattle.fs_files.specs.Values.{FilesState, server_of}
+use Rattle.fs_server.specs.Effects.{Forgets, GivesBack}
+use Rattle.fs_server.specs.Values.{server_with}
+
+-- Nameless files that nothing holds have gone.
+pub record AreSwept (mid new : FilesState) : Type 0 where
+  pub tree : (v : Validity) → new.tree ≡ without_unheld (is_file_held (server_of mid v)) mid.tree
+  pub nodes : new.nodes ≡ mid.nodes
+  pub handles : new.handles ≡ mid.handles
+
+abbrev bare : Tree → NodeTable → HandleTable → Validity → Server
+bare t n h v = record { tree = t; nodes = n; handles = h; held = []; kept = []; copies = []; next_copy = 1; validity = v; aborted = false }
+
+swept : (mid new : FilesState) → AreSwept mid new → (v : Validity) → server_of new v ≡ without_unheld_files (server_of mid v)
+swept mid new s v = λ i. bare (s.tree v i) (s.nodes i) (s.handles i) v
+
+pub forgets : (old mid new : FilesState) (fs : List Forget) → mid.tree ≡ old.tree → mid.nodes ≡ all_taken_back old.nodes fs → mid.handles ≡ old.handles → AreSwept mid new → Forgets old fs new
+forgets old mid new fs tree nodes handles s v = swept mid new s v ∙ (λ i. without_unheld_files (bare (tree i) (nodes i) (handles i) v))
+
+pub gives_back : (old mid new : FilesState) (wire : WireReply) → mid.tree ≡ old.tree → mid.nodes ≡ rows_back old.nodes (files_in_reply wire) → mid.handles ≡ handles_back old.handles (opens_in_reply wire) → AreSwept mid new
+    → GivesBack old wire new
+gives_back old mid new wire tree nodes handles s v = swept mid new s v ∙ (λ i. without_unheld_files (bare (tree i) (nodes i) (handles i) v))
+
+-- the same of the whole server
+module _ (old new : FilesState) (held : Map HeldRequest) (kept : Map Kept) (copies : Map Copy) (next : ℕ) (v : Validity) (a : Bool) where
+  pub forgets_so : (fs : List Forget) → Forgets old fs new → server_with new held kept copies next v a ≡ forgetting (server_with old held kept copies next v a) fs
+  forgets_so fs f = ap (λ (b : Server). record b { held = held; kept = kept; copies = copies; next_copy = next; aborted = a }) (f v)
+
+  pub remounts : (mid : FilesState) (w : Validity) → mid.tree ≡ old.tree → mid.nodes ≡ record old.nodes { rows = [] } → mid.handles ≡ record old.handles { handles = [] } → AreSwept mid new
+      → server_with new [] [] [] next w false ≡ remounted (server_with old held kept copies next v a) w
+  remounts mid w tree nodes handles s =
+      ap (λ (b : Server). record b { next_copy = next }) (swept mid new s w ∙ (λ i. without_unheld_files (bare (tree i) (nodes i) (handles i) w)))

@@ -1,0 +1,288 @@
+-- A held request is performed.
+use Rattle.std.proofs.Common.{◌≡◌, ℕ, ◌+◌, ◌≤◌, ◌<◌, ◌^◌, Bool, true, false, true≢false, cond, ◌||◌, List, [], ◌∷◌, Option, Some, None, length, refl, sym, ap, subst, ◌∙◌, arith, inl, inr}
+use Rattle.std.specs.Prelude.{nat_lt, ◌⊎◌, MatchOption}
+use Rattle.std.proofs.lemmas.Bool.{lt-ltb}
+use Rattle.std.proofs.lemmas.Option.{same_Some}
+use Rattle.fuse_spec.specs.Maps.{Map, get, put, remove}
+use Rattle.fuse_spec.specs.Numbers.{counter_end}
+use Rattle.fuse_spec.specs.Operations.{Reply, files_in_reply, opens_in_reply, errno_of}
+use Rattle.fuse_spec.specs.declared.Validity.{Validity}
+use Rattle.fuse_spec.specs.declared.Refusal.TheVariants.{Exhausted}
+use Rattle.fuse_spec.specs.Messages.{RequestBody, init, asks, release, forget, batch_forget, interrupt, WireReply}
+use Rattle.fuse_spec.specs.Nodes.{NodeTable, HeldNode, HandleTable, all_given, all_opened, handle_opened, handle_back, given, generation_after, MayChoose, MayName, IsUnheld, is_open, file_of}
+use Rattle.fuse_spec.specs.Trees.{Tree}
+use Rattle.fuse_spec.specs.Performs.{PerformResult, performed, served, replying, wire_of, is_still_held}
+use Rattle.fuse_spec.specs.Server.{Server, HeldRequest, Kept, Copy, without_unheld_files, is_file_held}
+use Rattle.fuse_spec.specs.Worlds.{Sent}
+use Rattle.fs_tree.specs.Outcomes.{without_unheld}
+use Rattle.fs_files.specs.Performing.{said, tree_said, handles_said, handles_by, telling}
+use Rattle.fs_files.specs.Plans.{LacksNumber, HasNumbers}
+use Rattle.fs_files.specs.Replies.{sent_wire}
+use Rattle.fs_files.specs.Telling.{Tells}
+use Rattle.fs_files.specs.Values.{FilesState, server_of}
+use Rattle.fs_files.specs.declared.replies.SentReply.{SentReply}
+use Rattle.fs_files.proofs.Performed.{performed_is, performed_lost, files_are, no_files, same_said, same_tree, same_handles}
+use Rattle.fs_server.specs.Values.{server_with}
+use Rattle.fs_server.specs.Steps.{CanPerform}
+use Rattle.fs_server.specs.Effects.{PerformsHeld, RefusesHeld, exhausted, is_past_end}
+
+-- a server by its parts
+abbrev pub whole : Tree → NodeTable → HandleTable → Map HeldRequest → Map Kept → Map Copy → ℕ → Validity → Bool → Server
+whole t n h held kept copies next v a = record { tree = t; nodes = n; handles = h; held = held; kept = kept; copies = copies; next_copy = next; validity = v; aborted = a }
+
+-- files that only have more room are the same to requests
+pub same_bare : (start files : FilesState) (v : Validity) → start.tree ≡ files.tree → start.nodes ≡ files.nodes → start.handles ≡ files.handles → server_of start v ≡ server_of files v
+same_bare start files v tree nodes handles = λ i. whole (tree i) (nodes i) (handles i) [] [] [] 1 v false
+
+module _ (files : FilesState) (held : Map HeldRequest) (kept : Map Kept) (copies : Map Copy) (next : ℕ) (v : Validity) (unique : ℕ) (h : HeldRequest) where
+  abbrev b : Server
+  b = server_of files v
+
+  -- the server before, and without the request
+  abbrev old : Bool → Server
+  old a = server_with files held kept copies next v a
+
+  abbrev rest : Bool → Server
+  rest a = server_with files (remove held unique) kept copies next v a
+
+  -- ---- while the mount is not aborted
+
+  abbrev told : (ℕ → ℕ) → Tree → HandleTable → Reply ℕ ℕ → PerformResult
+  told choice t hs reply = telling choice (whole t files.nodes hs (remove held unique) kept copies next v false) reply
+
+  did : (choice : ℕ → ℕ) → performed choice (rest false) h ≡ told choice (tree_said b h) (handles_said b h) (said b h)
+  did choice =
+      performed_is choice (rest false) refl h
+      ∙ (λ i. told choice (same_tree b (remove held unique) kept copies next false h i) (same_handles b (remove held unique) kept copies next false h i) (same_said b (remove held unique) kept copies next false h i))
+
+  did_so : (choice : ℕ → ℕ) (t : Tree) (hs : HandleTable) (reply : Reply ℕ ℕ) → t ≡ tree_said b h → hs ≡ handles_said b h → reply ≡ said b h → performed choice (rest false) h ≡ told choice t hs reply
+  did_so choice t hs reply tree handles says = did choice ∙ (λ i. told choice (sym tree i) (sym handles i) (sym says i))
+
+  abbrev sent_as : WireReply → Copy
+  sent_as wire = record { unique = unique; wire = wire; first = next }
+
+  abbrev keeping : WireReply → Kept
+  keeping wire = record { wire = wire; first = next }
+
+  -- the server once the reply is sent
+  abbrev after : FilesState → WireReply → Server
+  after f wire = server_with f (remove held unique) (put kept unique (keeping wire)) (put copies next (sent_as wire)) (next + 1) v false
+
+  module _ (there : get held unique ≡ Some h) where
+    pub performs_live : {A : Type 0} (one two three : FilesState) (reply : Reply ℕ ℕ) (sent : SentReply A) (copy : Sent) (errno : ℕ)
+        → one.tree ≡ tree_said b h → one.handles ≡ handles_said b h → one.nodes ≡ files.nodes → reply ≡ said b h → Tells one reply sent two
+        → three.tree ≡ without_unheld (is_file_held (server_of two v)) two.tree → three.nodes ≡ two.nodes → three.handles ≡ two.handles
+        → copy ≡ record { number = next; unique = unique; wire = sent_wire sent } → errno ≡ errno_of (sent_wire sent)
+        → PerformsHeld (old false) unique errno (Some copy) (after three (sent_wire sent))
+    performs_live one two three reply sent copy errno tree handles nodes says tells left nodes_left handles_left copy_is errno_is = record {
+      held = h;
+      there = there;
+      choice = tells.choice;
+      may = subst (MayChoose tells.choice files.nodes) (ap files_in_reply says ∙ ap files_in_reply (sym (same_said b held kept copies next false h)) ∙ sym (files_are (old false) h refl)) (subst (λ (n : NodeTable). MayChoose tells.choice n (files_in_reply reply)) nodes tells.may);
+      server_is = (λ i. after (record three { tree = left i; nodes = nodes_left i; handles = handles_left i }) (sent_wire sent)) ∙ sym (ap (λ (r : PerformResult). replying (without_unheld_files r.server) unique r.wire) same);
+      copy_is = ap Some (copy_is ∙ ap (λ (r : PerformResult). record { number = next; unique = unique; wire = r.wire }) (sym same));
+      errno_is = errno_is ∙ ap (λ (r : PerformResult). errno_of r.wire) (sym same);
+    }
+      where
+        choice : ℕ → ℕ
+        choice = tells.choice
+
+        now : Tree → NodeTable → HandleTable → WireReply → PerformResult
+        now t n hs wire = record { server = whole t n hs (remove held unique) kept copies next v false; wire = wire }
+
+        given_now : all_given choice files.nodes (files_in_reply reply) ≡ two.nodes
+        given_now = ap (λ (n : NodeTable). all_given choice n (files_in_reply reply)) (sym nodes) ∙ sym tells.nodes_is
+
+        same : performed choice (rest false) h ≡ now two.tree two.nodes two.handles (sent_wire sent)
+        same =
+            did_so choice one.tree one.handles reply tree handles says
+            ∙ (λ i. now one.tree (given_now i) (sym tells.handles_is i) (wire_of choice (given_now i) one.tree one.handles.next_fh reply))
+            ∙ (λ i. now (sym tells.tree_is i) two.nodes two.handles (sym tells.wire_is i))
+
+    -- the same from files that only have more room
+    pub performs_from : {A : Type 0} (start one two three : FilesState) (reply : Reply ℕ ℕ) (sent : SentReply A) (copy : Sent) (errno : ℕ) → start.tree ≡ files.tree → start.nodes ≡ files.nodes → start.handles ≡ files.handles
+        → one.tree ≡ tree_said (server_of start v) h → one.handles ≡ handles_said (server_of start v) h → one.nodes ≡ start.nodes → reply ≡ said (server_of start v) h → Tells one reply sent two
+        → three.tree ≡ without_unheld (is_file_held (server_of two v)) two.tree → three.nodes ≡ two.nodes → three.handles ≡ two.handles
+        → copy ≡ record { number = next; unique = unique; wire = sent_wire sent } → errno ≡ errno_of (sent_wire sent)
+        → PerformsHeld (old false) unique errno (Some copy) (after three (sent_wire sent))
+    performs_from start one two three reply sent copy errno tree_start nodes_start handles_start tree handles nodes says tells left nodes_left handles_left copy_is errno_is =
+        let same : server_of start v ≡ b = same_bare start files v tree_start nodes_start handles_start in
+        performs_live one two three reply sent copy errno (tree ∙ ap (λ x. tree_said x h) same) (handles ∙ ap (λ x. handles_said x h) same) (nodes ∙ nodes_start) (says ∙ ap (λ x. said x h) same) tells left nodes_left handles_left copy_is errno_is
+
+  -- ---- after an abort
+
+  abbrev after_lost : FilesState → Server
+  after_lost f = server_with f (remove held unique) kept copies next v true
+
+  module _ (there : get held unique ≡ Some h) where
+    pub performs_lost : (one three : FilesState) (reply : Reply ℕ ℕ) (errno : ℕ)
+        → one.tree ≡ tree_said b h → one.handles ≡ handles_said b h → one.nodes ≡ files.nodes → reply ≡ said b h
+        → three.tree ≡ without_unheld (is_file_held (server_of one v)) one.tree → three.nodes ≡ one.nodes → three.handles ≡ one.handles
+        → errno ≡ errno_of reply → PerformsHeld (old true) unique errno None (after_lost three)
+    performs_lost one three reply errno tree handles nodes says left nodes_left handles_left errno_is = record {
+      held = h;
+      there = there;
+      choice = λ n. n;
+      may = subst (MayChoose (λ n. n) files.nodes) (sym (no_files (old true) h refl)) tt;
+      server_is = (λ i. after_lost (record three { tree = left i; nodes = nodes_left i; handles = handles_left i })) ∙ sym (ap (λ (s : Server). replying (without_unheld_files s) unique (performed (λ n. n) (rest true) h).wire) same);
+      copy_is = refl;
+      errno_is = errno_is ∙ ap errno_of (says ∙ sym (same_said b (remove held unique) kept copies next true h)) ∙ sym (performed_lost (λ n. n) (rest true) refl h).1;
+    }
+      where
+        now : Tree → NodeTable → HandleTable → Server
+        now t n hs = whole t n hs (remove held unique) kept copies next v true
+
+        same : (performed (λ n. n) (rest true) h).server ≡ now one.tree one.nodes one.handles
+        same =
+            (performed_lost (λ n. n) (rest true) refl h).0
+            ∙ (λ i. now (same_tree b (remove held unique) kept copies next true h i) files.nodes (same_handles b (remove held unique) kept copies next true h i))
+            ∙ (λ i. now (sym tree i) (sym nodes i) (sym handles i))
+
+-- ---- counters at their end
+
+any_past : (a b c d e : Bool) → (a ≡ true) ⊎ ((b ≡ true) ⊎ ((c ≡ true) ⊎ ((d ≡ true) ⊎ (e ≡ true)))) → (a || b || c || d || e) ≡ true
+any_past true b c d e h = refl
+any_past false true c d e h = refl
+any_past false false true d e h = refl
+any_past false false false true e h = refl
+any_past false false false false true h = refl
+any_past false false false false false h = elim h [
+  | inl x ↦ absurd (true≢false (sym x))
+  | inr y ↦ elim y [ inl x ↦ absurd (true≢false (sym x)) | inr z ↦ elim z [ inl x ↦ absurd (true≢false (sym x)) | inr w ↦ elim w [ inl x ↦ absurd (true≢false (sym x)) | inr x ↦ absurd (true≢false (sym x)) ] ] ]
+]
+
+pub over : (n : ℕ) → 2 ^ 62 < n → nat_lt counter_end n ≡ true
+over n lt = lt-ltb counter_end n (omega (arith, lt))
+
+abbrev Past : Server → Type 0
+Past s = (2 ^ 62 < s.tree.next_birth) ⊎ ((2 ^ 62 < s.tree.next_serial) ⊎ ((2 ^ 62 < s.nodes.next_generation) ⊎ ((2 ^ 62 < s.handles.next_fh) ⊎ (2 ^ 62 < s.next_copy))))
+
+pub past : (s : Server) → Past s → is_past_end s ≡ true
+past s p =
+    any_past (nat_lt counter_end s.tree.next_birth) (nat_lt counter_end s.tree.next_serial) (nat_lt counter_end s.nodes.next_generation) (nat_lt counter_end s.handles.next_fh) (nat_lt counter_end s.next_copy)
+    (elim p [
+      | inl a ↦ inl (over s.tree.next_birth a)
+      | inr q ↦ inr (elim q [
+        | inl a ↦ inl (over s.tree.next_serial a)
+        | inr r ↦ inr (elim r [ inl a ↦ inl (over s.nodes.next_generation a) | inr t ↦ inr (elim t [ inl a ↦ inl (over s.handles.next_fh a) | inr a ↦ inr (over s.next_copy a) ]) ])
+      ])
+    ])
+
+new_generation : (nodes : NodeTable) (file id : ℕ) → IsUnheld nodes file → MayName nodes file id → (given nodes file id).next_generation ≡ nodes.next_generation + 1
+new_generation nodes file id unheld may = by (get nodes.rows id) refl may
+  where
+    by : (o : Option HeldNode) → get nodes.rows id ≡ o → MatchOption o ((2 ≤ id) × IsUnheld nodes file) (λ row. row.file ≡ file) → generation_after nodes o ≡ nodes.next_generation + 1
+    by None e m = refl
+    by (Some row) e m = absurd (unheld id row e m)
+
+all_numbers : (t : HandleTable) (files : List ℕ) → (all_opened t files).next_fh ≡ t.next_fh + length files
+all_numbers t [] = omega arith
+all_numbers t (file ∷ files) = let rest = all_numbers (handle_opened t file) files in omega (arith, rest)
+
+numbers_said : (s : Server) (h : HeldRequest) → (handles_said s h).next_fh ≡ s.handles.next_fh
+numbers_said s h = by h.marked (is_still_held s.nodes h.generations)
+  where
+    of_body : (body : RequestBody) → (handles_by s body).next_fh ≡ s.handles.next_fh
+    of_body init = refl
+    of_body (asks operation) = refl
+    of_body (release o) = released (is_open s.handles o.fh (file_of s.nodes o.nodeid))
+      where
+        released : (b : Bool) → (cond b (handle_back s.handles o.fh) s.handles).next_fh ≡ s.handles.next_fh
+        released true = refl
+        released false = refl
+    of_body (forget f) = refl
+    of_body (batch_forget fs) = refl
+    of_body (interrupt original) = refl
+
+    by : (m b : Bool) → (cond m s.handles (cond b (handles_by s h.body) s.handles)).next_fh ≡ s.handles.next_fh
+    by true b = refl
+    by false true = of_body h.body
+    by false false = refl
+
+module _ (files : FilesState) (held : Map HeldRequest) (kept : Map Kept) (copies : Map Copy) (next : ℕ) (v : Validity) (unique : ℕ) (h : HeldRequest) (there : get held unique ≡ Some h) where
+  abbrev bare : Server
+  bare = server_of files v
+
+  -- the server once the request is performed
+  abbrev end_live : (ℕ → ℕ) → Server
+  end_live choice =
+      replying (without_unheld_files (told files held kept copies next v unique h choice (tree_said bare h) (handles_said bare h) (said bare h)).server) unique (told files held kept copies next v unique h choice (tree_said bare h) (handles_said bare h) (said bare h)).wire
+
+  abbrev end_lost : (ℕ → ℕ) → Server
+  end_lost choice =
+      replying (without_unheld_files (whole (tree_said bare h) files.nodes (handles_said bare h) (remove held unique) kept copies next v true)) unique (performed choice (server_with files (remove held unique) kept copies next v true) h).wire
+
+  ends_live : (choice : ℕ → ℕ) → (served choice (server_with files held kept copies next v false) unique h).server ≡ end_live choice
+  ends_live choice = ap (λ (r : PerformResult). replying (without_unheld_files r.server) unique r.wire) (did files held kept copies next v unique h choice)
+
+  past_told : (choice : ℕ → ℕ) → MayChoose choice files.nodes (files_in_reply (said bare h)) → LacksNumber (tree_said bare h) files.nodes files.handles false (said bare h)
+      → Past (end_live choice)
+  past_told choice may lacks = elim lacks [
+    | inl births ↦ inl births
+    | inr q ↦ elim q [
+      | inl serials ↦ inr (inl serials)
+      | inr r ↦ elim r.1 [
+        | inl g ↦
+            let one = subst (MayChoose choice files.nodes) g.1 may in
+            let more = new_generation files.nodes g.0 (choice g.0) g.2 one.0 in
+            let same : (all_given choice files.nodes (files_in_reply (said bare h))).next_generation ≡ (given files.nodes g.0 (choice g.0)).next_generation = ap (λ (xs : List ℕ). (all_given choice files.nodes xs).next_generation) g.1 in
+            let full = g.3 in
+            inr (inr (inl (omega (arith, more, same, full))))
+        | inr numbers ↦
+            let all = all_numbers (handles_said bare h) (opens_in_reply (said bare h)) in
+            let start = numbers_said bare h in
+            inr (inr (inr (inl (omega (arith, all, start, numbers)))))
+      ]
+    ]
+  ]
+
+  pub lacking_live : LacksNumber (tree_said bare h) files.nodes files.handles false (said bare h) → RefusesHeld (server_with files held kept copies next v false) unique Exhausted
+  lacking_live lacks = exhausted h there (λ choice may.
+      ap is_past_end (ends_live choice)
+      ∙ past (end_live choice) (past_told choice (subst (MayChoose choice files.nodes) (files_are (server_with files held kept copies next v false) h refl ∙ ap files_in_reply (same_said bare held kept copies next false h)) may) lacks))
+
+  pub no_copy : 2 ^ 62 ≤ next → RefusesHeld (server_with files held kept copies next v false) unique Exhausted
+  no_copy le = exhausted h there (λ choice may. ap is_past_end (ends_live choice) ∙ past (end_live choice) (inr (inr (inr (inr (omega (arith, le)))))))
+
+  lost_is : (choice : ℕ → ℕ) → (performed choice (server_with files (remove held unique) kept copies next v true) h).server ≡ whole (tree_said bare h) files.nodes (handles_said bare h) (remove held unique) kept copies next v true
+  lost_is choice =
+      (performed_lost choice (server_with files (remove held unique) kept copies next v true) refl h).0
+      ∙ (λ i. whole (same_tree bare (remove held unique) kept copies next true h i) files.nodes (same_handles bare (remove held unique) kept copies next true h i) (remove held unique) kept copies next v true)
+
+  pub lacking_lost : LacksNumber (tree_said bare h) files.nodes files.handles true (said bare h) → RefusesHeld (server_with files held kept copies next v true) unique Exhausted
+  lacking_lost lacks = exhausted h there (λ choice may.
+      ap (λ (s : Server). is_past_end (replying (without_unheld_files s) unique (performed choice (server_with files (remove held unique) kept copies next v true) h).wire)) (lost_is choice)
+      ∙ past (end_lost choice) (elim lacks [ inl births ↦ inl births | inr q ↦ elim q [ inl serials ↦ inr (inl serials) | inr r ↦ absurd (true≢false r.0) ] ]))
+
+  pub lacking : (a : Bool) → LacksNumber (tree_said bare h) files.nodes files.handles a (said bare h) → RefusesHeld (server_with files held kept copies next v a) unique Exhausted
+  lacking true lacks = lacking_lost lacks
+  lacking false lacks = lacking_live lacks
+
+  -- what the server says of a request is what its files say
+  pub can : (a : Bool) → (a ≡ false → next < 2 ^ 62) → HasNumbers (tree_said bare h) files.nodes files.handles a (said bare h) → CanPerform (server_with files held kept copies next v a) unique
+  can a copy has = record {
+    held = h;
+    there = there;
+    copy = copy;
+    numbers = subst (λ (t : Tree). HasNumbers t files.nodes files.handles a (said (server_with files held kept copies next v a) h)) (sym (same_tree bare held kept copies next a h))
+        (subst (λ (r : Reply ℕ ℕ). HasNumbers (tree_said bare h) files.nodes files.handles a r) (sym (same_said bare held kept copies next a h)) has);
+  }
+
+  pub numbers_of : (a : Bool) → CanPerform (server_with files held kept copies next v a) unique → HasNumbers (tree_said bare h) files.nodes files.handles a (said bare h)
+  numbers_of a c =
+      subst (λ (t : Tree). HasNumbers t files.nodes files.handles a (said bare h)) (same_tree bare held kept copies next a h)
+      (subst (λ (r : Reply ℕ ℕ). HasNumbers (tree_said (server_with files held kept copies next v a) h) files.nodes files.handles a r) (same_said bare held kept copies next a h)
+      (subst (λ (x : HeldRequest). HasNumbers (tree_said (server_with files held kept copies next v a) x) files.nodes files.handles a (said (server_with files held kept copies next v a) x)) (same_Some c.held h (sym c.there ∙ there)) c.numbers))
+
+  -- the files that are told can be
+  pub live_numbers : (start one : FilesState) (reply : Reply ℕ ℕ) → start.tree ≡ files.tree → start.nodes ≡ files.nodes → start.handles ≡ files.handles → one.nodes ≡ start.nodes → one.handles ≡ handles_said (server_of start v) h
+      → reply ≡ said (server_of start v) h → HasNumbers (tree_said bare h) files.nodes files.handles false (said bare h)
+      → ((file : ℕ) → files_in_reply reply ≡ file ∷ [] → IsUnheld one.nodes file → one.nodes.next_generation < 2 ^ 62) × (one.handles.next_fh + length (opens_in_reply reply) ≤ 2 ^ 62)
+  live_numbers start one reply tree_start nodes_start handles_start nodes handles says has =
+      let same : server_of start v ≡ bare = same_bare start files v tree_start nodes_start handles_start in
+      let n : one.nodes ≡ files.nodes = nodes ∙ nodes_start in
+      let r : reply ≡ said bare h = says ∙ ap (λ x. said x h) same in
+      let fh : one.handles.next_fh ≡ files.handles.next_fh = ap (λ (t : HandleTable). t.next_fh) (handles ∙ ap (λ x. handles_said x h) same) ∙ numbers_said bare h in
+      let most = has.numbers refl in
+      let len : length (opens_in_reply reply) ≡ length (opens_in_reply (said bare h)) = ap (λ (x : Reply ℕ ℕ). length (opens_in_reply x)) r in
+      ((λ file is unheld. subst (λ (t : NodeTable). t.next_generation < 2 ^ 62) (sym n) (has.generations refl file (ap files_in_reply (sym r) ∙ is) (subst (λ (t : NodeTable). IsUnheld t file) n unheld))), omega (arith, fh, most, len))

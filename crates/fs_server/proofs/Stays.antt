@@ -1,0 +1,119 @@
+-- The server stays sound.
+use Rattle.std.proofs.Common.{◌≡◌, ℕ, ◌+◌, ◌≤◌, ◌<◌, ◌^◌, Bool, true, false, cond, nat_eq, List, [], Option, Some, None, refl, sym, ap, subst, ◌∙◌, arith}
+use Rattle.fuse_spec.specs.Maps.{Map, get, put, remove}
+use Rattle.fuse_spec.specs.Messages.{Forget, WireReply}
+use Rattle.fuse_spec.specs.Nodes.{NodeTable, HandleTable, all_given, all_opened}
+use Rattle.fuse_spec.specs.Numbers.{max_validity}
+use Rattle.fuse_spec.specs.Operations.{Reply, files_in_reply, opens_in_reply}
+use Rattle.fuse_spec.specs.Copies.{rows_counted, handles_counted, kept_after}
+use Rattle.fuse_spec.specs.Server.{Server, HeldRequest, Kept, Copy}
+use Rattle.fuse_spec.specs.declared.Validity.{Validity}
+use Rattle.fuse_spec.specs.declared.WriteResult.{WriteResult}
+use Rattle.fuse_spec.specs.declared.WriteResult.TheVariants.{Accepted, NoEntry, Invalid}
+use Rattle.std.proofs.lemmas.Option.{none-some}
+use Rattle.fs_files.specs.Bounds.{AreCounted, AreUsed}
+use Rattle.fs_files.specs.Performing.{handles_said}
+use Rattle.fs_files.specs.Telling.{Tells}
+use Rattle.fs_files.specs.Values.{FilesState, server_of}
+use Rattle.fs_files.specs.declared.replies.SentReply.{SentReply}
+use Rattle.fs_server.specs.Effects.{Forgets, GivesBack, SettlesFiles}
+use Rattle.fs_server.specs.Sound.{IsSound}
+use Rattle.fs_server.proofs.Sound.{apart_again, apart_performed, apart_settled, apart_taken, counted_again, counted_all, counted_rows, counted_told, gone_none, used_again, used_all, used_said, used_told}
+
+module _ {V W X : Type 0} (files : FilesState) (held : Map V) (kept : Map W) (copies : Map X) (next : ℕ) (v : Validity) (old : IsSound files held kept copies next v) where
+  pub with_files : (new : FilesState) → AreCounted next new.nodes → AreUsed next new.handles → IsSound new held kept copies next v
+  with_files new counted used = record { requests = old.requests; counted = counted; used = used; numbers = old.numbers; found_day = old.found_day; missing_day = old.missing_day }
+
+  pub forgotten : (new : FilesState) (fs : List Forget) → Forgets files fs new → IsSound new held kept copies next v
+  forgotten new fs f =
+      with_files new (subst (AreCounted next) (sym (ap (λ (s : Server). s.nodes) (f v))) (counted_all next files.nodes fs old.counted)) (subst (AreUsed next) (sym (ap (λ (s : Server). s.handles) (f v))) old.used)
+
+  pub given_back : (new : FilesState) (wire : WireReply) → GivesBack files wire new → IsSound new held kept copies next v
+  given_back new wire g =
+      with_files new (subst (AreCounted next) (sym (ap (λ (s : Server). s.nodes) (g v))) (counted_rows next files.nodes (files_in_reply wire) old.counted))
+      (subst (AreUsed next) (sym (ap (λ (s : Server). s.handles) (g v))) (used_all next files.handles (opens_in_reply wire) old.used))
+
+  pub taken : (unique : ℕ) (x : V) → get kept unique ≡ None → IsSound files (put held unique x) kept copies next v
+  taken unique x none = record { requests = apart_taken held kept copies next old.requests unique x none; counted = old.counted; used = old.used; numbers = old.numbers; found_day = old.found_day; missing_day = old.missing_day }
+
+  pub settled : (number : ℕ) → IsSound files held kept (remove copies number) next v
+  settled number = record { requests = apart_settled held kept copies next old.requests number; counted = old.counted; used = old.used; numbers = old.numbers; found_day = old.found_day; missing_day = old.missing_day }
+
+  pub unkept : (unique : ℕ) → IsSound files held (remove kept unique) copies next v
+  unkept unique = record {
+    requests = record { apart = λ n there. gone_none kept unique n (old.requests.apart n there); copies_below = old.requests.copies_below };
+    counted = old.counted;
+    used = old.used;
+    numbers = old.numbers;
+    found_day = old.found_day;
+    missing_day = old.missing_day;
+  }
+
+  pub unheld : (unique : ℕ) → IsSound files (remove held unique) kept copies next v
+  unheld unique = record {
+    requests = record { apart = λ n there. old.requests.apart n (λ none. there (gone_none held unique n none)); copies_below = old.requests.copies_below };
+    counted = old.counted;
+    used = old.used;
+    numbers = old.numbers;
+    found_day = old.found_day;
+    missing_day = old.missing_day;
+  }
+
+  pub sent_again : (new : FilesState) (wire : WireReply) (x : X) → new.nodes ≡ rows_counted files.nodes (files_in_reply wire) → new.handles ≡ handles_counted files.handles (opens_in_reply wire) → next < 2 ^ 62
+      → IsSound new held kept (put copies next x) (next + 1) v
+  sent_again new wire x nodes handles low = record {
+    requests = apart_again held kept copies next old.requests x;
+    counted = subst (AreCounted (next + 1)) (sym nodes) (counted_again next files.nodes wire old.counted);
+    used = subst (AreUsed (next + 1)) (sym handles) (used_again next files.handles wire old.used);
+    numbers = omega (arith, low);
+    found_day = old.found_day;
+    missing_day = old.missing_day;
+  }
+
+  pub lost : IsSound {V = V} {W = W} {X = X} files held [] [] next v
+  lost = record { requests = record { apart = λ n there. refl; copies_below = λ n le. refl }; counted = old.counted; used = old.used; numbers = old.numbers; found_day = old.found_day; missing_day = old.missing_day }
+
+  pub performed : {A : Type 0} (h : HeldRequest) (unique : ℕ) (one two three : FilesState) (reply : Reply ℕ ℕ) (sent : SentReply A) (w : W) (x : X) → one.handles ≡ handles_said (server_of files v) h → one.nodes ≡ files.nodes
+      → Tells one reply sent two → three.nodes ≡ two.nodes → three.handles ≡ two.handles → next < 2 ^ 62 → IsSound three (remove held unique) (put kept unique w) (put copies next x) (next + 1) v
+  performed h unique one two three reply sent w x handles nodes tells left_nodes left_handles low = record {
+    requests = apart_performed held kept copies next old.requests unique w x;
+    counted = subst (AreCounted (next + 1)) (sym (left_nodes ∙ tells.nodes_is ∙ ap (λ (t : NodeTable). all_given tells.choice t (files_in_reply reply)) nodes)) (counted_told next tells.choice files.nodes reply old.counted);
+    used = subst (AreUsed (next + 1)) (sym (left_handles ∙ tells.handles_is ∙ ap (λ (t : HandleTable). all_opened t (opens_in_reply reply)) handles)) (used_told next (handles_said (server_of files v) h) reply (used_said next (server_of files v) h old.used));
+    numbers = omega (arith, low);
+    found_day = old.found_day;
+    missing_day = old.missing_day;
+  }
+
+  pub performed_lost : (h : HeldRequest) (unique : ℕ) (one three : FilesState) → one.handles ≡ handles_said (server_of files v) h → one.nodes ≡ files.nodes → three.nodes ≡ one.nodes → three.handles ≡ one.handles
+      → IsSound three (remove held unique) kept copies next v
+  performed_lost h unique one three handles nodes left_nodes left_handles = record {
+    requests = record { apart = λ n there. old.requests.apart n (λ none. there (gone_none held unique n none)); copies_below = old.requests.copies_below };
+    counted = subst (AreCounted next) (sym (left_nodes ∙ nodes)) old.counted;
+    used = subst (AreUsed next) (sym (left_handles ∙ handles)) (used_said next (server_of files v) h old.used);
+    numbers = old.numbers;
+    found_day = old.found_day;
+    missing_day = old.missing_day;
+  }
+
+  -- the files, once nothing is known
+  pub cleared : (new : FilesState) → new.nodes ≡ record files.nodes { rows = [] } → new.handles ≡ record files.handles { handles = [] } → IsSound new held kept copies next v
+  cleared new nodes handles = with_files new (subst (AreCounted next) (sym nodes) (λ id row is. absurd (none-some row is))) (subst (AreUsed next) (sym handles) (λ fh h is. absurd (none-some h is)))
+
+pub first_again : {V W X : Type 0} (files : FilesState) (next : ℕ) (v w : Validity) → AreCounted next files.nodes → AreUsed next files.handles → next ≤ 2 ^ 62 → w.found_ms ≤ max_validity → w.missing_ms ≤ max_validity
+    → IsSound {V = V} {W = W} {X = X} files [] [] [] next w
+first_again files next v w counted used numbers found missing = record { requests = record { apart = λ n there. refl; copies_below = λ n le. refl }; counted = counted; used = used; numbers = numbers; found_day = found; missing_day = missing }
+
+pub unkept_copy : {V X : Type 0} (files : FilesState) (held : Map V) (kept : Map Kept) (copies : Map X) (next : ℕ) (v : Validity) → IsSound files held kept copies next v → (copy : Copy) (o : Option Kept)
+    → IsSound files held (kept_after kept copy o) copies next v
+unkept_copy files held kept copies next v old copy None = old
+unkept_copy files held kept copies next v old copy (Some k) = by (nat_eq k.first copy.first)
+  where
+    by : (b : Bool) → IsSound files held (cond b (remove kept copy.unique) kept) copies next v
+    by true = unkept files held kept copies next v old copy.unique
+    by false = old
+
+pub settled_files : {V W X : Type 0} (files : FilesState) (held : Map V) (kept : Map W) (copies : Map X) (next : ℕ) (v : Validity) → IsSound files held kept copies next v → (new : FilesState) (wire : WireReply) (result : WriteResult)
+    → SettlesFiles files wire result new → IsSound new held kept copies next v
+settled_files files held kept copies next v old new wire Accepted same = subst (λ (f : FilesState). IsSound f held kept copies next v) (sym same) old
+settled_files files held kept copies next v old new wire NoEntry gives = given_back files held kept copies next v old new wire gives
+settled_files files held kept copies next v old new wire Invalid gives = given_back files held kept copies next v old new wire gives

@@ -1,0 +1,10 @@
+use Rattle.fs_files.specs.Replies.{sent_wire}
+use Rattle.fs_server.proofs.Stays.{sent_again}
+use Rattle.fs_server.proofs.server.Server.send_again.Goals as goal
+
+pub invariant_of-self-2 : goal.invariant_of-self-2
+invariant_of-self-2 g c =
+    let s = c.self.inside in
+    let can = rw (← c.self.view_is) at c.requires in
+    rw (c.put.ensures.entries, c.in_ok-reserve.ensures.entries)
+    (sent_again s.files s.held.entries s.kept.entries s.copies.entries s.next_copy s.validity c.self.invariant c.count_again.new.files (sent_wire c.reply-reply.result.now) c.new-sent.result c.count_again.ensures.nodes c.count_again.ensures.handles can.number)

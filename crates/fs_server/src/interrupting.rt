@@ -1,0 +1,92 @@
+//! INTERRUPTs are taken.
+
+ghost use Rattle.std.specs.Prelude.{◌≡◌, true, None, Some, OnErr, IfErr, IfOk};
+ghost use Rattle.fuse_spec.specs.Maps.{get, put};
+ghost use Rattle.fuse_spec.specs.Server.{HeldRequest as HeldState};
+ghost use Rattle.fs_server.specs.Interrupts.{AsksAgain, Interrupts, RefusesEagain, RefusesInterrupt};
+
+use crate::replies::SentCopy;
+use crate::server::{COUNTER_END, Server, ServerFault, Took};
+use fs_files::{PlainReply, SentReply};
+use fuse_frames::ReplyRoom;
+use fuse_spec::Taken;
+use std::alloc::Allocator;
+
+/// EAGAIN, to an INTERRUPT of a request that is not known.
+const EAGAIN: u32 = 11;
+
+impl<A: Allocator + Copy> Server<A> {
+    /// Takes an INTERRUPT: it marks a request that is held, is ignored while the request's reply is kept, and else is answered EAGAIN.
+    ///
+    /// # Errors
+    ///
+    /// `Exhausted` where it is answered and no copy number is left, then `Memory`; the server is as before.
+    pub(crate) fn interrupt(&mut self, unique: u64, original: u64) -> Result<Took<A>, ServerFault>
+        ensures refused { OnErr result (self.new ≡ self.old) }
+        ensures fault { IfErr result (RefusesInterrupt self.old unique original) }
+        ensures effect { IfOk result (λ took. Interrupts self.old unique original took self.new) }
+    {
+        if self.held.get(original).is_some() {
+            self.mark(original);
+            return Ok(took(unique, Taken::Marked));
+        }
+        if self.kept.get(original).is_some() {
+            return Ok(took(unique, Taken::Ignored));
+        }
+        self.ask_again(unique)
+    }
+
+    /// Marks a request that is held.
+    fn mark(&mut self, original: u64)
+        ensures { (h : HeldState) → get self.old.held original ≡ Some h → self.new ≡ record self.old { held = put self.old.held original (record h { marked = true }) } }
+    {
+        let Some(held) = self.held.remove(original) else {
+            return;
+        };
+        let mut held = held;
+        held.mark();
+        self.held.put(original, held);
+    }
+
+    /// Answers an INTERRUPT with EAGAIN. The reply is not kept.
+    fn ask_again(&mut self, unique: u64) -> Result<Took<A>, ServerFault>
+        ensures refused { OnErr result (self.new ≡ self.old) }
+        ensures fault { IfErr result (RefusesEagain self.old unique) }
+        ensures sent { IfOk result (λ took. AsksAgain self.old unique took self.new) }
+    {
+        let number = self.next_copy;
+        if number >= COUNTER_END {
+            return Err(ServerFault::Exhausted);
+        }
+        self.files.within();
+        let Ok(()) = self.copies.reserve(1) else {
+            return Err(ServerFault::Memory);
+        };
+        let Ok(room) = ReplyRoom::new(self.alloc, 0) else {
+            return Err(ServerFault::Memory);
+        };
+        let reply = SentReply::Plain {
+            reply: PlainReply::Failed { errno: EAGAIN },
+        };
+        let copy = reply.framed(room, number, unique);
+        self.copies
+            .put(number, SentCopy::new(unique, reply, number));
+        self.next_copy = number + 1;
+        Ok(Took {
+            unique,
+            word: Taken::Again,
+            copy: Some(copy),
+        })
+    }
+}
+
+/// What became of a request to which no reply is sent at once.
+pub(crate) fn took<A: Allocator>(unique: u64, word: Taken) -> Took<A>
+    ensures { result ≡ record { unique = unique; word = word; copy = None } }
+{
+    Took {
+        unique,
+        word,
+        copy: None,
+    }
+}
