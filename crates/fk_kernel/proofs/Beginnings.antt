@@ -7,9 +7,10 @@ use Rattle.fuse_spec.specs.Steps.{is_ready}
 use Rattle.fuse_spec.specs.Uniques.{numbers_left_from}
 use Rattle.fuse_spec.specs.Vfs.{CallState, Advance, numbered, begun, asking, answered, no_more}
 use Rattle.fuse_spec.specs.Answers.{Answer}
-use Rattle.fk_syscalls.specs.Values.{call_of}
+use Rattle.fk_syscalls.specs.Values.{call_of, ClosesNone}
 use Rattle.fk_syscalls.specs.declared.call.Call.{Call}
-use Rattle.fk_kernel.proofs.CallKinds.{closes_none}
+use Rattle.fk_syscalls.specs.declared.call.Call.TheVariants.{Stat, List as Lists, Open, Mkdir, Create, Unlink, Rmdir, Rename, Link, Read, Write, Close}
+use Rattle.fk_kernel.proofs.Standing.{closes_none}
 use Rattle.fk_kernel.proofs.Phases.{none_past_end}
 use Rattle.fuse_spec.specs.declared.Opened.{Opened}
 use Rattle.fuse_spec.specs.declared.Refusal.{Refusal}
@@ -17,15 +18,15 @@ use Rattle.fuse_spec.specs.declared.Refusal.TheVariants.{NoMemory, NotReady, Ful
 use Rattle.fk_kernel.specs.Refused.{is_past_end, or_no_memory, begin_refusal}
 
 -- one number more is past the end where none is left
-past_end : (unique call : ℕ) → call < 2 ^ 62 → (nat_lt (2 ^ 62) (unique + 2) || nat_lt (2 ^ 62) (call + 1)) ≡ nat_eq ((2 ^ 62 - unique) / 2) 0
+pub past_end : (unique call : ℕ) → call < 2 ^ 62 → (nat_lt (2 ^ 62) (unique + 2) || nat_lt (2 ^ 62) (call + 1)) ≡ nat_eq ((2 ^ 62 - unique) / 2) 0
 past_end unique call low = grind (arith, nat_tests)
 
-by_tests : (ready full past none : Bool) → ready ≡ true → full ≡ false → past ≡ none
+pub by_tests : (ready full past none : Bool) → ready ≡ true → full ≡ false → past ≡ none
     → or_no_memory (cond (not ready) (Some NotReady) (cond full (Some Full) (cond past (Some Exhausted) None))) ≡ cond none Exhausted NoMemory
 by_tests ready full true none r f p = rw (r, f, sym p) refl
 by_tests ready full false none r f p = rw (r, f, sym p) refl
 
-unrefused : (ready full past : Bool) → ready ≡ true → full ≡ false → past ≡ false → cond (not ready) (Some NotReady) (cond full (Some Full) (cond past (Some Exhausted) None)) ≡ None
+pub unrefused : (ready full past : Bool) → ready ≡ true → full ≡ false → past ≡ false → cond (not ready) (Some NotReady) (cond full (Some Full) (cond past (Some Exhausted) None)) ≡ None
 unrefused ready full past r f p = rw (r, f, p) refl
 
 no_file : (b : Bool) (k : Kernel) (file : Option (ℕ × Opened)) → file ≡ None → closing_of k (cond b None file) ≡ k
@@ -35,11 +36,17 @@ no_file b k (Some file) none =
 no_file true k None none = refl
 no_file false k None none = refl
 
-module _ (k : Kernel) (made : Call) where
-  -- no file is closed as it begins
-  pub begun_is : call_begun k (call_of made) ≡ advanced k k.vfs.next_call (begun (is_aborted k.phase) k.vfs (call_of made))
-  begun_is = no_file (is_aborted k.phase) (advanced k k.vfs.next_call (begun (is_aborted k.phase) k.vfs (call_of made))) (closed_by k.vfs.opens (call_of made)) (closes_none k.vfs.opens made)
+abbrev pub IsBegun : Kernel → Call → Type 0
+IsBegun k made = call_begun k (call_of made) ≡ advanced k k.vfs.next_call (begun (is_aborted k.phase) k.vfs (call_of made))
 
+-- no file is closed but by a close, and none where the mount is aborted
+pub plain_begun : (k : Kernel) (made : Call) → ClosesNone made → IsBegun k made
+plain_begun k made closes = no_file (is_aborted k.phase) (advanced k k.vfs.next_call (begun (is_aborted k.phase) k.vfs (call_of made))) (closed_by k.vfs.opens (call_of made)) (closes_none k.vfs.opens made closes)
+
+pub aborted_begun : (k : Kernel) (made : Call) → is_aborted k.phase ≡ true → IsBegun k made
+aborted_begun k made aborted = ap (λ (b : Bool). closing_of (advanced k k.vfs.next_call (begun (is_aborted k.phase) k.vfs (call_of made))) (cond b None (closed_by k.vfs.opens (call_of made)))) aborted
+
+module _ (k : Kernel) (made : Call) (begun_is : IsBegun k made) where
   pub asks_refusal : (state : CallState Opened) → is_ready k.phase ≡ true → length k.vfs.calls < 64 → k.vfs.next_call < 2 ^ 62 → begun (is_aborted k.phase) k.vfs (call_of made) ≡ asking (numbered k.vfs) k.vfs.next_call state
       → or_no_memory (begin_refusal k (call_of made)) ≡ cond (nat_eq (numbers_left_from k.queues.next) 0) Exhausted NoMemory
   asks_refusal state ready few low asks =
@@ -62,6 +69,8 @@ module _ (k : Kernel) (made : Call) where
       let past = ap is_past_end begun_is ∙ ap (λ (b : Advance Opened). is_past_end (advanced k k.vfs.next_call b)) ends ∙ none_past_end k.queues.next (k.vfs.next_call + 1) high (omega arith) in
       unrefused _ _ _ ready full past
 
+-- before it is known what it asks
+module _ (k : Kernel) (made : Call) where
   pub unready_refused : is_ready k.phase ≡ false → NotReady ≡ or_no_memory (begin_refusal k (call_of made))
   unready_refused unready = rw unready refl
 
@@ -77,3 +86,18 @@ if_ok (Err e) x = tt
 pub refused_alike : {T : Type 0} (r : Result T Refusal) {a b : Refusal} → a ≡ b → IfErr r (λ refusal. refusal ≡ b) → IfErr r (λ refusal. refusal ≡ a)
 refused_alike (Ok t) same is = tt
 refused_alike (Err e) same is = is ∙ sym same
+
+-- a call that is no close
+pub no_close : (made : Call) → ((handle : ℕ) → made ≡ Close handle → ⊥) → ClosesNone made
+no_close (Close handle) other = other handle refl
+no_close (Stat path) other = tt
+no_close (Lists path after) other = tt
+no_close (Open path) other = tt
+no_close (Mkdir path) other = tt
+no_close (Create path) other = tt
+no_close (Unlink path) other = tt
+no_close (Rmdir path) other = tt
+no_close (Rename old new) other = tt
+no_close (Link old new) other = tt
+no_close (Read handle offset size) other = tt
+no_close (Write handle offset bytes) other = tt

@@ -1,41 +1,21 @@
 -- Nodes in use, and nodes that are given up.
-use Rattle.std.proofs.Common.{◌≡◌, ◌≢◌, ℕ, ◌+◌, ◌≤◌, Bool, true, false, ◌||◌, if◌then◌else◌, List, [], ◌∷◌, Option, Some, None, refl, sym, ap, ◌∙◌, arith, inl, inr}
-use Rattle.std.specs.Prelude.{All, drop, option_map}
+use Rattle.std.proofs.Common.{◌≡◌, ◌≢◌, ℕ, zero, suc, ◌+◌, ◌≤◌, Bool, true, false, ◌||◌, if◌then◌else◌, List, [], ◌∷◌, Option, Some, None, Bor, refl, sym, ap, ◌∙◌, arith, inl, inr}
+use Rattle.std.specs.Prelude.{drop, option_map, slice_get, ◌&&◌, not, cond, nat_eq}
+use Rattle.std.specs.Option.{option_copied}
+use Rattle.std.specs.Prelude.{is_some}
 use Rattle.std.specs.List.{list_any}
 use Rattle.std.proofs.lemmas.Bool.{cases_eq}
-use Rattle.std.proofs.lemmas.List.Elements.{All-head, All-tail}
 use Rattle.fuse_spec.proofs.Tables.{get_gone_here, get_gone_there}
 use Rattle.fuse_spec.specs.declared.Counted.{Counted}
-use Rattle.fuse_spec.specs.declared.Opened.{Opened}
 use Rattle.fuse_spec.specs.declared.Purpose.{Purpose}
-use Rattle.fuse_spec.specs.declared.Purpose.TheVariants.{Init, Release, Call}
 use Rattle.fuse_spec.specs.declared.QueuedRequest.{QueuedRequest}
-use Rattle.fuse_spec.specs.Kernel.{is_released_by}
-use Rattle.fuse_spec.specs.Maps.{Map, get, remove}
+use Rattle.fuse_spec.specs.Maps.{Map, get, remove, values}
 use Rattle.fuse_spec.specs.Queues.{QueueState}
 use Rattle.fuse_spec.specs.QueueCalls.{after_forget, can_read_forgets, after_read_forgets}
-use Rattle.fk_kernel.specs.Soundness.{IsNoRelease, AreCounted}
+use Rattle.fuse_spec.specs.QueueLaws.{kept_entries}
 use Rattle.fk_kernel.proofs.Nodes.{still_counted}
+use Rattle.fk_kernel.specs.Soundness.{AreCounted}
 use Rattle.fk_kernel.proofs.Sound.{length_gone}
-
--- where no request is a RELEASE none releases a file of the node
-not_released : (node : ℕ) (purpose : Purpose) → ((opened : Opened) → purpose ≢ Release opened) → is_released_by node purpose ≡ false
-not_released node Init other = refl
-not_released node (Release opened) other = absurd (other opened refl)
-not_released node (Call call) other = refl
-
-none_released : (node : ℕ) (requests : List (ℕ × QueuedRequest Purpose)) → All IsNoRelease requests → list_any (λ e. is_released_by node e.1.kept) requests ≡ false
-none_released node [] others = refl
-none_released node (e ∷ requests) others =
-    ap (λ (b : Bool). b || list_any (λ e. is_released_by node e.1.kept) requests) (not_released node e.1.kept (All-head IsNoRelease e requests others)) ∙ none_released node requests (All-tail IsNoRelease e requests others)
-
-or_false : (b : Bool) → (b || false) ≡ b
-or_false true = refl
-or_false false = refl
-
--- so far calls alone pin nodes
-pub pinned_by_calls : (named : Bool) (node : ℕ) (requests : List (ℕ × QueuedRequest Purpose)) → All IsNoRelease requests → (named || (false || list_any (λ e. is_released_by node e.1.kept) requests)) ≡ named
-pinned_by_calls named node requests others = ap (λ (b : Bool). named || (false || b)) (none_released node requests others) ∙ or_false named
 
 -- One node fewer is counted, and one forget more is queued.
 pub evicted_counted : (nodes : Map Counted) (node count : ℕ) (s : QueueState Purpose) (forgets more : ℕ) → AreCounted nodes s forgets → get nodes node ≢ None → forgets ≤ more + 1 → AreCounted (remove nodes node) (after_forget s node count) more
@@ -69,5 +49,29 @@ read_counted nodes s count forgets more old room =
       | false ↦ still_counted nodes s s forgets more old (omega arith) room
     ]
 
-pub read_requests : (s : QueueState Purpose) (count : ℕ) → All IsNoRelease s.requests → All IsNoRelease (after_read_forgets s count).requests
-read_requests s count others = elim (can_read_forgets s count) as (λ b. All IsNoRelease (read_by b s count).requests) [ true ↦ others | false ↦ others ]
+-- What a test of the entries but one finds is what a test finds once that is gone.
+pub any_gone : {V : Type 0} (test : V → Bool) (m : Map V) (k : ℕ) → list_any (λ (e : ℕ × V). not (nat_eq e.0 k) && test e.1) m ≡ list_any test (values (remove m k))
+any_gone test [] k = refl
+any_gone {V} test (e ∷ m) k =
+    elim (nat_eq e.0 k) as (λ b. ((not b && test e.1) || list_any (λ (x : ℕ × V). not (nat_eq x.0 k) && test x.1) m) ≡ list_any test (values (cond (not b) (e ∷ remove m k) (remove m k)))) [
+      | true ↦ any_gone test m k
+      | false ↦ ap (λ (b : Bool). test e.1 || b) (any_gone test m k)
+    ]
+
+-- what is kept of the request at a place, and what is behind it
+pub at_place : (es : List (ℕ × QueuedRequest Purpose)) (i : ℕ) (q : ℕ × Purpose) → Some q ≡ slice_get (kept_entries es) i
+    → (e : ℕ × QueuedRequest Purpose) × (e.1.kept ≡ q.1) × (drop i es ≡ e ∷ drop (i + 1) es)
+at_place [] i q is =
+    let no : ◌≡◌ {A = Option (ℕ × Purpose)} (Some q) None = is in
+    cc
+at_place (x ∷ es) zero q is =
+    let same : (x.0, x.1.kept) ≡ q = cc is in
+    (x, ap (λ (p : ℕ × Purpose). p.1) same, refl)
+at_place (x ∷ es) (suc i) q is =
+    let rest = at_place es i q is in
+    let one : suc (i + 1) ≡ suc i + 1 = omega arith in
+    (rest.0, rest.1, rest.2 ∙ ap (λ (n : ℕ). rest.0 ∷ drop n (x ∷ es)) one)
+
+pub copied_is : {X : Type 0} (o : Option (Bor X)) → is_some (option_copied o) ≡ is_some o
+copied_is None = refl
+copied_is (Some x) = refl

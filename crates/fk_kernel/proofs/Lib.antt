@@ -1,10 +1,12 @@
 pub mod Sound
-pub mod Requests
-pub mod CallKinds
 pub mod Beginnings
 pub mod Phases
 pub mod Sayings
 pub mod ReplyCases
+pub mod Standing
+pub mod Files
+pub mod Closes
+pub mod Contents
 pub mod Replied
 pub mod Heads
 pub mod Taken
@@ -14,6 +16,7 @@ pub mod First
 pub mod Dropped
 pub mod Evicted
 pub mod ForgetReads
-pub mod Named
 pub mod EntryReplies
 pub mod Walking
+pub mod Signalled
+pub mod Aborted

@@ -8,13 +8,15 @@ use Rattle.std.specs.Cmp.{nat_cmp_total}
 use Rattle.std.specs.FinMap.{is_sorted, nat_cmp-IsAntisymmetric}
 use Rattle.std.specs.FinMap.Entries.{is_sorted-put, same_entries, length-put}
 use Rattle.fuse_spec.specs.declared.Counted.{Counted}
+use Rattle.fuse_spec.specs.declared.IntrEffect.{IntrEffect}
+use Rattle.fuse_spec.specs.declared.IntrEffect.TheVariants.{Dequeued, Flagged as IsFlagged, Queued, None as NoEffect}
 use Rattle.fuse_spec.specs.declared.Mark.{Mark}
 use Rattle.fuse_spec.specs.declared.Mark.TheVariants.{Unread, Flagged, Read, Interrupted}
 use Rattle.fuse_spec.specs.declared.Purpose.{Purpose}
 use Rattle.fuse_spec.specs.declared.QueuedRequest.{QueuedRequest}
 use Rattle.fuse_spec.specs.Maps.{Map, get, put, remove}
 use Rattle.fuse_spec.specs.Queues.{QueueState, pending, request_under, is_unread}
-use Rattle.fuse_spec.specs.QueueCalls.{after_enqueue, set_mark, after_reading, after_read_pending, waiting, after_answer, without}
+use Rattle.fuse_spec.specs.QueueCalls.{after_enqueue, set_mark, after_reading, after_read_pending, waiting, after_answer, without, interrupt_effect, after_effect, after_interrupt}
 use Rattle.fuse_spec.specs.declared.Entry.{Entry as NodeEntry}
 use Rattle.fuse_spec.specs.Replies.{counted_more, learnt}
 use Rattle.fuse_spec.proofs.Tables.{get_put_here, get_put_there, get_gone_there}
@@ -46,6 +48,13 @@ length_marked u m (e ∷ es) =
       | true ↦ refl
       | false ↦ ap (λ (n : ℕ). suc n) (length_marked u m es)
     ]
+
+-- one request goes at most
+length_removed : (u : ℕ) (es : List Entry) → length (remove_entry (nat_eq u) es) ≤ length es
+length_removed u [] = omega arith
+length_removed u (e ∷ es) =
+    let rest = length_removed u es in
+    elim (nat_eq u e.0) as (λ b. length (cond b es (e ∷ remove_entry (nat_eq u) es)) ≤ length (e ∷ es)) [ true ↦ omega arith | false ↦ omega arith ]
 
 -- one request goes where there is one
 length_left : (u : ℕ) (es : List Entry) (r : QueuedRequest Purpose) → lookup (nat_eq u) es ≡ Some r → length (remove_entry (nat_eq u) es) + 1 ≡ length es
@@ -100,6 +109,21 @@ module _ (nodes : Map Counted) (s : QueueState Purpose) (forgets more : ℕ) (co
           let less = one_less s unique e in
           rw e (still_counted nodes s (without s unique) forgets more counted (omega arith) room)
       by false e = rw e (still_counted nodes s s forgets more counted (omega arith) room)
+
+  pub signal_counted : (unique : ℕ) (fatal : Bool) → AreCounted nodes (after_interrupt s unique fatal) more
+  signal_counted unique fatal = by (interrupt_effect s unique fatal)
+    where
+      by : (effect : IntrEffect) → AreCounted nodes (after_effect s unique effect) more
+      by Dequeued =
+          let fewer = length_removed unique s.requests in
+          still_counted nodes s (after_effect s unique Dequeued) forgets more counted (omega arith) room
+      by IsFlagged =
+          let same = length_marked unique Flagged s.requests in
+          still_counted nodes s (after_effect s unique IsFlagged) forgets more counted (omega arith) room
+      by Queued =
+          let same = length_marked unique Interrupted s.requests in
+          still_counted nodes s (after_effect s unique Queued) forgets more counted (omega arith) room
+      by NoEffect = still_counted nodes s s forgets more counted (omega arith) room
 
 -- No node is counted yet.
 pub none_counted : (s : QueueState Purpose) (forgets : ℕ) → length s.requests ≤ s.next → AreCounted [] s forgets

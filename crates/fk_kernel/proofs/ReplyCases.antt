@@ -10,7 +10,7 @@ use Rattle.fk_wire.specs.Opcodes.{served}
 use Rattle.fk_wire.specs.Replies.{ReplyContent, empty_reply, entry_reply, attr_reply, init_reply, reply_kind, kind_of_content, IsErrorNumber, GoesWith}
 use Rattle.fuse_spec.specs.Messages.{WireReply}
 use Rattle.fuse_spec.specs.Operations as reply
-use Rattle.fuse_spec.specs.Replies.{is_agreement}
+use Rattle.fuse_spec.specs.Replies.{is_agreement, is_empty_reply}
 use Rattle.fuse_frames.specs.ReplyTies.{wire_said, wire_body}
 use Rattle.fk_kernel.specs.Said.{Says}
 use Rattle.fk_kernel.specs.ReplyCases.{IsLookupReply, lookup_failed, lookup_missing, lookup_found, IsMkdirReply, mkdir_failed, mkdir_missing, mkdir_found, IsGetattrReply, getattr_failed, getattr_attributes, IsInitReply, init_failed, init_agreed, init_other, IsInterruptReply, interrupt_failed, interrupt_done}
@@ -76,3 +76,10 @@ says_to_init = of_opcode op.Init IsInitReply init_failed init_body
 
 pub says_to_interrupt : (bytes : List ℕ) (wire : WireReply) → Says op.Interrupt bytes wire → IsInterruptReply wire
 says_to_interrupt = of_opcode op.Interrupt IsInterruptReply interrupt_failed interrupt_body
+
+release_body : (content : ReplyContent) → reply_kind served op.Release ≡ Some (kind_of_content content) → is_empty_reply (wire_body content) ≡ true
+release_body empty_reply is = refl
+release_body content is = cc
+
+pub says_to_release : (bytes : List ℕ) (wire : WireReply) → Says op.Release bytes wire → is_empty_reply wire ≡ true
+says_to_release = of_opcode op.Release (λ wire. is_empty_reply wire ≡ true) (λ errno. refl) release_body

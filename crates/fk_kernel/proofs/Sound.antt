@@ -17,13 +17,13 @@ module _ {V : Type 0} where
       let rest = length_put m k v in
       elim (nat_cmp k e.0) as (λ r. length (by_order r ((k, v) ∷ e ∷ m) ((e.0, v) ∷ m) (e ∷ put m k v)) ≤ length (e ∷ m) + 1) [ Less ↦ omega arith | Equal ↦ omega arith | Greater ↦ omega arith ]
 
-  length_kept : (m : Map V) (k : ℕ) → length (remove m k) ≤ length m
+  pub length_kept : (m : Map V) (k : ℕ) → length (remove m k) ≤ length m
   length_kept [] k = omega arith
   length_kept (e ∷ m) k =
       let rest = length_kept m k in
       elim (nat_eq e.0 k) as (λ b. length (cond (not b) (e ∷ remove m k) (remove m k)) ≤ length (e ∷ m)) [ true ↦ omega arith | false ↦ omega arith ]
 
-  gone_none : (m : Map V) (k q : ℕ) → get m q ≡ None → get (remove m k) q ≡ None
+  pub gone_none : (m : Map V) (k q : ℕ) → get m q ≡ None → get (remove m k) q ≡ None
   gone_none m k q none =
       elim (cases_eq q k) [ inl e ↦ subst (λ (n : ℕ). get (remove m k) n ≡ None) (sym e) (get_gone_here m k) | inr ne ↦ get_gone_there m k q ne ∙ none ]
 

@@ -17,11 +17,8 @@ use Rattle.fk_kernel.specs.Said.{Says, SaysNothing, Awaited, nothing, gone, repl
 
 -- Where nothing or no call awaits the reply there is little to say.
 awaited_judged : (o : Opcode) → IsJudged o → IsAwaited (reply_to o)
-awaited_judged op.Lookup is = tt
-awaited_judged op.Getattr is = tt
-awaited_judged op.Mkdir is = tt
-awaited_judged op.Interrupt is = tt
-awaited_judged o is = absurd is
+awaited_judged op.Init is = absurd is
+awaited_judged o is = is
 
 abbrev opcode_in : Awaited → Opcode
 opcode_in (reply_to o) = o

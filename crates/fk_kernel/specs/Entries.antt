@@ -1,41 +1,76 @@
--- What entries of replies are to the calls that asked for them.
-use Rattle.std.specs.Prelude.{◌≡◌, ◌<◌, ℕ, List, Option, Some, true}
+-- What replies are to the calls that asked for them.
+use Rattle.std.specs.Prelude.{◌≡◌, ◌<◌, ℕ, List, Option, Some, None, true, false, is_some}
+use Rattle.std.specs.List.{list_any}
+use Rattle.fuse_spec.specs.declared.Binding.{Binding}
 use Rattle.fuse_spec.specs.declared.Opened.{Opened}
 use Rattle.fuse_spec.specs.declared.Refusal.{Refusal}
 use Rattle.fuse_spec.specs.declared.Refusal.TheVariants.{NoMemory, Exhausted}
-use Rattle.fuse_spec.specs.Kernel.{Kernel}
-use Rattle.fuse_spec.specs.Maps.{Place, get}
+use Rattle.fuse_spec.specs.Kernel.{Kernel, is_using}
+use Rattle.fuse_spec.specs.Maps.{Place, NameMap, get, remove, remove_name, values}
 use Rattle.fuse_spec.specs.Messages.{WireReply}
-use Rattle.fuse_spec.specs.Operations.{mkdir}
+use Rattle.fuse_spec.specs.Operations.{Operation, lookup, mkdir, create, unlink, rmdir, rename, link, opening}
 use Rattle.fuse_spec.specs.Paths.{Name}
-use Rattle.fuse_spec.specs.Replies.{Use, usable, useless, stale, reply_written}
+use Rattle.fuse_spec.specs.Replies.{Use, usable, useless, stale, goes_with, reply_written}
 use Rattle.fuse_spec.specs.Uniques.{numbers_left_from}
-use Rattle.fuse_spec.specs.Vfs.{CallState, walking, doing, walks_on, bound, asking}
+use Rattle.fuse_spec.specs.Vfs.{CallState, walking, doing, using, walks_on, bound, asking}
 use Rattle.fuse_spec.specs.Walks.{WalkPlan}
+use Rattle.fk_syscalls.specs.States.{StandsAt}
 use Rattle.fk_kernel.specs.declared.entries.EntryUse.{EntryUse}
 use Rattle.fk_kernel.specs.declared.entries.EntryUse.TheVariants as entry
 use Rattle.fk_kernel.specs.Refused.{is_past_end}
-use Rattle.fk_kernel.specs.Soundness.{IsPlanned}
 
--- The call looks up a word, on a walk of `stat` or `mkdir`.
+-- The call that stands here waits for a reply that says this, and it goes with what the call asked.
+pub record Awaits (standing : Option (CallState Opened)) (wire : WireReply) : Type 0 where
+  pub operation : Operation ℕ Opened
+  pub state : CallState Opened
+  pub at : standing ≡ Some state
+  pub stands : StandsAt operation state
+  pub goes : goes_with operation wire ≡ true
+
+-- The call looks up a word.
 pub record LooksUp (standing : Option (CallState Opened)) : Type 0 where
   pub directory : ℕ
   pub word : Name
   pub words : List Name
   pub plan : WalkPlan ℕ
-  pub planned : IsPlanned plan
   pub is : standing ≡ Some (walking directory word words plan)
 
--- The call makes a directory.
+-- The call makes a directory, or gives a file one more name.
+pub data MakesName : Operation ℕ Opened → Place → Type 0 where
+  mkdirs : (directory : ℕ) (name : Name) → MakesName (mkdir directory name) (directory, name)
+  links : (file directory : ℕ) (name : Name) → MakesName (link file directory name) (directory, name)
+
 pub record Makes (standing : Option (CallState Opened)) : Type 0 where
+  pub operation : Operation ℕ Opened
+  pub place : Place
+  pub makes : MakesName operation place
+  pub is : standing ≡ Some (doing operation)
+
+-- The call makes a file and opens it.
+pub record Creates (standing : Option (CallState Opened)) : Type 0 where
   pub directory : ℕ
   pub name : Name
-  pub is : standing ≡ Some (doing (mkdir directory name))
+  pub is : standing ≡ Some (doing (create directory name))
 
--- The name that the reply to a call's request binds.
-pub data NamesPlace (standing : Option (CallState Opened)) : Place → Type 0 where
-  looked_up : (directory : ℕ) (word : Name) (words : List Name) (plan : WalkPlan ℕ) → standing ≡ Some (walking directory word words plan) → NamesPlace standing (directory, word)
-  made : (directory : ℕ) (name : Name) → standing ≡ Some (doing (mkdir directory name)) → NamesPlace standing (directory, name)
+-- The call opens a file.
+pub record Opens (standing : Option (CallState Opened)) : Type 0 where
+  pub node : ℕ
+  pub is : standing ≡ Some (doing (opening node))
+
+-- The name that the reply to a call's request binds, if it does.
+abbrev pub place_of : Operation ℕ Opened → Option Place
+place_of (lookup directory name) = Some (directory, name)
+place_of (mkdir directory name) = Some (directory, name)
+place_of (create directory name) = Some (directory, name)
+place_of (link file directory name) = Some (directory, name)
+place_of operation = None
+
+-- The names in force once the operation is done.
+abbrev pub names_left : Operation ℕ Opened → NameMap Binding → NameMap Binding
+names_left (unlink directory name) names = remove_name names (directory, name)
+names_left (rmdir directory name) names = remove_name names (directory, name)
+names_left (rename directory old newdir new) names = remove_name (remove_name names (directory, old)) (newdir, new)
+names_left operation names = names
 
 -- whether an entry of this node can be used
 abbrev pub use_meant : ℕ → EntryUse → Use
@@ -43,7 +78,7 @@ use_meant node entry.Usable = usable
 use_meant node entry.Useless = useless
 use_meant node entry.Stale = stale node
 
--- Why a reply to a LOOKUP is refused: want of memory, or of a number for the next request of the walk.
+-- Why a reply to a call is refused: want of memory, or of a number for the next request of the walk.
 pub data IsEntryRefusal (k : Kernel) (unique : ℕ) (wire : WireReply) : Refusal → Type 0 where
   no_memory : IsEntryRefusal k unique wire NoMemory
   exhausted : is_past_end (reply_written k unique wire).1 ≡ true → IsEntryRefusal k unique wire Exhausted
@@ -53,3 +88,18 @@ abbrev pub WalksWithin : Kernel → ℕ → (node valid : ℕ) → Type 0
 WalksWithin k call node valid =
     (directory : ℕ) (word : Name) (words : List Name) (plan : WalkPlan ℕ) (state : CallState Opened) → get k.vfs.calls call ≡ Some (walking directory word words plan)
     → walks_on (bound k.vfs directory word (Some node) valid) call node words plan ≡ asking (bound k.vfs directory word (Some node) valid) call state → 0 < numbers_left_from k.queues.next
+
+-- Where the end of this call lets a closed file go, a number is left for its RELEASE.
+abbrev pub EndsWithin : Kernel → ℕ → Type 0
+EndsWithin k call =
+    (handle : ℕ) (operation : Operation ℕ Opened) → get k.vfs.calls call ≡ Some (using handle operation) → is_some (get k.closing handle) ≡ true
+    → list_any (is_using handle) (values (remove k.vfs.calls call)) ≡ false → 0 < numbers_left_from k.queues.next
+
+-- The end of this call lets a closed file go, and no number is left for its RELEASE.
+pub record EndsPast (k : Kernel) (call : ℕ) : Type 0 where
+  pub handle : ℕ
+  pub operation : Operation ℕ Opened
+  pub is : get k.vfs.calls call ≡ Some (using handle operation)
+  pub closed : is_some (get k.closing handle) ≡ true
+  pub idle : list_any (is_using handle) (values (remove k.vfs.calls call)) ≡ false
+  pub none_left : numbers_left_from k.queues.next ≡ 0

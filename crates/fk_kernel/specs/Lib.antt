@@ -2,6 +2,8 @@ pub mod Counts
 pub mod Soundness
 pub mod Refused
 pub mod Said
+pub mod ReplySaid
 pub mod ReplyCases
 pub mod RefusedUpkeep
 pub mod Entries
+pub mod RefusedSignals

@@ -4,10 +4,9 @@ use Rattle.fuse_spec.specs.Numbers.{max_calls, counter_end}
 use Rattle.fuse_spec.specs.Calls.{Call}
 use Rattle.fuse_spec.specs.Kernel.{Kernel, is_live, body_of, call_begun}
 use Rattle.fk_wire.specs.declared.opcode.Opcode.{Opcode}
-use Rattle.fuse_spec.specs.Operations as operation
-use Rattle.fuse_spec.specs.Messages.{Request, RequestBody, init, asks, WireReply}
+use Rattle.fuse_spec.specs.Messages.{Request, RequestBody, WireReply}
 use Rattle.fuse_spec.specs.Replies.{reply_written}
-use Rattle.fk_kernel.specs.Said.{Awaited, reply_to, awaited, head_unique, IsJudged, Says}
+use Rattle.fk_kernel.specs.Said.{Awaited, reply_to, awaited, head_unique, IsJudged, Means}
 use Rattle.fuse_spec.specs.QueueCalls.{pending_at}
 use Rattle.fuse_spec.specs.Steps.{is_ready, is_busy}
 use Rattle.fuse_spec.specs.declared.Purpose.{Purpose}
@@ -47,14 +46,6 @@ read_refusal k place =
     cond (not (is_live k.phase)) (Some NotReady)
     (cond (not (nat_eq (length k.queues.interrupts) 0)) (Some InterruptFirst) (place_refusal k (pending_at k.queues place)))
 
--- What requests ask so far: no file is open, and calls are of `stat` and `mkdir`.
-abbrev pub IsAskedSoFar : RequestBody → Type 0
-IsAskedSoFar init = Unit {0}
-IsAskedSoFar (asks (operation.lookup directory name)) = Unit {0}
-IsAskedSoFar (asks (operation.getattr node)) = Unit {0}
-IsAskedSoFar (asks (operation.mkdir directory name)) = Unit {0}
-IsAskedSoFar body = ⊥
-
 -- the request that is pending at a place, and what it asks
 pub record IsPendingRequest (k : Kernel) (place : ℕ) (request : Request) : Type 0 where
   pub purpose : Purpose
@@ -66,9 +57,7 @@ pub record PassesEnd (k : Kernel) (unique : ℕ) (bytes : List ℕ) (awaiting : 
   pub opcode : Opcode
   pub judged : IsJudged opcode
   pub awaits : awaiting ≡ reply_to opcode
-  pub wire : WireReply
-  pub says : Says opcode bytes wire
-  pub past : is_past_end (reply_written k unique wire).1 ≡ true
+  pub past : (wire : WireReply) → Means opcode bytes wire → is_past_end (reply_written k unique wire).1 ≡ true
 
 -- Why bytes under a unique are refused, by what awaits a reply under it.
 pub data IsWriteRefusal (k : Kernel) (unique : ℕ) (bytes : List ℕ) (awaiting : Awaited) : Refusal → Type 0 where

@@ -9,7 +9,6 @@ use Rattle.fuse_spec.specs.declared.Purpose.{Purpose}
 use Rattle.fuse_spec.specs.declared.Purpose.TheVariants.{Init, Release, Call}
 use Rattle.fuse_spec.specs.Operations.{Operation, lookup, getattr, mkdir, create, unlink, rmdir, rename, link, opening, readdir, read, write}
 use Rattle.fuse_spec.specs.Operations as reply
-use Rattle.fuse_spec.specs.Numbers.{max_validity}
 use Rattle.fuse_spec.specs.Messages.{WireReply}
 use Rattle.fuse_spec.specs.Maps.{get}
 use Rattle.fuse_spec.specs.Vfs.{CallState, asked}
@@ -23,10 +22,6 @@ use Rattle.fk_kernel.specs.declared.said.InitSaid.{InitSaid}
 use Rattle.fk_kernel.specs.declared.said.InitSaid.TheVariants as init_said
 use Rattle.fk_kernel.specs.declared.said.InterruptSaid.{InterruptSaid}
 use Rattle.fk_kernel.specs.declared.said.InterruptSaid.TheVariants as interrupt_said
-use Rattle.fk_kernel.specs.declared.said.GetattrSaid.{GetattrSaid}
-use Rattle.fk_kernel.specs.declared.said.GetattrSaid.TheVariants as getattr_said
-use Rattle.fk_kernel.specs.declared.said.EntrySaid.{EntrySaid}
-use Rattle.fk_kernel.specs.declared.said.EntrySaid.TheVariants as entry_said
 
 -- The bytes have the head of a reply: they are as many as it says, and its error is in range.
 abbrev pub HasReplyHead : List ℕ → Type 0
@@ -53,26 +48,6 @@ SaysToInit bytes (init_said.Agreed major minor) = Says op.Init bytes (reply.agre
 abbrev pub SaysToInterrupt : List ℕ → InterruptSaid → Type 0
 SaysToInterrupt bytes (interrupt_said.Failed errno) = Says op.Interrupt bytes (reply.failed errno)
 SaysToInterrupt bytes interrupt_said.Done = Says op.Interrupt bytes reply.done
-
-abbrev pub SaysToGetattr : List ℕ → GetattrSaid → Type 0
-SaysToGetattr bytes (getattr_said.Failed errno) = Says op.Getattr bytes (reply.failed errno)
-SaysToGetattr bytes (getattr_said.Attributes attributes) = Says op.Getattr bytes (reply.attributes attributes)
-
--- what a reply with an entry says
-abbrev pub entry_wire : EntrySaid → WireReply
-entry_wire (entry_said.Failed errno) = reply.failed errno
-entry_wire (entry_said.Missing valid) = reply.missing valid
-entry_wire (entry_said.Found entry valid) = reply.found entry valid
-
--- a name is valid for a day at most
-abbrev pub IsValidADay : EntrySaid → Type 0
-IsValidADay (entry_said.Failed errno) = Unit {0}
-IsValidADay (entry_said.Missing valid) = valid ≤ max_validity
-IsValidADay (entry_said.Found entry valid) = valid ≤ max_validity
-
-pub record SaysEntry (o : Opcode) (bytes : List ℕ) (said : EntrySaid) : Type 0 where
-  pub says : Says o bytes (entry_wire said)
-  pub day : IsValidADay said
 
 -- the opcode of the request that asks an operation
 abbrev pub opcode_of : Operation ℕ Opened → Opcode
@@ -116,15 +91,20 @@ awaited k unique = cond (nat_eq (unique % 2) 1) (awaited_by_interrupt (waiting k
 abbrev pub wrong_body : WireReply
 wrong_body = reply.agreed 0 0
 
--- The kinds of request whose replies are judged as the machine judges them.
-abbrev pub IsJudged : Opcode → Type 0
-IsJudged op.Lookup = Unit {0}
-IsJudged op.Getattr = Unit {0}
-IsJudged op.Mkdir = Unit {0}
-IsJudged op.Interrupt = Unit {0}
-IsJudged o = ⊥
+-- The bytes say this, or they say nothing, which is taken as a body that goes with no operation.
+pub data Means (o : Opcode) (bytes : List ℕ) : WireReply → Type 0 where
+  said : (wire : WireReply) → Says o bytes wire → Means o bytes wire
+  unsaid : SaysNothing o bytes → Means o bytes wrong_body
 
--- The kinds that await a reply so far: no file is opened, and a call asks a LOOKUP, a GETATTR or a MKDIR alone.
+-- The kinds of request whose replies are judged as the machine judges them: all that the kernel sends, but INIT.
+abbrev pub IsJudged : Opcode → Type 0
+IsJudged op.Init = ⊥
+IsJudged op.Forget = ⊥
+IsJudged op.BatchForget = ⊥
+IsJudged op.Readdirplus = ⊥
+IsJudged o = Unit {0}
+
+-- The kinds that await a reply.
 abbrev pub IsAwaited : Awaited → Type 0
 IsAwaited nothing = Unit {0}
 IsAwaited gone = Unit {0}

@@ -14,7 +14,7 @@ use fuse_spec::Purpose;
 
 impl<Q: QueueTable<Purpose> + Drop> KernelOf<Q> {
     /// The call's request ends, and the call is answered.
-    pub(crate) fn answer_call(&mut self, unique: u64, call: u64, answer: Answer)
+    pub(crate) fn answer_call(&mut self, unique: u64, call: u64, answer: Answer<Q::Heap>)
         requires waits { is_some (waiting self.old.queues unique) ≡ true }
         requires unanswered { is_some (get self.old.vfs.calls call) ≡ true }
         ensures { self.new ≡ record self.old { vfs = answered self.old.vfs call (answer_of answer); queues = without self.old.queues unique } }
@@ -24,7 +24,7 @@ impl<Q: QueueTable<Purpose> + Drop> KernelOf<Q> {
     }
 
     /// The call is answered.
-    pub(crate) fn finish(&mut self, call: u64, answer: Answer)
+    pub(crate) fn finish(&mut self, call: u64, answer: Answer<Q::Heap>)
         requires unanswered { is_some (get self.old.vfs.calls call) ≡ true }
         ensures { self.new ≡ record self.old { vfs = answered self.old.vfs call (answer_of answer) } }
     {
@@ -49,7 +49,7 @@ impl<Q: QueueTable<Purpose> + Drop> KernelOf<Q> {
     }
 
     /// Hands out, once, the answer of the lowest answered call.
-    pub fn collect(&mut self) -> Option<(u64, Answer)>
+    pub fn collect(&mut self) -> Option<(u64, Answer<Q::Heap>)>
         ensures answer { option_map (λ r. (r.0, answer_of r.1)) result ≡ slice_get self.old.vfs.answers 0 }
         ensures none { IfNone result (self.new ≡ self.old) }
         ensures taken { IfSome result (λ r. self.new ≡ record self.old { vfs = record self.old.vfs { answers = remove self.old.vfs.answers r.0 } }) }

@@ -6,8 +6,7 @@ ghost use Rattle.fuse_spec.specs.declared.Opened.{Opened};
 ghost use Rattle.fuse_spec.specs.Kernel.{is_aborted, call_begun};
 ghost use Rattle.fuse_spec.specs.Steps.{is_ready};
 ghost use Rattle.fuse_spec.specs.Vfs.{CallState as State, begun, asking, answered, numbered};
-ghost use Rattle.fk_syscalls.specs.Values.{comes_to, call_of, answer_of};
-ghost use Rattle.fk_kernel.specs.Soundness.{IsStatOrMkdir};
+ghost use Rattle.fk_syscalls.specs.Values.{comes_to, call_of, answer_of, ClosesNone};
 ghost use Rattle.fk_kernel.specs.Refused.{or_no_memory, begin_refusal};
 ghost use Rattle.fuse_spec.specs.QueueCalls.{after_enqueue};
 
@@ -18,7 +17,7 @@ use fk_syscalls::{Answer, Call, CallState, Next, begin};
 use fuse_spec::{Purpose, Refusal};
 
 /// At most so many calls are unanswered.
-const MAX_CALLS: usize = 64;
+pub(crate) const MAX_CALLS: usize = 64;
 
 /// No counter gives a number from here on.
 const COUNTER_END: u64 = 0x4000_0000_0000_0000;
@@ -67,6 +66,9 @@ impl<Q: QueueTable<Purpose> + Drop> KernelOf<Q> {
         if self.is_aborted() {
             return self.begin_answered(Answer::Failed { errno: ENOTCONN });
         }
+        if let Call::Close { handle } = call {
+            return self.begin_close(*handle);
+        }
         match self.set_out(call)? {
             Next::Answered { errno } => self.begin_answered(Answer::Failed { errno }),
             Next::Waits(state) => self.begin_asking(state),
@@ -76,11 +78,12 @@ impl<Q: QueueTable<Purpose> + Drop> KernelOf<Q> {
     /// Where a call comes to along the names in force.
     fn set_out(&self, call: &Call<'_>) -> Result<Next<Q::Heap>, Refusal>
         requires not_aborted { is_aborted self.now.phase ≡ false }
+        requires closes_none { ClosesNone call.now }
         ensures begun { IfOk result (λ next. begun (is_aborted self.now.phase) self.now.vfs (call_of call.now) ≡ comes_to (numbered self.now.vfs) self.now.vfs.next_call next) }
         ensures asks { OnErr result ((state : State Opened) × (begun (is_aborted self.now.phase) self.now.vfs (call_of call.now) ≡ asking (numbered self.now.vfs) self.now.vfs.next_call state)) }
         ensures refusal { IfErr result (λ refusal. refusal ≡ cond (nat_eq (numbers_left_from self.now.queues.next) 0) Refusal.Exhausted Refusal.NoMemory) }
     {
-        match begin(self.alloc, &self.names, self.clock, call) {
+        match begin(self.alloc, &self.names, self.clock, &self.opens, call) {
             Ok(next) => Ok(next),
             Err(_) => Err(self.no_room_to_ask()),
         }
@@ -98,7 +101,7 @@ impl<Q: QueueTable<Purpose> + Drop> KernelOf<Q> {
     }
 
     /// A call of the next number begins and is answered at once.
-    fn begin_answered(&mut self, answer: Answer) -> Result<u64, Refusal>
+    pub(crate) fn begin_answered(&mut self, answer: Answer<Q::Heap>) -> Result<u64, Refusal>
         requires number { self.old.vfs.next_call < 2 ^ 62 }
         requires few { length self.old.vfs.calls < 64 }
         ensures err { OnErr result (self.new ≡ self.old) }
@@ -118,7 +121,6 @@ impl<Q: QueueTable<Purpose> + Drop> KernelOf<Q> {
 
     /// A call of the next number begins, and its first request is queued.
     fn begin_asking(&mut self, state: CallState<Q::Heap>) -> Result<u64, Refusal>
-        requires kind { IsStatOrMkdir state }
         requires number { self.old.vfs.next_call < 2 ^ 62 }
         requires few { length self.old.vfs.calls < 64 }
         requires ready { is_ready self.old.phase ≡ true }
@@ -140,7 +142,10 @@ impl<Q: QueueTable<Purpose> + Drop> KernelOf<Q> {
         let Ok(()) = self.calls.reserve(1) else {
             return Err(Refusal::NoMemory);
         };
-        let Ok(()) = self.queues.reserve(1, 0) else {
+        let Some(requests) = self.closing.len().checked_add(1) else {
+            return Err(Refusal::NoMemory);
+        };
+        let Ok(()) = self.queues.reserve(requests, 0) else {
             return Err(Refusal::NoMemory);
         };
         let call = self.next_call;

@@ -1,32 +1,29 @@
-//! How replies with an entry are taken: to a LOOKUP or a MKDIR.
+//! How replies are taken that name a file: to a LOOKUP, MKDIR, LINK, CREATE or OPEN.
 
-ghost use Rattle.std.specs.Prelude.{◌≡◌, ◌<◌, ◌^◌, ◌+◌, [], ◌∷◌, ◌≤◌, ◌%◌, ℕ, List, Some, None, Ok, OnOk, OnErr, IfOk, IfErr, true, false, is_some, nat_eq};
+ghost use Rattle.std.specs.Prelude.{◌≡◌, ◌≢◌, ◌<◌, ◌^◌, ◌+◌, [], ◌∷◌, ◌≤◌, ◌%◌, ℕ, List, Some, None, Ok, OnOk, OnErr, IfOk, IfErr, true, false, is_some, nat_eq};
 ghost use Rattle.fuse_spec.specs.Answers.{failed};
 ghost use Rattle.fuse_spec.specs.Maps.{get, remove};
-ghost use Rattle.fuse_spec.specs.Vfs.{walking, answered, bound};
+ghost use Rattle.fuse_spec.specs.Vfs.{CallState as State, walking, doing, asked, answered, bound};
 ghost use Rattle.fuse_spec.specs.Walks.{WalkPlan};
-ghost use Rattle.fuse_spec.specs.Messages.{WireReply};
 ghost use Rattle.fuse_spec.specs.Numbers.{max_validity};
 ghost use Rattle.fuse_spec.specs.Operations as reply;
+ghost use Rattle.fuse_spec.specs.Operations.{opening};
 ghost use Rattle.fuse_spec.specs.Paths.{Name};
 ghost use Rattle.fuse_spec.specs.Replies.{usable, use_of, learnt, reply_written};
-ghost use Rattle.fuse_spec.specs.declared.Entry.{Entry};
-ghost use Rattle.fk_kernel.specs.Said.{entry_wire, IsValidADay, reply_to, Says, SaysNothing, wrong_body};
-ghost use Rattle.fk_kernel.specs.Refused.{is_past_end, IsWriteRefusal};
+ghost use Rattle.fuse_spec.specs.declared.Opened.{Opened as OpenedFile};
+ghost use Rattle.fk_kernel.specs.Refused.{is_past_end};
 ghost use Rattle.fuse_spec.specs.QueueCalls.{after_forget, waiting, without};
 ghost use Rattle.std.specs.Option.{ForSome};
 ghost use Rattle.fuse_spec.specs.Maps.{Place, put_name};
-ghost use Rattle.fk_wire.specs.declared.opcode.Opcode.TheVariants as Opcode;
-ghost use Rattle.fk_kernel.specs.Entries.{NamesPlace, LooksUp, Makes, use_meant, WalksWithin, IsEntryRefusal};
+ghost use Rattle.fk_kernel.specs.Entries.{place_of, Awaits, LooksUp, Makes, Creates, Opens, use_meant, WalksWithin, IsEntryRefusal};
 
 use crate::counted_nodes::CountedNodes;
 use crate::kernel::KernelOf;
-use crate::said::{EntrySaid, said_to_lookup, said_to_mkdir};
 use crate::stored_answer::StoredAnswer;
 use fk_dentry::Bindings;
 use fk_queues::QueueTable;
 use fk_syscalls::{Answer, Asked, CallState, NewName, Next};
-use fuse_spec::{Entry, Purpose, Refusal, WriteResult};
+use fuse_spec::{Entry, Opened, Purpose, Refusal, WriteResult};
 use fuse_tables::Table;
 use std::alloc::{AllocError, Allocator};
 
@@ -55,16 +52,23 @@ fn bind_entry<A: Allocator + Copy>(
 ) -> Result<(), AllocError>
     requires alike { ForSome (get nodes.old entry.now.nodeid) (λ counted. counted.generation ≡ entry.now.generation) }
     requires fits { ForSome (get nodes.old entry.now.nodeid) (λ counted. counted.count + 1 < 2 ^ 64) }
-    requires names_one { (place : Place) × NamesPlace (get calls.now.entries call) place }
+    requires names_one { (state : State OpenedFile) × (place : Place) × (get calls.now.entries call ≡ Some state) × (place_of (asked state) ≡ Some place) }
     ensures err_names { OnErr result (names.new.names ≡ names.old.names) }
     ensures err_nodes { OnErr result (nodes.new ≡ nodes.old) }
-    ensures names { OnOk result ((place : Place) → NamesPlace (get calls.now.entries call) place → names.new.names ≡ put_name names.old.names place (record { target = Some entry.now.nodeid; until = until })) }
+    ensures names { OnOk result ((state : State OpenedFile) (place : Place) → get calls.now.entries call ≡ Some state → place_of (asked state) ≡ Some place → names.new.names ≡ put_name names.old.names place (record { target = Some entry.now.nodeid; until = until })) }
     ensures nodes { OnOk result (nodes.new ≡ learnt nodes.old (entry.now ∷ [])) }
 {
     let Some(waiting) = calls.get(call) else {
         return Ok(());
     };
-    let (Asked::Lookup { directory, name } | Asked::Mkdir { directory, name }) = waiting.asks()
+    let (Asked::Lookup { directory, name }
+    | Asked::Mkdir { directory, name }
+    | Asked::Create { directory, name }
+    | Asked::Link {
+        directory,
+        name,
+        ..
+    }) = waiting.asks()
     else {
         return Ok(());
     };
@@ -75,109 +79,74 @@ fn bind_entry<A: Allocator + Copy>(
 }
 
 impl<Q: QueueTable<Purpose> + Drop> KernelOf<Q> {
-    /// A reply to the LOOKUP of a name. Bytes that are none answer the call EIO.
-    pub(crate) fn write_to_lookup(
+    /// What a reply with an entry says reaches the call: it has to name a file that can be used.
+    pub(crate) fn entry_found(
         &mut self,
         unique: u64,
         call: u64,
-        bytes: &[u8],
-    ) -> Result<WriteResult, Refusal>
+        entry: &Entry,
+        valid_ms: u64,
+    ) -> Result<(), Refusal>
         requires even { nat_eq (unique % 2) 1 ≡ false }
         requires waits { waiting self.old.queues unique ≡ Some (Purpose.Call call) }
-        requires looks_up { LooksUp (get self.old.vfs.calls call) }
+        requires awaits { Awaits (get self.old.vfs.calls call) (reply.found entry.now valid_ms) }
+        requires day { valid_ms ≤ max_validity }
         ensures err { OnErr result (self.new ≡ self.old) }
-        ensures refusal { IfErr result (IsWriteRefusal self.old unique bytes.now (reply_to Opcode.Lookup)) }
-        ensures said { (wire : WireReply) → Says Opcode.Lookup bytes.now wire → IfOk result (λ written. reply_written self.old unique wire ≡ (written, self.new)) }
-        ensures unsaid { SaysNothing Opcode.Lookup bytes.now → IfOk result (λ written. reply_written self.old unique wrong_body ≡ (written, self.new)) }
+        ensures refusal { IfErr result (IsEntryRefusal self.old unique (reply.found entry.now valid_ms)) }
+        ensures ok { OnOk result (reply_written self.old unique (reply.found entry.now valid_ms) ≡ (WriteResult.Accepted, self.new)) }
     {
-        let Some(said) = said_to_lookup(bytes) else {
-            self.answer_call(unique, call, Answer::Failed { errno: EIO });
-            return Ok(WriteResult::Invalid);
-        };
-        match self.looked_up(unique, call, said) {
-            Ok(()) => Ok(WriteResult::Accepted),
-            Err(refusal) => Err(refusal),
-        }
-    }
-
-    /// A reply to the MKDIR of a name. Bytes that are none answer the call EIO.
-    pub(crate) fn write_to_mkdir(
-        &mut self,
-        unique: u64,
-        call: u64,
-        bytes: &[u8],
-    ) -> Result<WriteResult, Refusal>
-        requires even { nat_eq (unique % 2) 1 ≡ false }
-        requires waits { waiting self.old.queues unique ≡ Some (Purpose.Call call) }
-        requires makes { Makes (get self.old.vfs.calls call) }
-        ensures err { OnErr result (self.new ≡ self.old) }
-        ensures refusal { IfErr result (λ refusal. refusal ≡ Refusal.NoMemory) }
-        ensures said { (wire : WireReply) → Says Opcode.Mkdir bytes.now wire → IfOk result (λ written. reply_written self.old unique wire ≡ (written, self.new)) }
-        ensures unsaid { SaysNothing Opcode.Mkdir bytes.now → IfOk result (λ written. reply_written self.old unique wrong_body ≡ (written, self.new)) }
-    {
-        let Some(said) = said_to_mkdir(bytes) else {
-            self.answer_call(unique, call, Answer::Failed { errno: EIO });
-            return Ok(WriteResult::Invalid);
-        };
-        self.made(unique, call, said)?;
-        Ok(WriteResult::Accepted)
-    }
-
-    /// What a LOOKUP's reply says reaches the call.
-    fn looked_up(&mut self, unique: u64, call: u64, said: EntrySaid) -> Result<(), Refusal>
-        requires even { nat_eq (unique % 2) 1 ≡ false }
-        requires waits { waiting self.old.queues unique ≡ Some (Purpose.Call call) }
-        requires looks_up { LooksUp (get self.old.vfs.calls call) }
-        requires day { IsValidADay said }
-        ensures err { OnErr result (self.new ≡ self.old) }
-        ensures refusal { IfErr result (IsEntryRefusal self.old unique (entry_wire said)) }
-        ensures ok { OnOk result (reply_written self.old unique (entry_wire said) ≡ (WriteResult.Accepted, self.new)) }
-    {
-        match said {
-            EntrySaid::Failed { errno } => {
-                self.answer_call(unique, call, Answer::Failed { errno });
-                Ok(())
-            }
-            EntrySaid::Missing { valid_ms } => self.word_is_missing(unique, call, valid_ms),
-            EntrySaid::Found { entry, valid_ms } => match self.use_of(&entry) {
-                EntryUse::Usable => self.walk_on(unique, call, &entry, valid_ms),
-                EntryUse::Useless => {
-                    self.answer_call(unique, call, Answer::Failed { errno: EIO });
-                    Ok(())
+        match self.use_of(entry) {
+            EntryUse::Usable => {
+                if self.looks_up(call) {
+                    self.walk_on(unique, call, entry, valid_ms)
+                } else {
+                    self.name_is_made(unique, call, entry, valid_ms)
                 }
-                EntryUse::Stale => self.give_back(unique, call, entry.nodeid),
-            },
-        }
-    }
-
-    /// What a MKDIR's reply says reaches the call. It has to name the new directory's node.
-    fn made(&mut self, unique: u64, call: u64, said: EntrySaid) -> Result<(), Refusal>
-        requires even { nat_eq (unique % 2) 1 ≡ false }
-        requires waits { waiting self.old.queues unique ≡ Some (Purpose.Call call) }
-        requires makes { Makes (get self.old.vfs.calls call) }
-        requires day { IsValidADay said }
-        ensures err { OnErr result (self.new ≡ self.old) }
-        ensures refusal { IfErr result (λ refusal. refusal ≡ Refusal.NoMemory) }
-        ensures ok { OnOk result (reply_written self.old unique (entry_wire said) ≡ (WriteResult.Accepted, self.new)) }
-    {
-        match said {
-            EntrySaid::Failed { errno } => {
-                self.answer_call(unique, call, Answer::Failed { errno });
-                Ok(())
             }
-            EntrySaid::Missing { .. } => {
+            EntryUse::Useless => {
                 self.answer_call(unique, call, Answer::Failed { errno: EIO });
                 Ok(())
             }
-            EntrySaid::Found { entry, valid_ms } => match self.use_of(&entry) {
-                EntryUse::Usable => self.name_is_made(unique, call, &entry, valid_ms),
-                EntryUse::Useless => {
-                    self.answer_call(unique, call, Answer::Failed { errno: EIO });
-                    Ok(())
-                }
-                EntryUse::Stale => self.give_back(unique, call, entry.nodeid),
-            },
+            EntryUse::Stale => self.give_back(unique, call, entry.nodeid),
         }
+    }
+
+    /// What a reply to a CREATE says reaches the call: where the entry cannot be used the open number is given up.
+    pub(crate) fn file_created(
+        &mut self,
+        unique: u64,
+        call: u64,
+        entry: &Entry,
+        valid_ms: u64,
+        fh: u64,
+    ) -> Result<(), Refusal>
+        requires even { nat_eq (unique % 2) 1 ≡ false }
+        requires waits { waiting self.old.queues unique ≡ Some (Purpose.Call call) }
+        requires creates { Creates (get self.old.vfs.calls call) }
+        requires day { valid_ms ≤ max_validity }
+        ensures err { OnErr result (self.new ≡ self.old) }
+        ensures refusal { IfErr result (λ refusal. refusal ≡ Refusal.NoMemory) }
+        ensures ok { OnOk result (reply_written self.old unique (reply.created entry.now valid_ms fh) ≡ (WriteResult.Accepted, self.new)) }
+    {
+        match self.use_of(entry) {
+            EntryUse::Usable => self.file_is_made(unique, call, entry, valid_ms, fh),
+            EntryUse::Useless => {
+                self.answer_call(unique, call, Answer::Failed { errno: EIO });
+                Ok(())
+            }
+            EntryUse::Stale => self.give_back(unique, call, entry.nodeid),
+        }
+    }
+
+    /// Whether a call looks up a word.
+    pub(crate) fn looks_up(&self, call: u64) -> bool
+        ensures looks { result ≡ true → LooksUp (get self.now.vfs.calls call) }
+        ensures other { result ≡ false → (directory : ℕ) (word : Name) (words : List Name) (plan : WalkPlan ℕ) → get self.now.vfs.calls call ≢ Some (walking directory word words plan) }
+    {
+        let Some(waiting) = self.calls.get(call) else {
+            return false;
+        };
+        matches!(waiting.asks(), Asked::Lookup { .. })
     }
 
     /// Whether an entry can be used.
@@ -245,7 +214,10 @@ impl<Q: QueueTable<Purpose> + Drop> KernelOf<Q> {
         let Some(forgets) = self.nodes.most().checked_add(1) else {
             return Err(Refusal::NoMemory);
         };
-        let Ok(()) = self.queues.reserve(1, forgets) else {
+        let Some(requests) = self.closing.len().checked_add(1) else {
+            return Err(Refusal::NoMemory);
+        };
+        let Ok(()) = self.queues.reserve(requests, forgets) else {
             return Err(Refusal::NoMemory);
         };
         let until = self.clock.saturating_add(valid_ms);
@@ -332,9 +304,89 @@ impl<Q: QueueTable<Purpose> + Drop> KernelOf<Q> {
         Ok(())
     }
 
+    /// The new file of a call leads to the node of an entry, for so many milliseconds from now on, and is open under the call's
+    /// number. The call is answered that it is done.
+    fn file_is_made(
+        &mut self,
+        unique: u64,
+        call: u64,
+        entry: &Entry,
+        valid_ms: u64,
+        fh: u64,
+    ) -> Result<(), Refusal>
+        requires even { nat_eq (unique % 2) 1 ≡ false }
+        requires waits { waiting self.old.queues unique ≡ Some (Purpose.Call call) }
+        requires creates { Creates (get self.old.vfs.calls call) }
+        requires usable { use_of self.old.nodes entry.now ≡ usable }
+        requires day { valid_ms ≤ max_validity }
+        ensures err { OnErr result (self.new ≡ self.old) }
+        ensures refusal { IfErr result (λ refusal. refusal ≡ Refusal.NoMemory) }
+        ensures ok { OnOk result (reply_written self.old unique (reply.created entry.now valid_ms fh) ≡ (WriteResult.Accepted, self.new)) }
+    {
+        let Some(forgets) = self.nodes.most().checked_add(1) else {
+            return Err(Refusal::NoMemory);
+        };
+        let Ok(()) = self.queues.reserve(0, forgets) else {
+            return Err(Refusal::NoMemory);
+        };
+        let Ok(()) = self.opens.reserve(1) else {
+            return Err(Refusal::NoMemory);
+        };
+        let until = self.clock.saturating_add(valid_ms);
+        let (names, nodes) = (&mut self.names, &mut self.nodes);
+        let Ok(()) = bind_entry(&self.calls, names, nodes, call, entry, until) else {
+            return Err(Refusal::NoMemory);
+        };
+        let nodeid = entry.nodeid;
+        let _kept = self.queues.answer(unique);
+        let _state = self.calls.remove(call);
+        self.opens.put(call, Opened { nodeid, fh });
+        self.answers.put(call, StoredAnswer::new(Answer::Done));
+        Ok(())
+    }
+
+    /// The file that a call opens is open under the call's number. The call is answered that it is done.
+    pub(crate) fn file_is_open(&mut self, unique: u64, call: u64, fh: u64) -> Result<(), Refusal>
+        requires even { nat_eq (unique % 2) 1 ≡ false }
+        requires waits { waiting self.old.queues unique ≡ Some (Purpose.Call call) }
+        requires opens { Opens (get self.old.vfs.calls call) }
+        ensures err { OnErr result (self.new ≡ self.old) }
+        ensures refusal { IfErr result (λ refusal. refusal ≡ Refusal.NoMemory) }
+        ensures ok { OnOk result (reply_written self.old unique (reply.opened fh) ≡ (WriteResult.Accepted, self.new)) }
+    {
+        let nodeid = self.node_opened(call);
+        let Ok(()) = self.opens.reserve(1) else {
+            return Err(Refusal::NoMemory);
+        };
+        let _kept = self.queues.answer(unique);
+        let _state = self.calls.remove(call);
+        self.opens.put(call, Opened { nodeid, fh });
+        self.answers.put(call, StoredAnswer::new(Answer::Done));
+        Ok(())
+    }
+
+    /// The node of the file that a call opens.
+    fn node_opened(&self, call: u64) -> u64
+        requires opens { Opens (get self.now.vfs.calls call) }
+        ensures { (node : ℕ) → get self.now.vfs.calls call ≡ Some (doing (opening node)) → result ≡ node }
+    {
+        let Some(waiting) = self.calls.get(call) else {
+            return 0;
+        };
+        let Asked::Open { node } = waiting.asks() else {
+            return 0;
+        };
+        node
+    }
+
     /// The word that a call looks up is missing for so many milliseconds from now on, and the call is answered that no such
     /// file is there.
-    fn word_is_missing(&mut self, unique: u64, call: u64, valid_ms: u64) -> Result<(), Refusal>
+    pub(crate) fn word_is_missing(
+        &mut self,
+        unique: u64,
+        call: u64,
+        valid_ms: u64,
+    ) -> Result<(), Refusal>
         requires even { nat_eq (unique % 2) 1 ≡ false }
         requires waits { waiting self.old.queues unique ≡ Some (Purpose.Call call) }
         requires looks_up { LooksUp (get self.old.vfs.calls call) }

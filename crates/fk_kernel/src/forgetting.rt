@@ -10,6 +10,7 @@ ghost use Rattle.fk_kernel.specs.Refused.{or_no_memory};
 ghost use Rattle.fk_kernel.specs.RefusedUpkeep.{evict_refusal, read_forgets_refusal, IsForgetFrame};
 
 use crate::kernel::KernelOf;
+use crate::open_files::{is_open, is_releasing};
 use fk_queues::{Forgets, QueueTable};
 use fk_syscalls::CallState;
 use fuse_frames::RequestFrame;
@@ -29,17 +30,18 @@ fn is_named<A: Allocator + Copy>(calls: &[(u64, CallState<A>)], node: u64) -> bo
 }
 
 impl<Q: QueueTable<Purpose> + Drop> KernelOf<Q> {
-    /// Whether an unanswered call stands on the node or names it. So far no file is open, and no RELEASE is queued.
+    /// Whether an unanswered call stands on the node or names it, an open file is of it, or a RELEASE of one is unanswered.
     fn is_pinned(&self, node: u64) -> bool
         ensures { result ≡ is_pinned self.now node }
     {
-        // A field is touched so that the type's invariant is at hand.
-        let _ = &self.next_call;
-        is_named(self.calls.rows(), node)
+        let is_named = is_named(self.calls.rows(), node);
+        let is_open = is_open(self.opens.rows(), node);
+        let is_releasing = is_releasing(&self.queues, node);
+        is_named || (is_open || is_releasing)
     }
 
     /// Why a node cannot be given up: `NotReady` where the mount is not live, `NoSuch` where the node is not counted,
-    /// `Busy` where an unanswered call or a name in force, valid or not, names it.
+    /// `Busy` where it is pinned or a name in force, valid or not, names it.
     pub fn evict_refusal(&self, node: u64) -> Option<Refusal>
         ensures { result ≡ evict_refusal self.now node }
     {

@@ -11,7 +11,7 @@ use crate::stored_answer::StoredAnswer;
 use fk_dentry::Bindings;
 use fk_queues::{QueueTable, Queues};
 use fk_syscalls::CallState;
-use fuse_spec::{Phase, Purpose, Refusal};
+use fuse_spec::{Opened, Phase, Purpose, Refusal};
 use fuse_tables::Table;
 use std::alloc::Global;
 use std::marker::Model;
@@ -24,7 +24,11 @@ pub struct KernelOf<Q: QueueTable<Purpose>> {
     pub(crate) phase: Phase,
     pub(crate) queues: Q,
     pub(crate) calls: Table<CallState<Q::Heap>, Q::Heap>,
-    pub(crate) answers: Table<StoredAnswer, Q::Heap>,
+    pub(crate) answers: Table<StoredAnswer<Q::Heap>, Q::Heap>,
+    /// The open files, by the numbers of the calls that opened them.
+    pub(crate) opens: Table<Opened, Q::Heap>,
+    /// The closed files of which a read or write is unanswered.
+    pub(crate) closing: Table<Opened, Q::Heap>,
     pub(crate) names: Bindings<Q::Heap>,
     pub(crate) nodes: CountedNodes<Q::Heap>,
     pub(crate) next_call: u64,
@@ -35,7 +39,6 @@ pub struct KernelOf<Q: QueueTable<Purpose>> {
 pub type Kernel<A = Global> = KernelOf<Queues<Purpose, A>>;
 
 impl<Q: QueueTable<Purpose>> Model for KernelOf<Q> {
-    ghost use Rattle.std.specs.Prelude.{[]};
     ghost use Rattle.std.specs.Coded.{codes};
     ghost use Rattle.fuse_spec.specs.Kernel.{Kernel as KernelState};
     ghost use Rattle.fk_kernel.specs.Soundness.{IsSoundKernel};
@@ -44,9 +47,9 @@ impl<Q: QueueTable<Purpose>> Model for KernelOf<Q> {
 
     ghost coded = { Prim.hlevel (codes) };
 
-    ghost view = { λ k. record { phase = k.phase; vfs = record { calls = k.calls.entries; names = k.names.names; opens = []; answers = k.answers.entries; next_call = k.next_call; clock = k.clock; root = 1 }; queues = Q.state k.queues; nodes = k.nodes; closing = [] } };
+    ghost view = { λ k. record { phase = k.phase; vfs = record { calls = k.calls.entries; names = k.names.names; opens = k.opens.entries; answers = k.answers.entries; next_call = k.next_call; clock = k.clock; root = 1 }; queues = Q.state k.queues; nodes = k.nodes; closing = k.closing.entries } };
 
-    ghost invariant = { λ k. IsSoundKernel k.phase k.calls.entries k.answers.entries k.answers.room k.next_call (Q.state k.queues) (Q.room k.queues).forgets k.nodes k.clock };
+    ghost invariant = { λ k. IsSoundKernel k.phase k.calls.entries k.answers.entries k.answers.room k.next_call k.opens.entries k.closing.entries (Q.state k.queues) (Q.room k.queues) k.nodes k.clock };
 }
 
 impl<Q: QueueTable<Purpose> + Drop> KernelOf<Q> {
@@ -60,6 +63,8 @@ impl<Q: QueueTable<Purpose> + Drop> KernelOf<Q> {
             queues: Q::new(alloc),
             calls: Table::new(alloc),
             answers: Table::new(alloc),
+            opens: Table::new(alloc),
+            closing: Table::new(alloc),
             names: Bindings::new(alloc),
             nodes: CountedNodes::new(alloc),
             next_call: 1,
@@ -81,11 +86,11 @@ impl<Q: QueueTable<Purpose> + Drop> KernelOf<Q> {
         matches!(self.phase, Phase::Starting | Phase::Ready)
     }
 
-    /// Whether a live mount has unanswered calls. No file is open so far.
+    /// Whether a live mount has unanswered calls or open files.
     fn is_busy(&self) -> bool
         ensures { result ≡ is_busy self.now }
     {
-        self.is_live() && self.calls.len() != 0
+        self.is_live() && (self.calls.len() != 0 || self.opens.len() != 0)
     }
 
     pub(crate) fn is_ready(&self) -> bool
@@ -104,7 +109,7 @@ impl<Q: QueueTable<Purpose> + Drop> KernelOf<Q> {
     ///
     /// # Errors
     ///
-    /// `Busy` where a live mount has unanswered calls; then `NoMemory`. The kernel is as before.
+    /// `Busy` where a live mount has unanswered calls or open files; then `NoMemory`. The kernel is as before.
     pub fn mount(&mut self) -> Result<(), Refusal>
         ensures err { OnErr result (self.new ≡ self.old) }
         ensures refusal { IfErr result (λ refusal. refusal ≡ or_no_memory (mount_refusal self.old)) }
@@ -122,6 +127,8 @@ impl<Q: QueueTable<Purpose> + Drop> KernelOf<Q> {
         let _init = queues.enqueue(Purpose::Init);
         self.queues = queues;
         self.calls.clear();
+        self.opens.clear();
+        self.closing.clear();
         self.names.clear();
         self.nodes.clear();
         self.phase = Phase::Starting;

@@ -2,18 +2,23 @@
 //! replies.
 #![tactic(auto)]
 
+mod aborting;
 mod answers;
 mod beginning;
 mod counted_nodes;
 mod entries;
 mod forgetting;
 mod kernel;
+mod open_files;
 mod passing;
 mod reading;
+mod reply_said;
+mod replying;
 mod said;
+mod signals;
 mod stored_answer;
 mod writing;
 
-pub use fk_syscalls::{Answer, Call};
+pub use fk_syscalls::{Answer, Call, ListedName};
 pub use kernel::Kernel;
 pub use said::reply_cases;

@@ -1,11 +1,11 @@
 //! How requests are read.
 
 ghost use Rattle.std.specs.Prelude.{◌≡◌, ◌<◌, ◌+◌, Some, None, Ok, OnOk, OnErr, IfOk, IfErr, true, ◌≢◌, is_some};
-ghost use Rattle.fuse_spec.specs.declared.Opened.{Opened};
+ghost use Rattle.fuse_spec.specs.Messages.{asks};
 ghost use Rattle.fuse_spec.specs.Kernel.{is_live, body_of};
 ghost use Rattle.fuse_spec.specs.Maps.{get};
-ghost use Rattle.fuse_spec.specs.Operations.{getattr};
-ghost use Rattle.fk_kernel.specs.Refused.{or_no_memory, read_refusal, IsPendingRequest, IsAskedSoFar};
+ghost use Rattle.fk_syscalls.specs.Values.{operation_of};
+ghost use Rattle.fk_kernel.specs.Refused.{or_no_memory, read_refusal, IsPendingRequest};
 ghost use Rattle.fuse_spec.specs.QueueCalls.{after_read_pending, waiting};
 
 use crate::kernel::KernelOf;
@@ -13,6 +13,10 @@ use fk_queues::QueueTable;
 use fk_syscalls::Asked;
 use fuse_frames::RequestFrame;
 use fuse_spec::{Purpose, Refusal};
+use std::alloc::{AllocError, Allocator};
+
+/// A READDIR asks for at most so many bytes.
+const MAX_TRANSFER: u32 = 4_096;
 
 impl<Q: QueueTable<Purpose> + Drop> KernelOf<Q> {
     /// Whether a request has something to ask: that of a call has while the call is unanswered.
@@ -57,7 +61,6 @@ impl<Q: QueueTable<Purpose> + Drop> KernelOf<Q> {
         ensures refusal { IfErr result (λ refusal. refusal ≡ or_no_memory (read_refusal self.old place)) }
         ensures judged { OnOk result (read_refusal self.old place ≡ None) }
         ensures frame { IfOk result (λ frame. IsPendingRequest self.old place frame) }
-        ensures asked { IfOk result (λ frame. IsAskedSoFar frame.body) }
         ensures read { OnOk result (self.new ≡ record self.old { queues = after_read_pending self.old.queues place }) }
     {
         if let Some(refusal) = self.read_refusal(place) {
@@ -72,36 +75,71 @@ impl<Q: QueueTable<Purpose> + Drop> KernelOf<Q> {
         Ok(frame)
     }
 
-    /// The frame of a request that has something to ask. No file is open so far, so that none is a RELEASE.
+    /// The frame of a request that has something to ask.
     fn request_frame(&self, unique: u64, purpose: Purpose) -> Result<RequestFrame<Q::Heap>, Refusal>
         requires asks { is_some (body_of self.now purpose) ≡ true }
-        requires no_release { (opened : Opened) → purpose ≢ Purpose.Release opened }
         ensures refusal { IfErr result (λ refusal. refusal ≡ Refusal.NoMemory) }
         ensures unique { IfOk result (λ frame. frame.unique ≡ unique) }
         ensures body { IfOk result (λ frame. body_of self.now purpose ≡ Some frame.body) }
-        ensures asked { IfOk result (λ frame. IsAskedSoFar frame.body) }
     {
         let frame = match purpose {
             Purpose::Init => RequestFrame::init(self.alloc, unique),
-            Purpose::Release(_) => return Err(Refusal::NoSuch),
+            Purpose::Release(opened) => RequestFrame::release(self.alloc, unique, opened),
             Purpose::Call(call) => {
                 let Some(waiting) = self.calls.get(call) else {
                     return Err(Refusal::NoSuch);
                 };
-                match waiting.asks() {
-                    Asked::Lookup { directory, name } => {
-                        RequestFrame::lookup(self.alloc, unique, directory, name)
-                    }
-                    Asked::Getattr { node } => RequestFrame::getattr(self.alloc, unique, node),
-                    Asked::Mkdir { directory, name } => {
-                        RequestFrame::mkdir(self.alloc, unique, directory, name)
-                    }
-                }
+                asked_frame(self.alloc, unique, &waiting.asks())
             }
         };
         match frame {
             Ok(frame) => Ok(frame),
             Err(_) => Err(Refusal::NoMemory),
         }
+    }
+}
+
+/// The frame of the request that asks an operation.
+fn asked_frame<A: Allocator + Copy>(
+    alloc: A,
+    unique: u64,
+    asked: &Asked<'_>,
+) -> Result<RequestFrame<A>, AllocError>
+    ensures { IfOk result (λ frame. frame ≡ record { unique = unique; body = asks (operation_of asked.now) }) }
+{
+    match asked {
+        Asked::Getattr { node } => RequestFrame::getattr(alloc, unique, *node),
+        Asked::Readdir { directory, after } => {
+            RequestFrame::readdir(alloc, unique, *directory, *after, MAX_TRANSFER)
+        }
+        Asked::Open { node } => RequestFrame::open(alloc, unique, *node),
+        Asked::Read {
+            opened,
+            offset,
+            size,
+        } => RequestFrame::read(alloc, unique, *opened, *offset, *size),
+        Asked::Write {
+            opened,
+            offset,
+            bytes,
+        } => RequestFrame::write(alloc, unique, *opened, *offset, bytes),
+        Asked::Lookup { directory, name } => {
+            RequestFrame::lookup(alloc, unique, *directory, name)
+        }
+        Asked::Mkdir { directory, name } => RequestFrame::mkdir(alloc, unique, *directory, name),
+        Asked::Create { directory, name } => RequestFrame::create(alloc, unique, *directory, name),
+        Asked::Unlink { directory, name } => RequestFrame::unlink(alloc, unique, *directory, name),
+        Asked::Rmdir { directory, name } => RequestFrame::rmdir(alloc, unique, *directory, name),
+        Asked::Rename {
+            directory,
+            old,
+            newdir,
+            new,
+        } => RequestFrame::rename(alloc, unique, *directory, old, *newdir, new),
+        Asked::Link {
+            node,
+            directory,
+            name,
+        } => RequestFrame::link(alloc, unique, *node, *directory, name),
     }
 }

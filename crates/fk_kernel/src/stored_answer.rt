@@ -4,15 +4,16 @@ ghost use Rattle.std.specs.Prelude.{◌≡◌};
 ghost use Rattle.fk_syscalls.specs.Values.{answer_of};
 
 use fk_syscalls::Answer;
+use std::alloc::Allocator;
 use std::marker::Model;
 
 /// An answer that waits to be collected.
 #[derive(Drop)]
-pub(crate) struct StoredAnswer {
-    answer: Answer,
+pub(crate) struct StoredAnswer<A: Allocator> {
+    answer: Answer<A>,
 }
 
-impl Model for StoredAnswer {
+impl<A: Allocator> Model for StoredAnswer<A> {
     ghost use Rattle.std.specs.Coded.{codes};
     ghost use Rattle.fuse_spec.specs.Answers.{Answer};
     ghost use Rattle.fk_syscalls.specs.Values.{answer_of};
@@ -24,14 +25,14 @@ impl Model for StoredAnswer {
     ghost view = { λ a. answer_of a.answer };
 }
 
-impl StoredAnswer {
-    pub(crate) fn new(answer: Answer) -> Self
+impl<A: Allocator> StoredAnswer<A> {
+    pub(crate) fn new(answer: Answer<A>) -> Self
         ensures { result ≡ answer_of answer }
     {
         StoredAnswer { answer }
     }
 
-    pub(crate) fn into_answer(self) -> Answer
+    pub(crate) fn into_answer(self) -> Answer<A>
         ensures { answer_of result ≡ self }
     {
         let StoredAnswer { answer } = self;

@@ -1,26 +1,18 @@
 //! How replies are taken.
 
 ghost use Rattle.std.specs.Prelude.{◌≡◌, ◌<◌, ◌+◌, ◌≤◌, ◌%◌, ℕ, Some, None, Ok, OnErr, IfOk, IfErr, true, false, is_some, nat_eq};
-ghost use Rattle.fuse_spec.specs.Maps.{get};
-ghost use Rattle.fuse_spec.specs.Vfs.{doing, answered};
 ghost use Rattle.fuse_spec.specs.Messages.{WireReply};
 ghost use Rattle.fuse_spec.specs.Operations as reply;
-ghost use Rattle.fuse_spec.specs.Operations.{getattr};
 ghost use Rattle.fuse_spec.specs.Replies.{reply_written, is_agreement, interrupt_reply_of, interrupt_replied};
-ghost use Rattle.fk_kernel.specs.Said.{Says, SaysNothing, HasReplyHead, head_unique, awaited, awaited_by_call, nothing, wrong_body, IsTaken};
-ghost use Rattle.fk_kernel.specs.Refused.{IsWriteRefusal, WriteRefused};
+ghost use Rattle.fk_kernel.specs.Said.{Says, SaysNothing, HasReplyHead, head_unique, awaited, nothing, wrong_body, IsTaken};
+ghost use Rattle.fk_kernel.specs.Refused.{WriteRefused};
 ghost use Rattle.fuse_spec.specs.QueueCalls.{after_interrupt_reply, waiting};
 
 use crate::kernel::KernelOf;
-use crate::said::{
-    GetattrSaid, InitSaid, InterruptSaid, said_to_getattr, said_to_init, said_to_interrupt,
-};
+use crate::said::{InitSaid, InterruptSaid, said_to_init, said_to_interrupt};
 use fk_queues::QueueTable;
-use fk_syscalls::{Answer, Asked};
 use fk_wire::{Opcode, read_reply_head};
 use fuse_spec::{Phase, Purpose, Refusal, WriteResult};
-
-const EIO: u32 = 5;
 
 const EAGAIN: u32 = 11;
 
@@ -51,8 +43,7 @@ impl<Q: QueueTable<Purpose> + Drop> KernelOf<Q> {
         };
         match *purpose {
             Purpose::Init => Ok(self.write_to_init(unique, bytes)),
-            // No file is opened so far, so that none is a RELEASE.
-            Purpose::Release(_) => Ok(WriteResult::Invalid),
+            Purpose::Release(_) => Ok(self.write_to_release(unique, bytes)),
             Purpose::Call(call) => self.write_to_call(unique, call, bytes),
         }
     }
@@ -104,50 +95,6 @@ impl<Q: QueueTable<Purpose> + Drop> KernelOf<Q> {
         }
         let _kept = self.queues.answer(unique);
         self.phase = Phase::Ready;
-        WriteResult::Accepted
-    }
-
-    /// A reply to the LOOKUP, GETATTR or MKDIR of a call. Where the call is not unanswered, its request just ends.
-    fn write_to_call(
-        &mut self,
-        unique: u64,
-        call: u64,
-        bytes: &[u8],
-    ) -> Result<WriteResult, Refusal>
-        requires even { nat_eq (unique % 2) 1 ≡ false }
-        requires waits { waiting self.old.queues unique ≡ Some (Purpose.Call call) }
-        ensures err { OnErr result (self.new ≡ self.old) }
-        ensures refusal { IfErr result (IsWriteRefusal self.old unique bytes.now (awaited_by_call (get self.old.vfs.calls call))) }
-        ensures taken { IfOk result (λ written. IsTaken self.old unique bytes.now (awaited_by_call (get self.old.vfs.calls call)) written self.new) }
-    {
-        let Some(waiting) = self.calls.get(call) else {
-            let _kept = self.queues.answer(unique);
-            return Ok(WriteResult::Accepted);
-        };
-        match waiting.asks() {
-            Asked::Lookup { .. } => self.write_to_lookup(unique, call, bytes),
-            Asked::Getattr { .. } => Ok(self.write_to_getattr(unique, call, bytes)),
-            Asked::Mkdir { .. } => self.write_to_mkdir(unique, call, bytes),
-        }
-    }
-
-    /// A reply to the GETATTR of a node. Bytes that are none answer the call EIO.
-    fn write_to_getattr(&mut self, unique: u64, call: u64, bytes: &[u8]) -> WriteResult
-        requires even { nat_eq (unique % 2) 1 ≡ false }
-        requires waits { waiting self.old.queues unique ≡ Some (Purpose.Call call) }
-        requires asks { (node : ℕ) × (get self.old.vfs.calls call ≡ Some (doing (getattr node))) }
-        ensures said { (wire : WireReply) → Says Opcode.Getattr bytes.now wire → reply_written self.old unique wire ≡ (result, self.new) }
-        ensures unsaid { SaysNothing Opcode.Getattr bytes.now → reply_written self.old unique wrong_body ≡ (result, self.new) }
-    {
-        let Some(said) = said_to_getattr(bytes) else {
-            self.answer_call(unique, call, Answer::Failed { errno: EIO });
-            return WriteResult::Invalid;
-        };
-        let answer = match said {
-            GetattrSaid::Failed { errno } => Answer::Failed { errno },
-            GetattrSaid::Attributes(attributes) => Answer::Attributes(attributes),
-        };
-        self.answer_call(unique, call, answer);
         WriteResult::Accepted
     }
 }

@@ -128,6 +128,15 @@ impl<W: Drop, A: Allocator + Copy> QueueTable<W> for ListQueues<W, A> {
         Some((unique, forgets))
     }
 
+    fn request_count(&self) -> usize {
+        self.requests.len()
+    }
+
+    fn request_at(&self, place: usize) -> Option<(u64, &W)> {
+        let (unique, request) = self.requests.get(place)?;
+        Some((*unique, &request.kept))
+    }
+
     fn waiting(&self, unique: u64) -> Option<&W> {
         let request = request_under(&self.requests, unique)?;
         match request.mark {

@@ -26,7 +26,7 @@ type Builder = BuildHasherDefault<FoldHasher>;
 ///
 /// | Call | Time |
 /// |---|---|
-/// | `numbers_left`, `first_interrupt`, `forget`, `no_interrupts` | constant |
+/// | `numbers_left`, `request_count`, `request_at`, `first_interrupt`, `forget`, `no_interrupts` | constant |
 /// | `enqueue`, `waiting` | one look-up by hash |
 /// | `interrupt` | two look-ups by hash; a request that is dequeued has those queued after it moved up, at most `n` |
 /// | `answer` | look-ups by hash, one pass over the queued INTERRUPTs, and those queued after it moved up, at most `n` |
@@ -147,6 +147,15 @@ impl<W: Drop, A: Allocator + Copy> QueueTable<W> for Queues<W, A> {
         let unique = self.uniques.next().unwrap();
         self.forgets.drop_first(count);
         Some((unique, forgets))
+    }
+
+    fn request_count(&self) -> usize {
+        self.requests.len()
+    }
+
+    fn request_at(&self, place: usize) -> Option<(u64, &W)> {
+        let (unique, request) = self.requests.get_index(place)?;
+        Some((*unique, &request.kept))
     }
 
     fn waiting(&self, unique: u64) -> Option<&W> {

@@ -1,8 +1,9 @@
 //! The contract of the queues, for any representation.
-ghost use Rattle.std.specs.Prelude.{◌≡◌, ℕ, ◌+◌, ◌<◌, ◌≤◌, Option, OnOk, IsOk, option_map, slice_get};
+ghost use Rattle.std.specs.Prelude.{◌≡◌, ℕ, ◌+◌, ◌<◌, ◌≤◌, Option, OnOk, IsOk, option_map, slice_get, length};
 ghost use Rattle.fuse_spec.specs.Uniques.{numbers_left_from};
 ghost use Rattle.fuse_spec.specs.Queues.{QueueState, empty_queues, IsSound};
 ghost use Rattle.fuse_spec.specs.QueueCalls.{after_enqueue, after_forget, pending_at, after_read_pending, after_read_interrupt, first_forgets, after_read_forgets, waiting, after_answer, interrupt_effect, after_interrupt, after_interrupt_reply, after_no_interrupts};
+ghost use Rattle.fuse_spec.specs.QueueLaws.{kept_entries};
 ghost use Rattle.fuse_spec.specs.declared.InterruptReply.TheVariants.{Again};
 ghost use Rattle.fk_queues.specs.Room.{Room, KeepsRoom};
 
@@ -96,6 +97,14 @@ pub trait QueueTable<W: Drop> {
         ensures forgets { result ≡ first_forgets (state self.old) count }
         ensures state { state self.new ≡ after_read_forgets (state self.old) count }
         ensures room { KeepsRoom (room self.old) (room self.new) };
+
+    /// How many requests there are, read or not.
+    fn request_count(&self) -> usize
+        ensures { result ≡ length (state self.now).requests };
+
+    /// The request at a place in order of queuing, read or not, counted from 0, and its number.
+    fn request_at(&self, place: usize) -> Option<(u64, &W)>
+        ensures { option_map (λ p. (p.0, p.1.now)) result ≡ slice_get (kept_entries (state self.now).requests) place };
 
     /// What is kept of the request that was read under a number and is unanswered: what `answer` ends.
     fn waiting(&self, unique: u64) -> Option<&W>

@@ -1,45 +1,125 @@
 -- What a call comes to, by where names in force leave its walk.
-use Rattle.std.proofs.Common.{◌≡◌, ℕ, false, List, [], ◌∷◌, Option, Some, None, Result, Ok, Err, ap, ◌∙◌}
-use Rattle.std.specs.Prelude.{OnErr}
+use Rattle.std.proofs.Common.{◌≡◌, ℕ, Bool, true, false, cond, true≢false, List, [], ◌∷◌, ◌++◌, Option, Some, None, Result, Ok, Err, drop, nat_eq, refl, ap, sym, ◌∙◌, arith}
+use Rattle.std.specs.Prelude.{OnErr, IfOk, is_some, ◌||◌}
+use Rattle.std.specs.Option.{MatchOption}
+use Rattle.fuse_spec.specs.Begins.{Beginning, beginning}
+use Rattle.fk_syscalls.specs.declared.state.Next.{Next}
+use Rattle.fk_syscalls.specs.Values.{IsBegun}
+use Rattle.std.specs.declared.alloc.AllocError.{AllocError}
+use Rattle.fk_syscalls.specs.declared.walk.Stop.{Stop}
 use Rattle.fuse_spec.specs.Answers.{failed}
-use Rattle.fuse_spec.specs.Begins.{Beginning, faulty, sets_out}
-use Rattle.fuse_spec.specs.Calls as call
-use Rattle.fuse_spec.specs.Maps.{NameMap}
-use Rattle.fuse_spec.specs.Numbers.{einval}
-use Rattle.fuse_spec.specs.Paths.{Name, words_of, parent_and_last}
-use Rattle.fuse_spec.specs.Vfs.{CallState, walking, Vfs, Advance, look, asking, no_more, answered, after_walk, after_beginning, walks_on, numbered, begun}
-use Rattle.fuse_spec.specs.Walks.{WalkPlan, WalkStop, FinalOperation, last, go, after_stop, missing}
+use Rattle.fuse_spec.specs.Kernel.{nodes_of_state}
+use Rattle.fuse_spec.specs.Maps.{Map, NameMap}
+use Rattle.fuse_spec.specs.Calls.{Call}
 use Rattle.fuse_spec.specs.Walks as final
+use Rattle.std.specs.List.{list_any}
+use Rattle.fuse_spec.specs.Paths.{Name, split}
+use Rattle.fuse_spec.specs.Vfs.{CallState, walking, Vfs, Advance, look, asking, no_more, answered, after_walk, after_beginning, walks_on, begun, numbered}
+use Rattle.fuse_spec.specs.Walks.{WalkPlan, WalkStop, FinalOperation, last, rename, link, go, after_stop, after_last, rename_from, link_to, files_of_plan, unknown, missing, arrived}
 use Rattle.fuse_spec.specs.declared.Binding.{Binding}
 use Rattle.fuse_spec.specs.declared.Opened.{Opened}
 use Rattle.fk_syscalls.specs.Walks.{known, stop_at}
-use Rattle.fk_syscalls.specs.Words.{behind_first}
-use Rattle.fk_syscalls.specs.States.{state_of, HasNames}
+use Rattle.fk_syscalls.specs.Words.{words_from, behind_first}
+use Rattle.fk_syscalls.specs.Plans.{IsLast, plan_of}
+use Rattle.fk_syscalls.specs.States.{walking_at, state_of, HasNames, Asks}
+use Rattle.fk_syscalls.specs.declared.state.Aim.{Aim}
+use Rattle.fk_syscalls.specs.declared.state.Aim.TheVariants.{Walks, Reads, Writes}
+use Rattle.std.proofs.lemmas.Bool.Decides.{nat_tests}
 
-module _ (c : Vfs Opened) (names : NameMap Binding) (clock : ℕ) (has : HasNames c names clock) (call : ℕ) (words : List Name) (operation : FinalOperation ℕ) where
-  abbrev after : WalkStop ℕ → Advance Opened
-  after stop = after_walk c call (after_stop (look c) c.root (last operation) stop)
+module _ (c : Vfs Opened) (names : NameMap Binding) (clock : ℕ) (has : HasNames c names clock) (call : ℕ) where
+  module _ (words : List Name) (plan : WalkPlan ℕ) where
+    abbrev after : WalkStop ℕ → Advance Opened
+    after stop = after_walk c call (after_stop (look c) c.root plan stop)
 
-  module _ (from : ℕ) where
-    walks : walks_on c call from words (last operation) ≡ after (go (known names clock) from words)
-    walks = λ i. after (go (known (has.names i) (has.clock i)) from words)
+    module _ (from : ℕ) where
+      walks : walks_on c call from words plan ≡ after (go (known names clock) from words)
+      walks = λ i. after (go (known (has.names i) (has.clock i)) from words)
 
-    pub waits : (node : ℕ) (left : List Name) → go (known names clock) from words ≡ stop_at node left → walks_on c call from words (last operation) ≡ asking c call (state_of node left operation)
-    waits node [] stop = walks ∙ ap after stop
-    waits node (word ∷ left) stop = walks ∙ ap after stop
+      -- where a word is left, or no second walk follows
+      by_left : (node : ℕ) (left : List Name) → (left ≡ [] → IsLast plan) → after (stop_at node left) ≡ asking c call (walking_at node left plan)
+      by_left node [] ends = by_plan plan (ends refl)
+        where
+          by_plan : (p : WalkPlan ℕ) → IsLast p → after_walk c call (after_stop (look c) c.root p (arrived node)) ≡ asking c call (walking_at node [] p)
+          by_plan (last operation) is = refl
+          by_plan (rename old words new) is = absurd is
+          by_plan (link words name) is = absurd is
+      by_left node (word ∷ left) ends = refl
 
-    pub finds_none : go (known names clock) from words ≡ missing → walks_on c call from words (last operation) ≡ no_more (answered c call (failed 2))
-    finds_none stop = walks ∙ ap after stop
+      pub waits : (node : ℕ) (left : List Name) → (left ≡ [] → IsLast plan) → go (known names clock) from words ≡ stop_at node left → walks_on c call from words plan ≡ asking c call (walking_at node left plan)
+      waits node left ends stop = walks ∙ ap after stop ∙ by_left node left ends
 
-  -- the same from the root
-  pub root_waits : (node : ℕ) (left : List Name) → go (known names clock) 1 words ≡ stop_at node left → walks_on c call c.root words (last operation) ≡ asking c call (state_of node left operation)
-  root_waits node left stop = ap (λ (root : ℕ). walks_on c call root words (last operation)) has.root ∙ waits 1 node left stop
+      pub finds_none : go (known names clock) from words ≡ missing → walks_on c call from words plan ≡ no_more (answered c call (failed 2))
+      finds_none stop = walks ∙ ap after stop
+
+  pub waits_at_end : (words : List Name) (operation : FinalOperation ℕ) (from node : ℕ) → go (known names clock) from words ≡ arrived node → walks_on c call from words (last operation) ≡ asking c call (walking_at node [] (last operation))
+  waits_at_end words operation from node arrives = waits words (last operation) from node [] (λ e. tt) arrives
+
+  -- The second walk is a walk of its own.
+  same_walk : (operation : FinalOperation ℕ) (stop : WalkStop ℕ) → after_walk c call (after_last operation stop) ≡ after_walk c call (after_stop (look c) c.root (last operation) stop)
+  same_walk operation (unknown at word words) = refl
+  same_walk operation missing = refl
+  same_walk operation (arrived file) = refl
+
+  pub renames : (from : ℕ) (words : List Name) (old : Name) (more : List Name) (new : Name) (node : ℕ) → go (known names clock) from words ≡ arrived node
+      → walks_on c call from words (rename old more new) ≡ walks_on c call c.root more (last (rename_from node old new))
+  renames from words old more new node stop = walks words (rename old more new) from ∙ ap (after words (rename old more new)) stop ∙ same_walk (rename_from node old new) (go (look c) c.root more)
+
+  pub links : (from : ℕ) (words : List Name) (more : List Name) (name : Name) (node : ℕ) → go (known names clock) from words ≡ arrived node
+      → walks_on c call from words (link more name) ≡ walks_on c call c.root more (last (link_to node name))
+  links from words more name node stop = walks words (link more name) from ∙ ap (after words (link more name)) stop ∙ same_walk (link_to node name) (go (look c) c.root more)
+
+  -- from the root
+  pub root_is : (words : List Name) (plan : WalkPlan ℕ) → walks_on c call c.root words plan ≡ walks_on c call 1 words plan
+  root_is words plan = ap (λ (root : ℕ). walks_on c call root words plan) has.root
+
+  pub all_root_waits : (words : List Name) (plan : WalkPlan ℕ) (node : ℕ) (left : List Name) → (left ≡ [] → IsLast plan) → go (known names clock) 1 words ≡ stop_at node left → walks_on c call c.root words plan ≡ asking c call (walking_at node left plan)
+  all_root_waits words plan node left ends stop = root_is words plan ∙ waits words plan 1 node left ends stop
+
+  -- from the root, where no walk follows
+  module _ (words : List Name) (operation : FinalOperation ℕ) where
+    pub root_waits : (node : ℕ) (left : List Name) → go (known names clock) 1 words ≡ stop_at node left → walks_on c call c.root words (last operation) ≡ asking c call (walking_at node left (last operation))
+    root_waits node left stop = root_is words (last operation) ∙ waits words (last operation) 1 node left (λ e. tt) stop
+
+    pub root_none : go (known names clock) 1 words ≡ missing → walks_on c call c.root words (last operation) ≡ no_more (answered c call (failed 2))
+    root_none stop = root_is words (last operation) ∙ finds_none words (last operation) 1 stop
+
+    -- whether it asks is whether it stands
+    pub root_asks : (bytes : List ℕ) (r : Option Stop) → MatchOption r (go (known names clock) 1 words ≡ missing) (λ stop. go (known names clock) 1 words ≡ stop_at stop.node (words_from bytes stop.at))
+        → is_some (walks_on c call c.root words (last operation)).operation ≡ is_some r
+    root_asks bytes None stop = ap (λ (a : Advance Opened). is_some a.operation) (root_none stop)
+    root_asks bytes (Some s) stop = ap (λ (a : Advance Opened). is_some a.operation) (root_waits s.node (words_from bytes s.at) stop)
 
 -- What is behind the word that is looked up, and what is to be done at the end.
-pub left_to_walk : (node : ℕ) (left : List Name) (operation : FinalOperation ℕ) (directory : ℕ) (word : Name) (words : List Name) (plan : WalkPlan ℕ) → state_of node left operation ≡ walking directory word words plan
-    → (words ≡ behind_first left) × (plan ≡ last operation)
-left_to_walk node [] operation directory word words plan e = cc
-left_to_walk node (first ∷ left) operation directory word words plan e = (cc, cc)
+pub left_to_walk : (node : ℕ) (left : List Name) (aim : WalkPlan ℕ) (directory : ℕ) (word : Name) (words : List Name) (plan : WalkPlan ℕ) → walking_at node left aim ≡ walking directory word words plan
+    → (words ≡ behind_first left) × (plan ≡ aim)
+left_to_walk node [] (last operation) directory word words plan e = cc
+left_to_walk node [] (rename old more new) directory word words plan e = cc
+left_to_walk node [] (link more name) directory word words plan e = cc
+left_to_walk node (first ∷ left) aim directory word words plan e = (cc, cc)
+
+-- A call that looked up a word walks on along those behind it.
+pub looks_on : (c : Vfs Opened) (call from node : ℕ) (left : List Name) (aim : WalkPlan ℕ) (directory : ℕ) (word : Name) (words : List Name) (plan : WalkPlan ℕ) (next : List Name)
+    → walking_at node left aim ≡ walking directory word words plan → next ≡ behind_first left → walks_on c call from words plan ≡ walks_on c call from next aim
+looks_on c call from node left aim directory word words plan next e behind =
+    let both = left_to_walk node left aim directory word words plan e in
+    ap (λ (p : WalkPlan ℕ). walks_on c call from words p) both.1 ∙ ap (λ (ws : List Name). walks_on c call from ws aim) (both.0 ∙ sym behind)
+
+-- Where a place is left a word is left, and else none.
+split_some : (word : Name) (bytes : List ℕ) {T : Type 0} → split word bytes ≡ [] → T
+split_some word [] e = cc
+split_some word (b ∷ bytes) {T} e = by (nat_eq b 47) e (split_some (word ++ b ∷ []) bytes)
+  where
+    by : (t : Bool) → cond t (word ∷ split [] bytes) (split (word ++ b ∷ []) bytes) ≡ [] → (split (word ++ b ∷ []) bytes ≡ [] → T) → T
+    by true is rest = cc
+    by false is rest = rest is
+
+pub some_left : (bytes : List ℕ) (at : Option ℕ) {T : Type 0} → is_some at ≡ true → words_from bytes at ≡ [] → T
+some_left bytes None is e = absurd (true≢false (sym is))
+some_left bytes (Some place) is e = split_some [] (drop place bytes) e
+
+pub none_left : (bytes : List ℕ) (at : Option ℕ) → is_some at ≡ false → words_from bytes at ≡ []
+none_left bytes None is = refl
+none_left bytes (Some place) is = absurd (true≢false is)
 
 -- What holds always holds at an error.
 pub if_err : {T E : Type 0} {X : Type 0} (r : Result T E) → X → OnErr r X
@@ -51,27 +131,61 @@ pub on_err : {T E : Type 0} {X Y : Type 0} (r : Result T E) → (X → Y) → On
 on_err (Ok t) then x = tt
 on_err (Err e) then x = then x
 
--- A call that sets out along these words asks an operation.
-module _ (names : NameMap Binding) (clock : ℕ) (path : List ℕ) where
-  abbrev pub Asks : List Name → FinalOperation ℕ → Type 0
-  Asks words operation = (c : Vfs Opened) (call : ℕ) → HasNames c names clock → (state : CallState Opened) × (walks_on c call c.root words (last operation) ≡ asking c call state)
+-- Beginnings that leave a call alike.
+module _ {A : Type 0} (names : NameMap Binding) (clock : ℕ) (one other : Beginning ℕ Opened) (same : (c : Vfs Opened) (call : ℕ) → HasNames c names clock → after_beginning c call one ≡ after_beginning c call other) where
+  pub begun_so : (r : Result (Next A) AllocError) → IfOk r (IsBegun names clock other) → IfOk r (IsBegun names clock one)
+  begun_so (Ok next) begun = λ c call has. same c call has ∙ begun c call has
+  begun_so (Err e) begun = tt
 
-  abbrev pub AsksFirst : call.Call → Type 0
-  AsksFirst begins = (c : Vfs Opened) → HasNames c names clock → (state : CallState Opened) × (begun false c begins ≡ asking (numbered c) c.next_call state)
+  pub asks_so : (r : Result (Next A) AllocError) → OnErr r (Asks names clock other) → OnErr r (Asks names clock one)
+  asks_so (Ok next) asks = tt
+  asks_so (Err e) asks = λ c call has. ((asks c call has).0, same c call has ∙ (asks c call has).1)
 
-  module _ (words : List Name) (spelled : words_of path ≡ Ok words) where
-    pub stat_asks : Asks words final.stat → AsksFirst (call.stat path)
-    stat_asks asks c has =
-        let first = asks (numbered c) c.next_call (record { names = has.names; clock = has.clock; root = has.root }) in
-        (first.0, ap (λ (r : Result (List Name) ℕ). after_beginning (numbered c) c.next_call (elim r [ Err fault ↦ faulty fault | Ok words ↦ sets_out words (last final.stat) ])) spelled ∙ first.1)
+-- What the first step of a call asks.
+module _ {A : Type 0} (names : NameMap Binding) (clock : ℕ) (opens : Map Opened) (made : Call) (begins : Beginning ℕ Opened) where
+  abbrev AsksFirst : Result (Next A) AllocError → Type 0
+  AsksFirst r = OnErr r ((c : Vfs Opened) → HasNames c names clock → c.opens ≡ opens → (state : CallState Opened) × (begun false c made ≡ asking (numbered c) c.next_call state))
 
-    pub mkdir_asks : (before : List Name) (name : Name) → parent_and_last words ≡ Some (before, name) → Asks before (final.mkdir name) → AsksFirst (call.mkdir path)
-    mkdir_asks before name parted asks c has =
-        let first = asks (numbered c) c.next_call (record { names = has.names; clock = has.clock; root = has.root }) in (
-          first.0,
-          ap (λ (r : Result (List Name) ℕ). after_beginning (numbered c) c.next_call (elim r [ Err fault ↦ faulty fault | Ok words ↦ by_parts (parent_and_last words) ])) spelled
-              ∙ ap (λ (o : Option (List Name × Name)). after_beginning (numbered c) c.next_call (by_parts o)) parted ∙ first.1,
-        )
-      where
-        by_parts : Option (List Name × Name) → Beginning ℕ Opened
-        by_parts o = elim o [ None ↦ faulty einval | Some parts ↦ sets_out parts.0 (last (final.mkdir parts.1)) ]
+  pub first_asks : ((c : Vfs Opened) → beginning c.opens made ≡ begins) → (r : Result (Next A) AllocError) → OnErr r (Asks names clock begins) → AsksFirst r
+  first_asks same (Ok next) asks = tt
+  first_asks same (Err e) asks = λ c has is.
+      let first = asks (numbered c) c.next_call (record { names = has.names; clock = has.clock; root = has.root }) in
+      (first.0, ap (after_beginning (numbered c) c.next_call) (same c) ∙ first.1)
+
+  -- of a call on an open file
+  pub file_asks : ((c : Vfs Opened) → c.opens ≡ opens → beginning c.opens made ≡ begins) → (r : Result (Next A) AllocError)
+      → OnErr r ((c : Vfs Opened) (call : ℕ) → (state : CallState Opened) × (after_beginning c call begins ≡ asking c call state)) → AsksFirst r
+  file_asks same (Ok next) asks = tt
+  file_asks same (Err e) asks = λ c has is.
+      let first = asks (numbered c) c.next_call in
+      (first.0, ap (after_beginning (numbered c) c.next_call) (same c is) ∙ first.1)
+
+-- Which nodes a call names that walks, or whose walks are over.
+either : (a b : Bool) → (a || (b || false)) ≡ (b || (a || false))
+either true true = refl
+either true false = refl
+either false true = refl
+either false false = refl
+
+pub names_walked : (node at : ℕ) (words : List Name) (plan : WalkPlan ℕ) → list_any (nat_eq node) (nodes_of_state (walking_at at words plan)) ≡ (nat_eq node at || list_any (nat_eq node) (files_of_plan plan))
+names_walked node at (word ∷ words) plan = refl
+names_walked node at [] (rename old words new) = refl
+names_walked node at [] (link words name) = refl
+names_walked node at [] (last final.stat) = refl
+names_walked node at [] (last (final.list after)) = refl
+names_walked node at [] (last final.opening) = refl
+names_walked node at [] (last (final.mkdir name)) = refl
+names_walked node at [] (last (final.create name)) = refl
+names_walked node at [] (last (final.unlink name)) = refl
+names_walked node at [] (last (final.rmdir name)) = refl
+names_walked node at [] (last (rename_from directory old new)) = either (nat_eq node directory) (nat_eq node at)
+names_walked node at [] (last (link_to file name)) = refl
+
+-- A call names the node at which it stands.
+itself : (node at : ℕ) → at ≡ node → nat_eq node at ≡ true
+itself node at same = grind (arith, nat_tests)
+
+pub names_self : {A : Type 0} (node at : ℕ) (words : List Name) (aim : Aim A) → at ≡ node → list_any (nat_eq node) (nodes_of_state (state_of at words aim)) ≡ true
+names_self node at words (Walks plan) same = names_walked node at words (plan_of plan) ∙ ap (λ (b : Bool). b || list_any (nat_eq node) (files_of_plan (plan_of plan))) (itself node at same)
+names_self node at words (Reads handle fh offset size) same = ap (λ (b : Bool). b || false) (itself node at same)
+names_self node at words (Writes handle fh offset bytes) same = ap (λ (b : Bool). b || false) (itself node at same)

@@ -1,5 +1,6 @@
 pub mod Words
 pub mod Walks
+pub mod Plans
 pub mod States
 pub mod Values
 pub mod NewNames

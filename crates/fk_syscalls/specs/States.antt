@@ -1,45 +1,81 @@
 -- Where an unanswered call stands, and what a step of it comes to.
-use Rattle.std.specs.Prelude.{◌≡◌, ℕ, List, [], ◌∷◌, Option}
+use Rattle.std.specs.Prelude.{◌≡◌, ℕ, List, [], ◌∷◌, Option, Some, None}
+use Rattle.fuse_spec.specs.Begins.{Beginning}
 use Rattle.fuse_spec.specs.Maps.{NameMap}
+use Rattle.fuse_spec.specs.Operations as op
+use Rattle.fuse_spec.specs.Operations.{Operation}
 use Rattle.fuse_spec.specs.Paths.{Name}
-use Rattle.fuse_spec.specs.Vfs.{CallState, walking, doing, Vfs}
-use Rattle.fuse_spec.specs.Walks.{last, operation_at}
-use Rattle.fuse_spec.specs.Walks as final
+use Rattle.fuse_spec.specs.Vfs.{CallState, walking, doing, using, Vfs, asking, after_beginning}
+use Rattle.fuse_spec.specs.Walks.{WalkPlan, last, rename, link, operation_at}
 use Rattle.fuse_spec.specs.declared.Binding.{Binding}
 use Rattle.fuse_spec.specs.declared.Opened.{Opened}
-use Rattle.fk_syscalls.specs.Words.{IsWord, AreWords}
-use Rattle.fk_syscalls.specs.declared.state.FinalOperation.{FinalOperation}
-use Rattle.fk_syscalls.specs.declared.state.FinalOperation.TheVariants.{Stat, Mkdir}
-use Rattle.fk_syscalls.specs.declared.state.LentOperation.{LentOperation}
-use Rattle.fk_syscalls.specs.declared.state.LentOperation.TheVariants as lent
+use Rattle.fk_syscalls.specs.Words.{AreWords}
+use Rattle.fk_syscalls.specs.Plans.{plan_of, plan_lent, IsSoundPlan, IsSoundPlanLent, IsLast}
+use Rattle.fk_syscalls.specs.declared.plan.LentPlan.{LentPlan}
+use Rattle.fk_syscalls.specs.declared.state.Aim.{Aim}
+use Rattle.fk_syscalls.specs.declared.state.Aim.TheVariants.{Walks, Reads, Writes}
 
--- What a call does at the end of its walk.
-abbrev pub final_of : {A : Type 0} → FinalOperation A → final.FinalOperation ℕ
-final_of Stat = final.stat
-final_of (Mkdir name) = final.mkdir name.items
+-- A call whose walk has led to its end. With a second walk to come none stands there.
+abbrev pub at_end : ℕ → WalkPlan ℕ → CallState Opened
+at_end node (last operation) = doing (operation_at operation node)
+at_end node (rename old words new) = doing (op.getattr node)
+at_end node (link words name) = doing (op.getattr node)
 
--- The same of one whose name is lent.
-abbrev pub final_lent : LentOperation → final.FinalOperation ℕ
-final_lent lent.Stat = final.stat
-final_lent (lent.Mkdir name) = final.mkdir name.now
+-- A call that walks: it looks up the first of the words that are left, or asks its operation.
+abbrev pub walking_at : ℕ → List Name → WalkPlan ℕ → CallState Opened
+walking_at node [] plan = at_end node plan
+walking_at node (word ∷ words) plan = walking node word words plan
 
--- The name that it gives to a file, if it does, is a word.
-abbrev pub IsNamed : final.FinalOperation ℕ → Type 0
-IsNamed (final.mkdir name) = IsWord name
-IsNamed other = Unit {0}
+-- A call at a node: it walks, or waits for a read or write of an open file of that node.
+abbrev pub state_of : {A : Type 0} → ℕ → List Name → Aim A → CallState Opened
+state_of node words (Walks plan) = walking_at node words (plan_of plan)
+state_of node words (Reads handle fh offset size) = using handle (op.read (record { nodeid = node; fh = fh }) offset size)
+state_of node words (Writes handle fh offset bytes) = using handle (op.write (record { nodeid = node; fh = fh }) offset bytes.items)
 
--- A call at a node: it looks up the first of the words that are left, or asks its operation.
-abbrev pub state_of : ℕ → List Name → final.FinalOperation ℕ → CallState Opened
-state_of node [] operation = doing (operation_at operation node)
-state_of node (word ∷ words) operation = walking node word words (last operation)
+abbrev pub IsSoundAim : {A : Type 0} → Option ℕ → Aim A → Type 0
+IsSoundAim at (Walks plan) = IsSoundPlan plan × (at ≡ None → IsLast (plan_of plan))
+IsSoundAim at (Reads handle fh offset size) = Unit {0}
+IsSoundAim at (Writes handle fh offset bytes) = Unit {0}
 
--- Only words without a fault are asked for.
-pub record IsSoundCall (bytes : List ℕ) (at : Option ℕ) (operation : final.FinalOperation ℕ) : Type 0 where
+-- Only words without a fault are asked for, and a second walk follows the first at once.
+pub record IsSoundCall {A : Type 0} (bytes : List ℕ) (at : Option ℕ) (aim : Aim A) : Type 0 where
   pub left : AreWords bytes at
-  pub named : IsNamed operation
+  pub sound : IsSoundAim at aim
+
+-- The same of a call that is to be made, whose words and names are lent.
+pub record IsSoundLentCall (bytes : List ℕ) (at : Option ℕ) (plan : LentPlan) : Type 0 where
+  pub left : AreWords bytes at
+  pub sound : IsSoundPlanLent plan
+  pub last : at ≡ None → IsLast (plan_lent plan)
+
+-- What a call has asked tells where it stands.
+pub record LooksUp (directory : ℕ) (word : Name) (state : CallState Opened) : Type 0 where
+  pub words : List Name
+  pub plan : WalkPlan ℕ
+  pub is : state ≡ walking directory word words plan
+
+pub record Uses (operation : Operation ℕ Opened) (state : CallState Opened) : Type 0 where
+  pub handle : ℕ
+  pub is : state ≡ using handle operation
+
+abbrev pub StandsAt : Operation ℕ Opened → CallState Opened → Type 0
+StandsAt (op.lookup directory word) state = LooksUp directory word state
+StandsAt (op.read opened offset size) state = Uses (op.read opened offset size) state
+StandsAt (op.write opened offset bytes) state = Uses (op.write opened offset bytes) state
+StandsAt operation state = state ≡ doing operation
+
+-- The open file that the call reads or writes, by its number.
+abbrev pub used_by : CallState Opened → Option ℕ
+used_by (walking directory word words plan) = None
+used_by (doing operation) = None
+used_by (using handle operation) = Some handle
 
 -- These are the names in force and the time, and the root is node 1.
 pub record HasNames (c : Vfs Opened) (in_force : NameMap Binding) (time : ℕ) : Type 0 where
   pub names : c.names ≡ in_force
   pub clock : c.clock ≡ time
   pub root : c.root ≡ 1
+
+-- A call that begins so asks an operation.
+abbrev pub Asks : NameMap Binding → ℕ → Beginning ℕ Opened → Type 0
+Asks names clock begins = (c : Vfs Opened) (call : ℕ) → HasNames c names clock → (state : CallState Opened) × (after_beginning c call begins ≡ asking c call state)

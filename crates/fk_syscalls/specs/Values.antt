@@ -1,45 +1,91 @@
 -- What contracts see of calls.
-use Rattle.std.specs.Prelude.{ℕ}
+use Rattle.std.specs.Prelude.{◌≡◌, ℕ, map}
 use Rattle.fuse_spec.specs.Answers.{failed}
 use Rattle.fuse_spec.specs.Answers as answer
+use Rattle.fuse_spec.specs.Begins.{Beginning}
 use Rattle.fuse_spec.specs.Calls as call
+use Rattle.fuse_spec.specs.Maps.{NameMap}
+use Rattle.fuse_spec.specs.Numbers.{max_transfer}
 use Rattle.fuse_spec.specs.Operations as op
-use Rattle.fuse_spec.specs.Vfs.{Vfs, Advance, asking, no_more, answered}
+use Rattle.fuse_spec.specs.Vfs.{Vfs, Advance, asking, no_more, answered, after_beginning}
+use Rattle.fuse_spec.specs.declared.Binding.{Binding}
 use Rattle.fuse_spec.specs.declared.Opened.{Opened}
 use Rattle.fk_syscalls.specs.Words.{IsWord}
+use Rattle.fk_syscalls.specs.States.{HasNames}
 use Rattle.fk_syscalls.specs.declared.call.Answer.{Answer}
-use Rattle.fk_syscalls.specs.declared.call.Answer.TheVariants.{Done, Attributes, Failed}
+use Rattle.fk_syscalls.specs.declared.call.Answer.TheVariants.{Done, Attributes, Listing, Content, Written, Failed}
+use Rattle.fk_syscalls.specs.declared.call.ListedName.{ListedName}
 use Rattle.fk_syscalls.specs.declared.call.Asked.{Asked}
-use Rattle.fk_syscalls.specs.declared.call.Asked.TheVariants.{Lookup, Getattr, Mkdir as AsksMkdir}
+use Rattle.fk_syscalls.specs.declared.call.Asked.TheVariants as asks
 use Rattle.fk_syscalls.specs.declared.call.Call.{Call}
-use Rattle.fk_syscalls.specs.declared.call.Call.TheVariants.{Stat, Mkdir}
+use Rattle.fk_syscalls.specs.declared.call.Call.TheVariants.{Stat, List as Lists, Open, Mkdir, Create, Unlink, Rmdir, Rename, Link, Read, Write, Close}
 use Rattle.fk_syscalls.specs.declared.state.Next.{Next}
 use Rattle.fk_syscalls.specs.declared.state.Next.TheVariants.{Waits, Answered}
 
 -- The call that is meant.
 abbrev pub call_of : Call → call.Call
 call_of (Stat path) = call.stat path.now
+call_of (Lists path after) = call.list path.now after
+call_of (Open path) = call.opening path.now
 call_of (Mkdir path) = call.mkdir path.now
+call_of (Create path) = call.create path.now
+call_of (Unlink path) = call.unlink path.now
+call_of (Rmdir path) = call.rmdir path.now
+call_of (Rename old new) = call.rename old.now new.now
+call_of (Link old new) = call.link old.now new.now
+call_of (Read handle offset size) = call.read handle offset size
+call_of (Write handle offset bytes) = call.write handle offset bytes.now
+call_of (Close handle) = call.close handle
+
+-- The call closes no file.
+abbrev pub ClosesNone : Call → Type 0
+ClosesNone (Close handle) = ⊥
+ClosesNone other = Unit {0}
+
+-- The name that is listed.
+abbrev pub dirent_of : {A : Type 0} → ListedName A → op.Dirent
+dirent_of listed = record { ino = listed.ino; offset = listed.offset; kind = listed.kind; name = listed.name.items }
 
 -- The answer that is meant.
-abbrev pub answer_of : Answer → answer.Answer
+abbrev pub answer_of : {A : Type 0} → Answer A → answer.Answer
 answer_of Done = answer.done
 answer_of (Attributes attributes) = answer.attributes attributes
+answer_of (Listing names) = answer.listing (map dirent_of names.items)
+answer_of (Content bytes) = answer.content bytes.items
+answer_of (Written size) = answer.written size
 answer_of (Failed errno) = answer.failed errno
 
 -- The operation that is asked.
 abbrev pub operation_of : Asked → op.Operation ℕ Opened
-operation_of (Lookup directory name) = op.lookup directory name.now
-operation_of (Getattr node) = op.getattr node
-operation_of (AsksMkdir directory name) = op.mkdir directory name.now
+operation_of (asks.Lookup directory name) = op.lookup directory name.now
+operation_of (asks.Getattr node) = op.getattr node
+operation_of (asks.Readdir directory after) = op.readdir directory after max_transfer
+operation_of (asks.Open node) = op.opening node
+operation_of (asks.Mkdir directory name) = op.mkdir directory name.now
+operation_of (asks.Create directory name) = op.create directory name.now
+operation_of (asks.Unlink directory name) = op.unlink directory name.now
+operation_of (asks.Rmdir directory name) = op.rmdir directory name.now
+operation_of (asks.Rename directory old newdir new) = op.rename directory old.now newdir new.now
+operation_of (asks.Link node directory name) = op.link node directory name.now
+operation_of (asks.Read opened offset size) = op.read opened offset size
+operation_of (asks.Write opened offset bytes) = op.write opened offset bytes.now
 
--- The name that is asked for or given, if there is one, is a word of a path without a fault.
+-- The names that are asked for or given, if there are some, are words of a path without a fault.
 abbrev pub AsksWord : Asked → Type 0
-AsksWord (Lookup directory name) = IsWord name.now
-AsksWord (Getattr node) = Unit {0}
-AsksWord (AsksMkdir directory name) = IsWord name.now
+AsksWord (asks.Lookup directory name) = IsWord name.now
+AsksWord (asks.Mkdir directory name) = IsWord name.now
+AsksWord (asks.Create directory name) = IsWord name.now
+AsksWord (asks.Unlink directory name) = IsWord name.now
+AsksWord (asks.Rmdir directory name) = IsWord name.now
+AsksWord (asks.Rename directory old newdir new) = IsWord old.now × IsWord new.now
+AsksWord (asks.Link node directory name) = IsWord name.now
+AsksWord asked = Unit {0}
 
 -- Where a step leaves a call.
 abbrev pub comes_to : {A : Type 0} → Vfs Opened → ℕ → Next A → Advance Opened
 comes_to c call (Waits state) = asking c call state
 comes_to c call (Answered errno) = no_more (answered c call (failed errno))
+
+-- Where its beginning leaves a call.
+abbrev pub IsBegun : {A : Type 0} → NameMap Binding → ℕ → Beginning ℕ Opened → Next A → Type 0
+IsBegun names clock begins next = (c : Vfs Opened) (call : ℕ) → HasNames c names clock → after_beginning c call begins ≡ comes_to c call next

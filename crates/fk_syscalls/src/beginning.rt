@@ -1,26 +1,39 @@
 //! How a call begins.
 
-ghost use Rattle.std.specs.Prelude.{◌≡◌, ℕ, false, IfOk, OnErr, Some};
-ghost use Rattle.fuse_spec.specs.Calls as call;
-ghost use Rattle.fuse_spec.specs.Vfs.{CallState as State, Vfs, numbered, begun, walks_on, asking};
-ghost use Rattle.fuse_spec.specs.Walks.{last};
+ghost use Rattle.std.specs.Prelude.{◌≡◌, ℕ, false, length, IfOk, OnErr};
+ghost use Rattle.fuse_spec.specs.Begins.{sets_out, whole_path, parent_path, using as using_file};
+ghost use Rattle.fuse_spec.specs.Maps.{get};
+ghost use Rattle.fuse_spec.specs.Operations as op;
+ghost use Rattle.fuse_spec.specs.Vfs.{CallState as State, Vfs, numbered, begun, asking, after_beginning};
+ghost use Rattle.fuse_spec.specs.Walks.{last, rename, link};
 ghost use Rattle.fuse_spec.specs.declared.Opened.{Opened};
-ghost use Rattle.fk_syscalls.specs.Words.{words_from};
-ghost use Rattle.fk_syscalls.specs.States.{final_lent, IsSoundCall, HasNames};
-ghost use Rattle.fk_syscalls.specs.Values.{call_of, comes_to};
+ghost use Rattle.fk_syscalls.specs.Words.{words_from, AreWords};
+ghost use Rattle.fk_syscalls.specs.Plans.{final_change, final_lent, plan_lent, IsSoundLent, IsSoundPlanLent};
+ghost use Rattle.fk_syscalls.specs.States.{HasNames, Asks};
+ghost use Rattle.fk_syscalls.specs.Values.{call_of, comes_to, ClosesNone, IsBegun};
 
 use crate::call::Call;
-use crate::path::{EINVAL, first_word, split_last_word};
-use crate::state::{CallState, ENOENT, LentOperation, Next};
+use crate::path::{first_word, parent_of};
+use crate::plan::{Change, LentOperation, LentPlan};
+use crate::state::{CallState, ENOENT, Next, ROOT};
 use crate::walk::walk;
 use fk_dentry::Bindings;
+use fuse_spec::Opened;
+use fuse_tables::Table;
 use std::alloc::{AllocError, Allocator};
 
-/// The root's node.
-const ROOT: u64 = 1;
+const EBADF: u32 = 9;
 
-/// Begins a call on a mount that is not aborted: a fault of its path answers it; else it walks from the root as far as the
-/// names in force lead at this time, in milliseconds.
+const EINVAL: u32 = 22;
+
+/// A read or write begins at most here.
+const MAX_FILE: u64 = 65_536;
+
+/// A read or write has at most so many bytes.
+const MAX_TRANSFER: u64 = 4_096;
+
+/// Begins a call on a mount that is not aborted: a fault answers it; a read or write asks at once; else it walks from the root
+/// as far as the names in force lead at this time, in milliseconds. A close is the kernel's own.
 ///
 /// # Errors
 ///
@@ -29,50 +42,133 @@ pub fn begin<A: Allocator + Copy>(
     alloc: A,
     names: &Bindings<A>,
     clock: u64,
+    opens: &Table<Opened, A>,
     call: &Call<'_>,
 ) -> Result<Next<A>, AllocError>
-    ensures begun { IfOk result (λ next. (c : Vfs Opened) → HasNames c names.now.names clock → begun false c (call_of call.now) ≡ comes_to (numbered c) c.next_call next) }
-    ensures wanting { OnErr result ((c : Vfs Opened) → HasNames c names.now.names clock → (state : State Opened) × (begun false c (call_of call.now) ≡ asking (numbered c) c.next_call state)) }
+    requires { ClosesNone call.now }
+    ensures begun { IfOk result (λ next. (c : Vfs Opened) → HasNames c names.now.names clock → c.opens ≡ opens.now.entries → begun false c (call_of call.now) ≡ comes_to (numbered c) c.next_call next) }
+    ensures wanting { OnErr result ((c : Vfs Opened) → HasNames c names.now.names clock → c.opens ≡ opens.now.entries → (state : State Opened) × (begun false c (call_of call.now) ≡ asking (numbered c) c.next_call state)) }
 {
     match call {
-        Call::Stat { path } => begin_stat(alloc, names, clock, path),
-        Call::Mkdir { path } => begin_mkdir(alloc, names, clock, path),
-    }
-}
-
-fn begin_stat<A: Allocator + Copy>(
-    alloc: A,
-    names: &Bindings<A>,
-    clock: u64,
-    path: &[u8],
-) -> Result<Next<A>, AllocError>
-    ensures begun { IfOk result (λ next. (c : Vfs Opened) → HasNames c names.now.names clock → begun false c (call.stat path.now) ≡ comes_to (numbered c) c.next_call next) }
-    ensures wanting { OnErr result ((c : Vfs Opened) → HasNames c names.now.names clock → (state : State Opened) × (begun false c (call.stat path.now) ≡ asking (numbered c) c.next_call state)) }
-{
-    match first_word(path) {
-        Ok(at) => set_out(alloc, names, clock, path, at, LentOperation::Stat),
-        Err(errno) => Ok(Next::Answered { errno }),
-    }
-}
-
-fn begin_mkdir<A: Allocator + Copy>(
-    alloc: A,
-    names: &Bindings<A>,
-    clock: u64,
-    path: &[u8],
-) -> Result<Next<A>, AllocError>
-    ensures begun { IfOk result (λ next. (c : Vfs Opened) → HasNames c names.now.names clock → begun false c (call.mkdir path.now) ≡ comes_to (numbered c) c.next_call next) }
-    ensures wanting { OnErr result ((c : Vfs Opened) → HasNames c names.now.names clock → (state : State Opened) × (begun false c (call.mkdir path.now) ≡ asking (numbered c) c.next_call state)) }
-{
-    match first_word(path) {
-        Ok(Some(place)) => {
-            let parent = split_last_word(path, place);
-            let operation = LentOperation::Mkdir { name: parent.name };
-            set_out(alloc, names, clock, parent.words, parent.at, operation)
+        Call::Stat { path } => begin_whole(alloc, names, clock, path, LentOperation::Stat),
+        Call::List { path, after } => {
+            let operation = LentOperation::List { after: *after };
+            begin_whole(alloc, names, clock, path, operation)
         }
-        Ok(None) => Ok(Next::Answered { errno: EINVAL }),
+        Call::Open { path } => begin_whole(alloc, names, clock, path, LentOperation::Open),
+        Call::Mkdir { path } => begin_change(alloc, names, clock, path, Change::Mkdir),
+        Call::Create { path } => begin_change(alloc, names, clock, path, Change::Create),
+        Call::Unlink { path } => begin_change(alloc, names, clock, path, Change::Unlink),
+        Call::Rmdir { path } => begin_change(alloc, names, clock, path, Change::Rmdir),
+        Call::Rename { old, new } => begin_rename(alloc, names, clock, old, new),
+        Call::Link { old, new } => begin_link(alloc, names, clock, old, new),
+        Call::Read {
+            handle,
+            offset,
+            size,
+        } => Ok(begin_read(alloc, opens, *handle, *offset, *size)),
+        Call::Write {
+            handle,
+            offset,
+            bytes,
+        } => begin_write(alloc, opens, *handle, *offset, bytes),
+        // Ruled out: it is no close.
+        Call::Close { .. } => Ok(Next::Answered { errno: EBADF }),
+    }
+}
+
+/// A call of which all words are walked.
+fn begin_whole<A: Allocator + Copy>(
+    alloc: A,
+    names: &Bindings<A>,
+    clock: u64,
+    path: &[u8],
+    operation: LentOperation<'_>,
+) -> Result<Next<A>, AllocError>
+    requires { IsSoundLent operation }
+    ensures begun { IfOk result (IsBegun names.now.names clock (whole_path path.now (λ words. sets_out words (last (final_lent operation.entry))))) }
+    ensures wanting { OnErr result (Asks names.now.names clock (whole_path path.now (λ words. sets_out words (last (final_lent operation.entry))))) }
+{
+    match first_word(path) {
+        Ok(at) => set_out(alloc, names, clock, path, at, LentPlan::Last(operation)),
         Err(errno) => Ok(Next::Answered { errno }),
     }
+}
+
+/// A call that changes a directory by the last word of its path.
+fn begin_change<A: Allocator + Copy>(
+    alloc: A,
+    names: &Bindings<A>,
+    clock: u64,
+    path: &[u8],
+    change: Change,
+) -> Result<Next<A>, AllocError>
+    ensures begun { IfOk result (IsBegun names.now.names clock (parent_path path.now (λ words name. sets_out words (last (final_change change name))))) }
+    ensures wanting { OnErr result (Asks names.now.names clock (parent_path path.now (λ words name. sets_out words (last (final_change change name))))) }
+{
+    match parent_of(path) {
+        Ok(parent) => {
+            let name = parent.name;
+            let plan = LentPlan::Last(LentOperation::Change { change, name });
+            set_out(alloc, names, clock, parent.words, parent.at, plan)
+        }
+        Err(errno) => Ok(Next::Answered { errno }),
+    }
+}
+
+/// A call that moves a name.
+fn begin_rename<A: Allocator + Copy>(
+    alloc: A,
+    names: &Bindings<A>,
+    clock: u64,
+    old: &[u8],
+    new: &[u8],
+) -> Result<Next<A>, AllocError>
+    ensures begun { IfOk result (IsBegun names.now.names clock (parent_path old.now (λ words from. parent_path new.now (λ more to. sets_out words (rename from more to))))) }
+    ensures wanting { OnErr result (Asks names.now.names clock (parent_path old.now (λ words from. parent_path new.now (λ more to. sets_out words (rename from more to))))) }
+{
+    let from = match parent_of(old) {
+        Ok(from) => from,
+        Err(errno) => return Ok(Next::Answered { errno }),
+    };
+    let to = match parent_of(new) {
+        Ok(to) => to,
+        Err(errno) => return Ok(Next::Answered { errno }),
+    };
+    let plan = LentPlan::Rename {
+        old: from.name,
+        words: to.words,
+        at: to.at,
+        new: to.name,
+    };
+    set_out(alloc, names, clock, from.words, from.at, plan)
+}
+
+/// A call that gives a file one more name.
+fn begin_link<A: Allocator + Copy>(
+    alloc: A,
+    names: &Bindings<A>,
+    clock: u64,
+    old: &[u8],
+    new: &[u8],
+) -> Result<Next<A>, AllocError>
+    ensures begun { IfOk result (IsBegun names.now.names clock (whole_path old.now (λ words. parent_path new.now (λ more name. sets_out words (link more name))))) }
+    ensures wanting { OnErr result (Asks names.now.names clock (whole_path old.now (λ words. parent_path new.now (λ more name. sets_out words (link more name))))) }
+{
+    let at = match first_word(old) {
+        Ok(at) => at,
+        Err(errno) => return Ok(Next::Answered { errno }),
+    };
+    let to = match parent_of(new) {
+        Ok(to) => to,
+        Err(errno) => return Ok(Next::Answered { errno }),
+    };
+    let plan = LentPlan::Link {
+        words: to.words,
+        at: to.at,
+        name: to.name,
+    };
+    set_out(alloc, names, clock, old, at, plan)
 }
 
 /// A call walks from the root along the words from a place on.
@@ -82,17 +178,108 @@ fn set_out<A: Allocator + Copy>(
     clock: u64,
     words: &[u8],
     at: Option<usize>,
+    plan: LentPlan<'_>,
+) -> Result<Next<A>, AllocError>
+    requires words { AreWords words.now at }
+    requires plan { IsSoundPlanLent plan }
+    ensures begun { IfOk result (IsBegun names.now.names clock (sets_out (words_from words.now at) (plan_lent plan.entry))) }
+    ensures wanting { OnErr result (Asks names.now.names clock (sets_out (words_from words.now at) (plan_lent plan.entry))) }
+{
+    let Some(stop) = walk(names, clock, ROOT, words, at) else {
+        return Ok(Next::Answered { errno: ENOENT });
+    };
+    if stop.at.is_some() {
+        let state = CallState::new(alloc, stop.node, words, stop.at, plan)?;
+        return Ok(Next::Waits(state));
+    }
+    match plan {
+        LentPlan::Last(_) => {
+            let state = CallState::new(alloc, stop.node, words, None, plan)?;
+            Ok(Next::Waits(state))
+        }
+        LentPlan::Rename {
+            old,
+            words,
+            at,
+            new,
+        } => {
+            let operation = LentOperation::RenameFrom {
+                directory: stop.node,
+                old,
+                new,
+            };
+            set_out_again(alloc, names, clock, words, at, operation)
+        }
+        LentPlan::Link { words, at, name } => {
+            let operation = LentOperation::LinkTo {
+                file: stop.node,
+                name,
+            };
+            set_out_again(alloc, names, clock, words, at, operation)
+        }
+    }
+}
+
+/// A call walks from the root along the words from a place on, and no other walk follows.
+fn set_out_again<A: Allocator + Copy>(
+    alloc: A,
+    names: &Bindings<A>,
+    clock: u64,
+    words: &[u8],
+    at: Option<usize>,
     operation: LentOperation<'_>,
 ) -> Result<Next<A>, AllocError>
-    requires { IsSoundCall words.now at (final_lent operation) }
-    ensures sets_out { IfOk result (λ next. (c : Vfs Opened) (call : ℕ) → HasNames c names.now.names clock → walks_on c call c.root (words_from words.now at) (last (final_lent operation.entry)) ≡ comes_to c call next) }
-    ensures wanting { OnErr result ((c : Vfs Opened) (call : ℕ) → HasNames c names.now.names clock → (state : State Opened) × (walks_on c call c.root (words_from words.now at) (last (final_lent operation.entry)) ≡ asking c call state)) }
+    requires words { AreWords words.now at }
+    requires sound { IsSoundLent operation }
+    ensures begun { IfOk result (IsBegun names.now.names clock (sets_out (words_from words.now at) (last (final_lent operation.entry)))) }
+    ensures wanting { OnErr result (Asks names.now.names clock (sets_out (words_from words.now at) (last (final_lent operation.entry)))) }
 {
     match walk(names, clock, ROOT, words, at) {
         Some(stop) => {
-            let state = CallState::new(alloc, stop.node, words, stop.at, operation)?;
+            let plan = LentPlan::Last(operation);
+            let state = CallState::new(alloc, stop.node, words, stop.at, plan)?;
             Ok(Next::Waits(state))
         }
         None => Ok(Next::Answered { errno: ENOENT }),
     }
+}
+
+/// A call that reads bytes of an open file.
+fn begin_read<A: Allocator + Copy>(
+    alloc: A,
+    opens: &Table<Opened, A>,
+    handle: u64,
+    offset: u64,
+    size: u64,
+) -> Next<A>
+    ensures { (c : Vfs Opened) (call : ℕ) → after_beginning c call (using_file handle (get opens.now.entries handle) offset size (λ opened. op.read opened offset size)) ≡ comes_to c call result }
+{
+    let Some(opened) = opens.get(handle) else {
+        return Next::Answered { errno: EBADF };
+    };
+    if offset > MAX_FILE || size > MAX_TRANSFER {
+        return Next::Answered { errno: EINVAL };
+    }
+    Next::Waits(CallState::reads(alloc, handle, *opened, offset, size as u32))
+}
+
+/// A call that puts bytes into an open file.
+fn begin_write<A: Allocator + Copy>(
+    alloc: A,
+    opens: &Table<Opened, A>,
+    handle: u64,
+    offset: u64,
+    bytes: &[u8],
+) -> Result<Next<A>, AllocError>
+    ensures begun { IfOk result (λ next. (c : Vfs Opened) (call : ℕ) → after_beginning c call (using_file handle (get opens.now.entries handle) offset (length bytes.now) (λ opened. op.write opened offset bytes.now)) ≡ comes_to c call next) }
+    ensures wanting { OnErr result ((c : Vfs Opened) (call : ℕ) → (state : State Opened) × (after_beginning c call (using_file handle (get opens.now.entries handle) offset (length bytes.now) (λ opened. op.write opened offset bytes.now)) ≡ asking c call state)) }
+{
+    let Some(opened) = opens.get(handle) else {
+        return Ok(Next::Answered { errno: EBADF });
+    };
+    if offset > MAX_FILE || bytes.len() as u64 > MAX_TRANSFER {
+        return Ok(Next::Answered { errno: EINVAL });
+    }
+    let state = CallState::writes(alloc, handle, *opened, offset, bytes)?;
+    Ok(Next::Waits(state))
 }

@@ -1,28 +1,141 @@
 //! System calls, what they ask and what they are answered.
 
-use fuse_spec::Attributes;
+use fuse_spec::{Attributes, Kind, Opened};
+use std::alloc::{Allocator, Global};
 
-/// A system call. Its path is lent.
+/// A system call. Its paths and bytes are lent. An open file is known by the number of the call that opened it.
 #[derive(Clone, Copy, Debug)]
 pub enum Call<'a> {
     /// The attributes of the file at a path.
-    Stat { path: &'a [u8] },
+    Stat {
+        path: &'a [u8],
+    },
+    /// The names of the directory at a path, behind an offset.
+    List {
+        path: &'a [u8],
+        after: u64,
+    },
+    /// Opens the file at a path.
+    Open {
+        path: &'a [u8],
+    },
     /// A new directory, which the last word of the path names.
-    Mkdir { path: &'a [u8] },
+    Mkdir {
+        path: &'a [u8],
+    },
+    /// A new file, which the last word of the path names. It is open.
+    Create {
+        path: &'a [u8],
+    },
+    /// The name at a path goes.
+    Unlink {
+        path: &'a [u8],
+    },
+    /// The directory at a path goes.
+    Rmdir {
+        path: &'a [u8],
+    },
+    /// The file at the old path is at the new path instead.
+    Rename {
+        old: &'a [u8],
+        new: &'a [u8],
+    },
+    /// The file at the old path is at the new path as well.
+    Link {
+        old: &'a [u8],
+        new: &'a [u8],
+    },
+    /// Bytes of an open file.
+    Read {
+        handle: u64,
+        offset: u64,
+        size: u64,
+    },
+    /// Puts bytes into an open file.
+    Write {
+        handle: u64,
+        offset: u64,
+        bytes: &'a [u8],
+    },
+    /// Closes an open file.
+    Close {
+        handle: u64,
+    },
+}
+
+/// A name that a directory lists, with the offset from which to read on.
+#[derive(Drop)]
+pub struct ListedName<A: Allocator = Global> {
+    pub ino: u64,
+    pub offset: u64,
+    pub kind: Kind,
+    pub name: Vec<u8, A>,
 }
 
 /// What a system call is answered: the operation's result, or an error number.
-#[derive(Clone, Copy, Debug, PartialEq, Eq)]
-pub enum Answer {
+#[derive(Drop)]
+pub enum Answer<A: Allocator = Global> {
     Done,
     Attributes(Attributes),
+    Listing(Vec<ListedName<A>, A>),
+    Content(Vec<u8, A>),
+    Written { size: u32 },
     Failed { errno: u32 },
 }
 
-/// The operation that an unanswered call asks. Its names are lent.
+/// The operation that an unanswered call asks. Its names and bytes are lent.
 #[derive(Clone, Copy, Debug, PartialEq, Eq)]
 pub enum Asked<'a> {
-    Lookup { directory: u64, name: &'a [u8] },
-    Getattr { node: u64 },
-    Mkdir { directory: u64, name: &'a [u8] },
+    Lookup {
+        directory: u64,
+        name: &'a [u8],
+    },
+    Getattr {
+        node: u64,
+    },
+    /// It lists the names behind an offset, in at most 4,096 bytes.
+    Readdir {
+        directory: u64,
+        after: u64,
+    },
+    Open {
+        node: u64,
+    },
+    Mkdir {
+        directory: u64,
+        name: &'a [u8],
+    },
+    Create {
+        directory: u64,
+        name: &'a [u8],
+    },
+    Unlink {
+        directory: u64,
+        name: &'a [u8],
+    },
+    Rmdir {
+        directory: u64,
+        name: &'a [u8],
+    },
+    Rename {
+        directory: u64,
+        old: &'a [u8],
+        newdir: u64,
+        new: &'a [u8],
+    },
+    Link {
+        node: u64,
+        directory: u64,
+        name: &'a [u8],
+    },
+    Read {
+        opened: Opened,
+        offset: u64,
+        size: u32,
+    },
+    Write {
+        opened: Opened,
+        offset: u64,
+        bytes: &'a [u8],
+    },
 }

@@ -5,11 +5,12 @@ mod beginning;
 mod call;
 mod new_name;
 mod path;
+mod plan;
 mod state;
 mod walk;
 mod words;
 
 pub use beginning::begin;
-pub use call::{Answer, Asked, Call};
+pub use call::{Answer, Asked, Call, ListedName};
 pub use new_name::NewName;
 pub use state::{CallState, Next};

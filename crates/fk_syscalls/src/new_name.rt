@@ -79,18 +79,19 @@ impl NewName<'_> {
     }
 }
 
-/// Walks on from a new name's node, as `walk` would were the name bound.
+/// Walks from a node, as `walk` would were the name bound.
 pub(crate) fn walk_past<A: Allocator + Copy>(
     names: &Bindings<A>,
     new: &NewName<'_>,
     clock: u64,
+    from: u64,
     words: &[u8],
     at: Option<usize>,
 ) -> Option<Stop>
     requires { AreWords words.now at }
-    ensures stop { MatchOption result (go (known (with_name names.now.names new.now) clock) new.now.node (words_from words.now at) ≡ missing) (λ stop. go (known (with_name names.now.names new.now) clock) new.now.node (words_from words.now at) ≡ stop_at stop.node (words_from words.now stop.at)) }
+    ensures stop { MatchOption result (go (known (with_name names.now.names new.now) clock) from (words_from words.now at) ≡ missing) (λ stop. go (known (with_name names.now.names new.now) clock) from (words_from words.now at) ≡ stop_at stop.node (words_from words.now stop.at)) }
 {
-    let mut stop = Stop { node: new.node, at };
+    let mut stop = Stop { node: from, at };
     while let Some(place) = stop.at {
         let (name, next) = word_at(words, place);
         match new.find(names, clock, stop.node, name) {

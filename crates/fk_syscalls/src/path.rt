@@ -1,8 +1,11 @@
 //! Paths: words between single slashes, behind a leading slash (this project's rule).
 
-ghost use Rattle.std.specs.Prelude.{◌≡◌, ◌≤◌, Some, Ok, Err, length, IfOk, MatchResult};
+ghost use Rattle.std.specs.Prelude.{◌≡◌, ◌≤◌, ℕ, List, Some, Ok, Err, length, IfOk, MatchResult};
 ghost use Rattle.fuse_spec.specs.Paths.{word_fault, first_fault, words_of, parent_and_last};
 ghost use Rattle.fk_syscalls.specs.Words.{words_from, IsWord, AreWords};
+ghost use Rattle.fuse_spec.specs.Begins.{Beginning, faulty, parent_path};
+ghost use Rattle.fuse_spec.specs.Paths.{Name};
+ghost use Rattle.fuse_spec.specs.declared.Opened.{Opened};
 
 use crate::words::word_at;
 
@@ -12,7 +15,7 @@ const MAX_WORDS: usize = 32;
 /// A word has at most so many bytes.
 const MAX_NAME: usize = 255;
 
-pub(crate) const EINVAL: u32 = 22;
+const EINVAL: u32 = 22;
 
 const ENAMETOOLONG: u32 = 36;
 
@@ -103,5 +106,18 @@ pub(crate) fn split_last_word(words: &[u8], first: usize) -> Parent<'_>
                 };
             }
         }
+    }
+}
+
+/// The words of a path before its last one, and the last one; or the path's first fault, as an error number.
+pub(crate) fn parent_of(path: &[u8]) -> Result<Parent<'_>, u32>
+    ensures parts { MatchResult result (λ parent. (then : List Name → Name → Beginning ℕ Opened) → parent_path path.now then ≡ then (words_from parent.words.now parent.at) parent.name.now) (λ errno. (then : List Name → Name → Beginning ℕ Opened) → parent_path path.now then ≡ faulty errno) }
+    ensures left { IfOk result (λ parent. AreWords parent.words.now parent.at) }
+    ensures name { IfOk result (λ parent. IsWord parent.name.now) }
+{
+    match first_word(path) {
+        Ok(Some(place)) => Ok(split_last_word(path, place)),
+        Ok(None) => Err(EINVAL),
+        Err(errno) => Err(errno),
     }
 }

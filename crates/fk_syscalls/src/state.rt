@@ -3,50 +3,47 @@
 ghost use Rattle.std.specs.Prelude.{◌≡◌, ℕ, List, IfOk, is_some, nat_eq};
 ghost use Rattle.std.specs.List.{list_any};
 ghost use Rattle.fuse_spec.specs.Kernel.{nodes_of_state};
+ghost use Rattle.fuse_spec.specs.Operations as op;
 ghost use Rattle.fuse_spec.specs.Paths.{Name};
-ghost use Rattle.fuse_spec.specs.Vfs.{Vfs, walking, asked, walks_on};
-ghost use Rattle.fuse_spec.specs.Walks.{WalkPlan};
-ghost use Rattle.fuse_spec.specs.declared.Opened.{Opened};
-ghost use Rattle.fk_syscalls.specs.Words.{words_from};
-ghost use Rattle.fk_syscalls.specs.States.{final_of, final_lent, state_of, IsSoundCall, HasNames};
+ghost use Rattle.fuse_spec.specs.Vfs.{Vfs, walking, using, asked, walks_on};
+ghost use Rattle.fuse_spec.specs.Walks.{WalkPlan, last};
+ghost use Rattle.fk_syscalls.specs.Words.{words_from, AreWords};
+ghost use Rattle.fk_syscalls.specs.Plans.{final_of, plan_lent, IsSoundFinal};
+ghost use Rattle.fk_syscalls.specs.States.{walking_at, IsSoundLentCall, StandsAt, used_by, HasNames};
 ghost use Rattle.fk_syscalls.specs.NewNames.{with_name};
 ghost use Rattle.fk_syscalls.specs.Values.{operation_of, AsksWord, comes_to};
 
 use crate::call::Asked;
 use crate::new_name::{NewName, walk_past};
+use crate::plan::{FinalOperation, LentPlan, Plan, asked_at};
 use crate::walk::walk;
 use crate::words::{next_place, word_at};
 use fk_dentry::Bindings;
+use fuse_spec::Opened;
 use std::alloc::{AllocError, Allocator, Global};
 use std::marker::Model;
 
+/// The root's node.
+pub(crate) const ROOT: u64 = 1;
+
 pub(crate) const ENOENT: u32 = 2;
 
-/// What a call does at the node to which its walk leads.
+/// What a call waits for: the end of its walks, or bytes of an open file.
 #[derive(Drop)]
-pub(crate) enum FinalOperation<A: Allocator> {
-    Stat,
-    Mkdir { name: Vec<u8, A> },
-}
-
-/// The same, with its name lent.
-#[derive(Clone, Copy)]
-pub(crate) enum LentOperation<'a> {
-    Stat,
-    Mkdir { name: &'a [u8] },
-}
-
-impl LentOperation<'_> {
-    fn to_owned<A: Allocator + Copy>(self, alloc: A) -> Result<FinalOperation<A>, AllocError>
-        ensures { IfOk result (λ operation. final_of operation ≡ final_lent self.entry) }
-    {
-        match self {
-            LentOperation::Stat => Ok(FinalOperation::Stat),
-            LentOperation::Mkdir { name } => Ok(FinalOperation::Mkdir {
-                name: name.to_vec(alloc)?,
-            }),
-        }
-    }
+pub(crate) enum Aim<A: Allocator> {
+    Walks(Plan<A>),
+    Reads {
+        handle: u64,
+        fh: u64,
+        offset: u64,
+        size: u32,
+    },
+    Writes {
+        handle: u64,
+        fh: u64,
+        offset: u64,
+        bytes: Vec<u8, A>,
+    },
 }
 
 /// An unanswered call. It stands at a node, and asks for the next word of its walk; or, where no word is left, for its
@@ -57,7 +54,7 @@ pub struct CallState<A: Allocator = Global> {
     words: Vec<u8, A>,
     /// Where in `words` the walk stands, if a word is left.
     at: Option<usize>,
-    operation: FinalOperation<A>,
+    aim: Aim<A>,
 }
 
 impl<A: Allocator> Model for CallState<A> {
@@ -65,15 +62,15 @@ impl<A: Allocator> Model for CallState<A> {
     ghost use Rattle.fuse_spec.specs.Vfs.{CallState as State};
     ghost use Rattle.fuse_spec.specs.declared.Opened.{Opened};
     ghost use Rattle.fk_syscalls.specs.Words.{words_from};
-    ghost use Rattle.fk_syscalls.specs.States.{final_of, state_of, IsSoundCall};
+    ghost use Rattle.fk_syscalls.specs.States.{state_of, IsSoundCall};
 
     ghost Value = { State Opened };
 
     ghost coded = { Prim.hlevel (codes) };
 
-    ghost view = { λ s. state_of s.node (words_from s.words.items s.at) (final_of s.operation) };
+    ghost view = { λ s. state_of s.node (words_from s.words.items s.at) s.aim };
 
-    ghost invariant = { λ s. IsSoundCall s.words.items s.at (final_of s.operation) };
+    ghost invariant = { λ s. IsSoundCall s.words.items s.at s.aim };
 }
 
 /// Where a step leaves a call.
@@ -85,6 +82,29 @@ pub enum Next<A: Allocator = Global> {
     Answered { errno: u32 },
 }
 
+/// The second walk of a call, from the root, as far as the names in force lead. Takes no memory.
+fn second_walk<A: Allocator + Copy>(
+    names: &Bindings<A>,
+    clock: u64,
+    words: Vec<u8, A>,
+    at: Option<usize>,
+    operation: FinalOperation<A>,
+) -> Next<A>
+    requires words { AreWords words.items at }
+    requires sound { IsSoundFinal operation }
+    ensures { (c : Vfs Opened) (call : ℕ) → HasNames c names.now.names clock → walks_on c call c.root (words_from words.items at) (last (final_of operation)) ≡ comes_to c call result }
+{
+    match walk(names, clock, ROOT, &words, at) {
+        Some(stop) => Next::Waits(CallState {
+            node: stop.node,
+            words,
+            at: stop.at,
+            aim: Aim::Walks(Plan::Last(operation)),
+        }),
+        None => Next::Answered { errno: ENOENT },
+    }
+}
+
 impl<A: Allocator + Copy> CallState<A> {
     /// A call at a node, with a copy of the words that are left.
     pub(crate) fn new(
@@ -92,26 +112,69 @@ impl<A: Allocator + Copy> CallState<A> {
         node: u64,
         words: &[u8],
         at: Option<usize>,
-        operation: LentOperation<'_>,
+        plan: LentPlan<'_>,
     ) -> Result<Self, AllocError>
-        requires { IsSoundCall words.now at (final_lent operation) }
-        ensures { IfOk result (λ state. state ≡ state_of node (words_from words.now at) (final_lent operation.entry)) }
+        requires { IsSoundLentCall words.now at plan }
+        ensures { IfOk result (λ state. state ≡ walking_at node (words_from words.now at) (plan_lent plan.entry)) }
     {
-        let operation = operation.to_owned(alloc)?;
+        let plan = plan.to_owned(alloc)?;
         match at {
             Some(place) => Ok(CallState {
                 node,
                 words: words[place..].to_vec(alloc)?,
                 at: Some(0),
-                operation,
+                aim: Aim::Walks(plan),
             }),
             None => Ok(CallState {
                 node,
                 words: Vec::new(alloc),
                 at: None,
-                operation,
+                aim: Aim::Walks(plan),
             }),
         }
+    }
+
+    /// A call that reads bytes of an open file.
+    pub(crate) fn reads(alloc: A, handle: u64, opened: Opened, offset: u64, size: u32) -> Self
+        ensures { result ≡ using handle (op.read opened offset size) }
+    {
+        let Opened { nodeid, fh } = opened;
+        CallState {
+            node: nodeid,
+            words: Vec::new(alloc),
+            at: None,
+            aim: Aim::Reads {
+                handle,
+                fh,
+                offset,
+                size,
+            },
+        }
+    }
+
+    /// A call that puts a copy of these bytes into an open file.
+    pub(crate) fn writes(
+        alloc: A,
+        handle: u64,
+        opened: Opened,
+        offset: u64,
+        bytes: &[u8],
+    ) -> Result<Self, AllocError>
+        ensures { IfOk result (λ state. state ≡ using handle (op.write opened offset bytes.now)) }
+    {
+        let Opened { nodeid, fh } = opened;
+        let bytes = bytes.to_vec(alloc)?;
+        Ok(CallState {
+            node: nodeid,
+            words: Vec::new(alloc),
+            at: None,
+            aim: Aim::Writes {
+                handle,
+                fh,
+                offset,
+                bytes,
+            },
+        })
     }
 
     /// The word that it asked for leads to this node. It walks on as far as the names in force lead at this time, in
@@ -123,17 +186,51 @@ impl<A: Allocator + Copy> CallState<A> {
             node: _,
             words,
             at,
-            operation,
+            aim,
         } = self;
+        let Aim::Walks(plan) = aim else {
+            // Ruled out: such a call has no word left.
+            return Next::Answered { errno: ENOENT };
+        };
         let next = next_place(&words, at);
-        match walk(names, clock, node, &words, next) {
-            Some(stop) => Next::Waits(CallState {
+        let Some(stop) = walk(names, clock, node, &words, next) else {
+            return Next::Answered { errno: ENOENT };
+        };
+        if stop.at.is_some() {
+            return Next::Waits(CallState {
                 node: stop.node,
                 words,
                 at: stop.at,
-                operation,
+                aim: Aim::Walks(plan),
+            });
+        }
+        match plan {
+            Plan::Last(operation) => Next::Waits(CallState {
+                node: stop.node,
+                words,
+                at: None,
+                aim: Aim::Walks(Plan::Last(operation)),
             }),
-            None => Next::Answered { errno: ENOENT },
+            Plan::Rename {
+                old,
+                words,
+                at,
+                new,
+            } => {
+                let operation = FinalOperation::RenameFrom {
+                    directory: stop.node,
+                    old,
+                    new,
+                };
+                second_walk(names, clock, words, at, operation)
+            }
+            Plan::Link { words, at, name } => {
+                let operation = FinalOperation::LinkTo {
+                    file: stop.node,
+                    name,
+                };
+                second_walk(names, clock, words, at, operation)
+            }
         }
     }
 
@@ -141,30 +238,73 @@ impl<A: Allocator + Copy> CallState<A> {
     pub fn would_ask(&self, names: &Bindings<A>, clock: u64, new: &NewName<'_>) -> bool
         ensures { (c : Vfs Opened) (call directory : ℕ) (word : Name) (words : List Name) (plan : WalkPlan ℕ) → HasNames c (with_name names.now.names new.now) clock → self.now ≡ walking directory word words plan → is_some (walks_on c call new.now.node words plan).operation ≡ result }
     {
+        let Aim::Walks(plan) = &self.aim else {
+            return false;
+        };
         let next = next_place(&self.words, self.at);
-        match walk_past(names, new, clock, &self.words, next) {
-            Some(_) => true,
-            None => false,
+        let Some(stop) = walk_past(names, new, clock, new.node, &self.words, next) else {
+            return false;
+        };
+        if stop.at.is_some() {
+            return true;
+        }
+        match plan {
+            Plan::Last(_) => true,
+            Plan::Rename { words, at, .. } => {
+                walk_past(names, new, clock, ROOT, words, *at).is_some()
+            }
+            Plan::Link { words, at, .. } => {
+                walk_past(names, new, clock, ROOT, words, *at).is_some()
+            }
         }
     }
 
     /// The operation that it asks.
     pub fn asks(&self) -> Asked<'_>
         ensures operation { operation_of result ≡ asked self.now }
+        ensures stands { StandsAt (operation_of result) self.now }
         ensures word { AsksWord result }
     {
-        if let Some(place) = self.at {
-            let (name, _) = word_at(&self.words, place);
-            return Asked::Lookup {
-                directory: self.node,
-                name,
-            };
-        }
-        match &self.operation {
-            FinalOperation::Stat => Asked::Getattr { node: self.node },
-            FinalOperation::Mkdir { name } => Asked::Mkdir {
-                directory: self.node,
-                name,
+        match &self.aim {
+            Aim::Walks(plan) => {
+                if let Some(place) = self.at {
+                    let (name, _) = word_at(&self.words, place);
+                    return Asked::Lookup {
+                        directory: self.node,
+                        name,
+                    };
+                }
+                let Plan::Last(operation) = plan else {
+                    // Ruled out: a second walk follows the first at once.
+                    return Asked::Getattr { node: self.node };
+                };
+                asked_at(operation, self.node)
+            }
+            Aim::Reads {
+                fh,
+                offset,
+                size,
+                ..
+            } => Asked::Read {
+                opened: Opened {
+                    nodeid: self.node,
+                    fh: *fh,
+                },
+                offset: *offset,
+                size: *size,
+            },
+            Aim::Writes {
+                fh,
+                offset,
+                bytes,
+                ..
+            } => Asked::Write {
+                opened: Opened {
+                    nodeid: self.node,
+                    fh: *fh,
+                },
+                offset: *offset,
+                bytes,
             },
         }
     }
@@ -173,6 +313,22 @@ impl<A: Allocator + Copy> CallState<A> {
     pub fn names_node(&self, node: u64) -> bool
         ensures { result ≡ list_any (nat_eq node) (nodes_of_state self.now) }
     {
-        self.node == node
+        if self.node == node {
+            return true;
+        }
+        match &self.aim {
+            Aim::Walks(plan) => plan.names_node(node),
+            Aim::Reads { .. } | Aim::Writes { .. } => false,
+        }
+    }
+
+    /// The open file that it reads or writes, by its number.
+    pub fn handle(&self) -> Option<u64>
+        ensures { result ≡ used_by self.now }
+    {
+        match &self.aim {
+            Aim::Walks(_) => None,
+            Aim::Reads { handle, .. } | Aim::Writes { handle, .. } => Some(*handle),
+        }
     }
 }

@@ -5,6 +5,7 @@ mod walks;
 
 use fk_dentry::Bindings;
 use fk_syscalls::{Asked, Call, Next, begin};
+use fuse_tables::Table;
 use std::alloc::{AllocError, Allocator};
 
 /// What a call comes to: the operation that it asks for, or the error number that answers it.
@@ -13,6 +14,8 @@ enum Gives {
     Lookup(u64, &'static str),
     Mkdir(u64, &'static str),
     Getattr(u64),
+    Rename(u64, &'static str, u64, &'static str),
+    Link(u64, u64, &'static str),
     Errno(u32),
 }
 
@@ -30,6 +33,25 @@ fn bind<A: Allocator + Copy>(
     names.reserve(directory, name)?;
     names.put(directory, name, target, until);
     Ok(())
+}
+
+/// Begins a call of the kinds that stand in the rows, where no file is open.
+fn begins<A: Allocator + Copy>(
+    alloc: A,
+    names: &Bindings<A>,
+    now: u64,
+    call: &Call<'_>,
+) -> Result<Next<A>, AllocError> {
+    let opens = Table::new(alloc);
+    match call {
+        Call::Stat { path } => begin(alloc, names, now, &opens, &Call::Stat { path }),
+        Call::Mkdir { path } => begin(alloc, names, now, &opens, &Call::Mkdir { path }),
+        Call::Rename { old, new } => {
+            begin(alloc, names, now, &opens, &Call::Rename { old, new })
+        }
+        Call::Link { old, new } => begin(alloc, names, now, &opens, &Call::Link { old, new }),
+        _ => Err(AllocError),
+    }
 }
 
 /// The error number that answers the call at once.
@@ -66,6 +88,23 @@ fn comes_to<A: Allocator + Copy>(next: &Next<A>, gives: Gives) -> bool {
             },
         ),
         Gives::Getattr(node) => asks(next, Asked::Getattr { node }),
+        Gives::Rename(directory, old, newdir, new) => asks(
+            next,
+            Asked::Rename {
+                directory,
+                old: old.as_bytes(),
+                newdir,
+                new: new.as_bytes(),
+            },
+        ),
+        Gives::Link(node, directory, name) => asks(
+            next,
+            Asked::Link {
+                node,
+                directory,
+                name: name.as_bytes(),
+            },
+        ),
         Gives::Errno(errno) => errno_of(next) == Some(errno),
     }
 }
@@ -105,6 +144,6 @@ fn is_walked<A: Allocator + Copy>(
     row: &Row,
 ) -> Result<bool, AllocError> {
     let (now, call, first, rest) = row;
-    let next = begin(alloc, names, *now, call)?;
+    let next = begins(alloc, names, *now, call)?;
     Ok(comes_to(&next, *first) && walks_on(next, names, *now, rest))
 }

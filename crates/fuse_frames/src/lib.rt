@@ -6,8 +6,9 @@ mod reply_body;
 mod reply_copy;
 mod reply_room;
 mod request_frame;
+mod request_operations;
 
-pub use reply_body::{attributes_of, milliseconds};
+pub use reply_body::{attributes_of, kind_of_type, milliseconds};
 pub use reply_copy::ReplyCopy;
 pub use reply_room::ReplyRoom;
 pub use request_frame::RequestFrame;

@@ -2,6 +2,7 @@
 
 ghost use Rattle.std.specs.Prelude.{◌≡◌};
 ghost use Rattle.fuse_frames.specs.ReplyTies.{attributes_in, kind_of_mode};
+ghost use Rattle.fuse_frames.specs.ReplyTies.{kind_of_type as kind_told};
 ghost use Rattle.fuse_frames.specs.ReplyTies.{milliseconds as milliseconds_in};
 
 use fk_wire::Attr;
@@ -42,4 +43,15 @@ pub fn milliseconds(seconds: u64, nanoseconds: u32) -> u64
         return MAX_VALIDITY;
     }
     (seconds * 1000 + rest).min(MAX_VALIDITY)
+}
+
+/// The kind that a record tells, by its type.
+pub fn kind_of_type(type_number: u32) -> Kind
+    ensures { result ≡ kind_told type_number }
+{
+    match type_number {
+        4 => Kind::Directory,
+        8 => Kind::Regular,
+        _ => Kind::Other,
+    }
 }

@@ -2,7 +2,7 @@
 
 ghost use Rattle.std.specs.Prelude.{◌≡◌, ◌≤◌, IfOk, Some, length};
 ghost use Rattle.fk_wire.specs.Requests.{request_content};
-ghost use Rattle.fuse_spec.specs.Messages.{RequestBody as Asked, init, asks, forget, batch_forget};
+ghost use Rattle.fuse_spec.specs.Messages.{RequestBody as Asked, init, asks, forget, batch_forget, interrupt};
 ghost use Rattle.fuse_spec.specs.Operations.{lookup, getattr, mkdir};
 ghost use Rattle.fuse_spec.specs.Worlds.{forget_body};
 ghost use Rattle.fuse_frames.specs.RequestTies.{IsRequestFrame, body_in, asked_opcode};
@@ -34,7 +34,7 @@ impl<A: Allocator> Model for RequestFrame<A> {
 }
 
 /// The frame of a request that the machine has.
-fn framed<A: Allocator>(
+pub(crate) fn framed<A: Allocator>(
     alloc: A,
     request: &fk_wire::Request<'_>,
 ) -> Result<RequestFrame<A>, AllocError>
@@ -138,6 +138,21 @@ impl<A: Allocator> RequestFrame<A> {
             &fk_wire::Request {
                 unique,
                 nodeid: directory,
+                body,
+            },
+        )
+    }
+
+    /// INTERRUPT of the request that has this number.
+    pub fn interrupt(alloc: A, unique: u64, original: u64) -> Result<RequestFrame<A>, AllocError>
+        ensures { IfOk result (λ frame. frame ≡ record { unique = unique; body = interrupt original }) }
+    {
+        let body = RequestBody::Interrupt { unique: original };
+        framed(
+            alloc,
+            &fk_wire::Request {
+                unique,
+                nodeid: 0,
                 body,
             },
         )

@@ -23,6 +23,10 @@ enum Row {
     /// The request at a place: its number, and what is kept.
     Pending(usize, Option<(u64, u64)>),
     ReadPending(usize, Option<u64>),
+    /// How many requests there are, read or not.
+    RequestCount(usize),
+    /// The request at a place among all: its number, and what is kept.
+    RequestAt(usize, Option<(u64, u64)>),
     /// What is kept of the request under a number.
     Waiting(u64, Option<u64>),
     Answer(u64, Option<u64>),
@@ -59,6 +63,12 @@ fn reads<Q: QueueTable<u64>>(queues: &mut Q, frame: &Frame) -> Result<bool, NoMe
     Ok(is_frame(queues.read_forgets(frame.count), frame))
 }
 
+/// The number of the request at a place, read or not, and what is kept of it.
+fn request_at<Q: QueueTable<u64>>(queues: &Q, place: usize) -> Option<(u64, u64)> {
+    let (unique, kept) = queues.request_at(place)?;
+    Some((unique, *kept))
+}
+
 /// Makes the call, and says whether it gave what it must.
 fn gives<Q: QueueTable<u64>>(queues: &mut Q, row: &Row) -> Result<bool, NoMemory> {
     Ok(match *row {
@@ -66,6 +76,8 @@ fn gives<Q: QueueTable<u64>>(queues: &mut Q, row: &Row) -> Result<bool, NoMemory
         Row::Queue(kept, unique) => queue(queues, kept)? == unique,
         Row::Pending(place, request) => pending(queues, place) == request,
         Row::ReadPending(place, unique) => queues.read_pending(place) == unique,
+        Row::RequestCount(count) => queues.request_count() == count,
+        Row::RequestAt(place, request) => request_at(queues, place) == request,
         Row::Waiting(unique, kept) => queues.waiting(unique).copied() == kept,
         Row::Answer(unique, kept) => queues.answer(unique) == kept,
         Row::Interrupt(unique, fatal, effect) => queues.interrupt(unique, fatal) == effect,
@@ -100,7 +112,7 @@ fn check<Q: QueueTable<u64>>(
     Ok(())
 }
 
-static REQUESTS: [Row; 16] = [
+static REQUESTS: [Row; 20] = [
     Row::NumbersLeft(0x1fff_ffff_ffff_ffff),
     Row::Queue(70, 2),
     Row::Queue(71, 4),
@@ -109,6 +121,10 @@ static REQUESTS: [Row; 16] = [
     Row::ReadPending(1, Some(4)),
     Row::Pending(1, Some((6, 72))),
     Row::ReadPending(2, None),
+    Row::RequestCount(3),
+    Row::RequestAt(1, Some((4, 71))),
+    Row::RequestAt(2, Some((6, 72))),
+    Row::RequestAt(3, None),
     Row::Waiting(4, Some(71)),
     Row::Waiting(2, None),
     Row::Answer(2, None),

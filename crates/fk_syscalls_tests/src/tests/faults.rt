@@ -1,7 +1,7 @@
 //! Path faults, judged alike for each call.
-use super::{Gives, comes_to, errno_of};
+use super::{Gives, begins, comes_to, errno_of};
 use fk_dentry::Bindings;
-use fk_syscalls::{Call, begin};
+use fk_syscalls::Call;
 use std::alloc::{AllocError, Global};
 use std::process::Abort;
 use std::test::Fail;
@@ -17,8 +17,8 @@ fn is_judged(
     path: &[u8],
     fault: Option<u32>,
 ) -> Result<bool, AllocError> {
-    let stat = begin(alloc, names, 0, &Call::Stat { path })?;
-    let mkdir = begin(alloc, names, 0, &Call::Mkdir { path })?;
+    let stat = begins(alloc, names, 0, &Call::Stat { path })?;
+    let mkdir = begins(alloc, names, 0, &Call::Mkdir { path })?;
     Ok(errno_of(&stat) == fault && errno_of(&mkdir) == fault)
 }
 
@@ -131,8 +131,8 @@ fn of_the_33rd_word_its_place_alone_is_judged(rt: HostRuntime) -> Result<(), Fai
 /// Whether a stat of the root asks for its attributes, and a mkdir is answered `EINVAL`.
 fn root_is_judged(alloc: Global) -> Result<bool, AllocError> {
     let names = Bindings::new(alloc);
-    let stat = begin(alloc, &names, 0, &Call::Stat { path: b"/" })?;
-    let mkdir = begin(alloc, &names, 0, &Call::Mkdir { path: b"/" })?;
+    let stat = begins(alloc, &names, 0, &Call::Stat { path: b"/" })?;
+    let mkdir = begins(alloc, &names, 0, &Call::Mkdir { path: b"/" })?;
     Ok(comes_to(&stat, Gives::Getattr(1)) && errno_of(&mkdir) == Some(EINVAL))
 }
 

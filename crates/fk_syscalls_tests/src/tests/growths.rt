@@ -1,8 +1,8 @@
 //! Refused growths: `begin` alone takes memory.
-use super::{Gives, bind, walks_on};
+use super::{Gives, begins, bind, walks_on};
 use fail_at::FailAt;
 use fk_dentry::Bindings;
-use fk_syscalls::{Call, begin};
+use fk_syscalls::Call;
 use std::alloc::{AllocError, Allocator, Global};
 use std::process::Abort;
 use std::test::Fail;
@@ -17,7 +17,7 @@ fn growths_of<A: Allocator + Copy>(
     let mut growths = 0;
     for n in 1..6u64 {
         heap.refuse(n);
-        let is_told = begin(alloc, names, 0, call).is_err();
+        let is_told = begins(alloc, names, 0, call).is_err();
         let is_refused = heap.left() == 0;
         heap.refuse(0);
         if is_told != is_refused {
@@ -38,7 +38,7 @@ fn takes_none<A: Allocator + Copy>(
     call: &Call<'_>,
     rest: &[(u64, Gives)],
 ) -> Result<bool, AllocError> {
-    let next = begin(alloc, names, 0, call)?;
+    let next = begins(alloc, names, 0, call)?;
     heap.refuse(1);
     let is_right = walks_on(next, names, 0, rest);
     let left = heap.left();

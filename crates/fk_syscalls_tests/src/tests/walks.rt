@@ -1,7 +1,7 @@
 //! Walks along names in force.
-use super::{Gives, Row, bind, is_walked};
+use super::{Gives, Row, begins, bind, is_walked};
 use fk_dentry::Bindings;
-use fk_syscalls::{Call, Next, begin};
+use fk_syscalls::{Call, Next};
 use std::alloc::{AllocError, Global};
 use std::process::Abort;
 use std::test::Fail;
@@ -164,12 +164,60 @@ fn names_only(next: &Next<Global>, node: u64) -> bool {
 
 fn begun_names_only(alloc: Global, call: &Call<'_>, node: u64) -> Result<bool, AllocError> {
     let names = some_names(alloc)?;
-    Ok(names_only(&begin(alloc, &names, 0, call)?, node))
+    Ok(names_only(&begins(alloc, &names, 0, call)?, node))
 }
 
 #[test]
 fn a_call_names_the_node_where_it_stands(rt: HostRuntime) -> Result<(), Fail> {
     assert!(rt; begun_names_only(rt.alloc(), &Call::Stat { path: b"/a/b/c" }, 3)?);
     assert!(rt; begun_names_only(rt.alloc(), &Call::Mkdir { path: b"/a/b" }, 2)?);
+    Ok(())
+}
+
+static WALKED_TWICE: [Row; 4] = [
+    (
+        0,
+        Call::Rename {
+            old: b"/x/o",
+            new: b"/a/y/n",
+        },
+        Gives::Lookup(1, "x"),
+        &[
+            (5, Gives::Lookup(2, "y")),
+            (6, Gives::Rename(5, "o", 6, "n")),
+        ],
+    ),
+    (
+        0,
+        Call::Rename {
+            old: b"/a/o",
+            new: b"/n",
+        },
+        Gives::Rename(2, "o", 1, "n"),
+        &[],
+    ),
+    (
+        0,
+        Call::Rename {
+            old: b"/a/o",
+            new: b"/gone/n",
+        },
+        Gives::Errno(ENOENT),
+        &[],
+    ),
+    (
+        0,
+        Call::Link {
+            old: b"/a/f",
+            new: b"/a/b/n",
+        },
+        Gives::Lookup(2, "f"),
+        &[(4, Gives::Link(4, 3, "n"))],
+    ),
+];
+
+#[test]
+fn rename_and_link_walk_two_paths(rt: HostRuntime) -> Result<(), Fail> {
+    check(&rt, rt.alloc(), &WALKED_TWICE)?;
     Ok(())
 }

@@ -1,5 +1,6 @@
 use Rattle.std.proofs.Common.{length, ◌≤◌, ◌<◌, refl, arith}
 use Rattle.fk_kernel.proofs.Sound.{gone_absent, sound_begun_answered}
+use Rattle.fk_kernel.proofs.Files.{numbered_files}
 use Rattle.fk_kernel.proofs.kernel.KernelOf.begin_answered.Goals as goal
 
 pub invariant_of-self-2 : goal.invariant_of-self-2
@@ -12,7 +13,7 @@ invariant_of-self-2 g c =
     let room : length k.calls.entries ≤ c.put.new.self.room = omega (arith, few, reserved, left) in
     let old = c.self.invariant in
     rw (c.put.ensures.entries, c.in-Ok.ensures.entries)
-    (record { numbers = sound_begun_answered k.calls.entries k.answers.entries k.answers.room k.next_call old.numbers c.new.result c.put.new.self.room low room; idle = old.idle; kinds = old.kinds; sorted = old.sorted; nodes = old.nodes; releases = old.releases; clock_low = old.clock_low })
+    (record { numbers = sound_begun_answered k.calls.entries k.answers.entries k.answers.room k.next_call old.numbers c.new.result c.put.new.self.room low room; idle = old.idle; sorted = old.sorted; nodes = old.nodes; files = numbered_files k.calls.entries k.opens.entries k.closing.entries k.next_call old.files; releases = old.releases; clock_low = old.clock_low })
 
 pub returns-clause-vfs : goal.returns-clause-vfs
 returns-clause-vfs g c =

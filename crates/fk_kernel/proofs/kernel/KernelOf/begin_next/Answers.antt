@@ -4,19 +4,16 @@ use Rattle.fk_syscalls.specs.Values.{call_of}
 use Rattle.fuse_spec.specs.Kernel.{is_aborted}
 use Rattle.fuse_spec.specs.Vfs.{begun}
 use Rattle.fk_kernel.specs.Refused.{or_no_memory}
-use Rattle.fk_kernel.proofs.Beginnings.{asks_refusal, answered_unrefused, refused_alike, if_ok}
-use Rattle.fk_kernel.proofs.CallKinds.{begins_of_kind}
+use Rattle.fk_kernel.proofs.Beginnings.{plain_begun, aborted_begun, no_close, asks_refusal, answered_unrefused, refused_alike, if_ok}
 use Rattle.fk_kernel.proofs.kernel.KernelOf.begin_next.Goals as goal
 
-pub begin_asking-requires-clause-kind : goal.begin_asking-requires-clause-kind
-begin_asking-requires-clause-kind g c =
-    let asks = rw c.in-Waits.is at c.in_ok-errno.ensures.begun in
-    begins_of_kind c.args.self.now.vfs c.args.call.now c.in-Waits.state (is_aborted c.args.self.now.phase) asks
+pub set_out-requires-clause-closes_none : goal.set_out-requires-clause-closes_none
+set_out-requires-clause-closes_none g c = no_close c.args.call.now c.in_default.not-Close
 
 pub returns-in-Waits-clause-refusal : goal.returns-in-Waits-clause-refusal
 returns-in-Waits-clause-refusal g c =
     let asks = rw c.in-Waits.is at c.in_ok-errno.ensures.begun in
-    refused_alike c.begin_asking.result (asks_refusal c.args.self.now c.args.call.now c.in-Waits.state c.requires.ready c.requires.few c.requires.number asks) c.begin_asking.ensures.refusal
+    refused_alike c.begin_asking.result (asks_refusal c.args.self.now c.args.call.now (plain_begun c.args.self.now c.args.call.now (no_close c.args.call.now c.in_default.not-Close)) c.in-Waits.state c.requires.ready c.requires.few c.requires.number asks) c.begin_asking.ensures.refusal
 
 pub returns-then-is_aborted-clause-refusal : goal.returns-then-is_aborted-clause-refusal
 returns-then-is_aborted-clause-refusal g c =
@@ -24,7 +21,7 @@ returns-then-is_aborted-clause-refusal g c =
     let high : k.queues.next ≤ 2 ^ 62 = rw (← c.self.view_is) (g.met.Q.QueueTable.sound c.self.inside.queues).next.high in
     let aborted : is_aborted k.phase ≡ true = sym c.is_aborted.ensures ∙ c.if-is_aborted.true in
     let ends = ap (λ (b : Bool). begun b k.vfs (call_of c.args.call.now)) aborted in
-    refused_alike c.begin_answered.result (ap or_no_memory (answered_unrefused k c.args.call.now (failed 107) c.requires.ready c.requires.few c.requires.number high ends)) c.begin_answered.ensures.refusal
+    refused_alike c.begin_answered.result (ap or_no_memory (answered_unrefused k c.args.call.now (aborted_begun k c.args.call.now aborted) (failed 107) c.requires.ready c.requires.few c.requires.number high ends)) c.begin_answered.ensures.refusal
 
 pub returns-then-is_aborted-clause-judged : goal.returns-then-is_aborted-clause-judged
 returns-then-is_aborted-clause-judged g c =
@@ -32,21 +29,21 @@ returns-then-is_aborted-clause-judged g c =
     let high : k.queues.next ≤ 2 ^ 62 = rw (← c.self.view_is) (g.met.Q.QueueTable.sound c.self.inside.queues).next.high in
     let aborted : is_aborted k.phase ≡ true = sym c.is_aborted.ensures ∙ c.if-is_aborted.true in
     let ends = ap (λ (b : Bool). begun b k.vfs (call_of c.args.call.now)) aborted in
-    if_ok c.begin_answered.result (answered_unrefused k c.args.call.now (failed 107) c.requires.ready c.requires.few c.requires.number high ends)
+    if_ok c.begin_answered.result (answered_unrefused k c.args.call.now (aborted_begun k c.args.call.now aborted) (failed 107) c.requires.ready c.requires.few c.requires.number high ends)
 
 pub returns-in-Answered-clause-refusal : goal.returns-in-Answered-clause-refusal
 returns-in-Answered-clause-refusal g c =
     let k = c.args.self.now in
     let high : k.queues.next ≤ 2 ^ 62 = rw (← c.self.view_is) (g.met.Q.QueueTable.sound c.self.inside.queues).next.high in
     let ends = rw c.in-Answered.is at c.in_ok-errno.ensures.begun in
-    refused_alike c.begin_answered-in-Answered.result (ap or_no_memory (answered_unrefused k c.args.call.now (failed c.in-Answered.errno) c.requires.ready c.requires.few c.requires.number high ends)) c.begin_answered-in-Answered.ensures.refusal
+    refused_alike c.begin_answered-in-Answered.result (ap or_no_memory (answered_unrefused k c.args.call.now (plain_begun k c.args.call.now (no_close c.args.call.now c.in_default.not-Close)) (failed c.in-Answered.errno) c.requires.ready c.requires.few c.requires.number high ends)) c.begin_answered-in-Answered.ensures.refusal
 
 pub returns-in-Answered-clause-judged : goal.returns-in-Answered-clause-judged
 returns-in-Answered-clause-judged g c =
     let k = c.args.self.now in
     let high : k.queues.next ≤ 2 ^ 62 = rw (← c.self.view_is) (g.met.Q.QueueTable.sound c.self.inside.queues).next.high in
     let ends = rw c.in-Answered.is at c.in_ok-errno.ensures.begun in
-    if_ok c.begin_answered-in-Answered.result (answered_unrefused k c.args.call.now (failed c.in-Answered.errno) c.requires.ready c.requires.few c.requires.number high ends)
+    if_ok c.begin_answered-in-Answered.result (answered_unrefused k c.args.call.now (plain_begun k c.args.call.now (no_close c.args.call.now c.in_default.not-Close)) (failed c.in-Answered.errno) c.requires.ready c.requires.few c.requires.number high ends)
 
 pub returns-in-Answered-clause-begun : goal.returns-in-Answered-clause-begun
 returns-in-Answered-clause-begun g c = search rules

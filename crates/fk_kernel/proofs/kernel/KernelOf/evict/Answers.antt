@@ -1,3 +1,4 @@
+use Rattle.std.proofs.Common.{arith}
 use Rattle.fk_kernel.proofs.Evicted.{evicted_counted, is_there}
 use Rattle.fk_kernel.proofs.kernel.KernelOf.evict.Goals as goal
 
@@ -6,4 +7,4 @@ invariant_of-self g c =
     let old = c.self.invariant in
     let there = is_there c.self.inside.nodes c.args.node c.in-Some-evict.count c.in-Some-evict.ensures.count in
     rw (c.forget.ensures.state, c.evict.ensures.nodes)
-    (record { numbers = old.numbers; idle = old.idle; kinds = old.kinds; sorted = old.sorted; releases = old.releases; nodes = evicted_counted c.self.inside.nodes c.args.node c.in-Some-evict.count (g.Q.QueueTable.state c.self.inside.queues) (g.Q.QueueTable.room c.self.inside.queues).forgets (g.Q.QueueTable.room c.forget.new.self).forgets old.nodes there c.forget.ensures.forgets_room; clock_low = old.clock_low })
+    (record { numbers = old.numbers; idle = old.idle; sorted = old.sorted; files = old.files; releases = omega (arith, old.releases, c.forget.ensures.requests_room); nodes = evicted_counted c.self.inside.nodes c.args.node c.in-Some-evict.count (g.Q.QueueTable.state c.self.inside.queues) (g.Q.QueueTable.room c.self.inside.queues).forgets (g.Q.QueueTable.room c.forget.new.self).forgets old.nodes there c.forget.ensures.forgets_room; clock_low = old.clock_low })

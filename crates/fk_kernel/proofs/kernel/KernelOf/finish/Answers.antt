@@ -1,9 +1,9 @@
 use Rattle.std.proofs.Common.{refl, sym, ap, ◌∙◌}
 use Rattle.std.specs.Prelude.{is_some}
 use Rattle.fuse_spec.specs.Maps.{get}
-use Rattle.fk_kernel.proofs.CallKinds.{gone_kinds}
 use Rattle.fk_kernel.proofs.Nodes.{sorted_gone}
 use Rattle.fk_kernel.proofs.Sound.{sound_answered, there_is}
+use Rattle.fk_kernel.proofs.Files.{answered_files}
 use Rattle.fk_kernel.proofs.kernel.KernelOf.finish.Goals as goal
 
 pub invariant_of-self-2 : goal.invariant_of-self-2
@@ -15,8 +15,8 @@ invariant_of-self-2 g c =
     (record {
       numbers = sound_answered k.calls.entries k.answers.entries k.answers.room k.next_call old.numbers c.args.call c.new.result c.put.new.self.room there c.put.ensures.room;
       idle = λ down. rw (old.idle down) refl;
-      kinds = gone_kinds k.calls.entries c.args.call old.kinds;
       sorted = sorted_gone k.calls.entries c.args.call old.sorted;
+      files = answered_files k.calls.entries k.opens.entries k.closing.entries k.next_call old.files c.args.call;
       releases = old.releases;
       nodes = old.nodes;
       clock_low = old.clock_low;

@@ -1,19 +1,17 @@
 use Rattle.std.proofs.Common.{◌≡◌, ◌≤◌, ◌+◌, length, true, Some, ap, arith}
 use Rattle.std.specs.Prelude.{is_some}
 use Rattle.fuse_spec.specs.Maps.{get}
-use Rattle.fuse_spec.specs.Operations.{mkdir}
 use Rattle.fuse_spec.specs.QueueCalls.{waiting}
 use Rattle.fuse_spec.specs.Vfs.{doing}
-use Rattle.fk_kernel.specs.Entries.{made}
 use Rattle.fk_kernel.proofs.Nodes.{learnt_counted, answered_is}
-use Rattle.fk_kernel.proofs.Replied.{mkdir_found}
-use Rattle.fk_kernel.proofs.Requests.{one_answered}
+use Rattle.fk_kernel.proofs.Replied.{made_found}
+use Rattle.fk_kernel.proofs.Standing.{makes_place}
 use Rattle.fk_kernel.proofs.kernel.KernelOf.name_is_made.Goals as goal
 
 pub bind_entry-requires-clause-names_one : goal.bind_entry-requires-clause-names_one
 bind_entry-requires-clause-names_one g c =
     let makes = c.requires.makes in
-    ((makes.directory, makes.name), made makes.directory makes.name (rw (← c.self.view_is) at makes.is))
+    (doing makes.operation, makes.place, rw (← c.self.view_is) at makes.is, makes_place makes.operation makes.place makes.makes)
 
 pub invariant_of-self-2 : goal.invariant_of-self-2
 invariant_of-self-2 g c =
@@ -29,9 +27,9 @@ invariant_of-self-2 g c =
     (record {
       numbers = old.numbers;
       idle = old.idle;
-      kinds = old.kinds;
       sorted = old.sorted;
-      releases = one_answered s old.releases c.args.unique;
+      files = old.files;
+      releases = omega (arith, old.releases, c.reserve.ensures.kept.requests, c.answer-kept.ensures.room.requests);
       nodes = learnt_counted k.nodes s (g.Q.QueueTable.room k.queues).forgets (g.Q.QueueTable.room c.answer-kept.new.self).forgets old.nodes room c.args.unique waits c.args.entry.now;
       clock_low = old.clock_low;
     })
@@ -42,10 +40,10 @@ returns-clause-ok g c =
     let s = g.Q.QueueTable.state k.queues in
     let makes = c.requires.makes in
     let waits : is_some (waiting s c.args.unique) ≡ true = rw (← c.self.view_is) at (ap is_some c.requires.waits) in
-    let here : get k.calls.entries c.args.call ≡ Some (doing (mkdir makes.directory makes.name)) = rw (← c.self.view_is) at makes.is in
+    let here : get k.calls.entries c.args.call ≡ Some (doing makes.operation) = rw (← c.self.view_is) at makes.is in
     let low = c.self.invariant.clock_low in
     let day = c.requires.day in
     let until : c.saturating_add-until.result ≡ k.clock + c.args.valid_ms = omega (arith, c.saturating_add-until.ensures) in
-    let names = c.in-Ok-bind_entry.ensures.names (makes.directory, makes.name) (made makes.directory makes.name here) in
+    let names = c.in-Ok-bind_entry.ensures.names (doing makes.operation) makes.place here (makes_place makes.operation makes.place makes.makes) in
     rw (c.finish.ensures, c.answer-kept.ensures.state, c.reserve.ensures.state, answered_is s c.args.unique waits, names, until, c.in-Ok-bind_entry.ensures.nodes, ← c.self.view_is)
-    (rw (← c.self.view_is) at (mkdir_found c.args.self.now c.args.unique c.args.call c.requires.even c.requires.waits makes.directory makes.name makes.is c.args.entry.now c.args.valid_ms c.requires.usable))
+    (rw (← c.self.view_is) at (made_found c.args.self.now c.args.unique c.args.call c.requires.even c.requires.waits makes.operation makes.place makes.makes makes.is c.args.entry.now c.args.valid_ms c.requires.usable))

@@ -11,13 +11,11 @@ use Rattle.fk_syscalls.specs.Values.{comes_to}
 use Rattle.fuse_spec.specs.Vfs.{Vfs, Advance, walking, walks_on, bound, asking, answered, no_more}
 use Rattle.fuse_spec.specs.declared.Opened.{Opened}
 use Rattle.fuse_spec.proofs.Tables.{get_gone_here}
-use Rattle.fk_kernel.specs.Entries.{looked_up, no_memory, exhausted}
-use Rattle.fk_kernel.specs.Soundness.{IsStatOrMkdir}
-use Rattle.fk_kernel.proofs.CallKinds.{put_kind, gone_kinds, walks_of_kind}
+use Rattle.fk_kernel.specs.Entries.{no_memory, exhausted}
 use Rattle.fk_kernel.proofs.Nodes.{learnt_counted, answered_is, request_queued, put_gone, length_again, sorted_put, sorted_gone}
 use Rattle.fk_kernel.proofs.Replied.{lookup_found}
-use Rattle.fk_kernel.proofs.Requests.{one_answered, call_queued}
 use Rattle.fk_kernel.proofs.Sound.{sound_answered, sound_walks, there_is}
+use Rattle.fk_kernel.proofs.Files.{walking_files, answered_files}
 use Rattle.fk_kernel.proofs.kernel.KernelOf.walk_on.Goals as goal
 
 pub returns-then-runs_out-clause-refusal : goal.returns-then-runs_out-clause-refusal
@@ -25,6 +23,9 @@ returns-then-runs_out-clause-refusal g c = exhausted (c.runs_out.ensures.past c.
 
 pub returns-in_default-clause-refusal : goal.returns-in_default-clause-refusal
 returns-in_default-clause-refusal g c = no_memory
+
+pub returns-in_default-checked_add-clause-refusal : goal.returns-in_default-checked_add-clause-refusal
+returns-in_default-checked_add-clause-refusal g c = no_memory
 
 pub returns-in_default-reserve-clause-refusal : goal.returns-in_default-reserve-clause-refusal
 returns-in_default-reserve-clause-refusal g c = no_memory
@@ -35,7 +36,7 @@ returns-in_default-bind_entry-clause-refusal g c = no_memory
 pub bind_entry-requires-clause-names_one : goal.bind_entry-requires-clause-names_one
 bind_entry-requires-clause-names_one g c =
     let stands = c.requires.looks_up in
-    ((stands.directory, stands.word), looked_up stands.directory stands.word stands.words stands.plan (rw (← c.self.view_is) at stands.is))
+    (walking stands.directory stands.word stands.words stands.plan, (stands.directory, stands.word), rw (← c.self.view_is) at stands.is, refl)
 
 pub enqueue-unique-requires-clause-number : goal.enqueue-unique-requires-clause-number
 enqueue-unique-requires-clause-number g c =
@@ -49,7 +50,7 @@ enqueue-unique-requires-clause-number g c =
     let low = c.self.invariant.clock_low in
     let day = c.requires.day in
     let until : c.saturating_add-until.result ≡ k.clock + c.args.valid_ms = omega (arith, c.saturating_add-until.ensures) in
-    let names = c.in-Ok-bind_entry.ensures.names (stands.directory, stands.word) (looked_up stands.directory stands.word stands.words stands.plan here) in
+    let names = c.in-Ok-bind_entry.ensures.names (walking stands.directory stands.word stands.words stands.plan) (stands.directory, stands.word) here refl in
     let vfs : Vfs Opened = bound now.vfs stands.directory stands.word (Some c.args.entry.now.nodeid) c.args.valid_ms in
     let has : HasNames vfs c.bind_entry.new.names.names k.clock = rw (← c.self.view_is, names, until) (record { names = refl; clock = refl; root = refl }) in
     let comes : walks_on vfs c.args.call c.args.entry.now.nodeid stands.words stands.plan ≡ asking vfs c.args.call c.in-Waits.state = c.found.ensures vfs c.args.call stands.directory stands.word stands.words stands.plan has state ∙ ap (comes_to vfs c.args.call) c.in-Waits.is in
@@ -71,14 +72,13 @@ invariant_of-self-in-Waits g c =
     let low = c.self.invariant.clock_low in
     let day = c.requires.day in
     let until : c.saturating_add-until.result ≡ k.clock + c.args.valid_ms = omega (arith, c.saturating_add-until.ensures) in
-    let names = c.in-Ok-bind_entry.ensures.names (stands.directory, stands.word) (looked_up stands.directory stands.word stands.words stands.plan here) in
+    let names = c.in-Ok-bind_entry.ensures.names (walking stands.directory stands.word stands.words stands.plan) (stands.directory, stands.word) here refl in
     let vfs : Vfs Opened = bound now.vfs stands.directory stands.word (Some c.args.entry.now.nodeid) c.args.valid_ms in
     let has : HasNames vfs c.bind_entry.new.names.names k.clock = rw (← c.self.view_is, names, until) (record { names = refl; clock = refl; root = refl }) in
     let comes : walks_on vfs c.args.call c.args.entry.now.nodeid stands.words stands.plan ≡ asking vfs c.args.call c.in-Waits.state = c.found.ensures vfs c.args.call stands.directory stands.word stands.words stands.plan has state ∙ ap (comes_to vfs c.args.call) c.in-Waits.is in
     let old = c.self.invariant in
     let some : is_some (get k.calls.entries c.args.call) ≡ true = ap is_some here in
     let there = there_is (get k.calls.entries c.args.call) some in
-    let kind : IsStatOrMkdir c.in-Waits.state = walks_of_kind vfs c.args.call c.in-Waits.state c.args.entry.now.nodeid stands.words stands.plan stands.planned comes in
     let kept = c.answer-kept.ensures.room.forgets in
     let reserved = c.in-Ok.ensures.forgets in
     let queued = c.enqueue-unique.ensures.forgets_room in
@@ -89,9 +89,9 @@ invariant_of-self-in-Waits g c =
     (record {
       numbers = sound_walks k.calls.entries k.answers.entries k.answers.room k.next_call old.numbers c.args.call c.in-Waits.state there (length_again k.calls.entries c.args.call c.in-Waits.state old.sorted some);
       idle = λ down. absurd (there (ap (λ m. get m c.args.call) (old.idle down)));
-      kinds = put_kind k.calls.entries c.args.call c.in-Waits.state kind old.kinds;
       sorted = sorted_put k.calls.entries c.args.call c.in-Waits.state old.sorted;
-      releases = call_queued (after_answer s c.args.unique) c.args.call (one_answered s old.releases c.args.unique);
+      files = walking_files k.calls.entries k.opens.entries k.closing.entries k.next_call old.files c.args.call c.in-Waits.state there;
+      releases = omega (arith, c.in-Ok.ensures.requests, c.answer-kept.ensures.room.requests, c.enqueue-unique.ensures.requests_room, c.in-Some-checked_add.ensures, c.len.ensures);
       nodes = request_queued _ (after_answer s c.args.unique) (g.Q.QueueTable.room c.answer-kept.new.self).forgets (g.Q.QueueTable.room c.enqueue-unique.new.self).forgets counted queued _;
       clock_low = old.clock_low;
     })
@@ -113,9 +113,9 @@ invariant_of-self-in-Answered g c =
     (record {
       numbers = sound_answered k.calls.entries k.answers.entries k.answers.room k.next_call old.numbers c.args.call _ c.put-in-Answered.new.self.room there c.put-in-Answered.ensures.room;
       idle = λ down. absurd (there (ap (λ m. get m c.args.call) (old.idle down)));
-      kinds = gone_kinds k.calls.entries c.args.call old.kinds;
       sorted = sorted_gone k.calls.entries c.args.call old.sorted;
-      releases = one_answered s old.releases c.args.unique;
+      files = answered_files k.calls.entries k.opens.entries k.closing.entries k.next_call old.files c.args.call;
+      releases = omega (arith, old.releases, c.reserve.ensures.kept.requests, c.answer-kept.ensures.room.requests);
       nodes = learnt_counted k.nodes s (g.Q.QueueTable.room k.queues).forgets (g.Q.QueueTable.room c.answer-kept.new.self).forgets old.nodes room c.args.unique waits c.args.entry.now;
       clock_low = old.clock_low;
     })
@@ -132,7 +132,7 @@ returns-in-Waits-clause-ok g c =
     let low = c.self.invariant.clock_low in
     let day = c.requires.day in
     let until : c.saturating_add-until.result ≡ k.clock + c.args.valid_ms = omega (arith, c.saturating_add-until.ensures) in
-    let names = c.in-Ok-bind_entry.ensures.names (stands.directory, stands.word) (looked_up stands.directory stands.word stands.words stands.plan here) in
+    let names = c.in-Ok-bind_entry.ensures.names (walking stands.directory stands.word stands.words stands.plan) (stands.directory, stands.word) here refl in
     let vfs : Vfs Opened = bound now.vfs stands.directory stands.word (Some c.args.entry.now.nodeid) c.args.valid_ms in
     let has : HasNames vfs c.bind_entry.new.names.names k.clock = rw (← c.self.view_is, names, until) (record { names = refl; clock = refl; root = refl }) in
     let comes : walks_on vfs c.args.call c.args.entry.now.nodeid stands.words stands.plan ≡ asking vfs c.args.call c.in-Waits.state = c.found.ensures vfs c.args.call stands.directory stands.word stands.words stands.plan has state ∙ ap (comes_to vfs c.args.call) c.in-Waits.is in
@@ -152,7 +152,7 @@ returns-in-Answered-clause-ok g c =
     let low = c.self.invariant.clock_low in
     let day = c.requires.day in
     let until : c.saturating_add-until.result ≡ k.clock + c.args.valid_ms = omega (arith, c.saturating_add-until.ensures) in
-    let names = c.in-Ok-bind_entry.ensures.names (stands.directory, stands.word) (looked_up stands.directory stands.word stands.words stands.plan here) in
+    let names = c.in-Ok-bind_entry.ensures.names (walking stands.directory stands.word stands.words stands.plan) (stands.directory, stands.word) here refl in
     let vfs : Vfs Opened = bound now.vfs stands.directory stands.word (Some c.args.entry.now.nodeid) c.args.valid_ms in
     let has : HasNames vfs c.bind_entry.new.names.names k.clock = rw (← c.self.view_is, names, until) (record { names = refl; clock = refl; root = refl }) in
     let comes : walks_on vfs c.args.call c.args.entry.now.nodeid stands.words stands.plan ≡ no_more (answered vfs c.args.call (failed c.in-Answered.errno)) = c.found.ensures vfs c.args.call stands.directory stands.word stands.words stands.plan has state ∙ ap (comes_to vfs c.args.call) c.in-Answered.is in

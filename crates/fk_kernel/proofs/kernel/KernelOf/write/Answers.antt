@@ -1,13 +1,12 @@
 use Rattle.std.proofs.Common.{rules, ◌≡◌, ℕ, ◌-◌, Some, None, sym, ap, ◌∙◌}
 use Rattle.fuse_spec.specs.QueueCalls.{waiting}
-use Rattle.fuse_spec.specs.declared.Purpose.TheVariants.{Init, Call}
+use Rattle.fuse_spec.specs.declared.Purpose.TheVariants.{Init, Release, Call}
 use Rattle.fuse_spec.specs.declared.WriteResult.TheVariants.{Invalid}
 use Rattle.fk_kernel.specs.Said.{head_unique}
-use Rattle.fk_kernel.proofs.Taken.{odd_test, even_test, taken_odd, taken_even, awaited_even, taken_none, taken_init}
+use Rattle.fk_kernel.proofs.Taken.{odd_test, even_test, taken_odd, taken_even, awaited_even, taken_none, taken_init, taken_judged}
 use Rattle.fk_wire.specs.declared.opcode.Opcode.TheVariants as op
 use Rattle.fk_wire.specs.Opcodes.{served}
 use Rattle.fk_kernel.proofs.Heads.{no_head}
-use Rattle.fk_kernel.proofs.Requests.{waiting_purpose}
 use Rattle.fk_kernel.proofs.kernel.KernelOf.write.Goals as goal
 
 pub returns-in_default-clause-unawaited : goal.returns-in_default-clause-unawaited
@@ -47,11 +46,22 @@ returns-in-Init-clause-taken g c = λ head.
     taken_even c.args.self.now unique c.args.bytes.now _ _ (even_test c.in-Ok.unique unique same c.if-unique-eq1.false) (Some Init) waits
     (taken_init c.args.self.now unique c.args.bytes.now _ _ (rw (← same) say.agreed) say.refused say.unsaid)
 
+pub write_to_release-requires-clause-waits : goal.write_to_release-requires-clause-waits
+write_to_release-requires-clause-waits g c =
+    let queues = g.Q.QueueTable.state c.self.inside.queues in
+    let at : waiting queues c.in-Ok.unique ≡ Some c.in-Some.purpose.now = search rules in
+    (c.in-Release.field-0, rw (← c.self.view_is) (at ∙ ap Some c.in-Release.is))
+
 pub returns-in-Release-clause-taken : goal.returns-in-Release-clause-taken
 returns-in-Release-clause-taken g c = λ head.
     let queues = g.Q.QueueTable.state c.self.inside.queues in
+    let unique = head_unique c.args.bytes.now in
+    let same = c.in-Ok.ensures.ok.3 in
     let at : waiting queues c.in-Ok.unique ≡ Some c.in-Some.purpose.now = search rules in
-    absurd (waiting_purpose queues c.in-Ok.unique c.in-Some.purpose.now c.self.invariant.releases at c.in-Release.field-0 c.in-Release.is)
+    let waits : waiting c.args.self.now.queues unique ≡ Some (Release c.in-Release.field-0) = rw (← c.self.view_is) (ap (waiting queues) (sym same) ∙ at ∙ ap Some c.in-Release.is) in
+    let say = c.write_to_release.ensures in
+    taken_even c.args.self.now unique c.args.bytes.now _ _ (even_test c.in-Ok.unique unique same c.if-unique-eq1.false) (Some (Release c.in-Release.field-0)) waits
+    (taken_judged c.args.self.now unique c.args.bytes.now _ _ op.Release tt (rw (← same) say.said) (rw (← same) say.unsaid))
 
 pub returns-in-Call-clause-refusal : goal.returns-in-Call-clause-refusal
 returns-in-Call-clause-refusal g c = λ head.

@@ -1,15 +1,21 @@
-use Rattle.std.proofs.Common.{rules, ◌≡◌, true, None, Some, refl, ap, ◌∙◌}
+use Rattle.std.proofs.Common.{rules, ◌≡◌, ℕ, true, None, Some, refl, ap, sym, subst, ◌∙◌, arith}
 use Rattle.std.specs.Prelude.{is_some}
-use Rattle.fuse_spec.specs.QueueCalls.{waiting}
-use Rattle.fk_wire.specs.declared.opcode.Opcode.TheVariants as op
 use Rattle.fuse_spec.specs.Maps.{get}
-use Rattle.fuse_spec.specs.Operations.{getattr, mkdir}
-use Rattle.fk_kernel.specs.Said.{reply_to, gone, awaited_by_call}
-use Rattle.fk_kernel.proofs.CallKinds.{stands_at_name, stands_at_end}
-use Rattle.fk_kernel.proofs.EntryReplies.{write_memory, refused_as}
+use Rattle.fuse_spec.specs.Operations.{Operation}
+use Rattle.fuse_spec.specs.QueueCalls.{waiting}
+use Rattle.fuse_spec.specs.Replies.{reply_written}
+use Rattle.fuse_spec.specs.Vfs.{using, asked}
+use Rattle.fuse_spec.specs.declared.Opened.{Opened}
+use Rattle.fk_syscalls.specs.States.{StandsAt}
+use Rattle.fk_syscalls.specs.Values.{operation_of}
+use Rattle.fk_kernel.specs.Refused.{exhausted}
+use Rattle.fk_kernel.specs.ReplySaid.{wire_of}
+use Rattle.fk_kernel.specs.Said.{reply_to, gone, awaited_by_call, opcode_of}
+use Rattle.fk_kernel.proofs.EntryReplies.{bytes_refused}
 use Rattle.fk_kernel.proofs.Nodes.{answer_counted, answered_is}
-use Rattle.fk_kernel.proofs.Requests.{one_answered}
-use Rattle.fk_kernel.proofs.Taken.{taken_if_ok, taken_judged, taken_gone}
+use Rattle.fk_kernel.proofs.Replied.{ends_over, judged_op}
+use Rattle.fk_kernel.proofs.Sayings.{says_one}
+use Rattle.fk_kernel.proofs.Taken.{taken_judged, taken_gone}
 use Rattle.fk_kernel.proofs.kernel.KernelOf.write_to_call.Goals as goal
 
 pub invariant_of-self : goal.invariant_of-self
@@ -20,9 +26,9 @@ invariant_of-self g c =
     (record {
       numbers = old.numbers;
       idle = old.idle;
-      kinds = old.kinds;
       sorted = old.sorted;
-      releases = one_answered (g.Q.QueueTable.state k.queues) old.releases c.args.unique;
+      files = old.files;
+      releases = omega (arith, old.releases, c.answer-kept.ensures.room.requests);
       nodes = answer_counted k.nodes (g.Q.QueueTable.state k.queues) (g.Q.QueueTable.room k.queues).forgets (g.Q.QueueTable.room c.answer-kept.new.self).forgets old.nodes c.answer-kept.ensures.room.forgets c.args.unique;
       clock_low = old.clock_low;
     })
@@ -35,49 +41,49 @@ returns-in_default-clause-taken g c =
     let waits : is_some (waiting s c.args.unique) ≡ true = rw (← c.self.view_is) at (ap is_some c.requires.waits) in
     rw awaits (taken_gone c.args.self.now c.args.unique c.args.bytes.now _ _ refl (rw (← c.self.view_is, c.answer-kept.ensures.state, answered_is s c.args.unique waits) refl))
 
-pub write_to_lookup-requires-clause-looks_up : goal.write_to_lookup-requires-clause-looks_up
-write_to_lookup-requires-clause-looks_up g c =
-    let at : get c.self.inside.calls.entries c.args.call ≡ Some c.in-Some.waiting.now = search rules in
-    let stands = stands_at_name c.in-Some.waiting.now (c.self.invariant.kinds c.args.call c.in-Some.waiting.now at) c.in-Lookup.directory c.in-Lookup.name.now c.in-Lookup.ensures.operation in
-    record { directory = c.in-Lookup.directory; word = c.in-Lookup.name.now; words = stands.words; plan = stands.plan; planned = stands.planned; is = rw (← c.self.view_is) (at ∙ ap Some stands.is) }
+pub returns-then-ends_past-clause-refusal : goal.returns-then-ends_past-clause-refusal
+returns-then-ends_past-clause-refusal g c =
+    let k = c.self.inside in
+    let now = c.args.self.now in
+    let state = c.in-Some.waiting.now in
+    let operation = operation_of c.asks.result in
+    let at : get k.calls.entries c.args.call ≡ Some state = search rules in
+    let here : get now.vfs.calls c.args.call ≡ Some state = rw (← c.self.view_is) at in
+    let awaits : awaited_by_call (get now.vfs.calls c.args.call) ≡ reply_to (opcode_of operation) = ap awaited_by_call here ∙ ap (λ (o : Operation ℕ Opened). reply_to (opcode_of o)) (sym c.asks.ensures.operation) in
+    let p = c.ends_past.ensures.past c.if-ends_past.true in
+    let same : state ≡ using p.handle p.operation = cc (here, p.is) in
+    let one : operation ≡ p.operation = c.asks.ensures.operation ∙ ap asked same in
+    let stands : StandsAt p.operation (using p.handle p.operation) = subst (λ (o : Operation ℕ Opened). StandsAt o (using p.handle p.operation)) one (subst (StandsAt operation) same c.asks.ensures.stands) in
+    exhausted (record { opcode = opcode_of operation; judged = judged_op operation; awaits = awaits; past = λ wire means. ends_over now c.args.unique c.args.call c.requires.even c.requires.waits p stands wire })
 
-pub write_to_getattr-requires-clause-asks : goal.write_to_getattr-requires-clause-asks
-write_to_getattr-requires-clause-asks g c =
-    let at : get c.self.inside.calls.entries c.args.call ≡ Some c.in-Some.waiting.now = search rules in
-    (c.in-Getattr.node, rw (← c.self.view_is) (at ∙ ap Some (stands_at_end c.in-Some.waiting.now (c.self.invariant.kinds c.args.call c.in-Some.waiting.now at) (getattr c.in-Getattr.node) tt c.in-Getattr.ensures.operation)))
+pub replied-requires-clause-within : goal.replied-requires-clause-within
+replied-requires-clause-within g c = c.ends_past.ensures.within c.if-ends_past.false
 
-pub write_to_mkdir-requires-clause-makes : goal.write_to_mkdir-requires-clause-makes
-write_to_mkdir-requires-clause-makes g c =
-    let at : get c.self.inside.calls.entries c.args.call ≡ Some c.in-Some.waiting.now = search rules in
-    record { directory = c.in-Mkdir.directory; name = c.in-Mkdir.name.now; is = rw (← c.self.view_is) (at ∙ ap Some (stands_at_end c.in-Some.waiting.now (c.self.invariant.kinds c.args.call c.in-Some.waiting.now at) (mkdir c.in-Mkdir.directory c.in-Mkdir.name.now) tt c.in-Mkdir.ensures.operation)) }
+pub returns-in-Ok-clause-taken : goal.returns-in-Ok-clause-taken
+returns-in-Ok-clause-taken g c =
+    let k = c.self.inside in
+    let now = c.args.self.now in
+    let state = c.in-Some.waiting.now in
+    let operation = operation_of c.asks.result in
+    let at : get k.calls.entries c.args.call ≡ Some state = search rules in
+    let here : get now.vfs.calls c.args.call ≡ Some state = rw (← c.self.view_is) at in
+    let awaits : awaited_by_call (get now.vfs.calls c.args.call) ≡ reply_to (opcode_of operation) = ap awaited_by_call here ∙ ap (λ (o : Operation ℕ Opened). reply_to (opcode_of o)) (sym c.asks.ensures.operation) in
+    let o = opcode_of operation in
+    let bytes = c.args.bytes.now in
+    let said = wire_of c.in-Some-said.said in
+    let says = c.in-Some-said.ensures.said.says in
+    let ok = c.in-Ok.ensures.ok in
+    rw awaits
+    (taken_judged now c.args.unique bytes _ _ o (judged_op operation) (λ wire other. ap (reply_written now c.args.unique) (says_one o bytes wire said other says) ∙ ok) (λ none. absurd (none said says)))
 
-pub returns-in-Lookup-clause-refusal : goal.returns-in-Lookup-clause-refusal
-returns-in-Lookup-clause-refusal g c =
-    let at : get c.self.inside.calls.entries c.args.call ≡ Some c.in-Some.waiting.now = search rules in
-    let stands = stands_at_name c.in-Some.waiting.now (c.self.invariant.kinds c.args.call c.in-Some.waiting.now at) c.in-Lookup.directory c.in-Lookup.name.now c.in-Lookup.ensures.operation in
-    let awaits : awaited_by_call (get c.args.self.now.vfs.calls c.args.call) ≡ reply_to op.Lookup = rw (← c.self.view_is) (ap awaited_by_call (at ∙ ap Some stands.is)) in
-    refused_as _ _ c.args.bytes.now _ (reply_to op.Lookup) c.write_to_lookup.result awaits c.write_to_lookup.ensures.refusal
-
-pub returns-in-Lookup-clause-taken : goal.returns-in-Lookup-clause-taken
-returns-in-Lookup-clause-taken g c =
-    let at : get c.self.inside.calls.entries c.args.call ≡ Some c.in-Some.waiting.now = search rules in
-    let stands = stands_at_name c.in-Some.waiting.now (c.self.invariant.kinds c.args.call c.in-Some.waiting.now at) c.in-Lookup.directory c.in-Lookup.name.now c.in-Lookup.ensures.operation in
-    let awaits : awaited_by_call (get c.args.self.now.vfs.calls c.args.call) ≡ reply_to op.Lookup = rw (← c.self.view_is) (ap awaited_by_call (at ∙ ap Some stands.is)) in
-    rw awaits (taken_if_ok c.args.self.now c.args.unique c.args.bytes.now c.write_to_lookup.result c.write_to_lookup.new.self op.Lookup tt c.write_to_lookup.ensures.said c.write_to_lookup.ensures.unsaid)
-
-pub returns-in-Getattr-clause-taken : goal.returns-in-Getattr-clause-taken
-returns-in-Getattr-clause-taken g c =
-    let at : get c.self.inside.calls.entries c.args.call ≡ Some c.in-Some.waiting.now = search rules in
-    let stands = stands_at_end c.in-Some.waiting.now (c.self.invariant.kinds c.args.call c.in-Some.waiting.now at) (getattr c.in-Getattr.node) tt c.in-Getattr.ensures.operation in
-    let awaits : awaited_by_call (get c.args.self.now.vfs.calls c.args.call) ≡ reply_to op.Getattr = rw (← c.self.view_is) (ap awaited_by_call (at ∙ ap Some stands)) in
-    rw awaits (taken_judged c.args.self.now c.args.unique c.args.bytes.now _ _ op.Getattr tt c.write_to_getattr.ensures.said c.write_to_getattr.ensures.unsaid)
-
-pub returns-in-Mkdir-clause-refusal : goal.returns-in-Mkdir-clause-refusal
-returns-in-Mkdir-clause-refusal g c = write_memory _ _ c.args.bytes.now _ c.write_to_mkdir.result c.write_to_mkdir.ensures.refusal
-
-pub returns-in-Mkdir-clause-taken : goal.returns-in-Mkdir-clause-taken
-returns-in-Mkdir-clause-taken g c =
-    let at : get c.self.inside.calls.entries c.args.call ≡ Some c.in-Some.waiting.now = search rules in
-    let stands = stands_at_end c.in-Some.waiting.now (c.self.invariant.kinds c.args.call c.in-Some.waiting.now at) (mkdir c.in-Mkdir.directory c.in-Mkdir.name.now) tt c.in-Mkdir.ensures.operation in
-    let awaits : awaited_by_call (get c.args.self.now.vfs.calls c.args.call) ≡ reply_to op.Mkdir = rw (← c.self.view_is) (ap awaited_by_call (at ∙ ap Some stands)) in
-    rw awaits (taken_if_ok c.args.self.now c.args.unique c.args.bytes.now c.write_to_mkdir.result c.write_to_mkdir.new.self op.Mkdir tt c.write_to_mkdir.ensures.said c.write_to_mkdir.ensures.unsaid)
+pub returns-in-Err-clause-refusal : goal.returns-in-Err-clause-refusal
+returns-in-Err-clause-refusal g c =
+    let k = c.self.inside in
+    let now = c.args.self.now in
+    let state = c.in-Some.waiting.now in
+    let operation = operation_of c.asks.result in
+    let at : get k.calls.entries c.args.call ≡ Some state = search rules in
+    let here : get now.vfs.calls c.args.call ≡ Some state = rw (← c.self.view_is) at in
+    let awaits : awaited_by_call (get now.vfs.calls c.args.call) ≡ reply_to (opcode_of operation) = ap awaited_by_call here ∙ ap (λ (o : Operation ℕ Opened). reply_to (opcode_of o)) (sym c.asks.ensures.operation) in
+    let o = opcode_of operation in
+    rw awaits (bytes_refused now c.args.unique c.args.bytes.now o (judged_op operation) (wire_of c.in-Some-said.said) c.in-Some-said.ensures.said.says c.in-Err.refusal c.in-Err.ensures.refusal)

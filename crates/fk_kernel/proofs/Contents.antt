@@ -1,0 +1,139 @@
+-- Bodies of replies that go with what a call asked.
+use Rattle.std.proofs.Common.{◌≡◌, ℕ, ◌+◌, ◌-◌, ◌*◌, ◌/◌, true, false, List, [], ◌∷◌, length, map, Option, Some, None, refl, ap, sym, subst, ◌∙◌, arith}
+use Rattle.std.specs.Prelude.{nat_le, sum_by, ℤ, pos, IfSome, IfNone}
+use Rattle.std.specs.Option.{MatchOption}
+use Rattle.fuse_spec.specs.Messages.{WireReply}
+use Rattle.fuse_spec.specs.Operations as reply
+use Rattle.fk_wire.specs.Dirents.{DirentContent, DirentPlusContent, dirents}
+use Rattle.fk_wire.specs.RecordEnds.{padding}
+use Rattle.fk_wire.specs.Entries.{missing, found}
+use Rattle.fk_wire.specs.Fields.{ReadsAs}
+use Rattle.std.proofs.lemmas.List.Sums.{sum_by-cons}
+use Rattle.fk_wire.specs.Opcodes.{served}
+use Rattle.fk_wire.specs.Replies.{ReplyContent, empty_reply, entry_reply, attr_reply, open_reply, bytes_reply, write_reply, init_reply, create_reply, records_reply, plus_reply, reply_kind, kind_of_content, reply_body, SpellsReply}
+use Rattle.fuse_spec.specs.declared.Opened.{Opened}
+use Rattle.fuse_spec.specs.Operations.{Operation, lookup, getattr, mkdir, create, unlink, rmdir, rename, link, opening, readdir, read, write}
+use Rattle.fuse_spec.specs.Replies.{goes_with}
+use Rattle.fuse_spec.specs.Trees.{record_length}
+use Rattle.fuse_frames.specs.ReplyTies.{wire_body, dirent_in}
+use Rattle.fk_kernel.specs.Said.{opcode_of, Says}
+use Rattle.fk_kernel.specs.ReplySaid.{is_within, IsSaidBody, wire_of, LastsADay, SaysTo}
+use Rattle.fk_kernel.specs.declared.reply_said.ReplySaid.{ReplySaid}
+
+-- a record with its padding
+pad_is : (n : ℕ) → 24 + n + padding n ≡ (31 + n) / 8 * 8
+pad_is n = omega arith
+
+-- records are as long as their frame says
+records_end : (ds : List DirentContent) (place : ℕ) (bytes : List ℕ) → ReadsAs place (dirents ds) bytes → length bytes ≡ place + sum_by record_length (map dirent_in ds)
+records_end [] place bytes reads = omega (arith, reads)
+records_end (d ∷ ds) place bytes reads =
+    let rest = records_end ds (place + 8 + 8 + 4 + 4 + length d.name + padding (length d.name)) bytes reads.1.1.1.1.1 in
+    let pad = pad_is (length d.name) in
+    let sum : sum_by record_length (map dirent_in (d ∷ ds)) ≡ (31 + length d.name) / 8 * 8 + sum_by record_length (map dirent_in ds) = sum_by-cons record_length (dirent_in d) (map dirent_in ds) in
+    omega (arith, rest, pad, sum)
+
+pub fits : (operation : Operation ℕ Opened) (content : ReplyContent) (bytes : List ℕ) → reply_kind served (opcode_of operation) ≡ Some (kind_of_content content) → ReadsAs 16 (reply_body content) bytes
+    → goes_with operation (wire_body content) ≡ is_within operation (length bytes) content
+fits (lookup d w) (entry_reply (missing s n)) bytes is reads = refl
+fits (lookup d w) (entry_reply (found x g s n a)) bytes is reads = refl
+fits (lookup d w) content bytes is reads = cc
+fits (getattr x) (attr_reply a) bytes is reads = refl
+fits (getattr x) content bytes is reads = cc
+fits (mkdir d n) (entry_reply (missing s ns)) bytes is reads = refl
+fits (mkdir d n) (entry_reply (found x g s ns a)) bytes is reads = refl
+fits (mkdir d n) content bytes is reads = cc
+fits (create d n) (create_reply (missing s ns) fh) bytes is reads = refl
+fits (create d n) (create_reply (found x g s ns a) fh) bytes is reads = refl
+fits (create d n) content bytes is reads = cc
+fits (unlink d n) empty_reply bytes is reads = refl
+fits (unlink d n) content bytes is reads = cc
+fits (rmdir d n) empty_reply bytes is reads = refl
+fits (rmdir d n) content bytes is reads = cc
+fits (rename d o e n) empty_reply bytes is reads = refl
+fits (rename d o e n) content bytes is reads = cc
+fits (link x d n) (entry_reply (missing s ns)) bytes is reads = refl
+fits (link x d n) (entry_reply (found y g s ns a)) bytes is reads = refl
+fits (link x d n) content bytes is reads = cc
+fits (opening x) (open_reply fh) bytes is reads = refl
+fits (opening x) content bytes is reads = cc
+fits (readdir d a size) (records_reply ds) bytes is reads =
+    let end = records_end ds 16 bytes reads in
+    let same : sum_by record_length (map dirent_in ds) ≡ length bytes - 16 = omega (arith, end) in
+    ap (λ (n : ℕ). nat_le n size) same
+fits (readdir d a size) content bytes is reads = cc
+fits (read o f size) (bytes_reply b) bytes is reads =
+    let same : length b ≡ length bytes - 16 = omega (arith, reads.1) in
+    ap (λ (n : ℕ). nat_le n size) same
+fits (read o f size) content bytes is reads = cc
+fits (write o f b) (write_reply n) bytes is reads = refl
+fits (write o f b) content bytes is reads = cc
+
+-- neither INIT nor READDIRPLUS is asked by a call
+no_init : (operation : Operation ℕ Opened) (major minor flags : ℕ) {T : Type 0} → reply_kind served (opcode_of operation) ≡ Some (kind_of_content (init_reply major minor flags)) → T
+no_init (lookup d w) major minor flags is = cc
+no_init (getattr x) major minor flags is = cc
+no_init (mkdir d n) major minor flags is = cc
+no_init (create d n) major minor flags is = cc
+no_init (unlink d n) major minor flags is = cc
+no_init (rmdir d n) major minor flags is = cc
+no_init (rename d o e n) major minor flags is = cc
+no_init (link x d n) major minor flags is = cc
+no_init (opening x) major minor flags is = cc
+no_init (readdir d a z) major minor flags is = cc
+no_init (read o f z) major minor flags is = cc
+no_init (write o f b) major minor flags is = cc
+
+no_plus : (operation : Operation ℕ Opened) (ps : List DirentPlusContent) {T : Type 0} → reply_kind served (opcode_of operation) ≡ Some (kind_of_content (plus_reply ps)) → T
+no_plus (lookup d w) ps is = cc
+no_plus (getattr x) ps is = cc
+no_plus (mkdir d n) ps is = cc
+no_plus (create d n) ps is = cc
+no_plus (unlink d n) ps is = cc
+no_plus (rmdir d n) ps is = cc
+no_plus (rename d o e n) ps is = cc
+no_plus (link x d n) ps is = cc
+no_plus (opening x) ps is = cc
+no_plus (readdir d a z) ps is = cc
+no_plus (read o f z) ps is = cc
+no_plus (write o f b) ps is = cc
+
+pub said_body : (operation : Operation ℕ Opened) (content : ReplyContent) → reply_kind served (opcode_of operation) ≡ Some (kind_of_content content) → IsSaidBody content
+said_body operation (init_reply major minor flags) is = no_init operation major minor flags is
+said_body operation (plus_reply ps) is = no_plus operation ps is
+said_body operation content is = tt
+
+-- a body without an error
+pub content_fits : (operation : Operation ℕ Opened) (bytes : List ℕ) (unique : ℕ) (error : ℤ) (content : ReplyContent) → error ≡ pos 0 → SpellsReply (opcode_of operation) bytes (record { unique = unique; error = error; content = content })
+    → (goes_with operation (wire_body content) ≡ is_within operation (length bytes) content) × IsSaidBody content
+content_fits operation bytes unique error content none spells = by (subst (λ (z : ℤ). SpellsReply (opcode_of operation) bytes (record { unique = unique; error = z; content = content })) none spells)
+  where
+    by : SpellsReply (opcode_of operation) bytes (record { unique = unique; error = pos 0; content = content }) → (goes_with operation (wire_body content) ≡ is_within operation (length bytes) content) × IsSaidBody content
+    by s =
+        let kind = s.2.1 ∙ ap Some (sym s.2.2) in
+        (fits operation content bytes kind s.5.1.1.1, said_body operation content kind)
+
+-- an error goes with any
+pub failed_goes : (operation : Operation ℕ Opened) (errno : ℕ) → goes_with operation (reply.failed errno) ≡ true
+failed_goes (lookup d w) errno = refl
+failed_goes (getattr x) errno = refl
+failed_goes (mkdir d n) errno = refl
+failed_goes (create d n) errno = refl
+failed_goes (unlink d n) errno = refl
+failed_goes (rmdir d n) errno = refl
+failed_goes (rename d o e n) errno = refl
+failed_goes (link x d n) errno = refl
+failed_goes (opening x) errno = refl
+failed_goes (readdir d a z) errno = refl
+failed_goes (read o f z) errno = refl
+failed_goes (write o f b) errno = refl
+
+-- what was made of a body says it
+pub said_so : (operation : Operation ℕ Opened) (bytes : List ℕ) (wire : WireReply) (r : Option ReplySaid) (N : Type 0) → MatchOption r N (λ said. (wire ≡ wire_of said) × LastsADay said) → Says (opcode_of operation) bytes wire → goes_with operation wire ≡ true → IfSome r (SaysTo operation bytes)
+said_so operation bytes wire None N made says goes = tt
+said_so operation bytes wire (Some said) N made says goes = record { says = subst (Says (opcode_of operation) bytes) made.0 says; goes = subst (λ (x : WireReply). goes_with operation x ≡ true) made.0 goes; day = made.1 }
+
+pub none_said : (operation : Operation ℕ Opened) (bytes : List ℕ) (content : ReplyContent) (r : Option ReplySaid) (P : ReplySaid → Type 0) → MatchOption r (IsSaidBody content → ⊥) P → IsSaidBody content
+    → IfNone r ((wire : WireReply) → Says (opcode_of operation) bytes wire → goes_with operation wire ≡ false)
+none_said operation bytes content None P made is = absurd (made is)
+none_said operation bytes content (Some said) P made is = tt

@@ -1,0 +1,111 @@
+use Rattle.std.proofs.Common.{◌≡◌, ◌≢◌, ◌≤◌, ◌<◌, ◌^◌, length, Some, None, refl, sym, ap, arith}
+use Rattle.fuse_spec.specs.Maps.{get}
+use Rattle.fk_kernel.specs.Refused.{or_no_memory}
+use Rattle.fk_kernel.proofs.Closes.{closes_in_use, used_unrefused}
+use Rattle.fk_kernel.proofs.Files.{some_not_none, closed_files, numbered_files}
+use Rattle.fk_kernel.proofs.Nodes.{still_counted}
+use Rattle.fk_kernel.proofs.Sound.{sound_begun_answered, gone_absent, length_put}
+use Rattle.fk_kernel.proofs.kernel.KernelOf.close_in_use.Goals as goal
+
+pub returns-in_default-clause-refusal : goal.returns-in_default-clause-refusal
+returns-in_default-clause-refusal g c =
+    let now = c.args.self.now in
+    let k = c.self.inside in
+    let old = c.self.invariant in
+    let here : get k.opens.entries c.args.handle ≡ Some c.args.opened = rw (← c.self.view_is) at c.requires.open in
+    let there : get k.opens.entries c.args.handle ≢ None = some_not_none (get k.opens.entries c.args.handle) c.args.opened here in
+    let none : get now.closing c.args.handle ≡ None = rw (← c.self.view_is) (old.files.closed_once c.args.handle there) in
+    let fresh : get now.vfs.calls now.vfs.next_call ≡ None = rw (← c.self.view_is) (old.numbers.calls_below k.next_call (omega arith)) in
+    let high : now.queues.next ≤ 2 ^ 62 = rw (← c.self.view_is) (g.met.Q.QueueTable.sound c.self.inside.queues).next.high in
+    let judged = used_unrefused now c.args.handle c.args.opened c.requires.not_aborted c.requires.open none fresh c.requires.ready c.requires.few c.requires.number c.requires.used high in
+    sym (ap or_no_memory judged)
+
+pub returns-in_default-reserve-clause-refusal : goal.returns-in_default-reserve-clause-refusal
+returns-in_default-reserve-clause-refusal g c =
+    let now = c.args.self.now in
+    let k = c.self.inside in
+    let old = c.self.invariant in
+    let here : get k.opens.entries c.args.handle ≡ Some c.args.opened = rw (← c.self.view_is) at c.requires.open in
+    let there : get k.opens.entries c.args.handle ≢ None = some_not_none (get k.opens.entries c.args.handle) c.args.opened here in
+    let none : get now.closing c.args.handle ≡ None = rw (← c.self.view_is) (old.files.closed_once c.args.handle there) in
+    let fresh : get now.vfs.calls now.vfs.next_call ≡ None = rw (← c.self.view_is) (old.numbers.calls_below k.next_call (omega arith)) in
+    let high : now.queues.next ≤ 2 ^ 62 = rw (← c.self.view_is) (g.met.Q.QueueTable.sound c.self.inside.queues).next.high in
+    let judged = used_unrefused now c.args.handle c.args.opened c.requires.not_aborted c.requires.open none fresh c.requires.ready c.requires.few c.requires.number c.requires.used high in
+    sym (ap or_no_memory judged)
+
+pub returns-in_default-checked_add-clause-refusal : goal.returns-in_default-checked_add-clause-refusal
+returns-in_default-checked_add-clause-refusal g c =
+    let now = c.args.self.now in
+    let k = c.self.inside in
+    let old = c.self.invariant in
+    let here : get k.opens.entries c.args.handle ≡ Some c.args.opened = rw (← c.self.view_is) at c.requires.open in
+    let there : get k.opens.entries c.args.handle ≢ None = some_not_none (get k.opens.entries c.args.handle) c.args.opened here in
+    let none : get now.closing c.args.handle ≡ None = rw (← c.self.view_is) (old.files.closed_once c.args.handle there) in
+    let fresh : get now.vfs.calls now.vfs.next_call ≡ None = rw (← c.self.view_is) (old.numbers.calls_below k.next_call (omega arith)) in
+    let high : now.queues.next ≤ 2 ^ 62 = rw (← c.self.view_is) (g.met.Q.QueueTable.sound c.self.inside.queues).next.high in
+    let judged = used_unrefused now c.args.handle c.args.opened c.requires.not_aborted c.requires.open none fresh c.requires.ready c.requires.few c.requires.number c.requires.used high in
+    sym (ap or_no_memory judged)
+
+pub returns-in_default-reserve-2-clause-refusal : goal.returns-in_default-reserve-2-clause-refusal
+returns-in_default-reserve-2-clause-refusal g c =
+    let now = c.args.self.now in
+    let k = c.self.inside in
+    let old = c.self.invariant in
+    let here : get k.opens.entries c.args.handle ≡ Some c.args.opened = rw (← c.self.view_is) at c.requires.open in
+    let there : get k.opens.entries c.args.handle ≢ None = some_not_none (get k.opens.entries c.args.handle) c.args.opened here in
+    let none : get now.closing c.args.handle ≡ None = rw (← c.self.view_is) (old.files.closed_once c.args.handle there) in
+    let fresh : get now.vfs.calls now.vfs.next_call ≡ None = rw (← c.self.view_is) (old.numbers.calls_below k.next_call (omega arith)) in
+    let high : now.queues.next ≤ 2 ^ 62 = rw (← c.self.view_is) (g.met.Q.QueueTable.sound c.self.inside.queues).next.high in
+    let judged = used_unrefused now c.args.handle c.args.opened c.requires.not_aborted c.requires.open none fresh c.requires.ready c.requires.few c.requires.number c.requires.used high in
+    sym (ap or_no_memory judged)
+
+pub invariant_of-self-2 : goal.invariant_of-self-2
+invariant_of-self-2 g c =
+    let k = c.self.inside in
+    let old = c.self.invariant in
+    let s = g.Q.QueueTable.state k.queues in
+    let few : length k.calls.entries < 64 = rw (← c.self.view_is) at c.requires.few in
+    let low = rw (← c.self.view_is) at c.requires.number in
+    let reserved = c.in-Ok.ensures.room in
+    let left = c.put-2.ensures.room in
+    let room : length k.calls.entries ≤ c.put-2.new.self.room = omega (arith, few, reserved, left) in
+    let numbers = sound_begun_answered k.calls.entries k.answers.entries k.answers.room k.next_call old.numbers c.new.result c.put-2.new.self.room low room in
+    let here : get k.opens.entries c.args.handle ≡ Some c.args.opened = rw (← c.self.view_is) at c.requires.open in
+    let there = some_not_none (get k.opens.entries c.args.handle) c.args.opened here in
+    let long = length_put k.closing.entries c.args.handle c.args.opened in
+    let closed = rw c.in-Ok-reserve.ensures.entries at c.len.ensures in
+    rw (c.put-2.ensures.entries, c.in-Ok.ensures.entries, c.remove-file.ensures.entries, c.put.ensures.entries, c.in-Ok-reserve.ensures.entries, c.reserve-3.ensures.state)
+    (record {
+      numbers = numbers;
+      idle = old.idle;
+      sorted = old.sorted;
+      files = numbered_files k.calls.entries _ _ k.next_call (closed_files k.calls.entries k.opens.entries k.closing.entries k.next_call old.files c.args.handle c.args.opened there);
+      releases = omega (arith, long, c.in-Ok-reserve-2.ensures.requests, c.in-Some.ensures, closed);
+      nodes = still_counted k.nodes s s (g.Q.QueueTable.room k.queues).forgets (g.Q.QueueTable.room c.reserve-3.new.self).forgets old.nodes (omega arith) c.reserve-3.ensures.kept.forgets;
+      clock_low = old.clock_low;
+    })
+
+pub returns-clause-judged : goal.returns-clause-judged
+returns-clause-judged g c =
+    let now = c.args.self.now in
+    let k = c.self.inside in
+    let old = c.self.invariant in
+    let here : get k.opens.entries c.args.handle ≡ Some c.args.opened = rw (← c.self.view_is) at c.requires.open in
+    let there : get k.opens.entries c.args.handle ≢ None = some_not_none (get k.opens.entries c.args.handle) c.args.opened here in
+    let none : get now.closing c.args.handle ≡ None = rw (← c.self.view_is) (old.files.closed_once c.args.handle there) in
+    let fresh : get now.vfs.calls now.vfs.next_call ≡ None = rw (← c.self.view_is) (old.numbers.calls_below k.next_call (omega arith)) in
+    let high : now.queues.next ≤ 2 ^ 62 = rw (← c.self.view_is) (g.met.Q.QueueTable.sound c.self.inside.queues).next.high in
+    let judged = used_unrefused now c.args.handle c.args.opened c.requires.not_aborted c.requires.open none fresh c.requires.ready c.requires.few c.requires.number c.requires.used high in
+    judged
+
+pub returns-clause-begun : goal.returns-clause-begun
+returns-clause-begun g c =
+    let now = c.args.self.now in
+    let k = c.self.inside in
+    let old = c.self.invariant in
+    let here : get k.opens.entries c.args.handle ≡ Some c.args.opened = rw (← c.self.view_is) at c.requires.open in
+    let there : get k.opens.entries c.args.handle ≢ None = some_not_none (get k.opens.entries c.args.handle) c.args.opened here in
+    let none : get now.closing c.args.handle ≡ None = rw (← c.self.view_is) (old.files.closed_once c.args.handle there) in
+    let fresh : get now.vfs.calls now.vfs.next_call ≡ None = rw (← c.self.view_is) (old.numbers.calls_below k.next_call (omega arith)) in
+    let fresh_inside : get k.calls.entries k.next_call ≡ None = old.numbers.calls_below k.next_call (omega arith) in
+    rw (closes_in_use now c.args.handle c.args.opened c.requires.not_aborted c.requires.open none fresh c.requires.used, ← c.self.view_is, c.put-2.ensures.entries, c.in-Ok.ensures.entries, c.remove-file.ensures.entries, c.put.ensures.entries, c.in-Ok-reserve.ensures.entries, c.reserve-3.ensures.state, c.new.ensures, gone_absent k.calls.entries k.next_call fresh_inside) refl

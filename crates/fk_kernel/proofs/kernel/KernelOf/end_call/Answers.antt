@@ -1,0 +1,27 @@
+use Rattle.std.proofs.Common.{◌≡◌, true, arith}
+use Rattle.std.specs.Prelude.{is_some}
+use Rattle.fuse_spec.specs.QueueCalls.{waiting}
+use Rattle.fk_kernel.proofs.Nodes.{answer_counted, answered_is}
+use Rattle.fk_kernel.proofs.kernel.KernelOf.end_call.Goals as goal
+
+pub invariant_of-self : goal.invariant_of-self
+invariant_of-self g c =
+    let k = c.self.inside in
+    let old = c.self.invariant in
+    rw c.answer-kept.ensures.state
+    (record {
+      numbers = old.numbers;
+      idle = old.idle;
+      sorted = old.sorted;
+      files = old.files;
+      releases = omega (arith, old.releases, c.answer-kept.ensures.room.requests);
+      nodes = answer_counted k.nodes (g.Q.QueueTable.state k.queues) (g.Q.QueueTable.room k.queues).forgets (g.Q.QueueTable.room c.answer-kept.new.self).forgets old.nodes c.answer-kept.ensures.room.forgets c.args.unique;
+      clock_low = old.clock_low;
+    })
+
+pub finish_use-requires-clause-within : goal.finish_use-requires-clause-within
+finish_use-requires-clause-within g c = λ handle operation at closed idle.
+    let s = g.Q.QueueTable.state c.self.inside.queues in
+    let waits : is_some (waiting s c.args.unique) ≡ true = rw (← c.self.view_is) at c.requires.waits in
+    let within = rw (← c.self.view_is) at c.requires.within in
+    rw (c.answer-kept.ensures.state, answered_is s c.args.unique waits) (within handle operation at closed idle)

@@ -1,0 +1,26 @@
+use Rattle.std.proofs.Common.{◌≡◌, ap, sym, ◌∙◌}
+use Rattle.fuse_spec.specs.declared.IntrEffect.{IntrEffect}
+use Rattle.fuse_spec.specs.declared.IntrEffect.TheVariants.{Dequeued}
+use Rattle.fuse_spec.specs.QueueCalls.{interrupt_effect, after_effect}
+use Rattle.fk_kernel.proofs.Signalled.{sound_signalled}
+use Rattle.fk_kernel.proofs.kernel.KernelOf.signal.Goals as goal
+
+pub invariant_of-self : goal.invariant_of-self
+invariant_of-self g c =
+    let k = c.self.inside in
+    rw c.interrupt-effect.ensures.state
+    (sound_signalled k.phase k.calls.entries k.answers.entries k.answers.room k.next_call k.opens.entries k.closing.entries (g.Q.QueueTable.state k.queues) (g.Q.QueueTable.room k.queues) (g.Q.QueueTable.room c.interrupt-effect.new.self) k.nodes k.clock c.self.invariant c.interrupt-effect.ensures.room c.args.unique c.args.fatal)
+
+pub invariant_of-self-in_default : goal.invariant_of-self-in_default
+invariant_of-self-in_default g c =
+    let k = c.self.inside in
+    rw c.interrupt-effect.ensures.state
+    (sound_signalled k.phase k.calls.entries k.answers.entries k.answers.room k.next_call k.opens.entries k.closing.entries (g.Q.QueueTable.state k.queues) (g.Q.QueueTable.room k.queues) (g.Q.QueueTable.room c.interrupt-effect.new.self) k.nodes k.clock c.self.invariant c.interrupt-effect.ensures.room c.args.unique c.args.fatal)
+
+pub finish_use-requires-clause-within : goal.finish_use-requires-clause-within
+finish_use-requires-clause-within g c = λ handle operation at closed idle.
+    let s = g.Q.QueueTable.state c.self.inside.queues in
+    let effect : interrupt_effect s c.args.unique c.args.fatal ≡ Dequeued = sym c.interrupt-effect.ensures.effect ∙ c.in-Dequeued.is in
+    let next = ap (λ (e : IntrEffect). (after_effect s c.args.unique e).next) effect in
+    let within = rw (← c.self.view_is) at c.requires.within in
+    rw (c.interrupt-effect.ensures.state, next) (within effect handle operation at closed idle)

@@ -1,4 +1,0 @@
-use Rattle.fk_kernel.proofs.kernel.KernelOf.write_to_getattr.Goals as goal
-
-pub returns-in_default-clause-said : goal.returns-in_default-clause-said
-returns-in_default-clause-said g c = λ wire says. absurd (c.in_default.ensures wire says)

@@ -1,0 +1,61 @@
+use Rattle.std.proofs.Common.{◌≡◌, true, refl, ap, ◌∙◌, arith}
+use Rattle.std.specs.Prelude.{is_some}
+use Rattle.fk_wire.specs.declared.opcode.Opcode.TheVariants as op
+use Rattle.fuse_spec.specs.QueueCalls.{waiting}
+use Rattle.fk_kernel.specs.Said.{wrong_body}
+use Rattle.fk_kernel.proofs.Nodes.{answer_counted, answered_is}
+use Rattle.fk_kernel.proofs.Replied.{release_is}
+use Rattle.fk_kernel.proofs.ReplyCases.{says_to_release}
+use Rattle.fk_kernel.proofs.Sayings.{says_read, says_nothing}
+use Rattle.fk_kernel.proofs.kernel.KernelOf.write_to_release.Goals as goal
+
+pub invariant_of-self : goal.invariant_of-self
+invariant_of-self g c =
+    let k = c.self.inside in
+    let old = c.self.invariant in
+    rw c.answer-kept.ensures.state
+    (record {
+      numbers = old.numbers;
+      idle = old.idle;
+      sorted = old.sorted;
+      files = old.files;
+      releases = omega (arith, old.releases, c.answer-kept.ensures.room.requests);
+      nodes = answer_counted k.nodes (g.Q.QueueTable.state k.queues) (g.Q.QueueTable.room k.queues).forgets (g.Q.QueueTable.room c.answer-kept.new.self).forgets old.nodes c.answer-kept.ensures.room.forgets c.args.unique;
+      clock_low = old.clock_low;
+    })
+
+pub invariant_of-self-2 : goal.invariant_of-self-2
+invariant_of-self-2 g c =
+    let k = c.self.inside in
+    let old = c.self.invariant in
+    rw c.answer-kept.ensures.state
+    (record {
+      numbers = old.numbers;
+      idle = old.idle;
+      sorted = old.sorted;
+      files = old.files;
+      releases = omega (arith, old.releases, c.answer-kept.ensures.room.requests);
+      nodes = answer_counted k.nodes (g.Q.QueueTable.state k.queues) (g.Q.QueueTable.room k.queues).forgets (g.Q.QueueTable.room c.answer-kept.new.self).forgets old.nodes c.answer-kept.ensures.room.forgets c.args.unique;
+      clock_low = old.clock_low;
+    })
+
+pub returns-in_default-clause-said : goal.returns-in_default-clause-said
+returns-in_default-clause-said g c = λ wire says. absurd (says_nothing op.Release c.args.bytes.now c.read_reply.result c.in_default.field-0 c.in_default.is c.read_reply.ensures.only wire says)
+
+pub returns-in_default-clause-unsaid : goal.returns-in_default-clause-unsaid
+returns-in_default-clause-unsaid g c = λ none.
+    let s = g.Q.QueueTable.state c.self.inside.queues in
+    let opened = c.requires.waits.0 in
+    let waits : is_some (waiting s c.args.unique) ≡ true = rw (← c.self.view_is) at (ap is_some c.requires.waits.1) in
+    release_is c.args.self.now c.args.unique opened c.requires.even c.requires.waits.1 wrong_body ∙ rw (← c.self.view_is, c.answer-kept.ensures.state, answered_is s c.args.unique waits) refl
+
+pub returns-clause-said : goal.returns-clause-said
+returns-clause-said g c = λ wire says.
+    let s = g.Q.QueueTable.state c.self.inside.queues in
+    let opened = c.requires.waits.0 in
+    let waits : is_some (waiting s c.args.unique) ≡ true = rw (← c.self.view_is) at (ap is_some c.requires.waits.1) in
+    release_is c.args.self.now c.args.unique opened c.requires.even c.requires.waits.1 wire
+    ∙ rw (says_to_release c.args.bytes.now wire says, ← c.self.view_is, c.answer-kept.ensures.state, answered_is s c.args.unique waits) refl
+
+pub returns-clause-unsaid : goal.returns-clause-unsaid
+returns-clause-unsaid g c = λ none. absurd (none _ (says_read op.Release c.args.bytes.now c.in-Ok.field-0 _ c.in-Ok.ensures.ok refl))

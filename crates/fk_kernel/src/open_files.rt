@@ -1,0 +1,275 @@
+//! Open files: how they are closed and let go, and what uses them.
+
+ghost use Rattle.std.specs.Prelude.{◌≡◌, ◌<◌, ◌≤◌, ◌^◌, ◌&&◌, not, ℕ, None, Some, true, false, is_some, cond, length, OnOk, OnErr, IfOk, IfErr, nat_eq};
+ghost use Rattle.std.specs.List.{list_any};
+ghost use Rattle.fuse_spec.specs.Calls as call;
+ghost use Rattle.fuse_spec.specs.declared.Opened.{Opened as OpenedFile};
+ghost use Rattle.fuse_spec.specs.Kernel.{is_aborted, is_using, is_used, released_if_idle, after_use, call_begun, is_released_by};
+ghost use Rattle.fuse_spec.specs.Maps.{get, remove, values};
+ghost use Rattle.fuse_spec.specs.QueueCalls.{waiting, without};
+ghost use Rattle.fuse_spec.specs.Steps.{is_ready};
+ghost use Rattle.fuse_spec.specs.Uniques.{numbers_left_from};
+ghost use Rattle.fuse_spec.specs.Vfs.{CallState as State, answered};
+ghost use Rattle.fk_syscalls.specs.States.{used_by};
+ghost use Rattle.fk_syscalls.specs.Values.{answer_of};
+ghost use Rattle.fk_kernel.specs.Entries.{EndsWithin, EndsPast};
+ghost use Rattle.fk_kernel.specs.Refused.{begin_refusal, or_no_memory};
+
+use crate::beginning::MAX_CALLS;
+use crate::kernel::KernelOf;
+use crate::stored_answer::StoredAnswer;
+use fk_queues::QueueTable;
+use fk_syscalls::{Answer, CallState};
+use fuse_spec::{Opened, Purpose, Refusal};
+use std::alloc::Allocator;
+
+const EBADF: u32 = 9;
+
+/// Whether a call waits for a read or write of an open file.
+fn uses<A: Allocator + Copy>(call: &CallState<A>, handle: u64) -> bool
+    ensures { result ≡ is_using handle call.now }
+{
+    match call.handle() {
+        Some(used) => used == handle,
+        None => false,
+    }
+}
+
+/// Whether an open file is of a node.
+fn is_of(opened: &Opened, node: u64) -> bool
+    ensures { result ≡ nat_eq opened.now.nodeid node }
+{
+    opened.nodeid == node
+}
+
+/// Whether a request is the RELEASE of a file of a node.
+fn releases(purpose: &Purpose, node: u64) -> bool
+    ensures { result ≡ is_released_by node purpose.now }
+{
+    match purpose {
+        Purpose::Release(opened) => is_of(opened, node),
+        Purpose::Init | Purpose::Call(_) => false,
+    }
+}
+
+/// Whether one of the calls waits for a read or write of an open file.
+fn is_in_use<A: Allocator + Copy>(calls: &[(u64, CallState<A>)], handle: u64) -> bool
+    ensures { result ≡ list_any (is_using handle) (values calls.now) }
+{
+    for call in calls {
+        if uses(&call.1, handle) {
+            return true;
+        }
+    }
+    false
+}
+
+/// Whether a call is another than this and waits for a read or write of an open file.
+fn is_other_use<A: Allocator + Copy>(row: &(u64, CallState<A>), but: u64, handle: u64) -> bool
+    ensures { result ≡ (not (nat_eq row.now.0 but) && is_using handle row.now.1) }
+{
+    row.0 != but && uses(&row.1, handle)
+}
+
+/// Whether one of the calls but this waits for a read or write of an open file.
+fn is_in_other_use<A: Allocator + Copy>(
+    calls: &[(u64, CallState<A>)],
+    but: u64,
+    handle: u64,
+) -> bool
+    ensures { result ≡ list_any (λ (e : ℕ × State OpenedFile). not (nat_eq e.0 but) && is_using handle e.1) calls.now }
+{
+    for call in calls {
+        if is_other_use(call, but, handle) {
+            return true;
+        }
+    }
+    false
+}
+
+/// Whether one of the open files is of a node.
+pub(crate) fn is_open(opens: &[(u64, Opened)], node: u64) -> bool
+    ensures { result ≡ list_any (λ (opened : OpenedFile). nat_eq opened.nodeid node) (values opens.now) }
+{
+    for file in opens {
+        if is_of(&file.1, node) {
+            return true;
+        }
+    }
+    false
+}
+
+/// Whether one of the requests is the RELEASE of a file of a node.
+pub(crate) fn is_releasing<Q: QueueTable<Purpose>>(queues: &Q, node: u64) -> bool
+    ensures { result ≡ list_any (λ e. is_released_by node e.1.kept) (Q.state queues.now).requests }
+{
+    for place in 0..queues.request_count() {
+        let Some(request) = queues.request_at(place) else {
+            return false;
+        };
+        if releases(request.1, node) {
+            return true;
+        }
+    }
+    false
+}
+
+impl<Q: QueueTable<Purpose> + Drop> KernelOf<Q> {
+    /// A call of the next number closes an open file: it is answered at once. The RELEASE is queued unless a read or write of
+    /// the file is unanswered.
+    pub(crate) fn begin_close(&mut self, handle: u64) -> Result<u64, Refusal>
+        requires number { self.old.vfs.next_call < 2 ^ 62 }
+        requires few { length self.old.vfs.calls < 64 }
+        requires ready { is_ready self.old.phase ≡ true }
+        requires not_aborted { is_aborted self.old.phase ≡ false }
+        ensures err { OnErr result (self.new ≡ self.old) }
+        ensures refusal { IfErr result (λ refusal. refusal ≡ or_no_memory (begin_refusal self.old (call.close handle))) }
+        ensures judged { OnOk result (begin_refusal self.old (call.close handle) ≡ None) }
+        ensures number { IfOk result (λ n. n ≡ self.old.vfs.next_call) }
+        ensures begun { OnOk result (self.new ≡ call_begun self.old (call.close handle)) }
+    {
+        let Some(opened) = self.opens.get(handle) else {
+            return self.begin_answered(Answer::Failed { errno: EBADF });
+        };
+        let opened = *opened;
+        if is_in_use(self.calls.rows(), handle) {
+            self.close_in_use(handle, opened)
+        } else {
+            self.close_idle(handle, opened)
+        }
+    }
+
+    /// A close of an open file of which no read or write is unanswered.
+    fn close_idle(&mut self, handle: u64, opened: Opened) -> Result<u64, Refusal>
+        requires number { self.old.vfs.next_call < 2 ^ 62 }
+        requires few { length self.old.vfs.calls < 64 }
+        requires ready { is_ready self.old.phase ≡ true }
+        requires not_aborted { is_aborted self.old.phase ≡ false }
+        requires open { get self.old.vfs.opens handle ≡ Some opened }
+        requires idle { is_used self.old handle ≡ false }
+        ensures err { OnErr result (self.new ≡ self.old) }
+        ensures refusal { IfErr result (λ refusal. refusal ≡ or_no_memory (begin_refusal self.old (call.close handle))) }
+        ensures judged { OnOk result (begin_refusal self.old (call.close handle) ≡ None) }
+        ensures number { IfOk result (λ n. n ≡ self.old.vfs.next_call) }
+        ensures begun { OnOk result (self.new ≡ call_begun self.old (call.close handle)) }
+    {
+        if self.queues.numbers_left() == 0 {
+            return Err(Refusal::Exhausted);
+        }
+        let Ok(()) = self.answers.reserve(MAX_CALLS) else {
+            return Err(Refusal::NoMemory);
+        };
+        let Some(requests) = self.closing.len().checked_add(1) else {
+            return Err(Refusal::NoMemory);
+        };
+        let Ok(()) = self.queues.reserve(requests, 0) else {
+            return Err(Refusal::NoMemory);
+        };
+        let call = self.next_call;
+        let _file = self.opens.remove(handle);
+        let _unique = self.queues.enqueue(Purpose::Release(opened));
+        self.answers.put(call, StoredAnswer::new(Answer::Done));
+        self.next_call = call + 1;
+        Ok(call)
+    }
+
+    /// A close of an open file of which a read or write is unanswered.
+    fn close_in_use(&mut self, handle: u64, opened: Opened) -> Result<u64, Refusal>
+        requires number { self.old.vfs.next_call < 2 ^ 62 }
+        requires few { length self.old.vfs.calls < 64 }
+        requires ready { is_ready self.old.phase ≡ true }
+        requires not_aborted { is_aborted self.old.phase ≡ false }
+        requires open { get self.old.vfs.opens handle ≡ Some opened }
+        requires used { is_used self.old handle ≡ true }
+        ensures err { OnErr result (self.new ≡ self.old) }
+        ensures refusal { IfErr result (λ refusal. refusal ≡ or_no_memory (begin_refusal self.old (call.close handle))) }
+        ensures judged { OnOk result (begin_refusal self.old (call.close handle) ≡ None) }
+        ensures number { IfOk result (λ n. n ≡ self.old.vfs.next_call) }
+        ensures begun { OnOk result (self.new ≡ call_begun self.old (call.close handle)) }
+    {
+        let Ok(()) = self.answers.reserve(MAX_CALLS) else {
+            return Err(Refusal::NoMemory);
+        };
+        let Ok(()) = self.closing.reserve(1) else {
+            return Err(Refusal::NoMemory);
+        };
+        let Some(requests) = self.closing.len().checked_add(1) else {
+            return Err(Refusal::NoMemory);
+        };
+        let Ok(()) = self.queues.reserve(requests, 0) else {
+            return Err(Refusal::NoMemory);
+        };
+        let call = self.next_call;
+        let _file = self.opens.remove(handle);
+        self.closing.put(handle, opened);
+        self.answers.put(call, StoredAnswer::new(Answer::Done));
+        self.next_call = call + 1;
+        Ok(call)
+    }
+
+    /// Queues the RELEASE of a closed file of which no read or write is unanswered. Takes no memory.
+    fn release_if_idle(&mut self, handle: u64)
+        requires { is_some (get self.old.closing handle) ≡ true → is_used self.old handle ≡ false → 0 < numbers_left_from self.old.queues.next }
+        ensures { self.new ≡ released_if_idle self.old handle }
+    {
+        if is_in_use(self.calls.rows(), handle) {
+            return;
+        }
+        let Some(opened) = self.closing.remove(handle) else {
+            return;
+        };
+        let _unique = self.queues.enqueue(Purpose::Release(opened));
+    }
+
+    /// The call's request ends, and the call is answered. A closed file that it read or wrote is let go. Takes no memory.
+    pub(crate) fn end_call(&mut self, unique: u64, call: u64, answer: Answer<Q::Heap>)
+        requires waits { is_some (waiting self.old.queues unique) ≡ true }
+        requires unanswered { is_some (get self.old.vfs.calls call) ≡ true }
+        requires within { EndsWithin self.old call }
+        ensures { (state : State OpenedFile) → get self.old.vfs.calls call ≡ Some state → self.new ≡ after_use (record self.old { vfs = answered self.old.vfs call (answer_of answer); queues = without self.old.queues unique }) state }
+    {
+        let _kept = self.queues.answer(unique);
+        self.finish_use(call, answer);
+    }
+
+    /// The call, whose request is gone, is answered. A closed file that it read or wrote is let go. Takes no memory.
+    pub(crate) fn finish_use(&mut self, call: u64, answer: Answer<Q::Heap>)
+        requires unanswered { is_some (get self.old.vfs.calls call) ≡ true }
+        requires within { EndsWithin self.old call }
+        ensures { (state : State OpenedFile) → get self.old.vfs.calls call ≡ Some state → self.new ≡ after_use (record self.old { vfs = answered self.old.vfs call (answer_of answer) }) state }
+    {
+        let handle = self.used_by(call);
+        self.finish(call, answer);
+        if let Some(handle) = handle {
+            self.release_if_idle(handle);
+        }
+    }
+
+    /// The open file that a call reads or writes, by its number.
+    fn used_by(&self, call: u64) -> Option<u64>
+        ensures used { (state : State OpenedFile) → get self.now.vfs.calls call ≡ Some state → result ≡ used_by state }
+        ensures none { get self.now.vfs.calls call ≡ None → result ≡ None }
+    {
+        let Some(waiting) = self.calls.get(call) else {
+            return None;
+        };
+        waiting.handle()
+    }
+
+    /// Whether the end of a call would let a closed file go, for whose RELEASE no number is left.
+    pub(crate) fn ends_past(&self, call: u64) -> bool
+        ensures past { result ≡ true → EndsPast self.now call }
+        ensures within { result ≡ false → EndsWithin self.now call }
+    {
+        if self.queues.numbers_left() != 0 {
+            return false;
+        }
+        let Some(handle) = self.used_by(call) else {
+            return false;
+        };
+        if self.closing.get(handle).is_none() {
+            return false;
+        }
+        !is_in_other_use(self.calls.rows(), call, handle)
+    }
+}

@@ -1,0 +1,203 @@
+//! What the bytes of a reply say to the operation that a call asked.
+
+ghost use Rattle.std.specs.Prelude.{◌≡◌, ℕ, false, length, map, pos, IfSome, IfNone, IfOk, MatchOption};
+ghost use Rattle.fk_wire.specs.Records.{records_in};
+ghost use Rattle.fk_wire.specs.Entries.{entry_content};
+ghost use Rattle.fk_wire.specs.Replies.{reply_content, entry_reply, create_reply};
+ghost use Rattle.fuse_spec.specs.Messages.{WireReply};
+ghost use Rattle.fuse_spec.specs.Operations as reply;
+ghost use Rattle.fuse_spec.specs.Replies.{goes_with};
+ghost use Rattle.fuse_frames.specs.ReplyTies.{wire_body, dirent_in, attributes_in, no_entry};
+ghost use Rattle.fk_syscalls.specs.Values.{operation_of, dirent_of};
+ghost use Rattle.fk_kernel.specs.Said.{Says, opcode_of};
+ghost use Rattle.fk_kernel.specs.ReplySaid.{wire_of, LastsADay, SaysTo, is_within};
+ghost use Rattle.fk_kernel.specs.ReplySaid.{IsSaidBody};
+
+use crate::said::failure;
+use fk_syscalls::{Asked, ListedName};
+use fk_wire::{Opcode, Records, ReplyBody, read_reply};
+use fuse_frames::{attributes_of, kind_of_type, milliseconds};
+use fuse_spec::{Attributes, Entry, Kind};
+use std::alloc::{AllocError, Allocator};
+
+/// What a reply says that goes with the operation of a call.
+#[derive(Drop)]
+pub(crate) enum ReplySaid<'a> {
+    Failed {
+        errno: u32,
+    },
+    /// The name is missing for so many milliseconds.
+    Missing {
+        valid_ms: u64,
+    },
+    /// The name leads to a file for so many milliseconds.
+    Found {
+        entry: Entry,
+        valid_ms: u64,
+    },
+    /// The same, and the file is open.
+    Created {
+        entry: Entry,
+        valid_ms: u64,
+        fh: u64,
+    },
+    Opened {
+        fh: u64,
+    },
+    Attributes(Attributes),
+    Listed(Records<'a>),
+    Content(&'a [u8]),
+    Written {
+        size: u32,
+    },
+    Done,
+}
+
+/// The opcode of the request that asks an operation.
+fn opcode_asked(asked: &Asked<'_>) -> Opcode
+    ensures { result ≡ opcode_of (operation_of asked.now) }
+{
+    match asked {
+        Asked::Lookup { .. } => Opcode::Lookup,
+        Asked::Getattr { .. } => Opcode::Getattr,
+        Asked::Readdir { .. } => Opcode::Readdir,
+        Asked::Open { .. } => Opcode::Open,
+        Asked::Mkdir { .. } => Opcode::Mkdir,
+        Asked::Create { .. } => Opcode::Create,
+        Asked::Unlink { .. } => Opcode::Unlink,
+        Asked::Rmdir { .. } => Opcode::Rmdir,
+        Asked::Rename { .. } => Opcode::Rename,
+        Asked::Link { .. } => Opcode::Link,
+        Asked::Read { .. } => Opcode::Read,
+        Asked::Write { .. } => Opcode::Write,
+    }
+}
+
+/// Whether a body in a frame of so many bytes is no longer than was asked, nor tells of more written than was sent.
+fn is_within_asked(asked: &Asked<'_>, len: usize, body: &ReplyBody<'_>) -> bool
+    ensures { result ≡ is_within (operation_of asked.now) len (reply_content body.now) }
+{
+    match asked {
+        Asked::Readdir { .. } => len.saturating_sub(16) <= 4_096,
+        Asked::Read { size, .. } => len.saturating_sub(16) <= *size as usize,
+        Asked::Write { bytes, .. } => match body {
+            ReplyBody::Write { size } => *size as usize <= bytes.len(),
+            _ => true,
+        },
+        _ => true,
+    }
+}
+
+/// The file that an entry names.
+fn entry_named(entry: &fk_wire::Entry) -> Entry
+    ensures nodeid { result.nodeid ≡ entry.now.nodeid }
+    ensures generation { result.generation ≡ entry.now.generation }
+    ensures attributes { result.attributes ≡ attributes_in entry.now.attr }
+{
+    Entry {
+        nodeid: entry.nodeid,
+        generation: entry.generation,
+        attributes: attributes_of(&entry.attr),
+    }
+}
+
+/// No file, where an entry names none.
+fn no_file() -> Entry
+    ensures { result ≡ no_entry }
+{
+    Entry {
+        nodeid: 0,
+        generation: 0,
+        attributes: Attributes {
+            kind: Kind::Other,
+            ino: 0,
+            size: 0,
+            nlink: 0,
+        },
+    }
+}
+
+/// What an entry says: with node id 0 the name is missing.
+fn said_by_entry(entry: &fk_wire::Entry) -> ReplySaid<'static>
+    ensures wire { wire_body (entry_reply (entry_content entry.now)) ≡ wire_of result }
+    ensures day { LastsADay result }
+{
+    let valid_ms = milliseconds(entry.entry_valid, entry.entry_valid_nsec);
+    if entry.nodeid == 0 {
+        return ReplySaid::Missing { valid_ms };
+    }
+    let entry = entry_named(entry);
+    ReplySaid::Found { entry, valid_ms }
+}
+
+/// What an entry with an open number says.
+fn said_by_create(entry: &fk_wire::Entry, fh: u64) -> ReplySaid<'static>
+    ensures wire { wire_body (create_reply (entry_content entry.now) fh) ≡ wire_of result }
+    ensures day { LastsADay result }
+{
+    let valid_ms = milliseconds(entry.entry_valid, entry.entry_valid_nsec);
+    let entry = if entry.nodeid == 0 {
+        no_file()
+    } else {
+        entry_named(entry)
+    };
+    ReplySaid::Created {
+        entry,
+        valid_ms,
+        fh,
+    }
+}
+
+/// What a body says. One of INIT or READDIRPLUS says nothing to a call.
+fn said_by(body: ReplyBody<'_>) -> Option<ReplySaid<'_>>
+    ensures { MatchOption result (IsSaidBody (reply_content body.entry) → ⊥) (λ said. (wire_body (reply_content body.entry) ≡ wire_of said) × LastsADay said) }
+{
+    match body {
+        ReplyBody::Empty => Some(ReplySaid::Done),
+        ReplyBody::Entry { entry } => Some(said_by_entry(&entry)),
+        ReplyBody::Attr { attr } => Some(ReplySaid::Attributes(attributes_of(&attr))),
+        ReplyBody::Open { fh } => Some(ReplySaid::Opened { fh }),
+        ReplyBody::Bytes { bytes } => Some(ReplySaid::Content(bytes)),
+        ReplyBody::Write { size } => Some(ReplySaid::Written { size }),
+        ReplyBody::Create { entry, fh } => Some(said_by_create(&entry, fh)),
+        ReplyBody::Records { records } => Some(ReplySaid::Listed(records)),
+        ReplyBody::Init { .. } | ReplyBody::RecordsPlus { .. } => None,
+    }
+}
+
+/// What the bytes say to what a call asked, if they are a reply that goes with it.
+pub(crate) fn said_to<'a>(asked: &Asked<'_>, bytes: &'a [u8]) -> Option<ReplySaid<'a>>
+    ensures said { IfSome result (SaysTo (operation_of asked.now) bytes.now) }
+    ensures none { IfNone result ((wire : WireReply) → Says (opcode_of (operation_of asked.now)) bytes.now wire → goes_with (operation_of asked.now) wire ≡ false) }
+{
+    let Ok(reply) = read_reply(opcode_asked(asked), bytes) else {
+        return None;
+    };
+    if let Some(errno) = failure(reply.error) {
+        return Some(ReplySaid::Failed { errno });
+    }
+    if !is_within_asked(asked, bytes.len(), &reply.body) {
+        return None;
+    }
+    said_by(reply.body)
+}
+
+/// A copy of the names that records list.
+pub(crate) fn names_listed<A: Allocator + Copy>(
+    alloc: A,
+    records: Records<'_>,
+) -> Result<Vec<ListedName<A>, A>, AllocError>
+    ensures { IfOk result (λ names. map dirent_of names.items ≡ map dirent_in (records_in records.entry)) }
+{
+    let mut names = Vec::new(alloc);
+    for record in records {
+        let name = record.name.to_vec(alloc)?;
+        names.push(ListedName {
+            ino: record.ino,
+            offset: record.off,
+            kind: kind_of_type(record.kind),
+            name,
+        })?;
+    }
+    Ok(names)
+}

@@ -1,0 +1,210 @@
+//! How the reply to a call's request is taken.
+
+ghost use Rattle.std.specs.Prelude.{◌≡◌, ◌≤◌, ◌%◌, ℕ, map, Some, OnOk, OnErr, IfOk, IfErr, true, false, nat_eq};
+ghost use Rattle.fuse_spec.specs.Maps.{get};
+ghost use Rattle.fuse_spec.specs.Operations as reply;
+ghost use Rattle.fuse_spec.specs.QueueCalls.{waiting};
+ghost use Rattle.fuse_spec.specs.Replies.{reply_written};
+ghost use Rattle.fuse_spec.specs.Vfs.{CallState as State, asked};
+ghost use Rattle.fuse_spec.specs.declared.Opened.{Opened as OpenedFile};
+ghost use Rattle.fk_kernel.specs.Entries.{Awaits, EndsWithin, IsEntryRefusal, names_left};
+ghost use Rattle.fk_kernel.specs.Refused.{IsWriteRefusal};
+ghost use Rattle.fk_kernel.specs.ReplySaid.{wire_of, LastsADay};
+ghost use Rattle.fk_kernel.specs.Said.{Says, SaysNothing, awaited_by_call, wrong_body, IsTaken};
+ghost use Rattle.fk_wire.specs.Records.{records_in};
+ghost use Rattle.fuse_frames.specs.ReplyTies.{dirent_in};
+ghost use Rattle.fuse_spec.specs.Messages.{WireReply};
+ghost use Rattle.fuse_spec.specs.Numbers.{max_validity};
+
+use crate::kernel::KernelOf;
+use crate::reply_said::{ReplySaid, names_listed, said_to};
+use fk_dentry::Bindings;
+use fk_queues::QueueTable;
+use fk_syscalls::{Answer, Asked, CallState};
+use fk_wire::{Opcode, Records, read_reply};
+use fuse_spec::{Purpose, Refusal, WriteResult};
+use fuse_tables::Table;
+use std::alloc::Allocator;
+
+const EIO: u32 = 5;
+
+/// The names of which a call asked that they go are in force no longer.
+fn unbind<A: Allocator + Copy>(calls: &Table<CallState<A>, A>, names: &mut Bindings<A>, call: u64)
+    ensures { (state : State OpenedFile) → get calls.now.entries call ≡ Some state → names.new.names ≡ names_left (asked state) names.old.names }
+{
+    let Some(waiting) = calls.get(call) else {
+        return;
+    };
+    match waiting.asks() {
+        Asked::Unlink { directory, name } => {
+            let _was = names.remove(directory, name);
+        }
+        Asked::Rmdir { directory, name } => {
+            let _was = names.remove(directory, name);
+        }
+        Asked::Rename {
+            directory,
+            old,
+            newdir,
+            new,
+        } => {
+            let _was = names.remove(directory, old);
+            let _other = names.remove(newdir, new);
+        }
+        _ => {}
+    }
+}
+
+impl<Q: QueueTable<Purpose> + Drop> KernelOf<Q> {
+    /// A reply to the request of a call. Bytes that do not go with what it asked answer it EIO. Where the call is not
+    /// unanswered, its request just ends.
+    pub(crate) fn write_to_call(
+        &mut self,
+        unique: u64,
+        call: u64,
+        bytes: &[u8],
+    ) -> Result<WriteResult, Refusal>
+        requires even { nat_eq (unique % 2) 1 ≡ false }
+        requires waits { waiting self.old.queues unique ≡ Some (Purpose.Call call) }
+        ensures err { OnErr result (self.new ≡ self.old) }
+        ensures refusal { IfErr result (IsWriteRefusal self.old unique bytes.now (awaited_by_call (get self.old.vfs.calls call))) }
+        ensures taken { IfOk result (λ written. IsTaken self.old unique bytes.now (awaited_by_call (get self.old.vfs.calls call)) written self.new) }
+    {
+        let Some(waiting) = self.calls.get(call) else {
+            let _kept = self.queues.answer(unique);
+            return Ok(WriteResult::Accepted);
+        };
+        let said = said_to(&waiting.asks(), bytes);
+        if self.ends_past(call) {
+            return Err(Refusal::Exhausted);
+        }
+        let Some(said) = said else {
+            self.end_call(unique, call, Answer::Failed { errno: EIO });
+            return Ok(WriteResult::Invalid);
+        };
+        match self.replied(unique, call, said) {
+            Ok(()) => Ok(WriteResult::Accepted),
+            Err(refusal) => Err(refusal),
+        }
+    }
+
+    /// What a reply says that goes with what a call asked reaches the call.
+    fn replied(&mut self, unique: u64, call: u64, said: ReplySaid<'_>) -> Result<(), Refusal>
+        requires even { nat_eq (unique % 2) 1 ≡ false }
+        requires waits { waiting self.old.queues unique ≡ Some (Purpose.Call call) }
+        requires awaits { Awaits (get self.old.vfs.calls call) (wire_of said) }
+        requires day { LastsADay said }
+        requires within { EndsWithin self.old call }
+        ensures err { OnErr result (self.new ≡ self.old) }
+        ensures refusal { IfErr result (IsEntryRefusal self.old unique (wire_of said.entry)) }
+        ensures ok { OnOk result (reply_written self.old unique (wire_of said.entry) ≡ (WriteResult.Accepted, self.new)) }
+    {
+        match said {
+            ReplySaid::Failed { errno } => {
+                self.end_call(unique, call, Answer::Failed { errno });
+                Ok(())
+            }
+            ReplySaid::Attributes(attributes) => {
+                self.end_call(unique, call, Answer::Attributes(attributes));
+                Ok(())
+            }
+            ReplySaid::Written { size } => {
+                self.end_call(unique, call, Answer::Written { size });
+                Ok(())
+            }
+            ReplySaid::Listed(records) => self.listed(unique, call, records),
+            ReplySaid::Content(bytes) => self.content_read(unique, call, bytes),
+            ReplySaid::Done => {
+                self.names_go(unique, call);
+                Ok(())
+            }
+            ReplySaid::Missing { valid_ms } => self.name_missing(unique, call, valid_ms),
+            ReplySaid::Found { entry, valid_ms } => {
+                self.entry_found(unique, call, &entry, valid_ms)
+            }
+            ReplySaid::Created {
+                entry,
+                valid_ms,
+                fh,
+            } => self.file_created(unique, call, &entry, valid_ms, fh),
+            ReplySaid::Opened { fh } => self.file_is_open(unique, call, fh),
+        }
+    }
+
+    /// The call is answered the names that a directory lists.
+    fn listed(&mut self, unique: u64, call: u64, records: Records<'_>) -> Result<(), Refusal>
+        requires even { nat_eq (unique % 2) 1 ≡ false }
+        requires waits { waiting self.old.queues unique ≡ Some (Purpose.Call call) }
+        requires awaits { Awaits (get self.old.vfs.calls call) (reply.listed (map dirent_in (records_in records))) }
+        requires within { EndsWithin self.old call }
+        ensures err { OnErr result (self.new ≡ self.old) }
+        ensures refusal { IfErr result (λ refusal. refusal ≡ Refusal.NoMemory) }
+        ensures ok { OnOk result (reply_written self.old unique (reply.listed (map dirent_in (records_in records.entry))) ≡ (WriteResult.Accepted, self.new)) }
+    {
+        let Ok(names) = names_listed(self.alloc, records) else {
+            return Err(Refusal::NoMemory);
+        };
+        self.end_call(unique, call, Answer::Listing(names));
+        Ok(())
+    }
+
+    /// The call is answered the bytes of a file.
+    fn content_read(&mut self, unique: u64, call: u64, bytes: &[u8]) -> Result<(), Refusal>
+        requires even { nat_eq (unique % 2) 1 ≡ false }
+        requires waits { waiting self.old.queues unique ≡ Some (Purpose.Call call) }
+        requires awaits { Awaits (get self.old.vfs.calls call) (reply.content bytes.now) }
+        requires within { EndsWithin self.old call }
+        ensures err { OnErr result (self.new ≡ self.old) }
+        ensures refusal { IfErr result (λ refusal. refusal ≡ Refusal.NoMemory) }
+        ensures ok { OnOk result (reply_written self.old unique (reply.content bytes.now) ≡ (WriteResult.Accepted, self.new)) }
+    {
+        let Ok(content) = bytes.to_vec(self.alloc) else {
+            return Err(Refusal::NoMemory);
+        };
+        self.end_call(unique, call, Answer::Content(content));
+        Ok(())
+    }
+
+    /// The names that a call took away or moved are in force no longer, and the call is answered that it is done.
+    fn names_go(&mut self, unique: u64, call: u64)
+        requires even { nat_eq (unique % 2) 1 ≡ false }
+        requires waits { waiting self.old.queues unique ≡ Some (Purpose.Call call) }
+        requires awaits { Awaits (get self.old.vfs.calls call) reply.done }
+        ensures { reply_written self.old unique reply.done ≡ (WriteResult.Accepted, self.new) }
+    {
+        unbind(&self.calls, &mut self.names, call);
+        self.answer_call(unique, call, Answer::Done);
+    }
+
+    /// The name that a call looks up is missing; to any other call an entry that names no node is no use.
+    fn name_missing(&mut self, unique: u64, call: u64, valid_ms: u64) -> Result<(), Refusal>
+        requires even { nat_eq (unique % 2) 1 ≡ false }
+        requires waits { waiting self.old.queues unique ≡ Some (Purpose.Call call) }
+        requires awaits { Awaits (get self.old.vfs.calls call) (reply.missing valid_ms) }
+        requires day { valid_ms ≤ max_validity }
+        ensures err { OnErr result (self.new ≡ self.old) }
+        ensures refusal { IfErr result (λ refusal. refusal ≡ Refusal.NoMemory) }
+        ensures ok { OnOk result (reply_written self.old unique (reply.missing valid_ms) ≡ (WriteResult.Accepted, self.new)) }
+    {
+        if self.looks_up(call) {
+            self.word_is_missing(unique, call, valid_ms)
+        } else {
+            self.answer_call(unique, call, Answer::Failed { errno: EIO });
+            Ok(())
+        }
+    }
+
+    /// A reply to the RELEASE of an open file: the request ends, whatever the bytes are.
+    pub(crate) fn write_to_release(&mut self, unique: u64, bytes: &[u8]) -> WriteResult
+        requires even { nat_eq (unique % 2) 1 ≡ false }
+        requires waits { (opened : OpenedFile) × (waiting self.old.queues unique ≡ Some (Purpose.Release opened)) }
+        ensures said { (wire : WireReply) → Says Opcode.Release bytes.now wire → reply_written self.old unique wire ≡ (result, self.new) }
+        ensures unsaid { SaysNothing Opcode.Release bytes.now → reply_written self.old unique wrong_body ≡ (result, self.new) }
+    {
+        let _kept = self.queues.answer(unique);
+        let Ok(_) = read_reply(Opcode::Release, bytes) else {
+            return WriteResult::Invalid;
+        };
+        WriteResult::Accepted
+    }
+}

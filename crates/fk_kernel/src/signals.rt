@@ -1,0 +1,147 @@
+//! How calls are signalled, and INTERRUPTs are read.
+
+ghost use Rattle.std.specs.Prelude.{◌≡◌, ℕ, Some, None, OnOk, OnErr, IfOk, IfErr, true, false, is_some, find, option_map};
+ghost use Rattle.fuse_spec.specs.Kernel.{call_signalled, is_for, request_of};
+ghost use Rattle.fuse_spec.specs.Maps.{get};
+ghost use Rattle.fuse_spec.specs.QueueCalls.{after_read_interrupt, interrupt_effect};
+ghost use Rattle.fuse_spec.specs.Vfs.{CallState as State};
+ghost use Rattle.fuse_spec.specs.declared.Opened.{Opened};
+ghost use Rattle.fk_kernel.specs.Entries.{EndsPast, EndsWithin};
+ghost use Rattle.fk_kernel.specs.Refused.{or_no_memory};
+ghost use Rattle.fk_kernel.specs.RefusedSignals.{signal_refusal, IsSignalled, read_interrupt_refusal, IsInterruptFrame};
+
+use crate::kernel::KernelOf;
+use fk_queues::QueueTable;
+use fk_syscalls::Answer;
+use fk_unique::interrupt_of;
+use fuse_frames::RequestFrame;
+use fuse_spec::{IntrEffect, Purpose, Refusal};
+
+const EINTR: u32 = 4;
+
+/// Whether a request serves this call.
+fn serves(purpose: Purpose, call: u64) -> bool
+    ensures { result ≡ is_for call purpose }
+{
+    match purpose {
+        Purpose::Init | Purpose::Release(_) => false,
+        Purpose::Call(served) => served == call,
+    }
+}
+
+/// The number of the request that serves a call, read or not.
+fn request_for<Q: QueueTable<Purpose>>(queues: &Q, call: u64) -> Option<u64>
+    ensures { result ≡ option_map (λ e. e.0) (find (λ e. is_for call e.1.kept) (Q.state queues.now).requests) }
+{
+    for place in 0..queues.request_count() {
+        let Some((unique, purpose)) = queues.request_at(place) else {
+            return None;
+        };
+        if serves(*purpose, call) {
+            return Some(unique);
+        }
+    }
+    None
+}
+
+impl<Q: QueueTable<Purpose> + Drop> KernelOf<Q> {
+    /// Signals an unanswered call, fatally or not. Where its request is unread and the signal is fatal, the request goes and
+    /// the call is answered EINTR; a closed file that it would have read or written last is released. Takes no memory: the
+    /// answer has its room since the call began, an INTERRUPT since its request was queued, and a RELEASE since the close.
+    ///
+    /// # Errors
+    ///
+    /// `NotReady` where the mount is not live, `NoSuch` where no call of this number is unanswered, `Exhausted` where no
+    /// number is left for the RELEASE. The kernel is as before.
+    pub fn interrupt(&mut self, call: u64, fatal: bool) -> Result<IntrEffect, Refusal>
+        ensures err { OnErr result (self.new ≡ self.old) }
+        ensures refusal { IfErr result (λ refusal. signal_refusal self.old call fatal ≡ Some refusal) }
+        ensures judged { OnOk result (signal_refusal self.old call fatal ≡ None) }
+        ensures signalled { IfOk result (λ effect. IsSignalled self.old call fatal effect self.new) }
+    {
+        if !self.is_live() {
+            return Err(Refusal::NotReady);
+        }
+        if self.calls.get(call).is_none() {
+            return Err(Refusal::NoSuch);
+        }
+        let Some(unique) = request_for(&self.queues, call) else {
+            self.within();
+            return Ok(IntrEffect::None);
+        };
+        if self.signal_ends_past(unique, call, fatal) {
+            return Err(Refusal::Exhausted);
+        }
+        let effect = self.signal(unique, call, fatal);
+        self.within();
+        Ok(effect)
+    }
+
+    /// Whether a signal to the request of a call would let a closed file go, for whose RELEASE no number is left.
+    fn signal_ends_past(&self, unique: u64, call: u64, fatal: bool) -> bool
+        requires current { request_of self.now call ≡ Some unique }
+        ensures past { result ≡ true → (interrupt_effect self.now.queues unique fatal ≡ IntrEffect.Dequeued) × EndsPast self.now call }
+        ensures within { result ≡ false → interrupt_effect self.now.queues unique fatal ≡ IntrEffect.Dequeued → EndsWithin self.now call }
+    {
+        if !fatal {
+            return false;
+        }
+        if self.queues.waiting(unique).is_some() {
+            return false;
+        }
+        self.ends_past(call)
+    }
+
+    /// Signals the request of a call that is unanswered.
+    fn signal(&mut self, unique: u64, call: u64, fatal: bool) -> IntrEffect
+        requires current { request_of self.old call ≡ Some unique }
+        requires unanswered { is_some (get self.old.vfs.calls call) ≡ true }
+        requires within { interrupt_effect self.old.queues unique fatal ≡ IntrEffect.Dequeued → EndsWithin self.old call }
+        ensures { (state : State Opened) → get self.old.vfs.calls call ≡ Some state → call_signalled self.old call state fatal ≡ (result, self.new) }
+    {
+        let effect = self.queues.interrupt(unique, fatal);
+        if let IntrEffect::Dequeued = effect {
+            self.finish_use(call, Answer::Failed { errno: EINTR });
+        }
+        effect
+    }
+
+    /// Why the oldest INTERRUPT cannot be read, want of memory aside: `NotReady` where the mount is not live, `NoSuch` where
+    /// none is queued.
+    pub fn read_interrupt_refusal(&self) -> Option<Refusal>
+        ensures { result ≡ read_interrupt_refusal self.now }
+    {
+        if !self.is_live() {
+            return Some(Refusal::NotReady);
+        }
+        if self.queues.first_interrupt().is_none() {
+            return Some(Refusal::NoSuch);
+        }
+        None
+    }
+
+    /// Reads the oldest INTERRUPT, under the number of its request with the lowest bit set.
+    ///
+    /// # Errors
+    ///
+    /// As `read_interrupt_refusal`; then `NoMemory`. The kernel is as before.
+    pub fn read_interrupt(&mut self) -> Result<RequestFrame<Q::Heap>, Refusal>
+        ensures err { OnErr result (self.new ≡ self.old) }
+        ensures refusal { IfErr result (λ refusal. refusal ≡ or_no_memory (read_interrupt_refusal self.old)) }
+        ensures judged { OnOk result (read_interrupt_refusal self.old ≡ None) }
+        ensures frame { IfOk result (λ frame. IsInterruptFrame self.old frame) }
+        ensures read { OnOk result (self.new ≡ record self.old { queues = after_read_interrupt self.old.queues }) }
+    {
+        if !self.is_live() {
+            return Err(Refusal::NotReady);
+        }
+        let Some(original) = self.queues.first_interrupt() else {
+            return Err(Refusal::NoSuch);
+        };
+        let Ok(frame) = RequestFrame::interrupt(self.alloc, interrupt_of(original), original) else {
+            return Err(Refusal::NoMemory);
+        };
+        let _original = self.queues.read_interrupt();
+        Ok(frame)
+    }
+}
