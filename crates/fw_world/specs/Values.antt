@@ -9,33 +9,44 @@ use Rattle.fuse_spec.specs.Events as event
 use Rattle.fuse_spec.specs.Records as record_of_run
 use Rattle.fk_syscalls.specs.Values.{call_of, answer_of}
 use Rattle.fw_world.specs.declared.event.Event.{Event}
-use Rattle.fw_world.specs.declared.event.Event.TheVariants.{Mount, Call, ReadPending, ReadForgets, Take, Do, Again, Write, Settle, Tick, DropName, Evict}
+use Rattle.fw_world.specs.declared.event.Event.TheVariants.{Mount, Call, Read, Take, Do, Again, Write, Settle, Interrupt, Tick, DropName, Evict, Abort}
+use Rattle.fw_world.specs.declared.event.Pick.{Pick}
+use Rattle.fw_world.specs.declared.event.Pick.TheVariants as pick
 use Rattle.fw_world.specs.declared.event.Outcome.{Outcome}
 use Rattle.fw_world.specs.declared.event.Outcome.TheVariants as outcome
 use Rattle.fw_world.specs.declared.record.Record.{Record}
 use Rattle.fw_world.specs.declared.record.Record.TheVariants as recorded
 
+-- the read of the definitions
+abbrev pub read_of : Pick → event.Event
+read_of pick.Interrupt = event.read_interrupt
+read_of (pick.Forgets count) = event.read_forgets count
+read_of (pick.Pending place) = event.read_pending place
+
 -- the event of the definitions
 abbrev pub event_of : Event → event.Event
 event_of (Mount found_ms missing_ms) = event.mount found_ms missing_ms
 event_of (Call call) = event.call (call_of call)
-event_of (ReadPending place) = event.read_pending place
+event_of (Read pick) = read_of pick
 event_of (Take place) = event.take place
 event_of (Do unique) = event.perform unique
 event_of (Again unique) = event.again unique
 event_of (Write place) = event.write place
 event_of (Settle place) = event.settle place
-event_of (ReadForgets count) = event.read_forgets count
+event_of (Interrupt call fatal) = event.intr call fatal
 event_of (Tick ms) = event.tick ms
 event_of (DropName directory name) = event.drop_name directory name.now
 event_of (Evict node) = event.evict node
+event_of Abort = event.abort
 
 -- The event takes no memory.
 abbrev pub NeedsNoMemory : Event → Type 0
 NeedsNoMemory (Settle place) = Unit {0}
+NeedsNoMemory (Interrupt call fatal) = Unit {0}
 NeedsNoMemory (Tick ms) = Unit {0}
 NeedsNoMemory (DropName directory name) = Unit {0}
 NeedsNoMemory (Evict node) = Unit {0}
+NeedsNoMemory Abort = Unit {0}
 NeedsNoMemory event = ⊥
 
 -- the result of a reply, by its error number
@@ -53,12 +64,14 @@ outcome_of (outcome.Lost unique errno) = event.performed unique errno true
 outcome_of (outcome.SentAgain unique len) = event.sent_again unique
 outcome_of (outcome.Written unique errno) = event.written unique (result_of errno)
 outcome_of (outcome.Settled unique errno) = event.settled unique (result_of errno)
+outcome_of (outcome.Interrupted call effect) = event.interrupted call effect
 outcome_of (outcome.Now clock) = event.now clock
 outcome_of outcome.Dropped = event.dropped
 outcome_of (outcome.Evicted node count) = event.evicted node count
+outcome_of outcome.Aborted = event.aborted
 
 -- the record of the definitions
-abbrev pub record_of : Record → record_of_run.Record
+abbrev pub record_of : {A : Type 0} → Record A → record_of_run.Record
 record_of (recorded.Outcome outcome) = record_of_run.outcome (outcome_of outcome)
 record_of (recorded.Refused refusal) = record_of_run.refused refusal
 record_of (recorded.Answered call answer) = record_of_run.answered call (answer_of answer)

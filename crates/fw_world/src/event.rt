@@ -2,7 +2,18 @@
 
 use fk_kernel::Call;
 use fk_wire::Opcode;
-use fuse_spec::Taken;
+use fuse_spec::{IntrEffect, Taken};
+
+/// What is read from the kernel's lists, and goes into the request link.
+#[derive(Clone, Copy, Debug, PartialEq, Eq)]
+pub enum Pick {
+    /// The oldest INTERRUPT.
+    Interrupt,
+    /// So many of the oldest forgets as one request: FORGET for 1, else BATCH_FORGET, for 64 at most.
+    Forgets(u64),
+    /// The pending request at a place, counted from 0.
+    Pending(u64),
+}
 
 /// One event: an atomic step of the world. Paths are lent.
 #[derive(Clone, Copy, Debug)]
@@ -11,11 +22,8 @@ pub enum Event<'a> {
     Mount { found_ms: u64, missing_ms: u64 },
     /// A system call begins.
     Call(Call<'a>),
-    /// The pending request at a place, counted from 0, is read and goes into the request link.
-    ReadPending(u64),
-    /// So many of the oldest forgets are read as one request, which goes into the request link: FORGET for 1, else
-    /// BATCH_FORGET, for 64 at most.
-    ReadForgets(u64),
+    /// A request is read from the kernel, and goes into the request link.
+    Read(Pick),
     /// The server takes the request at a place of the request link.
     Take(u64),
     /// The server performs the request that it holds under a unique, and a copy of its reply goes into the reply link.
@@ -26,12 +34,16 @@ pub enum Event<'a> {
     Write(u64),
     /// The server takes the result at a place of the result link.
     Settle(u64),
+    /// An unanswered call is signalled, fatally or not.
+    Interrupt { call: u64, fatal: bool },
     /// So many milliseconds pass.
     Tick(u64),
     /// The name of a directory, which is a node, is in force no longer.
     DropName { directory: u64, name: &'a [u8] },
     /// The kernel gives a node up, and its whole lookup count is to be forgotten.
     Evict(u64),
+    /// The connection is aborted: every unanswered call is answered ECONNABORTED, and the links are emptied.
+    Abort,
 }
 
 /// What an accepted event came to. Lengths are those of the frames, in bytes; error numbers are 0 or positive.
@@ -72,6 +84,11 @@ pub enum Outcome {
         unique: u64,
         errno: u32,
     },
+    /// What the signal did to the call's request.
+    Interrupted {
+        call: u64,
+        effect: IntrEffect,
+    },
     /// The time since the first world, in milliseconds.
     Now {
         clock: u64,
@@ -81,4 +98,5 @@ pub enum Outcome {
         node: u64,
         count: u64,
     },
+    Aborted,
 }

@@ -6,9 +6,9 @@ mod record;
 mod runs;
 mod world;
 
-pub use event::{Event, Outcome};
-pub use fk_kernel::{Answer, Call};
-pub use fuse_spec::{Attributes, Kind, Refusal, Taken};
+pub use event::{Event, Outcome, Pick};
+pub use fk_kernel::{Answer, Call, ListedName};
+pub use fuse_spec::{Attributes, IntrEffect, Kind, Refusal, Taken};
 pub use record::Record;
 pub use runs::run;
 pub use world::{World, WorldIn};

@@ -3,11 +3,12 @@
 use crate::event::Outcome;
 use fk_kernel::Answer;
 use fuse_spec::Refusal;
+use std::alloc::{Allocator, Global};
 
 /// One record of a run: what an event came to, why it was refused, or what it answered a call.
-#[derive(Clone, Copy, Debug, PartialEq, Eq)]
-pub enum Record {
+#[derive(Drop)]
+pub enum Record<A: Allocator = Global> {
     Outcome(Outcome),
     Refused(Refusal),
-    Answered { call: u64, answer: Answer },
+    Answered { call: u64, answer: Answer<A> },
 }
