@@ -148,19 +148,19 @@ module _ (w : World) (sound : IsReached w) (kernel : Kernel) (server : Server) (
   copied unique copy does k a b c within =
       let after = after_again w unique does.kept in
       made_by (event.again unique) (event.sent_again unique) after (is_made after kernel server requests replies results k does.after a (b ∙ ap (λ (x : Sent). w.replies ++ x ∷ []) does.copy_is) c)
-      (sends_again w unique does.kept does.there does.current (within after (sym k) (sym does.after))) (same_sent a)
+      (sends_again w unique does.kept does.there does.current (within after (sym k) (sym does.after)))
 
   pub wrote : (place : ℕ) (sent : Sent) (result : WriteResult) → slice_get w.replies place ≡ Some sent → reply_written w.kernel sent.unique sent.wire ≡ (result, kernel) → server ≡ w.server → requests ≡ w.requests → replies ≡ without w.replies place
       → results ≡ w.results ++ record { number = sent.number; unique = sent.unique; result = result } ∷ [] → Within → Made (event.write place) (event.written sent.unique result)
   wrote place sent result there is s a b c within =
       let after = after_write w place sent (result, kernel) in
-      made_by (event.write place) (event.written sent.unique result) after (is_made after kernel server requests replies results refl s a b c) (writes w place sent (result, kernel) there is (within after refl (sym s))) (same_sent a)
+      made_by (event.write place) (event.written sent.unique result) after (is_made after kernel server requests replies results refl s a b c) (writes w place sent (result, kernel) there is (within after refl (sym s)))
 
   pub settled : (place : ℕ) (result : ReplyResult) → slice_get w.results place ≡ Some result → Settles w.server result server → kernel ≡ w.kernel → requests ≡ w.requests → replies ≡ w.replies → results ≡ without w.results place
       → Made (event.settle place) (event.settled result.unique result.result)
   settled place result there settles_it k a b c =
       let after = after_settle w place result (Some settles_it.copy) in
-      made_by (event.settle place) (event.settled result.unique result.result) after (is_made after kernel server requests replies results k settles_it.after a b c) (settles w place result settles_it.copy there settles_it.there) (same_sent a)
+      made_by (event.settle place) (event.settled result.unique result.result) after (is_made after kernel server requests replies results k settles_it.after a b c) (settles w place result settles_it.copy there settles_it.there)
 
   pub ticked : (ms now : ℕ) → tick_refusal w.kernel ms ≡ None → now ≡ w.kernel.vfs.clock + ms → kernel ≡ record w.kernel { vfs = later w.kernel.vfs ms } → server ≡ w.server → requests ≡ w.requests → replies ≡ w.replies → results ≡ w.results → Made (event.tick ms) (event.now now)
   ticked ms now judged is k s a b c =
@@ -172,7 +172,7 @@ module _ (w : World) (sound : IsReached w) (kernel : Kernel) (server : Server) (
       → results ≡ w.results → Made (event.drop_name directory name) event.dropped
   dropped directory name judged k s a b c =
       let after = after_drop w directory name in
-      made_by (event.drop_name directory name) event.dropped after (is_made after kernel server requests replies results k s a b c) (drops w directory name judged) (same_sent a)
+      made_by (event.drop_name directory name) event.dropped after (is_made after kernel server requests replies results k s a b c) (drops w directory name judged)
 
   pub evicted_so : (node count : ℕ) (counted : Counted) → evict_refusal w.kernel node ≡ None → get w.kernel.nodes node ≡ Some counted → count ≡ counted.count → kernel ≡ evicted w.kernel node counted → server ≡ w.server → requests ≡ w.requests → replies ≡ w.replies → results ≡ w.results
       → Made (event.evict node) (event.evicted node count)

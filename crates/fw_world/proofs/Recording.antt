@@ -42,11 +42,11 @@ none_ran w events had = record { added = []; items = sym (append-nil had); recor
 
 -- What is added of one event.
 abbrev pub AddsOne : {A : Type 0} → World → EventValue → List (Record A) → World → List (Record A) → Type 0
-AddsOne old e had new has = (added : List (Record A)) × (has ≡ had ++ added) × Recorded old (event_of e ∷ []) (map record_of added) new
+AddsOne {A} old e had new has = (added : List (Record A)) × (has ≡ had ++ added) × Recorded old (event_of e ∷ []) (map record_of added) new
 
 pub one_more : {A : Type 0} → (old : World) (events : List EventValue) (had : List (Record A)) (w : World) (has : List (Record A)) (k : ℕ) (d : EventValue) (new : World) (more : List (Record A))
     → k < length events → RanSo old (take k events) had w has → AddsOne w (get_or events k d) has new more → RanSo old (take (k + 1) events) had new more
-one_more old events had w has k d new more within ran adds =
+one_more {A} old events had w has k d new more within ran adds =
     let whole : take (k + 1) events ≡ take k events ++ get_or events k d ∷ [] = take_more events k d within in
     let joined = then_recorded old w new (map event_of (take k events)) (event_of (get_or events k d) ∷ []) (map record_of ran.added) (map record_of adds.0) ran.recorded adds.2 in
     let events_are : map event_of (take k events) ++ event_of (get_or events k d) ∷ [] ≡ map event_of (take (k + 1) events) =
@@ -61,7 +61,7 @@ one_more old events had w has k d new more within ran adds =
 -- ---- what one event adds
 
 pub adds_refusal : {A : Type 0} → (w : World) (e : EventValue) (refusal : Refusal) → RefusedWith w (event_of e) refusal → (had made has : List (Record A)) (new : World) → new ≡ w → made ≡ had → has ≡ made ++ recorded.Refused refusal ∷ [] → AddsOne w e had new has
-adds_refusal w e refusal judged had made has new same kept has_is = (
+adds_refusal {A} w e refusal judged had made has new same kept has_is = (
   recorded.Refused refusal ∷ [],
   has_is ∙ ap (λ (xs : List (Record A)). xs ++ recorded.Refused refusal ∷ []) kept,
   subst (λ (v : World). Recorded w (event_of e ∷ []) (records.refused refusal ∷ []) v) (sym same) (one_refused w (event_of e) refusal [] [] w judged (none_left w)),
@@ -69,7 +69,7 @@ adds_refusal w e refusal judged had made has new same kept has_is = (
 
 pub adds_outcome : {A : Type 0} → (w : World) (e : EventValue) (o : OutcomeValue) (mid : World) → Happens w (event_of e) (outcome_of o) mid → (had made begun has answers : List (Record A)) (new : World) → new ≡ collected mid → made ≡ had
     → begun ≡ made ++ recorded.Outcome o ∷ [] → has ≡ begun ++ answers → map record_of answers ≡ answers_of mid.kernel.vfs.answers → AddsOne w e had new has
-adds_outcome w e o mid happens had made begun has answers new after kept begun_is has_is answers_are =
+adds_outcome {A} w e o mid happens had made begun has answers new after kept begun_is has_is answers_are =
     let one : Recorded w (event_of e ∷ []) (records.outcome (outcome_of o) ∷ answers_of mid.kernel.vfs.answers ++ []) (collected mid) = one_accepted w (event_of e) (outcome_of o) mid [] [] (collected mid) happens (none_left (collected mid)) in
     let same : records.outcome (outcome_of o) ∷ answers_of mid.kernel.vfs.answers ++ [] ≡ records.outcome (outcome_of o) ∷ map record_of answers =
     append-nil (records.outcome (outcome_of o) ∷ answers_of mid.kernel.vfs.answers) ∙ ap (λ (xs : List records.Record). records.outcome (outcome_of o) ∷ xs) (sym answers_are) in (
