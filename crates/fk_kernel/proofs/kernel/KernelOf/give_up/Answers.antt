@@ -1,5 +1,5 @@
 use Rattle.fk_kernel.proofs.Aborted.{sound_aborted}
-use Rattle.fk_kernel.proofs.kernel.KernelOf.abort.Goals as goal
+use Rattle.fk_kernel.proofs.kernel.KernelOf.give_up.Goals as goal
 
 pub answer_all-requires-clause-room : goal.answer_all-requires-clause-room
 answer_all-requires-clause-room g c = rw c.rows.ensures c.self.invariant.numbers.room
