@@ -175,3 +175,4 @@ pub mod DrawnNumbers
 pub mod SetMarks
 pub mod EmptyQueues
 pub mod WithAnswers
+pub mod NoPremise

@@ -26,3 +26,4 @@ pub mod AllSound
 pub mod OnTheWay
 pub mod Reached
 pub mod Recorded
+pub mod Counterexamples
