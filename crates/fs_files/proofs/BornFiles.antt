@@ -1,23 +1,25 @@
 -- Operations that nothing refuses, one by one.
 use Rattle.std.proofs.Common.{◌≡◌, ℕ, ◌≤◌, ◌<◌, ◌^◌, Bool, true, false, true≢false, cond, nat_eq, List, [], length, take, drop, Option, Some, None, refl, sym, ap, subst, ◌∙◌, arith}
-use Rattle.std.specs.Prelude.{nat_lt, find, option_map, is_some, min, Vec}
+use Rattle.std.specs.Prelude.{IsTrue, nat_lt, find, option_map, is_some, min, Vec}
 use Rattle.std.proofs.lemmas.List.{length-take}
 use Rattle.std.proofs.lemmas.Bool.{ltb-true, ltb-false}
 use Rattle.std.proofs.lemmas.Option.{none-some, same_Some}
 use Rattle.std.proofs.lemmas.List.Elements.{All-contains}
 use Rattle.fuse_spec.specs.Maps.{get}
 use Rattle.fuse_spec.specs.Nodes.{NodeTable, HeldNode, file_of, file_in, root_row}
-use Rattle.fuse_spec.specs.Numbers.{max_transfer}
-use Rattle.fuse_spec.specs.Operations.{Reply, content, lookup, read}
+use Rattle.fuse_spec.specs.Numbers.{eisdir, max_transfer}
+use Rattle.fuse_spec.specs.Operations.{Reply, content, create, created, found, lookup, mkdir, opening, read}
 use Rattle.fuse_spec.specs.declared.Validity.{Validity}
-use Rattle.fuse_spec.specs.Trees.{Tree, Named, bytes_of, file_at, is_at}
+use Rattle.fuse_spec.specs.Trees.{Tree, Named, a_directory, a_file, bytes_of, file_at, is_at, is_directory, with_birth}
 use Rattle.fuse_spec.specs.TreeShape.{IsShaped, Stands}
-use Rattle.fuse_spec.specs.FileOperations.{looked_up, reply_unrefused}
+use Rattle.fuse_spec.specs.FileOperations.{looked_up, refusal, reply_unrefused}
 use Rattle.fs_tree.proofs.Counting.{found_there}
-use Rattle.fs_files.specs.declared.replies.Outcome.TheVariants.{Found, Plain}
+use Rattle.fs_files.specs.declared.replies.Outcome.TheVariants.{Found, Created, Opened, Plain}
 use Rattle.fs_files.specs.declared.replies.PlainReply.TheVariants.{Content}
-use Rattle.fs_files.specs.Bounds.{AreLow}
+use Rattle.fs_files.specs.Bounds.{AreLow, IsThere}
 use Rattle.fs_files.specs.Performing.{Operates}
+use Rattle.fs_files.proofs.StaysKnown.{put_regular, put_there, regular_file}
+use Rattle.fs_tree.specs.Outcomes.{is_regular}
 
 found_file : (tree : Tree) → IsShaped tree → (o : Option Named) → ((n : Named) → o ≡ Some n → Stands tree n) → (file : ℕ) → option_map (λ n. n.file) o ≡ Some file → file < tree.next_birth
 found_file tree shaped None stands file is = absurd (none-some file is)
@@ -32,12 +34,21 @@ pub is_born : (tree : Tree) → IsShaped tree → (d : ℕ) (name : List ℕ) (f
 is_born tree shaped d name file at =
     found_file tree shaped (find (is_at d name) tree.names) (λ n there. All-contains (Stands tree) tree.names n shaped.names (found_there (is_at d name) tree.names n there)) file at
 
+-- and is there
+found_there_so : (tree : Tree) → (o : Option Named) → ((n : Named) → o ≡ Some n → Stands tree n) → (file : ℕ) → option_map (λ n. n.file) o ≡ Some file → IsThere tree file
+found_there_so tree None stands file is = absurd (none-some file is)
+found_there_so tree (Some n) stands file is = subst (λ (x : ℕ). IsThere tree x) (same_Some n.file file is) (stands n refl).file
+
+is_there : (tree : Tree) → IsShaped tree → (d : ℕ) (name : List ℕ) (file : ℕ) → file_at tree d name ≡ Some file → IsThere tree file
+is_there tree shaped d name file at =
+    found_there_so tree (find (is_at d name) tree.names) (λ n there. All-contains (Stands tree) tree.names n shaped.names (found_there (is_at d name) tree.names n there)) file at
+
 pub looks_up : {A : Type 0} (valid : Validity) (tree : Tree) → IsShaped tree → tree.next_birth ≤ 2 ^ 62 → (d : ℕ) (name : List ℕ) (file : ℕ) → file_at tree d name ≡ Some file
     → Operates {A = A} valid tree (lookup d name) (Found file) tree
 looks_up valid tree shaped births d name file at = record {
   says = sym (ap (looked_up valid) at);
   tree_is = refl;
-  tellable = let low = is_born tree shaped d name file at in omega (arith, low, births);
+  tellable = (let low = is_born tree shaped d name file at in omega (arith, low, births), is_there tree shaped d name file at);
   short = omega arith;
 }
 
@@ -70,3 +81,41 @@ reads_bytes valid tree file offset size bytes read_now same is = record {
         let most = length-take (min size max_transfer) (drop offset (bytes_of (get tree.files file))) in
         let len = ap length all in
         omega (arith, most, len)
+
+-- ---- files that are born, and files that are opened
+
+module _ (valid : Validity) (tree : Tree) (d : ℕ) (name : List ℕ) (file : ℕ) (new : Tree) (low : tree.next_birth < 2 ^ 62) (born : file ≡ tree.next_birth) where
+  file_is_low : file < 2 ^ 62
+  file_is_low = omega (arith, low, born)
+
+  pub makes_directory : {A : Type 0} → new ≡ with_birth tree d name a_directory → Operates {A = A} valid tree (mkdir d name) (Found file) new
+  makes_directory is = record {
+    says = ap (λ (f : ℕ). found f valid.found_ms) born;
+    tree_is = is;
+    tellable = (file_is_low, subst (λ (t : Tree). IsThere t file) (sym is) (subst (λ (f : ℕ). IsThere (with_birth tree d name a_directory) f) (sym born) (put_there tree tree.next_birth a_directory)));
+    short = omega arith;
+  }
+
+  pub makes_file : {A : Type 0} → new ≡ with_birth tree d name (a_file []) → Operates {A = A} valid tree (create d name) (Created file) new
+  makes_file is =
+      let there = subst (λ (t : Tree). IsThere t file) (sym is) (subst (λ (f : ℕ). IsThere (with_birth tree d name (a_file [])) f) (sym born) (put_there tree tree.next_birth (a_file []))) in
+      let regular = subst (λ (t : Tree). IsTrue (is_regular t file)) (sym is) (subst (λ (f : ℕ). IsTrue (is_regular (with_birth tree d name (a_file [])) f)) (sym born) (put_regular tree tree.next_birth [])) in
+      record {
+        says = ap (λ (f : ℕ). created f valid.found_ms f) born;
+        tree_is = is;
+        tellable = (file_is_low, there, regular);
+        short = omega arith;
+      }
+
+-- what may be opened is no directory
+unrefused : (b : Bool) → ◌≡◌ {A = Option ℕ} (cond b (Some eisdir) None) None → b ≡ false
+unrefused true e = absurd (none-some eisdir (sym e))
+unrefused false e = refl
+
+pub opens : {A : Type 0} (valid : Validity) (tree : Tree) (file : ℕ) → IsThere tree file → refusal tree (opening file) ≡ None → Operates {A = A} valid tree (opening file) (Opened file) tree
+opens valid tree file there none = record {
+  says = refl;
+  tree_is = refl;
+  tellable = regular_file tree file there (unrefused (is_directory tree file) none);
+  short = omega arith;
+}

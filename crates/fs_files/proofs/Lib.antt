@@ -6,3 +6,4 @@ pub mod BornFiles
 pub mod Told
 pub mod Counted
 pub mod Drawn
+pub mod StaysKnown

@@ -1,6 +1,16 @@
 -- Records that were put into bytes are those that the bytes have.
-use Rattle.std.proofs.Common.{◌≡◌, ℕ, false, Option, Some, None, List, [], ◌∷◌, length, map, refl, rules, sym, ap, subst, ◌∙◌, ◌≤◌, arith}
-use Rattle.std.specs.Prelude.{IsSome, MatchOption}
+use Rattle.std.proofs.Common.{◌≡◌, ℕ, ◌+◌, ◌-◌, ◌*◌, ◌/◌, Bool, true, false, cond, Option, Some, None, List, [], ◌∷◌, length, map, refl, rules, sym, ap, subst, ◌∙◌, ◌≤◌, ◌<◌, ◌^◌, true≢false, nat_eq, arith}
+use Rattle.std.specs.Prelude.{All, IsSome, MatchOption, filter, is_some, nat_le, nat_lt, sum_by}
+use Rattle.std.proofs.lemmas.Bool.{leb-true, ltb-true, ltb-false}
+use Rattle.std.proofs.lemmas.List.Elements.{All-cons, All-filter, All-head, All-map, All-nil, All-tail}
+use Rattle.fuse_spec.specs.Maps.{get}
+use Rattle.fuse_spec.specs.TreeShape.{IsShaped}
+use Rattle.std.proofs.lemmas.List.Sums.{sum_by-cons}
+use Rattle.fk_wire.specs.RecordEnds.{padding}
+use Rattle.fuse_spec.specs.Operations.{Reply, listed}
+use Rattle.fuse_spec.specs.Operations.{Dirent as SpecDirent}
+use Rattle.fuse_spec.specs.Trees.{Named, Tree, fitting, names_in, record_length, records_after}
+use Rattle.fuse_spec.specs.Trees.{record_of as spec_record_of}
 use Rattle.fk_wire.specs.Dirents.{DirentContent, dirents, dirents_from, HaveRecordNames}
 use Rattle.fk_wire.specs.Fields.{InRange, ReadsAs, sizes, spellings}
 use Rattle.fk_wire.specs.Records.{records_in, AreRecords}
@@ -63,3 +73,78 @@ is_over bytes (Some p) h over = search rules
 
 pub over_are : (bytes : List ℕ) (r : Option Records) (p : Records) → IsOver bytes r → r ≡ Some p → (records_in p ≡ dirents_in bytes) × (sizes (dirents (records_in p)) ≡ length bytes)
 over_are bytes r p over is = let reads = (rw is at over).1 in (sym (dirents_are (records_in p) bytes reads), size_is (records_in p) bytes reads)
+
+-- ---- how long records are
+
+pad_is : (n : ℕ) → 24 + n + padding n ≡ (31 + n) / 8 * 8
+pad_is n = omega arith
+
+-- as long as their names say
+records_end : (ds : List DirentContent) (place : ℕ) (bytes : List ℕ) → ReadsAs place (dirents ds) bytes → length bytes ≡ place + sum_by record_length (map dirent_in ds)
+records_end [] place bytes reads = omega (arith, reads)
+records_end (d ∷ ds) place bytes reads =
+    let rest = records_end ds (place + 8 + 8 + 4 + 4 + length d.name + padding (length d.name)) bytes reads.1.1.1.1.1 in
+    let pad = pad_is (length d.name) in
+    let sum : sum_by record_length (map dirent_in (d ∷ ds)) ≡ (31 + length d.name) / 8 * 8 + sum_by record_length (map dirent_in ds) = sum_by-cons record_length (dirent_in d) (map dirent_in ds) in
+    omega (arith, rest, pad, sum)
+
+-- records that fit some room are no longer than it
+fitting_fits : (room : ℕ) (rs : List SpecDirent) → sum_by record_length (fitting room rs) ≤ room
+fitting_fits room [] = omega arith
+fitting_fits room (r ∷ rs) = by (nat_le (record_length r) room) refl (fitting_fits (room - record_length r) rs)
+  where
+    by : (b : Bool) → nat_le (record_length r) room ≡ b → sum_by record_length (fitting (room - record_length r) rs) ≤ room - record_length r → sum_by record_length (cond b (r ∷ fitting (room - record_length r) rs) []) ≤ room
+    by false e rest = omega arith
+    by true e rest =
+        let sum : sum_by record_length (r ∷ fitting (room - record_length r) rs) ≡ record_length r + sum_by record_length (fitting (room - record_length r) rs) = sum_by-cons record_length r (fitting (room - record_length r) rs) in
+        let le = leb-true (record_length r) room e in
+        omega (arith, rest, sum, le)
+
+-- the bytes of a listing that fits some room
+pub few_bytes : (rs : List Record) (bytes : List ℕ) (room : ℕ) (all : List SpecDirent) → InRange (dirents (map record_of rs)) → bytes ≡ spellings (dirents (map record_of rs)) → fitting room all ≡ map dirent_of rs → length bytes ≤ room
+few_bytes rs bytes room all fits is some =
+    let end = records_end (map record_of rs) 0 bytes (records_read (map record_of rs) bytes fits is) in
+    let same : sum_by record_length (map dirent_in (map record_of rs)) ≡ sum_by record_length (fitting room all) = ap (λ (ds : List SpecDirent). sum_by record_length ds) (records_back rs ∙ sym some) in
+    let most = fitting_fits room all in
+    omega (arith, end, same, most)
+
+abbrev records_said : Reply ℕ ℕ → List SpecDirent
+records_said (listed records) = records
+records_said reply = []
+
+pub listed_same : (ds es : List SpecDirent) → ◌≡◌ {A = Reply ℕ ℕ} (listed ds) (listed es) → ds ≡ es
+listed_same ds es e = ap records_said e
+
+-- ---- which files are listed
+
+low_born : (tree : Tree) → IsShaped tree → tree.next_birth ≤ 2 ^ 62 → (file : ℕ) → IsSome (get tree.files file) → file < 2 ^ 62
+low_born tree shaped births file there = by (nat_lt file tree.next_birth) refl
+  where
+    by : (b : Bool) → nat_lt file tree.next_birth ≡ b → file < 2 ^ 62
+    by true e = let lt = ltb-true file tree.next_birth e in omega (arith, lt, births)
+    by false e = let le = ltb-false file tree.next_birth e in absurd (true≢false (sym there ∙ ap is_some (shaped.unborn file le)))
+
+-- a record of a file that was born
+abbrev IsLow : SpecDirent → Type 0
+IsLow d = d.ino ≤ 2 ^ 62
+
+low_fitting : (room : ℕ) (ds : List SpecDirent) → All IsLow ds → All IsLow (fitting room ds)
+low_fitting room [] low = low
+low_fitting room (d ∷ ds) low = by (nat_le (record_length d) room) (low_fitting (room - record_length d) ds (All-tail IsLow d ds low))
+  where
+    by : (b : Bool) → All IsLow (fitting (room - record_length d) ds) → All IsLow (cond b (d ∷ fitting (room - record_length d) ds) [])
+    by true rest = All-cons IsLow d (fitting (room - record_length d) ds) (All-head IsLow d ds low) rest
+    by false rest = All-nil IsLow
+
+low_files : (rs : List Record) → All IsLow (map dirent_of rs) → All (λ (r : Record). r.file < 2 ^ 62) rs
+low_files [] low = All-nil (λ (r : Record). r.file < 2 ^ 62)
+low_files (r ∷ rs) low =
+    let first : r.file + 1 ≤ 2 ^ 62 = All-head IsLow (dirent_of r) (map dirent_of rs) low in
+    All-cons (λ (q : Record). q.file < 2 ^ 62) r rs (omega (arith, first)) (low_files rs (All-tail IsLow (dirent_of r) (map dirent_of rs) low))
+
+-- the files of the names in a directory are below the end of births
+pub low_records : (tree : Tree) → IsShaped tree → tree.next_birth ≤ 2 ^ 62 → (directory after room : ℕ) (rs : List Record) → fitting room (records_after tree directory after) ≡ map dirent_of rs → All (λ (r : Record). r.file < 2 ^ 62) rs
+low_records tree shaped births directory after room rs some =
+    let named : All (λ (n : Named). IsLow (spec_record_of tree n)) tree.names = λ i d lt. let low = low_born tree shaped births _ (shaped.names i d lt).file in omega (arith, low) in
+    let here = All-filter (λ n. nat_lt after n.serial) (λ n. IsLow (spec_record_of tree n)) (names_in tree directory) (All-filter (λ n. nat_eq n.directory directory) (λ n. IsLow (spec_record_of tree n)) tree.names named) in
+    low_files rs (subst (λ (ds : List SpecDirent). All IsLow ds) some (low_fitting room (records_after tree directory after) (All-map IsLow (spec_record_of tree) (filter (λ n. nat_lt after n.serial) (names_in tree directory)) here)))

@@ -1,6 +1,6 @@
 pub mod Values
-pub mod Replies
 pub mod Bounds
+pub mod Replies
 pub mod Listing
 pub mod Performing
 pub mod Plans

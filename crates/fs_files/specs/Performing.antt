@@ -62,12 +62,12 @@ telling choice s reply =
 pub record Operates {A : Type 0} (valid : Validity) (tree : Tree) (operation : FileOperation) (outcome : Outcome A) (new : Tree) : Type 0 where
   pub says : outcome_reply valid.found_ms outcome ≡ reply_unrefused valid tree operation
   pub tree_is : new ≡ tree_unrefused tree operation
-  pub tellable : IsTellable outcome
+  pub tellable : IsTellable new outcome
   pub short : outcome_len outcome ≤ room_of operation
 
 -- A request comes to this on the tree, if its nodes are still held.
 pub record ComesTo {A : Type 0} (s : Server) (body : RequestBody) (outcome : Outcome A) (new : Tree) : Type 0 where
   pub says : outcome_reply s.validity.found_ms outcome ≡ said_by s body
   pub tree_is : new ≡ tree_by s body
-  pub tellable : IsTellable outcome
+  pub tellable : IsTellable new outcome
   pub short : outcome_len outcome ≤ room_for body

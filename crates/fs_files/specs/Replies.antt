@@ -1,10 +1,13 @@
 -- What replies say.
-use Rattle.std.specs.Prelude.{◌≢◌, ◌≤◌, ◌<◌, ◌^◌, ℕ, List, Option, Some, None, length, map, false}
+use Rattle.std.specs.Prelude.{◌≢◌, ◌≤◌, ◌<◌, ◌^◌, ℕ, List, Option, Some, None, IsTrue, length, map, false}
 use Rattle.fuse_spec.specs.Numbers.{max_transfer, max_validity}
 use Rattle.fuse_spec.specs.Operations as operation
 use Rattle.fuse_spec.specs.Operations.{Reply}
 use Rattle.fuse_spec.specs.declared.Entry.{Entry}
 use Rattle.fuse_spec.specs.Messages.{WireReply}
+use Rattle.fuse_spec.specs.Trees.{Tree}
+use Rattle.fs_tree.specs.Outcomes.{is_regular}
+use Rattle.fs_files.specs.Bounds.{IsThere}
 use Rattle.fk_wire.specs.Decoded.{count_from}
 use Rattle.fk_wire.specs.Dirents.{DirentContent, dirents_from}
 use Rattle.fk_wire.specs.Records.{AreRecords}
@@ -102,9 +105,9 @@ module _ {A : Type 0} where
   IsSendable (sent.Opened fh) = Unit {0}
   IsSendable (sent.Plain reply) = IsPlainSendable reply
 
-  -- An outcome whose file is below the end of births, or whose reply can be written.
-  abbrev pub IsTellable : Outcome A → Type 0
-  IsTellable (outcome.Found file) = file < 2 ^ 62
-  IsTellable (outcome.Created file) = file < 2 ^ 62
-  IsTellable (outcome.Opened file) = Unit {0}
-  IsTellable (outcome.Plain reply) = IsPlainSendable reply
+  -- An outcome whose file is in this tree, below the end of births, and regular if it is opened; or whose reply can be written.
+  abbrev pub IsTellable : Tree → Outcome A → Type 0
+  IsTellable tree (outcome.Found file) = (file < 2 ^ 62) × IsThere tree file
+  IsTellable tree (outcome.Created file) = (file < 2 ^ 62) × IsThere tree file × IsTrue (is_regular tree file)
+  IsTellable tree (outcome.Opened file) = IsTrue (is_regular tree file)
+  IsTellable tree (outcome.Plain reply) = IsPlainSendable reply

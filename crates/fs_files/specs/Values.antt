@@ -73,6 +73,27 @@ module _ {A : Type 0} where
   operation_of (held.Read opened offset size) = operation.read opened offset size
   operation_of (held.Write opened offset bytes) = operation.write opened offset bytes.items
 
+  -- the node that an operation is on: of a name its directory, of a LINK the file that gets one more name
+  abbrev pub node_in : HeldOperation A → ℕ
+  node_in (held.Lookup directory name) = directory
+  node_in (held.Getattr node) = node
+  node_in (held.Mkdir directory name) = directory
+  node_in (held.Create directory name) = directory
+  node_in (held.Unlink directory name) = directory
+  node_in (held.Rmdir directory name) = directory
+  node_in (held.Rename directory old new_directory new) = directory
+  node_in (held.Link node directory name) = node
+  node_in (held.Open node) = node
+  node_in (held.Readdir directory after size) = directory
+  node_in (held.Read opened offset size) = opened.nodeid
+  node_in (held.Write opened offset bytes) = opened.nodeid
+
+  -- the directory of its new name, for a RENAME or a LINK; else the node that it is on
+  abbrev pub other_in : HeldOperation A → ℕ
+  other_in (held.Rename directory old new_directory new) = new_directory
+  other_in (held.Link node directory name) = directory
+  other_in o = node_in o
+
   -- what a held request asks
   abbrev pub asked_of : HeldBody A → RequestBody
   asked_of (Init flags) = init

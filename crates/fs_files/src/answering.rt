@@ -41,7 +41,7 @@ impl<A: Allocator + Copy> Files<A> {
         requires day { validity.missing_ms ≤ max_validity }
         ensures err { OnErr result (self.new ≡ self.old) }
         ensures says { IfOk result (λ outcome. outcome_reply validity.found_ms outcome ≡ said (server_of self.old validity) held.now) }
-        ensures tellable { IfOk result IsTellable }
+        ensures tellable { IfOk result (λ outcome. IsTellable self.new.tree outcome) }
         ensures short { IfOk result (λ outcome. outcome_len outcome ≤ room_for held.now.body) }
         ensures tree { OnOk result (self.new.tree ≡ tree_said (server_of self.old validity) held.now) }
         ensures handles { OnOk result (self.new.handles ≡ handles_said (server_of self.old validity) held.now) }
@@ -86,6 +86,7 @@ impl<A: Allocator + Copy> Files<A> {
         if let Some(error) = refusal_of(&self.tree, &self.known.nodes, operation) {
             return Ok(failure(error.errno() as u32));
         }
+        self.tree.keeps_shape();
         let alloc = self.alloc;
         operate(
             &mut self.tree,
@@ -121,7 +122,7 @@ impl<A: Allocator + Copy> Files<A> {
     /// A RELEASE.
     fn release(&mut self, opened: Opened) -> Outcome<A>
         ensures says { (v : ValidityValue) → outcome_reply v.found_ms result ≡ said_by (server_of self.old v) (release opened) }
-        ensures tellable { IsTellable result }
+        ensures tellable { IsTellable self.new.tree result }
         ensures short { outcome_len result ≤ 0 }
         ensures handles { (v : ValidityValue) → self.new.handles ≡ handles_by (server_of self.old v) (release opened) }
         ensures tree { self.new.tree ≡ self.old.tree }

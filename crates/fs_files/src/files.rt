@@ -30,7 +30,7 @@ pub struct Files<A: Allocator + Copy = Global> {
 
 impl<A: Allocator + Copy> Model for Files<A> {
     ghost use Rattle.std.specs.Coded.{codes};
-    ghost use Rattle.fs_files.specs.Bounds.{AreLow};
+    ghost use Rattle.fs_files.specs.Bounds.{AreKnown};
     ghost use Rattle.fs_files.specs.Values.{FilesState};
 
     ghost Value = { FilesState };
@@ -39,7 +39,7 @@ impl<A: Allocator + Copy> Model for Files<A> {
 
     ghost view = { λ f. record { tree = f.tree; nodes = f.known.nodes; handles = f.known.handles; node_room = f.known.node_room; open_room = f.known.open_room } };
 
-    ghost invariant = { λ f. AreLow f.known.nodes };
+    ghost invariant = { λ f. AreKnown f.tree f.known.nodes f.known.handles };
 }
 
 impl<A: Allocator + Copy> Files<A> {

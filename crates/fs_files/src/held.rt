@@ -83,6 +83,41 @@ pub enum HeldOperation<A: Allocator> {
     },
 }
 
+impl<A: Allocator> HeldOperation<A> {
+    ghost use Rattle.std.specs.Prelude.{◌≡◌};
+    ghost use Rattle.fs_files.specs.Values.{node_in, other_in};
+
+    /// The node that it is on: of a name its directory, of a LINK the file that gets one more name.
+    pub(crate) fn node(&self) -> u64
+        ensures { result ≡ node_in self.now }
+    {
+        match self {
+            HeldOperation::Lookup { directory, .. } | HeldOperation::Mkdir { directory, .. } =>
+                *directory,
+            HeldOperation::Create { directory, .. } | HeldOperation::Unlink { directory, .. } =>
+                *directory,
+            HeldOperation::Rmdir { directory, .. } | HeldOperation::Rename { directory, .. } =>
+                *directory,
+            HeldOperation::Readdir { directory, .. } => *directory,
+            HeldOperation::Getattr { node } | HeldOperation::Open { node } => *node,
+            HeldOperation::Link { node, .. } => *node,
+            HeldOperation::Read { opened, .. } | HeldOperation::Write { opened, .. } =>
+                opened.nodeid,
+        }
+    }
+
+    /// The directory of its new name, for a RENAME or a LINK; else the node that it is on.
+    pub(crate) fn other_node(&self) -> u64
+        ensures { result ≡ other_in self.now }
+    {
+        match self {
+            HeldOperation::Rename { new_directory, .. } => *new_directory,
+            HeldOperation::Link { directory, .. } => *directory,
+            _ => self.node(),
+        }
+    }
+}
+
 /// What a held request asks.
 #[derive(Drop)]
 pub enum HeldBody<A: Allocator> {

@@ -5,12 +5,13 @@ ghost use Rattle.fuse_spec.specs.declared.Validity.{Validity as ValidityValue};
 ghost use Rattle.fuse_spec.specs.FileOperations.{refusal, tree_unrefused};
 ghost use Rattle.fuse_spec.specs.Numbers.{max_transfer, max_validity};
 ghost use Rattle.fuse_spec.specs.Operations.{create, getattr, link, listed, lookup, mkdir, opening, read, readdir, rename, rmdir, unlink, write};
+ghost use Rattle.fuse_spec.specs.TreeShape.{WritesRegular};
 ghost use Rattle.fs_tree.specs.Outcomes.{IsReply};
-ghost use Rattle.fs_files.specs.Bounds.{AreLow};
+ghost use Rattle.fs_files.specs.Bounds.{AreLow, AreThere, IsThere};
 ghost use Rattle.fs_files.specs.Performing.{Operates};
 ghost use Rattle.fs_files.specs.Values.{on_files};
 
-use crate::held::{HeldOperation, MOST_CONTENT};
+use crate::held::HeldOperation;
 use crate::nodes::Nodes;
 use crate::records::record_bytes;
 use crate::replies::{Outcome, PlainReply};
@@ -31,62 +32,28 @@ pub(crate) fn operate<A: Allocator + Copy, S: NodeStore>(
     requires births { (tree_unrefused tree.old (on_files nodes.now.table operation.now)).next_birth ≤ 2 ^ 62 }
     requires serials { (tree_unrefused tree.old (on_files nodes.now.table operation.now)).next_serial ≤ 2 ^ 62 }
     requires low { AreLow nodes.now.table }
+    requires there { AreThere tree.old nodes.now.table }
+    requires regular { WritesRegular tree.old (on_files nodes.now.table operation.now) }
     requires day { validity.missing_ms ≤ max_validity }
     ensures ok { IfOk result (λ outcome. Operates validity tree.old (on_files nodes.now.table operation.now) outcome tree.new) }
     ensures err { OnErr result (tree.new ≡ tree.old) }
 {
+    tree.keeps_shape();
+    let file = nodes.file_of(operation.node());
+    let other = nodes.file_of(operation.other_node());
     match operation {
-        HeldOperation::Lookup { directory, name } => {
-            look_up(tree, nodes.file_of(*directory), name, validity)
-        }
-        HeldOperation::Getattr { node } => Ok(attributes(tree, nodes.file_of(*node))),
-        HeldOperation::Mkdir { directory, name } => {
-            make_directory(tree, nodes.file_of(*directory), name)
-        }
-        HeldOperation::Create { directory, name } => {
-            make_file(tree, nodes.file_of(*directory), name)
-        }
-        HeldOperation::Unlink { directory, name } => {
-            remove_file(tree, nodes.file_of(*directory), name)
-        }
-        HeldOperation::Rmdir { directory, name } => {
-            remove_directory(tree, nodes.file_of(*directory), name)
-        }
-        HeldOperation::Rename {
-            directory,
-            old,
-            new_directory,
-            new,
-        } => {
-            let from = nodes.file_of(*directory);
-            move_file(tree, from, old, nodes.file_of(*new_directory), new)
-        }
-        HeldOperation::Link {
-            node,
-            directory,
-            name,
-        } => {
-            let file = nodes.file_of(*node);
-            link_file(tree, file, nodes.file_of(*directory), name)
-        }
-        HeldOperation::Open { node } => Ok(Outcome::Opened {
-            file: nodes.file_of(*node),
-        }),
-        HeldOperation::Readdir {
-            directory,
-            after,
-            size,
-        } => list_names(tree, nodes.file_of(*directory), *after, *size, alloc),
-        HeldOperation::Read {
-            opened,
-            offset,
-            size,
-        } => read_bytes(tree, nodes.file_of(opened.nodeid), *offset, *size, alloc),
-        HeldOperation::Write {
-            opened,
-            offset,
-            bytes,
-        } => write_bytes(tree, nodes.file_of(opened.nodeid), *offset, bytes),
+        HeldOperation::Lookup { name, .. } => look_up(tree, file, name, validity),
+        HeldOperation::Getattr { .. } => Ok(attributes(tree, file)),
+        HeldOperation::Mkdir { name, .. } => make_directory(tree, file, name),
+        HeldOperation::Create { name, .. } => make_file(tree, file, name),
+        HeldOperation::Unlink { name, .. } => remove_file(tree, file, name),
+        HeldOperation::Rmdir { name, .. } => remove_directory(tree, file, name),
+        HeldOperation::Rename { old, new, .. } => move_file(tree, file, old, other, new),
+        HeldOperation::Link { name, .. } => link_file(tree, file, other, name),
+        HeldOperation::Open { .. } => Ok(Outcome::Opened { file }),
+        HeldOperation::Readdir { after, size, .. } => list_names(tree, file, *after, *size, alloc),
+        HeldOperation::Read { offset, size, .. } => read_bytes(tree, file, *offset, *size, alloc),
+        HeldOperation::Write { offset, bytes, .. } => write_bytes(tree, file, *offset, bytes),
     }
 }
 
@@ -219,6 +186,7 @@ fn link_file<A: Allocator + Copy>(
 ) -> Result<Outcome<A>, AllocError>
     requires serials { tree.old.next_serial < 2 ^ 62 }
     requires low { file < 2 ^ 62 }
+    requires there { IsThere tree.old file }
     ensures ok { IfOk result (λ outcome. (v : ValidityValue) → Operates v tree.old (link file directory name.now) outcome tree.new) }
     ensures err { OnErr result (tree.new ≡ tree.old) }
 {
@@ -238,13 +206,12 @@ fn list_names<A: Allocator + Copy>(
 ) -> Result<Outcome<A>, AllocError>
     ensures { IfOk result (λ outcome. (v : ValidityValue) → Operates v tree.now (readdir directory after size) outcome tree.now) }
 {
+    tree.keeps_shape();
+    let _births = tree.births_left();
     let Ok(records) = tree.readdir(directory, after, size) else {
         return Err(AllocError);
     };
     let records = record_bytes(alloc, &records)?;
-    if records.len() > MOST_CONTENT {
-        return Err(AllocError);
-    }
     Ok(Outcome::Plain {
         reply: PlainReply::Listed { records },
     })
@@ -266,19 +233,17 @@ fn read_bytes<A: Allocator + Copy>(
     })
 }
 
-/// A WRITE. Only regular files have open numbers.
+/// A WRITE.
 fn write_bytes<A: Allocator + Copy>(
     tree: &mut Tree<A>,
     file: u64,
     offset: u64,
     bytes: &[u8],
 ) -> Result<Outcome<A>, AllocError>
+    requires regular { WritesRegular tree.old (write file offset bytes.now) }
     ensures ok { IfOk result (λ outcome. (v : ValidityValue) → Operates v tree.old (write file offset bytes.now) outcome tree.new) }
     ensures err { OnErr result (tree.new ≡ tree.old) }
 {
-    if !tree.is_regular(file) {
-        return Err(AllocError);
-    }
     match tree.write(file, offset, bytes) {
         Ok(()) => Ok(Outcome::Plain {
             reply: PlainReply::Written {

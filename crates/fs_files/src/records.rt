@@ -1,9 +1,10 @@
 //! The records of a READDIR.
 
-ghost use Rattle.std.specs.Prelude.{◌≡◌, IfOk, OnOk, map};
+ghost use Rattle.std.specs.Prelude.{◌≡◌, ◌<◌, ◌^◌, All, IfOk, OnOk, map};
 ghost use Rattle.fk_wire.specs.Dirents.{dirents, HaveRecordNames};
 ghost use Rattle.fk_wire.specs.Fields.{InRange, spellings};
 ghost use Rattle.fk_wire.specs.Records.{dirent_content};
+ghost use Rattle.fs_tree.specs.declared.listing.Record.{Record as RecordValue};
 ghost use Rattle.fs_files.specs.Listing.{record_of, type_of};
 
 use fk_wire::{Dirent, put_record};
@@ -15,18 +16,15 @@ pub(crate) fn record_bytes<A: Allocator>(
     alloc: A,
     records: &[Record<'_>],
 ) -> Result<Vec<u8, A>, AllocError>
+    requires { All (λ (r : RecordValue). r.file < 2 ^ 62) records.now }
     ensures items { IfOk result (λ bytes. bytes.items ≡ spellings (dirents (map record_of records.now))) }
     ensures fits { OnOk result (InRange (dirents (map record_of records.now))) }
     ensures named { OnOk result (HaveRecordNames (map record_of records.now)) }
 {
     let mut bytes = Vec::new(alloc);
     for record in records {
-        // No birth is near the end of its type.
-        let Some(ino) = record.file.checked_add(1) else {
-            return Err(AllocError);
-        };
         let dirent = Dirent {
-            ino,
+            ino: record.file + 1,
             off: record.serial,
             kind: type_of(record.kind),
             name: record.name,

@@ -1,10 +1,11 @@
 //! Files are told by nodes and open numbers.
 
-ghost use Rattle.std.specs.Prelude.{◌≡◌, ◌≢◌, ◌<◌, ◌≤◌, ◌+◌, ◌^◌, ◌∷◌, [], ℕ, length};
+ghost use Rattle.std.specs.Prelude.{◌≡◌, ◌≢◌, ◌<◌, ◌≤◌, ◌+◌, ◌^◌, ◌∷◌, [], ℕ, length, IsTrue};
 ghost use Rattle.fuse_spec.specs.Nodes.{IsUnheld, handle_opened};
 ghost use Rattle.fuse_spec.specs.Numbers.{max_validity};
 ghost use Rattle.fuse_spec.specs.Operations.{files_in_reply, opens_in_reply};
-ghost use Rattle.fs_files.specs.Bounds.{AreCounted};
+ghost use Rattle.fs_tree.specs.Outcomes.{is_regular};
+ghost use Rattle.fs_files.specs.Bounds.{AreCounted, IsThere};
 ghost use Rattle.fs_files.specs.Replies.{IsSendable, IsTellable, outcome_len, outcome_reply, sent_len};
 ghost use Rattle.fs_files.specs.Telling.{GivesEntry, Tells};
 
@@ -18,7 +19,7 @@ impl<A: Allocator + Copy> Files<A> {
     pub fn tell(&mut self, outcome: Outcome<A>, found_ms: u64) -> SentReply<A>
         requires node_room { 0 < self.old.node_room }
         requires open_room { 0 < self.old.open_room }
-        requires tellable { IsTellable outcome }
+        requires tellable { IsTellable self.old.tree outcome }
         requires generation { (file : ℕ) → files_in_reply (outcome_reply found_ms outcome) ≡ file ∷ [] → IsUnheld self.old.nodes file → self.old.nodes.next_generation < 2 ^ 62 }
         requires numbers { self.old.handles.next_fh + length (opens_in_reply (outcome_reply found_ms outcome)) ≤ 2 ^ 62 }
         requires counted { AreCounted (2 ^ 62) self.old.nodes }
@@ -50,6 +51,7 @@ impl<A: Allocator + Copy> Files<A> {
     /// Counts a lookup of a file, and gives the entry that tells its node.
     fn give(&mut self, file: u64) -> Entry
         requires file { file < 2 ^ 62 }
+        requires there { IsThere self.old.tree file }
         requires room { 0 < self.old.node_room }
         requires generation { IsUnheld self.old.nodes file → self.old.nodes.next_generation < 2 ^ 62 }
         requires counted { AreCounted (2 ^ 62) self.old.nodes }
@@ -72,6 +74,7 @@ impl<A: Allocator + Copy> Files<A> {
     fn open(&mut self, file: u64) -> u64
         requires room { 0 < self.old.open_room }
         requires number { self.old.handles.next_fh < 2 ^ 62 }
+        requires regular { IsTrue (is_regular self.old.tree file) }
         ensures fh { result ≡ self.old.handles.next_fh }
         ensures handles { self.new.handles ≡ handle_opened self.old.handles file }
         ensures tree { self.new.tree ≡ self.old.tree }

@@ -1,6 +1,6 @@
 //! Replies to faulty request frames.
 
-ghost use Rattle.std.specs.Prelude.{◌≡◌, ◌≤◌, ◌+◌, ◌≤ℤ◌, negsuc, true, false};
+ghost use Rattle.std.specs.Prelude.{◌≡◌, ◌≤◌, ◌+◌, ◌≤ℤ◌, negsuc, true, false, length};
 ghost use Rattle.std.specs.Vec.{vec_len, vec_capacity};
 ghost use Rattle.fs_server.specs.Faults.{is_answered, is_unanswered, FaultReplied, IsAnswerable, IsErrorOf};
 
@@ -27,6 +27,7 @@ const BATCH_FORGET: u32 = 42;
 pub fn fault_reply<A: Allocator>(bytes: &[u8], fault: ServerFault, out: &mut Vec<u8, A>) -> bool
     requires { vec_len out.old + 16 ≤ vec_capacity out.old }
     ensures none { result ≡ false → (IsAnswerable bytes.now fault → ⊥) × (out.new.items ≡ out.old.items) }
+    ensures len { result ≡ true → length out.new.items ≡ length out.old.items + 16 }
     ensures replied { result ≡ true → IsAnswerable bytes.now fault × FaultReplied bytes.now out.old.items out.new.items }
 {
     let Ok((code, unique)) = read_request_head(bytes) else {
