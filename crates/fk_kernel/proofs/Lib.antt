@@ -16,7 +16,8 @@ pub mod First
 pub mod Dropped
 pub mod Evicted
 pub mod ForgetReads
-pub mod EntryReplies
+pub mod Within
+pub mod PastEnds
 pub mod Walking
 pub mod Signalled
 pub mod Aborted

@@ -227,7 +227,7 @@ release_is k unique opened even waits wire =
 
 -- INIT's reply makes the mount ready or aborts it
 module _ (k : Kernel) (unique : ℕ) (even : nat_eq (unique % 2) 1 ≡ false) (waits : waiting k.queues unique ≡ Some Init) where
-  abbrev by_agreement : Bool → Kernel
+  abbrev pub by_agreement : Bool → Kernel
   by_agreement b = cond b (record k { phase = Ready; queues = without k.queues unique }) (kernel_aborted k)
 
   pub init_is : (wire : WireReply) → reply_written k unique wire ≡ (write_result_of (is_init_reply wire), by_agreement (is_agreement wire))

@@ -13,9 +13,25 @@ use Rattle.fuse_spec.specs.QueueCalls.{waiting, without}
 use Rattle.fuse_spec.specs.Replies.{reply_written, reply_taken, odd_taken, interrupt_replied}
 use Rattle.fk_kernel.specs.Said.{Says, SaysNothing, Awaited, nothing, gone, reply_to, awaited, awaited_by, awaited_by_interrupt, wrong_body, wrong_body_to, IsJudged, IsTaken}
 
-abbrev opcode_in : Awaited → Opcode
+abbrev pub opcode_in : Awaited → Opcode
 opcode_in (reply_to o) = o
 opcode_in awaits = op.Init
+
+-- What awaits a reply under a unique, and what becomes of one under an odd unique.
+module _ (k : Kernel) (unique : ℕ) where
+  module _ (odd : nat_eq (unique % 2) 1 ≡ true) where
+    pub awaited_odd : awaited k unique ≡ awaited_by_interrupt (waiting k.queues (unique - 1))
+    awaited_odd = ap (λ (b : Bool). cond b (awaited_by_interrupt (waiting k.queues (unique - 1))) (awaited_by k (waiting k.queues unique))) odd
+
+    pub written_odd : (wire : WireReply) (purpose : Purpose) → waiting k.queues (unique - 1) ≡ Some purpose → reply_written k unique wire ≡ interrupt_replied k (unique - 1) wire
+    written_odd wire purpose waits =
+        ap (λ (b : Bool). cond b (odd_taken k unique wire (waiting k.queues (unique - 1))) (reply_taken k unique wire (waiting k.queues unique))) odd
+        ∙ ap (odd_taken k unique wire) waits
+
+  module _ (even : nat_eq (unique % 2) 1 ≡ false) (w : Option Purpose) (waits : waiting k.queues unique ≡ w) where
+    pub awaited_even : awaited k unique ≡ awaited_by k w
+    awaited_even =
+        ap (λ (b : Bool). cond b (awaited_by_interrupt (waiting k.queues (unique - 1))) (awaited_by k (waiting k.queues unique))) even ∙ ap (awaited_by k) waits
 
 module _ (k : Kernel) (unique : ℕ) (bytes : List ℕ) (result : WriteResult) (after : Kernel) where
   pub taken_none : IsTaken k unique bytes nothing result after
@@ -44,14 +60,6 @@ module _ (k : Kernel) (unique : ℕ) (bytes : List ℕ) (result : WriteResult) (
 
   -- a reply under an odd unique
   module _ (odd : nat_eq (unique % 2) 1 ≡ true) where
-    pub awaited_odd : awaited k unique ≡ awaited_by_interrupt (waiting k.queues (unique - 1))
-    awaited_odd = ap (λ (b : Bool). cond b (awaited_by_interrupt (waiting k.queues (unique - 1))) (awaited_by k (waiting k.queues unique))) odd
-
-    written_odd : (wire : WireReply) (purpose : Purpose) → waiting k.queues (unique - 1) ≡ Some purpose → reply_written k unique wire ≡ interrupt_replied k (unique - 1) wire
-    written_odd wire purpose waits =
-        ap (λ (b : Bool). cond b (odd_taken k unique wire (waiting k.queues (unique - 1))) (reply_taken k unique wire (waiting k.queues unique))) odd
-        ∙ ap (odd_taken k unique wire) waits
-
     module _ (original : ℕ) (before : original ≡ unique - 1)
         (said : is_some (waiting k.queues original) ≡ true → (wire : WireReply) → Says op.Interrupt bytes wire → interrupt_replied k original wire ≡ (result, after))
         (unsaid : is_some (waiting k.queues original) ≡ true → SaysNothing op.Interrupt bytes → interrupt_replied k original wrong_body ≡ (result, after)) where
@@ -59,19 +67,15 @@ module _ (k : Kernel) (unique : ℕ) (bytes : List ℕ) (result : WriteResult) (
       by_purpose None waits = taken_none
       by_purpose (Some purpose) waits =
           let there : is_some (waiting k.queues original) ≡ true = ap (λ (n : ℕ). is_some (waiting k.queues n)) before ∙ ap is_some waits in
-          taken_judged op.Interrupt tt (λ wire says. written_odd wire purpose waits ∙ ap (λ (n : ℕ). interrupt_replied k n wire) (sym before) ∙ said there wire says) (λ none. written_odd wrong_body purpose waits ∙ ap (λ (n : ℕ). interrupt_replied k n wrong_body) (sym before) ∙ unsaid there none)
+          taken_judged op.Interrupt tt (λ wire says. written_odd k unique odd wire purpose waits ∙ ap (λ (n : ℕ). interrupt_replied k n wire) (sym before) ∙ said there wire says) (λ none. written_odd k unique odd wrong_body purpose waits ∙ ap (λ (n : ℕ). interrupt_replied k n wrong_body) (sym before) ∙ unsaid there none)
 
       pub taken_odd : IsTaken k unique bytes (awaited k unique) result after
-      taken_odd = subst (λ (a : Awaited). IsTaken k unique bytes a result after) (sym awaited_odd) (by_purpose (waiting k.queues (unique - 1)) refl)
+      taken_odd = subst (λ (a : Awaited). IsTaken k unique bytes a result after) (sym (awaited_odd k unique odd)) (by_purpose (waiting k.queues (unique - 1)) refl)
 
   -- a reply under an even unique
   module _ (even : nat_eq (unique % 2) 1 ≡ false) (w : Option Purpose) (waits : waiting k.queues unique ≡ w) where
-    pub awaited_even : awaited k unique ≡ awaited_by k w
-    awaited_even =
-        ap (λ (b : Bool). cond b (awaited_by_interrupt (waiting k.queues (unique - 1))) (awaited_by k (waiting k.queues unique))) even ∙ ap (awaited_by k) waits
-
     pub taken_even : IsTaken k unique bytes (awaited_by k w) result after → IsTaken k unique bytes (awaited k unique) result after
-    taken_even cases = subst (λ (a : Awaited). IsTaken k unique bytes a result after) (sym awaited_even) cases
+    taken_even cases = subst (λ (a : Awaited). IsTaken k unique bytes a result after) (sym (awaited_even k unique even w waits)) cases
 
 pub odd_test : (u v : ℕ) → u ≡ v → u % 2 ≡ 1 → nat_eq (v % 2) 1 ≡ true
 odd_test u v same odd = subst (λ (n : ℕ). nat_eq (n % 2) 1 ≡ true) same (elim (eqb_tells (u % 2) 1) [ inl h ↦ h.0 | inr h ↦ absurd (h.1 odd) ])

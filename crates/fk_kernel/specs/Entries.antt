@@ -3,21 +3,18 @@ use Rattle.std.specs.Prelude.{◌≡◌, ◌<◌, ℕ, List, Option, Some, None,
 use Rattle.std.specs.List.{list_any}
 use Rattle.fuse_spec.specs.declared.Binding.{Binding}
 use Rattle.fuse_spec.specs.declared.Opened.{Opened}
-use Rattle.fuse_spec.specs.declared.Refusal.{Refusal}
-use Rattle.fuse_spec.specs.declared.Refusal.TheVariants.{NoMemory, Exhausted}
 use Rattle.fuse_spec.specs.Kernel.{Kernel, is_using}
 use Rattle.fuse_spec.specs.Maps.{Place, NameMap, get, remove, remove_name, values}
 use Rattle.fuse_spec.specs.Messages.{WireReply}
 use Rattle.fuse_spec.specs.Operations.{Operation, lookup, mkdir, create, unlink, rmdir, rename, link, opening}
 use Rattle.fuse_spec.specs.Paths.{Name}
-use Rattle.fuse_spec.specs.Replies.{Use, usable, useless, stale, goes_with, reply_written}
+use Rattle.fuse_spec.specs.Replies.{Use, usable, useless, stale, goes_with}
 use Rattle.fuse_spec.specs.Uniques.{numbers_left_from}
-use Rattle.fuse_spec.specs.Vfs.{CallState, walking, doing, using, walks_on, bound, asking}
+use Rattle.fuse_spec.specs.Vfs.{CallState, walking, doing, using}
 use Rattle.fuse_spec.specs.Walks.{WalkPlan}
 use Rattle.fk_syscalls.specs.States.{StandsAt}
 use Rattle.fk_kernel.specs.declared.entries.EntryUse.{EntryUse}
 use Rattle.fk_kernel.specs.declared.entries.EntryUse.TheVariants as entry
-use Rattle.fk_kernel.specs.Refused.{is_past_end}
 
 -- The call that stands here waits for a reply that says this, and it goes with what the call asked.
 pub record Awaits (standing : Option (CallState Opened)) (wire : WireReply) : Type 0 where
@@ -77,17 +74,6 @@ abbrev pub use_meant : ℕ → EntryUse → Use
 use_meant node entry.Usable = usable
 use_meant node entry.Useless = useless
 use_meant node entry.Stale = stale node
-
--- Why a reply to a call is refused: want of memory, or of a number for the next request of the walk.
-pub data IsEntryRefusal (k : Kernel) (unique : ℕ) (wire : WireReply) : Refusal → Type 0 where
-  no_memory : IsEntryRefusal k unique wire NoMemory
-  exhausted : is_past_end (reply_written k unique wire).1 ≡ true → IsEntryRefusal k unique wire Exhausted
-
--- A call that walks on from this node and asks anew finds a number for its request.
-abbrev pub WalksWithin : Kernel → ℕ → (node valid : ℕ) → Type 0
-WalksWithin k call node valid =
-    (directory : ℕ) (word : Name) (words : List Name) (plan : WalkPlan ℕ) (state : CallState Opened) → get k.vfs.calls call ≡ Some (walking directory word words plan)
-    → walks_on (bound k.vfs directory word (Some node) valid) call node words plan ≡ asking (bound k.vfs directory word (Some node) valid) call state → 0 < numbers_left_from k.queues.next
 
 -- Where the end of this call lets a closed file go, a number is left for its RELEASE.
 abbrev pub EndsWithin : Kernel → ℕ → Type 0

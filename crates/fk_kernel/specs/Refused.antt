@@ -6,7 +6,7 @@ use Rattle.fuse_spec.specs.Kernel.{Kernel, is_live, body_of, call_begun}
 use Rattle.fk_wire.specs.declared.opcode.Opcode.{Opcode}
 use Rattle.fuse_spec.specs.Messages.{Request, RequestBody, WireReply}
 use Rattle.fuse_spec.specs.Replies.{reply_written}
-use Rattle.fk_kernel.specs.Said.{Awaited, reply_to, awaited, head_unique, IsJudged, Means}
+use Rattle.fk_kernel.specs.Said.{Awaited, reply_to, awaited, HasReplyHead, head_unique, IsJudged, Means}
 use Rattle.fuse_spec.specs.QueueCalls.{pending_at}
 use Rattle.fuse_spec.specs.Steps.{is_ready, is_busy}
 use Rattle.fuse_spec.specs.declared.Purpose.{Purpose}
@@ -59,7 +59,7 @@ pub record PassesEnd (k : Kernel) (unique : ℕ) (bytes : List ℕ) (awaiting : 
   pub awaits : awaiting ≡ reply_to opcode
   pub past : (wire : WireReply) → Means opcode bytes wire → is_past_end (reply_written k unique wire).1 ≡ true
 
--- Why bytes under a unique are refused, by what awaits a reply under it.
+-- Why bytes under a unique are refused, by what awaits a reply under it. That want of memory comes last is a clause of `write`.
 pub data IsWriteRefusal (k : Kernel) (unique : ℕ) (bytes : List ℕ) (awaiting : Awaited) : Refusal → Type 0 where
   no_memory : IsWriteRefusal k unique bytes awaiting NoMemory
   exhausted : PassesEnd k unique bytes awaiting → IsWriteRefusal k unique bytes awaiting Exhausted
@@ -67,3 +67,7 @@ pub data IsWriteRefusal (k : Kernel) (unique : ℕ) (bytes : List ℕ) (awaiting
 -- Why bytes are refused: want of memory, or want of a number.
 abbrev pub WriteRefused : Kernel → List ℕ → Refusal → Type 0
 WriteRefused k bytes = IsWriteRefusal k (head_unique bytes) bytes (awaited k (head_unique bytes))
+
+-- What the bytes say would have queued a request for which no number is left.
+abbrev pub WritePasses : Kernel → List ℕ → Type 0
+WritePasses k bytes = HasReplyHead bytes × PassesEnd k (head_unique bytes) bytes (awaited k (head_unique bytes))

@@ -15,14 +15,14 @@ ghost use Rattle.fk_kernel.specs.Refused.{is_past_end};
 ghost use Rattle.fuse_spec.specs.QueueCalls.{after_forget, waiting, without};
 ghost use Rattle.std.specs.Option.{ForSome};
 ghost use Rattle.fuse_spec.specs.Maps.{Place, put_name};
-ghost use Rattle.fk_kernel.specs.Entries.{place_of, Awaits, LooksUp, Makes, Creates, Opens, use_meant, WalksWithin, IsEntryRefusal};
+ghost use Rattle.fk_kernel.specs.Entries.{place_of, Awaits, LooksUp, Makes, Creates, Opens, use_meant};
 
 use crate::counted_nodes::CountedNodes;
 use crate::kernel::KernelOf;
 use crate::stored_answer::StoredAnswer;
 use fk_dentry::Bindings;
 use fk_queues::QueueTable;
-use fk_syscalls::{Answer, Asked, CallState, NewName, Next};
+use fk_syscalls::{Answer, Asked, CallState, Next};
 use fuse_spec::{Entry, Opened, Purpose, Refusal, WriteResult};
 use fuse_tables::Table;
 use std::alloc::{AllocError, Allocator};
@@ -91,8 +91,9 @@ impl<Q: QueueTable<Purpose> + Drop> KernelOf<Q> {
         requires waits { waiting self.old.queues unique ≡ Some (Purpose.Call call) }
         requires awaits { Awaits (get self.old.vfs.calls call) (reply.found entry.now valid_ms) }
         requires day { valid_ms ≤ max_validity }
+        requires within { is_past_end (reply_written self.old unique (reply.found entry.now valid_ms)).1 ≡ false }
         ensures err { OnErr result (self.new ≡ self.old) }
-        ensures refusal { IfErr result (IsEntryRefusal self.old unique (reply.found entry.now valid_ms)) }
+        ensures refusal { IfErr result (λ refusal. refusal ≡ Refusal.NoMemory) }
         ensures ok { OnOk result (reply_written self.old unique (reply.found entry.now valid_ms) ≡ (WriteResult.Accepted, self.new)) }
     {
         match self.use_of(entry) {
@@ -150,7 +151,7 @@ impl<Q: QueueTable<Purpose> + Drop> KernelOf<Q> {
     }
 
     /// Whether an entry can be used.
-    fn use_of(&self, entry: &Entry) -> EntryUse
+    pub(crate) fn use_of(&self, entry: &Entry) -> EntryUse
         ensures { use_meant entry.now.nodeid result ≡ use_of self.now.nodes entry.now }
     {
         if entry.nodeid < 2 {
@@ -204,13 +205,11 @@ impl<Q: QueueTable<Purpose> + Drop> KernelOf<Q> {
         requires looks_up { LooksUp (get self.old.vfs.calls call) }
         requires usable { use_of self.old.nodes entry.now ≡ usable }
         requires day { valid_ms ≤ max_validity }
+        requires within { is_past_end (reply_written self.old unique (reply.found entry.now valid_ms)).1 ≡ false }
         ensures err { OnErr result (self.new ≡ self.old) }
-        ensures refusal { IfErr result (IsEntryRefusal self.old unique (reply.found entry.now valid_ms)) }
+        ensures refusal { IfErr result (λ refusal. refusal ≡ Refusal.NoMemory) }
         ensures ok { OnOk result (reply_written self.old unique (reply.found entry.now valid_ms) ≡ (WriteResult.Accepted, self.new)) }
     {
-        if self.runs_out(unique, call, entry, valid_ms) {
-            return Err(Refusal::Exhausted);
-        }
         let Some(forgets) = self.nodes.most().checked_add(1) else {
             return Err(Refusal::NoMemory);
         };
@@ -240,34 +239,6 @@ impl<Q: QueueTable<Purpose> + Drop> KernelOf<Q> {
             }
         }
         Ok(())
-    }
-
-    /// Whether a call that walks on from the node of an entry would queue a request for which no number is left.
-    fn runs_out(&self, unique: u64, call: u64, entry: &Entry, valid_ms: u64) -> bool
-        requires even { nat_eq (unique % 2) 1 ≡ false }
-        requires waits { waiting self.now.queues unique ≡ Some (Purpose.Call call) }
-        requires looks_up { LooksUp (get self.now.vfs.calls call) }
-        requires usable { use_of self.now.nodes entry.now ≡ usable }
-        requires day { valid_ms ≤ max_validity }
-        ensures past { result ≡ true → is_past_end (reply_written self.now unique (reply.found entry.now valid_ms)).1 ≡ true }
-        ensures enough { result ≡ false → WalksWithin self.now call entry.now.nodeid valid_ms }
-    {
-        if self.queues.numbers_left() != 0 {
-            return false;
-        }
-        let Some(waiting) = self.calls.get(call) else {
-            return false;
-        };
-        let Asked::Lookup { directory, name } = waiting.asks() else {
-            return false;
-        };
-        let new = NewName {
-            directory,
-            name,
-            node: entry.nodeid,
-            until: self.clock.saturating_add(valid_ms),
-        };
-        waiting.would_ask(&self.names, self.clock, &new)
     }
 
     /// The name that a call has made leads to the node of an entry, for so many milliseconds from now on. The call is

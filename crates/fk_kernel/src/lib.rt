@@ -12,6 +12,7 @@ mod kernel;
 mod open_files;
 mod passing;
 mod reading;
+mod refusing;
 mod reply_said;
 mod replying;
 mod said;

@@ -7,8 +7,8 @@ ghost use Rattle.fuse_spec.specs.QueueCalls.{waiting};
 ghost use Rattle.fuse_spec.specs.Replies.{reply_written};
 ghost use Rattle.fuse_spec.specs.Vfs.{CallState as State, asked};
 ghost use Rattle.fuse_spec.specs.declared.Opened.{Opened as OpenedFile};
-ghost use Rattle.fk_kernel.specs.Entries.{Awaits, EndsWithin, IsEntryRefusal, names_left};
-ghost use Rattle.fk_kernel.specs.Refused.{IsWriteRefusal};
+ghost use Rattle.fk_kernel.specs.Entries.{Awaits, EndsWithin, names_left};
+ghost use Rattle.fk_kernel.specs.Refused.{IsWriteRefusal, PassesEnd, is_past_end};
 ghost use Rattle.fk_kernel.specs.ReplySaid.{wire_of, LastsADay};
 ghost use Rattle.fk_kernel.specs.Said.{Says, SaysNothing, awaited_by_call, wrong_body, IsTaken};
 ghost use Rattle.fk_wire.specs.Records.{records_in};
@@ -68,6 +68,7 @@ impl<Q: QueueTable<Purpose> + Drop> KernelOf<Q> {
         requires waits { waiting self.old.queues unique ≡ Some (Purpose.Call call) }
         ensures err { OnErr result (self.new ≡ self.old) }
         ensures refusal { IfErr result (IsWriteRefusal self.old unique bytes.now (awaited_by_call (get self.old.vfs.calls call))) }
+        ensures memory { IfErr result (λ refusal. refusal ≡ Refusal.NoMemory → PassesEnd self.old unique bytes.now (awaited_by_call (get self.old.vfs.calls call)) → ⊥) }
         ensures taken { IfOk result (λ written. IsTaken self.old unique bytes.now (awaited_by_call (get self.old.vfs.calls call)) written self.new) }
     {
         let Some(waiting) = self.calls.get(call) else {
@@ -82,6 +83,9 @@ impl<Q: QueueTable<Purpose> + Drop> KernelOf<Q> {
             self.end_call(unique, call, Answer::Failed { errno: EIO });
             return Ok(WriteResult::Invalid);
         };
+        if self.walks_past(unique, call, &said) {
+            return Err(Refusal::Exhausted);
+        }
         match self.replied(unique, call, said) {
             Ok(()) => Ok(WriteResult::Accepted),
             Err(refusal) => Err(refusal),
@@ -94,9 +98,10 @@ impl<Q: QueueTable<Purpose> + Drop> KernelOf<Q> {
         requires waits { waiting self.old.queues unique ≡ Some (Purpose.Call call) }
         requires awaits { Awaits (get self.old.vfs.calls call) (wire_of said) }
         requires day { LastsADay said }
-        requires within { EndsWithin self.old call }
+        requires ends { EndsWithin self.old call }
+        requires within { is_past_end (reply_written self.old unique (wire_of said)).1 ≡ false }
         ensures err { OnErr result (self.new ≡ self.old) }
-        ensures refusal { IfErr result (IsEntryRefusal self.old unique (wire_of said.entry)) }
+        ensures refusal { IfErr result (λ refusal. refusal ≡ Refusal.NoMemory) }
         ensures ok { OnOk result (reply_written self.old unique (wire_of said.entry) ≡ (WriteResult.Accepted, self.new)) }
     {
         match said {

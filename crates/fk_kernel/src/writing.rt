@@ -4,7 +4,7 @@ ghost use Rattle.std.specs.Prelude.{◌≡◌, ◌%◌, Some, None, Ok, OnErr, I
 ghost use Rattle.fuse_spec.specs.Messages.{WireReply};
 ghost use Rattle.fuse_spec.specs.Replies.{reply_written, interrupt_reply_of, interrupt_replied};
 ghost use Rattle.fk_kernel.specs.Said.{Says, SaysNothing, HasReplyHead, head_unique, awaited, nothing, wrong_body, wrong_body_to, IsTaken};
-ghost use Rattle.fk_kernel.specs.Refused.{WriteRefused};
+ghost use Rattle.fk_kernel.specs.Refused.{WriteRefused, WritePasses};
 ghost use Rattle.fuse_spec.specs.QueueCalls.{after_interrupt_reply, waiting};
 
 use crate::kernel::KernelOf;
@@ -22,11 +22,12 @@ impl<Q: QueueTable<Purpose> + Drop> KernelOf<Q> {
     ///
     /// # Errors
     ///
-    /// `Exhausted` where no number is left for the request that a walk would queue next; then `NoMemory`. The kernel is as
-    /// before.
+    /// `Exhausted` where no number is left for the request that would be queued, as `write_refusal` says; then `NoMemory`. The
+    /// kernel is as before.
     pub fn write(&mut self, bytes: &[u8]) -> Result<WriteResult, Refusal>
         ensures err { OnErr result (self.new ≡ self.old) }
         ensures refusal { HasReplyHead bytes.now → IfErr result (WriteRefused self.old bytes.now) }
+        ensures memory { IfErr result (λ refusal. refusal ≡ Refusal.NoMemory → WritePasses self.old bytes.now → ⊥) }
         ensures headless { (HasReplyHead bytes.now → ⊥) → (result ≡ Ok WriteResult.Invalid) × (self.new ≡ self.old) }
         ensures unawaited { HasReplyHead bytes.now → awaited self.old (head_unique bytes.now) ≡ nothing → (result ≡ Ok WriteResult.NoEntry) × (self.new ≡ self.old) }
         ensures taken { HasReplyHead bytes.now → IfOk result (λ written. IsTaken self.old (head_unique bytes.now) bytes.now (awaited self.old (head_unique bytes.now)) written self.new) }

@@ -1,7 +1,5 @@
 use Rattle.std.proofs.Common.{sym, subst, ◌∙◌}
-use Rattle.fuse_spec.specs.Operations as reply
 use Rattle.fk_kernel.specs.Entries.{Makes}
-use Rattle.fk_kernel.proofs.EntryReplies.{memory_refused}
 use Rattle.fk_kernel.proofs.Standing.{makes_found}
 use Rattle.fk_kernel.proofs.kernel.KernelOf.entry_found.Goals as goal
 
@@ -9,9 +7,3 @@ pub name_is_made-requires-clause-makes : goal.name_is_made-requires-clause-makes
 name_is_made-requires-clause-makes g c =
     let aw = c.requires.awaits in
     subst Makes (sym aw.at) (makes_found aw.operation aw.state c.args.entry.now c.args.valid_ms aw.stands aw.goes (λ d w ws p e. c.looks_up.ensures.other c.if-looks_up.false d w ws p (aw.at ∙ e)))
-
-pub returns-else-looks_up-clause-refusal : goal.returns-else-looks_up-clause-refusal
-returns-else-looks_up-clause-refusal g c = memory_refused c.args.self.now c.args.unique (reply.found c.args.entry.now c.args.valid_ms) c.name_is_made.result c.name_is_made.ensures.refusal
-
-pub returns-in-Stale-clause-refusal : goal.returns-in-Stale-clause-refusal
-returns-in-Stale-clause-refusal g c = memory_refused c.args.self.now c.args.unique (reply.found c.args.entry.now c.args.valid_ms) c.give_back.result c.give_back.ensures.refusal

@@ -1,4 +1,4 @@
-use Rattle.std.proofs.Common.{rules, ◌≡◌, ◌+◌, ℕ, List, [], ◌∷◌, Some, refl, ap, sym, ◌∙◌, arith}
+use Rattle.std.proofs.Common.{rules, ◌≡◌, ◌+◌, ◌^◌, ◌≤◌, ◌<◌, ℕ, List, [], ◌∷◌, Some, true≢false, refl, ap, sym, ◌∙◌, arith}
 use Rattle.std.specs.Prelude.{is_some}
 use Rattle.fuse_spec.specs.declared.Opened.{Opened}
 use Rattle.fuse_spec.specs.declared.WriteResult.{WriteResult}
@@ -13,7 +13,8 @@ use Rattle.fuse_spec.specs.Paths.{Name}
 use Rattle.fuse_spec.specs.Walks.{WalkPlan}
 use Rattle.fk_kernel.specs.Refused.{is_past_end}
 use Rattle.fk_kernel.proofs.Replied.{lookup_found}
-use Rattle.fk_kernel.proofs.Walking.{asks_past, asks_none}
+use Rattle.fk_kernel.proofs.Walking.{asks_past}
+use Rattle.fk_kernel.proofs.Within.{walks_within}
 use Rattle.fk_kernel.proofs.kernel.KernelOf.runs_out.Given as given
 use Rattle.fk_kernel.proofs.kernel.KernelOf.runs_out.Goals as goal
 
@@ -45,6 +46,25 @@ returns-clause-past g c = λ would.
     ap (λ (r : WriteResult × Kernel). is_past_end r.1) (lookup_found now c.args.unique c.args.call c.requires.even c.requires.waits stands.directory stands.word stands.words stands.plan stands.is entry c.args.valid_ms c.requires.usable)
     ∙ asks_past (record now { vfs = next.vfs; queues = without now.queues c.args.unique; nodes = learnt now.nodes (entry ∷ []) }) c.args.call next.operation asks none
 
-pub returns-clause-enough : goal.returns-clause-enough
-returns-clause-enough g c = λ would directory word words plan state stands asks.
-    asks_none _ c.args.call state _ (walks_so g c directory word words plan stands ∙ would) asks
+pub returns-clause-within : goal.returns-clause-within
+returns-clause-within g c = λ would.
+    let now = c.args.self.now in
+    let entry = c.args.entry.now in
+    let stands = c.requires.looks_up in
+    let low : now.queues.next ≤ 2 ^ 62 = rw (← c.self.view_is) (g.met.Q.QueueTable.sound c.self.inside.queues).next.high in
+    let few : now.vfs.next_call ≤ 2 ^ 62 = rw (← c.self.view_is) c.self.invariant.numbers.next in
+    let asks = walks_so g c stands.directory stands.word stands.words stands.plan stands.is ∙ would in
+    ap (λ (r : WriteResult × Kernel). is_past_end r.1) (lookup_found now c.args.unique c.args.call c.requires.even c.requires.waits stands.directory stands.word stands.words stands.plan stands.is entry c.args.valid_ms c.requires.usable)
+    ∙ walks_within now c.args.unique c.args.call stands.directory stands.word stands.words stands.plan entry c.args.valid_ms low few (λ some. absurd (true≢false (sym some ∙ asks)))
+
+pub returns-then-numbers_left-ne0-clause-within : goal.returns-then-numbers_left-ne0-clause-within
+returns-then-numbers_left-ne0-clause-within g c = λ would.
+    let now = c.args.self.now in
+    let entry = c.args.entry.now in
+    let stands = c.requires.looks_up in
+    let low : now.queues.next ≤ 2 ^ 62 = rw (← c.self.view_is) (g.met.Q.QueueTable.sound c.self.inside.queues).next.high in
+    let few : now.vfs.next_call ≤ 2 ^ 62 = rw (← c.self.view_is) c.self.invariant.numbers.next in
+    let here : 0 < numbers_left_from (g.Q.QueueTable.state c.self.inside.queues).next = omega (arith, c.numbers_left.ensures, c.if-numbers_left-ne0.true) in
+    let left : 0 < numbers_left_from now.queues.next = rw (← c.self.view_is) here in
+    ap (λ (r : WriteResult × Kernel). is_past_end r.1) (lookup_found now c.args.unique c.args.call c.requires.even c.requires.waits stands.directory stands.word stands.words stands.plan stands.is entry c.args.valid_ms c.requires.usable)
+    ∙ walks_within now c.args.unique c.args.call stands.directory stands.word stands.words stands.plan entry c.args.valid_ms low few (λ some. left)

@@ -1,37 +1,24 @@
-use Rattle.std.proofs.Common.{◌≡◌, ◌≤◌, ◌+◌, [], ◌∷◌, length, true, Some, refl, ap, ◌∙◌, arith}
+use Rattle.std.proofs.Common.{◌≡◌, ◌≤◌, ◌+◌, [], ◌∷◌, length, true, false, Some, refl, ap, sym, ◌∙◌, arith}
 use Rattle.std.specs.Prelude.{is_some}
 use Rattle.fuse_spec.specs.Maps.{get}
 use Rattle.fuse_spec.specs.QueueCalls.{waiting, without, after_answer}
-use Rattle.fuse_spec.specs.Kernel.{advanced}
+use Rattle.fuse_spec.specs.Kernel.{Kernel, advanced}
 use Rattle.fuse_spec.specs.Replies.{learnt}
 use Rattle.fuse_spec.specs.Answers.{failed}
+use Rattle.fuse_spec.specs.declared.WriteResult.{WriteResult}
 use Rattle.fuse_spec.specs.declared.WriteResult.TheVariants.{Accepted}
 use Rattle.fk_syscalls.specs.States.{HasNames}
 use Rattle.fk_syscalls.specs.Values.{comes_to}
 use Rattle.fuse_spec.specs.Vfs.{Vfs, Advance, walking, walks_on, bound, asking, answered, no_more}
 use Rattle.fuse_spec.specs.declared.Opened.{Opened}
 use Rattle.fuse_spec.proofs.Tables.{get_gone_here}
-use Rattle.fk_kernel.specs.Entries.{no_memory, exhausted}
+use Rattle.fk_kernel.specs.Refused.{is_past_end}
 use Rattle.fk_kernel.proofs.Nodes.{learnt_counted, answered_is, request_queued, put_gone, length_again, sorted_put, sorted_gone}
 use Rattle.fk_kernel.proofs.Replied.{lookup_found}
 use Rattle.fk_kernel.proofs.Sound.{sound_answered, sound_walks, there_is}
+use Rattle.fk_kernel.proofs.Walking.{asked_left}
 use Rattle.fk_kernel.proofs.Files.{walking_files, answered_files}
 use Rattle.fk_kernel.proofs.kernel.KernelOf.walk_on.Goals as goal
-
-pub returns-then-runs_out-clause-refusal : goal.returns-then-runs_out-clause-refusal
-returns-then-runs_out-clause-refusal g c = exhausted (c.runs_out.ensures.past c.if-runs_out.true)
-
-pub returns-in_default-clause-refusal : goal.returns-in_default-clause-refusal
-returns-in_default-clause-refusal g c = no_memory
-
-pub returns-in_default-checked_add-clause-refusal : goal.returns-in_default-checked_add-clause-refusal
-returns-in_default-checked_add-clause-refusal g c = no_memory
-
-pub returns-in_default-reserve-clause-refusal : goal.returns-in_default-reserve-clause-refusal
-returns-in_default-reserve-clause-refusal g c = no_memory
-
-pub returns-in_default-bind_entry-clause-refusal : goal.returns-in_default-bind_entry-clause-refusal
-returns-in_default-bind_entry-clause-refusal g c = no_memory
 
 pub bind_entry-requires-clause-names_one : goal.bind_entry-requires-clause-names_one
 bind_entry-requires-clause-names_one g c =
@@ -54,7 +41,12 @@ enqueue-unique-requires-clause-number g c =
     let vfs : Vfs Opened = bound now.vfs stands.directory stands.word (Some c.args.entry.now.nodeid) c.args.valid_ms in
     let has : HasNames vfs c.bind_entry.new.names.names k.clock = rw (← c.self.view_is, names, until) (record { names = refl; clock = refl; root = refl }) in
     let comes : walks_on vfs c.args.call c.args.entry.now.nodeid stands.words stands.plan ≡ asking vfs c.args.call c.in-Waits.state = c.found.ensures vfs c.args.call stands.directory stands.word stands.words stands.plan has state ∙ ap (comes_to vfs c.args.call) c.in-Waits.is in
-    let left = c.runs_out.ensures.enough c.if-runs_out.false stands.directory stands.word stands.words stands.plan c.in-Waits.state stands.is comes in
+    let knows : Kernel = record now { queues = without now.queues c.args.unique; nodes = learnt now.nodes (c.args.entry.now ∷ []) } in
+    let asks : is_past_end (advanced knows c.args.call (asking vfs c.args.call c.in-Waits.state)) ≡ false =
+    sym (ap (λ (a : Advance Opened). is_past_end (advanced knows c.args.call a)) comes)
+    ∙ sym (ap (λ (r : WriteResult × Kernel). is_past_end r.1) (lookup_found now c.args.unique c.args.call c.requires.even c.requires.waits stands.directory stands.word stands.words stands.plan stands.is c.args.entry.now c.args.valid_ms c.requires.usable))
+    ∙ c.requires.within in
+    let left = asked_left now.queues.next now.vfs.next_call asks in
     rw (c.answer-kept.ensures.state, c.reserve.ensures.state, answered_is s c.args.unique waits) (rw (← c.self.view_is) at left)
 
 pub put-requires-clause-absent : goal.put-requires-clause-absent

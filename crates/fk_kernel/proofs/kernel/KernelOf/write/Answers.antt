@@ -1,8 +1,9 @@
 use Rattle.std.proofs.Common.{rules, ◌≡◌, ℕ, ◌-◌, Some, None, sym, ap, ◌∙◌}
 use Rattle.fuse_spec.specs.QueueCalls.{waiting}
 use Rattle.fuse_spec.specs.declared.Purpose.TheVariants.{Init, Release, Call}
-use Rattle.fuse_spec.specs.declared.WriteResult.TheVariants.{Invalid}
-use Rattle.fk_kernel.specs.Said.{head_unique}
+use Rattle.fuse_spec.specs.Maps.{get}
+use Rattle.fk_kernel.specs.Said.{awaited_by_call, head_unique}
+use Rattle.fk_kernel.proofs.PastEnds.{memory_last}
 use Rattle.fk_kernel.proofs.Taken.{odd_test, even_test, taken_odd, taken_even, awaited_even, taken_none, taken_judged}
 use Rattle.fk_wire.specs.declared.opcode.Opcode.TheVariants as op
 use Rattle.fk_wire.specs.Opcodes.{served}
@@ -70,7 +71,7 @@ returns-in-Call-clause-refusal g c = λ head.
     let same = c.in-Ok.ensures.ok.3 in
     let at : waiting queues c.in-Ok.unique ≡ Some c.in-Some.purpose.now = search rules in
     let waits : waiting c.args.self.now.queues unique ≡ Some (Call c.in-Call.call) = rw (← c.self.view_is) (ap (waiting queues) (sym same) ∙ at ∙ ap Some c.in-Call.is) in
-    let awaits = awaited_even c.args.self.now unique c.args.bytes.now Invalid c.args.self.now (even_test c.in-Ok.unique unique same c.if-unique-eq1.false) (Some (Call c.in-Call.call)) waits in
+    let awaits = awaited_even c.args.self.now unique (even_test c.in-Ok.unique unique same c.if-unique-eq1.false) (Some (Call c.in-Call.call)) waits in
     rw (awaits, ← same) c.write_to_call.ensures.refusal
 
 pub returns-in-Call-clause-taken : goal.returns-in-Call-clause-taken
@@ -80,5 +81,16 @@ returns-in-Call-clause-taken g c = λ head.
     let same = c.in-Ok.ensures.ok.3 in
     let at : waiting queues c.in-Ok.unique ≡ Some c.in-Some.purpose.now = search rules in
     let waits : waiting c.args.self.now.queues unique ≡ Some (Call c.in-Call.call) = rw (← c.self.view_is) (ap (waiting queues) (sym same) ∙ at ∙ ap Some c.in-Call.is) in
-    let awaits = awaited_even c.args.self.now unique c.args.bytes.now Invalid c.args.self.now (even_test c.in-Ok.unique unique same c.if-unique-eq1.false) (Some (Call c.in-Call.call)) waits in
+    let awaits = awaited_even c.args.self.now unique (even_test c.in-Ok.unique unique same c.if-unique-eq1.false) (Some (Call c.in-Call.call)) waits in
     rw (awaits, ← same) c.write_to_call.ensures.taken
+
+pub returns-in-Call-clause-memory : goal.returns-in-Call-clause-memory
+returns-in-Call-clause-memory g c =
+    let queues = g.Q.QueueTable.state c.self.inside.queues in
+    let now = c.args.self.now in
+    let unique = head_unique c.args.bytes.now in
+    let same = c.in-Ok.ensures.ok.3 in
+    let at : waiting queues c.in-Ok.unique ≡ Some c.in-Some.purpose.now = search rules in
+    let waits : waiting now.queues unique ≡ Some (Call c.in-Call.call) = rw (← c.self.view_is) (ap (waiting queues) (sym same) ∙ at ∙ ap Some c.in-Call.is) in
+    let awaits = awaited_even now unique (even_test c.in-Ok.unique unique same c.if-unique-eq1.false) (Some (Call c.in-Call.call)) waits in
+    memory_last now c.in-Ok.unique c.args.bytes.now (awaited_by_call (get now.vfs.calls c.in-Call.call)) c.write_to_call.result (λ p. rw (awaits, ← same) at p.1) c.write_to_call.ensures.memory

@@ -8,10 +8,10 @@ use Rattle.fuse_spec.specs.Vfs.{using, asked}
 use Rattle.fuse_spec.specs.declared.Opened.{Opened}
 use Rattle.fk_syscalls.specs.States.{StandsAt}
 use Rattle.fk_syscalls.specs.Values.{operation_of}
-use Rattle.fk_kernel.specs.Refused.{exhausted}
+use Rattle.fk_kernel.specs.Refused.{IsWriteRefusal, no_memory, exhausted}
 use Rattle.fk_kernel.specs.ReplySaid.{wire_of}
 use Rattle.fk_kernel.specs.Said.{reply_to, gone, awaited_by_call, opcode_of}
-use Rattle.fk_kernel.proofs.EntryReplies.{bytes_refused}
+use Rattle.fk_kernel.proofs.PastEnds.{passes, said_passes}
 use Rattle.fk_kernel.proofs.Nodes.{answer_counted, answered_is}
 use Rattle.fk_kernel.proofs.Replied.{ends_over, judged_op}
 use Rattle.fk_kernel.proofs.Sayings.{says_one}
@@ -56,8 +56,8 @@ returns-then-ends_past-clause-refusal g c =
     let stands : StandsAt p.operation (using p.handle p.operation) = subst (λ (o : Operation ℕ Opened). StandsAt o (using p.handle p.operation)) one (subst (StandsAt operation) same c.asks.ensures.stands) in
     exhausted (record { opcode = opcode_of operation; judged = judged_op operation; awaits = awaits; past = λ wire means. ends_over now c.args.unique c.args.call c.requires.even c.requires.waits p stands wire })
 
-pub replied-requires-clause-within : goal.replied-requires-clause-within
-replied-requires-clause-within g c = c.ends_past.ensures.within c.if-ends_past.false
+pub replied-requires-clause-ends : goal.replied-requires-clause-ends
+replied-requires-clause-ends g c = c.ends_past.ensures.within c.if-ends_past.false
 
 pub returns-in-Ok-clause-taken : goal.returns-in-Ok-clause-taken
 returns-in-Ok-clause-taken g c =
@@ -76,8 +76,8 @@ returns-in-Ok-clause-taken g c =
     rw awaits
     (taken_judged now c.args.unique bytes _ _ o (judged_op operation) (λ wire other. ap (reply_written now c.args.unique) (says_one o bytes wire said other says) ∙ ok) (λ none. absurd (none said says)))
 
-pub returns-in-Err-clause-refusal : goal.returns-in-Err-clause-refusal
-returns-in-Err-clause-refusal g c =
+pub returns-then-walks_past-clause-refusal : goal.returns-then-walks_past-clause-refusal
+returns-then-walks_past-clause-refusal g c =
     let k = c.self.inside in
     let now = c.args.self.now in
     let state = c.in-Some.waiting.now in
@@ -85,5 +85,18 @@ returns-in-Err-clause-refusal g c =
     let at : get k.calls.entries c.args.call ≡ Some state = search rules in
     let here : get now.vfs.calls c.args.call ≡ Some state = rw (← c.self.view_is) at in
     let awaits : awaited_by_call (get now.vfs.calls c.args.call) ≡ reply_to (opcode_of operation) = ap awaited_by_call here ∙ ap (λ (o : Operation ℕ Opened). reply_to (opcode_of o)) (sym c.asks.ensures.operation) in
-    let o = opcode_of operation in
-    rw awaits (bytes_refused now c.args.unique c.args.bytes.now o (judged_op operation) (wire_of c.in-Some-said.said) c.in-Some-said.ensures.said.says c.in-Err.refusal c.in-Err.ensures.refusal)
+    rw awaits (exhausted (passes now c.args.unique c.args.bytes.now (opcode_of operation) (judged_op operation) (wire_of c.in-Some-said.said) c.in-Some-said.ensures.said.says (c.walks_past.ensures.past c.if-walks_past.true)))
+
+pub returns-in-Err-clause-refusal : goal.returns-in-Err-clause-refusal
+returns-in-Err-clause-refusal g c = subst (IsWriteRefusal c.args.self.now c.args.unique c.args.bytes.now (awaited_by_call (get c.args.self.now.vfs.calls c.args.call))) (sym c.in-Err.ensures.refusal) no_memory
+
+pub returns-in-Err-clause-memory : goal.returns-in-Err-clause-memory
+returns-in-Err-clause-memory g c = λ is.
+    let k = c.self.inside in
+    let now = c.args.self.now in
+    let state = c.in-Some.waiting.now in
+    let operation = operation_of c.asks.result in
+    let at : get k.calls.entries c.args.call ≡ Some state = search rules in
+    let here : get now.vfs.calls c.args.call ≡ Some state = rw (← c.self.view_is) at in
+    let awaits : awaited_by_call (get now.vfs.calls c.args.call) ≡ reply_to (opcode_of operation) = ap awaited_by_call here ∙ ap (λ (o : Operation ℕ Opened). reply_to (opcode_of o)) (sym c.asks.ensures.operation) in
+    rw awaits (said_passes now c.args.unique c.args.bytes.now (opcode_of operation) (wire_of c.in-Some-said.said) c.in-Some-said.ensures.said.says (c.walks_past.ensures.within c.if-walks_past.false))
