@@ -3,18 +3,19 @@ use Rattle.std.proofs.Common.{◌≡◌, ℕ, ◌-◌, ◌%◌, Bool, true, fals
 use Rattle.fuse_spec.specs.declared.Attributes.{Attributes}
 use Rattle.fuse_spec.specs.declared.Entry.{Entry}
 use Rattle.fuse_spec.specs.declared.Opened.{Opened}
-use Rattle.fuse_spec.specs.declared.Purpose.TheVariants.{Call, Release}
+use Rattle.fuse_spec.specs.declared.Phase.TheVariants.{Ready}
+use Rattle.fuse_spec.specs.declared.Purpose.TheVariants.{Call, Init, Release}
 use Rattle.fuse_spec.specs.declared.WriteResult.TheVariants.{Accepted, Invalid}
 use Rattle.fuse_spec.specs.Answers as answer
 use Rattle.fuse_spec.specs.CallReplies.{call_replied}
-use Rattle.fuse_spec.specs.Kernel.{Kernel, advanced, after_use, released_if_idle}
+use Rattle.fuse_spec.specs.Kernel.{Kernel, advanced, after_use, released_if_idle, kernel_aborted}
 use Rattle.fuse_spec.specs.Maps.{Place, get}
 use Rattle.fuse_spec.specs.Messages.{WireReply}
 use Rattle.fuse_spec.specs.Operations as reply
 use Rattle.fuse_spec.specs.Operations.{Operation, lookup, getattr, mkdir, create, unlink, rmdir, rename, link, opening, readdir, read, write, Dirent, files_in_reply}
 use Rattle.fuse_spec.specs.Paths.{Name}
 use Rattle.fuse_spec.specs.QueueCalls.{waiting, without, after_forget}
-use Rattle.fuse_spec.specs.Replies.{Use, usable, useless, stale, first_use, use_of, use_of_all, learnt, judged, goes_with, kernel_reply, reply_written, reply_taken, replied_to_call, replied, odd_taken, write_result_of, is_empty_reply}
+use Rattle.fuse_spec.specs.Replies.{Use, usable, useless, stale, first_use, use_of, use_of_all, learnt, judged, goes_with, kernel_reply, reply_written, reply_taken, replied_to_call, replied, odd_taken, write_result_of, is_empty_reply, is_init_reply, is_agreement}
 use Rattle.fuse_spec.specs.Vfs.{Vfs, Advance, CallState, walking, doing, using, asked, answered, bound, opened_by, walks_on, no_more}
 use Rattle.fuse_spec.specs.Walks.{WalkPlan}
 use Rattle.fk_syscalls.specs.States.{StandsAt}
@@ -223,6 +224,25 @@ pub release_is : (k : Kernel) (unique : ℕ) (opened : Opened) → nat_eq (uniqu
 release_is k unique opened even waits wire =
     ap (λ (b : Bool). cond b (odd_taken k unique wire (waiting k.queues (unique - 1))) (reply_taken k unique wire (waiting k.queues unique))) even
     ∙ ap (reply_taken k unique wire) waits
+
+-- INIT's reply makes the mount ready or aborts it
+module _ (k : Kernel) (unique : ℕ) (even : nat_eq (unique % 2) 1 ≡ false) (waits : waiting k.queues unique ≡ Some Init) where
+  abbrev by_agreement : Bool → Kernel
+  by_agreement b = cond b (record k { phase = Ready; queues = without k.queues unique }) (kernel_aborted k)
+
+  pub init_is : (wire : WireReply) → reply_written k unique wire ≡ (write_result_of (is_init_reply wire), by_agreement (is_agreement wire))
+  init_is wire =
+      ap (λ (b : Bool). cond b (odd_taken k unique wire (waiting k.queues (unique - 1))) (reply_taken k unique wire (waiting k.queues unique))) even
+      ∙ ap (reply_taken k unique wire) waits
+
+  pub init_agreed : (wire : WireReply) → is_init_reply wire ≡ true → is_agreement wire ≡ true → reply_written k unique wire ≡ (Accepted, record k { phase = Ready; queues = without k.queues unique })
+  init_agreed wire reply is = init_is wire ∙ ap (λ (b : Bool). (write_result_of b, by_agreement (is_agreement wire))) reply ∙ ap (λ (b : Bool). (Accepted, by_agreement b)) is
+
+  pub init_aborts : (wire : WireReply) → is_init_reply wire ≡ true → is_agreement wire ≡ false → reply_written k unique wire ≡ (Accepted, kernel_aborted k)
+  init_aborts wire reply is = init_is wire ∙ ap (λ (b : Bool). (write_result_of b, by_agreement (is_agreement wire))) reply ∙ ap (λ (b : Bool). (Accepted, by_agreement b)) is
+
+  pub init_unsaid : reply_written k unique reply.done ≡ (Invalid, kernel_aborted k)
+  init_unsaid = init_is reply.done
 
 -- A read or write is but answered.
 uses_read : (o : Opened) (f z : ℕ) (wire : WireReply) → goes_with (read o f z) wire ≡ true → IsPlain wire

@@ -1,5 +1,5 @@
 -- A reply that was read says its body, or its error number alone.
-use Rattle.std.proofs.Common.{◌≡◌, ◌≢◌, ℕ, Bool, if◌then◌else◌, inl, inr, List, Result, Err, refl, sym, ap, ◌∙◌}
+use Rattle.std.proofs.Common.{◌≡◌, ◌≢◌, ℕ, Bool, true, if◌then◌else◌, inl, inr, List, Result, Err, refl, sym, ap, ◌∙◌}
 use Rattle.std.specs.Prelude.{ℤ, pos, IsOkAnd}
 use Rattle.std.specs.Int.{w32, cast_unsigned, cast_signed}
 use Rattle.std.proofs.lemmas.Int.{to_z-of_z}
@@ -17,7 +17,10 @@ use Rattle.fuse_spec.specs.Messages.{WireReply}
 use Rattle.fuse_frames.specs.ReplyTies.{wire_said, wire_body, entry_in, milliseconds}
 use Rattle.std.proofs.lemmas.Bool.Decides.{eqb_tells}
 use Rattle.fuse_frames.proofs.ReplyLemmas.{one_reply}
-use Rattle.fk_kernel.specs.Said.{Says, SaysNothing}
+use Rattle.fuse_spec.specs.Replies.{is_init_reply}
+use Rattle.fk_kernel.specs.declared.said.InitSaid.{InitSaid}
+use Rattle.fk_kernel.specs.declared.said.InitSaid.TheVariants as init_said
+use Rattle.fk_kernel.specs.Said.{Says, SaysNothing, init_wire}
 
 -- an error in range is read as itself
 pub same_error : (z : ℤ) → IsErrorNumber z → cast_signed w32 (cast_unsigned w32 z) ≡ z
@@ -51,3 +54,8 @@ module _ (e : Entry) where
 
   pub entry_found : e.nodeid ≢ 0 → wire_body (entry_reply (entry_content e)) ≡ reply.found (entry_in e.nodeid e.generation e.attr) (milliseconds e.entry_valid e.entry_valid_nsec)
   entry_found is = elim (eqb_tells e.nodeid 0) [ inl h ↦ absurd (is h.1) | inr h ↦ ap (λ (b : Bool). wire_body (entry_reply (content_by b))) h.0 ]
+
+-- What was made of a reply to INIT is a reply to INIT.
+pub init_reply_said : (said : InitSaid) → is_init_reply (init_wire said) ≡ true
+init_reply_said (init_said.Failed errno) = refl
+init_reply_said (init_said.Agreed major minor) = refl

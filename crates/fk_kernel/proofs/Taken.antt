@@ -1,24 +1,17 @@
 -- What becomes of a reply, put together from its cases.
-use Rattle.std.proofs.Common.{◌≡◌, ◌≢◌, ℕ, ◌-◌, ◌%◌, ◌≤◌, Bool, true, false, cond, List, Option, Some, None, Result, Ok, Err, nat_eq, refl, ap, sym, subst, ◌∙◌, inl, inr}
-use Rattle.std.specs.Prelude.{IfOk, is_some}
+use Rattle.std.proofs.Common.{◌≡◌, ◌≢◌, ℕ, ◌-◌, ◌%◌, Bool, true, false, cond, List, Option, Some, None, nat_eq, refl, ap, sym, subst, ◌∙◌, inl, inr}
+use Rattle.std.specs.Prelude.{is_some}
 use Rattle.std.proofs.lemmas.Bool.Decides.{eqb_tells}
-use Rattle.fuse_spec.specs.declared.Refusal.{Refusal}
 use Rattle.fk_wire.specs.declared.opcode.Opcode.{Opcode}
 use Rattle.fk_wire.specs.declared.opcode.Opcode.TheVariants as op
 use Rattle.fuse_spec.specs.declared.Purpose.{Purpose}
 use Rattle.fuse_spec.specs.declared.WriteResult.{WriteResult}
-use Rattle.fuse_spec.specs.declared.WriteResult.TheVariants.{Accepted, Invalid}
+use Rattle.fuse_spec.specs.declared.WriteResult.TheVariants.{Accepted}
 use Rattle.fuse_spec.specs.Kernel.{Kernel}
 use Rattle.fuse_spec.specs.Messages.{WireReply}
-use Rattle.fuse_spec.specs.Operations as reply
 use Rattle.fuse_spec.specs.QueueCalls.{waiting, without}
-use Rattle.fuse_spec.specs.Replies.{reply_written, reply_taken, odd_taken, interrupt_replied, is_agreement}
-use Rattle.fk_kernel.specs.Said.{Says, SaysNothing, Awaited, nothing, gone, reply_to, awaited, awaited_by, awaited_by_interrupt, wrong_body, IsJudged, IsAwaited, IsTaken}
-
--- Where nothing or no call awaits the reply there is little to say.
-awaited_judged : (o : Opcode) → IsJudged o → IsAwaited (reply_to o)
-awaited_judged op.Init is = absurd is
-awaited_judged o is = is
+use Rattle.fuse_spec.specs.Replies.{reply_written, reply_taken, odd_taken, interrupt_replied}
+use Rattle.fk_kernel.specs.Said.{Says, SaysNothing, Awaited, nothing, gone, reply_to, awaited, awaited_by, awaited_by_interrupt, wrong_body, wrong_body_to, IsJudged, IsTaken}
 
 abbrev opcode_in : Awaited → Opcode
 opcode_in (reply_to o) = o
@@ -31,9 +24,6 @@ module _ (k : Kernel) (unique : ℕ) (bytes : List ℕ) (result : WriteResult) (
     gone = λ e. cc;
     said = λ o is e. cc;
     unsaid = λ o is e. cc;
-    init = λ e. cc;
-    init_refused = λ e. cc;
-    no_init = λ e. cc;
   }
 
   pub taken_gone : result ≡ Accepted → after ≡ record k { queues = without k.queues unique } → IsTaken k unique bytes gone result after
@@ -42,34 +32,14 @@ module _ (k : Kernel) (unique : ℕ) (bytes : List ℕ) (result : WriteResult) (
     gone = λ e. (accepted, ends);
     said = λ o is e. cc;
     unsaid = λ o is e. cc;
-    init = λ e. cc;
-    init_refused = λ e. cc;
-    no_init = λ e. cc;
   }
 
-  pub taken_judged : (o : Opcode) → IsJudged o → ((wire : WireReply) → Says o bytes wire → reply_written k unique wire ≡ (result, after)) → (SaysNothing o bytes → reply_written k unique wrong_body ≡ (result, after)) → IsTaken k unique bytes (reply_to o) result after
+  pub taken_judged : (o : Opcode) → IsJudged o → ((wire : WireReply) → Says o bytes wire → reply_written k unique wire ≡ (result, after)) → (SaysNothing o bytes → reply_written k unique (wrong_body_to o) ≡ (result, after)) → IsTaken k unique bytes (reply_to o) result after
   taken_judged o is say none = record {
-    kinds = awaited_judged o is;
+    kinds = is;
     gone = λ e. cc;
     said = λ other its e wire says. say wire (subst (λ (p : Opcode). Says p bytes wire) (sym (ap opcode_in e)) says);
-    unsaid = λ other its e nothing. none (subst (λ (p : Opcode). SaysNothing p bytes) (sym (ap opcode_in e)) nothing);
-    init = λ e. absurd (subst IsJudged (ap opcode_in e) is);
-    init_refused = λ e. absurd (subst IsJudged (ap opcode_in e) is);
-    no_init = λ e. absurd (subst IsJudged (ap opcode_in e) is);
-  }
-
-  pub taken_init : ((minor : ℕ) → 31 ≤ minor → Says op.Init bytes (reply.agreed 7 minor) → reply_written k unique (reply.agreed 7 minor) ≡ (result, after))
-      → ((wire : WireReply) → is_agreement wire ≡ false → Says op.Init bytes wire → (result ≡ Invalid) × (after ≡ k))
-      → (SaysNothing op.Init bytes → (result ≡ Invalid) × (after ≡ k))
-      → IsTaken k unique bytes (reply_to op.Init) result after
-  taken_init agreed refused unsaid = record {
-    kinds = tt;
-    gone = λ e. cc;
-    said = λ other its e. absurd (subst IsJudged (sym (ap opcode_in e)) its);
-    unsaid = λ other its e. absurd (subst IsJudged (sym (ap opcode_in e)) its);
-    init = λ e. agreed;
-    init_refused = λ e. refused;
-    no_init = λ e. unsaid;
+    unsaid = λ other its e nothing. ap (λ (p : Opcode). reply_written k unique (wrong_body_to p)) (sym (ap opcode_in e)) ∙ none (subst (λ (p : Opcode). SaysNothing p bytes) (sym (ap opcode_in e)) nothing);
   }
 
   -- a reply under an odd unique
@@ -108,10 +78,3 @@ odd_test u v same odd = subst (λ (n : ℕ). nat_eq (n % 2) 1 ≡ true) same (el
 
 pub even_test : (u v : ℕ) → u ≡ v → u % 2 ≢ 1 → nat_eq (v % 2) 1 ≡ false
 even_test u v same even = subst (λ (n : ℕ). nat_eq (n % 2) 1 ≡ false) same (elim (eqb_tells (u % 2) 1) [ inl h ↦ absurd (even h.1) | inr h ↦ h.0 ])
-
-pub taken_if_ok : (k : Kernel) (unique : ℕ) (bytes : List ℕ) (r : Result WriteResult Refusal) (after : Kernel) (o : Opcode) → IsJudged o
-    → ((wire : WireReply) → Says o bytes wire → IfOk r (λ w. reply_written k unique wire ≡ (w, after)))
-    → (SaysNothing o bytes → IfOk r (λ w. reply_written k unique wrong_body ≡ (w, after)))
-    → IfOk r (λ w. IsTaken k unique bytes (reply_to o) w after)
-taken_if_ok k unique bytes (Ok w) after o is said unsaid = taken_judged k unique bytes w after o is said unsaid
-taken_if_ok k unique bytes (Err e) after o is said unsaid = tt

@@ -1,5 +1,5 @@
 -- What the bytes of a reply say to the request that awaits it.
-use Rattle.std.specs.Prelude.{◌≡◌, ℕ, ◌-◌, ◌%◌, ◌≤◌, false, cond, List, Option, Some, None, nat_eq}
+use Rattle.std.specs.Prelude.{◌≡◌, ℕ, ◌-◌, ◌%◌, cond, List, Option, Some, None, nat_eq}
 use Rattle.fk_wire.specs.declared.opcode.Opcode.{Opcode}
 use Rattle.fk_wire.specs.declared.opcode.Opcode.TheVariants as op
 use Rattle.fk_wire.specs.Fields.{number_at}
@@ -13,9 +13,9 @@ use Rattle.fuse_spec.specs.Messages.{WireReply}
 use Rattle.fuse_spec.specs.Maps.{get}
 use Rattle.fuse_spec.specs.Vfs.{CallState, asked}
 use Rattle.fuse_spec.specs.QueueCalls.{waiting, without}
-use Rattle.fuse_spec.specs.Replies.{reply_written, is_agreement}
+use Rattle.fuse_spec.specs.Replies.{reply_written}
 use Rattle.fuse_spec.specs.declared.WriteResult.{WriteResult}
-use Rattle.fuse_spec.specs.declared.WriteResult.TheVariants.{Accepted, Invalid}
+use Rattle.fuse_spec.specs.declared.WriteResult.TheVariants.{Accepted}
 use Rattle.fuse_spec.specs.Kernel.{Kernel}
 use Rattle.fuse_frames.specs.ReplyTies.{SaysReply}
 use Rattle.fk_kernel.specs.declared.said.InitSaid.{InitSaid}
@@ -40,10 +40,14 @@ pub record Says (o : Opcode) (bytes : List ℕ) (wire : WireReply) : Type 0 wher
 abbrev pub SaysNothing : Opcode → List ℕ → Type 0
 SaysNothing o bytes = (wire : WireReply) → Says o bytes wire → ⊥
 
+-- What was made out of a reply to INIT, as it was said.
+abbrev pub init_wire : InitSaid → WireReply
+init_wire (init_said.Failed errno) = reply.failed errno
+init_wire (init_said.Agreed major minor) = reply.agreed major minor
+
 -- They say what was made out of them.
 abbrev pub SaysToInit : List ℕ → InitSaid → Type 0
-SaysToInit bytes (init_said.Failed errno) = Says op.Init bytes (reply.failed errno)
-SaysToInit bytes (init_said.Agreed major minor) = Says op.Init bytes (reply.agreed major minor)
+SaysToInit bytes said = Says op.Init bytes (init_wire said)
 
 abbrev pub SaysToInterrupt : List ℕ → InterruptSaid → Type 0
 SaysToInterrupt bytes (interrupt_said.Failed errno) = Says op.Interrupt bytes (reply.failed errno)
@@ -91,14 +95,18 @@ awaited k unique = cond (nat_eq (unique % 2) 1) (awaited_by_interrupt (waiting k
 abbrev pub wrong_body : WireReply
 wrong_body = reply.agreed 0 0
 
--- The bytes say this, or they say nothing, which is taken as a body that goes with no operation.
+-- A body that is no reply to a request of this opcode.
+abbrev pub wrong_body_to : Opcode → WireReply
+wrong_body_to op.Init = reply.done
+wrong_body_to o = wrong_body
+
+-- The bytes say this, or they say nothing, which is taken as a body that is no reply to the request.
 pub data Means (o : Opcode) (bytes : List ℕ) : WireReply → Type 0 where
   said : (wire : WireReply) → Says o bytes wire → Means o bytes wire
-  unsaid : SaysNothing o bytes → Means o bytes wrong_body
+  unsaid : SaysNothing o bytes → Means o bytes (wrong_body_to o)
 
--- The kinds of request whose replies are judged as the machine judges them: all that the kernel sends, but INIT.
+-- The kinds of request whose replies are judged: all that the kernel sends and that await a reply.
 abbrev pub IsJudged : Opcode → Type 0
-IsJudged op.Init = ⊥
 IsJudged op.Forget = ⊥
 IsJudged op.BatchForget = ⊥
 IsJudged op.Readdirplus = ⊥
@@ -108,16 +116,12 @@ IsJudged o = Unit {0}
 abbrev pub IsAwaited : Awaited → Type 0
 IsAwaited nothing = Unit {0}
 IsAwaited gone = Unit {0}
-IsAwaited (reply_to op.Init) = Unit {0}
 IsAwaited (reply_to o) = IsJudged o
 
--- What becomes of a reply with a head, by what awaits it. One to INIT that is no agreement is put off so far: it is refused, and changes nothing.
+-- What becomes of a reply with a head, by what awaits it.
 pub record IsTaken (k : Kernel) (unique : ℕ) (bytes : List ℕ) (awaits : Awaited) (result : WriteResult) (after : Kernel) : Type 0 where
   pub kinds : IsAwaited awaits
   -- the call is not unanswered: the request just ends
   pub gone : awaits ≡ gone → (result ≡ Accepted) × (after ≡ record k { queues = without k.queues unique })
   pub said : (o : Opcode) → IsJudged o → awaits ≡ reply_to o → (wire : WireReply) → Says o bytes wire → reply_written k unique wire ≡ (result, after)
-  pub unsaid : (o : Opcode) → IsJudged o → awaits ≡ reply_to o → SaysNothing o bytes → reply_written k unique wrong_body ≡ (result, after)
-  pub init : awaits ≡ reply_to op.Init → (minor : ℕ) → 31 ≤ minor → Says op.Init bytes (reply.agreed 7 minor) → reply_written k unique (reply.agreed 7 minor) ≡ (result, after)
-  pub init_refused : awaits ≡ reply_to op.Init → (wire : WireReply) → is_agreement wire ≡ false → Says op.Init bytes wire → (result ≡ Invalid) × (after ≡ k)
-  pub no_init : awaits ≡ reply_to op.Init → SaysNothing op.Init bytes → (result ≡ Invalid) × (after ≡ k)
+  pub unsaid : (o : Opcode) → IsJudged o → awaits ≡ reply_to o → SaysNothing o bytes → reply_written k unique (wrong_body_to o) ≡ (result, after)

@@ -56,6 +56,14 @@ impl<Q: QueueTable<Purpose> + Drop> KernelOf<Q> {
         if !self.is_live() {
             return Err(Refusal::NotReady);
         }
+        self.give_up();
+        Ok(())
+    }
+
+    /// The mount is over: each unanswered call is answered ECONNABORTED, and all else is given up. Takes no memory.
+    pub(crate) fn give_up(&mut self)
+        ensures { self.new ≡ kernel_aborted self.old }
+    {
         answer_all(self.calls.rows(), &mut self.answers);
         self.calls.clear();
         self.opens.clear();
@@ -64,6 +72,5 @@ impl<Q: QueueTable<Purpose> + Drop> KernelOf<Q> {
         self.nodes.clear();
         self.queues.abort();
         self.phase = Phase::Aborted;
-        Ok(())
     }
 }

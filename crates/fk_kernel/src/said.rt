@@ -7,7 +7,8 @@ ghost use Rattle.fuse_spec.specs.Messages.{WireReply};
 ghost use Rattle.fuse_spec.specs.Operations as reply;
 ghost use Rattle.fuse_frames.specs.ReplyTies.{wire_said};
 ghost use Rattle.fk_kernel.specs.ReplyCases.{IsLookupReply, IsMkdirReply, IsGetattrReply, IsInitReply, IsInterruptReply};
-ghost use Rattle.fk_kernel.specs.Said.{Says, SaysNothing, SaysToInit, SaysToInterrupt};
+ghost use Rattle.fuse_spec.specs.Replies.{is_agreement};
+ghost use Rattle.fk_kernel.specs.Said.{Says, SaysNothing, SaysToInit, SaysToInterrupt, init_wire};
 
 use fk_wire::{Opcode, ReplyBody, read_reply};
 
@@ -34,6 +35,16 @@ pub(crate) fn failure(error: i32) -> Option<u32>
         return None;
     }
     Some(error.unsigned_abs())
+}
+
+/// Whether a reply to INIT agrees on major 7 and a minor from 31 up, which is taken as 31 (this project's rule).
+pub(crate) fn agrees(said: &InitSaid) -> bool
+    ensures { result ≡ is_agreement (init_wire said.now) }
+{
+    match said {
+        InitSaid::Failed { .. } => false,
+        InitSaid::Agreed { major, minor } => *major == 7 && *minor >= 31,
+    }
 }
 
 /// What the bytes say to INIT, if they are a reply to it.

@@ -1,15 +1,14 @@
 //! How replies are taken.
 
-ghost use Rattle.std.specs.Prelude.{◌≡◌, ◌<◌, ◌+◌, ◌≤◌, ◌%◌, ℕ, Some, None, Ok, OnErr, IfOk, IfErr, true, false, is_some, nat_eq};
+ghost use Rattle.std.specs.Prelude.{◌≡◌, ◌%◌, Some, None, Ok, OnErr, IfOk, IfErr, true, false, is_some, nat_eq};
 ghost use Rattle.fuse_spec.specs.Messages.{WireReply};
-ghost use Rattle.fuse_spec.specs.Operations as reply;
-ghost use Rattle.fuse_spec.specs.Replies.{reply_written, is_agreement, interrupt_reply_of, interrupt_replied};
-ghost use Rattle.fk_kernel.specs.Said.{Says, SaysNothing, HasReplyHead, head_unique, awaited, nothing, wrong_body, IsTaken};
+ghost use Rattle.fuse_spec.specs.Replies.{reply_written, interrupt_reply_of, interrupt_replied};
+ghost use Rattle.fk_kernel.specs.Said.{Says, SaysNothing, HasReplyHead, head_unique, awaited, nothing, wrong_body, wrong_body_to, IsTaken};
 ghost use Rattle.fk_kernel.specs.Refused.{WriteRefused};
 ghost use Rattle.fuse_spec.specs.QueueCalls.{after_interrupt_reply, waiting};
 
 use crate::kernel::KernelOf;
-use crate::said::{InitSaid, InterruptSaid, said_to_init, said_to_interrupt};
+use crate::said::{InterruptSaid, agrees, said_to_init, said_to_interrupt};
 use fk_queues::QueueTable;
 use fk_wire::{Opcode, read_reply_head};
 use fuse_spec::{Phase, Purpose, Refusal, WriteResult};
@@ -79,22 +78,23 @@ impl<Q: QueueTable<Purpose> + Drop> KernelOf<Q> {
         }
     }
 
-    /// An agreement on 7.31 or later makes the mount ready. For now any other reply is refused and changes nothing.
+    /// A reply to INIT: an agreement on 7.31 or later makes the mount ready. Any other reply, and bytes that are none, abort it.
     fn write_to_init(&mut self, unique: u64, bytes: &[u8]) -> WriteResult
         requires even { nat_eq (unique % 2) 1 ≡ false }
         requires waits { waiting self.old.queues unique ≡ Some Purpose.Init }
-        ensures agreed { (minor : ℕ) → 31 ≤ minor → Says Opcode.Init bytes.now (reply.agreed 7 minor) → reply_written self.old unique (reply.agreed 7 minor) ≡ (result, self.new) }
-        ensures refused { (wire : WireReply) → is_agreement wire ≡ false → Says Opcode.Init bytes.now wire → (result ≡ WriteResult.Invalid) × (self.new ≡ self.old) }
-        ensures unsaid { SaysNothing Opcode.Init bytes.now → (result ≡ WriteResult.Invalid) × (self.new ≡ self.old) }
+        ensures said { (wire : WireReply) → Says Opcode.Init bytes.now wire → reply_written self.old unique wire ≡ (result, self.new) }
+        ensures unsaid { SaysNothing Opcode.Init bytes.now → reply_written self.old unique (wrong_body_to Opcode.Init) ≡ (result, self.new) }
     {
-        let Some(InitSaid::Agreed { major, minor }) = said_to_init(bytes) else {
+        let Some(said) = said_to_init(bytes) else {
+            self.give_up();
             return WriteResult::Invalid;
         };
-        if major != 7 || minor < 31 {
-            return WriteResult::Invalid;
+        if agrees(&said) {
+            let _kept = self.queues.answer(unique);
+            self.phase = Phase::Ready;
+        } else {
+            self.give_up();
         }
-        let _kept = self.queues.answer(unique);
-        self.phase = Phase::Ready;
         WriteResult::Accepted
     }
 }

@@ -16,7 +16,7 @@ use Rattle.fs_server.specs.Interrupts.{Interrupts, RefusesInterrupt}
 use Rattle.fs_server.specs.Taking.{body_of, is_held}
 use Rattle.fs_server.proofs.Frames.{fault_in, holds, interrupts, refuses_for}
 
-asked_so : (nodeid : ℕ) (content : RequestContent) → is_held content ≡ true → body_in nodeid content ≡ Some (body_of nodeid content)
+pub asked_so : (nodeid : ℕ) (content : RequestContent) → is_held content ≡ true → body_in nodeid content ≡ Some (body_of nodeid content)
 asked_so nodeid (wire.init major minor flags) is = refl
 asked_so nodeid (wire.lookup name) is = refl
 asked_so nodeid wire.getattr is = refl

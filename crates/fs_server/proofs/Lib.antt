@@ -9,3 +9,4 @@ pub mod Stays
 pub mod Outcomes
 pub mod Faulty
 pub mod Becoming
+pub mod Wanting

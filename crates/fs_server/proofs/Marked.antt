@@ -12,7 +12,7 @@ use Rattle.fuse_spec.specs.Operations.{failed}
 use Rattle.fuse_spec.specs.Messages.{interrupt}
 use Rattle.fuse_spec.specs.Server.{Server, HeldRequest, Kept, sending}
 use Rattle.fuse_spec.specs.Taking.{TakeResult, interrupting, taking}
-use Rattle.fuse_spec.specs.declared.Taken.TheVariants.{Marked, Ignored}
+use Rattle.fuse_spec.specs.declared.Taken.TheVariants.{Marked, Ignored, Again}
 use Rattle.fuse_spec.proofs.Tables.{get_put_here, get_put_there, get_gone_there}
 use Rattle.fs_server.specs.declared.server.ServerFault.{ServerFault}
 use Rattle.fs_server.specs.declared.server.ServerFault.TheVariants as fault
@@ -87,6 +87,9 @@ module _ (s : Server) (unique original : ℕ) where
       -- and that of one that isn't known is answered
       pub answers : {A : Type 0} (took : Took A) (new : Server) → AsksAgain s unique took new → Interrupts s unique original took new
       answers took new asks = by_result (interrupting s unique original None None) unknown took new asks.under asks.word asks.after asks.copy
+
+      pub asks_again : comes.word ≡ Again
+      asks_again = ap (λ (r : TakeResult). r.word) unknown
 
       pub refuses : (f : ServerFault) → RefusesEagain s unique f → RefusesInterrupt s unique original f
       refuses f e = e ∙ sym (ap (λ (r : TakeResult). past_or_memory (is_past_end r.server)) unknown)

@@ -11,6 +11,8 @@ use Rattle.fuse_spec.specs.Server.{Server, HeldRequest, Kept, Copy, RequestFault
 use Rattle.fuse_spec.specs.Copies.{given_back, is_current, sent_again, settled}
 use Rattle.fuse_spec.specs.Taking.{taking}
 use Rattle.fuse_spec.specs.declared.ReplyResult.{ReplyResult}
+use Rattle.fuse_spec.specs.declared.Taken.{Taken}
+use Rattle.fuse_spec.specs.declared.Taken.TheVariants.{Held, Forgot, Marked, Ignored, Again}
 use Rattle.fuse_spec.specs.declared.Refusal.{Refusal}
 use Rattle.fuse_spec.specs.declared.Refusal.TheVariants.{NoSuch, NoCopy, Exhausted}
 use Rattle.fuse_spec.specs.declared.Validity.{Validity}
@@ -74,6 +76,18 @@ pub record TakesFrame {A : Type 0} (old : Server) (bytes : List ℕ) (took : Too
 pub record RefusesFrame (old : Server) (bytes : List ℕ) (fault : ServerFault) : Type 0 where
   pub of_request : (request : Request) → SaysRequest bytes request → fault ≡ refused_for old request
   pub of_none : ((request : Request) → SaysRequest bytes request → ⊥) → fault ≡ Wire
+
+-- Whether a request that is taken with this word takes memory: what is held does, and what is answered at once.
+abbrev pub takes_memory : Taken → Bool
+takes_memory Held = true
+takes_memory Again = true
+takes_memory Forgot = false
+takes_memory Marked = false
+takes_memory Ignored = false
+
+-- Taking the request that a frame spells takes memory.
+abbrev pub WantsMemory : Server → List ℕ → Type 0
+WantsMemory s bytes = (request : Request) → SaysRequest bytes request → takes_memory (taking s request.unique request.body).word ≡ true
 
 -- These lookups are given back, and nameless files that nothing holds go.
 abbrev pub Forgets : FilesState → List Forget → FilesState → Type 0

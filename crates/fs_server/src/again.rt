@@ -47,6 +47,7 @@ impl<A: Allocator + Copy> Server<A> {
     pub fn again(&mut self, unique: u64) -> Result<ReplyCopy<A>, Refusal>
         ensures err { OnErr result (self.new ≡ self.old) }
         ensures refusal { IfErr result (λ refusal. RefusesAgain self.old unique refusal ⊎ (refusal ≡ NoMemory)) }
+        ensures memory { IfErr result (λ refusal. refusal ≡ NoMemory → CanSendAgain self.old unique) }
         ensures sent { IfOk result (λ copy. SendsAgain self.old unique copy self.new) }
     {
         if let Some(refusal) = self.again_refusal(unique) {

@@ -2,7 +2,10 @@
 
 ghost use Rattle.std.specs.Prelude.{◌≡◌, true, None, Some, OnErr, IfErr, IfOk};
 ghost use Rattle.fuse_spec.specs.Maps.{get, put};
+ghost use Rattle.fuse_spec.specs.Messages.{interrupt as asked};
 ghost use Rattle.fuse_spec.specs.Server.{HeldRequest as HeldState};
+ghost use Rattle.fuse_spec.specs.Taking.{taking};
+ghost use Rattle.fuse_spec.specs.declared.Taken.TheVariants.{Again as AgainWord};
 ghost use Rattle.fs_server.specs.Interrupts.{AsksAgain, Interrupts, RefusesEagain, RefusesInterrupt};
 
 use crate::replies::SentCopy;
@@ -24,6 +27,7 @@ impl<A: Allocator + Copy> Server<A> {
     pub(crate) fn interrupt(&mut self, unique: u64, original: u64) -> Result<Took<A>, ServerFault>
         ensures refused { OnErr result (self.new ≡ self.old) }
         ensures fault { IfErr result (RefusesInterrupt self.old unique original) }
+        ensures answered { OnErr result ((taking self.old unique (asked original)).word ≡ AgainWord) }
         ensures effect { IfOk result (λ took. Interrupts self.old unique original took self.new) }
     {
         if self.held.get(original).is_some() {

@@ -40,6 +40,7 @@ impl<A: Allocator + Copy> Server<A> {
     pub fn perform(&mut self, unique: u64) -> Result<Done<A>, Refusal>
         ensures err { OnErr result (self.new ≡ self.old) }
         ensures refusal { IfErr result (λ refusal. RefusesHeld self.old unique refusal ⊎ (refusal ≡ NoMemory)) }
+        ensures memory { IfErr result (λ refusal. refusal ≡ NoMemory → CanPerform self.old unique) }
         ensures performed { IfOk result (λ done. PerformsHeld self.old unique done.errno done.copy self.new) }
     {
         if let Some(refusal) = self.perform_refusal(unique) {

@@ -9,7 +9,7 @@ ghost use Rattle.fk_wire.specs.Pairs.{pairs_in};
 ghost use Rattle.fuse_frames.specs.RequestTies.{body_in};
 ghost use Rattle.fk_wire.specs.Requests.{request_content};
 ghost use Rattle.fs_server.specs.declared.server.ServerFault.TheVariants.{Memory as MemoryFault};
-ghost use Rattle.fs_server.specs.Effects.{Forgets, TakesFrame, RefusesFrame, request_fault};
+ghost use Rattle.fs_server.specs.Effects.{Forgets, TakesFrame, RefusesFrame, WantsMemory, request_fault};
 ghost use Rattle.fs_server.specs.Taking.{IsFaultless, body_of, forgets_in, forgets_too_many, is_forgetting, is_held, knows, serves};
 
 use crate::holding::held_request;
@@ -22,8 +22,8 @@ use fuse_spec::Taken;
 use std::alloc::Allocator;
 
 impl<A: Allocator + Copy> Server<A> {
-    /// Takes a request frame: forgets and INTERRUPTs are done at once, and any other request is held until it is performed. Forgets
-    /// take no memory.
+    /// Takes a request frame: forgets and INTERRUPTs are done at once, and any other request is held until it is performed. Memory is
+    /// taken only by what is held and by an INTERRUPT that is answered.
     ///
     /// # Errors
     ///
@@ -32,6 +32,7 @@ impl<A: Allocator + Copy> Server<A> {
     pub fn take(&mut self, bytes: &[u8]) -> Result<Took<A>, ServerFault>
         ensures refused { OnErr result (self.new ≡ self.old) }
         ensures effect { MatchResult result (λ took. TakesFrame self.old bytes.now took self.new) (RefusesFrame self.old bytes.now) }
+        ensures memory { IfErr result (λ fault. fault ≡ MemoryFault → WantsMemory self.old bytes.now) }
     {
         self.within();
         let Ok(request) = read_request(bytes) else {

@@ -9,7 +9,7 @@ use Rattle.fk_wire.specs.Opcodes.{served}
 use Rattle.fk_wire.proofs.OneRequest.{decoded_is}
 use Rattle.fk_wire.proofs.Frames.{spells}
 use Rattle.fuse_spec.specs.Messages.{RequestBody, Request}
-use Rattle.fuse_frames.specs.RequestTies.{SaysRequest, IsRequestFrame, request_in, body_in, body_or, asked_opcode}
+use Rattle.fuse_frames.specs.RequestTies.{SaysRequest, IsRequestFrame, request_in, body_in, body_or, asked_opcode, content_of}
 
 pub frame_says : (bytes : List ℕ) (request : Request) → IsRequestFrame bytes request → SaysRequest bytes request
 frame_says bytes request h = record { message = h.message; spells = spells served h.message bytes h.written; unique = h.unique; says = h.says }
@@ -27,11 +27,11 @@ one_request bytes request h =
 -- what is written is seen as the request that was to be written
 pub framed_is : (message : RequestMessage) (bytes : List ℕ) (body : RequestBody) → Written message bytes → body_in message.nodeid message.content ≡ Some body → request_in bytes ≡ record { unique = message.unique; body = body }
 framed_is message bytes body w e =
-    one_request bytes (record { unique = message.unique; body = body }) (frame_says bytes (record { unique = message.unique; body = body }) (record { message = message; written = w; unique = refl; says = e }))
+    one_request bytes (record { unique = message.unique; body = body }) (record { message = message; spells = spells served message bytes w; unique = refl; says = e })
 
-pub is_framed : (message : RequestMessage) (bytes : List ℕ) (body : RequestBody) → Written message bytes → body_in message.nodeid message.content ≡ Some body → IsRequestFrame bytes (request_in bytes)
-is_framed message bytes body w e =
-    subst (λ (r : Request). IsRequestFrame bytes r) (sym (framed_is message bytes body w e)) (record { message = message; written = w; unique = refl; says = e })
+pub is_framed : (message : RequestMessage) (bytes : List ℕ) (body : RequestBody) → Written message bytes → body_in message.nodeid message.content ≡ Some body → message.content ≡ content_of body → IsRequestFrame bytes (request_in bytes)
+is_framed message bytes body w e is =
+    subst (λ (r : Request). IsRequestFrame bytes r) (sym (framed_is message bytes body w e)) (record { message = message; written = w; unique = refl; says = e; content = is })
 
 -- what was appended to an empty vector is all that it has
 pub all_written : {P : List ℕ → Type 0} (old items : List ℕ) → old ≡ [] → (frame : List ℕ) × P frame × (items ≡ old ++ frame) → P items

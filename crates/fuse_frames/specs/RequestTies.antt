@@ -49,6 +49,26 @@ asked_opcode (forget f) = op.Forget
 asked_opcode (batch_forget fs) = op.BatchForget
 asked_opcode (interrupt original) = op.Interrupt
 
+-- How a request is written. INIT is of version 7.31, with the flags ASYNC_READ (bit 0) and PARALLEL_DIROPS (bit 18).
+abbrev pub content_of : RequestBody → RequestContent
+content_of init = wire.init 7 31 262145
+content_of (asks (operation.lookup d name)) = wire.lookup name
+content_of (asks (operation.getattr x)) = wire.getattr
+content_of (asks (operation.mkdir d name)) = wire.mkdir name
+content_of (asks (operation.create d name)) = wire.create name
+content_of (asks (operation.unlink d name)) = wire.unlink name
+content_of (asks (operation.rmdir d name)) = wire.rmdir name
+content_of (asks (operation.rename d old e new)) = wire.rename e old new
+content_of (asks (operation.link x d name)) = wire.link x name
+content_of (asks (operation.opening x)) = wire.opening
+content_of (asks (operation.readdir d after size)) = wire.readdir after size
+content_of (asks (operation.read o offset size)) = wire.read o.fh offset size
+content_of (asks (operation.write o offset bytes)) = wire.write o.fh offset bytes
+content_of (release o) = wire.release o.fh
+content_of (forget f) = wire.forget f.1
+content_of (batch_forget fs) = wire.batch_forget fs
+content_of (interrupt original) = wire.interrupt original
+
 -- The bytes spell this request.
 pub record SaysRequest (bytes : List ℕ) (request : Request) : Type 0 where
   pub message : RequestMessage
@@ -62,6 +82,7 @@ pub record IsRequestFrame (bytes : List ℕ) (request : Request) : Type 0 where
   pub written : Written message bytes
   pub unique : message.unique ≡ request.unique
   pub says : body_in message.nodeid message.content ≡ Some request.body
+  pub content : message.content ≡ content_of request.body
 
 abbrev pub body_or : Option RequestBody → RequestBody
 body_or None = init

@@ -5,7 +5,7 @@ ghost use Rattle.fk_wire.specs.Requests.{request_content};
 ghost use Rattle.fuse_spec.specs.Messages.{RequestBody as Asked, init, asks, forget, batch_forget, interrupt};
 ghost use Rattle.fuse_spec.specs.Operations.{lookup, getattr, mkdir};
 ghost use Rattle.fuse_spec.specs.Worlds.{forget_body};
-ghost use Rattle.fuse_frames.specs.RequestTies.{IsRequestFrame, body_in, asked_opcode};
+ghost use Rattle.fuse_frames.specs.RequestTies.{IsRequestFrame, body_in, content_of, asked_opcode};
 
 use crate::pair_bytes::pair_bytes;
 use bitflags::Flags;
@@ -38,7 +38,7 @@ pub(crate) fn framed<A: Allocator>(
     alloc: A,
     request: &fk_wire::Request<'_>,
 ) -> Result<RequestFrame<A>, AllocError>
-    requires { (body : Asked) × (body_in request.now.nodeid (request_content request.now.body) ≡ Some body) }
+    requires { (body : Asked) × (body_in request.now.nodeid (request_content request.now.body) ≡ Some body) × (request_content request.now.body ≡ content_of body) }
     ensures { (body : Asked) → body_in request.now.nodeid (request_content request.now.body) ≡ Some body → IfOk result (λ frame. frame ≡ record { unique = request.now.unique; body = body }) }
 {
     let mut bytes = Vec::new(alloc);
@@ -61,14 +61,15 @@ impl<A: Allocator> RequestFrame<A> {
         }
     }
 
-    /// The frame's bytes.
+    /// The frame's bytes: the one frame in which the request is written.
     pub fn bytes(&self) -> &[u8]
         ensures { IsRequestFrame result.now self.now }
     {
         &self.bytes
     }
 
-    /// INIT of the version that the kernel speaks, 7.31, with the flags that it offers.
+    /// INIT of the version that the kernel speaks, 7.31, with the flags that it offers, FUSE_ASYNC_READ and
+    /// FUSE_PARALLEL_DIROPS (uapi fuse.h). That its frame says so is in the invariant: `content_of` has what is written.
     pub fn init(alloc: A, unique: u64) -> Result<RequestFrame<A>, AllocError>
         ensures { IfOk result (λ frame. frame ≡ record { unique = unique; body = init }) }
     {

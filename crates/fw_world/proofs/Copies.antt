@@ -13,6 +13,7 @@ use Rattle.fuse_spec.specs.declared.Opened.{Opened}
 use Rattle.fuse_spec.specs.declared.Purpose.{Purpose}
 use Rattle.fuse_spec.specs.declared.Refusal.{Refusal}
 use Rattle.fuse_spec.specs.declared.Purpose.TheVariants as purpose
+use Rattle.fuse_spec.specs.declared.QueuedRequest.{QueuedRequest}
 use Rattle.fuse_spec.specs.declared.WriteResult.{WriteResult}
 use Rattle.fuse_spec.specs.declared.WriteResult.TheVariants.{NoEntry}
 use Rattle.fuse_spec.specs.Maps.{get}
@@ -32,12 +33,15 @@ use Rattle.fuse_theorem.specs.EachEvent.{CanHear}
 use Rattle.fuse_theorem.specs.EachEvent as each
 use Rattle.fuse_theorem.specs.Conditions.{awaiting}
 use Rattle.fuse_theorem.specs.Reached.{IsReached}
+use Rattle.fuse_theorem.specs.RepliesFit.{FitsPurpose}
+use Rattle.fuse_theorem.proofs.Answered.{waiting_is}
+use Rattle.fuse_theorem.proofs.Finding.{All-found}
 use Rattle.fuse_theorem.proofs.Queuing.{All-at}
 use Rattle.fuse_theorem.proofs.WriteNeeds.{write_met}
-use Rattle.fk_kernel.specs.Said.{Says, HasReplyHead, head_unique, Awaited, reply_to, awaited, awaited_by, awaited_by_call, awaited_by_interrupt, opcode_of, IsTaken, IsAwaited, IsJudged}
+use Rattle.fk_kernel.specs.Said.{Says, HasReplyHead, head_unique, Awaited, reply_to, awaited, awaited_by, awaited_by_call, awaited_by_interrupt, opcode_of, IsTaken, IsAwaited, IsJudged, Means}
+use Rattle.fk_kernel.specs.Said.{said as means_said}
 use Rattle.fk_kernel.specs.Said as said
 use Rattle.fk_kernel.specs.Refused.{is_past_end, WriteRefused, no_memory, exhausted}
-use Rattle.fk_kernel.proofs.Sayings.{says_one}
 use Rattle.fw_world.proofs.Refusing.{past_written}
 
 -- What says a reply has its head.
@@ -98,7 +102,7 @@ module _ (w : World) (here : IsReached w) (place : ℕ) (sent : Sent) (found : s
     (frame : (o : Opcode) × SaysReply o bytes sent.unique sent.wire)
     (fits : (operation : Operation ℕ Opened) → goes_with operation sent.wire ≡ true → SaysReply (asked_opcode (asks operation)) bytes sent.unique sent.wire)
     (init : is_init_reply sent.wire ≡ true → SaysReply opcode.Init bytes sent.unique sent.wire)
-    (empty : is_empty_reply sent.wire ≡ true → SaysReply opcode.Interrupt bytes sent.unique sent.wire) where
+    (empty : is_empty_reply sent.wire ≡ true → SaysReply opcode.Release bytes sent.unique sent.wire × SaysReply opcode.Interrupt bytes sent.unique sent.wire) where
   head : HasReplyHead bytes × (head_unique bytes ≡ sent.unique)
   head = says_head frame.0 bytes sent.unique sent.wire frame.1
 
@@ -126,7 +130,17 @@ module _ (w : World) (here : IsReached w) (place : ℕ) (sent : Sent) (found : s
       let number : sent.unique % 2 ≡ 1 = grind (arith, nat_tests, odd) in
       let fit = here.sound.fits live in
       let none_said = All-at (λ (s : Sent). s.unique % 2 ≡ 1 → is_empty_reply s.wire ≡ true) w.replies place sent fit.interrupted found number in
-      (awaits_odd w.kernel sent.unique (Some kept) odd waits, says opcode.Interrupt sent.wire refl (empty none_said))
+      (awaits_odd w.kernel sent.unique (Some kept) odd waits, says opcode.Interrupt sent.wire refl (empty none_said).1)
+
+  -- It replies to a RELEASE, and says only whether that failed.
+  to_release : (file : Opened) → is_live w.kernel.phase ≡ true → nat_eq (sent.unique % 2) 1 ≡ false → waiting w.kernel.queues sent.unique ≡ Some (purpose.Release file) → (awaited w.kernel sent.unique ≡ reply_to opcode.Release) × Says opcode.Release bytes sent.wire
+  to_release file live even waits =
+      let fit = here.sound.fits live in
+      let request = waiting_is w.kernel.queues sent.unique (purpose.Release file) waits in
+      let mine = All-found (λ (e : ℕ × QueuedRequest Purpose). FitsPurpose w.replies w.server.kept e.0 e.1.kept) sent.unique w.kernel.queues.requests request.request fit.released request.under in
+      let none = subst (FitsPurpose w.replies w.server.kept sent.unique) request.serves mine in
+      let none_said = All-at (λ (s : Sent). s.unique ≡ sent.unique → is_empty_reply s.wire ≡ true) w.replies place sent none.of_copies found refl in
+      (awaits_even w.kernel sent.unique (Some (purpose.Release file)) even waits, says opcode.Release sent.wire refl (empty none_said).0)
 
   goes_failed : (operation : Operation ℕ Opened) → goes_with operation (op.failed 4) ≡ true
   goes_failed operation = refl
@@ -151,7 +165,7 @@ module _ (w : World) (here : IsReached w) (place : ℕ) (sent : Sent) (found : s
       let no : said.nothing ≡ reply_to o = sym none.0 ∙ awaits in
       absurd (cc no)
   heard_by (each.of_interrupt kept numbered live odd waits) o judged awaits = as_awaited o awaits opcode.Interrupt (to_interrupt kept live odd waits)
-  heard_by (each.of_release file numbered live even waits) o judged awaits = absurd (is_judged_so o judged awaits opcode.Release (awaits_even w.kernel sent.unique (Some (purpose.Release file)) even waits))
+  heard_by (each.of_release file numbered live even waits) o judged awaits = as_awaited o awaits opcode.Release (to_release file live even waits)
   heard_by (each.of_init numbered live even waits wire_is) o judged awaits = absurd (is_judged_so o judged awaits opcode.Init (awaits_even w.kernel sent.unique (Some purpose.Init) even waits))
   heard_by (each.of_call call state reply numbered one live even waits is) o judged awaits = as_awaited o awaits (opcode_of (asked state)) (to_call call state even waits is.state_is is.goes)
   heard_by (each.of_declined call state numbered one live even waits is) o judged awaits =
@@ -179,7 +193,7 @@ module _ (w : World) (here : IsReached w) (place : ℕ) (sent : Sent) (found : s
         let so = unawaited_so none.0 in
         none.1 ∙ (λ i. (sym so.0 i, sym so.1 i))
     by (each.of_interrupt kept numbered live odd waits) = let it = to_interrupt kept live odd waits in taken_so.said opcode.Interrupt tt it.0 sent.wire it.1
-    by (each.of_release o numbered live even waits) = absurd (kinds_of (reply_to opcode.Release) (awaits_even w.kernel sent.unique (Some (purpose.Release o)) even waits))
+    by (each.of_release o numbered live even waits) = let it = to_release o live even waits in taken_so.said opcode.Release tt it.0 sent.wire it.1
     by (each.of_init numbered live even waits wire_is) =
         ap (reply_written w.kernel sent.unique) wire_is
         ∙ taken_so.init (awaits_even w.kernel sent.unique (Some purpose.Init) even waits) 31 (omega arith) (says opcode.Init (op.agreed 7 31) wire_is (init (ap is_init_reply wire_is)))
@@ -194,7 +208,7 @@ module _ (w : World) (here : IsReached w) (place : ℕ) (sent : Sent) (found : s
   pub write_refused : (r : Refusal) → WriteRefused w.kernel bytes r → RefusedWith w (event.write place) r
   write_refused r (exhausted it) =
       let awaits : awaited w.kernel sent.unique ≡ reply_to it.opcode = ap (awaited w.kernel) (sym head.1) ∙ it.awaits in
-      let same : it.wire ≡ sent.wire = says_one it.opcode bytes it.wire sent.wire it.says (heard_by can_hear it.opcode it.judged awaits) in
-      let past : is_past_end (reply_written w.kernel sent.unique sent.wire).1 ≡ true = (λ i. is_past_end (reply_written w.kernel (sym head.1 i) (sym same i)).1) ∙ it.past in
+      let means : Means it.opcode bytes sent.wire = means_said sent.wire (heard_by can_hear it.opcode it.judged awaits) in
+      let past : is_past_end (reply_written w.kernel sent.unique sent.wire).1 ≡ true = ap (λ (u : ℕ). is_past_end (reply_written w.kernel u sent.wire).1) (sym head.1) ∙ it.past sent.wire means in
       inl (past_written w place sent found past)
   write_refused r no_memory = inr refl

@@ -7,3 +7,4 @@ pub mod Made
 pub mod Copies
 pub mod Collecting
 pub mod Recording
+pub mod Interrupts

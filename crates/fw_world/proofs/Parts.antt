@@ -2,20 +2,21 @@
 use Rattle.std.proofs.Common.{◌++◌, [], ◌∷◌, ◌∙◌, ◌≡◌, ◌≤◌, ◌<◌, ℕ, ◌+◌, Result, Ok, Err, arith, true, false, List, length, Option, Some, None, nat_lt, slice_get, refl, sym, subst}
 use Rattle.std.specs.Prelude.{slice_index_or, OnOk, is_err, IfNone, IfSome}
 use Rattle.std.proofs.lemmas.Bool.{ltb-true, ltb-false}
-use Rattle.std.proofs.lemmas.List.Elements.{All-nil}
 use Rattle.std.proofs.lemmas.Option.{slice_get_read, slice_get_past}
 use Rattle.fuse_spec.specs.declared.Refusal.{Refusal}
 use Rattle.fuse_spec.specs.declared.ReplyResult.{ReplyResult}
 use Rattle.fuse_spec.specs.declared.WriteResult.{WriteResult}
 use Rattle.fuse_spec.specs.Maps.{remove}
-use Rattle.fuse_spec.specs.Messages.{Request}
+use Rattle.fuse_spec.specs.Messages.{Request, WireReply}
 use Rattle.fuse_spec.specs.Kernel.{Kernel}
 use Rattle.fuse_spec.specs.Server.{Server}
-use Rattle.fuse_spec.specs.Worlds.{World, Sent, first_world}
+use Rattle.fuse_spec.specs.Worlds.{World, Sent, replying}
 use Rattle.fuse_spec.specs.Events.{Event, Outcome}
 use Rattle.fuse_spec.specs.Steps.{Happens}
-use Rattle.fuse_theorem.proofs.ReachedWorlds.{first_reached, handed_out_reached}
-use Rattle.fw_world.specs.Sound.{IsSound, is_sent}
+use Rattle.fuse_theorem.specs.Reached.{IsReached}
+use Rattle.fuse_theorem.proofs.ReachedWorlds.{handed_out_reached}
+use Rattle.fs_server.specs.Effects.{copy_of}
+use Rattle.fw_world.specs.Values.{with_copy}
 
 -- the world of these parts
 abbrev pub world_of : Kernel → Server → List Request → List Sent → List ReplyResult → World
@@ -51,12 +52,14 @@ pub after_result : (old made new : List ReplyResult) (number unique : ℕ) (resu
     → new ≡ old ++ record { number = sent.number; unique = sent.unique; result = result } ∷ []
 after_result old made new number unique result sent same appended number_is unique_is = appended ∙ (λ i. same i ++ record { number = number_is i; unique = unique_is i; result = result } ∷ [])
 
--- A world stays sound as an answer is handed out.
+-- Events led to a world still as an answer is handed out.
 pub handed_out : {X : Type 0} (w : World) (kernel : Kernel) (o : Option (ℕ × X)) → IfNone o (kernel ≡ w.kernel) → IfSome o (λ r. kernel ≡ record w.kernel { vfs = record w.kernel.vfs { answers = remove w.kernel.vfs.answers r.0 } })
-    → IsSound w → IsSound (record w { kernel = kernel })
-handed_out w kernel None none some sound = subst (λ (k : Kernel). IsSound (record w { kernel = k })) (sym none) sound
+    → IsReached w → IsReached (record w { kernel = kernel })
+handed_out w kernel None none some sound = subst (λ (k : Kernel). IsReached (record w { kernel = k })) (sym none) sound
 handed_out w kernel (Some r) none some sound =
-    subst (λ (k : Kernel). IsSound (record w { kernel = k })) (sym some) (record { reached = handed_out_reached w r.0 sound.reached; sent = sound.sent })
+    subst (λ (k : Kernel). IsReached (record w { kernel = k })) (sym some) (handed_out_reached w r.0 sound)
 
-pub first_sound : IsSound first_world
-first_sound = record { reached = first_reached; sent = All-nil (λ (r : Request). is_sent r.body ≡ true) }
+-- A copy that is sent goes onto its link, or none is sent.
+pub replying_is : (w : World) (number unique : ℕ) (wire : Option WireReply) → replying w number unique wire ≡ record w { replies = with_copy w.replies (copy_of number unique wire) }
+replying_is w number unique None = refl
+replying_is w number unique (Some wire) = refl

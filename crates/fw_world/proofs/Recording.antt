@@ -32,21 +32,21 @@ then_recorded w mid after events more rs ss (one_accepted v e o moved rest recor
     (one_accepted v e o moved (rest ++ more) (records ++ ss) after happens (then_recorded (collected moved) last after rest more records ss old next))
 
 -- The events ran one after another, and these records were added.
-pub record RanSo (old : World) (events : List EventValue) (had : List Record) (new : World) (has : List Record) : Type 0 where
-  pub added : List Record
+pub record RanSo {A : Type 0} (old : World) (events : List EventValue) (had : List (Record A)) (new : World) (has : List (Record A)) : Type 0 where
+  pub added : List (Record A)
   pub items : has ≡ had ++ added
   pub recorded : Recorded old (map event_of events) (map record_of added) new
 
-pub none_ran : (w : World) (events : List EventValue) (had : List Record) → RanSo w (take 0 events) had w had
+pub none_ran : {A : Type 0} → (w : World) (events : List EventValue) (had : List (Record A)) → RanSo w (take 0 events) had w had
 none_ran w events had = record { added = []; items = sym (append-nil had); recorded = none_left w }
 
 -- What is added of one event.
-abbrev pub AddsOne : World → EventValue → List Record → World → List Record → Type 0
-AddsOne old e had new has = (added : List Record) × (has ≡ had ++ added) × Recorded old (event_of e ∷ []) (map record_of added) new
+abbrev pub AddsOne : {A : Type 0} → World → EventValue → List (Record A) → World → List (Record A) → Type 0
+AddsOne {A} old e had new has = (added : List (Record A)) × (has ≡ had ++ added) × Recorded old (event_of e ∷ []) (map record_of added) new
 
-pub one_more : (old : World) (events : List EventValue) (had : List Record) (w : World) (has : List Record) (k : ℕ) (d : EventValue) (new : World) (more : List Record)
+pub one_more : {A : Type 0} → (old : World) (events : List EventValue) (had : List (Record A)) (w : World) (has : List (Record A)) (k : ℕ) (d : EventValue) (new : World) (more : List (Record A))
     → k < length events → RanSo old (take k events) had w has → AddsOne w (get_or events k d) has new more → RanSo old (take (k + 1) events) had new more
-one_more old events had w has k d new more within ran adds =
+one_more {A} old events had w has k d new more within ran adds =
     let whole : take (k + 1) events ≡ take k events ++ get_or events k d ∷ [] = take_more events k d within in
     let joined = then_recorded old w new (map event_of (take k events)) (event_of (get_or events k d) ∷ []) (map record_of ran.added) (map record_of adds.0) ran.recorded adds.2 in
     let events_are : map event_of (take k events) ++ event_of (get_or events k d) ∷ [] ≡ map event_of (take (k + 1) events) =
@@ -54,27 +54,27 @@ one_more old events had w has k d new more within ran adds =
     let records_are : map record_of ran.added ++ map record_of adds.0 ≡ map record_of (ran.added ++ adds.0) = sym (map-append record_of ran.added adds.0) in
     record {
       added = ran.added ++ adds.0;
-      items = adds.1 ∙ ap (λ (xs : List Record). xs ++ adds.0) ran.items ∙ append_assoc had ran.added adds.0;
+      items = adds.1 ∙ ap (λ (xs : List (Record A)). xs ++ adds.0) ran.items ∙ append_assoc had ran.added adds.0;
       recorded = subst (λ (x : List Event × List records.Record). Recorded old x.0 x.1 new) (λ i. (events_are i, records_are i)) joined;
     }
 
 -- ---- what one event adds
 
-pub adds_refusal : (w : World) (e : EventValue) (refusal : Refusal) → RefusedWith w (event_of e) refusal → (had made has : List Record) (new : World) → new ≡ w → made ≡ had → has ≡ made ++ recorded.Refused refusal ∷ [] → AddsOne w e had new has
-adds_refusal w e refusal judged had made has new same kept has_is = (
+pub adds_refusal : {A : Type 0} → (w : World) (e : EventValue) (refusal : Refusal) → RefusedWith w (event_of e) refusal → (had made has : List (Record A)) (new : World) → new ≡ w → made ≡ had → has ≡ made ++ recorded.Refused refusal ∷ [] → AddsOne w e had new has
+adds_refusal {A} w e refusal judged had made has new same kept has_is = (
   recorded.Refused refusal ∷ [],
-  has_is ∙ ap (λ (xs : List Record). xs ++ recorded.Refused refusal ∷ []) kept,
+  has_is ∙ ap (λ (xs : List (Record A)). xs ++ recorded.Refused refusal ∷ []) kept,
   subst (λ (v : World). Recorded w (event_of e ∷ []) (records.refused refusal ∷ []) v) (sym same) (one_refused w (event_of e) refusal [] [] w judged (none_left w)),
 )
 
-pub adds_outcome : (w : World) (e : EventValue) (o : OutcomeValue) (mid : World) → Happens w (event_of e) (outcome_of o) mid → (had made begun has answers : List Record) (new : World) → new ≡ collected mid → made ≡ had
+pub adds_outcome : {A : Type 0} → (w : World) (e : EventValue) (o : OutcomeValue) (mid : World) → Happens w (event_of e) (outcome_of o) mid → (had made begun has answers : List (Record A)) (new : World) → new ≡ collected mid → made ≡ had
     → begun ≡ made ++ recorded.Outcome o ∷ [] → has ≡ begun ++ answers → map record_of answers ≡ answers_of mid.kernel.vfs.answers → AddsOne w e had new has
-adds_outcome w e o mid happens had made begun has answers new after kept begun_is has_is answers_are =
+adds_outcome {A} w e o mid happens had made begun has answers new after kept begun_is has_is answers_are =
     let one : Recorded w (event_of e ∷ []) (records.outcome (outcome_of o) ∷ answers_of mid.kernel.vfs.answers ++ []) (collected mid) = one_accepted w (event_of e) (outcome_of o) mid [] [] (collected mid) happens (none_left (collected mid)) in
     let same : records.outcome (outcome_of o) ∷ answers_of mid.kernel.vfs.answers ++ [] ≡ records.outcome (outcome_of o) ∷ map record_of answers =
     append-nil (records.outcome (outcome_of o) ∷ answers_of mid.kernel.vfs.answers) ∙ ap (λ (xs : List records.Record). records.outcome (outcome_of o) ∷ xs) (sym answers_are) in (
       recorded.Outcome o ∷ answers,
-      has_is ∙ ap (λ (xs : List Record). xs ++ answers) (begun_is ∙ ap (λ (xs : List Record). xs ++ recorded.Outcome o ∷ []) kept) ∙ append_assoc had (recorded.Outcome o ∷ []) answers,
+      has_is ∙ ap (λ (xs : List (Record A)). xs ++ answers) (begun_is ∙ ap (λ (xs : List (Record A)). xs ++ recorded.Outcome o ∷ []) kept) ∙ append_assoc had (recorded.Outcome o ∷ []) answers,
       subst (λ (x : List records.Record × World). Recorded w (event_of e ∷ []) x.0 x.1) (λ i. (same i, sym after i)) one,
     )
 
@@ -89,10 +89,10 @@ wanted_room (Err x) len more capacity full e = full
 
 -- ---- the whole run
 
-module _ (old : World) (here : IsReached old) (events : List EventValue) (had : List Record) where
+module _ {A : Type 0} (old : World) (here : IsReached old) (events : List EventValue) (had : List (Record A)) where
   -- What is said of the events that ran.
-  abbrev pub Comes : World → List Record → Type 0
-  Comes new has = (added : List Record) × (has ≡ had ++ added) × RunsAs old (map event_of events) (map record_of added) new
+  abbrev pub Comes : World → List (Record A) → Type 0
+  Comes new has = (added : List (Record A)) × (has ≡ had ++ added) × RunsAs old (map event_of events) (map record_of added) new
 
   -- All that is sound with the plain world that is known is sound with any other that is alike.
   sound_with : (p : Plain) → Alike old p → AsksServed p → AllSound old p
@@ -112,7 +112,7 @@ module _ (old : World) (here : IsReached old) (events : List EventValue) (had : 
         once = all.once;
       }
 
-  pub comes_to : (new : World) (has : List Record) → RanSo old events had new has → Comes new has
+  pub comes_to : (new : World) (has : List (Record A)) → RanSo old events had new has → Comes new has
   comes_to new has ran =
       let run = λ (p : Plain) (all : AllSound old p). all_run old p all here.answers (map event_of events) (map record_of ran.added) new ran.recorded in (
         ran.added,
@@ -123,9 +123,9 @@ module _ (old : World) (here : IsReached old) (events : List EventValue) (had : 
         },
       )
 
-  pub comes_as_before : (new now : World) (has holds : List Record) → RanSo old events had new has → now ≡ new → holds ≡ has → Comes now holds
-  comes_as_before new now has holds ran now_is holds_is = subst (λ (x : World × List Record). Comes x.0 x.1) (λ i. (sym now_is i, sym holds_is i)) (comes_to new has ran)
+  pub comes_as_before : (new now : World) (has holds : List (Record A)) → RanSo old events had new has → now ≡ new → holds ≡ has → Comes now holds
+  comes_as_before new now has holds ran now_is holds_is = subst (λ (x : World × List (Record A)). Comes x.0 x.1) (λ i. (sym now_is i, sym holds_is i)) (comes_to new has ran)
 
 -- Once k is past the events, all of them ran.
-pub all_ran : (old : World) (events : List EventValue) (k : ℕ) → length events ≤ k → (had : List Record) (new : World) (has : List Record) → RanSo old (take k events) had new has → RanSo old events had new has
+pub all_ran : {A : Type 0} → (old : World) (events : List EventValue) (k : ℕ) → length events ≤ k → (had : List (Record A)) (new : World) (has : List (Record A)) → RanSo old (take k events) had new has → RanSo old events had new has
 all_ran old events k past had new has ran = subst (λ (es : List EventValue). RanSo old es had new has) (take_all k events past) ran

@@ -17,10 +17,11 @@ use Rattle.fuse_spec.specs.QueueCalls.{pending_at, first_forgets, after_read_for
 use Rattle.fuse_spec.specs.Replies.{reply_written}
 use Rattle.fuse_spec.specs.Server.{Server, HeldRequest, Kept, Copy, RequestFault, all_taken_back, fault_of}
 use Rattle.fuse_spec.specs.Copies.{is_current}
-use Rattle.fuse_spec.specs.Taking.{taking}
+use Rattle.std.specs.List.{remove as without}
+use Rattle.fuse_spec.specs.Taking.{TakeResult, taking}
 use Rattle.fuse_spec.specs.Performs.{served, files_given}
 use Rattle.fuse_spec.specs.Worlds as worlds
-use Rattle.fuse_spec.specs.Worlds.{World, Sent, after_mount, after_call, after_perform, after_again, after_write, after_tick, after_drop}
+use Rattle.fuse_spec.specs.Worlds.{World, Sent, after_mount, after_call, after_take, after_perform, after_again, after_write, after_tick, after_drop}
 use Rattle.fuse_spec.specs.Events.{Event, Outcome}
 use Rattle.fuse_spec.specs.Events as event
 use Rattle.fuse_spec.specs.Steps.{Stepped, going, is_past, is_busy, is_ready, unless, reading_body, reading_pending, reading_forgets, taking_request, performing_held, sending_again, writing_copy, settling, dropping, evicting, MayChooseFor, IsRefused, RefusedWith}
@@ -31,11 +32,11 @@ use Rattle.fuse_frames.proofs.RequestLemmas.{frame_says}
 use Rattle.fuse_theorem.proofs.NoFault.{no_fault}
 use Rattle.fuse_theorem.proofs.Queuing.{All-at}
 use Rattle.fs_server.specs.declared.server.ServerFault.{ServerFault}
-use Rattle.fs_server.specs.declared.server.ServerFault.TheVariants.{Memory}
 use Rattle.fk_kernel.specs.Refused.{begin_refusal, mount_refusal, read_refusal, place_refusal, body_refusal, is_past_end}
 use Rattle.fk_kernel.specs.Refused as kernel
 use Rattle.fs_server.specs.Effects as server
-use Rattle.fw_world.specs.Sound.{IsSound, is_sent}
+use Rattle.fuse_theorem.specs.Reached.{IsReached}
+use Rattle.fw_world.specs.Values.{refusal_for}
 use Rattle.fk_kernel.specs.RefusedUpkeep.{read_forgets_refusal, forgets_refusal, tick_refusal, name_refusal, drop_refusal, counted_refusal, evict_refusal}
 use Rattle.fs_server.specs.Effects.{RefusesHeld, not_held, exhausted, RefusesAgain, not_kept, not_current, no_number, RefusesFrame}
 use Rattle.fs_server.specs.Effects.{fault_or, past_or_memory}
@@ -46,7 +47,7 @@ pub by_kernel : (w : World) (e : Event) (judged : Option Refusal) (given : Refus
 by_kernel w e None given refuses is = inr is
 by_kernel w e (Some r) given refuses is = inl (subst (IsRefused w e) (sym is) (refuses r refl))
 
-is_exhausted : (o : Outcome) (after : World) → is_past after ≡ true → going o after ≡ Err refusal.Exhausted
+pub is_exhausted : (o : Outcome) (after : World) → is_past after ≡ true → going o after ≡ Err refusal.Exhausted
 is_exhausted o after past = ap (λ (b : Bool). cond b (Err refusal.Exhausted) (Ok (o, after))) past
 
 -- ---- a mount
@@ -220,35 +221,33 @@ pub or_default : (o : Option Refusal) → unwrap_or o refusal.NoMemory ≡ kerne
 or_default None = refl
 or_default (Some r) = refl
 
--- lookups that are given back draw no generation
-same_next : (t : NodeTable) (fs : List Forget) → (all_taken_back t fs).next_generation ≡ t.next_generation
-same_next t [] = refl
-same_next t (f ∷ fs) = same_next (taken_back t f.0 f.1) fs
+-- The fault of a request without one: a counter at its end, or want of memory.
+past_or : (w : World) (place : ℕ) (request : Request) → slice_get w.requests place ≡ Some request → (past : Bool) → server.is_past_end (taking w.server request.unique request.body).server ≡ past → RefusedWith w (event.take place) (refusal_for (past_or_memory past))
+past_or w place request there true past =
+    let did : TakeResult = taking w.server request.unique request.body in
+    let after = after_take w place request.unique did in
+    let same : after.server ≡ did.server = sent_server (record w { requests = without w.requests place; server = did.server }) w.server.next_copy request.unique did.reply in
+    let over : server_past after.server ≡ true = sym (as_judged after.server) ∙ ap server.is_past_end same ∙ past in
+    inl
+    (λ choice may.
+    ap (taking_request w place) there
+    ∙ is_exhausted (event.taken request.unique did.word) after (past_by_server (nat_lt counter_end after.kernel.queues.next) (nat_lt counter_end after.kernel.vfs.next_call) (server_past after.server) over))
+past_or w place request there false past = inr refl
 
--- What is sent so far draws no number when it is taken.
-past_taken : (s : Server) (unique : ℕ) (body : RequestBody) → is_sent body ≡ true → server.is_past_end (taking s unique body).server ≡ server.is_past_end s
-past_taken s unique init e = refl
-past_taken s unique (asks operation) e = refl
-past_taken s unique (release o) e = refl
-past_taken s unique (forget f) e = refl
-past_taken s unique (batch_forget fs) e =
-    ap (λ (n : ℕ). nat_lt counter_end s.tree.next_birth || nat_lt counter_end s.tree.next_serial || nat_lt counter_end n || nat_lt counter_end s.handles.next_fh || nat_lt counter_end s.next_copy) (same_next s.nodes fs)
-past_taken s unique (interrupt original) e = absurd (true≢false (sym e))
-
--- A request on the link is refused for want of memory alone.
-pub take_refused : (w : World) → IsSound w → server.is_past_end w.server ≡ false → (place : ℕ) (request : Request) (bytes : List ℕ) (fault : ServerFault) → slice_get w.requests place ≡ Some request → IsRequestFrame bytes request
-    → RefusesFrame w.server bytes fault → fault ≡ Memory
-take_refused w sound within place request bytes fault there frame refuses =
-    let all = sound.reached.sound in
-    let sent : is_sent request.body ≡ true = All-at (λ (r : Request). is_sent r.body ≡ true) w.requests place request sound.sent there in
-    let none : fault_of w.server request ≡ None = All-at (λ (r : Request). fault_of w.server r ≡ None) w.requests place request (no_fault w sound.reached.plain all.both all.releases all.faultless) there in
+-- A request on the link is refused for want of a number or of memory alone.
+pub take_refused : (w : World) → IsReached w → (place : ℕ) (request : Request) (bytes : List ℕ) (fault : ServerFault) → slice_get w.requests place ≡ Some request → IsRequestFrame bytes request → RefusesFrame w.server bytes fault
+    → RefusedWith w (event.take place) (refusal_for fault)
+take_refused w here place request bytes fault there frame refuses =
+    let all = here.sound in
+    let none : fault_of w.server request ≡ None = All-at (λ (r : Request). fault_of w.server r ≡ None) w.requests place request (no_fault w here.plain all.both all.releases all.faultless) there in
+    let is : fault ≡ past_or_memory (server.is_past_end (taking w.server request.unique request.body).server) =
     refuses.of_request request (frame_says bytes request frame)
-    ∙ ap (λ (o : Option RequestFault). fault_or (server.as_fault o) (past_or_memory (server.is_past_end (taking w.server request.unique request.body).server))) none
-    ∙ ap past_or_memory (past_taken w.server request.unique request.body sent ∙ within)
+    ∙ ap (λ (o : Option RequestFault). fault_or (server.as_fault o) (past_or_memory (server.is_past_end (taking w.server request.unique request.body).server))) none in
+    subst (λ (f : ServerFault). RefusedWith w (event.take place) (refusal_for f)) (sym is) (past_or w place request there (server.is_past_end (taking w.server request.unique request.body).server) refl)
 
 -- A result on the link is that of a copy which the server knows.
-pub is_known : (w : World) → IsSound w → (place : ℕ) (result : ReplyResult) (r : Refusal) → slice_get w.results place ≡ Some result → server.HasNoCopy w.server result r → ⊥
-is_known w sound place result r there none =
-    let all = sound.reached.sound in
+pub is_known : (w : World) → IsReached w → (place : ℕ) (result : ReplyResult) (r : Refusal) → slice_get w.results place ≡ Some result → server.HasNoCopy w.server result r → ⊥
+is_known w here place result r there none =
+    let all = here.sound in
     let lookups = all.both.world.lookups in
     All-at (λ (x : ReplyResult). get w.server.copies x.number ≢ None) w.results place result lookups.copies.results there none.absent

@@ -1,4 +1,3 @@
 pub mod Values
 pub mod Runs
 pub mod Frames
-pub mod Sound

@@ -1,13 +1,17 @@
 -- What contracts see of events and records.
-use Rattle.std.specs.Prelude.{true, ℕ, false, cond, nat_eq, List, map}
+use Rattle.std.specs.Prelude.{true, ℕ, false, cond, nat_eq, List, [], ◌∷◌, ◌++◌, Option, Some, None, map}
 use Rattle.fuse_spec.specs.Maps.{Map}
 use Rattle.fuse_spec.specs.Nodes.{HeldNode}
 use Rattle.fuse_spec.specs.declared.Counted.{Counted}
+use Rattle.fuse_spec.specs.declared.Refusal.{Refusal}
+use Rattle.fuse_spec.specs.declared.Refusal.TheVariants.{NoMemory, NoSuch, Exhausted}
 use Rattle.fuse_spec.specs.declared.WriteResult.{WriteResult}
 use Rattle.fuse_spec.specs.declared.WriteResult.TheVariants.{Accepted, NoEntry, Invalid}
 use Rattle.fuse_spec.specs.Events as event
 use Rattle.fuse_spec.specs.Records as record_of_run
 use Rattle.fk_syscalls.specs.Values.{call_of, answer_of}
+use Rattle.fs_server.specs.declared.server.ServerFault.{ServerFault}
+use Rattle.fs_server.specs.declared.server.ServerFault.TheVariants as fault
 use Rattle.fw_world.specs.declared.event.Event.{Event}
 use Rattle.fw_world.specs.declared.event.Event.TheVariants.{Mount, Call, Read, Take, Do, Again, Write, Settle, Interrupt, Tick, DropName, Evict, Abort}
 use Rattle.fw_world.specs.declared.event.Pick.{Pick}
@@ -52,6 +56,17 @@ NeedsNoMemory event = ⊥
 -- the result of a reply, by its error number
 abbrev pub result_of : ℕ → WriteResult
 result_of errno = cond (nat_eq errno 0) Accepted (cond (nat_eq errno 2) NoEntry Invalid)
+
+-- what an event is refused for that met a fault of the server
+abbrev pub refusal_for : ServerFault → Refusal
+refusal_for fault.Exhausted = Exhausted
+refusal_for fault.Memory = NoMemory
+refusal_for other = NoSuch
+
+-- a list with one copy more, if there is one
+abbrev pub with_copy : {X : Type 0} → List X → Option X → List X
+with_copy xs None = xs
+with_copy xs (Some x) = xs ++ x ∷ []
 
 -- the outcome of the definitions, which has no opcode and no length
 abbrev pub outcome_of : Outcome → event.Outcome

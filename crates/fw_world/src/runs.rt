@@ -23,9 +23,9 @@ use std::alloc::Allocator;
 pub fn run<A: Allocator + Copy>(
     world: &mut WorldIn<A>,
     events: &[Event<'_>],
-    records: &mut Vec<Record, A>,
+    records: &mut Vec<Record<A>, A>,
 ) -> Result<(), usize>
-    ensures ran { (added : List RecordValue) × (records.new.items ≡ records.old.items ++ added) × RunsAs world.old (map event_of (events_run result events.now)) (map record_of added) world.new }
+    ensures ran { (added : List (RecordValue A)) × (records.new.items ≡ records.old.items ++ added) × RunsAs world.old (map event_of (events_run result events.now)) (map record_of added) world.new }
     ensures err { IfErr result (λ k. k < length events.now) }
     ensures full { OnErr result (vec_capacity records.old < vec_len records.old + (length world.old.kernel.vfs.answers + length world.old.kernel.vfs.calls) + 2 * length events.now) }
 {
@@ -51,11 +51,11 @@ fn most_records<A: Allocator + Copy>(world: &WorldIn<A>) -> Option<usize>
 fn run_one<A: Allocator + Copy>(
     world: &mut WorldIn<A>,
     event: &Event<'_>,
-    records: &mut Vec<Record, A>,
+    records: &mut Vec<Record<A>, A>,
 ) -> bool
     ensures not_run { result ≡ false → (world.new ≡ world.old) × (records.new.items ≡ records.old.items) }
     ensures full { result ≡ false → vec_capacity records.old < vec_len records.old + (length world.old.kernel.vfs.answers + length world.old.kernel.vfs.calls) + 2 }
-    ensures ran { IsTrue result → (added : List RecordValue) × (records.new.items ≡ records.old.items ++ added) × Recorded world.old (event_of event.now ∷ []) (map record_of added) world.new }
+    ensures ran { IsTrue result → (added : List (RecordValue A)) × (records.new.items ≡ records.old.items ++ added) × Recorded world.old (event_of event.now ∷ []) (map record_of added) world.new }
     ensures room { IsTrue result → vec_len records.new + (length world.new.kernel.vfs.answers + length world.new.kernel.vfs.calls) + vec_capacity records.old ≤ vec_len records.old + (length world.old.kernel.vfs.answers + length world.old.kernel.vfs.calls) + 2 + vec_capacity records.new }
 {
     world.is_sound();
@@ -76,10 +76,10 @@ fn run_one<A: Allocator + Copy>(
 }
 
 /// Collects and records every answer that waits.
-fn collect_all<A: Allocator + Copy>(world: &mut WorldIn<A>, records: &mut Vec<Record, A>)
+fn collect_all<A: Allocator + Copy>(world: &mut WorldIn<A>, records: &mut Vec<Record<A>, A>)
     requires { vec_len records.old + length world.old.kernel.vfs.answers ≤ vec_capacity records.old }
     ensures world { world.new ≡ collected world.old }
-    ensures records { (added : List RecordValue) × (records.new.items ≡ records.old.items ++ added) × (map record_of added ≡ answers_of world.old.kernel.vfs.answers) }
+    ensures records { (added : List (RecordValue A)) × (records.new.items ≡ records.old.items ++ added) × (map record_of added ≡ answers_of world.old.kernel.vfs.answers) }
     ensures len { vec_len records.new ≡ vec_len records.old + length world.old.kernel.vfs.answers }
     ensures capacity { vec_capacity records.old ≤ vec_capacity records.new }
 {
@@ -90,7 +90,7 @@ fn collect_all<A: Allocator + Copy>(world: &mut WorldIn<A>, records: &mut Vec<Re
 }
 
 /// Appends a record where there is room for it.
-fn add<A: Allocator>(records: &mut Vec<Record, A>, value: Record)
+fn add<A: Allocator>(records: &mut Vec<Record<A>, A>, value: Record<A>)
     requires { vec_len records.old < vec_capacity records.old }
     ensures items { records.new.items ≡ records.old.items ++ value ∷ [] }
     ensures len { vec_len records.new ≡ vec_len records.old + 1 }

@@ -9,15 +9,15 @@ ghost use Rattle.fuse_spec.specs.Worlds.{World as WorldState, first_world};
 ghost use Rattle.fuse_spec.specs.Plain.{first_plain};
 ghost use Rattle.fuse_spec.specs.Alike.{Alike};
 ghost use Rattle.fuse_spec.specs.declared.Refusal.TheVariants.{NoMemory};
-ghost use Rattle.fw_world.specs.Sound.{IsSound};
+ghost use Rattle.fuse_theorem.specs.Reached.{IsReached};
 ghost use Rattle.fk_syscalls.specs.Values.{call_of, answer_of};
 ghost use Rattle.fuse_theorem.specs.AsksServed.{AsksServed};
 ghost use Rattle.fw_world.specs.Frames.{IsLastFrame};
-ghost use Rattle.fw_world.specs.Values.{NeedsNoMemory, counted_nodes, event_of, held_nodes, outcome_of, result_of};
+ghost use Rattle.fw_world.specs.Values.{NeedsNoMemory, counted_nodes, event_of, held_nodes, outcome_of, read_of, refusal_for, result_of, with_copy};
 
-use crate::event::{Event, Outcome};
+use crate::event::{Event, Outcome, Pick};
 use fk_kernel::{Answer, Call, Kernel};
-use fs_server::{Server, ServerFault, Took};
+use fs_server::{Server, ServerFault};
 use fuse_frames::{ReplyCopy, RequestFrame};
 use fuse_spec::{Refusal, ReplyResult, WriteResult};
 use std::alloc::{Allocator, Global};
@@ -55,7 +55,7 @@ pub type World = WorldIn<Global>;
 impl<A: Allocator + Copy> Model for WorldIn<A> {
     ghost use Rattle.std.specs.Coded.{codes};
     ghost use Rattle.fuse_spec.specs.Worlds.{World as WorldState};
-    ghost use Rattle.fw_world.specs.Sound.{IsSound};
+    ghost use Rattle.fuse_theorem.specs.Reached.{IsReached};
 
     ghost Value = { WorldState };
 
@@ -63,7 +63,7 @@ impl<A: Allocator + Copy> Model for WorldIn<A> {
 
     ghost view = { λ w. record { kernel = w.kernel; server = w.server; requests = w.requests.items; replies = w.replies.items; results = w.results.items } };
 
-    ghost invariant = { λ w. IsSound (record { kernel = w.kernel; server = w.server; requests = w.requests.items; replies = w.replies.items; results = w.results.items }) };
+    ghost invariant = { λ w. IsReached (record { kernel = w.kernel; server = w.server; requests = w.requests.items; replies = w.replies.items; results = w.results.items }) };
 }
 
 impl<A: Allocator + Copy> WorldIn<A> {
@@ -94,8 +94,8 @@ impl<A: Allocator + Copy> WorldIn<A> {
     ///
     /// # Errors
     ///
-    /// Each event has its refusals in the order of their numbers, with `NoMemory` last. `Settle`, `Tick`, `DropName` and `Evict`
-    /// take no memory.
+    /// Each event has its refusals in the order in which the definitions judge them, with `NoMemory` last. `Settle`, `Interrupt`,
+    /// `Tick`, `DropName`, `Evict` and `Abort` take no memory.
     pub fn step(&mut self, event: &Event<'_>) -> Result<Outcome, Refusal>
         ensures err { OnErr result (self.new ≡ self.old) }
         ensures refusal { IfErr result (RefusedWith self.old (event_of event.now)) }
@@ -109,21 +109,22 @@ impl<A: Allocator + Copy> WorldIn<A> {
                 missing_ms,
             } => self.mount(*found_ms, *missing_ms),
             Event::Call(call) => self.call(call),
-            Event::ReadPending(place) => self.read_pending(*place),
+            Event::Read(pick) => self.read(*pick),
             Event::Take(place) => self.take(*place),
             Event::Do(unique) => self.perform(*unique),
             Event::Again(unique) => self.again(*unique),
             Event::Write(place) => self.write(*place),
             Event::Settle(place) => self.settle(*place),
-            Event::ReadForgets(count) => self.read_forgets(*count),
+            Event::Interrupt { call, fatal } => self.interrupt(*call, *fatal),
             Event::Tick(ms) => self.tick(*ms),
             Event::DropName { directory, name } => self.drop_name(*directory, name),
             Event::Evict(node) => self.evict(*node),
+            Event::Abort => self.abort(),
         }
     }
 
     /// Hands out, once, the answer of the lowest answered call.
-    pub fn collect(&mut self) -> Option<(u64, Answer)>
+    pub fn collect(&mut self) -> Option<(u64, Answer<A>)>
         ensures answer { option_map (λ r. (r.0, answer_of r.1)) result ≡ slice_get self.old.kernel.vfs.answers 0 }
         ensures none { IfNone result (self.new ≡ self.old) }
         ensures taken { IfSome result (λ r. self.new ≡ record self.old { kernel = record self.old.kernel { vfs = record self.old.kernel.vfs { answers = remove self.old.kernel.vfs.answers r.0 } } }) }
@@ -147,7 +148,7 @@ impl<A: Allocator + Copy> WorldIn<A> {
 
     /// Events led to the world.
     pub(crate) fn is_sound(&self)
-        ensures { IsSound self.now }
+        ensures { IsReached self.now }
     {
         // A field is touched so that the type's invariant is at hand.
         let _ = &self.kernel;
@@ -212,9 +213,7 @@ impl<A: Allocator + Copy> WorldIn<A> {
             return Err(refusal);
         }
         self.server.remount(found_ms, missing_ms);
-        self.requests.clear();
-        self.replies.clear();
-        self.results.clear();
+        clear_links(&mut self.requests, &mut self.replies, &mut self.results);
         Ok(Outcome::Mounted)
     }
 
@@ -229,6 +228,46 @@ impl<A: Allocator + Copy> WorldIn<A> {
         };
         within(&self.kernel, &self.server);
         Ok(Outcome::Begun { call })
+    }
+
+    fn read(&mut self, pick: Pick) -> Result<Outcome, Refusal>
+        ensures err { OnErr result (self.new ≡ self.old) }
+        ensures refusal { IfErr result (RefusedWith self.old (read_of pick)) }
+        ensures happens { IfOk result (λ outcome. Happens self.old (read_of pick) (outcome_of outcome) self.new) }
+    {
+        match pick {
+            Pick::Interrupt => self.read_interrupt(),
+            Pick::Forgets(count) => self.read_forgets(count),
+            Pick::Pending(place) => self.read_pending(place),
+        }
+    }
+
+    fn read_interrupt(&mut self) -> Result<Outcome, Refusal>
+        ensures err { OnErr result (self.new ≡ self.old) }
+        ensures refusal { IfErr result (RefusedWith self.old event.read_interrupt) }
+        ensures happens { IfOk result (λ outcome. Happens self.old event.read_interrupt (outcome_of outcome) self.new) }
+    {
+        if self.requests.reserve(1).is_err() {
+            return Err(
+                self.kernel
+                    .read_interrupt_refusal()
+                    .unwrap_or(Refusal::NoMemory),
+            );
+        }
+        let frame = match self.kernel.read_interrupt() {
+            Ok(frame) => frame,
+            Err(refusal) => return Err(refusal),
+        };
+        let (unique, opcode) = frame.head();
+        let len = frame.bytes().len();
+        append(&mut self.requests, frame);
+        within(&self.kernel, &self.server);
+        self.last_put = LastPut::Request;
+        Ok(Outcome::Read {
+            unique,
+            opcode,
+            len,
+        })
     }
 
     fn read_pending(&mut self, place: u64) -> Result<Outcome, Refusal>
@@ -283,6 +322,32 @@ impl<A: Allocator + Copy> WorldIn<A> {
         })
     }
 
+    fn interrupt(&mut self, call: u64, fatal: bool) -> Result<Outcome, Refusal>
+        ensures err { OnErr result (self.new ≡ self.old) }
+        ensures refusal { IfErr result (IsRefused self.old (event.intr call fatal)) }
+        ensures happens { IfOk result (λ outcome. Happens self.old (event.intr call fatal) (outcome_of outcome) self.new) }
+    {
+        let effect = match self.kernel.interrupt(call, fatal) {
+            Ok(effect) => effect,
+            Err(refusal) => return Err(refusal),
+        };
+        within(&self.kernel, &self.server);
+        Ok(Outcome::Interrupted { call, effect })
+    }
+
+    fn abort(&mut self) -> Result<Outcome, Refusal>
+        ensures err { OnErr result (self.new ≡ self.old) }
+        ensures refusal { IfErr result (IsRefused self.old event.abort) }
+        ensures happens { IfOk result (λ outcome. Happens self.old event.abort (outcome_of outcome) self.new) }
+    {
+        if let Err(refusal) = self.kernel.abort() {
+            return Err(refusal);
+        }
+        self.server.connection_lost();
+        clear_links(&mut self.requests, &mut self.replies, &mut self.results);
+        Ok(Outcome::Aborted)
+    }
+
     fn tick(&mut self, ms: u64) -> Result<Outcome, Refusal>
         ensures err { OnErr result (self.new ≡ self.old) }
         ensures refusal { IfErr result (IsRefused self.old (event.tick ms)) }
@@ -324,19 +389,26 @@ impl<A: Allocator + Copy> WorldIn<A> {
         ensures happens { IfOk result (λ outcome. Happens self.old (event.take place) (outcome_of outcome) self.new) }
     {
         let place = place as usize;
-        let Some(frame) = self.requests.get(place) else {
+        if place >= self.requests.len() {
             return Err(Refusal::NoSuch);
-        };
-        self.server.within();
-        match self.server.take(frame.bytes()) {
-            Ok(took) => {
-                let outcome = outcome_of_take(took);
-                let _frame = self.requests.remove(place);
-                within(&self.kernel, &self.server);
-                Ok(outcome)
-            }
-            Err(fault) => Err(refusal_of(fault)),
         }
+        // An INTERRUPT may be answered at once.
+        if self.replies.reserve(1).is_err() {
+            return Err(Refusal::NoMemory);
+        }
+        self.server.within();
+        let took = match self.server.take(self.requests[place].bytes()) {
+            Ok(took) => took,
+            Err(fault) => return Err(refusal_of(fault)),
+        };
+        let _request = self.requests.remove(place);
+        within(&self.kernel, &self.server);
+        self.last_put = reply_put(&took.copy);
+        append_if_any(&mut self.replies, took.copy);
+        Ok(Outcome::Taken {
+            unique: took.unique,
+            word: took.word,
+        })
     }
 
     fn perform(&mut self, unique: u64) -> Result<Outcome, Refusal>
@@ -445,6 +517,21 @@ impl<A: Allocator + Copy> WorldIn<A> {
     }
 }
 
+/// Empties the three links.
+fn clear_links<A: Allocator>(
+    requests: &mut Vec<RequestFrame<A>, A>,
+    replies: &mut Vec<ReplyCopy<A>, A>,
+    results: &mut Vec<ReplyResult, A>,
+)
+    ensures requests { requests.new.items ≡ [] }
+    ensures replies { replies.new.items ≡ [] }
+    ensures results { results.new.items ≡ [] }
+{
+    requests.clear();
+    replies.clear();
+    results.clear();
+}
+
 /// Appends a value where there is room for it.
 fn append<T: Drop, A: Allocator>(list: &mut Vec<T, A>, value: T)
     requires { vec_len list.old < vec_capacity list.old }
@@ -472,19 +559,27 @@ fn errno_of(written: WriteResult) -> u32
     }
 }
 
-/// What became of a request that was taken; no copy is sent at once so far.
-fn outcome_of_take<A: Allocator + Copy>(took: Took<A>) -> Outcome
-    ensures { outcome_of result ≡ event.taken took.unique took.word }
+/// The copy of a reply goes onto its link, if there is one.
+fn append_if_any<A: Allocator>(list: &mut Vec<ReplyCopy<A>, A>, copy: Option<ReplyCopy<A>>)
+    requires { vec_len list.old < vec_capacity list.old }
+    ensures { list.new.items ≡ with_copy list.old.items copy }
 {
-    Outcome::Taken {
-        unique: took.unique,
-        word: took.word,
+    if let Some(copy) = copy {
+        append(list, copy);
+    }
+}
+
+/// Which frame was put, where this copy of a reply is sent.
+fn reply_put<A: Allocator>(copy: &Option<ReplyCopy<A>>) -> LastPut {
+    match copy {
+        Some(_) => LastPut::Reply,
+        None => LastPut::Nothing,
     }
 }
 
 /// A fault of the server as the refusal of the event that met it.
 fn refusal_of(fault: ServerFault) -> Refusal
-    ensures { fault ≡ ServerFault.Memory → result ≡ Refusal.NoMemory }
+    ensures { result ≡ refusal_for fault }
 {
     match fault {
         ServerFault::Exhausted => Refusal::Exhausted,

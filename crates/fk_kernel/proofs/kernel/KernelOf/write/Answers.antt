@@ -3,7 +3,7 @@ use Rattle.fuse_spec.specs.QueueCalls.{waiting}
 use Rattle.fuse_spec.specs.declared.Purpose.TheVariants.{Init, Release, Call}
 use Rattle.fuse_spec.specs.declared.WriteResult.TheVariants.{Invalid}
 use Rattle.fk_kernel.specs.Said.{head_unique}
-use Rattle.fk_kernel.proofs.Taken.{odd_test, even_test, taken_odd, taken_even, awaited_even, taken_none, taken_init, taken_judged}
+use Rattle.fk_kernel.proofs.Taken.{odd_test, even_test, taken_odd, taken_even, awaited_even, taken_none, taken_judged}
 use Rattle.fk_wire.specs.declared.opcode.Opcode.TheVariants as op
 use Rattle.fk_wire.specs.Opcodes.{served}
 use Rattle.fk_kernel.proofs.Heads.{no_head}
@@ -44,7 +44,7 @@ returns-in-Init-clause-taken g c = λ head.
     let waits : waiting c.args.self.now.queues unique ≡ Some Init = rw (← c.self.view_is) (ap (waiting queues) (sym same) ∙ at ∙ ap Some c.in-Init.is) in
     let say = c.write_to_init.ensures in
     taken_even c.args.self.now unique c.args.bytes.now _ _ (even_test c.in-Ok.unique unique same c.if-unique-eq1.false) (Some Init) waits
-    (taken_init c.args.self.now unique c.args.bytes.now _ _ (rw (← same) say.agreed) say.refused say.unsaid)
+    (taken_judged c.args.self.now unique c.args.bytes.now _ _ op.Init tt (rw (← same) say.said) (rw (← same) say.unsaid))
 
 pub write_to_release-requires-clause-waits : goal.write_to_release-requires-clause-waits
 write_to_release-requires-clause-waits g c =

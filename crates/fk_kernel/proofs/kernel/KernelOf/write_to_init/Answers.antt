@@ -1,5 +1,12 @@
-use Rattle.std.proofs.Common.{true≢false, rules, arith}
-use Rattle.fk_kernel.proofs.Nodes.{answer_counted}
+use Rattle.std.proofs.Common.{◌≡◌, true, false, true≢false, refl, sym, ap, ◌∙◌, arith}
+use Rattle.std.specs.Prelude.{is_some}
+use Rattle.fk_wire.specs.declared.opcode.Opcode.TheVariants as op
+use Rattle.fuse_spec.specs.QueueCalls.{waiting}
+use Rattle.fuse_spec.specs.Replies.{reply_written, is_agreement}
+use Rattle.fk_kernel.specs.Said.{init_wire}
+use Rattle.fk_kernel.proofs.Nodes.{answer_counted, answered_is}
+use Rattle.fk_kernel.proofs.Replied.{init_agreed, init_aborts, init_unsaid}
+use Rattle.fk_kernel.proofs.Sayings.{says_one, init_reply_said}
 use Rattle.fk_kernel.proofs.kernel.KernelOf.write_to_init.Goals as goal
 
 pub invariant_of-self : goal.invariant_of-self
@@ -7,13 +14,32 @@ invariant_of-self g c =
     let old = c.self.invariant in
     rw c.answer-kept.ensures.state (record { numbers = old.numbers; idle = λ e. absurd (true≢false e); sorted = old.sorted; nodes = answer_counted c.self.inside.nodes (g.Q.QueueTable.state c.self.inside.queues) (g.Q.QueueTable.room c.self.inside.queues).forgets (g.Q.QueueTable.room c.answer-kept.new.self).forgets old.nodes c.answer-kept.ensures.room.forgets c.args.unique; files = old.files; releases = omega (arith, old.releases, c.answer-kept.ensures.room.requests); clock_low = old.clock_low })
 
-pub returns-in_default-2-clause-agreed : goal.returns-in_default-2-clause-agreed
-returns-in_default-2-clause-agreed g c = λ minor late says.
-    let none = rw c.in_default.is at c.said_to_init.ensures in
-    absurd (none _ says)
+pub returns-in_default-clause-said : goal.returns-in_default-clause-said
+returns-in_default-clause-said g c = λ wire says. absurd (c.in_default.ensures wire says)
 
-pub returns-clause-agreed : goal.returns-clause-agreed
-returns-clause-agreed g c = search rules
+pub returns-in_default-clause-unsaid : goal.returns-in_default-clause-unsaid
+returns-in_default-clause-unsaid g c = λ none. rw c.give_up.ensures (init_unsaid c.args.self.now c.args.unique c.requires.even c.requires.waits)
 
-pub returns-clause-refused : goal.returns-clause-refused
-returns-clause-refused g c = search rules
+pub returns-then-agrees-clause-said : goal.returns-then-agrees-clause-said
+returns-then-agrees-clause-said g c = λ wire says.
+    let k = c.args.self.now in
+    let s = g.Q.QueueTable.state c.self.inside.queues in
+    let waits : is_some (waiting s c.args.unique) ≡ true = rw (← c.self.view_is) at (ap is_some c.requires.waits) in
+    let agreed : is_agreement (init_wire c.in-Some.said) ≡ true = sym c.agrees.ensures ∙ c.if-agrees.true in
+    ap (reply_written k c.args.unique) (says_one op.Init c.args.bytes.now wire (init_wire c.in-Some.said) says c.in-Some.ensures)
+    ∙ init_agreed k c.args.unique c.requires.even c.requires.waits (init_wire c.in-Some.said) (init_reply_said c.in-Some.said) agreed
+    ∙ rw (← c.self.view_is, c.answer-kept.ensures.state, answered_is s c.args.unique waits) refl
+
+pub returns-else-agrees-clause-said : goal.returns-else-agrees-clause-said
+returns-else-agrees-clause-said g c = λ wire says.
+    let k = c.args.self.now in
+    let other : is_agreement (init_wire c.in-Some.said) ≡ false = sym c.agrees.ensures ∙ c.if-agrees.false in
+    rw c.give_up-else-agrees.ensures
+    (ap (reply_written k c.args.unique) (says_one op.Init c.args.bytes.now wire (init_wire c.in-Some.said) says c.in-Some.ensures)
+    ∙ init_aborts k c.args.unique c.requires.even c.requires.waits (init_wire c.in-Some.said) (init_reply_said c.in-Some.said) other)
+
+pub returns-then-agrees-clause-unsaid : goal.returns-then-agrees-clause-unsaid
+returns-then-agrees-clause-unsaid g c = λ none. absurd (none _ c.in-Some.ensures)
+
+pub returns-else-agrees-clause-unsaid : goal.returns-else-agrees-clause-unsaid
+returns-else-agrees-clause-unsaid g c = λ none. absurd (none _ c.in-Some.ensures)

@@ -3,6 +3,8 @@ use Rattle.fk_wire.specs.Requests.{request_message, request_content}
 use Rattle.fs_server.specs.Taking.{is_held}
 use Rattle.fs_server.proofs.Becoming.{held_so, interrupted_so}
 use Rattle.fs_server.proofs.Frames.{refuses_as, forgets, fault_in}
+use Rattle.fuse_frames.specs.RequestTies.{body_in}
+use Rattle.fs_server.proofs.Wanting.{answer_wants, fault_apart, hold_wants}
 use Rattle.fs_server.proofs.server.Server.take.Goals as goal
 
 pub returns-in-Some-clause-effect : goal.returns-in-Some-clause-effect
@@ -22,6 +24,15 @@ returns-in-Interrupt-clause-effect g c =
     interrupted_so c.args.self.now c.args.bytes.now (request_message r) c.in-Ok.ensures.ok c.in-Ok.ensures.only none c.in-Interrupt.original (ap request_content c.in-Interrupt.is) c.interrupt.new.self c.interrupt.result c.interrupt.ensures.fault
     c.interrupt.ensures.effect
 
+pub returns-in-Some-clause-memory : goal.returns-in-Some-clause-memory
+returns-in-Some-clause-memory g c =
+    let r = c.in-Ok.request in
+    λ memory. absurd (fault_apart c.args.self.now r.unique (body_in r.nodeid (request_content r.body)) c.in-Some.fault (sym c.request_fault.ensures.fault ∙ c.in-Some.is) memory)
+
+pub returns-in-Interrupt-clause-memory : goal.returns-in-Interrupt-clause-memory
+returns-in-Interrupt-clause-memory g c =
+    answer_wants c.args.self.now c.args.bytes.now (request_message c.in-Ok.request) c.in-Ok.ensures.only c.in-Interrupt.original (ap request_content c.in-Interrupt.is) c.interrupt.result c.interrupt.ensures.answered
+
 pub returns-in_default-body : goal.returns-in_default-body
 returns-in_default-body g c =
     let r = c.in-Ok.request in
@@ -30,4 +41,5 @@ returns-in_default-body g c =
     record {
       refused = c.hold.ensures.refused;
       effect = held_so c.args.self.now c.args.bytes.now (request_message r) c.in-Ok.ensures.ok c.in-Ok.ensures.only none is c.within.ensures c.hold.new.self c.hold.result c.hold.ensures.fault c.hold.ensures.took c.hold.ensures.held;
+      memory = hold_wants c.args.self.now c.args.bytes.now (request_message r) c.in-Ok.ensures.only is c.hold.result;
     }

@@ -11,7 +11,7 @@ unwrap-requires g c =
     is_over c.args.pairs.now c.deref.result.now c.over.result spelled c.over.ensures
 
 pub framed-requires : goal.framed-requires
-framed-requires g c = (batch_forget (pairs_in c.unwrap.result), refl)
+framed-requires g c = (batch_forget (pairs_in c.unwrap.result), refl, refl)
 
 pub returns : goal.returns
 returns g c =

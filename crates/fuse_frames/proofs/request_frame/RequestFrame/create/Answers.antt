@@ -4,4 +4,4 @@ use Rattle.fuse_spec.specs.Operations.{create}
 use Rattle.fuse_frames.proofs.request_frame.RequestFrame.create.Goals as goal
 
 pub framed-requires : goal.framed-requires
-framed-requires g c = (asks (create c.args.directory c.args.name.now), refl)
+framed-requires g c = (asks (create c.args.directory c.args.name.now), refl, refl)

@@ -3,4 +3,4 @@ use Rattle.fuse_spec.specs.Messages.{forget}
 use Rattle.fuse_frames.proofs.request_frame.RequestFrame.forget.Goals as goal
 
 pub framed-requires : goal.framed-requires
-framed-requires g c = (forget (c.args.node, c.args.count), refl)
+framed-requires g c = (forget (c.args.node, c.args.count), refl, refl)

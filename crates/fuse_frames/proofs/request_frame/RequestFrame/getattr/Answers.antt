@@ -4,4 +4,4 @@ use Rattle.fuse_spec.specs.Operations.{getattr}
 use Rattle.fuse_frames.proofs.request_frame.RequestFrame.getattr.Goals as goal
 
 pub framed-requires : goal.framed-requires
-framed-requires g c = (asks (getattr c.args.node), refl)
+framed-requires g c = (asks (getattr c.args.node), refl, refl)

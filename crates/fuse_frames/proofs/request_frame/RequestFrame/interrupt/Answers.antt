@@ -3,4 +3,4 @@ use Rattle.fuse_spec.specs.Messages.{interrupt}
 use Rattle.fuse_frames.proofs.request_frame.RequestFrame.interrupt.Goals as goal
 
 pub framed-requires : goal.framed-requires
-framed-requires g c = (interrupt c.args.original, refl)
+framed-requires g c = (interrupt c.args.original, refl, refl)

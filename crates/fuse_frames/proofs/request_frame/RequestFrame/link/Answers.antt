@@ -4,4 +4,4 @@ use Rattle.fuse_spec.specs.Operations.{link}
 use Rattle.fuse_frames.proofs.request_frame.RequestFrame.link.Goals as goal
 
 pub framed-requires : goal.framed-requires
-framed-requires g c = (asks (link c.args.node c.args.directory c.args.name.now), refl)
+framed-requires g c = (asks (link c.args.node c.args.directory c.args.name.now), refl, refl)

@@ -4,4 +4,4 @@ use Rattle.fuse_spec.specs.Operations.{lookup}
 use Rattle.fuse_frames.proofs.request_frame.RequestFrame.lookup.Goals as goal
 
 pub framed-requires : goal.framed-requires
-framed-requires g c = (asks (lookup c.args.directory c.args.name.now), refl)
+framed-requires g c = (asks (lookup c.args.directory c.args.name.now), refl, refl)

@@ -4,4 +4,4 @@ use Rattle.fuse_spec.specs.Operations.{opening}
 use Rattle.fuse_frames.proofs.request_frame.RequestFrame.open.Goals as goal
 
 pub framed-requires : goal.framed-requires
-framed-requires g c = (asks (opening c.args.node), refl)
+framed-requires g c = (asks (opening c.args.node), refl, refl)

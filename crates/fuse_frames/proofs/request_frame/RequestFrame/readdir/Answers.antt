@@ -4,4 +4,4 @@ use Rattle.fuse_spec.specs.Operations.{readdir}
 use Rattle.fuse_frames.proofs.request_frame.RequestFrame.readdir.Goals as goal
 
 pub framed-requires : goal.framed-requires
-framed-requires g c = (asks (readdir c.args.directory c.args.after c.args.size), refl)
+framed-requires g c = (asks (readdir c.args.directory c.args.after c.args.size), refl, refl)

@@ -3,4 +3,4 @@ use Rattle.fuse_spec.specs.Messages.{release}
 use Rattle.fuse_frames.proofs.request_frame.RequestFrame.release.Goals as goal
 
 pub framed-requires : goal.framed-requires
-framed-requires g c = (release c.args.opened, refl)
+framed-requires g c = (release c.args.opened, refl, refl)

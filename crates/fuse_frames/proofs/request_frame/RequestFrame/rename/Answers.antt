@@ -4,4 +4,4 @@ use Rattle.fuse_spec.specs.Operations.{rename}
 use Rattle.fuse_frames.proofs.request_frame.RequestFrame.rename.Goals as goal
 
 pub framed-requires : goal.framed-requires
-framed-requires g c = (asks (rename c.args.directory c.args.old.now c.args.newdir c.args.new.now), refl)
+framed-requires g c = (asks (rename c.args.directory c.args.old.now c.args.newdir c.args.new.now), refl, refl)

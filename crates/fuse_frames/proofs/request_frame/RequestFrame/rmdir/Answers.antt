@@ -4,4 +4,4 @@ use Rattle.fuse_spec.specs.Operations.{rmdir}
 use Rattle.fuse_frames.proofs.request_frame.RequestFrame.rmdir.Goals as goal
 
 pub framed-requires : goal.framed-requires
-framed-requires g c = (asks (rmdir c.args.directory c.args.name.now), refl)
+framed-requires g c = (asks (rmdir c.args.directory c.args.name.now), refl, refl)

@@ -4,4 +4,4 @@ use Rattle.fuse_spec.specs.Operations.{write}
 use Rattle.fuse_frames.proofs.request_frame.RequestFrame.write.Goals as goal
 
 pub framed-requires : goal.framed-requires
-framed-requires g c = (asks (write c.args.opened c.args.offset c.args.bytes.now), refl)
+framed-requires g c = (asks (write c.args.opened c.args.offset c.args.bytes.now), refl, refl)

@@ -13,11 +13,11 @@ returns-in-Err-clause-refusal g c =
 
 pub invariant_of-self-2 : goal.invariant_of-self-2
 invariant_of-self-2 g c =
-    (mounted (world_of c.self.inside.kernel c.self.inside.server c.self.inside.requests.items c.self.inside.replies.items c.self.inside.results.items) c.self.invariant c.mount.new.self c.remount.new.self c.clear.new.self.items c.clear-2.new.self.items c.clear-3.new.self.items c.args.found_ms c.args.missing_ms
-    c.if-found_ms-gt-MAX_VALIDITY.false c.if-missing_ms-gt-MAX_VALIDITY.false c.in_default.ensures.judged c.in_default.ensures.mounted c.remount.ensures c.clear.ensures.items c.clear-2.ensures.items c.clear-3.ensures.items).1
+    (mounted (world_of c.self.inside.kernel c.self.inside.server c.self.inside.requests.items c.self.inside.replies.items c.self.inside.results.items) c.self.invariant c.mount.new.self c.remount.new.self c.clear_links.new.requests.items c.clear_links.new.replies.items c.clear_links.new.results.items c.args.found_ms c.args.missing_ms
+    c.if-found_ms-gt-MAX_VALIDITY.false c.if-missing_ms-gt-MAX_VALIDITY.false c.in_default.ensures.judged c.in_default.ensures.mounted c.remount.ensures c.clear_links.ensures.requests c.clear_links.ensures.replies c.clear_links.ensures.results).1
 
 pub returns-clause-happens : goal.returns-clause-happens
 returns-clause-happens g c =
     rw (← c.self.view_is)
-    (mounted (world_of c.self.inside.kernel c.self.inside.server c.self.inside.requests.items c.self.inside.replies.items c.self.inside.results.items) c.self.invariant c.mount.new.self c.remount.new.self c.clear.new.self.items c.clear-2.new.self.items c.clear-3.new.self.items c.args.found_ms c.args.missing_ms
-    c.if-found_ms-gt-MAX_VALIDITY.false c.if-missing_ms-gt-MAX_VALIDITY.false c.in_default.ensures.judged c.in_default.ensures.mounted c.remount.ensures c.clear.ensures.items c.clear-2.ensures.items c.clear-3.ensures.items).0
+    (mounted (world_of c.self.inside.kernel c.self.inside.server c.self.inside.requests.items c.self.inside.replies.items c.self.inside.results.items) c.self.invariant c.mount.new.self c.remount.new.self c.clear_links.new.requests.items c.clear_links.new.replies.items c.clear_links.new.results.items c.args.found_ms c.args.missing_ms
+    c.if-found_ms-gt-MAX_VALIDITY.false c.if-missing_ms-gt-MAX_VALIDITY.false c.in_default.ensures.judged c.in_default.ensures.mounted c.remount.ensures c.clear_links.ensures.requests c.clear_links.ensures.replies c.clear_links.ensures.results).0

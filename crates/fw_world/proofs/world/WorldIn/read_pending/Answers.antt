@@ -22,10 +22,10 @@ returns-in-Err-clause-refusal g c =
 pub invariant_of-self-2 : goal.invariant_of-self-2
 invariant_of-self-2 g c =
     (read (world_of c.self.inside.kernel c.self.inside.server c.self.inside.requests.items c.self.inside.replies.items c.self.inside.results.items) c.self.invariant c.read_pending.new.self c.self.inside.server c.append.new.list.items c.self.inside.replies.items c.self.inside.results.items c.args.place c.head-unique.result.0 c.in-Ok.frame
-    c.in-Ok.ensures.judged c.in-Ok.ensures.frame c.in-Ok.ensures.asked c.head-unique.ensures.unique c.in-Ok.ensures.read refl (rw (← c.reserve.ensures.items) c.append.ensures) refl refl c.within.ensures).1
+    c.in-Ok.ensures.judged c.in-Ok.ensures.frame c.head-unique.ensures.unique c.in-Ok.ensures.read refl (rw (← c.reserve.ensures.items) c.append.ensures) refl refl c.within.ensures).1
 
 pub returns-clause-happens : goal.returns-clause-happens
 returns-clause-happens g c =
     rw (← c.self.view_is)
     (read (world_of c.self.inside.kernel c.self.inside.server c.self.inside.requests.items c.self.inside.replies.items c.self.inside.results.items) c.self.invariant c.read_pending.new.self c.self.inside.server c.append.new.list.items c.self.inside.replies.items c.self.inside.results.items c.args.place c.head-unique.result.0 c.in-Ok.frame
-    c.in-Ok.ensures.judged c.in-Ok.ensures.frame c.in-Ok.ensures.asked c.head-unique.ensures.unique c.in-Ok.ensures.read refl (rw (← c.reserve.ensures.items) c.append.ensures) refl refl c.within.ensures).0
+    c.in-Ok.ensures.judged c.in-Ok.ensures.frame c.head-unique.ensures.unique c.in-Ok.ensures.read refl (rw (← c.reserve.ensures.items) c.append.ensures) refl refl c.within.ensures).0

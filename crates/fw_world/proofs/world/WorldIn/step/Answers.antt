@@ -17,3 +17,9 @@ returns-in-Evict-clause-refusal g c = rw (c.in-Evict.is, ← c.self.view_is) (re
 
 pub returns-in-Settle-clause-refusal : goal.returns-in-Settle-clause-refusal
 returns-in-Settle-clause-refusal g c = rw (c.in-Settle.is, ← c.self.view_is) (refused_with (world_of c.self.inside.kernel c.self.inside.server c.self.inside.requests.items c.self.inside.replies.items c.self.inside.results.items) (event.settle c.in-Settle.place) c.settle.result c.settle.ensures.refusal)
+
+pub returns-in-Interrupt-clause-refusal : goal.returns-in-Interrupt-clause-refusal
+returns-in-Interrupt-clause-refusal g c = rw (c.in-Interrupt.is, ← c.self.view_is) (refused_with (world_of c.self.inside.kernel c.self.inside.server c.self.inside.requests.items c.self.inside.replies.items c.self.inside.results.items) (event.intr c.in-Interrupt.call c.in-Interrupt.fatal) c.interrupt.result c.interrupt.ensures.refusal)
+
+pub returns-in-Abort-clause-refusal : goal.returns-in-Abort-clause-refusal
+returns-in-Abort-clause-refusal g c = rw (c.in-Abort.is, ← c.self.view_is) (refused_with (world_of c.self.inside.kernel c.self.inside.server c.self.inside.requests.items c.self.inside.replies.items c.self.inside.results.items) event.abort c.abort.result c.abort.ensures.refusal)

@@ -1,27 +1,30 @@
-use Rattle.std.proofs.Common.{refl, inr}
-use Rattle.fw_world.proofs.Parts.{world_of, stands, none_stands}
+use Rattle.std.proofs.Common.{refl, sym, length, arith, ◌∙◌}
+use Rattle.std.proofs.lemmas.Option.{slice_get_read, slice_get_past}
+use Rattle.fw_world.proofs.Parts.{world_of, has_room}
 use Rattle.fw_world.proofs.Made.{took}
 use Rattle.fw_world.proofs.Refusing.{no_request, take_refused}
 use Rattle.fw_world.proofs.world.WorldIn.take.Goals as goal
 
-pub returns-in_default-clause-refusal : goal.returns-in_default-clause-refusal
-returns-in_default-clause-refusal g c =
-    rw (← c.self.view_is) (no_request (world_of c.self.inside.kernel c.self.inside.server c.self.inside.requests.items c.self.inside.replies.items c.self.inside.results.items) c.args.place (none_stands c.self.inside.requests.items c.deref.result.now c.args.place c.deref.ensures.value c.in_default.ensures.lookup.0))
-
-pub invariant_of-self : goal.invariant_of-self
-invariant_of-self g c =
-    let there = stands c.self.inside.requests.items c.deref.result.now c.args.place c.deref.ensures.value c.in-Some.frame.now c.in-Some.ensures.lookup.0 c.in-Some.ensures.lookup.1 in
-    (took (world_of c.self.inside.kernel c.self.inside.server c.self.inside.requests.items c.self.inside.replies.items c.self.inside.results.items) c.self.invariant c.self.inside.kernel c.take.new.self c.remove-frame.new.self.items c.self.inside.replies.items c.self.inside.results.items c.args.place c.in-Some.frame.now c.bytes.result.now c.in-Ok.took
-    there c.bytes.ensures c.in-Ok.ensures.effect refl c.remove-frame.ensures.items refl refl c.within-in-Ok.ensures).1
-
-pub returns-in-Ok-clause-happens : goal.returns-in-Ok-clause-happens
-returns-in-Ok-clause-happens g c =
-    let there = stands c.self.inside.requests.items c.deref.result.now c.args.place c.deref.ensures.value c.in-Some.frame.now c.in-Some.ensures.lookup.0 c.in-Some.ensures.lookup.1 in
-    rw (← c.self.view_is, c.outcome_of_take-outcome.ensures)
-    (took (world_of c.self.inside.kernel c.self.inside.server c.self.inside.requests.items c.self.inside.replies.items c.self.inside.results.items) c.self.invariant c.self.inside.kernel c.take.new.self c.remove-frame.new.self.items c.self.inside.replies.items c.self.inside.results.items c.args.place c.in-Some.frame.now c.bytes.result.now c.in-Ok.took
-    there c.bytes.ensures c.in-Ok.ensures.effect refl c.remove-frame.ensures.items refl refl c.within-in-Ok.ensures).0
+pub returns-then-place-len-clause-refusal : goal.returns-then-place-len-clause-refusal
+returns-then-place-len-clause-refusal g c = rw (← c.self.view_is) (no_request (world_of c.self.inside.kernel c.self.inside.server c.self.inside.requests.items c.self.inside.replies.items c.self.inside.results.items) c.args.place (slice_get_past c.self.inside.requests.items c.args.place (omega (arith, c.if-place-len.true, c.len.ensures))))
 
 pub returns-in-Err-clause-refusal : goal.returns-in-Err-clause-refusal
 returns-in-Err-clause-refusal g c =
-    let there = stands c.self.inside.requests.items c.deref.result.now c.args.place c.deref.ensures.value c.in-Some.frame.now c.in-Some.ensures.lookup.0 c.in-Some.ensures.lookup.1 in
-    inr (c.refusal_of.ensures (take_refused (world_of c.self.inside.kernel c.self.inside.server c.self.inside.requests.items c.self.inside.replies.items c.self.inside.results.items) c.self.invariant c.within.ensures c.args.place c.in-Some.frame.now c.bytes.result.now c.in-Err.fault there c.bytes.ensures c.in-Err.ensures.effect))
+    let there = slice_get_read c.self.inside.requests.items (length c.self.inside.requests.items) c.args.place c.index.result.now refl (omega (arith, c.if-place-len.false, c.len.ensures)) c.index.ensures in
+    rw (← c.self.view_is, c.refusal_of.ensures) (take_refused (world_of c.self.inside.kernel c.self.inside.server c.self.inside.requests.items c.self.inside.replies.items c.self.inside.results.items) c.self.invariant c.args.place c.index.result.now c.bytes.result.now c.in-Err.fault there c.bytes.ensures c.in-Err.ensures.effect)
+
+pub append_if_any-requires : goal.append_if_any-requires
+append_if_any-requires g c = has_room c.reserve.result _ _ c.reserve.ensures.ok (sym c.is_err.ensures.value ∙ c.if-is_err.false)
+
+pub invariant_of-self-2 : goal.invariant_of-self-2
+invariant_of-self-2 g c =
+    let there = slice_get_read c.self.inside.requests.items (length c.self.inside.requests.items) c.args.place c.index.result.now refl (omega (arith, c.if-place-len.false, c.len.ensures)) c.index.ensures in
+    (took (world_of c.self.inside.kernel c.self.inside.server c.self.inside.requests.items c.self.inside.replies.items c.self.inside.results.items) c.self.invariant c.self.inside.kernel c.take.new.self c.remove-request.new.self.items c.append_if_any.new.list.items c.self.inside.results.items c.args.place c.index.result.now c.bytes.result.now c.in-Ok.took
+    there c.bytes.ensures c.in-Ok.ensures.effect refl c.remove-request.ensures.items (rw (← c.reserve.ensures.items) c.append_if_any.ensures) refl c.within-2.ensures).1
+
+pub returns-clause-happens : goal.returns-clause-happens
+returns-clause-happens g c =
+    let there = slice_get_read c.self.inside.requests.items (length c.self.inside.requests.items) c.args.place c.index.result.now refl (omega (arith, c.if-place-len.false, c.len.ensures)) c.index.ensures in
+    rw (← c.self.view_is)
+    (took (world_of c.self.inside.kernel c.self.inside.server c.self.inside.requests.items c.self.inside.replies.items c.self.inside.results.items) c.self.invariant c.self.inside.kernel c.take.new.self c.remove-request.new.self.items c.append_if_any.new.list.items c.self.inside.results.items c.args.place c.index.result.now c.bytes.result.now c.in-Ok.took
+    there c.bytes.ensures c.in-Ok.ensures.effect refl c.remove-request.ensures.items (rw (← c.reserve.ensures.items) c.append_if_any.ensures) refl c.within-2.ensures).0

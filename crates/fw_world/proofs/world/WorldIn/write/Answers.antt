@@ -15,14 +15,14 @@ returns-in-Err-clause-refusal g c =
     let there = slice_get_read c.self.inside.replies.items (length c.self.inside.replies.items) c.args.place sent refl (omega (arith, c.if-place-len.false, c.len.ensures)) c.index-copy.ensures in
     let w = (world_of c.self.inside.kernel c.self.inside.server c.self.inside.requests.items c.self.inside.replies.items c.self.inside.results.items) in
     rw (← c.self.view_is)
-    (write_refused w c.self.invariant.reached c.args.place sent there c.bytes.result.now c.bytes.ensures.frame c.bytes.ensures.fits c.bytes.ensures.init (λ e. (c.bytes.ensures.empty e).1) c.in-Err.refusal
-    (c.in-Err.ensures.refusal (has_head w c.self.invariant.reached c.args.place sent there c.bytes.result.now c.bytes.ensures.frame c.bytes.ensures.fits c.bytes.ensures.init (λ e. (c.bytes.ensures.empty e).1))))
+    (write_refused w c.self.invariant c.args.place sent there c.bytes.result.now c.bytes.ensures.frame c.bytes.ensures.fits c.bytes.ensures.init c.bytes.ensures.empty c.in-Err.refusal
+    (c.in-Err.ensures.refusal (has_head w c.self.invariant c.args.place sent there c.bytes.result.now c.bytes.ensures.frame c.bytes.ensures.fits c.bytes.ensures.init c.bytes.ensures.empty)))
 
 pub invariant_of-self-2 : goal.invariant_of-self-2
 invariant_of-self-2 g c =
     let sent = c.index-copy.result.now in
     let there = slice_get_read c.self.inside.replies.items (length c.self.inside.replies.items) c.args.place sent refl (omega (arith, c.if-place-len.false, c.len.ensures)) c.index-copy.ensures in
-    let took = written_so (world_of c.self.inside.kernel c.self.inside.server c.self.inside.requests.items c.self.inside.replies.items c.self.inside.results.items) c.self.invariant.reached c.args.place sent there c.bytes.result.now c.bytes.ensures.frame c.bytes.ensures.fits c.bytes.ensures.init (λ e. (c.bytes.ensures.empty e).1) c.in-Ok.written c.write.new.self
+    let took = written_so (world_of c.self.inside.kernel c.self.inside.server c.self.inside.requests.items c.self.inside.replies.items c.self.inside.results.items) c.self.invariant c.args.place sent there c.bytes.result.now c.bytes.ensures.frame c.bytes.ensures.fits c.bytes.ensures.init c.bytes.ensures.empty c.in-Ok.written c.write.new.self
     (λ head none. let h = c.in-Ok.ensures.unawaited head none in (was_written h.0, h.1)) c.in-Ok.ensures.taken in
     let results = after_result c.self.inside.results.items c.reserve.new.self.items c.append.new.list.items c.number-number.result c.unique-unique.result c.in-Ok.written sent c.reserve.ensures.items c.append.ensures c.number-number.ensures c.unique-unique.ensures in
     (wrote (world_of c.self.inside.kernel c.self.inside.server c.self.inside.requests.items c.self.inside.replies.items c.self.inside.results.items) c.self.invariant c.write.new.self c.self.inside.server c.self.inside.requests.items c.remove-copy.new.self.items c.append.new.list.items c.args.place sent c.in-Ok.written
@@ -32,7 +32,7 @@ pub returns-clause-happens : goal.returns-clause-happens
 returns-clause-happens g c =
     let sent = c.index-copy.result.now in
     let there = slice_get_read c.self.inside.replies.items (length c.self.inside.replies.items) c.args.place sent refl (omega (arith, c.if-place-len.false, c.len.ensures)) c.index-copy.ensures in
-    let took = written_so (world_of c.self.inside.kernel c.self.inside.server c.self.inside.requests.items c.self.inside.replies.items c.self.inside.results.items) c.self.invariant.reached c.args.place sent there c.bytes.result.now c.bytes.ensures.frame c.bytes.ensures.fits c.bytes.ensures.init (λ e. (c.bytes.ensures.empty e).1) c.in-Ok.written c.write.new.self
+    let took = written_so (world_of c.self.inside.kernel c.self.inside.server c.self.inside.requests.items c.self.inside.replies.items c.self.inside.results.items) c.self.invariant c.args.place sent there c.bytes.result.now c.bytes.ensures.frame c.bytes.ensures.fits c.bytes.ensures.init c.bytes.ensures.empty c.in-Ok.written c.write.new.self
     (λ head none. let h = c.in-Ok.ensures.unawaited head none in (was_written h.0, h.1)) c.in-Ok.ensures.taken in
     let results = after_result c.self.inside.results.items c.reserve.new.self.items c.append.new.list.items c.number-number.result c.unique-unique.result c.in-Ok.written sent c.reserve.ensures.items c.append.ensures c.number-number.ensures c.unique-unique.ensures in
     rw (← c.self.view_is, c.errno_of.ensures, c.unique-unique.ensures)

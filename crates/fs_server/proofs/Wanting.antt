@@ -1,0 +1,83 @@
+-- Want of memory refuses only what takes memory.
+use Rattle.std.proofs.Common.{◌≡◌, ℕ, Bool, true, false, true≢false, List, Option, Some, None, Result, Ok, Err, refl, sym, ap, ◌∙◌}
+use Rattle.std.specs.Prelude.{IfErr, OnErr}
+use Rattle.std.proofs.lemmas.Option.{same_Some}
+use Rattle.fuse_spec.specs.Messages.{RequestBody, interrupt}
+use Rattle.fuse_spec.specs.Server.{Server, RequestFault, unknown_node, too_many_forgets, repeated_unique, fault_of}
+use Rattle.fuse_spec.specs.Taking.{taking}
+use Rattle.fuse_spec.specs.declared.Taken.TheVariants.{Held, Again}
+use Rattle.fk_wire.specs.Requests as wire
+use Rattle.fk_wire.specs.Requests.{RequestContent, RequestMessage, Spells}
+use Rattle.fuse_frames.specs.RequestTies.{body_in}
+use Rattle.fs_server.specs.declared.server.ServerFault.{ServerFault}
+use Rattle.fs_server.specs.declared.server.ServerFault.TheVariants.{Memory}
+use Rattle.fs_server.specs.Effects.{WantsMemory, as_fault, request_fault, takes_memory}
+use Rattle.fs_server.specs.Taking.{body_of, is_held}
+use Rattle.fs_server.proofs.Becoming.{asked_so}
+
+abbrev is_memory_fault : ServerFault → Bool
+is_memory_fault Memory = true
+is_memory_fault fault = false
+
+other_fault : (fault : ServerFault) → is_memory_fault fault ≡ false → fault ≡ Memory → ⊥
+other_fault fault other e = true≢false (sym (ap is_memory_fault e) ∙ other)
+
+abbrev is_memory_in : Option ServerFault → Bool
+is_memory_in None = false
+is_memory_in (Some fault) = is_memory_fault fault
+
+judged_apart : (o : Option RequestFault) → is_memory_in (as_fault o) ≡ false
+judged_apart None = refl
+judged_apart (Some unknown_node) = refl
+judged_apart (Some too_many_forgets) = refl
+judged_apart (Some repeated_unique) = refl
+
+-- the fault of a request is no want of memory
+pub fault_apart : (s : Server) (unique : ℕ) (o : Option RequestBody) (fault : ServerFault) → request_fault s unique o ≡ Some fault → fault ≡ Memory → ⊥
+fault_apart s unique None fault is = other_fault fault (sym (ap is_memory_in is))
+fault_apart s unique (Some body) fault is = other_fault fault (sym (ap is_memory_in is) ∙ judged_apart (fault_of s (record { unique = unique; body = body })))
+
+held_word : (s : Server) (unique nodeid : ℕ) (content : RequestContent) → is_held content ≡ true → (taking s unique (body_of nodeid content)).word ≡ Held
+held_word s unique nodeid (wire.init major minor flags) is = refl
+held_word s unique nodeid (wire.lookup name) is = refl
+held_word s unique nodeid wire.getattr is = refl
+held_word s unique nodeid (wire.mkdir name) is = refl
+held_word s unique nodeid (wire.create name) is = refl
+held_word s unique nodeid (wire.unlink name) is = refl
+held_word s unique nodeid (wire.rmdir name) is = refl
+held_word s unique nodeid (wire.rename newdir old new) is = refl
+held_word s unique nodeid (wire.link oldnodeid name) is = refl
+held_word s unique nodeid wire.opening is = refl
+held_word s unique nodeid (wire.readdir offset size) is = refl
+held_word s unique nodeid (wire.read fh offset size) is = refl
+held_word s unique nodeid (wire.write fh offset bytes) is = refl
+held_word s unique nodeid (wire.release fh) is = refl
+held_word s unique nodeid (wire.forget n) is = absurd (true≢false (sym is))
+held_word s unique nodeid (wire.batch_forget fs) is = absurd (true≢false (sym is))
+held_word s unique nodeid (wire.interrupt original) is = absurd (true≢false (sym is))
+held_word s unique nodeid (wire.readdirplus offset size) is = absurd (true≢false (sym is))
+
+-- the frame spells this message and no other
+module _ (s : Server) (bytes : List ℕ) (m : RequestMessage) (only : (n : RequestMessage) → Spells bytes n → m ≡ n) where
+  wants_for : (body : RequestBody) → body_in m.nodeid m.content ≡ Some body → takes_memory (taking s m.unique body).word ≡ true → WantsMemory s bytes
+  wants_for body is takes request says =
+      let one = only says.message says.spells in
+      let unique : m.unique ≡ request.unique = ap (λ (n : RequestMessage). n.unique) one ∙ says.unique in
+      let asked : Some body ≡ Some request.body = sym is ∙ ap (λ (n : RequestMessage). body_in n.nodeid n.content) one ∙ says.says in
+      let body_is : body ≡ request.body = same_Some body request.body asked in
+      sym (λ i. takes_memory (taking s (unique i) (body_is i)).word) ∙ takes
+
+  held_wants : is_held m.content ≡ true → WantsMemory s bytes
+  held_wants is = wants_for (body_of m.nodeid m.content) (asked_so m.nodeid m.content is) (ap takes_memory (held_word s m.unique m.nodeid m.content is))
+
+  interrupt_wants : (original : ℕ) → m.content ≡ wire.interrupt original → (taking s m.unique (interrupt original)).word ≡ Again → WantsMemory s bytes
+  interrupt_wants original is word = wants_for (interrupt original) (ap (body_in m.nodeid) is) (ap takes_memory word)
+
+  -- the same of what comes of it
+  pub hold_wants : {T : Type 0} → is_held m.content ≡ true → (r : Result T ServerFault) → IfErr r (λ fault. fault ≡ Memory → WantsMemory s bytes)
+  hold_wants is (Ok took) = tt
+  hold_wants is (Err fault) = λ memory. held_wants is
+
+  pub answer_wants : {T : Type 0} (original : ℕ) → m.content ≡ wire.interrupt original → (r : Result T ServerFault) → OnErr r ((taking s m.unique (interrupt original)).word ≡ Again) → IfErr r (λ fault. fault ≡ Memory → WantsMemory s bytes)
+  answer_wants original is (Ok took) word = tt
+  answer_wants original is (Err fault) word = λ memory. interrupt_wants original is word
