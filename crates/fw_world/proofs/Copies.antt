@@ -142,6 +142,10 @@ module _ (w : World) (here : IsReached w) (place : ℕ) (sent : Sent) (found : s
       let none_said = All-at (λ (s : Sent). s.unique ≡ sent.unique → is_empty_reply s.wire ≡ true) w.replies place sent none.of_copies found refl in
       (awaits_even w.kernel sent.unique (Some (purpose.Release file)) even waits, says opcode.Release sent.wire refl (empty none_said).0)
 
+  -- It is the server's reply to INIT.
+  to_init : nat_eq (sent.unique % 2) 1 ≡ false → waiting w.kernel.queues sent.unique ≡ Some purpose.Init → sent.wire ≡ op.agreed 7 31 → (awaited w.kernel sent.unique ≡ reply_to opcode.Init) × Says opcode.Init bytes sent.wire
+  to_init even waits wire_is = (awaits_even w.kernel sent.unique (Some purpose.Init) even waits, says opcode.Init sent.wire refl (init (ap is_init_reply wire_is)))
+
   goes_failed : (operation : Operation ℕ Opened) → goes_with operation (op.failed 4) ≡ true
   goes_failed operation = refl
 
@@ -154,11 +158,6 @@ module _ (w : World) (here : IsReached w) (place : ℕ) (sent : Sent) (found : s
       let same : reply_to other ≡ reply_to o = sym it.0 ∙ awaits in
       subst (λ (x : Opcode). Says x bytes sent.wire) (cc same) it.1
 
-  is_judged_so : (o : Opcode) → IsJudged o → awaited w.kernel sent.unique ≡ reply_to o → (other : Opcode) → awaited w.kernel sent.unique ≡ reply_to other → IsJudged other
-  is_judged_so o judged awaits other is =
-      let same : reply_to o ≡ reply_to other = sym awaits ∙ is in
-      subst IsJudged (cc same) judged
-
   heard_by : CanHear w here.plain sent → (o : Opcode) → IsJudged o → awaited w.kernel sent.unique ≡ reply_to o → Says o bytes sent.wire
   heard_by (each.nothing e) o judged awaits =
       let none = awaits_none w.kernel sent.unique sent.wire e in
@@ -166,7 +165,7 @@ module _ (w : World) (here : IsReached w) (place : ℕ) (sent : Sent) (found : s
       absurd (cc no)
   heard_by (each.of_interrupt kept numbered live odd waits) o judged awaits = as_awaited o awaits opcode.Interrupt (to_interrupt kept live odd waits)
   heard_by (each.of_release file numbered live even waits) o judged awaits = as_awaited o awaits opcode.Release (to_release file live even waits)
-  heard_by (each.of_init numbered live even waits wire_is) o judged awaits = absurd (is_judged_so o judged awaits opcode.Init (awaits_even w.kernel sent.unique (Some purpose.Init) even waits))
+  heard_by (each.of_init numbered live even waits wire_is) o judged awaits = as_awaited o awaits opcode.Init (to_init even waits wire_is)
   heard_by (each.of_call call state reply numbered one live even waits is) o judged awaits = as_awaited o awaits (opcode_of (asked state)) (to_call call state even waits is.state_is is.goes)
   heard_by (each.of_declined call state numbered one live even waits is) o judged awaits =
       as_awaited o awaits (opcode_of (asked state)) (to_call call state even waits is.state_is (ap (goes_with (asked state)) is.wire_is ∙ goes_failed (asked state)))
@@ -194,9 +193,7 @@ module _ (w : World) (here : IsReached w) (place : ℕ) (sent : Sent) (found : s
         none.1 ∙ (λ i. (sym so.0 i, sym so.1 i))
     by (each.of_interrupt kept numbered live odd waits) = let it = to_interrupt kept live odd waits in taken_so.said opcode.Interrupt tt it.0 sent.wire it.1
     by (each.of_release o numbered live even waits) = let it = to_release o live even waits in taken_so.said opcode.Release tt it.0 sent.wire it.1
-    by (each.of_init numbered live even waits wire_is) =
-        ap (reply_written w.kernel sent.unique) wire_is
-        ∙ taken_so.init (awaits_even w.kernel sent.unique (Some purpose.Init) even waits) 31 (omega arith) (says opcode.Init (op.agreed 7 31) wire_is (init (ap is_init_reply wire_is)))
+    by (each.of_init numbered live even waits wire_is) = let it = to_init even waits wire_is in taken_so.said opcode.Init tt it.0 sent.wire it.1
     by (each.of_call call state reply numbered one live even waits is) = of_call state (to_call call state even waits is.state_is is.goes)
     by (each.of_declined call state numbered one live even waits is) = of_call state (to_call call state even waits is.state_is (ap (goes_with (asked state)) is.wire_is ∙ goes_failed (asked state)))
 
