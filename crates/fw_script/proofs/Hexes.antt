@@ -1,13 +1,14 @@
 -- Lower-case hex, read and written.
-use Rattle.std.proofs.Common.{◌≡◌, ◌+◌, ◌-◌, ◌*◌, ◌/◌, ◌%◌, ◌<◌, ◌≤◌, ◌==◌, ◌&&◌, ◌++◌, ℕ, zero, suc, Bool, true, if◌then◌else◌, nat_lt, List, [], ◌∷◌, length, take, slice_index, Ok, Some, arith, refl, sym, ap, ◌∙◌, inl, inr}
-use Rattle.std.specs.Prelude.{All}
+use Rattle.std.proofs.Common.{◌≡◌, ◌+◌, ◌-◌, ◌*◌, ◌/◌, ◌%◌, ◌<◌, ◌≤◌, ◌==◌, ◌&&◌, ◌++◌, ℕ, zero, suc, Bool, true, if◌then◌else◌, nat_lt, List, [], ◌∷◌, length, take, slice_index, Ok, Some, arith, refl, sym, ap, subst, ◌∙◌, inl, inr}
+use Rattle.std.specs.Prelude.{All, MatchResult, Result, Err}
 use Rattle.std.proofs.lemmas.Bool.{and_parts, cases_lt, eqb-true, le-ltb, lt-ltb}
 use Rattle.std.proofs.lemmas.List.{take_more}
 use Rattle.std.proofs.lemmas.List.Elements.{All-cons, All-nil, All-tail}
-use Rattle.hex.specs.Hex.{IsBytes, decode_of, decode_pairs, digit_or_error, hex_digit_value, encode_lower, encode_with, lower_digits, pair_value, value_at}
+use Rattle.hex.specs.Hex.{IsBytes, decode_of, decode_pairs, decode_sized, digit_or_error, hex_digit_value, encode_lower, encode_with, lower_digits, pair_value, value_at}
 use Rattle.hex.proofs.HexLemmas.{IsDigits-lower_digits, decode_of-even, length-encode_with}
-use Rattle.hex.proofs.Pairs.{cons_byte, decode_pairs-ok_pair}
-use Rattle.fw_script.specs.HexTexts.{IsHex, IsLowerDigit, SpellsHex}
+use Rattle.hex.proofs.Pairs.{cons_byte, decode_pairs-ok_pair, decode_sized-pairs}
+use Rattle.hex.specs.declared.error.FromHexError.{FromHexError}
+use Rattle.fw_script.specs.HexTexts.{IsHex, IsLowerDigit, SpellsHex, hex_or_none}
 
 -- ---- the sixteen digits
 
@@ -102,6 +103,22 @@ decoded_is_spelled text bytes h decoded =
     let both = sym (decode_of-even text h.1 ∙ found.1) ∙ decoded in
     let same : found.0 ≡ bytes = cc in
     rw (← same) (omega (arith, len, size, h.0), found.2)
+
+hex_or_none-some : (bytes : List ℕ) → 0 < length bytes → hex_or_none bytes ≡ encode_lower bytes
+hex_or_none-some [] h = absurd (omega arith)
+hex_or_none-some (b ∷ rest) h = refl
+
+-- and what is decoded into room for it
+pub decoded_into_room : (text bytes : List ℕ) (n : ℕ) (result : Result (Unit {0}) FromHexError) → IsHex text → n ≡ length text / 2
+    → MatchResult (decode_sized text n) (λ decoded. (result ≡ Ok tt) × (bytes ≡ decoded)) (λ e. result ≡ Err e) → text ≡ hex_or_none bytes
+decoded_into_room text bytes n result h half is =
+    let pairs = decoded_lower 0 text h.2 h.1 in
+    let sized : decode_sized text n ≡ Ok pairs.0 = decode_sized-pairs text n h.1 (sym half) ∙ pairs.1 in
+    let decoded : (result ≡ Ok tt) × (bytes ≡ pairs.0) =
+    subst (λ (r : Result (List ℕ) FromHexError). MatchResult r (λ decoded. (result ≡ Ok tt) × (bytes ≡ decoded)) (λ e. result ≡ Err e)) sized is in
+    let len = length-encode_with lower_digits pairs.0 in
+    let size = ap length pairs.2 in
+    rw decoded.1 (pairs.2 ∙ sym (hex_or_none-some pairs.0 (omega (arith, len, size, h.0))))
 
 -- ---- writing
 

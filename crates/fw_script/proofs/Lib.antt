@@ -1,5 +1,6 @@
 pub mod Hexes
 pub mod Decimals
+pub mod Forms
 pub mod Numbering
 pub mod Splitting
 pub mod Statuses

@@ -1,12 +1,16 @@
 -- Script lines, by their words.
-use Rattle.std.specs.Prelude.{◌≡◌, ◌≢◌, ◌<◌, ◌≤◌, ◌^◌, ℕ, List, [], ◌∷◌, ◌++◌, All, codes, decimal, take, drop}
+use Rattle.std.specs.Prelude.{◌≡◌, ◌≢◌, ◌<◌, ◌≤◌, ◌^◌, ℕ, List, [], ◌∷◌, ◌++◌, All, Bool, true, false, codes, decimal, length}
 use Rattle.fw_script.specs.Words.{HasWords}
-use Rattle.fw_script.specs.declared.line.Form.{Form}
-use Rattle.fw_script.specs.declared.line.Form.TheVariants as form
+use Rattle.fw_script.specs.Forms.{Argument, number, text, bytes, signal, name_of, arguments_of}
+use Rattle.fw_script.specs.HexTexts.{IsHexOrNone, hex_or_none}
+use Rattle.fw_script.specs.declared.form.Form.{Form}
 use Rattle.fw_script.specs.declared.line.LineFault.{LineFault}
 use Rattle.fw_script.specs.declared.line.LineFault.TheVariants as faults
 use Rattle.fw_world.specs.declared.event.Event.{Event}
 use Rattle.fw_world.specs.declared.event.Event.TheVariants as event
+use Rattle.fw_world.specs.declared.event.Pick.{Pick}
+use Rattle.fw_world.specs.declared.event.Pick.TheVariants as pick
+use Rattle.fk_syscalls.specs.declared.call.Call.{Call}
 use Rattle.fk_syscalls.specs.declared.call.Call.TheVariants as call
 use Rattle.fw_script.specs.declared.line.Line.{Line}
 use Rattle.fw_script.specs.declared.line.Line.TheVariants as line
@@ -19,90 +23,115 @@ IsNumber word = (n : ℕ) × (n < 2 ^ 64) × (word ≡ decimal n)
 abbrev pub IsText : List ℕ → Type 0
 IsText word = All (λ byte. (33 ≤ byte) × (byte ≤ 126)) word
 
--- the words that a line of this form begins with
-abbrev pub name_of : Form → List (List ℕ)
-name_of form.Mount = codes "mount" ∷ []
-name_of form.CallStat = codes "call" ∷ codes "stat" ∷ []
-name_of form.CallMkdir = codes "call" ∷ codes "mkdir" ∷ []
-name_of form.ReadForgets = codes "read" ∷ codes "f" ∷ []
-name_of form.ReadPending = codes "read" ∷ codes "p" ∷ []
-name_of form.Take = codes "take" ∷ []
-name_of form.Do = codes "do" ∷ []
-name_of form.Again = codes "again" ∷ []
-name_of form.Write = codes "write" ∷ []
-name_of form.Settle = codes "settle" ∷ []
-name_of form.Tick = codes "tick" ∷ []
-name_of form.DropName = codes "drop" ∷ []
-name_of form.Evict = codes "evict" ∷ []
-name_of form.Show = codes "show" ∷ []
+-- whether a signal is fatal
+abbrev pub signal_word : Bool → List ℕ
+signal_word true = codes "fatal"
+signal_word false = codes "soft"
 
--- how many words follow these
-abbrev pub count_of : Form → ℕ
-count_of form.Mount = 2
-count_of form.DropName = 2
-count_of form.Show = 0
-count_of _ = 1
+abbrev pub IsSignal : List ℕ → Type 0
+IsSignal word = (fatal : Bool) × (word ≡ signal_word fatal)
 
--- which of them are numbers
-abbrev pub numbers_of : Form → List (List ℕ) → List (List ℕ)
-numbers_of form.CallStat rest = []
-numbers_of form.CallMkdir rest = []
-numbers_of form.DropName rest = take 1 rest
-numbers_of _ rest = rest
+-- a fact of each word, by what it has to be
+abbrev pub AllAre : (Argument → List ℕ → Type 0) → List Argument → List (List ℕ) → Type 0
+AllAre P (argument ∷ arguments) (word ∷ words) = P argument word × AllAre P arguments words
+AllAre P arguments words = Unit {0}
 
--- and which are texts
-abbrev pub texts_of : Form → List (List ℕ) → List (List ℕ)
-texts_of form.CallStat rest = rest
-texts_of form.CallMkdir rest = rest
-texts_of form.DropName rest = drop 1 rest
-texts_of _ rest = []
+abbrev pub IsSignalAt : Argument → List ℕ → Type 0
+IsSignalAt signal word = IsSignal word
+IsSignalAt argument word = Unit {0}
+
+abbrev pub IsNumberAt : Argument → List ℕ → Type 0
+IsNumberAt number word = IsNumber word
+IsNumberAt argument word = Unit {0}
+
+abbrev pub IsTextAt : Argument → List ℕ → Type 0
+IsTextAt text word = IsText word
+IsTextAt bytes word = IsHexOrNone word
+IsTextAt argument word = Unit {0}
+
+-- as many words as there have to be, none of them empty, and signals in their places
+abbrev pub IsShaped : List Argument → List (List ℕ) → Type 0
+IsShaped arguments words = HasWords (length arguments) words × AllAre IsSignalAt arguments words
+
+-- the words after `call`
+abbrev pub spelled_call : Call → List (List ℕ)
+spelled_call (call.Stat path) = codes "stat" ∷ path.now ∷ []
+spelled_call (call.List path after) = codes "list" ∷ path.now ∷ decimal after ∷ []
+spelled_call (call.Open path) = codes "open" ∷ path.now ∷ []
+spelled_call (call.Mkdir path) = codes "mkdir" ∷ path.now ∷ []
+spelled_call (call.Create path) = codes "create" ∷ path.now ∷ []
+spelled_call (call.Unlink path) = codes "unlink" ∷ path.now ∷ []
+spelled_call (call.Rmdir path) = codes "rmdir" ∷ path.now ∷ []
+spelled_call (call.Rename old new) = codes "rename" ∷ old.now ∷ new.now ∷ []
+spelled_call (call.Link old new) = codes "link" ∷ old.now ∷ new.now ∷ []
+spelled_call (call.Read handle offset size) = codes "read" ∷ decimal handle ∷ decimal offset ∷ decimal size ∷ []
+spelled_call (call.Write handle offset content) = codes "write" ∷ decimal handle ∷ decimal offset ∷ hex_or_none content.now ∷ []
+spelled_call (call.Close handle) = codes "close" ∷ decimal handle ∷ []
+
+-- the words after `read`
+abbrev pub spelled_pick : Pick → List (List ℕ)
+spelled_pick pick.Interrupt = codes "i" ∷ []
+spelled_pick (pick.Forgets count) = codes "f" ∷ decimal count ∷ []
+spelled_pick (pick.Pending place) = codes "p" ∷ decimal place ∷ []
 
 -- the words of the line that names an event
 abbrev pub spelled_event : Event → List (List ℕ)
 spelled_event (event.Mount found missing) = codes "mount" ∷ decimal found ∷ decimal missing ∷ []
-spelled_event (event.Call (call.Stat path)) = codes "call" ∷ codes "stat" ∷ path.now ∷ []
-spelled_event (event.ReadPending place) = codes "read" ∷ codes "p" ∷ decimal place ∷ []
-spelled_event (event.Call (call.Mkdir path)) = codes "call" ∷ codes "mkdir" ∷ path.now ∷ []
-spelled_event (event.ReadForgets count) = codes "read" ∷ codes "f" ∷ decimal count ∷ []
+spelled_event (event.Call c) = codes "call" ∷ spelled_call c
+spelled_event (event.Read p) = codes "read" ∷ spelled_pick p
 spelled_event (event.Take place) = codes "take" ∷ decimal place ∷ []
 spelled_event (event.Do unique) = codes "do" ∷ decimal unique ∷ []
 spelled_event (event.Again unique) = codes "again" ∷ decimal unique ∷ []
 spelled_event (event.Write place) = codes "write" ∷ decimal place ∷ []
 spelled_event (event.Settle place) = codes "settle" ∷ decimal place ∷ []
+spelled_event (event.Interrupt c fatal) = codes "intr" ∷ decimal c ∷ signal_word fatal ∷ []
 spelled_event (event.Tick ms) = codes "tick" ∷ decimal ms ∷ []
 spelled_event (event.DropName directory name) = codes "drop" ∷ decimal directory ∷ name.now ∷ []
 spelled_event (event.Evict node) = codes "evict" ∷ decimal node ∷ []
+spelled_event event.Abort = codes "abort" ∷ []
 
 -- the words of any line
 abbrev pub spelled : Line → List (List ℕ)
 spelled (line.Event e) = spelled_event e
+spelled (line.CallWrite handle offset hex) =
+    codes "call" ∷ codes "write" ∷ decimal handle ∷ decimal offset ∷ hex.now ∷ []
 spelled line.Show = codes "show" ∷ []
 
--- the texts among them
-abbrev pub texts_in : Line → List (List ℕ)
-texts_in (line.Event (event.Call (call.Stat path))) = path.now ∷ []
-texts_in (line.Event (event.Call (call.Mkdir path))) = path.now ∷ []
-texts_in (line.Event (event.DropName directory name)) = name.now ∷ []
-texts_in _ = []
+-- the paths of a call are texts
+abbrev pub HasTexts : Call → Type 0
+HasTexts (call.Stat path) = IsText path.now
+HasTexts (call.List path after) = IsText path.now
+HasTexts (call.Open path) = IsText path.now
+HasTexts (call.Mkdir path) = IsText path.now
+HasTexts (call.Create path) = IsText path.now
+HasTexts (call.Unlink path) = IsText path.now
+HasTexts (call.Rmdir path) = IsText path.now
+HasTexts (call.Rename old new) = IsText old.now × IsText new.now
+HasTexts (call.Link old new) = IsText old.now × IsText new.now
+HasTexts other = Unit {0}
+
+-- so are the paths, the names and the hex of a line
+abbrev pub IsWritten : Line → Type 0
+IsWritten (line.Event (event.Call c)) = HasTexts c
+IsWritten (line.Event (event.DropName directory name)) = IsText name.now
+IsWritten (line.CallWrite handle offset hex) = IsHexOrNone hex.now
+IsWritten other = Unit {0}
 
 -- these are the words of the line
 abbrev pub Names : Line → List (List ℕ) → Type 0
-Names l words = (words ≡ spelled l) × All IsText (texts_in l)
+Names l words = (words ≡ spelled l) × IsWritten l
 
--- what is wrong with the words that follow a form's, the first fault in order: their count, a
--- number, a text
-abbrev pub ArgumentFaultIs : ℕ → (rest numbers texts : List (List ℕ)) → LineFault → Type 0
-ArgumentFaultIs count rest numbers texts faults.UnknownEvent = ⊥
-ArgumentFaultIs count rest numbers texts faults.WrongWords = ¬ (HasWords count rest)
-ArgumentFaultIs count rest numbers texts faults.BadNumber = HasWords count rest × ¬ (All IsNumber numbers)
-ArgumentFaultIs count rest numbers texts faults.BadText = HasWords count rest × All IsNumber numbers × ¬ (All IsText texts)
-
--- the same at a form
-abbrev pub FormFaultIs : Form → List (List ℕ) → LineFault → Type 0
-FormFaultIs f rest fault = ArgumentFaultIs (count_of f) rest (numbers_of f rest) (texts_of f rest) fault
+-- what is wrong with the words that follow a form's, the first fault in order: their count, an empty
+-- one or a signal; a number; a text
+abbrev pub ArgumentFaultIs : List Argument → List (List ℕ) → LineFault → Type 0
+ArgumentFaultIs arguments words faults.UnknownEvent = ⊥
+ArgumentFaultIs arguments words faults.WrongWords = ¬ (IsShaped arguments words)
+ArgumentFaultIs arguments words faults.BadNumber = IsShaped arguments words × ¬ (AllAre IsNumberAt arguments words)
+ArgumentFaultIs arguments words faults.BadText =
+    IsShaped arguments words × AllAre IsNumberAt arguments words × ¬ (AllAre IsTextAt arguments words)
 
 -- what is wrong with the words of a line: before all else, no form begins so
 abbrev pub FaultIs : List (List ℕ) → LineFault → Type 0
 FaultIs words faults.UnknownEvent = (f : Form) (rest : List (List ℕ)) → words ≢ name_of f ++ rest
 FaultIs words fault =
-    (f : Form) × (rest : List (List ℕ)) × (words ≡ name_of f ++ rest) × FormFaultIs f rest fault
+    (f : Form) × (rest : List (List ℕ)) × (words ≡ name_of f ++ rest) × ArgumentFaultIs (arguments_of f) rest fault

@@ -1,5 +1,5 @@
--- The lines that are printed, without their line feeds.
-use Rattle.std.specs.Prelude.{ℕ, List, [], ◌∷◌, ◌++◌, Option, Some, None, codes, decimal, flat_map}
+-- The lines that are printed.
+use Rattle.std.specs.Prelude.{ℕ, List, [], ◌∷◌, ◌++◌, Option, Some, None, ◌&&◌, nat_le, if◌then◌else◌, codes, decimal, flat_map, map}
 use Rattle.hex.specs.Hex.{encode_lower}
 use Rattle.fk_wire.specs.Opcodes.{name_of}
 use Rattle.fk_wire.specs.declared.fault.WireFault.{WireFault}
@@ -8,16 +8,19 @@ use Rattle.fw_world.specs.declared.event.Outcome.{Outcome}
 use Rattle.fw_world.specs.declared.event.Outcome.TheVariants as outcome
 use Rattle.fuse_spec.specs.declared.Taken.{Taken}
 use Rattle.fuse_spec.specs.declared.Taken.TheVariants as taken
+use Rattle.fuse_spec.specs.declared.IntrEffect.{IntrEffect}
+use Rattle.fuse_spec.specs.declared.IntrEffect.TheVariants as effect
+use Rattle.fuse_spec.specs.declared.Attributes.{Attributes}
 use Rattle.fuse_spec.specs.declared.Refusal.{Refusal}
 use Rattle.fuse_spec.specs.declared.Refusal.TheVariants as refusal
 use Rattle.fuse_spec.specs.declared.Kind.{Kind}
 use Rattle.fuse_spec.specs.declared.Kind.TheVariants as kind
 use Rattle.fk_syscalls.specs.declared.call.Answer.{Answer}
 use Rattle.fk_syscalls.specs.declared.call.Answer.TheVariants as answer
+use Rattle.fk_syscalls.specs.declared.call.ListedName.{ListedName}
 use Rattle.fw_world.specs.declared.record.Record.{Record}
 use Rattle.fw_world.specs.declared.record.Record.TheVariants as records
-use Rattle.fw_script.specs.declared.line.LineFault.{LineFault}
-use Rattle.fw_script.specs.declared.line.LineFault.TheVariants as faults
+use Rattle.fw_script.specs.HexTexts.{hex_or_none}
 
 -- what became of a taken request
 abbrev pub taken_word : Taken → List ℕ
@@ -26,6 +29,13 @@ taken_word taken.Forgot = codes "forgot"
 taken_word taken.Marked = codes "marked"
 taken_word taken.Ignored = codes "ignored"
 taken_word taken.Again = codes "again"
+
+-- what a signal did
+abbrev pub effect_word : IntrEffect → List ℕ
+effect_word effect.Dequeued = codes "dequeued"
+effect_word effect.Flagged = codes "flagged"
+effect_word effect.Queued = codes "queued"
+effect_word effect.None = codes "none"
 
 -- the kind of a file
 abbrev pub kind_word : Kind → List ℕ
@@ -77,14 +87,7 @@ wire_name wire.Body = codes "Body"
 wire_name wire.ErrorRange = codes "ErrorRange"
 wire_name wire.Memory = codes "Memory"
 
--- a line's fault
-abbrev pub fault_words : LineFault → List ℕ
-fault_words faults.UnknownEvent = codes "unknown event"
-fault_words faults.WrongWords = codes "wrong words"
-fault_words faults.BadNumber = codes "bad number"
-fault_words faults.BadText = codes "bad text"
-
--- an outcome's line
+-- an outcome's line, without its line feed
 abbrev pub outcome_line : Outcome → List ℕ
 outcome_line outcome.Mounted = codes "mounted"
 outcome_line (outcome.Begun call) = codes "call " ++ decimal call
@@ -97,16 +100,37 @@ outcome_line (outcome.Lost unique errno) = codes "done " ++ decimal unique ++ co
 outcome_line (outcome.SentAgain unique len) = codes "again " ++ decimal unique ++ codes " " ++ decimal len
 outcome_line (outcome.Written unique errno) = codes "written " ++ decimal unique ++ codes " " ++ decimal errno
 outcome_line (outcome.Settled unique errno) = codes "settled " ++ decimal unique ++ codes " " ++ decimal errno
+outcome_line (outcome.Interrupted call effect) = codes "interrupted " ++ decimal call ++ codes " " ++ effect_word effect
 outcome_line (outcome.Now clock) = codes "now " ++ decimal clock
 outcome_line outcome.Dropped = codes "dropped"
 outcome_line (outcome.Evicted node count) = codes "evicted " ++ decimal node ++ codes " " ++ decimal count
+outcome_line outcome.Aborted = codes "aborted"
+
+-- `?` stands for a byte of a name that is outside 33 to 126
+abbrev pub shown_byte : ℕ → ℕ
+shown_byte byte = if nat_le 33 byte && nat_le byte 126 then byte else 63
+
+-- a listed name: the name, the offset from which to read on, the kind
+abbrev pub listed_words : {A : Type 0} → ListedName A → List ℕ
+listed_words listed =
+    codes " " ++ map shown_byte listed.name.items ++ codes ":" ++ decimal listed.offset ++ codes ":" ++ kind_word listed.kind
+
+abbrev pub attributes_words : Attributes → List ℕ
+attributes_words a =
+    codes "0 " ++ kind_word a.kind ++ codes " " ++ decimal a.ino ++ codes " " ++ decimal a.size ++ codes " " ++ decimal a.nlink
 
 -- the rest of an answer's line, after the call's number
-abbrev pub answer_words : Answer → List ℕ
+abbrev pub answer_words : {A : Type 0} → Answer A → List ℕ
 answer_words answer.Done = codes "0"
-answer_words (answer.Attributes a) =
-    codes "0 " ++ kind_word a.kind ++ codes " " ++ decimal a.ino ++ codes " " ++ decimal a.size ++ codes " " ++ decimal a.nlink
+answer_words (answer.Attributes a) = attributes_words a
+answer_words (answer.Listing names) = codes "0" ++ flat_map listed_words names.items
+answer_words (answer.Content bytes) = codes "0 " ++ hex_or_none bytes.items
+answer_words (answer.Written size) = codes "0 " ++ decimal size
 answer_words (answer.Failed errno) = decimal errno
+
+-- the line of an answered call
+abbrev pub answer_text : {A : Type 0} → ℕ → Answer A → List ℕ
+answer_text call a = codes "answer " ++ decimal call ++ codes " " ++ answer_words a ++ codes "\n"
 
 -- a node in a list of nodes: its id, its generation and its lookup count
 abbrev pub node_words : ℕ × ℕ × ℕ → List ℕ
@@ -117,14 +141,10 @@ abbrev pub nodes_text : List ℕ → List (ℕ × ℕ × ℕ) → List ℕ
 nodes_text side nodes = side ++ flat_map node_words nodes ++ codes "\n"
 
 -- a record's line
-abbrev pub record_line : Record → List ℕ
-record_line (records.Outcome o) = outcome_line o
-record_line (records.Refused r) = codes "refused " ++ decimal (refusal_number r) ++ codes " " ++ refusal_name r
-record_line (records.Answered call a) = codes "answer " ++ decimal call ++ codes " " ++ answer_words a
-
--- the same with its line feed
-abbrev pub record_text : Record → List ℕ
-record_text r = record_line r ++ codes "\n"
+abbrev pub record_text : {A : Type 0} → Record A → List ℕ
+record_text (records.Outcome o) = outcome_line o ++ codes "\n"
+record_text (records.Refused r) = codes "refused " ++ decimal (refusal_number r) ++ codes " " ++ refusal_name r ++ codes "\n"
+record_text (records.Answered call a) = answer_text call a
 
 -- the line of a frame that was put
 abbrev pub frame_text : List ℕ → List ℕ
@@ -135,6 +155,6 @@ put_text None = []
 put_text (Some frame) = frame_text frame
 
 -- the lines of an event: its own, that of the frame that was put, those of the answers
-abbrev pub event_text : List Record → Option (List ℕ) → List ℕ
+abbrev pub event_text : {A : Type 0} → List (Record A) → Option (List ℕ) → List ℕ
 event_text [] frame = []
 event_text (first ∷ answers) frame = record_text first ++ put_text frame ++ flat_map record_text answers

@@ -1,6 +1,7 @@
 -- What ends a run early: exit statuses and lines.
 use Rattle.std.specs.Prelude.{ℕ, List, ◌++◌, codes, decimal}
-use Rattle.fw_script.specs.Records.{fault_words}
+use Rattle.fw_script.specs.declared.line.LineFault.{LineFault}
+use Rattle.fw_script.specs.declared.line.LineFault.TheVariants as faults
 use Rattle.fw_script.specs.declared.stop.Stop.{Stop}
 use Rattle.fw_script.specs.declared.stop.Stop.TheVariants as stop
 
@@ -11,6 +12,13 @@ status_of (stop.BadLine number fault) = 1
 status_of stop.BadHex = 1
 status_of stop.NoMemory = 3
 status_of stop.OutputRefused = 5
+
+-- a line's fault
+abbrev pub fault_words : LineFault → List ℕ
+fault_words faults.UnknownEvent = codes "unknown event"
+fault_words faults.WrongWords = codes "wrong words"
+fault_words faults.BadNumber = codes "bad number"
+fault_words faults.BadText = codes "bad text"
 
 -- the lines on standard error, without their line feeds
 abbrev pub stop_line : Stop → List ℕ

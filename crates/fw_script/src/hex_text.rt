@@ -3,15 +3,15 @@
 ghost use Rattle.std.specs.Prelude.{◌≡◌, ◌↔◌, ◌∷◌, [], ℕ, List, All, Err, IfOk, IsTrue, OnOk};
 ghost use Rattle.std.specs.Io.KnownBytes.{Appends};
 ghost use Rattle.hex.specs.Hex.{IsBytes, encode_lower};
-ghost use Rattle.fw_script.specs.HexTexts.{IsHex, IsLowerDigit, SpellsHex};
+ghost use Rattle.fw_script.specs.HexTexts.{IsHex, IsHexOrNone, IsLowerDigit, SpellsHex, hex_or_none};
 ghost use Rattle.fw_script.specs.declared.hex_text.HexFault.TheVariants.{BadHex, NoMemory};
 
-use std::alloc::Allocator;
+use std::alloc::{AllocError, Allocator};
 use std::io;
 use std::io::Write;
 
 /// Why a text is not read as bytes.
-#[derive(Clone, Copy, Debug, PartialEq, Eq)]
+#[derive(Clone, Copy)]
 pub enum HexFault {
     /// The text is not one or more pairs of lower-case hex digits.
     BadHex,
@@ -35,6 +35,13 @@ fn is_hex(text: &[u8]) -> bool
     !text.is_empty() && text.len() % 2 == 0 && is_lower_hex(text)
 }
 
+/// Whether a text is that, or `-` for no bytes.
+pub(crate) fn is_hex_or_none(text: &[u8]) -> bool
+    ensures { IsTrue result ↔ IsHexOrNone text.now }
+{
+    text == b"-".as_slice() || is_hex(text)
+}
+
 /// The bytes that a text of one or more pairs of lower-case hex digits spells.
 pub fn read_hex<A: Allocator>(alloc: A, text: &[u8]) -> Result<Vec<u8, A>, HexFault>
     ensures value { IfOk result (λ bytes. SpellsHex text.now bytes.items) }
@@ -48,6 +55,23 @@ pub fn read_hex<A: Allocator>(alloc: A, text: &[u8]) -> Result<Vec<u8, A>, HexFa
         Ok(bytes) => Ok(bytes),
         Err(_) => Err(HexFault::NoMemory),
     }
+}
+
+/// Reads the bytes of a text, which may be `-` for none, in place of those that stood there.
+pub(crate) fn read_hex_or_none<A: Allocator>(
+    bytes: &mut Vec<u8, A>,
+    text: &[u8],
+) -> Result<(), AllocError>
+    requires { IsHexOrNone text.now }
+    ensures { OnOk result (text.now ≡ hex_or_none bytes.new.items) }
+{
+    bytes.clear();
+    if text == b"-".as_slice() {
+        return Ok(());
+    }
+    bytes.resize(text.len() / 2, 0)?;
+    let _decoded = hex::decode_to_slice(text, bytes.as_mut_slice());
+    Ok(())
 }
 
 /// The two digits of a byte.
@@ -68,4 +92,14 @@ pub fn write_hex<W: Write>(out: &mut W, bytes: &[u8]) -> io::Result<()>
         out.write_all(&digits_of(*byte))?;
     }
     Ok(())
+}
+
+/// Writes bytes as lower-case hex, `-` for none.
+pub(crate) fn write_hex_or_none<W: Write>(out: &mut W, bytes: &[u8]) -> io::Result<()>
+    ensures { OnOk result (Appends (W.contents out.old) (W.contents out.new) (hex_or_none bytes.now)) }
+{
+    if bytes.is_empty() {
+        return out.write_all(b"-");
+    }
+    write_hex(out, bytes)
 }

@@ -1,12 +1,15 @@
 //! Script lines as events, records as lines, and the runs of the program `fuseworld`.
 #![tactic(auto)]
 
+mod arguments;
+mod form;
 mod frame;
 mod hex_text;
 mod line;
 mod lines;
 mod number;
 mod print;
+mod records;
 mod script;
 mod split;
 mod stop;
@@ -16,6 +19,6 @@ pub use frame::run_frame;
 pub use hex_text::{HexFault, read_hex, write_hex};
 pub use line::{Line, LineFault, read_line};
 pub use number::read_number;
-pub use print::{AnswerLine, OutcomeLine, RecordLine};
+pub use records::write_record;
 pub use script::run_script;
 pub use stop::{cannot_read, no_memory};

@@ -1,9 +1,9 @@
-//! Records as the lines that are printed, without their line feeds.
+//! Outcomes and refusals as words.
 
 ghost use Rattle.std.specs.Prelude.{◌≡◌, Some};
-ghost use Rattle.fw_script.specs.Records.{answer_words, kind_word, outcome_line, record_line, refusal_name, refusal_number, taken_word};
+ghost use Rattle.fw_script.specs.Records.{effect_word, kind_word, outcome_line, refusal_name, refusal_number, taken_word};
 
-use fw_world::{Answer, Attributes, Kind, Outcome, Record, Refusal, Taken};
+use fw_world::{IntrEffect, Kind, Outcome, Refusal, Taken};
 use std::fmt;
 
 /// What became of a taken request, in one word.
@@ -19,8 +19,20 @@ fn word_of_taken(taken: Taken) -> &'static str
     }
 }
 
+/// What a signal did, in one word.
+fn word_of_effect(effect: IntrEffect) -> &'static str
+    ensures { result.now ≡ effect_word effect }
+{
+    match effect {
+        IntrEffect::Dequeued => "dequeued",
+        IntrEffect::Flagged => "flagged",
+        IntrEffect::Queued => "queued",
+        IntrEffect::None => "none",
+    }
+}
+
 /// The kind of a file, in one word.
-fn word_of_kind(kind: Kind) -> &'static str
+pub(crate) fn word_of_kind(kind: Kind) -> &'static str
     ensures { result.now ≡ kind_word kind }
 {
     match kind {
@@ -31,14 +43,14 @@ fn word_of_kind(kind: Kind) -> &'static str
 }
 
 /// The number of a refusal.
-fn number_of_refusal(refusal: Refusal) -> u8
+pub(crate) fn number_of_refusal(refusal: Refusal) -> u8
     ensures { result ≡ refusal_number refusal }
 {
     refusal as u8
 }
 
 /// The name of a refusal.
-fn name_of_refusal(refusal: Refusal) -> &'static str
+pub(crate) fn name_of_refusal(refusal: Refusal) -> &'static str
     ensures { result.now ≡ refusal_name refusal }
 {
     match refusal {
@@ -55,9 +67,9 @@ fn name_of_refusal(refusal: Refusal) -> &'static str
     }
 }
 
-/// The line of an outcome, as `read 4 LOOKUP 42`.
-#[derive(Clone, Copy, Debug)]
-pub struct OutcomeLine(pub Outcome);
+/// The line of an outcome, as `read 4 LOOKUP 42`, without its line feed.
+#[derive(Clone, Copy)]
+pub(crate) struct OutcomeLine(pub(crate) Outcome);
 
 impl fmt::Display for OutcomeLine {
     ghost output = { λ line. Some (outcome_line line.0) };
@@ -77,51 +89,13 @@ impl fmt::Display for OutcomeLine {
             Outcome::SentAgain { unique, len } => write!(f, "again {unique} {len}"),
             Outcome::Written { unique, errno } => write!(f, "written {unique} {errno}"),
             Outcome::Settled { unique, errno } => write!(f, "settled {unique} {errno}"),
+            Outcome::Interrupted { call, effect } => {
+                write!(f, "interrupted {call} {}", word_of_effect(effect))
+            }
             Outcome::Now { clock } => write!(f, "now {clock}"),
             Outcome::Dropped => write!(f, "dropped"),
             Outcome::Evicted { node, count } => write!(f, "evicted {node} {count}"),
-        }
-    }
-}
-
-/// An answer's line after its call's number, as `0 dir 1 0 1`, or an error number alone.
-#[derive(Clone, Copy, Debug)]
-pub struct AnswerLine(pub Answer);
-
-impl fmt::Display for AnswerLine {
-    ghost output = { λ line. Some (answer_words line.0) };
-
-    fn fmt<W: fmt::Write>(&self, f: &mut fmt::Formatter<W>) -> fmt::Result {
-        match self.0 {
-            Answer::Done => write!(f, "0"),
-            Answer::Attributes(
-                Attributes {
-                    kind,
-                    ino,
-                    size,
-                    nlink,
-                },
-            ) => write!(f, "0 {} {ino} {size} {nlink}", word_of_kind(kind)),
-            Answer::Failed { errno } => write!(f, "{errno}"),
-        }
-    }
-}
-
-/// The line of a record.
-#[derive(Clone, Copy, Debug)]
-pub struct RecordLine(pub Record);
-
-impl fmt::Display for RecordLine {
-    ghost output = { λ line. Some (record_line line.0) };
-
-    fn fmt<W: fmt::Write>(&self, f: &mut fmt::Formatter<W>) -> fmt::Result {
-        match self.0 {
-            Record::Outcome(outcome) => write!(f, "{}", OutcomeLine(outcome)),
-            Record::Refused(refusal) => {
-                let number = number_of_refusal(refusal);
-                write!(f, "refused {number} {}", name_of_refusal(refusal))
-            }
-            Record::Answered { call, answer } => write!(f, "answer {call} {}", AnswerLine(answer)),
+            Outcome::Aborted => write!(f, "aborted"),
         }
     }
 }

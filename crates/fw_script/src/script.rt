@@ -1,17 +1,19 @@
 //! The run of a script.
 
-ghost use Rattle.std.specs.Prelude.{◌≡◌, ◌≢◌, ◌⊎◌, ◌∷◌, [], Contains, IfErr, IfOk, IfSome, OnOk, flat_map, option_copied};
+ghost use Rattle.std.specs.Prelude.{◌≡◌, ◌≢◌, ◌⊎◌, ◌∷◌, [], Contains, IfErr, IfOk, IfSome, OnOk, flat_map};
 ghost use Rattle.std.specs.Io.KnownBytes.{Appends};
-ghost use Rattle.fw_script.specs.Records.{event_text, frame_text, node_words, nodes_text, record_text};
+ghost use Rattle.fw_script.specs.HexTexts.{IsHexOrNone};
+ghost use Rattle.fw_script.specs.Lines.{spelled};
+ghost use Rattle.fw_script.specs.Records.{node_words, nodes_text};
 ghost use Rattle.fw_script.specs.Scripts.{IsGoodScript};
 ghost use Rattle.fw_script.specs.Stops.{status_of};
 
-use crate::hex_text::write_hex;
+use crate::hex_text::read_hex_or_none;
 use crate::line::{Line, read_line};
 use crate::lines::{Lines, first_fault, is_passed_over};
-use crate::print::RecordLine;
+use crate::records::write_records;
 use crate::stop::Stop;
-use fw_world::{Event, Record, WorldIn, run};
+use fw_world::{Call, Event, Record, WorldIn, run};
 use std::alloc::Allocator;
 use std::io;
 use std::io::{ErrorKind, Read, Write};
@@ -20,53 +22,26 @@ use std::io::{ErrorKind, Read, Write};
 /// of 64 calls.
 const MAX_RECORDS: usize = 66;
 
-/// Writes a record's line.
-fn write_record<W: Write>(out: &mut W, record: Record) -> io::Result<()>
-    ensures { OnOk result (Appends (W.contents out.old) (W.contents out.new) (record_text «record»)) }
-{
-    writeln!(out, "{}", RecordLine(record))
+/// Room that one event after another uses: its records, and the bytes that a call puts into a file.
+#[derive(Drop)]
+struct Room<A: Allocator> {
+    records: Vec<Record<A>, A>,
+    bytes: Vec<u8, A>,
 }
 
-/// Writes the line of a frame that was put.
-fn write_frame<W: Write>(out: &mut W, frame: &[u8]) -> io::Result<()>
-    ensures { OnOk result (Appends (W.contents out.old) (W.contents out.new) (frame_text frame.now)) }
-{
-    out.write_all(b"frame ")?;
-    write_hex(out, frame)?;
-    out.write_all(b"\n")
-}
-
-/// Writes the lines of answers.
-fn write_answers<W: Write>(out: &mut W, answers: &[Record]) -> io::Result<()>
-    ensures { OnOk result (Appends (W.contents out.old) (W.contents out.new)
-        (flat_map record_text answers.now)) }
-{
-    for answer in answers {
-        write_record(out, *answer)?;
+/// The frame that the last event put, if frames are printed.
+fn frame_put<A: Allocator + Copy>(world: &WorldIn<A>, hex: bool) -> Option<&[u8]> {
+    if !hex {
+        return None;
     }
-    Ok(())
-}
-
-/// Writes the lines of an event's records, and after the first that of the frame that was put.
-fn write_records<W: Write>(out: &mut W, records: &[Record], frame: Option<&[u8]>) -> io::Result<()>
-    ensures { OnOk result (Appends (W.contents out.old) (W.contents out.new)
-        (event_text records.now (option_copied frame.entry))) }
-{
-    let Some((first, answers)) = records.split_first() else {
-        return Ok(());
-    };
-    write_record(out, *first)?;
-    if let Some(frame) = frame {
-        write_frame(out, frame)?;
-    }
-    write_answers(out, answers)
+    world.last_put()
 }
 
 /// Runs one event, and writes what it came to.
 fn run_event<A: Allocator + Copy, W: Write>(
     world: &mut WorldIn<A>,
     event: Event<'_>,
-    records: &mut Vec<Record, A>,
+    records: &mut Vec<Record<A>, A>,
     hex: bool,
     out: &mut W,
 ) -> Result<(), Stop<'static>>
@@ -76,8 +51,32 @@ fn run_event<A: Allocator + Copy, W: Write>(
     if run(world, &[event], records).is_err() {
         return Err(Stop::NoMemory);
     }
-    let frame = world.last_put().filter(|_| hex);
-    write_records(out, records.as_slice(), frame).map_err(|_| Stop::OutputRefused)
+    let frame = frame_put(world, hex);
+    if write_records(out, records.as_slice(), frame).is_err() {
+        return Err(Stop::OutputRefused);
+    }
+    Ok(())
+}
+
+/// The event that a call is which puts bytes into an open file. Its bytes are read from hex.
+fn event_of_write<'a, A: Allocator>(
+    bytes: &'a mut Vec<u8, A>,
+    handle: u64,
+    offset: u64,
+    hex: &[u8],
+) -> Result<Event<'a>, Stop<'static>>
+    requires { IsHexOrNone hex.now }
+    ensures names { IfOk result (λ event. spelled (Line.Event event) ≡ spelled (Line.CallWrite handle offset hex.entry)) }
+    ensures err { IfErr result (λ stop. status_of stop ≢ 1) }
+{
+    if read_hex_or_none(bytes, hex).is_err() {
+        return Err(Stop::NoMemory);
+    }
+    Ok(Event::Call(Call::Write {
+        handle,
+        offset,
+        bytes: bytes.as_slice(),
+    }))
 }
 
 /// Writes a node: its id, its generation and its lookup count.
@@ -124,14 +123,24 @@ fn show<A: Allocator + Copy, W: Write>(world: &WorldIn<A>, out: &mut W) -> Resul
 fn run_line<A: Allocator + Copy, W: Write>(
     world: &mut WorldIn<A>,
     line: &[u8],
-    records: &mut Vec<Record, A>,
+    room: &mut Room<A>,
     hex: bool,
     out: &mut W,
 ) -> Result<(), Stop<'static>>
     ensures { IfErr result (λ stop. status_of stop ≢ 1) }
 {
     match read_line(line) {
-        Ok(Line::Event(event)) => run_event(world, event, records, hex, out),
+        Ok(Line::Event(event)) => run_event(world, event, &mut room.records, hex, out),
+        Ok(
+            Line::CallWrite {
+                handle,
+                offset,
+                hex: bytes,
+            },
+        ) => {
+            let event = event_of_write(&mut room.bytes, handle, offset, bytes)?;
+            run_event(world, event, &mut room.records, hex, out)
+        }
         Ok(Line::Show) => show(world, out),
         Err(_) => Ok(()),
     }
@@ -141,7 +150,7 @@ fn run_line<A: Allocator + Copy, W: Write>(
 fn run_lines<A: Allocator + Copy, W: Write>(
     world: &mut WorldIn<A>,
     script: &[u8],
-    records: &mut Vec<Record, A>,
+    room: &mut Room<A>,
     hex: bool,
     out: &mut W,
 ) -> Result<(), Stop<'static>>
@@ -151,7 +160,7 @@ fn run_lines<A: Allocator + Copy, W: Write>(
         if is_passed_over(line) {
             continue;
         }
-        if let Err(stop) = run_line(world, line, records, hex, out) {
+        if let Err(stop) = run_line(world, line, room, hex, out) {
             return Err(stop);
         }
     }
@@ -167,13 +176,15 @@ fn run_events<A: Allocator + Copy, W: Write>(
 ) -> Result<(), Stop<'static>>
     ensures { IfErr result (λ stop. status_of stop ≢ 1) }
 {
-    let Ok(mut records) = Vec::with_capacity(alloc, MAX_RECORDS) else {
+    let Ok(records) = Vec::with_capacity(alloc, MAX_RECORDS) else {
         return Err(Stop::NoMemory);
     };
+    let bytes = Vec::new(alloc);
+    let mut room = Room { records, bytes };
     let Ok(mut world) = WorldIn::new(alloc) else {
         return Err(Stop::NoMemory);
     };
-    run_lines(&mut world, script, &mut records, hex, out)
+    run_lines(&mut world, script, &mut room, hex, out)
 }
 
 /// Hands on all that was written.

@@ -1,15 +1,14 @@
 //! Why a run ends early: its line on standard error, and its exit status.
 
 ghost use Rattle.std.specs.Prelude.{◌≡◌, Some};
-ghost use Rattle.fw_script.specs.Records.{fault_words};
-ghost use Rattle.fw_script.specs.Stops.{status_of, stop_line};
+ghost use Rattle.fw_script.specs.Stops.{fault_words, status_of, stop_line};
 
 use crate::line::LineFault;
 use std::fmt;
 use std::io::Write;
 
 /// Why a run ends early.
-#[derive(Clone, Copy, Debug)]
+#[derive(Clone, Copy)]
 pub(crate) enum Stop<'a> {
     CannotRead { name: &'a str },
     BadLine { number: usize, fault: LineFault },

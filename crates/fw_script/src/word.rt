@@ -38,3 +38,18 @@ pub(crate) fn two_words(rest: Option<&[u8]>) -> Option<(&[u8], &[u8])>
     let second = one_word(rest)?;
     Some((first, second))
 }
+
+/// The three words of the rest of a line, if they are three and none is empty.
+pub(crate) fn three_words(rest: Option<&[u8]>) -> Option<(&[u8], &[u8], &[u8])>
+    ensures { let words = words_left (option_copied rest.entry) in MatchOption result
+        (¬ (HasWords 3 words))
+        (λ three. HasWords 3 (three.0.now ∷ three.1.now ∷ three.2.now ∷ [])
+        × (words ≡ three.0.now ∷ three.1.now ∷ three.2.now ∷ [])) }
+{
+    let (first, rest) = split_word(rest?);
+    if first.is_empty() {
+        return None;
+    }
+    let (second, third) = two_words(rest)?;
+    Some((first, second, third))
+}

@@ -1,0 +1,89 @@
+-- What lines begin with, and the words that follow.
+use Rattle.std.specs.Prelude.{ℕ, List, [], ◌∷◌, codes}
+use Rattle.fw_script.specs.declared.form.Form.{Form}
+use Rattle.fw_script.specs.declared.form.Form.TheVariants.{Word, Call, Read}
+use Rattle.fw_script.specs.declared.form.WordForm.{WordForm}
+use Rattle.fw_script.specs.declared.form.WordForm.TheVariants as word
+use Rattle.fw_script.specs.declared.form.CallForm.{CallForm}
+use Rattle.fw_script.specs.declared.form.CallForm.TheVariants as call
+use Rattle.fw_script.specs.declared.form.ReadForm.{ReadForm}
+use Rattle.fw_script.specs.declared.form.ReadForm.TheVariants as read
+
+-- a word alone
+abbrev pub word_name : WordForm → List ℕ
+word_name word.Mount = codes "mount"
+word_name word.Take = codes "take"
+word_name word.Do = codes "do"
+word_name word.Again = codes "again"
+word_name word.Write = codes "write"
+word_name word.Settle = codes "settle"
+word_name word.Interrupt = codes "intr"
+word_name word.Tick = codes "tick"
+word_name word.DropName = codes "drop"
+word_name word.Evict = codes "evict"
+word_name word.Abort = codes "abort"
+word_name word.Show = codes "show"
+
+-- the word after `call`
+abbrev pub call_name : CallForm → List ℕ
+call_name call.Stat = codes "stat"
+call_name call.List = codes "list"
+call_name call.Open = codes "open"
+call_name call.Mkdir = codes "mkdir"
+call_name call.Create = codes "create"
+call_name call.Unlink = codes "unlink"
+call_name call.Rmdir = codes "rmdir"
+call_name call.Rename = codes "rename"
+call_name call.Link = codes "link"
+call_name call.Read = codes "read"
+call_name call.Write = codes "write"
+call_name call.Close = codes "close"
+
+-- the word after `read`
+abbrev pub read_name : ReadForm → List ℕ
+read_name read.Interrupt = codes "i"
+read_name read.Forgets = codes "f"
+read_name read.Pending = codes "p"
+
+-- the words that a line of this form begins with
+abbrev pub name_of : Form → List (List ℕ)
+name_of (Word f) = word_name f ∷ []
+name_of (Call f) = codes "call" ∷ call_name f ∷ []
+name_of (Read f) = codes "read" ∷ read_name f ∷ []
+
+-- what a word may have to be
+pub data Argument : Type 0 where
+  number : Argument
+  text : Argument
+  bytes : Argument
+  signal : Argument
+
+-- what follows a word alone
+abbrev pub after_word : WordForm → List Argument
+after_word word.Mount = number ∷ number ∷ []
+after_word word.Interrupt = number ∷ signal ∷ []
+after_word word.DropName = number ∷ text ∷ []
+after_word word.Abort = []
+after_word word.Show = []
+after_word _ = number ∷ []
+
+-- what follows a call's name
+abbrev pub after_call : CallForm → List Argument
+after_call call.List = text ∷ number ∷ []
+after_call call.Rename = text ∷ text ∷ []
+after_call call.Link = text ∷ text ∷ []
+after_call call.Read = number ∷ number ∷ number ∷ []
+after_call call.Write = number ∷ number ∷ bytes ∷ []
+after_call call.Close = number ∷ []
+after_call _ = text ∷ []
+
+-- what follows a read
+abbrev pub after_read : ReadForm → List Argument
+after_read read.Interrupt = []
+after_read _ = number ∷ []
+
+-- what follows the words that a line begins with
+abbrev pub arguments_of : Form → List Argument
+arguments_of (Word f) = after_word f
+arguments_of (Call f) = after_call f
+arguments_of (Read f) = after_read f

@@ -1,0 +1,152 @@
+//! Records as the lines that are printed.
+
+ghost use Rattle.std.specs.Prelude.{◌≡◌, OnOk, flat_map, map, option_copied};
+ghost use Rattle.std.specs.Io.KnownBytes.{Appends};
+ghost use Rattle.fw_script.specs.Records.{answer_text, answer_words, attributes_words, event_text, frame_text, listed_words, record_text, shown_byte};
+
+use crate::hex_text::{write_hex, write_hex_or_none};
+use crate::print::{OutcomeLine, name_of_refusal, number_of_refusal, word_of_kind};
+use fw_world::{Answer, Attributes, ListedName, Record};
+use std::alloc::Allocator;
+use std::io;
+use std::io::Write;
+
+/// How a byte of a name is printed: `?` stands for one outside 33 to 126.
+fn shown(byte: u8) -> u8
+    ensures { result ≡ shown_byte byte }
+{
+    if 33 <= byte && byte <= 126 {
+        byte
+    } else {
+        b'?'
+    }
+}
+
+/// Writes a name.
+fn write_name<W: Write>(out: &mut W, name: &[u8]) -> io::Result<()>
+    ensures { OnOk result (Appends (W.contents out.old) (W.contents out.new) (map shown_byte name.now)) }
+{
+    for byte in name {
+        out.write_all(&[shown(*byte)])?;
+    }
+    Ok(())
+}
+
+/// Writes a listed name, as ` NAME:OFF:KIND`.
+fn write_listed<A: Allocator, W: Write>(out: &mut W, listed: &ListedName<A>) -> io::Result<()>
+    ensures { OnOk result (Appends (W.contents out.old) (W.contents out.new) (listed_words listed.now)) }
+{
+    out.write_all(b" ")?;
+    write_name(out, listed.name.as_slice())?;
+    let kind = word_of_kind(listed.kind);
+    write!(out, ":{}:{kind}", listed.offset)
+}
+
+/// Writes listed names one after another.
+fn write_listing<A: Allocator, W: Write>(out: &mut W, names: &[ListedName<A>]) -> io::Result<()>
+    ensures { OnOk result (Appends (W.contents out.old) (W.contents out.new) (flat_map listed_words names.now)) }
+{
+    for listed in names {
+        write_listed(out, listed)?;
+    }
+    Ok(())
+}
+
+/// Writes attributes, as `0 KIND INO SIZE NLINK`.
+fn write_attributes<W: Write>(out: &mut W, attributes: Attributes) -> io::Result<()>
+    ensures { OnOk result (Appends (W.contents out.old) (W.contents out.new) (attributes_words attributes)) }
+{
+    let Attributes {
+        kind,
+        ino,
+        size,
+        nlink,
+    } = attributes;
+    write!(out, "0 {} {ino} {size} {nlink}", word_of_kind(kind))
+}
+
+/// Writes what a call is answered, without the call's number.
+fn write_answer<A: Allocator, W: Write>(out: &mut W, answer: &Answer<A>) -> io::Result<()>
+    ensures { OnOk result (Appends (W.contents out.old) (W.contents out.new) (answer_words answer.now)) }
+{
+    match answer {
+        Answer::Done => out.write_all(b"0"),
+        Answer::Attributes(attributes) => write_attributes(out, *attributes),
+        Answer::Listing(names) => {
+            out.write_all(b"0")?;
+            write_listing(out, names.as_slice())
+        }
+        Answer::Content(bytes) => {
+            out.write_all(b"0 ")?;
+            write_hex_or_none(out, bytes.as_slice())
+        }
+        Answer::Written { size } => write!(out, "0 {size}"),
+        Answer::Failed { errno } => write!(out, "{errno}"),
+    }
+}
+
+/// Writes the line of an answered call.
+fn write_answered<A: Allocator, W: Write>(
+    out: &mut W,
+    call: u64,
+    answer: &Answer<A>,
+) -> io::Result<()>
+    ensures { OnOk result (Appends (W.contents out.old) (W.contents out.new) (answer_text call answer.now)) }
+{
+    write!(out, "answer {call} ")?;
+    write_answer(out, answer)?;
+    out.write_all(b"\n")
+}
+
+/// Writes a record's line.
+pub fn write_record<A: Allocator, W: Write>(out: &mut W, record: &Record<A>) -> io::Result<()>
+    ensures { OnOk result (Appends (W.contents out.old) (W.contents out.new) (record_text «record».now)) }
+{
+    match record {
+        Record::Outcome(outcome) => writeln!(out, "{}", OutcomeLine(*outcome)),
+        Record::Refused(refusal) => {
+            let number = number_of_refusal(*refusal);
+            writeln!(out, "refused {number} {}", name_of_refusal(*refusal))
+        }
+        Record::Answered { call, answer } => write_answered(out, *call, answer),
+    }
+}
+
+/// Writes the line of a frame that was put.
+fn write_frame<W: Write>(out: &mut W, frame: &[u8]) -> io::Result<()>
+    ensures { OnOk result (Appends (W.contents out.old) (W.contents out.new) (frame_text frame.now)) }
+{
+    out.write_all(b"frame ")?;
+    write_hex(out, frame)?;
+    out.write_all(b"\n")
+}
+
+/// Writes the lines of answers.
+fn write_answers<A: Allocator, W: Write>(out: &mut W, answers: &[Record<A>]) -> io::Result<()>
+    ensures { OnOk result (Appends (W.contents out.old) (W.contents out.new)
+        (flat_map record_text answers.now)) }
+{
+    for answer in answers {
+        write_record(out, answer)?;
+    }
+    Ok(())
+}
+
+/// Writes the lines of an event's records, and after the first that of the frame that was put.
+pub(crate) fn write_records<A: Allocator, W: Write>(
+    out: &mut W,
+    records: &[Record<A>],
+    frame: Option<&[u8]>,
+) -> io::Result<()>
+    ensures { OnOk result (Appends (W.contents out.old) (W.contents out.new)
+        (event_text records.now (option_copied frame.entry))) }
+{
+    let Some((first, answers)) = records.split_first() else {
+        return Ok(());
+    };
+    write_record(out, first)?;
+    if let Some(frame) = frame {
+        write_frame(out, frame)?;
+    }
+    write_answers(out, answers)
+}
