@@ -1,0 +1,10 @@
+//! What no clause says: values from outside, that calls succeed, which free numbers are given, and refused growths.
+
+mod frames;
+mod handles;
+mod hostile;
+mod life;
+mod nodes;
+mod replies;
+mod tree;
+mod tried;

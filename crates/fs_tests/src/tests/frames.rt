@@ -1,0 +1,329 @@
+//! Steps of a server over frames, and what each must give.
+
+use crate::tests::tried::{Outcome, Tried, judged};
+use fk_wire::{Request, RequestBody, write_request};
+use fs_server::{Server, ServerFault, fault_reply};
+use fuse_frames::ReplyCopy;
+use fuse_spec::{Refusal, ReplyResult, Taken, WriteResult};
+use std::alloc::{AllocError, Allocator, Global};
+
+/// The longest validity, in milliseconds.
+const MAX_VALIDITY: u64 = 86_400_000;
+
+/// What a request asks, with names and bytes as text.
+#[derive(Clone, Copy)]
+pub enum Asks {
+    Lookup(&'static str),
+    Getattr,
+    Mkdir(&'static str),
+    Create(&'static str),
+    Unlink(&'static str),
+    Rmdir(&'static str),
+    /// The old name, the new directory and the new name.
+    Rename(&'static str, u64, &'static str),
+    /// The node that gets the name.
+    Link(u64, &'static str),
+    Open,
+    /// The open number, the offset and the size.
+    Read(u64, u64, u32),
+    Write(u64, u64, &'static str),
+    Release(u64),
+    /// The offset and the size.
+    Readdir(u64, u32),
+}
+
+/// A step, and what it must give. Frames are in hexadecimal digits; spaces are for reading alone.
+#[derive(Clone, Copy)]
+pub enum Row {
+    /// A mount: how long found and missing names are valid, in milliseconds.
+    Mount(u64, u64),
+    Abort,
+    /// A request is held: its unique, its node and what it asks.
+    Holds(u64, u64, Asks),
+    /// A frame is taken: what became of it.
+    Takes(&'static str, Taken),
+    /// A frame is answered at once: by this frame.
+    Answers(&'static str, &'static str),
+    /// A frame is refused: the fault, and the error reply, if there is one.
+    Refuses(&'static str, ServerFault, Option<&'static str>),
+    /// A held request is performed: its unique, the error number and the reply's frame.
+    Performs(u64, u32, &'static str),
+    /// A held request is performed after an abort: its unique and the error number.
+    Lost(u64, u32),
+    /// No request is held under a unique.
+    Unheld(u64),
+    /// One more copy of a kept reply is sent: its frame.
+    Again(u64, &'static str),
+    /// No copy is sent under a unique.
+    NoCopy(u64),
+    /// A copy, by its number and its unique, is settled with a result.
+    Settles(u64, u64, WriteResult),
+    /// A copy is not there to be settled.
+    NoSettle(u64, u64),
+    /// The nodes in rising nodeid, each with its generation and its count.
+    Nodes(&'static [(u64, u64, u64)]),
+}
+
+/// The body of a request.
+fn body_of(asks: Asks) -> RequestBody<'static> {
+    match asks {
+        Asks::Lookup(name) => RequestBody::Lookup {
+            name: name.as_bytes(),
+        },
+        Asks::Getattr => RequestBody::Getattr,
+        Asks::Mkdir(name) => RequestBody::Mkdir {
+            name: name.as_bytes(),
+        },
+        Asks::Create(name) => RequestBody::Create {
+            name: name.as_bytes(),
+        },
+        Asks::Unlink(name) => RequestBody::Unlink {
+            name: name.as_bytes(),
+        },
+        Asks::Rmdir(name) => RequestBody::Rmdir {
+            name: name.as_bytes(),
+        },
+        Asks::Rename(old, newdir, new) => RequestBody::Rename {
+            newdir,
+            old: old.as_bytes(),
+            new: new.as_bytes(),
+        },
+        Asks::Link(oldnodeid, name) => RequestBody::Link {
+            oldnodeid,
+            name: name.as_bytes(),
+        },
+        Asks::Open => RequestBody::Open,
+        Asks::Read(fh, offset, size) => RequestBody::Read { fh, offset, size },
+        Asks::Write(fh, offset, text) => RequestBody::Write {
+            fh,
+            offset,
+            bytes: text.as_bytes(),
+        },
+        Asks::Release(fh) => RequestBody::Release { fh },
+        Asks::Readdir(offset, size) => RequestBody::Readdir { offset, size },
+    }
+}
+
+/// The value of a hexadecimal digit.
+fn digit_value(digit: u8) -> Option<u8> {
+    match digit {
+        b'0'..=b'9' => Some(digit - b'0'),
+        b'a'..=b'f' => Some(digit - b'a' + 10),
+        _ => None,
+    }
+}
+
+/// The bytes of hexadecimal digits.
+fn unhex(alloc: Global, text: &str) -> Result<Vec<u8>, AllocError> {
+    let mut bytes = Vec::new(alloc);
+    let mut high = None;
+    for value in text.bytes().filter_map(digit_value) {
+        match high {
+            None => high = Some(value),
+            Some(first) => {
+                bytes.push(first.wrapping_mul(16) | value)?;
+                high = None;
+            }
+        }
+    }
+    Ok(bytes)
+}
+
+/// Whether bytes are those of a text.
+fn spells(alloc: Global, bytes: &[u8], text: &str) -> bool {
+    match unhex(alloc, text) {
+        Ok(wanted) => wanted.as_slice() == bytes,
+        Err(_) => false,
+    }
+}
+
+/// What a copy comes to, of which the frame is given.
+fn copied<A: Allocator>(alloc: Global, copy: Option<&ReplyCopy<A>>, text: &str) -> Outcome {
+    match copy {
+        Some(copy) => judged(spells(alloc, copy.bytes(), text)),
+        None => Outcome::Wrong,
+    }
+}
+
+fn takes<A: Allocator + Copy>(server: &mut Server<A>, frame: &[u8], word: Taken) -> Outcome {
+    match server.take(frame) {
+        Ok(took) => judged(took.word == word && took.copy.is_none()),
+        Err(ServerFault::Memory) => Outcome::NoMemory,
+        Err(_) => Outcome::Wrong,
+    }
+}
+
+fn holds<A: Allocator + Copy>(
+    server: &mut Server<A>,
+    alloc: Global,
+    unique: u64,
+    nodeid: u64,
+    asks: Asks,
+) -> Outcome {
+    let body = body_of(asks);
+    let request = Request {
+        unique,
+        nodeid,
+        body,
+    };
+    let mut frame = Vec::new(alloc);
+    match write_request(&mut frame, &request) {
+        Ok(()) => takes(server, &frame, Taken::Held),
+        Err(_) => Outcome::Wrong,
+    }
+}
+
+fn answers<A: Allocator + Copy>(
+    server: &mut Server<A>,
+    alloc: Global,
+    frame: &[u8],
+    text: &str,
+) -> Outcome {
+    match server.take(frame) {
+        Ok(took) if took.word == Taken::Again => copied(alloc, took.copy.as_ref(), text),
+        Err(ServerFault::Memory) => Outcome::NoMemory,
+        _ => Outcome::Wrong,
+    }
+}
+
+/// Whether the error reply to a faulty frame is this one, or there is none.
+fn is_fault_reply(alloc: Global, frame: &[u8], fault: ServerFault, text: Option<&str>) -> bool {
+    let Ok(mut out) = Vec::with_capacity(alloc, 16) else {
+        return false;
+    };
+    let replied = fault_reply(frame, fault, &mut out);
+    match text {
+        Some(text) => replied && spells(alloc, &out, text),
+        None => !replied && out.is_empty(),
+    }
+}
+
+fn refuses<A: Allocator + Copy>(
+    server: &mut Server<A>,
+    alloc: Global,
+    frame: &[u8],
+    fault: ServerFault,
+    text: Option<&str>,
+) -> Outcome {
+    match server.take(frame) {
+        Ok(_) => Outcome::Wrong,
+        Err(given) => judged(given == fault && is_fault_reply(alloc, frame, fault, text)),
+    }
+}
+
+fn performs<A: Allocator + Copy>(
+    server: &mut Server<A>,
+    alloc: Global,
+    unique: u64,
+    errno: u32,
+    text: &str,
+) -> Outcome {
+    match server.perform(unique) {
+        Ok(done) if done.errno == errno => copied(alloc, done.copy.as_ref(), text),
+        Err(Refusal::NoMemory) => Outcome::NoMemory,
+        _ => Outcome::Wrong,
+    }
+}
+
+fn is_lost<A: Allocator + Copy>(server: &mut Server<A>, unique: u64, errno: u32) -> Outcome {
+    match server.perform(unique) {
+        Ok(done) => judged(done.errno == errno && done.copy.is_none()),
+        Err(Refusal::NoMemory) => Outcome::NoMemory,
+        Err(_) => Outcome::Wrong,
+    }
+}
+
+fn copies_again<A: Allocator + Copy>(
+    server: &mut Server<A>,
+    alloc: Global,
+    unique: u64,
+    text: &str,
+) -> Outcome {
+    match server.again(unique) {
+        Ok(copy) => judged(spells(alloc, copy.bytes(), text)),
+        Err(Refusal::NoMemory) => Outcome::NoMemory,
+        Err(_) => Outcome::Wrong,
+    }
+}
+
+fn lists<A: Allocator + Copy>(server: &Server<A>, heap: A, nodes: &[(u64, u64, u64)]) -> Outcome {
+    match server.nodes(heap) {
+        Ok(given) => judged(given.as_slice() == nodes),
+        Err(AllocError) => Outcome::NoMemory,
+    }
+}
+
+fn mounts<A: Allocator + Copy>(server: &mut Server<A>, found_ms: u64, missing_ms: u64) -> bool {
+    if found_ms > MAX_VALIDITY || missing_ms > MAX_VALIDITY {
+        return false;
+    }
+    server.remount(found_ms, missing_ms);
+    !server.is_aborted()
+}
+
+fn aborts<A: Allocator + Copy>(server: &mut Server<A>) -> bool {
+    server.connection_lost();
+    server.is_aborted()
+}
+
+/// The step of a row that takes a frame.
+fn take_row<A: Allocator + Copy>(
+    server: &mut Server<A>,
+    alloc: Global,
+    frame: &[u8],
+    row: Row,
+) -> Outcome {
+    match row {
+        Row::Takes(_, word) => takes(server, frame, word),
+        Row::Answers(_, text) => answers(server, alloc, frame, text),
+        Row::Refuses(_, fault, text) => refuses(server, alloc, frame, fault, text),
+        _ => Outcome::Wrong,
+    }
+}
+
+/// The same, of which the frame is given in digits.
+fn take_digits<A: Allocator + Copy>(
+    server: &mut Server<A>,
+    alloc: Global,
+    digits: &str,
+    row: Row,
+) -> Outcome {
+    match unhex(alloc, digits) {
+        Ok(frame) => take_row(server, alloc, &frame, row),
+        Err(_) => Outcome::Wrong,
+    }
+}
+
+/// The result of a copy.
+fn settled(number: u64, unique: u64, written: WriteResult) -> ReplyResult {
+    ReplyResult {
+        number,
+        unique,
+        result: written,
+    }
+}
+
+impl<A: Allocator + Copy> Tried<A, Row> for Server<A> {
+    fn attempt(&mut self, heap: A, alloc: Global, row: Row) -> Outcome {
+        match row {
+            Row::Mount(found_ms, missing_ms) => judged(mounts(self, found_ms, missing_ms)),
+            Row::Abort => judged(aborts(self)),
+            Row::Holds(unique, nodeid, asks) => holds(self, alloc, unique, nodeid, asks),
+            Row::Takes(digits, _) => take_digits(self, alloc, digits, row),
+            Row::Answers(digits, _) => take_digits(self, alloc, digits, row),
+            Row::Refuses(digits, _, _) => take_digits(self, alloc, digits, row),
+            Row::Performs(unique, errno, text) => performs(self, alloc, unique, errno, text),
+            Row::Lost(unique, errno) => is_lost(self, unique, errno),
+            Row::Unheld(unique) => judged(self.perform(unique).err() == Some(Refusal::NoSuch)),
+            Row::Again(unique, text) => copies_again(self, alloc, unique, text),
+            Row::NoCopy(unique) => judged(self.again(unique).err() == Some(Refusal::NoCopy)),
+            Row::Settles(number, unique, written) => {
+                judged(self.settle(settled(number, unique, written)).is_ok())
+            }
+            Row::NoSettle(number, unique) => judged(
+                self.settle(settled(number, unique, WriteResult::Accepted)) == Err(Refusal::NoSuch),
+            ),
+            Row::Nodes(nodes) => lists(self, heap, nodes),
+        }
+    }
+}

@@ -1,0 +1,109 @@
+//! Open numbers: each call once, and refused growths.
+
+use crate::tests::tried::{Outcome, Tried, check, judged};
+use fail_at::FailAt;
+use fs_handles::{HandleTable, LIMIT};
+use std::alloc::{AllocError, Allocator, Global};
+use std::process::Abort;
+use std::test::Fail;
+
+/// A call, and what it must give.
+#[derive(Clone, Copy)]
+enum Row {
+    /// Room is made and a file opened: the number.
+    Open(u64, u64),
+    TakeBack(u64),
+    Clear,
+    /// The file under a number.
+    FileOf(u64, Option<u64>),
+    Has(u64, bool),
+    NumbersLeft(u64),
+}
+
+fn opens<A: Allocator + Copy>(table: &mut HandleTable<A>, file: u64, number: u64) -> Outcome {
+    if table.reserve().is_err() {
+        return Outcome::NoMemory;
+    }
+    if table.numbers_left() == 0 {
+        return Outcome::Wrong;
+    }
+    judged(table.open(file) == number)
+}
+
+/// Whether a number that was copied once is kept once.
+fn copy_keeps_number(alloc: Global) -> Result<bool, AllocError> {
+    let mut table: HandleTable = HandleTable::new(alloc);
+    table.reserve()?;
+    let fh = table.open(7);
+    table.again(fh);
+    table.take_back(fh);
+    let kept = table.file_of(fh) == Some(7);
+    table.take_back(fh);
+    Ok(kept && table.file_of(fh).is_none())
+}
+
+impl<A: Allocator + Copy> Tried<A, Row> for HandleTable<A> {
+    fn attempt(&mut self, _heap: A, _alloc: Global, row: Row) -> Outcome {
+        match row {
+            Row::Open(file, number) => return opens(self, file, number),
+            Row::TakeBack(number) => self.take_back(number),
+            Row::Clear => self.clear(),
+            Row::FileOf(number, file) => return judged(self.file_of(number) == file),
+            Row::Has(file, expected) => return judged(self.has(file) == expected),
+            Row::NumbersLeft(left) => return judged(self.numbers_left() == left),
+        }
+        Outcome::Right
+    }
+}
+
+/// Numbers rise from 1, also after `clear`. A number that is not in use is not taken back.
+static CALLS: [Row; 20] = [
+    Row::NumbersLeft(LIMIT - 1),
+    Row::Open(7, 1),
+    Row::Open(7, 2),
+    Row::Open(9, 3),
+    Row::NumbersLeft(LIMIT - 4),
+    Row::FileOf(2, Some(7)),
+    Row::FileOf(4, None),
+    Row::Has(9, true),
+    Row::Has(8, false),
+    Row::TakeBack(1),
+    Row::FileOf(1, None),
+    Row::Has(7, true),
+    Row::TakeBack(1),
+    Row::TakeBack(2),
+    Row::Has(7, false),
+    Row::Open(7, 4),
+    Row::Clear,
+    Row::Has(7, false),
+    Row::FileOf(3, None),
+    Row::Open(8, 5),
+];
+
+/// The calls on a new table with the `n`th growth refused. Says whether that growth came.
+fn refused_at<A: Allocator + Copy>(
+    rt: &impl Abort,
+    heap: A,
+    refusing: &FailAt<Global>,
+    alloc: Global,
+    n: u64,
+) -> bool {
+    refusing.refuse(n);
+    let mut table: HandleTable<A> = HandleTable::new(heap);
+    check(rt, &mut table, heap, refusing, alloc, &CALLS, "calls");
+    refusing.left() == 0
+}
+
+#[test]
+fn calls_with_each_growth_refused(rt: HostRuntime) -> Result<(), Fail> {
+    let heap = FailAt::new(rt.alloc());
+    let mut growths = 0u64;
+    for n in 1..24u64 {
+        if refused_at(&rt, &heap, &heap, rt.alloc(), n) {
+            growths = n;
+        }
+    }
+    assert!(rt; 2 <= growths && growths < 23, "{growths}");
+    assert!(rt; matches!(copy_keeps_number(rt.alloc()), Ok(true)), "copy");
+    Ok(())
+}

@@ -1,0 +1,182 @@
+//! The reply to each operation, byte for byte (linux/fuse.h), also with each growth refused in turn.
+
+use crate::tests::frames::{Asks, Row};
+use crate::tests::tried::check;
+use fail_at::FailAt;
+use fs_server::Server;
+use fuse_spec::{Taken, WriteResult};
+use std::alloc::{AllocError, Allocator, Global};
+use std::process::Abort;
+use std::test::Fail;
+
+/// Each operation, under validities of 1.5 and 0.25 seconds. Each copy is settled.
+static REPLIES: [Row; 65] = [
+    Row::Mount(1500, 250),
+    // INIT offers what no server knows beside the two flags
+    Row::Takes(
+        "38000000 1a000000 0200000000000000 0000000000000000 00000000 00000000 00000000 00000000 07000000 1f000000 00000000 01200400",
+        Taken::Held,
+    ),
+    Row::Performs(
+        2,
+        0,
+        "50000000 00000000 0200000000000000 07000000 1f000000 00000000 01000400 0000 0000 00100000 01000000 0000 0000 00000000 00000000 00000000 00000000 00000000 00000000 00000000 00000000",
+    ),
+    Row::Settles(1, 2, WriteResult::Accepted),
+    Row::Holds(4, 1, Asks::Lookup("d")),
+    Row::Performs(
+        4,
+        0,
+        "90000000 00000000 0400000000000000 0000000000000000 0000000000000000 0000000000000000 0000000000000000 80b2e60e 00000000 0000000000000000 0000000000000000 0000000000000000 0000000000000000 0000000000000000 0000000000000000 00000000 00000000 00000000 00000000 00000000 00000000 00000000 00000000 00000000 00000000",
+    ),
+    Row::Settles(2, 4, WriteResult::Accepted),
+    Row::Holds(6, 1, Asks::Mkdir("d")),
+    Row::Performs(
+        6,
+        0,
+        "90000000 00000000 0600000000000000 0200000000000000 0100000000000000 0100000000000000 0000000000000000 0065cd1d 00000000 0200000000000000 0000000000000000 0000000000000000 0000000000000000 0000000000000000 0000000000000000 00000000 00000000 00000000 ed410000 01000000 00000000 00000000 00000000 00100000 00000000",
+    ),
+    Row::Settles(3, 6, WriteResult::Accepted),
+    Row::Holds(8, 1, Asks::Create("f")),
+    Row::Performs(
+        8,
+        0,
+        "a0000000 00000000 0800000000000000 0300000000000000 0200000000000000 0100000000000000 0000000000000000 0065cd1d 00000000 0300000000000000 0000000000000000 0000000000000000 0000000000000000 0000000000000000 0000000000000000 00000000 00000000 00000000 a4810000 01000000 00000000 00000000 00000000 00100000 00000000 0100000000000000 00000000 00000000",
+    ),
+    Row::Settles(4, 8, WriteResult::Accepted),
+    Row::Holds(10, 3, Asks::Write(1, 2, "hi")),
+    Row::Performs(
+        10,
+        0,
+        "18000000 00000000 0a00000000000000 02000000 00000000",
+    ),
+    Row::Settles(5, 10, WriteResult::Accepted),
+    Row::Holds(12, 3, Asks::Getattr),
+    Row::Performs(
+        12,
+        0,
+        "78000000 00000000 0c00000000000000 0000000000000000 00000000 00000000 0300000000000000 0400000000000000 0000000000000000 0000000000000000 0000000000000000 0000000000000000 00000000 00000000 00000000 a4810000 01000000 00000000 00000000 00000000 00100000 00000000",
+    ),
+    Row::Settles(6, 12, WriteResult::Accepted),
+    Row::Holds(14, 3, Asks::Read(1, 0, 10)),
+    Row::Performs(14, 0, "14000000 00000000 0e00000000000000 00006869"),
+    Row::Settles(7, 14, WriteResult::Accepted),
+    Row::Holds(16, 3, Asks::Read(1, 9, 10)),
+    Row::Performs(16, 0, "10000000 00000000 1000000000000000"),
+    Row::Settles(8, 16, WriteResult::Accepted),
+    Row::Holds(18, 2, Asks::Link(3, "g")),
+    Row::Performs(
+        18,
+        0,
+        "90000000 00000000 1200000000000000 0300000000000000 0200000000000000 0100000000000000 0000000000000000 0065cd1d 00000000 0300000000000000 0400000000000000 0000000000000000 0000000000000000 0000000000000000 0000000000000000 00000000 00000000 00000000 a4810000 02000000 00000000 00000000 00000000 00100000 00000000",
+    ),
+    Row::Settles(9, 18, WriteResult::Accepted),
+    Row::Holds(20, 3, Asks::Open),
+    Row::Performs(
+        20,
+        0,
+        "20000000 00000000 1400000000000000 0200000000000000 00000000 00000000",
+    ),
+    Row::Settles(10, 20, WriteResult::Accepted),
+    Row::Holds(22, 1, Asks::Readdir(0, 4096)),
+    Row::Performs(
+        22,
+        0,
+        "50000000 00000000 1600000000000000 0200000000000000 0100000000000000 01000000 04000000 6400000000000000 0300000000000000 0200000000000000 01000000 08000000 6600000000000000",
+    ),
+    Row::Settles(11, 22, WriteResult::Accepted),
+    // one byte less than two records
+    Row::Holds(24, 1, Asks::Readdir(0, 63)),
+    Row::Performs(
+        24,
+        0,
+        "30000000 00000000 1800000000000000 0200000000000000 0100000000000000 01000000 04000000 6400000000000000",
+    ),
+    Row::Settles(12, 24, WriteResult::Accepted),
+    Row::Holds(26, 1, Asks::Readdir(2, 4096)),
+    Row::Performs(26, 0, "10000000 00000000 1a00000000000000"),
+    Row::Settles(13, 26, WriteResult::Accepted),
+    Row::Holds(28, 1, Asks::Rename("f", 2, "nine-byte")),
+    Row::Performs(28, 0, "10000000 00000000 1c00000000000000"),
+    Row::Settles(14, 28, WriteResult::Accepted),
+    Row::Holds(30, 2, Asks::Readdir(0, 4096)),
+    Row::Performs(
+        30,
+        0,
+        "58000000 00000000 1e00000000000000 0300000000000000 0300000000000000 01000000 08000000 6700000000000000 0300000000000000 0400000000000000 09000000 08000000 6e696e652d6279746500000000000000",
+    ),
+    Row::Settles(15, 30, WriteResult::Accepted),
+    Row::Holds(32, 1, Asks::Rmdir("d")),
+    Row::Performs(32, 39, "10000000 d9ffffff 2000000000000000"),
+    Row::Settles(16, 32, WriteResult::Accepted),
+    Row::Holds(34, 2, Asks::Unlink("g")),
+    Row::Performs(34, 0, "10000000 00000000 2200000000000000"),
+    Row::Settles(17, 34, WriteResult::Accepted),
+    Row::Holds(36, 3, Asks::Release(1)),
+    Row::Performs(36, 0, "10000000 00000000 2400000000000000"),
+    Row::Settles(18, 36, WriteResult::Accepted),
+    Row::Holds(38, 3, Asks::Release(2)),
+    Row::Performs(38, 0, "10000000 00000000 2600000000000000"),
+    Row::Settles(19, 38, WriteResult::Accepted),
+    Row::Holds(40, 2, Asks::Unlink("nine-byte")),
+    Row::Performs(40, 0, "10000000 00000000 2800000000000000"),
+    Row::Settles(20, 40, WriteResult::Accepted),
+    Row::Holds(42, 1, Asks::Rmdir("d")),
+    Row::Performs(42, 0, "10000000 00000000 2a00000000000000"),
+    Row::Settles(21, 42, WriteResult::Accepted),
+    Row::Nodes(&[(2, 1, 1), (3, 2, 2)]),
+];
+
+/// Kept replies are sent again, and a refused copy gives back what it carried.
+static COPIES: [Row; 12] = [
+    // copies of kept replies carry the same
+    Row::Holds(44, 1, Asks::Create("c")),
+    Row::Performs(
+        44,
+        0,
+        "a0000000 00000000 2c00000000000000 0400000000000000 0300000000000000 0100000000000000 0000000000000000 0065cd1d 00000000 0400000000000000 0000000000000000 0000000000000000 0000000000000000 0000000000000000 0000000000000000 00000000 00000000 00000000 a4810000 01000000 00000000 00000000 00000000 00100000 00000000 0300000000000000 00000000 00000000",
+    ),
+    Row::Again(
+        44,
+        "a0000000 00000000 2c00000000000000 0400000000000000 0300000000000000 0100000000000000 0000000000000000 0065cd1d 00000000 0400000000000000 0000000000000000 0000000000000000 0000000000000000 0000000000000000 0000000000000000 00000000 00000000 00000000 a4810000 01000000 00000000 00000000 00000000 00100000 00000000 0300000000000000 00000000 00000000",
+    ),
+    Row::Nodes(&[(2, 1, 1), (3, 2, 2), (4, 3, 2)]),
+    Row::Settles(23, 44, WriteResult::NoEntry),
+    Row::Nodes(&[(2, 1, 1), (3, 2, 2), (4, 3, 1)]),
+    Row::NoCopy(44),
+    Row::Settles(22, 44, WriteResult::Accepted),
+    Row::Holds(46, 4, Asks::Release(3)),
+    Row::Performs(46, 0, "10000000 00000000 2e00000000000000"),
+    Row::Again(46, "10000000 00000000 2e00000000000000"),
+    Row::Unheld(46),
+];
+
+/// Both with the `n`th growth refused. Says whether that growth came.
+fn refused_at<A: Allocator + Copy>(
+    rt: &impl Abort,
+    heap: A,
+    refusing: &FailAt<Global>,
+    alloc: Global,
+    n: u64,
+) -> Result<bool, AllocError> {
+    refusing.refuse(0);
+    let mut server = Server::new(heap)?;
+    refusing.refuse(n);
+    check(rt, &mut server, heap, refusing, alloc, &REPLIES, "replies");
+    check(rt, &mut server, heap, refusing, alloc, &COPIES, "copies");
+    Ok(refusing.left() == 0)
+}
+
+#[test]
+fn each_growth_refused(rt: HostRuntime) -> Result<(), Fail> {
+    let heap = FailAt::new(rt.alloc());
+    let mut growths = 0u64;
+    for n in 1..400u64 {
+        if refused_at(&rt, &heap, &heap, rt.alloc(), n)? {
+            growths = n;
+        }
+    }
+    // some growths came, and the last runs had no one more
+    assert!(rt; 40 <= growths && growths < 399, "{growths}");
+    Ok(())
+}
