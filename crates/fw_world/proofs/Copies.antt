@@ -41,7 +41,10 @@ use Rattle.fuse_theorem.proofs.WriteNeeds.{write_met}
 use Rattle.fk_kernel.specs.Said.{Says, HasReplyHead, head_unique, Awaited, reply_to, awaited, awaited_by, awaited_by_call, awaited_by_interrupt, opcode_of, IsTaken, IsAwaited, IsJudged, Means}
 use Rattle.fk_kernel.specs.Said.{said as means_said}
 use Rattle.fk_kernel.specs.Said as said
-use Rattle.fk_kernel.specs.Refused.{is_past_end, WriteRefused, no_memory, exhausted}
+use Rattle.std.specs.Option.{unwrap_or}
+use Rattle.std.specs.Prelude.{IfSome}
+use Rattle.fuse_spec.specs.declared.Refusal.TheVariants.{NoMemory, Exhausted}
+use Rattle.fk_kernel.specs.Refused.{is_past_end, WriteRefused, WritePasses, no_memory, exhausted}
 use Rattle.fw_world.proofs.Refusing.{past_written}
 
 -- What says a reply has its head.
@@ -209,3 +212,8 @@ module _ (w : World) (here : IsReached w) (place : ℕ) (sent : Sent) (found : s
       let past : is_past_end (reply_written w.kernel sent.unique sent.wire).1 ≡ true = ap (λ (u : ℕ). is_past_end (reply_written w.kernel u sent.wire).1) (sym head.1) ∙ it.past sent.wire means in
       inl (past_written w place sent found past)
   write_refused r no_memory = inr refl
+
+  -- Where there is no room for its result: what the kernel would refuse it for, or want of memory.
+  pub look_refused : (o : Option Refusal) → IfSome o (λ r. (r ≡ Exhausted) × WritePasses w.kernel bytes) → RefusedWith w (event.write place) (unwrap_or o NoMemory)
+  look_refused None passes = inr refl
+  look_refused (Some r) passes = subst (RefusedWith w (event.write place)) (sym passes.0) (write_refused Exhausted (exhausted passes.1.1))

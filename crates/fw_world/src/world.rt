@@ -470,10 +470,14 @@ impl<A: Allocator + Copy> WorldIn<A> {
         if place >= self.replies.len() {
             return Err(Refusal::NoSuch);
         }
-        if self.results.reserve(1).is_err() {
-            return Err(Refusal::NoMemory);
-        }
         let copy = &self.replies[place];
+        if self.results.reserve(1).is_err() {
+            return Err(
+                self.kernel
+                    .write_refusal(copy.bytes())
+                    .unwrap_or(Refusal::NoMemory),
+            );
+        }
         let number = copy.number();
         let unique = copy.unique();
         let written = match self.kernel.write(copy.bytes()) {
