@@ -1,12 +1,9 @@
 pub mod Sound
 pub mod Beginnings
 pub mod Phases
-pub mod Sayings
-pub mod ReplyCases
 pub mod Standing
 pub mod Files
 pub mod Closes
-pub mod Contents
 pub mod Replied
 pub mod Heads
 pub mod Taken

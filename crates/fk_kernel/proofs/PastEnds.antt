@@ -27,7 +27,7 @@ use Rattle.fk_kernel.specs.Refused.{PassesEnd, WritePasses, is_past_end}
 use Rattle.fk_kernel.specs.Said.{Says, SaysNothing, Means, said, unsaid, wrong_body_to, IsJudged, Awaited, nothing, gone, reply_to, awaited, awaited_by_interrupt, opcode_of}
 use Rattle.fk_kernel.proofs.Phases.{none_past_end, within_ends}
 use Rattle.fk_kernel.proofs.Replied.{init_is, by_agreement, release_is}
-use Rattle.fk_kernel.proofs.Sayings.{says_one}
+use Rattle.fk_said.proofs.Sayings.{says_one}
 use Rattle.fk_kernel.proofs.Taken.{opcode_in, written_odd, awaited_odd}
 
 abbrev IsPast : Kernel → ℕ → WireReply → Bool

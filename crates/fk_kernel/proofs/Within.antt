@@ -20,9 +20,9 @@ use Rattle.fuse_spec.specs.Walks.{WalkPlan}
 use Rattle.fk_syscalls.specs.States.{StandsAt}
 use Rattle.fk_kernel.specs.Entries.{Awaits, EndsWithin, mkdirs, links}
 use Rattle.fk_kernel.specs.Refused.{is_past_end}
-use Rattle.fk_kernel.specs.ReplySaid.{wire_of}
-use Rattle.fk_kernel.specs.declared.reply_said.ReplySaid.{ReplySaid}
-use Rattle.fk_kernel.specs.declared.reply_said.ReplySaid.TheVariants as said
+use Rattle.fk_said.specs.ReplySaid.{wire_of}
+use Rattle.fk_said.specs.declared.reply_said.ReplySaid.{ReplySaid}
+use Rattle.fk_said.specs.declared.reply_said.ReplySaid.TheVariants as said
 use Rattle.fk_kernel.proofs.Phases.{none_past_end, within_ends}
 use Rattle.fk_kernel.proofs.Standing.{LooksNone, makes_found}
 use Rattle.fk_kernel.proofs.Walking.{asks_within, walk_numbers}

@@ -2,8 +2,6 @@ pub mod Counts
 pub mod Soundness
 pub mod Refused
 pub mod Said
-pub mod ReplySaid
-pub mod ReplyCases
 pub mod RefusedUpkeep
 pub mod Entries
 pub mod RefusedSignals

@@ -13,13 +13,10 @@ mod open_files;
 mod passing;
 mod reading;
 mod refusing;
-mod reply_said;
 mod replying;
-mod said;
 mod signals;
 mod stored_answer;
 mod writing;
 
 pub use fk_syscalls::{Answer, Call, ListedName};
 pub use kernel::Kernel;
-pub use said::reply_cases;

@@ -8,13 +8,13 @@ ghost use Rattle.fuse_spec.specs.QueueCalls.{waiting};
 ghost use Rattle.fuse_spec.specs.Replies.{usable, use_of, reply_written};
 ghost use Rattle.fk_kernel.specs.Entries.{Awaits, EndsWithin, LooksUp};
 ghost use Rattle.fk_kernel.specs.Refused.{is_past_end, PassesEnd, WritePasses};
-ghost use Rattle.fk_kernel.specs.ReplySaid.{wire_of, LastsADay};
+ghost use Rattle.fk_said.specs.ReplySaid.{wire_of, LastsADay};
 ghost use Rattle.fk_kernel.specs.Said.{awaited_by_call};
 
 use crate::entries::EntryUse;
 use crate::kernel::KernelOf;
-use crate::reply_said::{ReplySaid, said_to};
 use fk_queues::QueueTable;
+use fk_said::{ReplySaid, said_to};
 use fk_syscalls::{Asked, NewName};
 use fk_wire::read_reply_head;
 use fuse_spec::{Entry, Purpose, Refusal};

@@ -8,8 +8,8 @@ ghost use Rattle.fk_kernel.specs.Refused.{WriteRefused, WritePasses};
 ghost use Rattle.fuse_spec.specs.QueueCalls.{after_interrupt_reply, waiting};
 
 use crate::kernel::KernelOf;
-use crate::said::{InterruptSaid, agrees, said_to_init, said_to_interrupt};
 use fk_queues::QueueTable;
+use fk_said::{InterruptSaid, agrees, said_to_init, said_to_interrupt};
 use fk_wire::{Opcode, read_reply_head};
 use fuse_spec::{Phase, Purpose, Refusal, WriteResult};
 

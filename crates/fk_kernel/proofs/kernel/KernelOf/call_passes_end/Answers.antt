@@ -6,7 +6,7 @@ use Rattle.fuse_spec.specs.Vfs.{using, asked}
 use Rattle.fuse_spec.specs.declared.Opened.{Opened}
 use Rattle.fk_syscalls.specs.States.{StandsAt}
 use Rattle.fk_syscalls.specs.Values.{operation_of}
-use Rattle.fk_kernel.specs.ReplySaid.{wire_of}
+use Rattle.fk_said.specs.ReplySaid.{wire_of}
 use Rattle.fk_kernel.specs.Said.{reply_to, awaited_by_call, opcode_of, wrong_body_to}
 use Rattle.fk_kernel.proofs.PastEnds.{passes, said_passes, none_passes, wrong_to_call}
 use Rattle.fk_kernel.proofs.Replied.{ends_over, judged_op}

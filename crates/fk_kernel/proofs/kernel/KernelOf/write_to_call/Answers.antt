@@ -9,12 +9,12 @@ use Rattle.fuse_spec.specs.declared.Opened.{Opened}
 use Rattle.fk_syscalls.specs.States.{StandsAt}
 use Rattle.fk_syscalls.specs.Values.{operation_of}
 use Rattle.fk_kernel.specs.Refused.{IsWriteRefusal, no_memory, exhausted}
-use Rattle.fk_kernel.specs.ReplySaid.{wire_of}
+use Rattle.fk_said.specs.ReplySaid.{wire_of}
 use Rattle.fk_kernel.specs.Said.{reply_to, gone, awaited_by_call, opcode_of}
 use Rattle.fk_kernel.proofs.PastEnds.{passes, said_passes}
 use Rattle.fk_kernel.proofs.Nodes.{answer_counted, answered_is}
 use Rattle.fk_kernel.proofs.Replied.{ends_over, judged_op}
-use Rattle.fk_kernel.proofs.Sayings.{says_one}
+use Rattle.fk_said.proofs.Sayings.{says_one}
 use Rattle.fk_kernel.proofs.Taken.{taken_judged, taken_gone}
 use Rattle.fk_kernel.proofs.kernel.KernelOf.write_to_call.Goals as goal
 

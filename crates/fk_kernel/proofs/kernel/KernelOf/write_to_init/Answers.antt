@@ -3,10 +3,10 @@ use Rattle.std.specs.Prelude.{is_some}
 use Rattle.fk_wire.specs.declared.opcode.Opcode.TheVariants as op
 use Rattle.fuse_spec.specs.QueueCalls.{waiting}
 use Rattle.fuse_spec.specs.Replies.{reply_written, is_agreement}
-use Rattle.fk_kernel.specs.Said.{init_wire}
+use Rattle.fk_said.specs.Said.{init_wire}
 use Rattle.fk_kernel.proofs.Nodes.{answer_counted, answered_is}
 use Rattle.fk_kernel.proofs.Replied.{init_agreed, init_aborts, init_unsaid}
-use Rattle.fk_kernel.proofs.Sayings.{says_one, init_reply_said}
+use Rattle.fk_said.proofs.Sayings.{says_one, init_reply_said}
 use Rattle.fk_kernel.proofs.kernel.KernelOf.write_to_init.Goals as goal
 
 pub invariant_of-self : goal.invariant_of-self

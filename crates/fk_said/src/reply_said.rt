@@ -9,9 +9,9 @@ ghost use Rattle.fuse_spec.specs.Operations as reply;
 ghost use Rattle.fuse_spec.specs.Replies.{goes_with};
 ghost use Rattle.fuse_frames.specs.ReplyTies.{wire_body, dirent_in, attributes_in, no_entry};
 ghost use Rattle.fk_syscalls.specs.Values.{operation_of, dirent_of};
-ghost use Rattle.fk_kernel.specs.Said.{Says, opcode_of};
-ghost use Rattle.fk_kernel.specs.ReplySaid.{wire_of, LastsADay, SaysTo, is_within};
-ghost use Rattle.fk_kernel.specs.ReplySaid.{IsSaidBody};
+ghost use Rattle.fk_said.specs.Said.{Says, opcode_of};
+ghost use Rattle.fk_said.specs.ReplySaid.{wire_of, LastsADay, SaysTo, is_within};
+ghost use Rattle.fk_said.specs.ReplySaid.{IsSaidBody};
 
 use crate::said::failure;
 use fk_syscalls::{Asked, ListedName};
@@ -22,7 +22,7 @@ use std::alloc::{AllocError, Allocator};
 
 /// What a reply says that goes with the operation of a call.
 #[derive(Drop)]
-pub(crate) enum ReplySaid<'a> {
+pub enum ReplySaid<'a> {
     Failed {
         errno: u32,
     },
@@ -166,7 +166,7 @@ fn said_by(body: ReplyBody<'_>) -> Option<ReplySaid<'_>>
 }
 
 /// What the bytes say to what a call asked, if they are a reply that goes with it.
-pub(crate) fn said_to<'a>(asked: &Asked<'_>, bytes: &'a [u8]) -> Option<ReplySaid<'a>>
+pub fn said_to<'a>(asked: &Asked<'_>, bytes: &'a [u8]) -> Option<ReplySaid<'a>>
     ensures said { IfSome result (SaysTo (operation_of asked.now) bytes.now) }
     ensures none { IfNone result ((wire : WireReply) → Says (opcode_of (operation_of asked.now)) bytes.now wire → goes_with (operation_of asked.now) wire ≡ false) }
 {
@@ -183,7 +183,7 @@ pub(crate) fn said_to<'a>(asked: &Asked<'_>, bytes: &'a [u8]) -> Option<ReplySai
 }
 
 /// A copy of the names that records list.
-pub(crate) fn names_listed<A: Allocator + Copy>(
+pub fn names_listed<A: Allocator + Copy>(
     alloc: A,
     records: Records<'_>,
 ) -> Result<Vec<ListedName<A>, A>, AllocError>

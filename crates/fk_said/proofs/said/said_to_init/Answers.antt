@@ -2,8 +2,8 @@ use Rattle.std.proofs.Common.{refl, sym, ap, ◌∙◌}
 use Rattle.fk_wire.specs.Replies.{reply_content}
 use Rattle.fk_wire.specs.declared.opcode.Opcode.TheVariants as op
 use Rattle.fuse_frames.specs.ReplyTies.{wire_said}
-use Rattle.fk_kernel.proofs.Sayings.{says_read, same_error}
-use Rattle.fk_kernel.proofs.said.said_to_init.Goals as goal
+use Rattle.fk_said.proofs.Sayings.{says_read, same_error}
+use Rattle.fk_said.proofs.said.said_to_init.Goals as goal
 
 pub returns-in-Some : goal.returns-in-Some
 returns-in-Some c =

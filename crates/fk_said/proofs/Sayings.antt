@@ -18,9 +18,9 @@ use Rattle.fuse_frames.specs.ReplyTies.{wire_said, wire_body, entry_in, millisec
 use Rattle.std.proofs.lemmas.Bool.Decides.{eqb_tells}
 use Rattle.fuse_frames.proofs.ReplyLemmas.{one_reply}
 use Rattle.fuse_spec.specs.Replies.{is_init_reply}
-use Rattle.fk_kernel.specs.declared.said.InitSaid.{InitSaid}
-use Rattle.fk_kernel.specs.declared.said.InitSaid.TheVariants as init_said
-use Rattle.fk_kernel.specs.Said.{Says, SaysNothing, init_wire}
+use Rattle.fk_said.specs.declared.said.InitSaid.{InitSaid}
+use Rattle.fk_said.specs.declared.said.InitSaid.TheVariants as init_said
+use Rattle.fk_said.specs.Said.{Says, SaysNothing, init_wire}
 
 -- an error in range is read as itself
 pub same_error : (z : ℤ) → IsErrorNumber z → cast_signed w32 (cast_unsigned w32 z) ≡ z

@@ -16,9 +16,9 @@ use Rattle.fuse_spec.specs.Operations.{Operation, lookup, getattr, mkdir, create
 use Rattle.fuse_spec.specs.Replies.{goes_with}
 use Rattle.fuse_spec.specs.Trees.{record_length}
 use Rattle.fuse_frames.specs.ReplyTies.{wire_body, dirent_in}
-use Rattle.fk_kernel.specs.Said.{opcode_of, Says}
-use Rattle.fk_kernel.specs.ReplySaid.{is_within, IsSaidBody, wire_of, LastsADay, SaysTo}
-use Rattle.fk_kernel.specs.declared.reply_said.ReplySaid.{ReplySaid}
+use Rattle.fk_said.specs.Said.{opcode_of, Says}
+use Rattle.fk_said.specs.ReplySaid.{is_within, IsSaidBody, wire_of, LastsADay, SaysTo}
+use Rattle.fk_said.specs.declared.reply_said.ReplySaid.{ReplySaid}
 
 -- a record with its padding
 pad_is : (n : ℕ) → 24 + n + padding n ≡ (31 + n) / 8 * 8

@@ -6,22 +6,21 @@ ghost use Rattle.fk_wire.specs.Replies.{ReplyContent, IsErrorNumber};
 ghost use Rattle.fuse_spec.specs.Messages.{WireReply};
 ghost use Rattle.fuse_spec.specs.Operations as reply;
 ghost use Rattle.fuse_frames.specs.ReplyTies.{wire_said};
-ghost use Rattle.fk_kernel.specs.ReplyCases.{IsLookupReply, IsMkdirReply, IsGetattrReply, IsInitReply, IsInterruptReply};
 ghost use Rattle.fuse_spec.specs.Replies.{is_agreement};
-ghost use Rattle.fk_kernel.specs.Said.{Says, SaysNothing, SaysToInit, SaysToInterrupt, init_wire};
+ghost use Rattle.fk_said.specs.Said.{Says, SaysNothing, SaysToInit, SaysToInterrupt, init_wire};
 
 use fk_wire::{Opcode, ReplyBody, read_reply};
 
 /// What a reply to INIT says.
 #[derive(Drop)]
-pub(crate) enum InitSaid {
+pub enum InitSaid {
     Failed { errno: u32 },
     /// The version that the server states.
     Agreed { major: u32, minor: u32 },
 }
 
 /// What a reply to an INTERRUPT says.
-pub(crate) enum InterruptSaid {
+pub enum InterruptSaid {
     Failed { errno: u32 },
     Done,
 }
@@ -38,7 +37,7 @@ pub(crate) fn failure(error: i32) -> Option<u32>
 }
 
 /// Whether a reply to INIT agrees on major 7 and a minor from 31 up, which is taken as 31 (this project's rule).
-pub(crate) fn agrees(said: &InitSaid) -> bool
+pub fn agrees(said: &InitSaid) -> bool
     ensures { result ≡ is_agreement (init_wire said.now) }
 {
     match said {
@@ -48,7 +47,7 @@ pub(crate) fn agrees(said: &InitSaid) -> bool
 }
 
 /// What the bytes say to INIT, if they are a reply to it.
-pub(crate) fn said_to_init(bytes: &[u8]) -> Option<InitSaid>
+pub fn said_to_init(bytes: &[u8]) -> Option<InitSaid>
     ensures { MatchOption result (SaysNothing op.Init bytes.now) (SaysToInit bytes.now) }
 {
     let Ok(reply) = read_reply(Opcode::Init, bytes) else {
@@ -64,7 +63,7 @@ pub(crate) fn said_to_init(bytes: &[u8]) -> Option<InitSaid>
 }
 
 /// What the bytes say to an INTERRUPT, if they are a reply to it.
-pub(crate) fn said_to_interrupt(bytes: &[u8]) -> Option<InterruptSaid>
+pub fn said_to_interrupt(bytes: &[u8]) -> Option<InterruptSaid>
     ensures { MatchOption result (SaysNothing op.Interrupt bytes.now) (SaysToInterrupt bytes.now) }
 {
     let Ok(reply) = read_reply(Opcode::Interrupt, bytes) else {
@@ -78,12 +77,3 @@ pub(crate) fn said_to_interrupt(bytes: &[u8]) -> Option<InterruptSaid>
     };
     Some(InterruptSaid::Done)
 }
-
-/// Bytes that are a reply to a request of the kernel say one of these to it. The function does nothing: its contract is a law.
-pub fn reply_cases()
-    ensures lookup { (bytes : List ℕ) (wire : WireReply) → Says op.Lookup bytes wire → IsLookupReply wire }
-    ensures mkdir { (bytes : List ℕ) (wire : WireReply) → Says op.Mkdir bytes wire → IsMkdirReply wire }
-    ensures getattr { (bytes : List ℕ) (wire : WireReply) → Says op.Getattr bytes wire → IsGetattrReply wire }
-    ensures init { (bytes : List ℕ) (wire : WireReply) → Says op.Init bytes wire → IsInitReply wire }
-    ensures interrupt { (bytes : List ℕ) (wire : WireReply) → Says op.Interrupt bytes wire → IsInterruptReply wire }
-{}

@@ -5,10 +5,10 @@ use Rattle.fk_wire.specs.declared.opcode.Opcode.{Opcode}
 use Rattle.fuse_spec.specs.Replies.{goes_with}
 use Rattle.fuse_frames.specs.ReplyTies.{wire_said, wire_body}
 use Rattle.fk_syscalls.specs.Values.{operation_of}
-use Rattle.fk_kernel.specs.Said.{opcode_of}
-use Rattle.fk_kernel.proofs.Contents.{content_fits, failed_goes, said_so, none_said}
-use Rattle.fk_kernel.proofs.Sayings.{says_read, says_one, same_error}
-use Rattle.fk_kernel.proofs.reply_said.said_to.Goals as goal
+use Rattle.fk_said.specs.Said.{opcode_of}
+use Rattle.fk_said.proofs.Contents.{content_fits, failed_goes, said_so, none_said}
+use Rattle.fk_said.proofs.Sayings.{says_read, says_one, same_error}
+use Rattle.fk_said.proofs.reply_said.said_to.Goals as goal
 
 pub returns-in-Some-clause-said : goal.returns-in-Some-clause-said
 returns-in-Some-clause-said c =

@@ -9,9 +9,9 @@ use Rattle.fuse_spec.specs.Messages.{WireReply}
 use Rattle.fuse_spec.specs.Numbers.{max_validity}
 use Rattle.fuse_spec.specs.Replies.{goes_with}
 use Rattle.fuse_frames.specs.ReplyTies.{dirent_in}
-use Rattle.fk_kernel.specs.Said.{Says, opcode_of}
-use Rattle.fk_kernel.specs.declared.reply_said.ReplySaid.{ReplySaid}
-use Rattle.fk_kernel.specs.declared.reply_said.ReplySaid.TheVariants as said
+use Rattle.fk_said.specs.Said.{Says, opcode_of}
+use Rattle.fk_said.specs.declared.reply_said.ReplySaid.{ReplySaid}
+use Rattle.fk_said.specs.declared.reply_said.ReplySaid.TheVariants as said
 
 abbrev pub wire_of : ReplySaid → WireReply
 wire_of (said.Failed errno) = reply.failed errno

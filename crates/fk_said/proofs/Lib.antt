@@ -1,0 +1,3 @@
+pub mod Sayings
+pub mod ReplyCases
+pub mod Contents
