@@ -11,6 +11,7 @@ use Rattle.fs_files.specs.Bounds.{IsThere}
 use Rattle.fk_wire.specs.Decoded.{count_from}
 use Rattle.fk_wire.specs.Dirents.{DirentContent, dirents_from}
 use Rattle.fk_wire.specs.Records.{AreRecords}
+use Rattle.fk_wire.specs.declared.flags.InitFlags.{InitFlags}
 use Rattle.fuse_frames.specs.ReplyTies.{dirent_in}
 use Rattle.fs_files.specs.declared.replies.PlainReply.{PlainReply}
 use Rattle.fs_files.specs.declared.replies.PlainReply.TheVariants.{Missing, Attributes, Listed, Content, Written, Agreed, Done, Failed}
@@ -50,6 +51,19 @@ module _ {A : Type 0} where
   content_len (Listed records) = length records.items
   content_len (Content bytes) = length bytes.items
   content_len reply = 0
+
+  -- the flags that the answer to INIT takes up
+  abbrev pub flags_in : PlainReply A → Option InitFlags
+  flags_in (Agreed flags) = Some flags
+  flags_in reply = None
+
+  abbrev pub outcome_flags : Outcome A → Option InitFlags
+  outcome_flags (outcome.Plain reply) = flags_in reply
+  outcome_flags o = None
+
+  abbrev pub sent_flags : SentReply A → Option InitFlags
+  sent_flags (sent.Plain reply) = flags_in reply
+  sent_flags reply = None
 
   -- what an outcome says, with files named by their births
   abbrev pub outcome_reply : (found_ms : ℕ) → Outcome A → Reply ℕ ℕ

@@ -42,12 +42,12 @@ pub(crate) fn operate<A: Allocator + Copy, S: NodeStore>(
     let file = nodes.file_of(operation.node());
     let other = nodes.file_of(operation.other_node());
     match operation {
-        HeldOperation::Lookup { name, .. } => look_up(tree, file, name, validity),
+        HeldOperation::Lookup { name, .. } => Ok(look_up(tree, file, name, validity)),
         HeldOperation::Getattr { .. } => Ok(attributes(tree, file)),
         HeldOperation::Mkdir { name, .. } => make_directory(tree, file, name),
         HeldOperation::Create { name, .. } => make_file(tree, file, name),
-        HeldOperation::Unlink { name, .. } => remove_file(tree, file, name),
-        HeldOperation::Rmdir { name, .. } => remove_directory(tree, file, name),
+        HeldOperation::Unlink { name, .. } => Ok(remove_file(tree, file, name)),
+        HeldOperation::Rmdir { name, .. } => Ok(remove_directory(tree, file, name)),
         HeldOperation::Rename { old, new, .. } => move_file(tree, file, old, other, new),
         HeldOperation::Link { name, .. } => link_file(tree, file, other, name),
         HeldOperation::Open { .. } => Ok(Outcome::Opened { file }),
@@ -63,20 +63,23 @@ fn look_up<A: Allocator + Copy>(
     directory: u64,
     name: &[u8],
     validity: Validity,
-) -> Result<Outcome<A>, AllocError>
+) -> Outcome<A>
+    requires unrefused { refusal tree.now (lookup directory name.now) ≡ None }
     requires day { validity.missing_ms ≤ max_validity }
-    ensures { IfOk result (λ outcome. Operates validity tree.now (lookup directory name.now) outcome tree.now) }
+    ensures { Operates validity tree.now (lookup directory name.now) result tree.now }
 {
     tree.keeps_shape();
     let _births = tree.births_left();
-    match tree.lookup(directory, name) {
-        Ok(Some(file)) => Ok(Outcome::Found { file }),
-        Ok(None) => Ok(Outcome::Plain {
+    let Ok(found) = tree.lookup(directory, name) else {
+        unreachable!();
+    };
+    match found {
+        Some(file) => Outcome::Found { file },
+        None => Outcome::Plain {
             reply: PlainReply::Missing {
                 missing_ms: validity.missing_ms,
             },
-        }),
-        Err(_) => Err(AllocError),
+        },
     }
 }
 
@@ -126,18 +129,14 @@ fn make_file<A: Allocator + Copy>(
 }
 
 /// An UNLINK.
-fn remove_file<A: Allocator + Copy>(
-    tree: &mut Tree<A>,
-    directory: u64,
-    name: &[u8],
-) -> Result<Outcome<A>, AllocError>
-    ensures ok { IfOk result (λ outcome. (v : ValidityValue) → Operates v tree.old (unlink directory name.now) outcome tree.new) }
-    ensures err { OnErr result (tree.new ≡ tree.old) }
+fn remove_file<A: Allocator + Copy>(tree: &mut Tree<A>, directory: u64, name: &[u8]) -> Outcome<A>
+    requires unrefused { refusal tree.old (unlink directory name.now) ≡ None }
+    ensures { (v : ValidityValue) → Operates v tree.old (unlink directory name.now) result tree.new }
 {
-    match tree.unlink(directory, name) {
-        Ok(()) => Ok(done()),
-        Err(_) => Err(AllocError),
-    }
+    let Ok(()) = tree.unlink(directory, name) else {
+        unreachable!();
+    };
+    done()
 }
 
 /// An RMDIR.
@@ -145,14 +144,14 @@ fn remove_directory<A: Allocator + Copy>(
     tree: &mut Tree<A>,
     directory: u64,
     name: &[u8],
-) -> Result<Outcome<A>, AllocError>
-    ensures ok { IfOk result (λ outcome. (v : ValidityValue) → Operates v tree.old (rmdir directory name.now) outcome tree.new) }
-    ensures err { OnErr result (tree.new ≡ tree.old) }
+) -> Outcome<A>
+    requires unrefused { refusal tree.old (rmdir directory name.now) ≡ None }
+    ensures { (v : ValidityValue) → Operates v tree.old (rmdir directory name.now) result tree.new }
 {
-    match tree.rmdir(directory, name) {
-        Ok(()) => Ok(done()),
-        Err(_) => Err(AllocError),
-    }
+    let Ok(()) = tree.rmdir(directory, name) else {
+        unreachable!();
+    };
+    done()
 }
 
 /// A RENAME. One onto another name of the same file changes nothing.

@@ -20,43 +20,21 @@ pub(crate) fn refusal_of<A: Allocator + Copy, S: NodeStore>(
 ) -> Option<TreeError>
     ensures { Refuses (refusal tree.now (on_files nodes.now.table operation.now)) result }
 {
+    let file = nodes.file_of(operation.node());
+    let other = nodes.file_of(operation.other_node());
     match operation {
-        HeldOperation::Lookup { directory, .. } | HeldOperation::Readdir { directory, .. } => {
-            refusal_of_directory(tree, nodes.file_of(*directory))
+        HeldOperation::Lookup { .. } | HeldOperation::Readdir { .. } => {
+            refusal_of_directory(tree, file)
         }
         HeldOperation::Getattr { .. } | HeldOperation::Read { .. } => None,
-        HeldOperation::Mkdir { directory, name } => {
-            tree.refusal_of_make(nodes.file_of(*directory), name)
-        }
-        HeldOperation::Create { directory, name } => {
-            tree.refusal_of_make(nodes.file_of(*directory), name)
-        }
-        HeldOperation::Unlink { directory, name } => {
-            tree.refusal_of_unlink(nodes.file_of(*directory), name)
-        }
-        HeldOperation::Rmdir { directory, name } => {
-            tree.refusal_of_rmdir(nodes.file_of(*directory), name)
-        }
-        HeldOperation::Rename {
-            directory,
-            old,
-            new_directory,
-            new,
-        } => {
-            let from = nodes.file_of(*directory);
-            tree.refusal_of_rename(from, old, nodes.file_of(*new_directory), new)
-        }
-        HeldOperation::Link {
-            node,
-            directory,
-            name,
-        } => tree.refusal_of_link(nodes.file_of(*node), nodes.file_of(*directory), name),
-        HeldOperation::Open { node } => refusal_of_open(tree, nodes.file_of(*node)),
-        HeldOperation::Write {
-            opened,
-            offset,
-            bytes,
-        } => tree.refusal_of_write(nodes.file_of(opened.nodeid), *offset, bytes),
+        HeldOperation::Mkdir { name, .. } => tree.refusal_of_make(file, name),
+        HeldOperation::Create { name, .. } => tree.refusal_of_make(file, name),
+        HeldOperation::Unlink { name, .. } => tree.refusal_of_unlink(file, name),
+        HeldOperation::Rmdir { name, .. } => tree.refusal_of_rmdir(file, name),
+        HeldOperation::Rename { old, new, .. } => tree.refusal_of_rename(file, old, other, new),
+        HeldOperation::Link { name, .. } => tree.refusal_of_link(file, other, name),
+        HeldOperation::Open { .. } => refusal_of_open(tree, file),
+        HeldOperation::Write { offset, bytes, .. } => tree.refusal_of_write(file, *offset, bytes),
     }
 }
 

@@ -57,7 +57,7 @@ pub enum SentReply<A: Allocator> {
 
 impl<A: Allocator> PlainReply<A> {
     ghost use Rattle.std.specs.Prelude.{◌≡◌, ◌≤◌, ◌+◌, [], vec_capacity};
-    ghost use Rattle.fs_files.specs.Replies.{content_len, plain_errno, plain_wire, IsPlainSendable};
+    ghost use Rattle.fs_files.specs.Replies.{content_len, flags_in, plain_errno, plain_wire, IsPlainSendable};
 
     /// Its error as a positive number, or 0.
     fn errno(&self) -> u32
@@ -74,6 +74,7 @@ impl<A: Allocator> PlainReply<A> {
         requires empty { spare.items ≡ [] }
         requires room { content_len self.now ≤ vec_capacity spare }
         ensures wire { plain_wire result ≡ plain_wire self.now }
+        ensures flags { flags_in result ≡ flags_in self.now }
         ensures sendable { IsPlainSendable self.now → IsPlainSendable result }
     {
         match self {
@@ -159,7 +160,7 @@ impl<A: Allocator> Outcome<A> {
 impl<A: Allocator> SentReply<A> {
     ghost use Rattle.std.specs.Prelude.{◌≡◌, ◌≤◌, ◌+◌, [], vec_capacity};
     ghost use Rattle.fuse_spec.specs.Operations.{errno_of};
-    ghost use Rattle.fs_files.specs.Replies.{sent_len, sent_wire, entry_of, opened_in, IsSendable};
+    ghost use Rattle.fs_files.specs.Replies.{sent_flags, sent_len, sent_wire, entry_of, opened_in, IsSendable};
 
     /// Its error as a positive number, or 0.
     pub fn errno(&self) -> u32
@@ -208,6 +209,7 @@ impl<A: Allocator> SentReply<A> {
         requires empty { spare.items ≡ [] }
         requires room { sent_len self.now ≤ vec_capacity spare }
         ensures wire { sent_wire result ≡ sent_wire self.now }
+        ensures flags { sent_flags result ≡ sent_flags self.now }
         ensures sendable { IsSendable self.now → IsSendable result }
     {
         match self {

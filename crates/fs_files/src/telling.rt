@@ -6,7 +6,7 @@ ghost use Rattle.fuse_spec.specs.Numbers.{max_validity};
 ghost use Rattle.fuse_spec.specs.Operations.{files_in_reply, opens_in_reply};
 ghost use Rattle.fs_tree.specs.Outcomes.{is_regular};
 ghost use Rattle.fs_files.specs.Bounds.{AreCounted, IsThere};
-ghost use Rattle.fs_files.specs.Replies.{IsSendable, IsTellable, outcome_len, outcome_reply, sent_len};
+ghost use Rattle.fs_files.specs.Replies.{IsSendable, IsTellable, outcome_flags, outcome_len, outcome_reply, sent_flags, sent_len};
 ghost use Rattle.fs_files.specs.Telling.{GivesEntry, Tells};
 
 use crate::files::Files;
@@ -26,6 +26,7 @@ impl<A: Allocator + Copy> Files<A> {
         requires day { found_ms ≤ max_validity }
         ensures tells { Tells self.old (outcome_reply found_ms outcome) result self.new }
         ensures sendable { IsSendable result }
+        ensures flags { sent_flags result ≡ outcome_flags outcome }
         ensures len { sent_len result ≡ outcome_len outcome }
     {
         match outcome {

@@ -1,12 +1,15 @@
 -- What is taken of a request, by its node and by what it asks.
-use Rattle.std.specs.Prelude.{◌≡◌, ℕ, Bool, true, false, ◌&&◌, List, [], ◌∷◌, None, map, nat_lt, is_some}
+use Rattle.std.specs.Prelude.{◌≡◌, ℕ, Bool, true, false, ◌&&◌, List, [], ◌∷◌, Option, Some, None, map, nat_lt, is_some}
+use Rattle.std.specs.Int.RustNames.{bit_and}
 use Rattle.std.specs.List.{list_all, list_any}
 use Rattle.fuse_spec.specs.Maps.{get}
 use Rattle.fuse_spec.specs.Messages.{Forget, RequestBody}
 use Rattle.fuse_spec.specs.Nodes.{NodeTable, row_of}
 use Rattle.fuse_spec.specs.Server.{Server, HeldRequest, is_known, is_forgettable, count_in, forgotten, generation_in, nodes_of_body}
 use Rattle.fk_wire.specs.Requests as wire
-use Rattle.fk_wire.specs.Requests.{RequestContent}
+use Rattle.fk_wire.specs.Requests.{RequestContent, known_flags}
+use Rattle.fs_files.specs.declared.held.HeldBody.{HeldBody}
+use Rattle.fs_files.specs.declared.held.HeldBody.TheVariants.{Init}
 use Rattle.fuse_frames.specs.RequestTies.{body_in, body_or}
 
 -- what is served: READDIRPLUS isn't so far
@@ -48,6 +51,16 @@ has_two (wire.rename newdir old new) = true
 has_two (wire.link oldnodeid name) = true
 has_two (wire.write fh offset bytes) = true
 has_two content = false
+
+-- the flags that an INIT offers, of those that are known
+abbrev pub flags_offered : RequestContent → Option ℕ
+flags_offered (wire.init major minor flags) = Some flags
+flags_offered content = None
+
+-- the same of what is held for it
+abbrev pub flags_held : {A : Type 0} → HeldBody A → Option ℕ
+flags_held (Init flags) = Some (bit_and flags.0 known_flags)
+flags_held body = None
 
 -- what a request of this node asks
 abbrev pub body_of : ℕ → RequestContent → RequestBody

@@ -67,8 +67,7 @@ impl<A: Allocator + Copy> Server<A> {
     {
         self.copies.reserve(1)?;
         let Some(kept) = self.kept.get(unique) else {
-            // It was found before.
-            return Err(AllocError);
+            unreachable!();
         };
         let reply = kept.reply();
         let len = reply.len();

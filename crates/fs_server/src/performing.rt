@@ -65,8 +65,7 @@ impl<A: Allocator + Copy> Server<A> {
         ensures performed { IfOk result (λ done. PerformsHeld self.old unique done.errno done.copy self.new) }
     {
         let Some(held) = self.held.get(unique) else {
-            // It was found before.
-            return Err(AllocError);
+            unreachable!();
         };
         let outcome = self.files.answer(held, self.validity)?;
         self.files.discard_unheld();
@@ -88,8 +87,7 @@ impl<A: Allocator + Copy> Server<A> {
         self.copies.reserve(1)?;
         self.files.reserve()?;
         let Some(held) = self.held.get(unique) else {
-            // It was found before.
-            return Err(AllocError);
+            unreachable!();
         };
         let len = held.reply_len();
         let room = ReplyRoom::new(self.alloc, len)?;

@@ -3,9 +3,9 @@ use Rattle.fuse_spec.specs.Trees.{file_at}
 use Rattle.fs_files.proofs.BornFiles.{looks_up}
 use Rattle.fs_files.proofs.operating.look_up.Goals as goal
 
-pub returns-in-Ok-Some : goal.returns-in-Ok-Some
-returns-in-Ok-Some g c =
-    let at : file_at c.args.tree.now c.args.directory c.args.name.now ≡ Some c.in-Ok-Some.file = search rules in
+pub returns-in-Some : goal.returns-in-Some
+returns-in-Some g c =
+    let at : file_at c.args.tree.now c.args.directory c.args.name.now ≡ Some c.in-Some.file = search rules in
     let sum = c.births_left-births.ensures in
     let births : c.args.tree.now.next_birth ≤ 2 ^ 62 = omega (arith, sum) in
-    looks_up c.args.validity c.args.tree.now c.keeps_shape.ensures births c.args.directory c.args.name.now c.in-Ok-Some.file at
+    looks_up c.args.validity c.args.tree.now c.keeps_shape.ensures births c.args.directory c.args.name.now c.in-Some.file at

@@ -14,3 +14,9 @@ returns-in-Open-clause-ok g c =
     let t = c.args.nodes.now.table in
     rw (c.file_of-file.ensures, c.node.ensures, c.in-Open.is)
     (opens c.args.validity c.args.tree.now _ (file_there c.args.tree.now t c.keeps_shape.ensures c.requires.there c.in-Open.node) (rw c.in-Open.is at c.requires.unrefused))
+
+pub returns-in-Unlink-clause-ok : goal.returns-in-Unlink-clause-ok
+returns-in-Unlink-clause-ok g c = rw c.in-Unlink.is (rw (c.file_of-file.ensures, c.node.ensures, c.in-Unlink.is, c.deref-in-Unlink.ensures.value) at (c.remove_file.ensures c.args.validity))
+
+pub returns-in-Rmdir-clause-ok : goal.returns-in-Rmdir-clause-ok
+returns-in-Rmdir-clause-ok g c = rw c.in-Rmdir.is (rw (c.file_of-file.ensures, c.node.ensures, c.in-Rmdir.is, c.deref-in-Rmdir.ensures.value) at (c.remove_directory.ensures c.args.validity))
