@@ -1,9 +1,9 @@
-//! Each growth of each event of the scripts, refused in turn.
+//! Each growth of each event of the rows, refused in turn.
 
-use super::rows::{Row, rows};
+use super::rows::{ROWS, Row};
 use fail_at::FailAt;
-use fw_script::{Line, RecordLine, read_line};
-use fw_world::{Event, Outcome, Record, Refusal, WorldIn};
+use fw_script::{Line, read_hex, read_line, write_record};
+use fw_world::{Call, Event, Outcome, Record, Refusal, WorldIn};
 use std::alloc::{Allocator, Global};
 use std::io;
 use std::io::Write;
@@ -40,14 +40,14 @@ fn write_event<A: Allocator + Copy>(
     event: &Event<'_>,
     out: &mut Vec<u8>,
 ) -> io::Result<()> {
-    let record = match step(heap, world, event) {
+    let record: Record<A> = match step(heap, world, event) {
         Ok(outcome) => Record::Outcome(outcome),
         Err(refusal) => Record::Refused(refusal),
     };
-    writeln!(out, "{}", RecordLine(record))?;
+    write_record(out, &record)?;
     for _ in 0..world.answered() {
         if let Some((call, answer)) = world.collect() {
-            writeln!(out, "{}", RecordLine(Record::Answered { call, answer }))?;
+            write_record(out, &Record::Answered { call, answer })?;
         }
     }
     Ok(())
@@ -81,6 +81,23 @@ fn print_lines<A: Allocator + Copy>(
     for line in script.lines() {
         match read_line(line.as_bytes()) {
             Ok(Line::Event(event)) => write_event(heap, world, &event, out)?,
+            Ok(
+                Line::CallWrite {
+                    handle,
+                    offset,
+                    hex,
+                },
+            ) => {
+                if let Ok(bytes) = read_hex(*out.allocator(), hex) {
+                    let bytes = bytes.as_slice();
+                    let call = Call::Write {
+                        handle,
+                        offset,
+                        bytes,
+                    };
+                    write_event(heap, world, &Event::Call(call), out)?;
+                }
+            }
             Ok(Line::Show) => write_both(heap, world, out)?,
             Err(_) => {}
         }
@@ -134,24 +151,16 @@ fn growths_of<A: Allocator + Copy>(
     Ok(4000)
 }
 
-/// Checks that each row that mounts has some growths, and no row too many.
+/// Checks that each row has some growths, and none too many.
 fn check_growths<A: Allocator + Copy>(
     rt: &impl Abort,
     alloc: A,
     heap: &FailAt<Global>,
     out: &mut Vec<u8>,
 ) -> Result<(), Refusal> {
-    for row in rows() {
-        if row.hex {
-            continue;
-        }
+    for row in &ROWS {
         let growths = growths_of(rt, alloc, heap, out, row)?;
-        let least = if row.script.contains("read p") { 10 } else { 0 };
-        assert!(rt;
-            least <= growths && growths < 4000,
-            "{} {growths}",
-            row.name
-        );
+        assert!(rt; 10 <= growths && growths < 4000, "{} {growths}", row.name);
     }
     Ok(())
 }
