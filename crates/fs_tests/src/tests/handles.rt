@@ -1,6 +1,6 @@
 //! Open numbers: each call once, and refused growths.
 
-use crate::tests::tried::{Outcome, Tried, check, judged};
+use crate::tests::tried::{Outcome, Tried, judged, run};
 use fail_at::FailAt;
 use fs_handles::{HandleTable, LIMIT};
 use std::alloc::{AllocError, Allocator, Global};
@@ -89,8 +89,8 @@ fn refused_at<A: Allocator + Copy>(
     n: u64,
 ) -> bool {
     refusing.refuse(n);
-    let mut table: HandleTable<A> = HandleTable::new(heap);
-    check(rt, &mut table, heap, refusing, alloc, &CALLS, "calls");
+    let table: HandleTable<A> = HandleTable::new(heap);
+    run(rt, table, heap, refusing, alloc, &[], &CALLS, "calls");
     refusing.left() == 0
 }
 

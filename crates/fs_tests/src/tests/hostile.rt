@@ -1,7 +1,7 @@
 //! Frames that no kernel sends, or that come when what they name is gone.
 
 use crate::tests::frames::{Asks, Row};
-use crate::tests::tried::check;
+use crate::tests::tried::run;
 use fail_at::FailAt;
 use fs_server::{Server, ServerFault};
 use fuse_spec::{Taken, WriteResult};
@@ -28,11 +28,9 @@ static START: [Row; 6] = [
     ),
 ];
 
-/// Its reply's copy is settled.
-static SETTLED: [Row; 1] = [Row::Settles(2, 4, WriteResult::Accepted)];
-
 /// Faulty frames, and the replies to them. They change nothing.
-static FAULTY: [Row; 15] = [
+static FAULTY: [Row; 16] = [
+    Row::Settles(2, 4, WriteResult::Accepted),
     // a frame of 39 bytes
     Row::Refuses(
         "2a0000000100000064000000000000000100000000000000000000000000000000000000000000",
@@ -115,7 +113,8 @@ static FAULTY: [Row; 15] = [
 ];
 
 /// A frame that is given twice.
-static REPEATED: [Row; 8] = [
+static REPEATED: [Row; 9] = [
+    Row::Settles(2, 4, WriteResult::Accepted),
     Row::Takes(
         "2a000000 01000000 6400000000000000 0100000000000000 00000000 00000000 00000000 00000000 6100",
         Taken::Held,
@@ -155,7 +154,8 @@ static REPEATED: [Row; 8] = [
 ];
 
 /// A node is forgotten while a request about it is held.
-static GONE: [Row; 3] = [
+static GONE: [Row; 4] = [
+    Row::Settles(2, 4, WriteResult::Accepted),
     Row::Takes(
         "38000000 03000000 6400000000000000 0200000000000000 00000000 00000000 00000000 00000000 00000000 00000000 0000000000000000",
         Taken::Held,
@@ -168,7 +168,8 @@ static GONE: [Row; 3] = [
 ];
 
 /// An open number that is none.
-static NOT_OPEN: [Row; 6] = [
+static NOT_OPEN: [Row; 7] = [
+    Row::Settles(2, 4, WriteResult::Accepted),
     Row::Takes(
         "50000000 0f000000 6400000000000000 0200000000000000 00000000 00000000 00000000 00000000 0700000000000000 0000000000000000 0a000000 00000000 0000000000000000 00000000 00000000",
         Taken::Held,
@@ -196,34 +197,25 @@ static REFUSED_LATE: [Row; 6] = [
 #[test]
 fn frames_are_refused(rt: HostRuntime) -> Result<(), Fail> {
     let heap = FailAt::new(rt.alloc());
-    let cases: [(&str, &[Row], &[Row]); 5] = [
-        ("faulty", &SETTLED, &FAULTY),
-        ("repeated", &SETTLED, &REPEATED),
-        ("gone", &SETTLED, &GONE),
-        ("not open", &SETTLED, &NOT_OPEN),
-        ("refused late", &[], &REFUSED_LATE),
+    let cases: [(&str, &[Row]); 5] = [
+        ("faulty", &FAULTY),
+        ("repeated", &REPEATED),
+        ("gone", &GONE),
+        ("not open", &NOT_OPEN),
+        ("refused late", &REFUSED_LATE),
     ];
-    for (name, before, rows) in &cases {
-        let mut server = Server::new(rt.alloc())?;
-        check(
+    for (name, rows) in &cases {
+        let server = Server::new(rt.alloc())?;
+        run(
             &rt,
-            &mut server,
+            server,
             rt.alloc(),
             &heap,
             rt.alloc(),
             &START,
+            rows,
             name,
         );
-        check(
-            &rt,
-            &mut server,
-            rt.alloc(),
-            &heap,
-            rt.alloc(),
-            before,
-            name,
-        );
-        check(&rt, &mut server, rt.alloc(), &heap, rt.alloc(), rows, name);
     }
     Ok(())
 }

@@ -1,7 +1,7 @@
 //! Nodes over their life, marks of INTERRUPTs, aborts and mounts.
 
 use crate::tests::frames::{Asks, Row};
-use crate::tests::tried::check;
+use crate::tests::tried::run;
 use fail_at::FailAt;
 use fs_server::{Server, ServerFault};
 use fuse_spec::{Taken, WriteResult};
@@ -218,17 +218,17 @@ fn nodes_marks_and_mounts(rt: HostRuntime) -> Result<(), Fail> {
         ("aborted", &ABORTED),
     ];
     for (name, rows) in &cases {
-        let mut server = Server::new(rt.alloc())?;
-        check(
+        let server = Server::new(rt.alloc())?;
+        run(
             &rt,
-            &mut server,
+            server,
             rt.alloc(),
             &heap,
             rt.alloc(),
             &START,
+            rows,
             name,
         );
-        check(&rt, &mut server, rt.alloc(), &heap, rt.alloc(), rows, name);
     }
     Ok(())
 }

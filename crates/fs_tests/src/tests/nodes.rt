@@ -1,6 +1,6 @@
 //! Held nodes over both representations: each call once, the order of nodeids, and refused growths.
 
-use crate::tests::tried::{Outcome, Tried, check, judged};
+use crate::tests::tried::{Outcome, Tried, judged, run};
 use fail_at::FailAt;
 use fs_nodes::{LIMIT, ListNodes, NodeStore, NodeTable, TooMany};
 use std::alloc::{AllocError, Allocator, Global};
@@ -146,36 +146,60 @@ static CALLS: [Row; 27] = [
     Row::Nodes(&[(2, 7, 1), (3, 8, 1), (4, 9, 1)]),
 ];
 
-/// The calls on new nodes of each representation, with the `n`th growth refused. Says for each whether that growth came.
-fn refused_at<A: Allocator + Copy>(
+/// The calls on new nodes with the `n`th growth refused. Says whether that growth came.
+fn refused_at<A: Copy, T: NodeStore<Heap = A> + Tried<A, Row> + Drop>(
     rt: &impl Abort,
     heap: A,
     refusing: &FailAt<Global>,
     alloc: Global,
     n: u64,
-) -> (bool, bool) {
+) -> bool {
     refusing.refuse(n);
-    let mut table: NodeTable<A> = NodeStore::new(heap);
-    check(rt, &mut table, heap, refusing, alloc, &CALLS, "table");
-    let of_table = refusing.left() == 0;
-    refusing.refuse(n);
-    let mut list: ListNodes<A> = NodeStore::new(heap);
-    check(rt, &mut list, heap, refusing, alloc, &CALLS, "list");
-    (of_table, refusing.left() == 0)
+    run(
+        rt,
+        T::new(heap),
+        heap,
+        refusing,
+        alloc,
+        &[],
+        &CALLS,
+        "calls",
+    );
+    refusing.left() == 0
+}
+
+/// Each growth refused in turn: how many came.
+fn growths<A: Copy, T: NodeStore<Heap = A> + Tried<A, Row> + Drop>(
+    rt: &impl Abort,
+    heap: A,
+    refusing: &FailAt<Global>,
+    alloc: Global,
+) -> u64 {
+    let mut last = 0;
+    for n in 1..40u64 {
+        if refused_at::<A, T>(rt, heap, refusing, alloc, n) {
+            last = n;
+        }
+    }
+    last
 }
 
 #[test]
 fn calls_with_each_growth_refused(rt: HostRuntime) -> Result<(), Fail> {
     let heap = FailAt::new(rt.alloc());
-    let mut growths = (0u64, 0u64);
-    for n in 1..40u64 {
-        let (of_table, of_list) = refused_at(&rt, &heap, &heap, rt.alloc(), n);
-        growths = (
-            if of_table { n } else { growths.0 },
-            if of_list { n } else { growths.1 },
-        );
-    }
-    assert!(rt; 4 <= growths.0 && growths.0 < 39, "table");
-    assert!(rt; 3 <= growths.1 && growths.1 < 39, "list");
+    let of_table = growths::<&FailAt<Global>, NodeTable<&FailAt<Global>>>(
+        &rt,
+        &heap,
+        &heap,
+        rt.alloc(),
+    );
+    assert!(rt; 4 <= of_table && of_table < 39, "table");
+    let of_list = growths::<&FailAt<Global>, ListNodes<&FailAt<Global>>>(
+        &rt,
+        &heap,
+        &heap,
+        rt.alloc(),
+    );
+    assert!(rt; 3 <= of_list && of_list < 39, "list");
     Ok(())
 }

@@ -1,7 +1,7 @@
 //! The reply to each operation, byte for byte (linux/fuse.h), also with each growth refused in turn.
 
 use crate::tests::frames::{Asks, Row};
-use crate::tests::tried::check;
+use crate::tests::tried::run;
 use fail_at::FailAt;
 use fs_server::Server;
 use fuse_spec::{Taken, WriteResult};
@@ -127,8 +127,8 @@ static REPLIES: [Row; 65] = [
     Row::Nodes(&[(2, 1, 1), (3, 2, 2)]),
 ];
 
-/// Kept replies are sent again, and a refused copy gives back what it carried.
-static COPIES: [Row; 12] = [
+/// Kept replies are sent again, and a refused copy gives back what it carried; then the mount is aborted.
+static COPIES: [Row; 16] = [
     // copies of kept replies carry the same
     Row::Holds(44, 1, Asks::Create("c")),
     Row::Performs(
@@ -149,6 +149,14 @@ static COPIES: [Row; 12] = [
     Row::Performs(46, 0, "10000000 00000000 2e00000000000000"),
     Row::Again(46, "10000000 00000000 2e00000000000000"),
     Row::Unheld(46),
+    // an INTERRUPT that is answered, and a request that is performed after an abort
+    Row::Answers(
+        "30000000 24000000 3300000000000000 0000000000000000 00000000 00000000 00000000 00000000 3200000000000000",
+        "10000000 f5ffffff 3300000000000000",
+    ),
+    Row::Holds(52, 1, Asks::Mkdir("late")),
+    Row::Abort,
+    Row::Lost(52, 0),
 ];
 
 /// Both with the `n`th growth refused. Says whether that growth came.
@@ -160,10 +168,11 @@ fn refused_at<A: Allocator + Copy>(
     n: u64,
 ) -> Result<bool, AllocError> {
     refusing.refuse(0);
-    let mut server = Server::new(heap)?;
+    let server = Server::new(heap)?;
     refusing.refuse(n);
-    check(rt, &mut server, heap, refusing, alloc, &REPLIES, "replies");
-    check(rt, &mut server, heap, refusing, alloc, &COPIES, "copies");
+    run(
+        rt, server, heap, refusing, alloc, &REPLIES, &COPIES, "replies",
+    );
     Ok(refusing.left() == 0)
 }
 

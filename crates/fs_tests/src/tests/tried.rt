@@ -47,7 +47,7 @@ fn holds<A: Copy, R: Copy, T: Tried<A, R>>(
 }
 
 /// Tries the rows in their order.
-pub fn check<A: Copy, R: Copy, T: Tried<A, R>>(
+fn check<A: Copy, R: Copy, T: Tried<A, R>>(
     rt: &impl Abort,
     subject: &mut T,
     heap: A,
@@ -63,4 +63,20 @@ pub fn check<A: Copy, R: Copy, T: Tried<A, R>>(
             "{name} row {place} with growth {n} refused"
         );
     }
+}
+
+/// Tries the rows of two lists, one after the other, and lets go what they were tried on.
+pub fn run<A: Copy, R: Copy, T: Tried<A, R> + Drop>(
+    rt: &impl Abort,
+    subject: T,
+    heap: A,
+    refusing: &FailAt<Global>,
+    alloc: Global,
+    first: &[R],
+    rows: &[R],
+    name: &str,
+) {
+    let mut tried = subject;
+    check(rt, &mut tried, heap, refusing, alloc, first, name);
+    check(rt, &mut tried, heap, refusing, alloc, rows, name);
 }

@@ -1,7 +1,7 @@
 //! Refused growths change nothing, and the same call succeeds after them.
 
 use super::{Answer, Operation, Row};
-use crate::tests::tried::check;
+use crate::tests::tried::run;
 use fail_at::FailAt;
 use fs_tree::{Kind, Tree};
 use std::alloc::{AllocError, Allocator, Global};
@@ -32,9 +32,9 @@ fn refused_at<A: Allocator + Copy>(
     n: u64,
 ) -> Result<bool, AllocError> {
     refusing.refuse(0);
-    let mut tree = Tree::new(heap)?;
+    let tree = Tree::new(heap)?;
     refusing.refuse(n);
-    check(rt, &mut tree, heap, refusing, alloc, &CALLS, "calls");
+    run(rt, tree, heap, refusing, alloc, &[], &CALLS, "calls");
     Ok(refusing.left() == 0)
 }
 

@@ -1,7 +1,7 @@
 //! The operations' table, row by row.
 
 use super::{Answer, Listed, Operation, Row};
-use crate::tests::tried::check;
+use crate::tests::tried::run;
 use fail_at::FailAt;
 use fs_tree::{Attributes, Kind, Tree, TreeError};
 use std::test::Fail;
@@ -261,9 +261,8 @@ fn the_table(rt: HostRuntime) -> Result<(), Fail> {
         ("full tree", &[], &FULL_TREE),
     ];
     for (name, before, rows) in &cases {
-        let mut tree = Tree::new(rt.alloc())?;
-        check(&rt, &mut tree, rt.alloc(), &heap, rt.alloc(), before, name);
-        check(&rt, &mut tree, rt.alloc(), &heap, rt.alloc(), rows, name);
+        let tree = Tree::new(rt.alloc())?;
+        run(&rt, tree, rt.alloc(), &heap, rt.alloc(), before, rows, name);
     }
     Ok(())
 }
