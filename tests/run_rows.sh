@@ -61,6 +61,24 @@ for script in tests/rows/*.script; do
     judge "$name" "$code" 0
 done
 
+# The bytes of some frames: the line of a row after which they are printed, the place of the first
+# of them in the frame, and the bytes.
+while IFS='|' read -r name line from bytes; do
+    "$program" run --hex "tests/rows/$name.script" > "$work/lines" 2> "$work/err"
+    code=$?
+    grep -m 1 -x -A 1 "$line" "$work/lines" | sed -n 's/^frame //p' \
+        | cut -c "$((2 * from + 1))-$((2 * from + ${#bytes}))" > "$work/out"
+    echo "$bytes" > "$work/want-out"
+    : > "$work/want-err"
+    judge "bytes of $line in $name" "$code" 0
+done << END
+stat-of-missing-name|read 4 LOOKUP 42|0|2a0000000100000004000000000000000100000000000000000000000000000000000000000000006100
+counts-of-two-lookups-and-exact-forget|read 14 FORGET 48|0|30000000020000000e000000000000000200000000000000000000000000000000000000000000000300000000000000
+soft-signal-and-eagain|read 5 INTERRUPT 48|0|300000002400000005000000000000000000000000000000000000000000000000000000000000000400000000000000
+list-and-list-from-an-offset|done 8 0 80|16|0200000000000000010000000000000001000000040000006100000000000000
+stat-of-root|read 2 INIT 56|40|070000001f0000000000000001000400
+END
+
 # The script on standard input.
 cp tests/rows/stat-of-root.script "$work/in"
 expect script-on-standard-input 0 "$(cat tests/rows/stat-of-root.expected)$newline" ""
