@@ -15,6 +15,6 @@ build:
 
 # The gate's count is the last line again.
 test:
-	@log=$$(mktemp); rt ci > "$$log" 2>&1; status=$$?; cat "$$log"; \
+	@log=$$(mktemp); RT_JOBS=$$(nproc) rt ci > "$$log" 2>&1; status=$$?; cat "$$log"; \
 		if [ $$status = 0 ]; then sh tests/run_rows.sh; status=$$?; fi; \
 		tail -n 1 "$$log"; rm -f "$$log"; exit $$status
