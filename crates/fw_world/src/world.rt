@@ -94,8 +94,9 @@ impl<A: Allocator + Copy> WorldIn<A> {
     ///
     /// # Errors
     ///
-    /// Each event has its refusals in the order in which the definitions judge them, with `NoMemory` last. `Settle`, `Interrupt`,
-    /// `Tick`, `DropName`, `Evict` and `Abort` take no memory.
+    /// Each event has its refusals in the order in which the definitions judge them, with `NoMemory` last; but where a `Take` finds no
+    /// room on the reply link, it does not look whether a number for a copy is left. `Settle`, `Interrupt`, `Tick`, `DropName`,
+    /// `Evict` and `Abort` take no memory.
     pub fn step(&mut self, event: &Event<'_>) -> Result<Outcome, Refusal>
         ensures err { OnErr result (self.new ≡ self.old) }
         ensures refusal { IfErr result (RefusedWith self.old (event_of event.now)) }
