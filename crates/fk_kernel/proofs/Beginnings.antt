@@ -54,14 +54,6 @@ module _ (k : Kernel) (made : Call) (begun_is : IsBegun k made) where
       let past = ap is_past_end begun_is ∙ ap (λ (a : Advance Opened). is_past_end (advanced k k.vfs.next_call a)) asks ∙ past_end k.queues.next k.vfs.next_call low in
       by_tests _ _ _ _ ready full past
 
-  pub asks_unrefused : (state : CallState Opened) → is_ready k.phase ≡ true → length k.vfs.calls < 64 → k.vfs.next_call < 2 ^ 62 → begun (is_aborted k.phase) k.vfs (call_of made) ≡ asking (numbered k.vfs) k.vfs.next_call state
-      → 0 < numbers_left_from k.queues.next → begin_refusal k (call_of made) ≡ None
-  asks_unrefused state ready few low asks left =
-      let full : nat_le 64 (length k.vfs.calls) ≡ false = grind (arith, nat_tests, few) in
-      let some : nat_eq (numbers_left_from k.queues.next) 0 ≡ false = grind (arith, nat_tests, left) in
-      let past = ap is_past_end begun_is ∙ ap (λ (a : Advance Opened). is_past_end (advanced k k.vfs.next_call a)) asks ∙ past_end k.queues.next k.vfs.next_call low ∙ some in
-      unrefused _ _ _ ready full past
-
   pub answered_unrefused : (a : Answer) → is_ready k.phase ≡ true → length k.vfs.calls < 64 → k.vfs.next_call < 2 ^ 62 → k.queues.next ≤ 2 ^ 62
       → begun (is_aborted k.phase) k.vfs (call_of made) ≡ no_more (answered (numbered k.vfs) k.vfs.next_call a) → begin_refusal k (call_of made) ≡ None
   answered_unrefused a ready few low high ends =

@@ -79,23 +79,8 @@ module _ (k : Kernel) (handle : ℕ) (file : Opened) (going : is_aborted k.phase
     pub idle_refusal : is_used k handle ≡ false → or_no_memory (begin_refusal k (call.close handle)) ≡ cond (nat_eq (numbers_left_from k.queues.next) 0) Exhausted NoMemory
     idle_refusal idle = by_tests _ _ _ _ ready full (ap is_past_end (closes_idle idle) ∙ past_end k.queues.next k.vfs.next_call low)
 
-    pub idle_unrefused : is_used k handle ≡ false → 0 < numbers_left_from k.queues.next → begin_refusal k (call.close handle) ≡ None
-    idle_unrefused idle left =
-        let some : nat_eq (numbers_left_from k.queues.next) 0 ≡ false = grind (arith, nat_tests, left) in
-        unrefused _ _ _ ready full (ap is_past_end (closes_idle idle) ∙ past_end k.queues.next k.vfs.next_call low ∙ some)
-
     pub used_unrefused : is_used k handle ≡ true → k.queues.next ≤ 2 ^ 62 → begin_refusal k (call.close handle) ≡ None
     used_unrefused used high = unrefused _ _ _ ready full (ap is_past_end (closes_in_use used) ∙ none_past_end k.queues.next (k.vfs.next_call + 1) high (omega arith))
-
--- what is closed that is not open is answered EBADF
-pub closes_nothing : (k : Kernel) (handle : ℕ) → is_aborted k.phase ≡ false → get k.vfs.opens handle ≡ None → call_begun k (call.close handle) ≡ record k { vfs = answered (numbered k.vfs) k.vfs.next_call (answer.failed 9) }
-closes_nothing k handle going none = rw (going, none) refl
-
-pub nothing_unrefused : (k : Kernel) (handle : ℕ) → is_aborted k.phase ≡ false → get k.vfs.opens handle ≡ None → is_ready k.phase ≡ true → length k.vfs.calls < 64 → k.vfs.next_call < 2 ^ 62 → k.queues.next ≤ 2 ^ 62
-    → begin_refusal k (call.close handle) ≡ None
-nothing_unrefused k handle going none ready few low high =
-    let full : nat_le 64 (length k.vfs.calls) ≡ false = grind (arith, nat_tests, few) in
-    unrefused _ _ _ ready full (ap is_past_end (closes_nothing k handle going none) ∙ none_past_end k.queues.next (k.vfs.next_call + 1) high (omega arith))
 
 -- a closed file that is used waits, and one that is not is let go
 module _ (k : Kernel) (handle : ℕ) where

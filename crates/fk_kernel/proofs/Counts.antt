@@ -1,5 +1,5 @@
 -- The counted nodes of the table and of the kernel's state: what is true of both.
-use Rattle.std.proofs.Common.{◌≡◌, ◌≢◌, ℕ, suc, ◌+◌, ◌-◌, ◌≤◌, true≢false, true, false, not, cond, List, [], ◌∷◌, length, map, nat_eq, Option, Some, None, T, refl, ap, sym, ◌∙◌, subst, inl, inr, arith}
+use Rattle.std.proofs.Common.{◌≡◌, ◌≢◌, ℕ, suc, ◌+◌, ◌-◌, true≢false, true, false, not, cond, List, [], ◌∷◌, length, map, nat_eq, Option, Some, None, T, refl, ap, sym, ◌∙◌, subst, inl, inr, arith}
 use Rattle.std.specs.Prelude.{option_map, is_some}
 use Rattle.std.specs.declared.cmp.Ordering.TheVariants.{Less, Equal, Greater}
 use Rattle.std.specs.Ordering.{nat_cmp, is_eq}
@@ -53,12 +53,6 @@ pub sorted_nodes : (slots : FinMap nat_cmp CountedNode) → T (is_sorted nat_cmp
 sorted_nodes slots = sorted-filter is_node (entries slots) (entries_sorted slots)
 
 module _ (m : Map CountedNode) (most : ℕ) (old : AreUnpinned m most) where
-  pub length_within : length (counts_of m) ≤ most
-  length_within =
-      let same = length-counts m in
-      let within = old.count in
-      omega arith
-
   forgets : (id : ℕ) (o : Option CountedNode) → get m id ≡ o → option_map (λ (f : Forget). f.nlookup) (forget_of id o) ≡ option_map (λ (c : Counted). c.count) (option_map counted_of o)
   forgets id None at = refl
   forgets id (Some node) at = rw (old.unpinned id node at) refl

@@ -24,7 +24,7 @@ use Rattle.fuse_spec.specs.declared.InterruptReplyEffect.{InterruptReplyEffect}
 use Rattle.fuse_spec.specs.declared.InterruptReplyEffect.TheVariants.{QueuedAgain, TurnedOff, None as NoReplyEffect}
 use Rattle.fuse_spec.specs.declared.Mark.{Mark}
 use Rattle.fk_kernel.specs.Refused.{PassesEnd, WritePasses, is_past_end}
-use Rattle.fk_kernel.specs.Said.{Says, SaysNothing, Means, said, unsaid, wrong_body_to, IsJudged, Awaited, nothing, gone, reply_to, awaited, awaited_by_interrupt, opcode_of}
+use Rattle.fk_kernel.specs.Said.{Says, SaysNothing, Means, said, unsaid, wrong_body_to, IsJudged, Awaited, nothing, reply_to, awaited, awaited_by_interrupt, opcode_of}
 use Rattle.fk_kernel.proofs.Phases.{none_past_end, within_ends}
 use Rattle.fk_kernel.proofs.Replied.{init_is, by_agreement, release_is}
 use Rattle.fk_said.proofs.Sayings.{says_one}
@@ -42,12 +42,9 @@ passes k unique bytes o judged wire says past = record { opcode = o; judged = ju
     each other (unsaid none) = absurd (none wire says)
 
 module _ (k : Kernel) (unique : ℕ) (bytes : List ℕ) where
-  -- It does not where nothing, or a call that is answered, awaits them,
+  -- It does not where nothing awaits them,
   pub nothing_passes : PassesEnd k unique bytes nothing → ⊥
   nothing_passes p = let e = p.awaits in cc e
-
-  pub gone_passes : PassesEnd k unique bytes gone → ⊥
-  gone_passes p = let e = p.awaits in cc e
 
   -- nor where what they say does not,
   pub said_passes : (o : Opcode) (wire : WireReply) → Says o bytes wire → is_past_end (reply_written k unique wire).1 ≡ false → PassesEnd k unique bytes (reply_to o) → ⊥

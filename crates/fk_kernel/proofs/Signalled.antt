@@ -93,23 +93,6 @@ module _ (s : QueueState Purpose) (unique : ℕ) where
   abbrev effect_by : Bool → Option (QueuedRequest Purpose) → IntrEffect
   effect_by fatal o = option_map_or (λ r. signal_effect r.mark fatal s.interrupts_off) o NoEffect
 
-  pub softly : interrupt_effect s unique false ≢ Dequeued
-  softly is = by (request_under s unique) is
-    where
-      marked : (mark : Mark) (off : Bool) → signal_effect mark false off ≢ Dequeued
-      marked Unread true e = cc
-      marked Unread false e = cc
-      marked Flagged true e = cc
-      marked Flagged false e = cc
-      marked Read true e = cc
-      marked Read false e = cc
-      marked Interrupted true e = cc
-      marked Interrupted false e = cc
-
-      by : (o : Option (QueuedRequest Purpose)) → effect_by false o ≢ Dequeued
-      by None e = cc
-      by (Some r) e = marked r.mark s.interrupts_off e
-
   pub once_read : (fatal : Bool) → is_some (waiting s unique) ≡ true → interrupt_effect s unique fatal ≢ Dequeued
   once_read fatal waits is = by (request_under s unique) waits is
     where

@@ -119,18 +119,6 @@ module _ {V W : Type 0} (calls : Map V) (answers : Map W) (free coming : ℕ) (o
         next = old.next;
       }
 
-  pub sound_same : (call : ℕ) → is_some (get calls call) ≡ false → IsSound (remove calls call) answers free coming
-  sound_same call none =
-      let short = length_kept calls call in
-      let fits = old.room in
-      record {
-        calls_below = λ n le. gone_none calls call n (old.calls_below n le);
-        answers_below = old.answers_below;
-        apart = λ n there. old.apart n (λ gone. there (gone_none calls call n gone));
-        room = omega arith;
-        next = old.next;
-      }
-
   pub sound_collected : (call : ℕ) (free' : ℕ) → free ≤ free' → IsSound calls (remove answers call) free' coming
   sound_collected call free' room =
       let fits = old.room in

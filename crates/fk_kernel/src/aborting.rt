@@ -41,8 +41,8 @@ fn answer_all<A: Allocator + Copy>(
 }
 
 impl<Q: QueueTable<Purpose> + Drop> KernelOf<Q> {
-    /// Aborts the mount. Each unanswered call is answered ECONNABORTED, and names in force, nodes, open files and all that is
-    /// queued are given up. Takes no memory: the answers have their room since the calls began.
+    /// Aborts the mount (fuse.rst). Each unanswered call is answered ECONNABORTED, and names in force, nodes, open files and all
+    /// that is queued are given up. Takes no memory: the answers have their room since the calls began.
     ///
     /// # Errors
     ///

@@ -57,7 +57,7 @@ impl<Q: QueueTable<Purpose> + Drop> KernelOf<Q> {
         None
     }
 
-    /// Gives a node up and queues the forget of its whole count, which is given. Takes no memory.
+    /// Gives a node up and queues the forget of its whole count, which is given (libfuse, low-level: forget). Takes no memory.
     ///
     /// # Errors
     ///

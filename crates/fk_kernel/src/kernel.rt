@@ -72,7 +72,7 @@ impl<Q: QueueTable<Purpose> + Drop> KernelOf<Q> {
         }
     }
 
-    /// No counter is past its end.
+    /// No counter is past its end. A call without effect, made where a proof rests on that.
     pub fn within(&self)
         ensures { is_past_end self.now ≡ false }
     {
@@ -105,7 +105,7 @@ impl<Q: QueueTable<Purpose> + Drop> KernelOf<Q> {
         matches!(self.phase, Phase::Aborted)
     }
 
-    /// Mounts anew: everything of the old mount is given up, and INIT is queued.
+    /// Mounts anew: everything of the old mount is given up, without forgets, and INIT is queued (this project's rule).
     ///
     /// # Errors
     ///

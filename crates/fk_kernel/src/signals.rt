@@ -45,9 +45,9 @@ fn request_for<Q: QueueTable<Purpose>>(queues: &Q, call: u64) -> Option<u64>
 }
 
 impl<Q: QueueTable<Purpose> + Drop> KernelOf<Q> {
-    /// Signals an unanswered call, fatally or not. Where its request is unread and the signal is fatal, the request goes and
-    /// the call is answered EINTR; a closed file that it would have read or written last is released. Takes no memory: the
-    /// answer has its room since the call began, an INTERRUPT since its request was queued, and a RELEASE since the close.
+    /// Signals an unanswered call, fatally or not (fuse.rst). Where its request is unread and the signal is fatal, the request
+    /// goes and the call is answered EINTR; a closed file that it would have read or written last is released. Takes no memory:
+    /// the answer has its room since the call began, an INTERRUPT since its request was queued, and a RELEASE since the close.
     ///
     /// # Errors
     ///
@@ -120,7 +120,7 @@ impl<Q: QueueTable<Purpose> + Drop> KernelOf<Q> {
         None
     }
 
-    /// Reads the oldest INTERRUPT, under the number of its request with the lowest bit set.
+    /// Reads the oldest INTERRUPT, under the number of its request with the lowest bit set (fuse.rst).
     ///
     /// # Errors
     ///

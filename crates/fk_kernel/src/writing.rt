@@ -48,7 +48,7 @@ impl<Q: QueueTable<Purpose> + Drop> KernelOf<Q> {
         }
     }
 
-    /// A reply to the INTERRUPT of a request: it counts while that request is read and unanswered.
+    /// A reply to the INTERRUPT of a request: it counts while that request is read and unanswered (fuse.rst).
     fn write_to_interrupt(&mut self, original: u64, bytes: &[u8]) -> WriteResult
         ensures unawaited { waiting self.old.queues original ≡ None → (result ≡ WriteResult.NoEntry) × (self.new ≡ self.old) }
         ensures said { is_some (waiting self.old.queues original) ≡ true → (wire : WireReply) → Says Opcode.Interrupt bytes.now wire → interrupt_replied self.old original wire ≡ (result, self.new) }
@@ -67,7 +67,7 @@ impl<Q: QueueTable<Purpose> + Drop> KernelOf<Q> {
         WriteResult::Accepted
     }
 
-    /// An INTERRUPT was answered an error: EAGAIN queues it again, and after ENOSYS none is queued any more.
+    /// An INTERRUPT was answered an error: EAGAIN queues it again, and after ENOSYS none is queued any more (fuse.rst).
     fn interrupt_failed(&mut self, original: u64, errno: u32)
         requires { is_some (waiting self.old.queues original) ≡ true }
         ensures { self.new ≡ record self.old { queues = after_interrupt_reply self.old.queues original (interrupt_reply_of errno) } }
@@ -79,7 +79,8 @@ impl<Q: QueueTable<Purpose> + Drop> KernelOf<Q> {
         }
     }
 
-    /// A reply to INIT: an agreement on 7.31 or later makes the mount ready. Any other reply, and bytes that are none, abort it.
+    /// A reply to INIT: an agreement on 7.31 or later makes the mount ready. Any other reply, and bytes that are none, abort it
+    /// (this project's rule).
     fn write_to_init(&mut self, unique: u64, bytes: &[u8]) -> WriteResult
         requires even { nat_eq (unique % 2) 1 ≡ false }
         requires waits { waiting self.old.queues unique ≡ Some Purpose.Init }
