@@ -1,11 +1,13 @@
 //! Steps of a server over frames, and what each must give.
 
-use crate::tests::tried::{Outcome, Tried, judged};
+use crate::tests::tried::{Outcome, Tried, judged, run};
+use fail_at::FailAt;
 use fk_wire::{Request, RequestBody, write_request};
 use fs_server::{Server, ServerFault, fault_reply};
 use fuse_frames::ReplyCopy;
 use fuse_spec::{Refusal, ReplyResult, Taken, WriteResult};
 use std::alloc::{AllocError, Allocator, Global};
+use std::process::Abort;
 
 /// The longest validity, in milliseconds.
 const MAX_VALIDITY: u64 = 86_400_000;
@@ -326,4 +328,18 @@ impl<A: Allocator + Copy> Tried<A, Row> for Server<A> {
             Row::Nodes(nodes) => lists(self, heap, nodes),
         }
     }
+}
+
+/// Tries the rows of two lists on a new server, and refuses no growth.
+pub fn run_on_new(
+    rt: &impl Abort,
+    alloc: Global,
+    first: &[Row],
+    rows: &[Row],
+    name: &str,
+) -> Result<(), AllocError> {
+    let refusing = FailAt::new(alloc);
+    let server = Server::new(alloc)?;
+    run(rt, server, alloc, &refusing, alloc, first, rows, name);
+    Ok(())
 }

@@ -1,9 +1,7 @@
 //! Frames that no kernel sends, or that come when what they name is gone.
 
-use crate::tests::frames::{Asks, Row};
-use crate::tests::tried::run;
-use fail_at::FailAt;
-use fs_server::{Server, ServerFault};
+use crate::tests::frames::{Asks, Row, run_on_new};
+use fs_server::ServerFault;
 use fuse_spec::{Taken, WriteResult};
 use std::test::Fail;
 
@@ -196,26 +194,10 @@ static REFUSED_LATE: [Row; 6] = [
 
 #[test]
 fn frames_are_refused(rt: HostRuntime) -> Result<(), Fail> {
-    let heap = FailAt::new(rt.alloc());
-    let cases: [(&str, &[Row]); 5] = [
-        ("faulty", &FAULTY),
-        ("repeated", &REPEATED),
-        ("gone", &GONE),
-        ("not open", &NOT_OPEN),
-        ("refused late", &REFUSED_LATE),
-    ];
-    for (name, rows) in &cases {
-        let server = Server::new(rt.alloc())?;
-        run(
-            &rt,
-            server,
-            rt.alloc(),
-            &heap,
-            rt.alloc(),
-            &START,
-            rows,
-            name,
-        );
-    }
+    run_on_new(&rt, rt.alloc(), &START, &FAULTY, "faulty")?;
+    run_on_new(&rt, rt.alloc(), &START, &REPEATED, "repeated")?;
+    run_on_new(&rt, rt.alloc(), &START, &GONE, "gone")?;
+    run_on_new(&rt, rt.alloc(), &START, &NOT_OPEN, "not open")?;
+    run_on_new(&rt, rt.alloc(), &START, &REFUSED_LATE, "refused late")?;
     Ok(())
 }

@@ -1,9 +1,7 @@
 //! Nodes over their life, marks of INTERRUPTs, aborts and mounts.
 
-use crate::tests::frames::{Asks, Row};
-use crate::tests::tried::run;
-use fail_at::FailAt;
-use fs_server::{Server, ServerFault};
+use crate::tests::frames::{Asks, Row, run_on_new};
+use fs_server::ServerFault;
 use fuse_spec::{Taken, WriteResult};
 use std::test::Fail;
 
@@ -211,24 +209,8 @@ static ABORTED: [Row; 36] = [
 
 #[test]
 fn nodes_marks_and_mounts(rt: HostRuntime) -> Result<(), Fail> {
-    let heap = FailAt::new(rt.alloc());
-    let cases: [(&str, &[Row]); 3] = [
-        ("last unlink", &LAST_UNLINK),
-        ("interrupted", &INTERRUPTED),
-        ("aborted", &ABORTED),
-    ];
-    for (name, rows) in &cases {
-        let server = Server::new(rt.alloc())?;
-        run(
-            &rt,
-            server,
-            rt.alloc(),
-            &heap,
-            rt.alloc(),
-            &START,
-            rows,
-            name,
-        );
-    }
+    run_on_new(&rt, rt.alloc(), &START, &LAST_UNLINK, "last unlink")?;
+    run_on_new(&rt, rt.alloc(), &START, &INTERRUPTED, "interrupted")?;
+    run_on_new(&rt, rt.alloc(), &START, &ABORTED, "aborted")?;
     Ok(())
 }

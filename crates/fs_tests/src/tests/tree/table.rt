@@ -4,6 +4,8 @@ use super::{Answer, Listed, Operation, Row};
 use crate::tests::tried::run;
 use fail_at::FailAt;
 use fs_tree::{Attributes, Kind, Tree, TreeError};
+use std::alloc::{AllocError, Global};
+use std::process::Abort;
 use std::test::Fail;
 
 /// Births and serials stay below this.
@@ -246,23 +248,36 @@ static DISCARDED: [Row; 21] = [
     Row::Is(3, [false, true, false], 1),
 ];
 
+/// Tries the rows of two lists on a new tree, and refuses no growth.
+fn run_on_new(
+    rt: &impl Abort,
+    alloc: Global,
+    first: &[Row],
+    rows: &[Row],
+    name: &str,
+) -> Result<(), AllocError> {
+    let refusing = FailAt::new(alloc);
+    let tree = Tree::new(alloc)?;
+    run(rt, tree, alloc, &refusing, alloc, first, rows, name);
+    Ok(())
+}
+
 #[test]
 fn the_table(rt: HostRuntime) -> Result<(), Fail> {
-    let heap = FailAt::new(rt.alloc());
-    let cases: [(&str, &[Row], &[Row]); 9] = [
-        ("lookups and makes", &START, &LOOKUPS_AND_MAKES),
-        ("removals", &START, &REMOVALS),
-        ("links", &START, &LINKS),
-        ("refused renames", &START, &REFUSED_RENAMES),
-        ("renames", &START, &RENAMES),
-        ("lists", &NAMES, &LISTS),
-        ("full file", &BYTES, &FULL_FILE),
-        ("discarded", &BYTES, &DISCARDED),
-        ("full tree", &[], &FULL_TREE),
-    ];
-    for (name, before, rows) in &cases {
-        let tree = Tree::new(rt.alloc())?;
-        run(&rt, tree, rt.alloc(), &heap, rt.alloc(), before, rows, name);
-    }
+    run_on_new(
+        &rt,
+        rt.alloc(),
+        &START,
+        &LOOKUPS_AND_MAKES,
+        "lookups and makes",
+    )?;
+    run_on_new(&rt, rt.alloc(), &START, &REMOVALS, "removals")?;
+    run_on_new(&rt, rt.alloc(), &START, &LINKS, "links")?;
+    run_on_new(&rt, rt.alloc(), &START, &REFUSED_RENAMES, "refused renames")?;
+    run_on_new(&rt, rt.alloc(), &START, &RENAMES, "renames")?;
+    run_on_new(&rt, rt.alloc(), &NAMES, &LISTS, "lists")?;
+    run_on_new(&rt, rt.alloc(), &BYTES, &FULL_FILE, "full file")?;
+    run_on_new(&rt, rt.alloc(), &BYTES, &DISCARDED, "discarded")?;
+    run_on_new(&rt, rt.alloc(), &[], &FULL_TREE, "full tree")?;
     Ok(())
 }

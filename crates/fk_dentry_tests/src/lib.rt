@@ -1,5 +1,0 @@
-//! The tests of `fk_dentry`, in a crate over it, so that its proof is not repeated to run them.
-#![tactic(auto)]
-
-#[cfg(test)]
-mod tests;

@@ -1,0 +1,211 @@
+//! Counted nodes over both representations: each call once, and refused growths.
+
+use crate::tests::tried::{Outcome, Tried, judged, run};
+use fail_at::FailAt;
+use fk_lookup_count::{CountTable, Forget, KernelNodes, ListCounts, Unlike};
+use std::alloc::{AllocError, Allocator, Global};
+use std::process::Abort;
+use std::test::Fail;
+
+/// A call, and what it must give.
+#[derive(Clone, Copy)]
+enum Row {
+    Reserve(u64),
+    /// Room is made and an entry reply counted, with an id and a generation.
+    Learn(u64, u64, Result<(), Unlike>),
+    Evict(u64, Option<Forget>),
+    Pin(u64),
+    Unpin(u64),
+    Clear,
+    /// Of an id: its generation, its count and its pins.
+    Node(u64, Option<u64>, u64, u64),
+    /// The ids with their generations and counts.
+    Nodes(&'static [(u64, u64, u64)]),
+}
+
+fn learn<T: CountTable>(
+    table: &mut T,
+    id: u64,
+    generation: u64,
+) -> Result<Result<(), Unlike>, AllocError> {
+    table.reserve(id)?;
+    if table.count_of(id) == u64::MAX {
+        return Err(AllocError);
+    }
+    Ok(table.learn(id, generation))
+}
+
+/// Pins a node, where its pins can be counted.
+fn pins<T: CountTable>(table: &mut T, id: u64) -> bool {
+    if table.pins_of(id) == u64::MAX {
+        return false;
+    }
+    table.pin(id);
+    true
+}
+
+fn is_node<T: CountTable>(
+    table: &T,
+    id: u64,
+    generation: Option<u64>,
+    count: u64,
+    pins: u64,
+) -> bool {
+    table.generation_of(id) == generation
+        && table.count_of(id) == count
+        && table.pins_of(id) == pins
+}
+
+fn lists<T: CountTable>(table: &T, heap: T::Heap, wanted: &[(u64, u64, u64)]) -> Outcome {
+    match table.nodes(heap) {
+        Ok(nodes) => judged(nodes.as_slice() == wanted),
+        Err(AllocError) => Outcome::NoMemory,
+    }
+}
+
+fn tried<T: CountTable>(table: &mut T, heap: T::Heap, row: Row) -> Outcome {
+    match row {
+        Row::Reserve(id) => match table.reserve(id) {
+            Ok(()) => Outcome::Right,
+            Err(AllocError) => Outcome::NoMemory,
+        },
+        Row::Learn(id, generation, wanted) => match learn(table, id, generation) {
+            Ok(given) => judged(given == wanted),
+            Err(AllocError) => Outcome::NoMemory,
+        },
+        Row::Evict(id, forget) => judged(table.evict(id) == forget),
+        Row::Pin(id) => judged(pins(table, id)),
+        Row::Unpin(id) => {
+            table.unpin(id);
+            Outcome::Right
+        }
+        Row::Clear => {
+            table.clear();
+            Outcome::Right
+        }
+        Row::Node(id, generation, count, pins) => {
+            judged(is_node(table, id, generation, count, pins))
+        }
+        Row::Nodes(nodes) => lists(table, heap, nodes),
+    }
+}
+
+impl<A: Allocator + Copy> Tried<A, Row> for KernelNodes<A> {
+    fn attempt(&mut self, heap: A, _alloc: Global, row: Row) -> Outcome {
+        tried(self, heap, row)
+    }
+}
+
+impl<A: Allocator + Copy> Tried<A, Row> for ListCounts<A> {
+    fn attempt(&mut self, heap: A, _alloc: Global, row: Row) -> Outcome {
+        tried(self, heap, row)
+    }
+}
+
+/// Of node 9 two lookups.
+const TWO_OF_9: Forget = Forget {
+    nodeid: 9,
+    nlookup: 2,
+};
+
+/// Of node 2 one lookup.
+const ONE_OF_2: Forget = Forget {
+    nodeid: 2,
+    nlookup: 1,
+};
+
+static CALLS: [Row; 31] = [
+    Row::Node(9, None, 0, 0),
+    Row::Learn(9, 4, Ok(())),
+    Row::Learn(9, 4, Ok(())),
+    Row::Learn(9, 5, Err(Unlike)),
+    Row::Node(9, Some(4), 2, 0),
+    Row::Evict(9, Some(TWO_OF_9)),
+    Row::Evict(9, None),
+    Row::Node(9, None, 0, 0),
+    // a node that is not counted has no pins, and one that is pinned stays
+    Row::Pin(2),
+    Row::Node(2, None, 0, 0),
+    Row::Learn(2, 1, Ok(())),
+    Row::Pin(2),
+    Row::Pin(2),
+    Row::Unpin(2),
+    Row::Node(2, Some(1), 1, 1),
+    Row::Evict(2, None),
+    Row::Unpin(2),
+    Row::Unpin(2),
+    Row::Evict(2, Some(ONE_OF_2)),
+    Row::Unpin(2),
+    // nodes are listed in rising id
+    Row::Learn(9, 7, Ok(())),
+    Row::Learn(3, 7, Ok(())),
+    Row::Learn(5, 7, Ok(())),
+    Row::Learn(6, 8, Ok(())),
+    Row::Learn(3, 7, Ok(())),
+    Row::Reserve(4),
+    Row::Nodes(&[(3, 7, 2), (5, 7, 1), (6, 8, 1), (9, 7, 1)]),
+    Row::Clear,
+    Row::Node(3, None, 0, 0),
+    Row::Nodes(&[]),
+    Row::Learn(3, 1, Ok(())),
+];
+
+/// The calls on a new table with the `n`th growth refused. Says whether that growth came.
+fn refused_at<A: Copy, T: CountTable<Heap = A> + Tried<A, Row> + Drop>(
+    rt: &impl Abort,
+    heap: A,
+    refusing: &FailAt<Global>,
+    alloc: Global,
+    n: u64,
+) -> bool {
+    refusing.refuse(n);
+    run(
+        rt,
+        T::new(heap),
+        heap,
+        refusing,
+        alloc,
+        &[],
+        &CALLS,
+        "calls",
+    );
+    refusing.left() == 0
+}
+
+/// Each growth refused in turn: how many came.
+fn growths<A: Copy, T: CountTable<Heap = A> + Tried<A, Row> + Drop>(
+    rt: &impl Abort,
+    heap: A,
+    refusing: &FailAt<Global>,
+    alloc: Global,
+) -> u64 {
+    let mut last = 0;
+    for n in 1..40u64 {
+        if refused_at::<A, T>(rt, heap, refusing, alloc, n) {
+            last = n;
+        }
+    }
+    last
+}
+
+/// Of each representation.
+fn growths_of_both<A: Allocator + Copy>(
+    rt: &impl Abort,
+    heap: A,
+    refusing: &FailAt<Global>,
+    alloc: Global,
+) -> (u64, u64) {
+    (
+        growths::<A, KernelNodes<A>>(rt, heap, refusing, alloc),
+        growths::<A, ListCounts<A>>(rt, heap, refusing, alloc),
+    )
+}
+
+#[test]
+fn calls_with_each_growth_refused(rt: HostRuntime) -> Result<(), Fail> {
+    let heap = FailAt::new(rt.alloc());
+    let (of_slab, of_list) = growths_of_both(&rt, &heap, &heap, rt.alloc());
+    assert!(rt; 3 <= of_slab && of_slab < 39, "slab");
+    assert!(rt; 2 <= of_list && of_list < 39, "list");
+    Ok(())
+}

@@ -1,0 +1,343 @@
+//! Steps of a kernel, and what each must give.
+
+use crate::tests::digits::{spells, unhex};
+use crate::tests::tried::{Outcome, Tried, judged, run};
+use fail_at::FailAt;
+use fk_kernel::{Answer, Call, Kernel, ListedName};
+use fk_wire::Opcode;
+use fuse_frames::RequestFrame;
+use fuse_spec::{Attributes, IntrEffect, Kind, Refusal, WriteResult};
+use std::alloc::{AllocError, Allocator, Global};
+use std::process::Abort;
+
+mod aborts;
+mod beginnings;
+mod bytes;
+mod open_files;
+mod operations;
+mod paths;
+mod signals;
+
+/// The inode number, the offset, the kind and the bytes of a name that is listed.
+type Listed = (u64, u64, Kind, &'static str);
+
+/// What a call is answered.
+#[derive(Clone, Copy)]
+enum Told {
+    Done,
+    Errno(u32),
+    Attributes(Attributes),
+    Names(&'static [Listed]),
+    /// So many names.
+    NamesLength(usize),
+    Bytes(&'static str),
+    Written(u32),
+}
+
+/// What a read gives: a frame, one of which the unique and the opcode are known, or none.
+#[derive(Clone, Copy)]
+enum Reads {
+    Frame(&'static str),
+    Head(u64, Opcode),
+    Refused(Refusal),
+}
+
+/// Bytes that are written. Frames are in hexadecimal digits; spaces are for reading alone.
+#[derive(Clone, Copy)]
+enum Written {
+    Whole(&'static str),
+    /// A head, and so many times a record.
+    Repeated(&'static str, &'static str, usize),
+    /// So many bytes of a frame that has a byte more behind it, with their number as `len` or with the frame's own.
+    Cut(&'static str, usize, bool),
+}
+
+/// A step, and what it must give.
+#[derive(Clone, Copy)]
+enum Row {
+    Mount(Result<(), Refusal>),
+    Abort(Result<(), Refusal>),
+    /// A call begins, under a number.
+    Begin(Call<'static>, Result<u64, Refusal>),
+    /// The pending request at a place is read.
+    Read(u64, Reads),
+    /// The oldest INTERRUPT is read.
+    Interrupt(Reads),
+    /// So many forgets are read as one frame.
+    Forget(u64, Reads),
+    /// Bytes are written: what the writer gets.
+    Write(Written, WriteResult),
+    /// The time after so many milliseconds.
+    Tick(u64, Result<u64, Refusal>),
+    DropName(u64, &'static str, Result<(), Refusal>),
+    /// A node is given up: how many lookups are to be forgotten.
+    Evict(u64, Result<u64, Refusal>),
+    /// A signal to a call, fatal or not, and its effect.
+    Signal(u64, bool, Result<IntrEffect, Refusal>),
+    /// The lowest answered call, and its answer.
+    Answered(u64, Told),
+    /// No call is answered, and so many are not.
+    Unanswered(usize),
+    /// The counted nodes in rising id, each with its generation and its count.
+    Nodes(&'static [(u64, u64, u64)]),
+}
+
+/// Mounts, and answers INIT.
+static START: [Row; 4] = [
+    Row::Mount(Ok(())),
+    Row::Read(
+        0,
+        Reads::Frame(
+            "38000000 1a000000 0200000000000000 0000000000000000 00000000 00000000 00000000 00000000 07000000 1f000000 00000000 01000400",
+        ),
+    ),
+    Row::Begin(Call::Stat { path: b"/" }, Err(Refusal::NotReady)),
+    Row::Write(
+        Written::Whole(
+            "50000000 00000000 0200000000000000 07000000 1f000000 00000000 01000400 0000 0000 00100000 01000000 0000 0000 00000000 00000000 00000000 00000000 00000000 00000000 00000000 00000000",
+        ),
+        WriteResult::Accepted,
+    ),
+];
+
+/// What a step comes to that gives a number, or nothing.
+fn gives<T: Copy + PartialEq>(given: Result<T, Refusal>, wanted: Result<T, Refusal>) -> Outcome {
+    match (given, wanted) {
+        (Ok(given), Ok(wanted)) => judged(given == wanted),
+        (Err(Refusal::NoMemory), _) => Outcome::NoMemory,
+        (Err(given), Err(wanted)) => judged(given == wanted),
+        _ => Outcome::Wrong,
+    }
+}
+
+fn is_frame<A: Allocator>(alloc: Global, frame: &RequestFrame<A>, wanted: Reads) -> bool {
+    match wanted {
+        Reads::Frame(text) => spells(alloc, frame.bytes(), text),
+        Reads::Head(unique, opcode) => frame.head() == (unique, opcode),
+        Reads::Refused(_) => false,
+    }
+}
+
+fn is_refused(given: Refusal, wanted: Reads) -> bool {
+    matches!(wanted, Reads::Refused(refusal) if refusal == given)
+}
+
+/// What a step comes to that gives a frame.
+fn read_as<A: Allocator>(
+    alloc: Global,
+    given: Result<RequestFrame<A>, Refusal>,
+    wanted: Reads,
+) -> Outcome {
+    match given {
+        Ok(frame) => judged(is_frame(alloc, &frame, wanted)),
+        Err(Refusal::NoMemory) => Outcome::NoMemory,
+        Err(refusal) => judged(is_refused(refusal, wanted)),
+    }
+}
+
+fn mounts<A: Allocator + Copy>(kernel: &mut Kernel<A>, wanted: Result<(), Refusal>) -> Outcome {
+    gives(kernel.mount(), wanted)
+}
+
+fn gives_up<A: Allocator + Copy>(kernel: &mut Kernel<A>, wanted: Result<(), Refusal>) -> Outcome {
+    gives(kernel.abort(), wanted)
+}
+
+fn begins<A: Allocator + Copy>(
+    kernel: &mut Kernel<A>,
+    call: Call<'_>,
+    wanted: Result<u64, Refusal>,
+) -> Outcome {
+    gives(kernel.begin(&call), wanted)
+}
+
+fn reads_pending<A: Allocator + Copy>(
+    kernel: &mut Kernel<A>,
+    alloc: Global,
+    place: u64,
+    wanted: Reads,
+) -> Outcome {
+    read_as(alloc, kernel.read_pending(place), wanted)
+}
+
+fn reads_interrupt<A: Allocator + Copy>(
+    kernel: &mut Kernel<A>,
+    alloc: Global,
+    wanted: Reads,
+) -> Outcome {
+    read_as(alloc, kernel.read_interrupt(), wanted)
+}
+
+fn reads_forgets<A: Allocator + Copy>(
+    kernel: &mut Kernel<A>,
+    alloc: Global,
+    count: u64,
+    wanted: Reads,
+) -> Outcome {
+    read_as(alloc, kernel.read_forgets(count), wanted)
+}
+
+/// A head, and so many times a record.
+fn repeated(alloc: Global, head: &str, record: &str, count: usize) -> Result<Vec<u8>, AllocError> {
+    let mut bytes = unhex(alloc, head)?;
+    let record = unhex(alloc, record)?;
+    for _record in 0..count {
+        bytes.extend_from_slice(&record)?;
+    }
+    Ok(bytes)
+}
+
+/// So many bytes of a frame with a byte behind it, with their number as `len` or with the frame's own.
+fn cut(alloc: Global, text: &str, len: usize, is_own: bool) -> Result<Vec<u8>, AllocError> {
+    let mut frame = unhex(alloc, text)?;
+    frame.push(0)?;
+    let first = frame.get(..len).unwrap_or(&[]);
+    if !is_own {
+        return first.to_vec(alloc);
+    }
+    let mut bytes = Vec::new(alloc);
+    bytes.extend_from_slice(&(len as u64).to_le_bytes()[..4])?;
+    bytes.extend_from_slice(first.get(4..).unwrap_or(&[]))?;
+    Ok(bytes)
+}
+
+fn bytes_of(alloc: Global, written: Written) -> Result<Vec<u8>, AllocError> {
+    match written {
+        Written::Whole(text) => unhex(alloc, text),
+        Written::Repeated(head, record, count) => repeated(alloc, head, record, count),
+        Written::Cut(text, len, is_own) => cut(alloc, text, len, is_own),
+    }
+}
+
+fn writes<A: Allocator + Copy>(
+    kernel: &mut Kernel<A>,
+    bytes: &[u8],
+    wanted: WriteResult,
+) -> Outcome {
+    gives(kernel.write(bytes), Ok(wanted))
+}
+
+fn writes_row<A: Allocator + Copy>(
+    kernel: &mut Kernel<A>,
+    alloc: Global,
+    written: Written,
+    wanted: WriteResult,
+) -> Outcome {
+    match bytes_of(alloc, written) {
+        Ok(bytes) => writes(kernel, &bytes, wanted),
+        Err(AllocError) => Outcome::Wrong,
+    }
+}
+
+fn ticks<A: Allocator + Copy>(
+    kernel: &mut Kernel<A>,
+    milliseconds: u64,
+    wanted: Result<u64, Refusal>,
+) -> Outcome {
+    gives(kernel.tick(milliseconds), wanted)
+}
+
+fn drops<A: Allocator + Copy>(
+    kernel: &mut Kernel<A>,
+    directory: u64,
+    name: &str,
+    wanted: Result<(), Refusal>,
+) -> Outcome {
+    gives(kernel.drop_name(directory, name.as_bytes()), wanted)
+}
+
+fn evicts<A: Allocator + Copy>(
+    kernel: &mut Kernel<A>,
+    node: u64,
+    wanted: Result<u64, Refusal>,
+) -> Outcome {
+    gives(kernel.evict(node), wanted)
+}
+
+fn interrupts<A: Allocator + Copy>(
+    kernel: &mut Kernel<A>,
+    call: u64,
+    fatal: bool,
+    wanted: Result<IntrEffect, Refusal>,
+) -> Outcome {
+    gives(kernel.interrupt(call, fatal), wanted)
+}
+
+fn is_name<A: Allocator>(given: &ListedName<A>, name: &Listed) -> bool {
+    given.ino == name.0
+        && given.offset == name.1
+        && given.kind == name.2
+        && given.name.as_slice() == name.3.as_bytes()
+}
+
+fn are_names<A: Allocator>(given: &[ListedName<A>], names: &[Listed]) -> bool {
+    if given.len() != names.len() {
+        return false;
+    }
+    for (given, name) in given.iter().zip(names) {
+        if !is_name(given, name) {
+            return false;
+        }
+    }
+    true
+}
+
+fn is_told<A: Allocator>(answer: &Answer<A>, told: Told) -> bool {
+    match (answer, told) {
+        (Answer::Done, Told::Done) => true,
+        (Answer::Failed { errno: given }, Told::Errno(errno)) => *given == errno,
+        (Answer::Attributes(given), Told::Attributes(attributes)) => *given == attributes,
+        (Answer::Listing(given), Told::Names(names)) => are_names(given, names),
+        (Answer::Listing(given), Told::NamesLength(count)) => given.len() == count,
+        (Answer::Content(given), Told::Bytes(text)) => given.as_slice() == text.as_bytes(),
+        (Answer::Written { size: given }, Told::Written(size)) => *given == size,
+        _ => false,
+    }
+}
+
+/// Whether the lowest answered call has this number and this answer.
+fn answers<A: Allocator + Copy>(kernel: &mut Kernel<A>, number: u64, told: Told) -> bool {
+    match kernel.collect() {
+        Some((given, answer)) => given == number && is_told(&answer, told),
+        None => false,
+    }
+}
+
+fn are_unanswered<A: Allocator + Copy>(kernel: &Kernel<A>, calls: usize) -> bool {
+    kernel.answered() == 0 && kernel.unanswered() == calls
+}
+
+fn lists<A: Allocator + Copy>(kernel: &Kernel<A>, heap: A, nodes: &[(u64, u64, u64)]) -> Outcome {
+    match kernel.nodes(heap) {
+        Ok(given) => judged(given.as_slice() == nodes),
+        Err(AllocError) => Outcome::NoMemory,
+    }
+}
+
+impl<A: Allocator + Copy> Tried<A, Row> for Kernel<A> {
+    fn attempt(&mut self, heap: A, alloc: Global, row: Row) -> Outcome {
+        match row {
+            Row::Mount(wanted) => mounts(self, wanted),
+            Row::Abort(wanted) => gives_up(self, wanted),
+            Row::Begin(call, wanted) => begins(self, call, wanted),
+            Row::Read(place, wanted) => reads_pending(self, alloc, place, wanted),
+            Row::Interrupt(wanted) => reads_interrupt(self, alloc, wanted),
+            Row::Forget(count, wanted) => reads_forgets(self, alloc, count, wanted),
+            Row::Write(written, wanted) => writes_row(self, alloc, written, wanted),
+            Row::Tick(milliseconds, wanted) => ticks(self, milliseconds, wanted),
+            Row::DropName(directory, name, wanted) => drops(self, directory, name, wanted),
+            Row::Evict(node, wanted) => evicts(self, node, wanted),
+            Row::Signal(call, fatal, wanted) => interrupts(self, call, fatal, wanted),
+            Row::Answered(number, told) => judged(answers(self, number, told)),
+            Row::Unanswered(calls) => judged(are_unanswered(self, calls)),
+            Row::Nodes(nodes) => lists(self, heap, nodes),
+        }
+    }
+}
+
+/// Tries the rows of two lists on a new kernel, and refuses no growth.
+fn run_on_new(rt: &impl Abort, alloc: Global, first: &[Row], rows: &[Row], name: &str) {
+    let refusing = FailAt::new(alloc);
+    let kernel: Kernel = Kernel::new(alloc);
+    run(rt, kernel, alloc, &refusing, alloc, first, rows, name);
+}

@@ -1,0 +1,358 @@
+//! Each beginning of a reply, and the reply with a byte more: none is taken.
+
+use super::{Reads, Row, START, Told, Written, run_on_new};
+use fk_kernel::Call;
+use fk_wire::Opcode;
+use fuse_spec::{IntrEffect, WriteResult};
+use std::alloc::{AllocError, Global};
+use std::process::Abort;
+use std::test::Fail;
+
+/// A request that was read, and a reply to it.
+#[derive(Clone, Copy)]
+struct Case {
+    opcode: Opcode,
+    reply: &'static str,
+    /// How many bytes it has.
+    len: usize,
+    /// The call that waits for it, if one does, and how many calls wait for anything.
+    call: Option<u64>,
+    waiting: usize,
+    /// A body that is shorter by so many bytes is one too; 0 where none is.
+    step: usize,
+}
+
+/// Up to the read of a LOOKUP.
+static STATED: [Row; 2] = [
+    Row::Begin(Call::Stat { path: b"/a" }, Ok(1)),
+    Row::Read(0, Reads::Head(4, Opcode::Lookup)),
+];
+
+/// Up to the read of a GETATTR.
+static LOOKED_AT: [Row; 2] = [
+    Row::Begin(Call::Stat { path: b"/" }, Ok(1)),
+    Row::Read(0, Reads::Head(4, Opcode::Getattr)),
+];
+
+/// Up to the read of a MKDIR.
+static MADE: [Row; 2] = [
+    Row::Begin(Call::Mkdir { path: b"/a" }, Ok(1)),
+    Row::Read(0, Reads::Head(4, Opcode::Mkdir)),
+];
+
+/// Up to the read of an UNLINK.
+static UNLINKED: [Row; 2] = [
+    Row::Begin(Call::Unlink { path: b"/a" }, Ok(1)),
+    Row::Read(0, Reads::Head(4, Opcode::Unlink)),
+];
+
+/// Up to the read of a RMDIR.
+static REMOVED: [Row; 2] = [
+    Row::Begin(Call::Rmdir { path: b"/a" }, Ok(1)),
+    Row::Read(0, Reads::Head(4, Opcode::Rmdir)),
+];
+
+/// Up to the read of a RENAME.
+static RENAMED: [Row; 2] = [
+    Row::Begin(
+        Call::Rename {
+            old: b"/a",
+            new: b"/b",
+        },
+        Ok(1),
+    ),
+    Row::Read(0, Reads::Head(4, Opcode::Rename)),
+];
+
+/// Up to the read of a LINK.
+static LINKED: [Row; 4] = [
+    Row::Begin(
+        Call::Link {
+            old: b"/a",
+            new: b"/b",
+        },
+        Ok(1),
+    ),
+    Row::Read(0, Reads::Head(4, Opcode::Lookup)),
+    Row::Write(
+        Written::Whole(
+            "90000000 00000000 0400000000000000 0200000000000000 0100000000000000 0100000000000000 0000000000000000 00000000 00000000 0200000000000000 0000000000000000 0000000000000000 0000000000000000 0000000000000000 0000000000000000 00000000 00000000 00000000 a4810000 01000000 00000000 00000000 00000000 00100000 00000000",
+        ),
+        WriteResult::Accepted,
+    ),
+    Row::Read(0, Reads::Head(6, Opcode::Link)),
+];
+
+/// Up to the read of an OPEN.
+static OPENED: [Row; 2] = [
+    Row::Begin(Call::Open { path: b"/" }, Ok(1)),
+    Row::Read(0, Reads::Head(4, Opcode::Open)),
+];
+
+/// Up to the read of a READ.
+static READ: [Row; 6] = [
+    Row::Begin(Call::Open { path: b"/" }, Ok(1)),
+    Row::Read(0, Reads::Head(4, Opcode::Open)),
+    Row::Write(
+        Written::Whole("20000000 00000000 0400000000000000 0100000000000000 00000000 00000000"),
+        WriteResult::Accepted,
+    ),
+    Row::Answered(1, Told::Done),
+    Row::Begin(
+        Call::Read {
+            handle: 1,
+            offset: 0,
+            size: 2,
+        },
+        Ok(2),
+    ),
+    Row::Read(0, Reads::Head(6, Opcode::Read)),
+];
+
+/// Up to the read of a WRITE.
+static WRITTEN: [Row; 6] = [
+    Row::Begin(Call::Open { path: b"/" }, Ok(1)),
+    Row::Read(0, Reads::Head(4, Opcode::Open)),
+    Row::Write(
+        Written::Whole("20000000 00000000 0400000000000000 0100000000000000 00000000 00000000"),
+        WriteResult::Accepted,
+    ),
+    Row::Answered(1, Told::Done),
+    Row::Begin(
+        Call::Write {
+            handle: 1,
+            offset: 0,
+            bytes: b"hi",
+        },
+        Ok(2),
+    ),
+    Row::Read(0, Reads::Head(6, Opcode::Write)),
+];
+
+/// Up to the read of a RELEASE.
+static CLOSED: [Row; 7] = [
+    Row::Begin(Call::Open { path: b"/" }, Ok(1)),
+    Row::Read(0, Reads::Head(4, Opcode::Open)),
+    Row::Write(
+        Written::Whole("20000000 00000000 0400000000000000 0100000000000000 00000000 00000000"),
+        WriteResult::Accepted,
+    ),
+    Row::Answered(1, Told::Done),
+    Row::Begin(Call::Close { handle: 1 }, Ok(2)),
+    Row::Answered(2, Told::Done),
+    Row::Read(0, Reads::Head(6, Opcode::Release)),
+];
+
+/// Up to the read of a READDIR.
+static LISTED: [Row; 2] = [
+    Row::Begin(
+        Call::List {
+            path: b"/",
+            after: 0,
+        },
+        Ok(1),
+    ),
+    Row::Read(0, Reads::Head(4, Opcode::Readdir)),
+];
+
+/// Up to the read of a CREATE.
+static CREATED: [Row; 2] = [
+    Row::Begin(Call::Create { path: b"/a" }, Ok(1)),
+    Row::Read(0, Reads::Head(4, Opcode::Create)),
+];
+
+/// Up to the read of an INTERRUPT.
+static SIGNALLED: [Row; 4] = [
+    Row::Begin(Call::Mkdir { path: b"/a" }, Ok(1)),
+    Row::Read(0, Reads::Head(4, Opcode::Mkdir)),
+    Row::Signal(1, false, Ok(IntrEffect::Queued)),
+    Row::Interrupt(Reads::Frame(
+        "30000000 24000000 0500000000000000 0000000000000000 00000000 00000000 00000000 00000000 0400000000000000",
+    )),
+];
+
+/// A reply to each kind of request but INIT.
+static CASES: [Case; 14] = [
+    Case {
+        opcode: Opcode::Lookup,
+        reply: "90000000 00000000 0400000000000000 0200000000000000 0100000000000000 0100000000000000 0000000000000000 00000000 00000000 0200000000000000 0000000000000000 0000000000000000 0000000000000000 0000000000000000 0000000000000000 00000000 00000000 00000000 ed410000 01000000 00000000 00000000 00000000 00100000 00000000",
+        len: 144,
+        call: Some(1),
+        waiting: 1,
+        step: 0,
+    },
+    Case {
+        opcode: Opcode::Getattr,
+        reply: "78000000 00000000 0400000000000000 0000000000000000 00000000 00000000 0100000000000000 0000000000000000 0000000000000000 0000000000000000 0000000000000000 0000000000000000 00000000 00000000 00000000 ed410000 01000000 00000000 00000000 00000000 00100000 00000000",
+        len: 120,
+        call: Some(1),
+        waiting: 1,
+        step: 0,
+    },
+    Case {
+        opcode: Opcode::Mkdir,
+        reply: "90000000 00000000 0400000000000000 0200000000000000 0100000000000000 0100000000000000 0000000000000000 00000000 00000000 0200000000000000 0000000000000000 0000000000000000 0000000000000000 0000000000000000 0000000000000000 00000000 00000000 00000000 ed410000 01000000 00000000 00000000 00000000 00100000 00000000",
+        len: 144,
+        call: Some(1),
+        waiting: 1,
+        step: 0,
+    },
+    Case {
+        opcode: Opcode::Unlink,
+        reply: "10000000 00000000 0400000000000000",
+        len: 16,
+        call: Some(1),
+        waiting: 1,
+        step: 0,
+    },
+    Case {
+        opcode: Opcode::Rmdir,
+        reply: "10000000 00000000 0400000000000000",
+        len: 16,
+        call: Some(1),
+        waiting: 1,
+        step: 0,
+    },
+    Case {
+        opcode: Opcode::Rename,
+        reply: "10000000 00000000 0400000000000000",
+        len: 16,
+        call: Some(1),
+        waiting: 1,
+        step: 0,
+    },
+    Case {
+        opcode: Opcode::Link,
+        reply: "90000000 00000000 0600000000000000 0200000000000000 0100000000000000 0100000000000000 0000000000000000 00000000 00000000 0200000000000000 0000000000000000 0000000000000000 0000000000000000 0000000000000000 0000000000000000 00000000 00000000 00000000 a4810000 02000000 00000000 00000000 00000000 00100000 00000000",
+        len: 144,
+        call: Some(1),
+        waiting: 1,
+        step: 0,
+    },
+    Case {
+        opcode: Opcode::Open,
+        reply: "20000000 00000000 0400000000000000 0100000000000000 00000000 00000000",
+        len: 32,
+        call: Some(1),
+        waiting: 1,
+        step: 0,
+    },
+    Case {
+        opcode: Opcode::Read,
+        reply: "12000000 00000000 0600000000000000 6869",
+        len: 18,
+        call: Some(2),
+        waiting: 1,
+        step: 1,
+    },
+    Case {
+        opcode: Opcode::Write,
+        reply: "18000000 00000000 0600000000000000 02000000 00000000",
+        len: 24,
+        call: Some(2),
+        waiting: 1,
+        step: 0,
+    },
+    Case {
+        opcode: Opcode::Release,
+        reply: "10000000 00000000 0600000000000000",
+        len: 16,
+        call: None,
+        waiting: 0,
+        step: 0,
+    },
+    Case {
+        opcode: Opcode::Readdir,
+        reply: "50000000 00000000 0400000000000000 0200000000000000 0100000000000000 01000000 04000000 6100000000000000 0300000000000000 0200000000000000 02000000 08000000 6262000000000000",
+        len: 80,
+        call: Some(1),
+        waiting: 1,
+        step: 32,
+    },
+    Case {
+        opcode: Opcode::Create,
+        reply: "a0000000 00000000 0400000000000000 0200000000000000 0100000000000000 0100000000000000 0000000000000000 00000000 00000000 0200000000000000 0000000000000000 0000000000000000 0000000000000000 0000000000000000 0000000000000000 00000000 00000000 00000000 a4810000 01000000 00000000 00000000 00000000 00100000 00000000 0100000000000000 00000000 00000000",
+        len: 160,
+        call: Some(1),
+        waiting: 1,
+        step: 0,
+    },
+    Case {
+        opcode: Opcode::Interrupt,
+        reply: "10000000 00000000 0500000000000000",
+        len: 16,
+        call: None,
+        waiting: 1,
+        step: 0,
+    },
+];
+
+/// What leads to the read of a request, once INIT is answered.
+fn led_to(opcode: Opcode) -> &'static [Row] {
+    match opcode {
+        Opcode::Lookup => &STATED,
+        Opcode::Getattr => &LOOKED_AT,
+        Opcode::Mkdir => &MADE,
+        Opcode::Unlink => &UNLINKED,
+        Opcode::Rmdir => &REMOVED,
+        Opcode::Rename => &RENAMED,
+        Opcode::Link => &LINKED,
+        Opcode::Open => &OPENED,
+        Opcode::Read => &READ,
+        Opcode::Write => &WRITTEN,
+        Opcode::Release => &CLOSED,
+        Opcode::Readdir => &LISTED,
+        Opcode::Create => &CREATED,
+        Opcode::Interrupt => &SIGNALLED,
+        _ => &[],
+    }
+}
+
+/// Writes so many bytes of a reply and of a byte more, with the reply's `len` or their own: the writer gets Invalid, and the call EIO
+/// or, where it is to wait, nothing.
+fn check_cut(
+    rt: &impl Abort,
+    alloc: Global,
+    case: &Case,
+    len: usize,
+    is_own: bool,
+) -> Result<(), AllocError> {
+    let mut rows = led_to(case.opcode).to_vec(alloc)?;
+    rows.push(Row::Write(Written::Cut(case.reply, len, is_own), WriteResult::Invalid))?;
+    rows.push(match case.call {
+        Some(call) if is_own && len >= 16 => Row::Answered(call, Told::Errno(5)),
+        _ => Row::Unanswered(case.waiting),
+    })?;
+    run_on_new(rt, alloc, &START, &rows, case.opcode.name());
+    Ok(())
+}
+
+/// Whether so many bytes are a whole body too.
+fn is_whole(case: &Case, len: usize) -> bool {
+    case.step > 0 && len >= 16 && len < case.len && (len - 16) % case.step == 0
+}
+
+/// Each beginning of the reply is judged so, and the reply with a byte more.
+fn check_case(rt: &impl Abort, alloc: Global, case: &Case) -> Result<(), AllocError> {
+    for len in 0..=case.len {
+        let is_longer = len == case.len;
+        let bytes = if is_longer {
+            case.len.saturating_add(1)
+        } else {
+            len
+        };
+        check_cut(rt, alloc, case, bytes, false)?;
+        if !is_whole(case, bytes) {
+            check_cut(rt, alloc, case, bytes, true)?;
+        }
+    }
+    Ok(())
+}
+
+#[test]
+fn of_replies(rt: HostRuntime) -> Result<(), Fail> {
+    for case in &CASES {
+        check_case(&rt, rt.alloc(), case)?;
+    }
+    Ok(())
+}

@@ -1,0 +1,472 @@
+//! Bytes that no server of this project sends.
+
+use super::{Reads, Row, START, Told, Written, run_on_new};
+use fk_kernel::Call;
+use fk_wire::Opcode;
+use fuse_spec::{Kind, Refusal, WriteResult};
+use std::test::Fail;
+
+/// Bytes that end nothing: the call waits.
+static WAITING: [Row; 17] = [
+    Row::Begin(Call::Stat { path: b"/a" }, Ok(1)),
+    Row::Read(0, Reads::Head(4, Opcode::Lookup)),
+    Row::Write(
+        Written::Whole("000000000000000000000000000000"),
+        WriteResult::Invalid,
+    ),
+    Row::Write(Written::Whole(""), WriteResult::Invalid),
+    Row::Write(
+        Written::Whole("11000000 00000000 0400000000000000"),
+        WriteResult::Invalid,
+    ),
+    Row::Write(
+        Written::Whole("10000000 00000000 0000000000000000"),
+        WriteResult::NoEntry,
+    ),
+    Row::Write(
+        Written::Whole("10000000 00feffff 0400000000000000"),
+        WriteResult::Invalid,
+    ),
+    Row::Write(
+        Written::Whole("10000000 01000000 0400000000000000"),
+        WriteResult::Invalid,
+    ),
+    // to a request that is not there, and to an INTERRUPT
+    Row::Write(
+        Written::Whole("10000000 00000000 0600000000000000"),
+        WriteResult::NoEntry,
+    ),
+    Row::Write(
+        Written::Whole("10000000 00000000 0700000000000000"),
+        WriteResult::NoEntry,
+    ),
+    Row::Write(
+        Written::Whole(
+            "50000000 00000000 0200000000000000 07000000 1f000000 00000000 01000000 0000 0000 00100000 01000000 0000 0000 00000000 00000000 00000000 00000000 00000000 00000000 00000000 00000000",
+        ),
+        WriteResult::NoEntry,
+    ),
+    Row::Unanswered(1),
+    Row::Forget(1, Reads::Refused(Refusal::NoSuch)),
+    // the largest error number is a reply like any other
+    Row::Write(
+        Written::Whole("10000000 01feffff 0400000000000000"),
+        WriteResult::Accepted,
+    ),
+    Row::Answered(1, Told::Errno(511)),
+    // the request ended with it
+    Row::Write(
+        Written::Whole("10000000 01feffff 0400000000000000"),
+        WriteResult::NoEntry,
+    ),
+    Row::Unanswered(0),
+];
+
+/// An entry with a byte less.
+static SHORT_ENTRY: [Row; 5] = [
+    Row::Begin(Call::Stat { path: b"/a" }, Ok(1)),
+    Row::Read(0, Reads::Head(4, Opcode::Lookup)),
+    Row::Write(
+        Written::Whole(
+            "8f000000 00000000 0400000000000000 00000000000000000000000000000000000000000000000000000000000000000000000000000000000000000000000000000000000000000000000000000000000000000000000000000000000000000000000000000000000000000000000000000000000000000000000000000000000000000000000000000000000000",
+        ),
+        WriteResult::Invalid,
+    ),
+    Row::Answered(1, Told::Errno(5)),
+    Row::Nodes(&[]),
+];
+
+/// An error with a body.
+static ERROR_WITH_BODY: [Row; 4] = [
+    Row::Begin(Call::Stat { path: b"/a" }, Ok(1)),
+    Row::Read(0, Reads::Head(4, Opcode::Lookup)),
+    Row::Write(
+        Written::Whole("18000000 feffffff 0400000000000000 0000000000000000"),
+        WriteResult::Invalid,
+    ),
+    Row::Answered(1, Told::Errno(5)),
+];
+
+/// An entry that is valid for a second of nanoseconds.
+static NANOSECONDS: [Row; 6] = [
+    Row::Begin(Call::Stat { path: b"/a" }, Ok(1)),
+    Row::Read(0, Reads::Head(4, Opcode::Lookup)),
+    Row::Write(
+        Written::Whole(
+            "90000000 00000000 0400000000000000 0200000000000000 0100000000000000 0000000000000000 0000000000000000 00ca9a3b 00000000 0200000000000000 0000000000000000 0000000000000000 0000000000000000 0000000000000000 0000000000000000 00000000 00000000 00000000 ed410000 01000000 00000000 00000000 00000000 00100000 00000000",
+        ),
+        WriteResult::Invalid,
+    ),
+    Row::Answered(1, Told::Errno(5)),
+    Row::Nodes(&[]),
+    Row::Forget(1, Reads::Refused(Refusal::NoSuch)),
+];
+
+/// An entry that names the root: nothing is counted.
+static NAMES_THE_ROOT: [Row; 6] = [
+    Row::Begin(Call::Stat { path: b"/a" }, Ok(1)),
+    Row::Read(0, Reads::Head(4, Opcode::Lookup)),
+    Row::Write(
+        Written::Whole(
+            "90000000 00000000 0400000000000000 0100000000000000 0100000000000000 0100000000000000 0000000000000000 00000000 00000000 0100000000000000 0000000000000000 0000000000000000 0000000000000000 0000000000000000 0000000000000000 00000000 00000000 00000000 ed410000 01000000 00000000 00000000 00000000 00100000 00000000",
+        ),
+        WriteResult::Accepted,
+    ),
+    Row::Answered(1, Told::Errno(5)),
+    Row::Nodes(&[]),
+    Row::Forget(1, Reads::Refused(Refusal::NoSuch)),
+];
+
+/// An entry for a counted node under another generation: a forget of one lookup comes of it.
+static ANOTHER_GENERATION: [Row; 12] = [
+    Row::Begin(Call::Mkdir { path: b"/a" }, Ok(1)),
+    Row::Read(0, Reads::Head(4, Opcode::Mkdir)),
+    Row::Write(
+        Written::Whole(
+            "90000000 00000000 0400000000000000 0200000000000000 0100000000000000 0100000000000000 0000000000000000 00000000 00000000 0200000000000000 0000000000000000 0000000000000000 0000000000000000 0000000000000000 0000000000000000 00000000 00000000 00000000 ed410000 01000000 00000000 00000000 00000000 00100000 00000000",
+        ),
+        WriteResult::Accepted,
+    ),
+    Row::Answered(1, Told::Done),
+    Row::Tick(1000, Ok(1000)),
+    Row::Begin(Call::Stat { path: b"/a" }, Ok(2)),
+    Row::Read(0, Reads::Head(6, Opcode::Lookup)),
+    Row::Write(
+        Written::Whole(
+            "90000000 00000000 0600000000000000 0200000000000000 0900000000000000 0100000000000000 0000000000000000 00000000 00000000 0200000000000000 0000000000000000 0000000000000000 0000000000000000 0000000000000000 0000000000000000 00000000 00000000 00000000 ed410000 01000000 00000000 00000000 00000000 00100000 00000000",
+        ),
+        WriteResult::Accepted,
+    ),
+    Row::Answered(2, Told::Errno(5)),
+    Row::Nodes(&[(2, 1, 1)]),
+    Row::Forget(2, Reads::Refused(Refusal::NoSuch)),
+    Row::Forget(
+        1,
+        Reads::Frame(
+            "30000000 02000000 0800000000000000 0200000000000000 00000000 00000000 00000000 00000000 0100000000000000",
+        ),
+    ),
+];
+
+/// An entry without a node, to a MKDIR.
+static NO_NODE: [Row; 6] = [
+    Row::Begin(Call::Mkdir { path: b"/a" }, Ok(1)),
+    Row::Read(0, Reads::Head(4, Opcode::Mkdir)),
+    Row::Write(
+        Written::Whole(
+            "90000000 00000000 0400000000000000 0000000000000000 0100000000000000 0100000000000000 0000000000000000 00000000 00000000 0200000000000000 0000000000000000 0000000000000000 0000000000000000 0000000000000000 0000000000000000 00000000 00000000 00000000 ed410000 01000000 00000000 00000000 00000000 00100000 00000000",
+        ),
+        WriteResult::Accepted,
+    ),
+    Row::Answered(1, Told::Errno(5)),
+    Row::Forget(1, Reads::Refused(Refusal::NoSuch)),
+    Row::Nodes(&[]),
+];
+
+/// A list with `.` and with a file of another kind.
+static UNUSUAL_NAMES: [Row; 4] = [
+    Row::Begin(
+        Call::List {
+            path: b"/",
+            after: 0,
+        },
+        Ok(1),
+    ),
+    Row::Read(0, Reads::Head(4, Opcode::Readdir)),
+    Row::Write(
+        Written::Whole(
+            "50000000 00000000 0400000000000000 0100000000000000 0100000000000000 01000000 04000000 2e00000000000000 0200000000000000 0200000000000000 01000000 0a000000 6c00000000000000",
+        ),
+        WriteResult::Accepted,
+    ),
+    Row::Answered(
+        1,
+        Told::Names(&[(1, 1, Kind::Directory, "."), (2, 2, Kind::Other, "l")]),
+    ),
+];
+
+/// A list with a name that has a slash.
+static SLASH_IN_NAME: [Row; 4] = [
+    Row::Begin(
+        Call::List {
+            path: b"/",
+            after: 0,
+        },
+        Ok(1),
+    ),
+    Row::Read(0, Reads::Head(4, Opcode::Readdir)),
+    Row::Write(
+        Written::Whole(
+            "30000000 00000000 0400000000000000 0100000000000000 0100000000000000 02000000 04000000 612f000000000000",
+        ),
+        WriteResult::Invalid,
+    ),
+    Row::Answered(1, Told::Errno(5)),
+];
+
+/// A list of 4,128 bytes, where 4,096 were asked.
+static LONG_LIST: [Row; 4] = [
+    Row::Begin(
+        Call::List {
+            path: b"/",
+            after: 0,
+        },
+        Ok(1),
+    ),
+    Row::Read(0, Reads::Head(4, Opcode::Readdir)),
+    Row::Write(
+        Written::Repeated(
+            "30100000 00000000 0400000000000000",
+            "0200000000000000 0100000000000000 01000000 04000000 6100000000000000",
+            129,
+        ),
+        WriteResult::Invalid,
+    ),
+    Row::Answered(1, Told::Errno(5)),
+];
+
+/// A list of 4,096 bytes.
+static WHOLE_LIST: [Row; 4] = [
+    Row::Begin(
+        Call::List {
+            path: b"/",
+            after: 0,
+        },
+        Ok(1),
+    ),
+    Row::Read(0, Reads::Head(4, Opcode::Readdir)),
+    Row::Write(
+        Written::Repeated(
+            "10100000 00000000 0400000000000000",
+            "0200000000000000 0100000000000000 01000000 04000000 6100000000000000",
+            128,
+        ),
+        WriteResult::Accepted,
+    ),
+    Row::Answered(1, Told::NamesLength(128)),
+];
+
+/// Reads of 10 bytes: a reply of 11, and one of 10.
+static LONG_READ: [Row; 12] = [
+    Row::Begin(Call::Create { path: b"/a" }, Ok(1)),
+    Row::Read(0, Reads::Head(4, Opcode::Create)),
+    Row::Write(
+        Written::Whole(
+            "a0000000 00000000 0400000000000000 0200000000000000 0100000000000000 0100000000000000 0000000000000000 00000000 00000000 0200000000000000 0000000000000000 0000000000000000 0000000000000000 0000000000000000 0000000000000000 00000000 00000000 00000000 a4810000 01000000 00000000 00000000 00000000 00100000 00000000 0100000000000000 00000000 00000000",
+        ),
+        WriteResult::Accepted,
+    ),
+    Row::Answered(1, Told::Done),
+    Row::Begin(
+        Call::Read {
+            handle: 1,
+            offset: 0,
+            size: 10,
+        },
+        Ok(2),
+    ),
+    Row::Read(0, Reads::Head(6, Opcode::Read)),
+    Row::Write(
+        Written::Whole("1b000000 00000000 0600000000000000 0000000000000000000000"),
+        WriteResult::Invalid,
+    ),
+    Row::Answered(2, Told::Errno(5)),
+    Row::Begin(
+        Call::Read {
+            handle: 1,
+            offset: 0,
+            size: 10,
+        },
+        Ok(3),
+    ),
+    Row::Read(0, Reads::Head(8, Opcode::Read)),
+    Row::Write(
+        Written::Whole("1a000000 00000000 0800000000000000 61616161616161616161"),
+        WriteResult::Accepted,
+    ),
+    Row::Answered(3, Told::Bytes("aaaaaaaaaa")),
+];
+
+/// Writes of two bytes: a reply of three, and one of one.
+static LONG_WRITE: [Row; 12] = [
+    Row::Begin(Call::Create { path: b"/a" }, Ok(1)),
+    Row::Read(0, Reads::Head(4, Opcode::Create)),
+    Row::Write(
+        Written::Whole(
+            "a0000000 00000000 0400000000000000 0200000000000000 0100000000000000 0100000000000000 0000000000000000 00000000 00000000 0200000000000000 0000000000000000 0000000000000000 0000000000000000 0000000000000000 0000000000000000 00000000 00000000 00000000 a4810000 01000000 00000000 00000000 00000000 00100000 00000000 0100000000000000 00000000 00000000",
+        ),
+        WriteResult::Accepted,
+    ),
+    Row::Answered(1, Told::Done),
+    Row::Begin(
+        Call::Write {
+            handle: 1,
+            offset: 0,
+            bytes: b"hi",
+        },
+        Ok(2),
+    ),
+    Row::Read(0, Reads::Head(6, Opcode::Write)),
+    Row::Write(
+        Written::Whole("18000000 00000000 0600000000000000 03000000 00000000"),
+        WriteResult::Invalid,
+    ),
+    Row::Answered(2, Told::Errno(5)),
+    Row::Begin(
+        Call::Write {
+            handle: 1,
+            offset: 0,
+            bytes: b"hi",
+        },
+        Ok(3),
+    ),
+    Row::Read(0, Reads::Head(8, Opcode::Write)),
+    Row::Write(
+        Written::Whole("18000000 00000000 0800000000000000 01000000 00000000"),
+        WriteResult::Accepted,
+    ),
+    Row::Answered(3, Told::Written(1)),
+];
+
+/// A CREATE whose entry is of a counted node under another generation.
+static CREATED_UNLIKE: [Row; 13] = [
+    Row::Begin(Call::Create { path: b"/a" }, Ok(1)),
+    Row::Read(0, Reads::Head(4, Opcode::Create)),
+    Row::Write(
+        Written::Whole(
+            "a0000000 00000000 0400000000000000 0200000000000000 0100000000000000 0100000000000000 0000000000000000 00000000 00000000 0200000000000000 0000000000000000 0000000000000000 0000000000000000 0000000000000000 0000000000000000 00000000 00000000 00000000 a4810000 01000000 00000000 00000000 00000000 00100000 00000000 0100000000000000 00000000 00000000",
+        ),
+        WriteResult::Accepted,
+    ),
+    Row::Answered(1, Told::Done),
+    Row::Begin(Call::Create { path: b"/b" }, Ok(2)),
+    Row::Read(0, Reads::Head(6, Opcode::Create)),
+    Row::Write(
+        Written::Whole(
+            "a0000000 00000000 0600000000000000 0200000000000000 0900000000000000 0100000000000000 0000000000000000 00000000 00000000 0300000000000000 0000000000000000 0000000000000000 0000000000000000 0000000000000000 0000000000000000 00000000 00000000 00000000 a4810000 01000000 00000000 00000000 00000000 00100000 00000000 0500000000000000 00000000 00000000",
+        ),
+        WriteResult::Accepted,
+    ),
+    Row::Answered(2, Told::Errno(5)),
+    // the open number is given up: nothing is released, and the call has no open file
+    Row::Read(0, Reads::Refused(Refusal::NoSuch)),
+    Row::Forget(2, Reads::Refused(Refusal::NoSuch)),
+    Row::Forget(
+        1,
+        Reads::Frame(
+            "30000000 02000000 0800000000000000 0200000000000000 00000000 00000000 00000000 00000000 0100000000000000",
+        ),
+    ),
+    Row::Begin(Call::Close { handle: 2 }, Ok(3)),
+    Row::Answered(3, Told::Errno(9)),
+];
+
+/// A CREATE whose entry names the root.
+static CREATED_ROOT: [Row; 12] = [
+    Row::Begin(Call::Create { path: b"/a" }, Ok(1)),
+    Row::Read(0, Reads::Head(4, Opcode::Create)),
+    Row::Write(
+        Written::Whole(
+            "a0000000 00000000 0400000000000000 0200000000000000 0100000000000000 0100000000000000 0000000000000000 00000000 00000000 0200000000000000 0000000000000000 0000000000000000 0000000000000000 0000000000000000 0000000000000000 00000000 00000000 00000000 a4810000 01000000 00000000 00000000 00000000 00100000 00000000 0100000000000000 00000000 00000000",
+        ),
+        WriteResult::Accepted,
+    ),
+    Row::Answered(1, Told::Done),
+    Row::Begin(Call::Create { path: b"/b" }, Ok(2)),
+    Row::Read(0, Reads::Head(6, Opcode::Create)),
+    Row::Write(
+        Written::Whole(
+            "a0000000 00000000 0600000000000000 0100000000000000 0100000000000000 0100000000000000 0000000000000000 00000000 00000000 0100000000000000 0000000000000000 0000000000000000 0000000000000000 0000000000000000 0000000000000000 00000000 00000000 00000000 a4810000 01000000 00000000 00000000 00000000 00100000 00000000 0500000000000000 00000000 00000000",
+        ),
+        WriteResult::Accepted,
+    ),
+    Row::Answered(2, Told::Errno(5)),
+    // the open number is given up: nothing is released, and the call has no open file
+    Row::Read(0, Reads::Refused(Refusal::NoSuch)),
+    Row::Forget(1, Reads::Refused(Refusal::NoSuch)),
+    Row::Begin(Call::Close { handle: 2 }, Ok(3)),
+    Row::Answered(3, Told::Errno(9)),
+];
+
+/// A CREATE whose entry names no node.
+static CREATED_NOTHING: [Row; 12] = [
+    Row::Begin(Call::Create { path: b"/a" }, Ok(1)),
+    Row::Read(0, Reads::Head(4, Opcode::Create)),
+    Row::Write(
+        Written::Whole(
+            "a0000000 00000000 0400000000000000 0200000000000000 0100000000000000 0100000000000000 0000000000000000 00000000 00000000 0200000000000000 0000000000000000 0000000000000000 0000000000000000 0000000000000000 0000000000000000 00000000 00000000 00000000 a4810000 01000000 00000000 00000000 00000000 00100000 00000000 0100000000000000 00000000 00000000",
+        ),
+        WriteResult::Accepted,
+    ),
+    Row::Answered(1, Told::Done),
+    Row::Begin(Call::Create { path: b"/b" }, Ok(2)),
+    Row::Read(0, Reads::Head(6, Opcode::Create)),
+    Row::Write(
+        Written::Whole(
+            "a0000000 00000000 0600000000000000 0000000000000000 0100000000000000 0100000000000000 0000000000000000 00000000 00000000 0100000000000000 0000000000000000 0000000000000000 0000000000000000 0000000000000000 0000000000000000 00000000 00000000 00000000 a4810000 01000000 00000000 00000000 00000000 00100000 00000000 0500000000000000 00000000 00000000",
+        ),
+        WriteResult::Accepted,
+    ),
+    Row::Answered(2, Told::Errno(5)),
+    // the open number is given up: nothing is released, and the call has no open file
+    Row::Read(0, Reads::Refused(Refusal::NoSuch)),
+    Row::Forget(1, Reads::Refused(Refusal::NoSuch)),
+    Row::Begin(Call::Close { handle: 2 }, Ok(3)),
+    Row::Answered(3, Told::Errno(9)),
+];
+
+/// Any reply ends a RELEASE.
+static RELEASED: [Row; 13] = [
+    Row::Begin(Call::Create { path: b"/a" }, Ok(1)),
+    Row::Read(0, Reads::Head(4, Opcode::Create)),
+    Row::Write(
+        Written::Whole(
+            "a0000000 00000000 0400000000000000 0200000000000000 0100000000000000 0100000000000000 0000000000000000 00000000 00000000 0200000000000000 0000000000000000 0000000000000000 0000000000000000 0000000000000000 0000000000000000 00000000 00000000 00000000 a4810000 01000000 00000000 00000000 00000000 00100000 00000000 0100000000000000 00000000 00000000",
+        ),
+        WriteResult::Accepted,
+    ),
+    Row::Answered(1, Told::Done),
+    Row::Begin(Call::Close { handle: 1 }, Ok(2)),
+    Row::Answered(2, Told::Done),
+    Row::Read(0, Reads::Head(6, Opcode::Release)),
+    Row::Evict(2, Err(Refusal::Busy)),
+    Row::Write(
+        Written::Whole("18000000 00000000 0600000000000000 0100000000000000"),
+        WriteResult::Invalid,
+    ),
+    Row::Write(
+        Written::Whole("10000000 fbffffff 0600000000000000"),
+        WriteResult::NoEntry,
+    ),
+    Row::DropName(1, "a", Ok(())),
+    Row::Evict(2, Ok(1)),
+    Row::Unanswered(0),
+];
+
+#[test]
+fn any_bytes(rt: HostRuntime) -> Result<(), Fail> {
+    run_on_new(&rt, rt.alloc(), &START, &WAITING, "waiting");
+    run_on_new(&rt, rt.alloc(), &START, &SHORT_ENTRY, "short entry");
+    run_on_new(&rt, rt.alloc(), &START, &ERROR_WITH_BODY, "error with body");
+    run_on_new(&rt, rt.alloc(), &START, &NANOSECONDS, "nanoseconds");
+    run_on_new(&rt, rt.alloc(), &START, &NAMES_THE_ROOT, "names the root");
+    run_on_new(
+        &rt,
+        rt.alloc(),
+        &START,
+        &ANOTHER_GENERATION,
+        "another generation",
+    );
+    run_on_new(&rt, rt.alloc(), &START, &NO_NODE, "no node");
+    run_on_new(&rt, rt.alloc(), &START, &UNUSUAL_NAMES, "unusual names");
+    run_on_new(&rt, rt.alloc(), &START, &SLASH_IN_NAME, "slash in name");
+    run_on_new(&rt, rt.alloc(), &START, &LONG_LIST, "long list");
+    run_on_new(&rt, rt.alloc(), &START, &WHOLE_LIST, "whole list");
+    run_on_new(&rt, rt.alloc(), &START, &LONG_READ, "long read");
+    run_on_new(&rt, rt.alloc(), &START, &LONG_WRITE, "long write");
+    run_on_new(&rt, rt.alloc(), &START, &CREATED_UNLIKE, "created unlike");
+    run_on_new(&rt, rt.alloc(), &START, &CREATED_ROOT, "created root");
+    run_on_new(&rt, rt.alloc(), &START, &CREATED_NOTHING, "created nothing");
+    run_on_new(&rt, rt.alloc(), &START, &RELEASED, "released");
+    Ok(())
+}

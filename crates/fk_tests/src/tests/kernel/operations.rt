@@ -1,0 +1,413 @@
+//! Each operation: the frame of its request, byte for byte (linux/fuse.h), and what its reply comes to, also with each growth refused in turn.
+
+use super::{Reads, Row, START, Told, Written};
+use crate::tests::tried::run;
+use fail_at::FailAt;
+use fk_kernel::{Call, Kernel};
+use fk_wire::Opcode;
+use fuse_spec::{Attributes, IntrEffect, Kind, Refusal, WriteResult};
+use std::alloc::{Allocator, Global};
+use std::process::Abort;
+use std::test::Fail;
+
+/// Each operation once and a walk over names, with a signal, closed files and forgets.
+static OPERATIONS: [Row; 108] = [
+    // names are found for a second, and missing for a quarter
+    Row::Begin(Call::Stat { path: b"/m" }, Ok(1)),
+    Row::Read(
+        0,
+        Reads::Frame(
+            "2a000000 01000000 0400000000000000 0100000000000000 00000000 00000000 00000000 00000000 6d00",
+        ),
+    ),
+    Row::Write(
+        Written::Whole(
+            "90000000 00000000 0400000000000000 0000000000000000 0000000000000000 0000000000000000 0000000000000000 80b2e60e 00000000 0000000000000000 0000000000000000 0000000000000000 0000000000000000 0000000000000000 0000000000000000 00000000 00000000 00000000 00000000 00000000 00000000 00000000 00000000 00000000 00000000",
+        ),
+        WriteResult::Accepted,
+    ),
+    Row::Answered(1, Told::Errno(2)),
+    Row::Begin(Call::Stat { path: b"/m" }, Ok(2)),
+    Row::Answered(2, Told::Errno(2)),
+    Row::Tick(250, Ok(250)),
+    Row::Begin(Call::Stat { path: b"/m" }, Ok(3)),
+    Row::Read(0, Reads::Head(6, Opcode::Lookup)),
+    Row::Write(
+        Written::Whole("10000000 feffffff 0600000000000000"),
+        WriteResult::Accepted,
+    ),
+    Row::Answered(3, Told::Errno(2)),
+    Row::Begin(Call::Stat { path: b"/" }, Ok(4)),
+    Row::Read(
+        0,
+        Reads::Frame(
+            "38000000 03000000 0800000000000000 0100000000000000 00000000 00000000 00000000 00000000 00000000 00000000 0000000000000000",
+        ),
+    ),
+    Row::Write(
+        Written::Whole(
+            "78000000 00000000 0800000000000000 0000000000000000 00000000 00000000 0100000000000000 0000000000000000 0000000000000000 0000000000000000 0000000000000000 0000000000000000 00000000 00000000 00000000 ed410000 01000000 00000000 00000000 00000000 00100000 00000000",
+        ),
+        WriteResult::Accepted,
+    ),
+    Row::Answered(
+        4,
+        Told::Attributes(Attributes {
+            kind: Kind::Directory,
+            ino: 1,
+            size: 0,
+            nlink: 1,
+        }),
+    ),
+    Row::Begin(Call::Mkdir { path: b"/d" }, Ok(5)),
+    Row::Read(
+        0,
+        Reads::Frame(
+            "32000000 09000000 0a00000000000000 0100000000000000 00000000 00000000 00000000 00000000 ed010000 00000000 6400",
+        ),
+    ),
+    Row::Write(
+        Written::Whole(
+            "90000000 00000000 0a00000000000000 0200000000000000 0700000000000000 0100000000000000 0000000000000000 00000000 00000000 0200000000000000 0000000000000000 0000000000000000 0000000000000000 0000000000000000 0000000000000000 00000000 00000000 00000000 ed410000 01000000 00000000 00000000 00000000 00100000 00000000",
+        ),
+        WriteResult::Accepted,
+    ),
+    Row::Answered(5, Told::Done),
+    Row::Begin(Call::Create { path: b"/d/f" }, Ok(6)),
+    Row::Read(
+        0,
+        Reads::Frame(
+            "3a000000 23000000 0c00000000000000 0200000000000000 00000000 00000000 00000000 00000000 00000000 a4810000 00000000 00000000 6600",
+        ),
+    ),
+    Row::Write(
+        Written::Whole(
+            "a0000000 00000000 0c00000000000000 0300000000000000 0800000000000000 0100000000000000 0000000000000000 00000000 00000000 0300000000000000 0000000000000000 0000000000000000 0000000000000000 0000000000000000 0000000000000000 00000000 00000000 00000000 a4810000 01000000 00000000 00000000 00000000 00100000 00000000 0500000000000000 00000000 00000000",
+        ),
+        WriteResult::Accepted,
+    ),
+    Row::Answered(6, Told::Done),
+    Row::Nodes(&[(2, 7, 1), (3, 8, 1)]),
+    Row::Begin(
+        Call::Write {
+            handle: 6,
+            offset: 7,
+            bytes: b"hi",
+        },
+        Ok(7),
+    ),
+    Row::Read(
+        0,
+        Reads::Frame(
+            "52000000 10000000 0e00000000000000 0300000000000000 00000000 00000000 00000000 00000000 0500000000000000 0700000000000000 02000000 00000000 0000000000000000 00000000 00000000 6869",
+        ),
+    ),
+    Row::Write(
+        Written::Whole("18000000 00000000 0e00000000000000 02000000 00000000"),
+        WriteResult::Accepted,
+    ),
+    Row::Answered(7, Told::Written(2)),
+    Row::Begin(
+        Call::Read {
+            handle: 6,
+            offset: 7,
+            size: 10,
+        },
+        Ok(8),
+    ),
+    Row::Read(
+        0,
+        Reads::Frame(
+            "50000000 0f000000 1000000000000000 0300000000000000 00000000 00000000 00000000 00000000 0500000000000000 0700000000000000 0a000000 00000000 0000000000000000 00000000 00000000",
+        ),
+    ),
+    Row::Write(
+        Written::Whole("12000000 00000000 1000000000000000 6869"),
+        WriteResult::Accepted,
+    ),
+    Row::Answered(8, Told::Bytes("hi")),
+    Row::Begin(
+        Call::Link {
+            old: b"/d/f",
+            new: b"/g",
+        },
+        Ok(9),
+    ),
+    Row::Read(
+        0,
+        Reads::Frame(
+            "32000000 0d000000 1200000000000000 0100000000000000 00000000 00000000 00000000 00000000 0300000000000000 6700",
+        ),
+    ),
+    Row::Write(
+        Written::Whole(
+            "90000000 00000000 1200000000000000 0300000000000000 0800000000000000 0100000000000000 0000000000000000 00000000 00000000 0300000000000000 0900000000000000 0000000000000000 0000000000000000 0000000000000000 0000000000000000 00000000 00000000 00000000 a4810000 02000000 00000000 00000000 00000000 00100000 00000000",
+        ),
+        WriteResult::Accepted,
+    ),
+    Row::Answered(9, Told::Done),
+    Row::Begin(Call::Open { path: b"/g" }, Ok(10)),
+    Row::Read(
+        0,
+        Reads::Frame(
+            "30000000 0e000000 1400000000000000 0300000000000000 00000000 00000000 00000000 00000000 00000000 00000000",
+        ),
+    ),
+    Row::Write(
+        Written::Whole("20000000 00000000 1400000000000000 0600000000000000 00000000 00000000"),
+        WriteResult::Accepted,
+    ),
+    Row::Answered(10, Told::Done),
+    Row::Begin(
+        Call::List {
+            path: b"/",
+            after: 3,
+        },
+        Ok(11),
+    ),
+    Row::Read(
+        0,
+        Reads::Frame(
+            "50000000 1c000000 1600000000000000 0100000000000000 00000000 00000000 00000000 00000000 0000000000000000 0300000000000000 00100000 00000000 0000000000000000 00000000 00000000",
+        ),
+    ),
+    Row::Write(
+        Written::Whole(
+            "70000000 00000000 1600000000000000 0200000000000000 0400000000000000 01000000 04000000 6400000000000000 0100000000000000 0500000000000000 02000000 04000000 2e2e000000000000 0900000000000000 0600000000000000 04000000 0a000000 6c696e6b00000000",
+        ),
+        WriteResult::Accepted,
+    ),
+    Row::Answered(
+        11,
+        Told::Names(&[
+            (2, 4, Kind::Directory, "d"),
+            (1, 5, Kind::Directory, ".."),
+            (9, 6, Kind::Other, "link"),
+        ]),
+    ),
+    Row::Begin(
+        Call::Rename {
+            old: b"/d/f",
+            new: b"/h",
+        },
+        Ok(12),
+    ),
+    Row::Read(
+        0,
+        Reads::Frame(
+            "34000000 0c000000 1800000000000000 0200000000000000 00000000 00000000 00000000 00000000 0100000000000000 6600 6800",
+        ),
+    ),
+    Row::Write(
+        Written::Whole("10000000 00000000 1800000000000000"),
+        WriteResult::Accepted,
+    ),
+    Row::Answered(12, Told::Done),
+    Row::Begin(Call::Unlink { path: b"/g" }, Ok(13)),
+    Row::Read(
+        0,
+        Reads::Frame(
+            "2a000000 0a000000 1a00000000000000 0100000000000000 00000000 00000000 00000000 00000000 6700",
+        ),
+    ),
+    Row::Write(
+        Written::Whole("10000000 00000000 1a00000000000000"),
+        WriteResult::Accepted,
+    ),
+    Row::Answered(13, Told::Done),
+    Row::Begin(Call::Rmdir { path: b"/d" }, Ok(14)),
+    Row::Read(
+        0,
+        Reads::Frame(
+            "2a000000 0b000000 1c00000000000000 0100000000000000 00000000 00000000 00000000 00000000 6400",
+        ),
+    ),
+    Row::Write(
+        Written::Whole("10000000 d9ffffff 1c00000000000000"),
+        WriteResult::Accepted,
+    ),
+    Row::Answered(14, Told::Errno(39)),
+    // a call is signalled, and its INTERRUPT read
+    Row::Begin(Call::Mkdir { path: b"/e" }, Ok(15)),
+    Row::Signal(15, false, Ok(IntrEffect::Flagged)),
+    Row::Read(0, Reads::Head(30, Opcode::Mkdir)),
+    Row::Read(0, Reads::Refused(Refusal::InterruptFirst)),
+    Row::Interrupt(Reads::Frame(
+        "30000000 24000000 1f00000000000000 0000000000000000 00000000 00000000 00000000 00000000 1e00000000000000",
+    )),
+    Row::Write(
+        Written::Whole("10000000 fcffffff 1e00000000000000"),
+        WriteResult::Accepted,
+    ),
+    Row::Answered(15, Told::Errno(4)),
+    Row::Begin(Call::Close { handle: 6 }, Ok(16)),
+    Row::Answered(16, Told::Done),
+    Row::Read(
+        0,
+        Reads::Frame(
+            "40000000 12000000 2000000000000000 0300000000000000 00000000 00000000 00000000 00000000 0500000000000000 00000000 00000000 0000000000000000",
+        ),
+    ),
+    Row::Write(
+        Written::Whole("10000000 00000000 2000000000000000"),
+        WriteResult::Accepted,
+    ),
+    Row::Begin(Call::Close { handle: 10 }, Ok(17)),
+    Row::Answered(17, Told::Done),
+    Row::Read(0, Reads::Head(34, Opcode::Release)),
+    Row::Evict(3, Err(Refusal::Busy)),
+    Row::Write(
+        Written::Whole("10000000 00000000 2200000000000000"),
+        WriteResult::Accepted,
+    ),
+    Row::Nodes(&[(2, 7, 1), (3, 8, 2)]),
+    Row::Evict(3, Ok(2)),
+    Row::Evict(2, Err(Refusal::Busy)),
+    Row::DropName(1, "d", Ok(())),
+    Row::DropName(1, "d", Err(Refusal::NoSuch)),
+    Row::Evict(2, Ok(1)),
+    Row::Evict(2, Err(Refusal::NoSuch)),
+    Row::Forget(3, Reads::Refused(Refusal::NoSuch)),
+    Row::Forget(
+        2,
+        Reads::Frame(
+            "50000000 2a000000 2400000000000000 0000000000000000 00000000 00000000 00000000 00000000 02000000 00000000 0300000000000000 0200000000000000 0200000000000000 0100000000000000",
+        ),
+    ),
+    Row::Forget(1, Reads::Refused(Refusal::NoSuch)),
+    Row::Nodes(&[]),
+    // walks lead over names in force, and a second path begins where the first one ended
+    Row::Begin(Call::Mkdir { path: b"/p" }, Ok(18)),
+    Row::Read(0, Reads::Head(38, Opcode::Mkdir)),
+    Row::Write(
+        Written::Whole(
+            "90000000 00000000 2600000000000000 0400000000000000 0900000000000000 0100000000000000 0000000000000000 00000000 00000000 0400000000000000 0000000000000000 0000000000000000 0000000000000000 0000000000000000 0000000000000000 00000000 00000000 00000000 ed410000 01000000 00000000 00000000 00000000 00100000 00000000",
+        ),
+        WriteResult::Accepted,
+    ),
+    Row::Answered(18, Told::Done),
+    Row::Begin(Call::Stat { path: b"/p/q/r" }, Ok(19)),
+    Row::Read(
+        0,
+        Reads::Frame(
+            "2a000000 01000000 2800000000000000 0400000000000000 00000000 00000000 00000000 00000000 7100",
+        ),
+    ),
+    Row::Write(
+        Written::Whole(
+            "90000000 00000000 2800000000000000 0500000000000000 0900000000000000 0100000000000000 0000000000000000 00000000 00000000 0500000000000000 0000000000000000 0000000000000000 0000000000000000 0000000000000000 0000000000000000 00000000 00000000 00000000 ed410000 01000000 00000000 00000000 00000000 00100000 00000000",
+        ),
+        WriteResult::Accepted,
+    ),
+    Row::Read(
+        0,
+        Reads::Frame(
+            "2a000000 01000000 2a00000000000000 0500000000000000 00000000 00000000 00000000 00000000 7200",
+        ),
+    ),
+    // the root is no node of a name
+    Row::Write(
+        Written::Whole(
+            "90000000 00000000 2a00000000000000 0100000000000000 0000000000000000 0100000000000000 0000000000000000 00000000 00000000 0100000000000000 0000000000000000 0000000000000000 0000000000000000 0000000000000000 0000000000000000 00000000 00000000 00000000 ed410000 01000000 00000000 00000000 00000000 00100000 00000000",
+        ),
+        WriteResult::Accepted,
+    ),
+    Row::Answered(19, Told::Errno(5)),
+    Row::Begin(
+        Call::Rename {
+            old: b"/p/q/r",
+            new: b"/x/y",
+        },
+        Ok(20),
+    ),
+    Row::Read(
+        0,
+        Reads::Frame(
+            "2a000000 01000000 2c00000000000000 0100000000000000 00000000 00000000 00000000 00000000 7800",
+        ),
+    ),
+    Row::Write(
+        Written::Whole(
+            "90000000 00000000 2c00000000000000 0600000000000000 0900000000000000 0100000000000000 0000000000000000 00000000 00000000 0600000000000000 0000000000000000 0000000000000000 0000000000000000 0000000000000000 0000000000000000 00000000 00000000 00000000 ed410000 01000000 00000000 00000000 00000000 00100000 00000000",
+        ),
+        WriteResult::Accepted,
+    ),
+    Row::Read(
+        0,
+        Reads::Frame(
+            "34000000 0c000000 2e00000000000000 0500000000000000 00000000 00000000 00000000 00000000 0600000000000000 7200 7900",
+        ),
+    ),
+    Row::Write(
+        Written::Whole("10000000 feffffff 2e00000000000000"),
+        WriteResult::Accepted,
+    ),
+    Row::Answered(20, Told::Errno(2)),
+    Row::Begin(
+        Call::Link {
+            old: b"/p/q",
+            new: b"/p/x/y",
+        },
+        Ok(21),
+    ),
+    Row::Read(
+        0,
+        Reads::Frame(
+            "2a000000 01000000 3000000000000000 0400000000000000 00000000 00000000 00000000 00000000 7800",
+        ),
+    ),
+    Row::Write(
+        Written::Whole(
+            "90000000 00000000 3000000000000000 0000000000000000 0000000000000000 0000000000000000 0000000000000000 00000000 00000000 0000000000000000 0000000000000000 0000000000000000 0000000000000000 0000000000000000 0000000000000000 00000000 00000000 00000000 00000000 00000000 00000000 00000000 00000000 00000000 00000000",
+        ),
+        WriteResult::Accepted,
+    ),
+    Row::Answered(21, Told::Errno(2)),
+    Row::Unanswered(0),
+    Row::Nodes(&[(4, 9, 1), (5, 9, 1), (6, 9, 1)]),
+    Row::DropName(4, "q", Ok(())),
+    Row::Evict(5, Ok(1)),
+    Row::Forget(
+        1,
+        Reads::Frame(
+            "30000000 02000000 3200000000000000 0500000000000000 00000000 00000000 00000000 00000000 0100000000000000",
+        ),
+    ),
+];
+
+/// All with the `n`th growth refused, the mount too. Says whether that growth came.
+fn refused_at<A: Allocator + Copy>(
+    rt: &impl Abort,
+    heap: A,
+    refusing: &FailAt<Global>,
+    alloc: Global,
+    n: u64,
+) -> bool {
+    refusing.refuse(n);
+    let kernel: Kernel<A> = Kernel::new(heap);
+    run(
+        rt,
+        kernel,
+        heap,
+        refusing,
+        alloc,
+        &START,
+        &OPERATIONS,
+        "operations",
+    );
+    refusing.left() == 0
+}
+
+#[test]
+fn each_growth_refused(rt: HostRuntime) -> Result<(), Fail> {
+    let heap = FailAt::new(rt.alloc());
+    let mut growths = 0u64;
+    for n in 1..400u64 {
+        if refused_at(&rt, &heap, &heap, rt.alloc(), n) {
+            growths = n;
+        }
+    }
+    // some growths came, and the last runs had no one more
+    assert!(rt; 40 <= growths && growths < 399, "{growths}");
+    Ok(())
+}

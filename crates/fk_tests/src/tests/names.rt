@@ -1,0 +1,142 @@
+//! Names in force: each call once, and refused growths.
+
+use crate::tests::tried::{Outcome, Tried, judged, run};
+use fail_at::FailAt;
+use fk_dentry::{Bindings, Found};
+use std::alloc::{AllocError, Allocator, Global};
+use std::process::Abort;
+use std::test::Fail;
+
+/// A call, and what it must give.
+#[derive(Clone, Copy)]
+enum Row {
+    Reserve(u64, &'static str),
+    /// Room is made and a name bound, until a time.
+    Bind(u64, &'static str, Option<u64>, u64),
+    /// A name is removed: whether it was bound.
+    Remove(u64, &'static str, bool),
+    Clear,
+    /// A name is looked up at a time.
+    Find(u64, &'static str, u64, Found),
+    /// The nodes below 8 that a name stands in, or leads to, a bit for each.
+    Named(u8),
+}
+
+fn bind<A: Allocator + Copy>(
+    names: &mut Bindings<A>,
+    directory: u64,
+    name: &[u8],
+    target: Option<u64>,
+    until: u64,
+) -> Result<(), AllocError> {
+    names.reserve(directory, name)?;
+    names.put(directory, name, target, until);
+    Ok(())
+}
+
+/// The nodes below 8 that a name stands in, or leads to.
+fn named<A: Allocator + Copy>(names: &Bindings<A>) -> u8 {
+    let mut nodes = 0;
+    for node in 0..8u8 {
+        if names.names_node(u64::from(node)) {
+            nodes |= 1 << node;
+        }
+    }
+    nodes
+}
+
+/// What making room comes to.
+fn reserved(outcome: Result<(), AllocError>) -> Outcome {
+    match outcome {
+        Ok(()) => Outcome::Right,
+        Err(AllocError) => Outcome::NoMemory,
+    }
+}
+
+impl<A: Allocator + Copy> Tried<A, Row> for Bindings<A> {
+    fn attempt(&mut self, _heap: A, _alloc: Global, row: Row) -> Outcome {
+        match row {
+            Row::Reserve(directory, name) => reserved(self.reserve(directory, name.as_bytes())),
+            Row::Bind(directory, name, target, until) => {
+                reserved(bind(self, directory, name.as_bytes(), target, until))
+            }
+            Row::Remove(directory, name, was_bound) => {
+                judged(self.remove(directory, name.as_bytes()) == was_bound)
+            }
+            Row::Clear => {
+                self.clear();
+                Outcome::Right
+            }
+            Row::Find(directory, name, now, found) => {
+                judged(self.find(directory, name.as_bytes(), now) == found)
+            }
+            Row::Named(nodes) => judged(named(self) == nodes),
+        }
+    }
+}
+
+static CALLS: [Row; 27] = [
+    Row::Find(1, "a", 0, Found::Unknown),
+    Row::Bind(1, "a", Some(3), 1000),
+    Row::Bind(1, "b", None, 1000),
+    Row::Find(1, "a", 999, Found::Node(3)),
+    Row::Find(1, "a", 1000, Found::Unknown),
+    Row::Find(1, "b", 999, Found::Missing),
+    Row::Find(2, "a", 0, Found::Unknown),
+    Row::Find(1, "aa", 0, Found::Unknown),
+    Row::Bind(1, "b", Some(3), 0),
+    Row::Bind(4, "a", None, 0),
+    Row::Named(0b1_1010),
+    Row::Bind(1, "a", Some(5), 2000),
+    Row::Find(1, "a", 1000, Found::Node(5)),
+    Row::Named(0b11_1010),
+    Row::Remove(1, "b", true),
+    Row::Remove(1, "b", false),
+    Row::Named(0b11_0010),
+    // room for a name binds nothing
+    Row::Reserve(7, "room"),
+    Row::Remove(7, "room", false),
+    Row::Bind(6, "a name that is not short", Some(7), 1),
+    Row::Bind(6, "another one", Some(7), 1),
+    Row::Bind(6, "and a third", Some(2), 1),
+    Row::Named(0b1111_0110),
+    Row::Clear,
+    Row::Named(0),
+    Row::Find(4, "a", 0, Found::Unknown),
+    Row::Bind(1, "a", Some(2), 1),
+];
+
+/// The calls on new names with the `n`th growth refused. Says whether that growth came.
+fn refused_at<A: Allocator + Copy>(
+    rt: &impl Abort,
+    heap: A,
+    refusing: &FailAt<Global>,
+    alloc: Global,
+    n: u64,
+) -> bool {
+    refusing.refuse(n);
+    run(
+        rt,
+        Bindings::new(heap),
+        heap,
+        refusing,
+        alloc,
+        &[],
+        &CALLS,
+        "calls",
+    );
+    refusing.left() == 0
+}
+
+#[test]
+fn calls_with_each_growth_refused(rt: HostRuntime) -> Result<(), Fail> {
+    let heap = FailAt::new(rt.alloc());
+    let mut growths = 0u64;
+    for n in 1..60u64 {
+        if refused_at(&rt, &heap, &heap, rt.alloc(), n) {
+            growths = n;
+        }
+    }
+    assert!(rt; 8 <= growths && growths < 59, "{growths}");
+    Ok(())
+}

@@ -1,0 +1,264 @@
+//! The kernel's queues over both representations: each call once, and refused growths.
+
+use crate::tests::tried::{Outcome, Tried, judged, run};
+use fail_at::FailAt;
+use fk_queues::{Forgets, IntrEffect, ListQueues, NoMemory, QueueTable, Queues};
+use std::alloc::{Allocator, Global};
+use std::process::Abort;
+use std::test::Fail;
+
+/// The forgets of a frame: its number, how many there are, the first and the last.
+type Frame = (u64, usize, (u64, u64), (u64, u64));
+
+/// A call, and what it must give. What is kept of a request is a number.
+#[derive(Clone, Copy)]
+enum Row {
+    /// Room for so many requests and forgets is made.
+    Reserve(usize, usize),
+    NumbersLeft(u64),
+    /// Room is made and a request queued, of which this is kept: its number.
+    Queue(u64, u64),
+    /// The pending request at a place: its number, and what is kept.
+    Pending(usize, Option<(u64, u64)>),
+    ReadPending(usize, Option<u64>),
+    /// How many requests there are, read or not.
+    RequestCount(usize),
+    /// The request at a place among all: its number, and what is kept.
+    RequestAt(usize, Option<(u64, u64)>),
+    /// What is kept of the request under a number.
+    Waiting(u64, Option<u64>),
+    Answer(u64, Option<u64>),
+    /// A signal to the request under a number, fatal or not.
+    Interrupt(u64, bool, IntrEffect),
+    FirstInterrupt(Option<u64>),
+    ReadInterrupt(Option<u64>),
+    Again(u64),
+    NoInterrupts,
+    /// Room is made and so many lookups of a node are to be forgotten.
+    Forget(u64, u64),
+    /// So many forgets make no frame.
+    NoForgets(usize),
+    /// The frame is looked at, and then read.
+    Forgets(Frame),
+    Abort,
+}
+
+/// Makes room and queues a request, as a kernel does.
+fn queue<Q: QueueTable<u64>>(queues: &mut Q, kept: u64) -> Result<u64, NoMemory> {
+    queues.reserve(1, 0)?;
+    if queues.numbers_left() == 0 {
+        return Err(NoMemory);
+    }
+    Ok(queues.enqueue(kept))
+}
+
+/// Makes room and queues a forget.
+fn queue_forget<Q: QueueTable<u64>>(queues: &mut Q, node: u64, count: u64) -> Result<(), NoMemory> {
+    queues.reserve(0, 1)?;
+    queues.forget(node, count);
+    Ok(())
+}
+
+/// Whether these are the forgets of the frame.
+fn is_frame(read: Option<(u64, Forgets)>, frame: Frame) -> bool {
+    let Some((unique, forgets)) = read else {
+        return false;
+    };
+    let pairs = forgets.as_slice();
+    (unique, pairs.len()) == (frame.0, frame.1)
+        && pairs.first().copied() == Some(frame.2)
+        && pairs.last().copied() == Some(frame.3)
+}
+
+/// Looks at forgets and reads them: whether both give the frame.
+fn reads_forgets<Q: QueueTable<u64>>(queues: &mut Q, frame: Frame) -> bool {
+    if queues.numbers_left() == 0 {
+        return false;
+    }
+    is_frame(queues.first_forgets(frame.1), frame) && is_frame(queues.read_forgets(frame.1), frame)
+}
+
+/// A number and what is kept, by value.
+fn by_value(found: Option<(u64, &u64)>) -> Option<(u64, u64)> {
+    let (unique, kept) = found?;
+    Some((unique, *kept))
+}
+
+/// What making room comes to.
+fn reserved(outcome: Result<(), NoMemory>) -> Outcome {
+    match outcome {
+        Ok(()) => Outcome::Right,
+        Err(NoMemory) => Outcome::NoMemory,
+    }
+}
+
+/// A call that changes the queues, and takes no memory.
+fn changes<Q: QueueTable<u64>>(queues: &mut Q, row: Row) -> bool {
+    match row {
+        Row::ReadPending(place, unique) => queues.read_pending(place) == unique,
+        Row::Answer(unique, kept) => queues.answer(unique) == kept,
+        Row::Interrupt(unique, fatal, effect) => queues.interrupt(unique, fatal) == effect,
+        Row::ReadInterrupt(unique) => queues.read_interrupt() == unique,
+        Row::Forgets(frame) => reads_forgets(queues, frame),
+        Row::Again(unique) => {
+            queues.again(unique);
+            true
+        }
+        Row::NoInterrupts => {
+            queues.no_interrupts();
+            true
+        }
+        Row::Abort => {
+            queues.abort();
+            true
+        }
+        _ => sees(queues, row),
+    }
+}
+
+/// Whether a look gives what it must.
+fn sees<Q: QueueTable<u64>>(queues: &Q, row: Row) -> bool {
+    match row {
+        Row::NumbersLeft(left) => queues.numbers_left() == left,
+        Row::Pending(place, request) => by_value(queues.pending(place)) == request,
+        Row::RequestCount(count) => queues.request_count() == count,
+        Row::RequestAt(place, request) => by_value(queues.request_at(place)) == request,
+        Row::Waiting(unique, kept) => queues.waiting(unique).copied() == kept,
+        Row::FirstInterrupt(unique) => queues.first_interrupt() == unique,
+        Row::NoForgets(count) => queues.first_forgets(count).is_none(),
+        _ => false,
+    }
+}
+
+fn tried<Q: QueueTable<u64>>(queues: &mut Q, row: Row) -> Outcome {
+    match row {
+        Row::Reserve(requests, forgets) => reserved(queues.reserve(requests, forgets)),
+        Row::Queue(kept, unique) => match queue(queues, kept) {
+            Ok(given) => judged(given == unique),
+            Err(NoMemory) => Outcome::NoMemory,
+        },
+        Row::Forget(node, count) => reserved(queue_forget(queues, node, count)),
+        _ => judged(changes(queues, row)),
+    }
+}
+
+impl<A: Allocator + Copy> Tried<A, Row> for Queues<u64, A> {
+    fn attempt(&mut self, _heap: A, _alloc: Global, row: Row) -> Outcome {
+        tried(self, row)
+    }
+}
+
+impl<A: Allocator + Copy> Tried<A, Row> for ListQueues<u64, A> {
+    fn attempt(&mut self, _heap: A, _alloc: Global, row: Row) -> Outcome {
+        tried(self, row)
+    }
+}
+
+static CALLS: [Row; 46] = [
+    Row::NumbersLeft(0x1fff_ffff_ffff_ffff),
+    Row::Queue(70, 2),
+    Row::Queue(71, 4),
+    Row::Queue(72, 6),
+    Row::Pending(1, Some((4, 71))),
+    Row::ReadPending(1, Some(4)),
+    Row::Pending(1, Some((6, 72))),
+    Row::ReadPending(2, None),
+    Row::RequestCount(3),
+    Row::RequestAt(1, Some((4, 71))),
+    Row::RequestAt(3, None),
+    Row::Waiting(4, Some(71)),
+    Row::Waiting(2, None),
+    Row::Interrupt(4, false, IntrEffect::Queued),
+    Row::Interrupt(6, false, IntrEffect::Flagged),
+    Row::ReadPending(1, Some(6)),
+    Row::FirstInterrupt(Some(4)),
+    Row::ReadInterrupt(Some(4)),
+    Row::Again(4),
+    Row::ReadInterrupt(Some(6)),
+    // its INTERRUPT leaves with the request
+    Row::Answer(4, Some(71)),
+    Row::Answer(4, None),
+    Row::ReadInterrupt(None),
+    Row::Again(6),
+    Row::NoInterrupts,
+    Row::FirstInterrupt(None),
+    Row::Interrupt(2, true, IntrEffect::Dequeued),
+    Row::RequestCount(1),
+    Row::Reserve(100, 100),
+    Row::Forget(9, 3),
+    Row::Forget(8, 1),
+    Row::Forget(7, 2),
+    Row::NoForgets(0),
+    Row::NoForgets(4),
+    Row::NoForgets(65),
+    Row::Forgets((8, 2, (9, 3), (8, 1))),
+    Row::Forgets((10, 1, (7, 2), (7, 2))),
+    Row::NumbersLeft(0x1fff_ffff_ffff_fffa),
+    Row::Abort,
+    // as in a new mount
+    Row::Pending(0, None),
+    Row::Waiting(6, None),
+    Row::RequestCount(0),
+    Row::NoForgets(1),
+    Row::Queue(73, 2),
+    Row::Interrupt(2, false, IntrEffect::Flagged),
+    Row::Reserve(1000, 1000),
+];
+
+/// The calls on new queues with the `n`th growth refused. Says whether that growth came.
+fn refused_at<A: Copy, T: QueueTable<u64, Heap = A> + Tried<A, Row> + Drop>(
+    rt: &impl Abort,
+    heap: A,
+    refusing: &FailAt<Global>,
+    alloc: Global,
+    n: u64,
+) -> bool {
+    refusing.refuse(n);
+    run(
+        rt,
+        T::new(heap),
+        heap,
+        refusing,
+        alloc,
+        &[],
+        &CALLS,
+        "calls",
+    );
+    refusing.left() == 0
+}
+
+/// Each growth refused in turn: how many came.
+fn growths<A: Copy, T: QueueTable<u64, Heap = A> + Tried<A, Row> + Drop>(
+    rt: &impl Abort,
+    heap: A,
+    refusing: &FailAt<Global>,
+    alloc: Global,
+) -> u64 {
+    let mut last = 0;
+    for n in 1..60u64 {
+        if refused_at::<A, T>(rt, heap, refusing, alloc, n) {
+            last = n;
+        }
+    }
+    last
+}
+
+#[test]
+fn calls_with_each_growth_refused(rt: HostRuntime) -> Result<(), Fail> {
+    let heap = FailAt::new(rt.alloc());
+    let of_maps = growths::<&FailAt<Global>, Queues<u64, &FailAt<Global>>>(
+        &rt,
+        &heap,
+        &heap,
+        rt.alloc(),
+    );
+    assert!(rt; 3 <= of_maps && of_maps < 59, "maps");
+    let of_lists = growths::<&FailAt<Global>, ListQueues<u64, &FailAt<Global>>>(
+        &rt,
+        &heap,
+        &heap,
+        rt.alloc(),
+    );
+    assert!(rt; 3 <= of_lists && of_lists < 59, "lists");
+    Ok(())
+}
