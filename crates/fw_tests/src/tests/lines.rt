@@ -2,433 +2,126 @@
 
 use fw_script::run_script;
 use std::alloc::Global;
+use std::process::Abort;
 use std::test::Fail;
 
-/// A line, and what is wrong with it.
-#[derive(Drop)]
-struct Case {
-    line: &'static [u8],
-    fault: &'static [u8],
-}
+/// The first word is not known, or the second after `call` and `read`.
+static UNKNOWN_EVENT: [&[u8]; 18] = [
+    b"mounts 1 0",
+    b" mount 1 0",
+    b"Mount 1 0",
+    b"mount\t1 0",
+    b"call",
+    b"call ",
+    b"call  stat /",
+    b"call stats /",
+    b"call abort",
+    b"read",
+    b"read ",
+    b"read q 0",
+    b"read 0",
+    b"read pending 0",
+    b"interrupt 1 soft",
+    b"aborts",
+    b"\r\n",
+    b"call stats \x01 b",
+];
 
-static CASES: [Case; 103] = [
-    // The first word, or the second after `call` and `read`.
-    Case {
-        line: b"mounts 1 0",
-        fault: b"line 1: unknown event\n",
-    },
-    Case {
-        line: b" mount 1 0",
-        fault: b"line 1: unknown event\n",
-    },
-    Case {
-        line: b"Mount 1 0",
-        fault: b"line 1: unknown event\n",
-    },
-    Case {
-        line: b"mount\t1 0",
-        fault: b"line 1: unknown event\n",
-    },
-    Case {
-        line: b"call",
-        fault: b"line 1: unknown event\n",
-    },
-    Case {
-        line: b"call ",
-        fault: b"line 1: unknown event\n",
-    },
-    Case {
-        line: b"call  stat /",
-        fault: b"line 1: unknown event\n",
-    },
-    Case {
-        line: b"call stats /",
-        fault: b"line 1: unknown event\n",
-    },
-    Case {
-        line: b"call abort",
-        fault: b"line 1: unknown event\n",
-    },
-    Case {
-        line: b"read",
-        fault: b"line 1: unknown event\n",
-    },
-    Case {
-        line: b"read ",
-        fault: b"line 1: unknown event\n",
-    },
-    Case {
-        line: b"read q 0",
-        fault: b"line 1: unknown event\n",
-    },
-    Case {
-        line: b"read 0",
-        fault: b"line 1: unknown event\n",
-    },
-    Case {
-        line: b"read pending 0",
-        fault: b"line 1: unknown event\n",
-    },
-    Case {
-        line: b"interrupt 1 soft",
-        fault: b"line 1: unknown event\n",
-    },
-    Case {
-        line: b"aborts",
-        fault: b"line 1: unknown event\n",
-    },
-    Case {
-        line: b"\r\n",
-        fault: b"line 1: unknown event\n",
-    },
-    // The words: their count, none empty, and signals.
-    Case {
-        line: b"call stat",
-        fault: b"line 1: wrong words\n",
-    },
-    Case {
-        line: b"call stat ",
-        fault: b"line 1: wrong words\n",
-    },
-    Case {
-        line: b"call stat /a b",
-        fault: b"line 1: wrong words\n",
-    },
-    Case {
-        line: b"call stat /a ",
-        fault: b"line 1: wrong words\n",
-    },
-    Case {
-        line: b"call stat  /a",
-        fault: b"line 1: wrong words\n",
-    },
-    Case {
-        line: b"mount",
-        fault: b"line 1: wrong words\n",
-    },
-    Case {
-        line: b"mount 1",
-        fault: b"line 1: wrong words\n",
-    },
-    Case {
-        line: b"mount 1  0",
-        fault: b"line 1: wrong words\n",
-    },
-    Case {
-        line: b"mount 1 0 0",
-        fault: b"line 1: wrong words\n",
-    },
-    Case {
-        line: b"read p",
-        fault: b"line 1: wrong words\n",
-    },
-    Case {
-        line: b"read i 0",
-        fault: b"line 1: wrong words\n",
-    },
-    Case {
-        line: b"read i ",
-        fault: b"line 1: wrong words\n",
-    },
-    Case {
-        line: b"read f",
-        fault: b"line 1: wrong words\n",
-    },
-    Case {
-        line: b"take ",
-        fault: b"line 1: wrong words\n",
-    },
-    Case {
-        line: b"do 2 ",
-        fault: b"line 1: wrong words\n",
-    },
-    Case {
-        line: b"write 0 0",
-        fault: b"line 1: wrong words\n",
-    },
-    Case {
-        line: b"settle",
-        fault: b"line 1: wrong words\n",
-    },
-    Case {
-        line: b"abort 1",
-        fault: b"line 1: wrong words\n",
-    },
-    Case {
-        line: b"abort ",
-        fault: b"line 1: wrong words\n",
-    },
-    Case {
-        line: b"show 1",
-        fault: b"line 1: wrong words\n",
-    },
-    Case {
-        line: b"call list /",
-        fault: b"line 1: wrong words\n",
-    },
-    Case {
-        line: b"call list / 0 0",
-        fault: b"line 1: wrong words\n",
-    },
-    Case {
-        line: b"call rename /a",
-        fault: b"line 1: wrong words\n",
-    },
-    Case {
-        line: b"call link /a ",
-        fault: b"line 1: wrong words\n",
-    },
-    Case {
-        line: b"call read 1 0",
-        fault: b"line 1: wrong words\n",
-    },
-    Case {
-        line: b"call read 1 0 1 1",
-        fault: b"line 1: wrong words\n",
-    },
-    Case {
-        line: b"call write 1 0",
-        fault: b"line 1: wrong words\n",
-    },
-    Case {
-        line: b"call write 1 0 ",
-        fault: b"line 1: wrong words\n",
-    },
-    Case {
-        line: b"call write 1 0 00 00",
-        fault: b"line 1: wrong words\n",
-    },
-    Case {
-        line: b"call close",
-        fault: b"line 1: wrong words\n",
-    },
-    Case {
-        line: b"drop 1",
-        fault: b"line 1: wrong words\n",
-    },
-    Case {
-        line: b"drop 1 a b",
-        fault: b"line 1: wrong words\n",
-    },
-    Case {
-        line: b"intr 1",
-        fault: b"line 1: wrong words\n",
-    },
-    Case {
-        line: b"intr 1 ",
-        fault: b"line 1: wrong words\n",
-    },
-    Case {
-        line: b"intr 1 hard",
-        fault: b"line 1: wrong words\n",
-    },
-    Case {
-        line: b"intr 1 Soft",
-        fault: b"line 1: wrong words\n",
-    },
-    Case {
-        line: b"intr 1 soft ",
-        fault: b"line 1: wrong words\n",
-    },
-    Case {
-        line: b"intr fatal 1",
-        fault: b"line 1: wrong words\n",
-    },
-    // The numbers.
-    Case {
-        line: b"mount x 0",
-        fault: b"line 1: bad number\n",
-    },
-    Case {
-        line: b"mount 1000 0x0",
-        fault: b"line 1: bad number\n",
-    },
-    Case {
-        line: b"mount 01000 0",
-        fault: b"line 1: bad number\n",
-    },
-    Case {
-        line: b"mount 0 00",
-        fault: b"line 1: bad number\n",
-    },
-    Case {
-        line: b"read p -1",
-        fault: b"line 1: bad number\n",
-    },
-    Case {
-        line: b"read f x",
-        fault: b"line 1: bad number\n",
-    },
-    Case {
-        line: b"take +1",
-        fault: b"line 1: bad number\n",
-    },
-    Case {
-        line: b"do 18446744073709551616",
-        fault: b"line 1: bad number\n",
-    },
-    Case {
-        line: b"write 1\r\n",
-        fault: b"line 1: bad number\n",
-    },
-    Case {
-        line: b"settle 1_0",
-        fault: b"line 1: bad number\n",
-    },
-    Case {
-        line: b"tick 1.5",
-        fault: b"line 1: bad number\n",
-    },
-    Case {
-        line: b"evict #1",
-        fault: b"line 1: bad number\n",
-    },
-    Case {
-        line: b"drop a a",
-        fault: b"line 1: bad number\n",
-    },
-    Case {
-        line: b"intr x soft",
-        fault: b"line 1: bad number\n",
-    },
-    Case {
-        line: b"call list / x",
-        fault: b"line 1: bad number\n",
-    },
-    Case {
-        line: b"call read x 0 1",
-        fault: b"line 1: bad number\n",
-    },
-    Case {
-        line: b"call read 1 x 1",
-        fault: b"line 1: bad number\n",
-    },
-    Case {
-        line: b"call read 1 0 x",
-        fault: b"line 1: bad number\n",
-    },
-    Case {
-        line: b"call write x 0 00",
-        fault: b"line 1: bad number\n",
-    },
-    Case {
-        line: b"call write 1 x 00",
-        fault: b"line 1: bad number\n",
-    },
-    Case {
-        line: b"call close x",
-        fault: b"line 1: bad number\n",
-    },
-    // The paths, the names and the hex.
-    Case {
-        line: b"call stat /\x7f",
-        fault: b"line 1: bad text\n",
-    },
-    Case {
-        line: b"call stat /a\r\n",
-        fault: b"line 1: bad text\n",
-    },
-    Case {
-        line: b"call stat /\xc3\xa9",
-        fault: b"line 1: bad text\n",
-    },
-    Case {
-        line: b"call list /\x7f 0",
-        fault: b"line 1: bad text\n",
-    },
-    Case {
-        line: b"call open /\x7f",
-        fault: b"line 1: bad text\n",
-    },
-    Case {
-        line: b"call mkdir /\x7f",
-        fault: b"line 1: bad text\n",
-    },
-    Case {
-        line: b"call create /\x7f",
-        fault: b"line 1: bad text\n",
-    },
-    Case {
-        line: b"call unlink /\x7f",
-        fault: b"line 1: bad text\n",
-    },
-    Case {
-        line: b"call rmdir /\x7f",
-        fault: b"line 1: bad text\n",
-    },
-    Case {
-        line: b"call rename /\x7f /b",
-        fault: b"line 1: bad text\n",
-    },
-    Case {
-        line: b"call rename /a /\x7f",
-        fault: b"line 1: bad text\n",
-    },
-    Case {
-        line: b"call link /\x7f /b",
-        fault: b"line 1: bad text\n",
-    },
-    Case {
-        line: b"call link /a /\x7f",
-        fault: b"line 1: bad text\n",
-    },
-    Case {
-        line: b"drop 1 \x1f",
-        fault: b"line 1: bad text\n",
-    },
-    Case {
-        line: b"call write 1 0 0",
-        fault: b"line 1: bad text\n",
-    },
-    Case {
-        line: b"call write 1 0 000",
-        fault: b"line 1: bad text\n",
-    },
-    Case {
-        line: b"call write 1 0 0g",
-        fault: b"line 1: bad text\n",
-    },
-    Case {
-        line: b"call write 1 0 0A",
-        fault: b"line 1: bad text\n",
-    },
-    Case {
-        line: b"call write 1 0 --",
-        fault: b"line 1: bad text\n",
-    },
-    Case {
-        line: b"call write 1 0 -0",
-        fault: b"line 1: bad text\n",
-    },
-    // The first fault of a line.
-    Case {
-        line: b"mount x",
-        fault: b"line 1: wrong words\n",
-    },
-    Case {
-        line: b"call stats \x01 b",
-        fault: b"line 1: unknown event\n",
-    },
-    Case {
-        line: b"call stat \x01 b",
-        fault: b"line 1: wrong words\n",
-    },
-    Case {
-        line: b"call list \x01 x",
-        fault: b"line 1: bad number\n",
-    },
-    Case {
-        line: b"drop x \x01",
-        fault: b"line 1: bad number\n",
-    },
-    Case {
-        line: b"call write x 0 0",
-        fault: b"line 1: bad number\n",
-    },
-    Case {
-        line: b"intr x hard",
-        fault: b"line 1: wrong words\n",
-    },
+/// Too few words or too many, an empty one, or no signal in its place, whatever else is wrong.
+static WRONG_WORDS: [&[u8]; 41] = [
+    b"call stat",
+    b"call stat ",
+    b"call stat /a b",
+    b"call stat /a ",
+    b"call stat  /a",
+    b"mount",
+    b"mount 1",
+    b"mount 1  0",
+    b"mount 1 0 0",
+    b"read p",
+    b"read i 0",
+    b"read i ",
+    b"read f",
+    b"take ",
+    b"do 2 ",
+    b"write 0 0",
+    b"settle",
+    b"abort 1",
+    b"abort ",
+    b"show 1",
+    b"call list /",
+    b"call list / 0 0",
+    b"call rename /a",
+    b"call link /a ",
+    b"call read 1 0",
+    b"call read 1 0 1 1",
+    b"call write 1 0",
+    b"call write 1 0 ",
+    b"call write 1 0 00 00",
+    b"call close",
+    b"drop 1",
+    b"drop 1 a b",
+    b"intr 1",
+    b"intr 1 ",
+    b"intr 1 hard",
+    b"intr 1 Soft",
+    b"intr 1 soft ",
+    b"intr fatal 1",
+    b"mount x",
+    b"call stat \x01 b",
+    b"intr x hard",
+];
+
+/// A number is none, whatever else is wrong.
+static BAD_NUMBER: [&[u8]; 24] = [
+    b"mount x 0",
+    b"mount 1000 0x0",
+    b"mount 01000 0",
+    b"mount 0 00",
+    b"read p -1",
+    b"read f x",
+    b"take +1",
+    b"do 18446744073709551616",
+    b"write 1\r\n",
+    b"settle 1_0",
+    b"tick 1.5",
+    b"evict #1",
+    b"drop a a",
+    b"intr x soft",
+    b"call list / x",
+    b"call read x 0 1",
+    b"call read 1 x 1",
+    b"call read 1 0 x",
+    b"call write x 0 00",
+    b"call write 1 x 00",
+    b"call close x",
+    b"call list \x01 x",
+    b"drop x \x01",
+    b"call write x 0 0",
+];
+
+/// A path, a name or hex has other bytes, or hex is of odd length.
+static BAD_TEXT: [&[u8]; 20] = [
+    b"call stat /\x7f",
+    b"call stat /a\r\n",
+    b"call stat /\xc3\xa9",
+    b"call list /\x7f 0",
+    b"call open /\x7f",
+    b"call mkdir /\x7f",
+    b"call create /\x7f",
+    b"call unlink /\x7f",
+    b"call rmdir /\x7f",
+    b"call rename /\x7f /b",
+    b"call rename /a /\x7f",
+    b"call link /\x7f /b",
+    b"call link /a /\x7f",
+    b"drop 1 \x1f",
+    b"call write 1 0 0",
+    b"call write 1 0 000",
+    b"call write 1 0 0g",
+    b"call write 1 0 0A",
+    b"call write 1 0 --",
+    b"call write 1 0 -0",
 ];
 
 /// Whether a script's run gives this exit status, prints this, and tells this fault.
@@ -440,15 +133,19 @@ fn run_gives(alloc: Global, script: &[u8], status: u8, output: &[u8], fault: &[u
     given == status && out.as_slice() == output && faults.as_slice() == fault
 }
 
-#[test]
-fn refuses_each_bad_line(rt: HostRuntime) -> Result<(), Fail> {
-    for case in &CASES {
-        assert!(rt;
-            run_gives(rt.alloc(), case.line, 1, b"", case.fault),
-            "{:?}",
-            case.line
-        );
+/// Checks that each of the lines alone is told to have this fault, and is not run.
+fn check_lines(rt: &impl Abort, alloc: Global, lines: &[&[u8]], fault: &[u8]) {
+    for line in lines {
+        assert!(rt; run_gives(alloc, line, 1, b"", fault), "{:?}", line);
     }
+}
+
+#[test]
+fn tells_the_fault_of_each_line(rt: HostRuntime) -> Result<(), Fail> {
+    check_lines(&rt, rt.alloc(), &UNKNOWN_EVENT, b"line 1: unknown event\n");
+    check_lines(&rt, rt.alloc(), &WRONG_WORDS, b"line 1: wrong words\n");
+    check_lines(&rt, rt.alloc(), &BAD_NUMBER, b"line 1: bad number\n");
+    check_lines(&rt, rt.alloc(), &BAD_TEXT, b"line 1: bad text\n");
     Ok(())
 }
 
