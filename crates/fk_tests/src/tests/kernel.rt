@@ -13,6 +13,7 @@ use std::process::Abort;
 mod aborts;
 mod beginnings;
 mod bytes;
+mod init_replies;
 mod open_files;
 mod operations;
 mod paths;

@@ -1,0 +1,175 @@
+//! Replies to INIT that agree on nothing: the mount is aborted.
+
+use super::{Reads, Row, Told, Written, run_on_new};
+use fk_kernel::Call;
+use fk_wire::Opcode;
+use fuse_spec::{Refusal, WriteResult};
+use std::alloc::{AllocError, Global};
+use std::process::Abort;
+use std::test::Fail;
+
+/// A name, a reply to INIT, and what its writer gets.
+type Case = (&'static str, &'static str, WriteResult);
+
+/// INIT is read.
+static READ: [Row; 2] = [
+    Row::Mount(Ok(())),
+    Row::Read(0, Reads::Head(2, Opcode::Init)),
+];
+
+/// The mount is aborted: INIT is answered, calls are answered ENOTCONN, also for a faulty path, and a new mount may come.
+static ABORTED: [Row; 12] = [
+    Row::Read(0, Reads::Refused(Refusal::NotReady)),
+    Row::Abort(Err(Refusal::NotReady)),
+    Row::Write(
+        Written::Whole("10000000 faffffff 0200000000000000"),
+        WriteResult::NoEntry,
+    ),
+    Row::Begin(Call::Stat { path: b"/" }, Ok(1)),
+    Row::Answered(1, Told::Errno(107)),
+    Row::Begin(Call::Stat { path: b"a" }, Ok(2)),
+    Row::Answered(2, Told::Errno(107)),
+    Row::Mount(Ok(())),
+    Row::Read(0, Reads::Head(2, Opcode::Init)),
+    Row::Write(
+        Written::Whole(
+            "50000000 00000000 0200000000000000 07000000 1f000000 00000000 01000400 0000 0000 00100000 01000000 0000 0000 00000000 00000000 00000000 00000000 00000000 00000000 00000000 00000000",
+        ),
+        WriteResult::Accepted,
+    ),
+    Row::Begin(Call::Stat { path: b"/" }, Ok(3)),
+    Row::Read(0, Reads::Head(4, Opcode::Getattr)),
+];
+
+/// Bytes that are no reply to INIT: it waits, and is answered then.
+static WAITS: [Row; 9] = [
+    Row::Write(
+        Written::Whole("000000000000000000000000000000"),
+        WriteResult::Invalid,
+    ),
+    Row::Write(
+        Written::Whole(
+            "51000000 00000000 0200000000000000 07000000 1f000000 00000000 01000400 0000 0000 00100000 01000000 0000 0000 00000000 00000000 00000000 00000000 00000000 00000000 00000000 00000000",
+        ),
+        WriteResult::Invalid,
+    ),
+    Row::Write(
+        Written::Whole("10000000 00feffff 0200000000000000"),
+        WriteResult::Invalid,
+    ),
+    Row::Write(
+        Written::Whole(
+            "50000000 00000000 0400000000000000 07000000 1f000000 00000000 01000400 0000 0000 00100000 01000000 0000 0000 00000000 00000000 00000000 00000000 00000000 00000000 00000000 00000000",
+        ),
+        WriteResult::NoEntry,
+    ),
+    Row::Write(
+        Written::Whole("18000000 00000000 0300000000000000 0000000000000000"),
+        WriteResult::Invalid,
+    ),
+    Row::Begin(Call::Stat { path: b"/" }, Err(Refusal::NotReady)),
+    Row::Write(
+        Written::Whole(
+            "50000000 00000000 0200000000000000 07000000 1f000000 00000000 01000400 0000 0000 00100000 01000000 0000 0000 00000000 00000000 00000000 00000000 00000000 00000000 00000000 00000000",
+        ),
+        WriteResult::Accepted,
+    ),
+    Row::Begin(Call::Stat { path: b"/" }, Ok(1)),
+    Row::Read(0, Reads::Head(4, Opcode::Getattr)),
+];
+
+/// A reply before INIT is read.
+static EARLY: [Row; 4] = [
+    Row::Mount(Ok(())),
+    Row::Write(
+        Written::Whole(
+            "50000000 00000000 0200000000000000 07000000 1f000000 00000000 01000400 0000 0000 00100000 01000000 0000 0000 00000000 00000000 00000000 00000000 00000000 00000000 00000000 00000000",
+        ),
+        WriteResult::NoEntry,
+    ),
+    Row::Read(0, Reads::Head(2, Opcode::Init)),
+    Row::Write(
+        Written::Whole(
+            "50000000 00000000 0200000000000000 07000000 1f000000 00000000 01000400 0000 0000 00100000 01000000 0000 0000 00000000 00000000 00000000 00000000 00000000 00000000 00000000 00000000",
+        ),
+        WriteResult::Accepted,
+    ),
+];
+
+/// Replies that agree on nothing. 7.15 is not spoken so far.
+static CASES: [Case; 11] = [
+    (
+        "an error, here ENXIO",
+        "10000000 faffffff 0200000000000000",
+        WriteResult::Accepted,
+    ),
+    (
+        "no body",
+        "10000000 00000000 0200000000000000",
+        WriteResult::Invalid,
+    ),
+    (
+        "an error with a body",
+        "50000000 faffffff 0200000000000000 07000000 1f000000 00000000 01000400 0000 0000 00100000 01000000 0000 0000 00000000 00000000 00000000 00000000 00000000 00000000 00000000 00000000",
+        WriteResult::Invalid,
+    ),
+    (
+        "a byte less",
+        "4f000000000000000200000000000000070000001f00000000000000010004000000000000100000010000000000000000000000000000000000000000000000000000000000000000000000000000",
+        WriteResult::Invalid,
+    ),
+    (
+        "a byte more",
+        "51000000000000000200000000000000070000001f000000000000000100040000000000001000000100000000000000000000000000000000000000000000000000000000000000000000000000000000",
+        WriteResult::Invalid,
+    ),
+    (
+        "7.30",
+        "50000000 00000000 0200000000000000 07000000 1e000000 00000000 01000400 0000 0000 00100000 01000000 0000 0000 00000000 00000000 00000000 00000000 00000000 00000000 00000000 00000000",
+        WriteResult::Accepted,
+    ),
+    (
+        "7.22 in 24 bytes",
+        "28000000 00000000 0200000000000000 07000000 16000000 00000000 01000400 0000 0000 00100000",
+        WriteResult::Invalid,
+    ),
+    (
+        "7.15 in 64 bytes",
+        "50000000 00000000 0200000000000000 07000000 0f000000 00000000 01000400 0000 0000 00100000 01000000 0000 0000 00000000 00000000 00000000 00000000 00000000 00000000 00000000 00000000",
+        WriteResult::Invalid,
+    ),
+    (
+        "7.15 in 24 bytes, which is not spoken so far",
+        "28000000 00000000 0200000000000000 07000000 0f000000 00000000 01000400 0000 0000 00100000",
+        WriteResult::Accepted,
+    ),
+    (
+        "8.31",
+        "50000000 00000000 0200000000000000 08000000 1f000000 00000000 01000400 0000 0000 00100000 01000000 0000 0000 00000000 00000000 00000000 00000000 00000000 00000000 00000000 00000000",
+        WriteResult::Accepted,
+    ),
+    (
+        "6.31",
+        "50000000 00000000 0200000000000000 06000000 1f000000 00000000 01000400 0000 0000 00100000 01000000 0000 0000 00000000 00000000 00000000 00000000 00000000 00000000 00000000 00000000",
+        WriteResult::Accepted,
+    ),
+];
+
+/// Tries a case on a new kernel.
+fn check_case(rt: &impl Abort, alloc: Global, case: &Case) -> Result<(), AllocError> {
+    let (name, text, given) = case;
+    let mut rows = READ.to_vec(alloc)?;
+    rows.push(Row::Write(Written::Whole(text), *given))?;
+    run_on_new(rt, alloc, &rows, &ABORTED, name);
+    Ok(())
+}
+
+#[test]
+fn replies_to_init(rt: HostRuntime) -> Result<(), Fail> {
+    run_on_new(&rt, rt.alloc(), &READ, &WAITS, "waits");
+    run_on_new(&rt, rt.alloc(), &EARLY, &[], "early");
+    for case in &CASES {
+        check_case(&rt, rt.alloc(), case)?;
+    }
+    Ok(())
+}
