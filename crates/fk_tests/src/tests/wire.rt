@@ -526,7 +526,7 @@ impl<A: Allocator + Copy> Tried<A, Row> for Vec<u8, A> {
     }
 }
 
-/// All with the `n`th growth refused. Says whether that growth came.
+/// All that is written with the `n`th growth refused. Says whether that growth came.
 fn refused_at<A: Allocator + Copy>(
     rt: &impl Abort,
     heap: A,
@@ -554,16 +554,6 @@ fn refused_at<A: Allocator + Copy>(
         &OTHERS,
         &FREE,
         "others and free fields",
-    );
-    run(
-        rt,
-        Vec::new(heap),
-        heap,
-        refusing,
-        alloc,
-        &FAULTY_REQUESTS,
-        &FAULTY_REPLIES,
-        "faulty ones",
     );
     refusing.left() == 0
 }
@@ -608,5 +598,21 @@ fn frames_with_each_growth_refused(rt: HostRuntime) -> Result<(), Fail> {
     assert!(rt; 40 <= growths && growths < 199, "{growths}");
     assert!(rt; WireFault::Name.number() == 4 && WireFault::Name.name() == "Name");
     assert!(rt; Opcode::BatchForget.name() == "BATCH_FORGET");
+    Ok(())
+}
+
+#[test]
+fn first_faults(rt: HostRuntime) -> Result<(), Fail> {
+    let heap = FailAt::new(rt.alloc());
+    run(
+        &rt,
+        Vec::new(rt.alloc()),
+        rt.alloc(),
+        &heap,
+        rt.alloc(),
+        &FAULTY_REQUESTS,
+        &FAULTY_REPLIES,
+        "faulty",
+    );
     Ok(())
 }
