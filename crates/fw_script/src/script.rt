@@ -184,7 +184,10 @@ fn run_events<A: Allocator + Copy, W: Write>(
     let Ok(mut world) = WorldIn::new(alloc) else {
         return Err(Stop::NoMemory);
     };
-    run_lines(&mut world, script, &mut room, hex, out)
+    let ended = run_lines(&mut world, script, &mut room, hex, out);
+    // By a call, since at the end of a scope the whole drop is proved as part of this function.
+    drop(world);
+    ended
 }
 
 /// Hands on all that was written.
