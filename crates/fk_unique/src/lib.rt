@@ -93,39 +93,3 @@ pub fn original_of(unique: u64) -> u64
 {
     unique - unique % 2
 }
-
-#[cfg(test)]
-mod tests {
-    use super::*;
-    use std::test::Fail;
-
-    #[test]
-    fn numbers_rise_from_2(rt: HostRuntime) -> Result<(), Fail> {
-        let mut uniques = Uniques::new();
-        assert_eq!(rt; uniques.numbers_left(), 0x1fff_ffff_ffff_ffff);
-        assert_eq!(rt; uniques.next(), Some(2));
-        assert_eq!(rt; uniques.next(), Some(4));
-        assert_eq!(rt; uniques.next(), Some(6));
-        assert_eq!(rt; uniques.numbers_left(), 0x1fff_ffff_ffff_fffc);
-        Ok(())
-    }
-
-    #[test]
-    fn none_is_left_at_the_limit(rt: HostRuntime) -> Result<(), Fail> {
-        let mut uniques = Uniques { next: LIMIT - 2 };
-        assert_eq!(rt; uniques.numbers_left(), 1);
-        assert_eq!(rt; uniques.next(), Some(LIMIT - 2));
-        assert_eq!(rt; uniques.numbers_left(), 0);
-        assert_eq!(rt; uniques.next(), None);
-        assert_eq!(rt; uniques.next(), None);
-        Ok(())
-    }
-
-    #[test]
-    fn interrupts_carry_their_originals_number(rt: HostRuntime) -> Result<(), Fail> {
-        assert_eq!(rt; interrupt_of(4), 5);
-        assert_eq!(rt; original_of(5), 4);
-        assert_eq!(rt; original_of(4), 4);
-        Ok(())
-    }
-}
