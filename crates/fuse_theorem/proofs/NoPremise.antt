@@ -22,7 +22,7 @@ use Rattle.fuse_theorem.proofs.ServerSound.{first_sound}
 use Rattle.fuse_theorem.proofs.WorldSound.{first_world_sound}
 
 -- What a table of one row holds.
-only : {X : Type 0} (key : ℕ) (x : X) (k : ℕ) (y : X) → get ((key, x) ∷ []) k ≡ Some y → (k ≡ key) × (x ≡ y)
+pub only : {X : Type 0} (key : ℕ) (x : X) (k : ℕ) (y : X) → get ((key, x) ∷ []) k ≡ Some y → (k ≡ key) × (x ≡ y)
 only {X} key x k y there = elim (cases_eq k key) [
   | inl same ↦ (same, let here : get ((key, x) ∷ []) key ≡ Some y = subst (λ (n : ℕ). get ((key, x) ∷ []) n ≡ Some y) same there in at_key here)
   | inr other ↦ let none : get ((key, x) ∷ []) k ≡ None = ap (λ b. cond b (Some x) None) (tie_no k key other) in absurd (cc (none, there))

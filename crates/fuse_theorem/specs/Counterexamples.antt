@@ -5,8 +5,10 @@ use Rattle.fuse_spec.specs.Answers.{failed as failed_with}
 use Rattle.fuse_spec.specs.Events.{Event}
 use Rattle.fuse_spec.specs.Events as event
 use Rattle.fuse_spec.specs.Messages.{asks, forget}
-use Rattle.fuse_spec.specs.Operations.{done, getattr}
+use Rattle.fuse_spec.specs.Operations.{done, getattr, lookup}
 use Rattle.fuse_spec.specs.Records.{Record, outcome, answered}
+use Rattle.fuse_spec.specs.Numbers.{counter_end}
+use Rattle.fuse_spec.specs.Trees.{a_directory}
 use Rattle.fuse_spec.specs.Vfs.{doing}
 use Rattle.fuse_spec.specs.Worlds.{World, first_world, after_tick}
 
@@ -43,3 +45,19 @@ with_a_late_request = record first_world { server = record first_world.server { 
 -- No mount is live, and a copy of a reply stands on its link still.
 abbrev pub with_a_copy_left : World
 with_a_copy_left = record first_world { replies = record { number = 1; unique = 2; wire = done } ∷ [] }
+
+-- No generation is left. The server holds a LOOKUP of `a`, which is file 1, while node 2 is another file.
+abbrev pub with_no_generation : World
+with_no_generation =
+    record first_world {
+      server = record first_world.server {
+        tree = record {
+          files = (0, a_directory) ∷ (1, a_directory) ∷ [];
+          names = record { directory = 0; name = 97 ∷ []; file = 1; serial = 1 } ∷ [];
+          next_birth = 2;
+          next_serial = 2;
+        };
+        nodes = record { rows = (2, record { file = 5; generation = 1; count = 1 }) ∷ []; next_generation = counter_end };
+        held = (2, record { body = asks (lookup 1 (97 ∷ [])); generations = (1, 0) ∷ []; marked = false }) ∷ [];
+      };
+    }

@@ -8,9 +8,11 @@ ghost use Rattle.fuse_spec.specs.Maps.{get};
 ghost use Rattle.fuse_spec.specs.Plain.{Plain, first_plain};
 ghost use Rattle.fuse_spec.specs.Records.{outcome};
 ghost use Rattle.fuse_spec.specs.Runs.{AnswersOnce, Run};
-ghost use Rattle.fuse_spec.specs.Steps.{Happens};
+ghost use Rattle.fuse_spec.specs.Steps.{Happens, IsRefused};
+ghost use Rattle.fuse_spec.specs.Refusals.{Refuses};
+ghost use Rattle.fuse_spec.specs.declared.Refusal.TheVariants.{Exhausted};
 ghost use Rattle.fuse_spec.specs.Worlds.{World, after_tick, first_world};
-ghost use Rattle.fuse_theorem.specs.Counterexamples.{a_millisecond_later, answered_twice, with_a_copy_left, with_a_node_left, with_a_stray_forget, with_a_late_request, with_an_early_answer};
+ghost use Rattle.fuse_theorem.specs.Counterexamples.{a_millisecond_later, answered_twice, with_a_copy_left, with_a_late_request, with_a_node_left, with_a_stray_forget, with_an_early_answer, with_no_generation};
 ghost use Rattle.fuse_theorem.specs.EachEvent.{IsRooted, Needs};
 ghost use Rattle.fuse_theorem.specs.Lookups.{LookupsSound};
 ghost use Rattle.fuse_theorem.specs.Numbering.{IsNumbered, IsNumberedWhileLive};
@@ -46,4 +48,10 @@ pub fn a_run_begins_before()
 /// Where no mount is live a copy may stand on its link under a number that was not drawn since: `any_event::numbers_stay_in_order` speaks of live mounts.
 pub fn numbers_need_a_mount()
     ensures { IsNumberedWhileLive with_a_copy_left × Happens with_a_copy_left (event.tick 1) (event.now 1) (after_tick with_a_copy_left 1) × (IsNumbered (after_tick with_a_copy_left 1) → ⊥) }
+{}
+
+/// A nodeid in use by another file draws no generation, so what every free one is refused for it is not: `refusals::refused_for_any_choice` speaks of ids
+/// that the server may choose.
+pub fn free_ids_alone_are_refused_alike()
+    ensures { IsRefused with_no_generation (event.perform 2) Exhausted × (choice : ℕ → ℕ) × (Refuses choice with_no_generation (event.perform 2) Exhausted → ⊥) }
 {}
