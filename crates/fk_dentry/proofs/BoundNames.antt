@@ -13,18 +13,13 @@ use Rattle.fuse_spec.specs.Kernel.{leads_to}
 use Rattle.fuse_spec.specs.Maps.{Place, NameMap, place_cmp, get_name, put_name, remove_name}
 use Rattle.fk_dentry.specs.Named.{times, named, named_in, uses}
 use Rattle.fk_dentry.specs.NamesInForce.{names_the_node}
-use Rattle.fk_dentry.specs.Rows.{names_in}
+use Rattle.fk_dentry.specs.Rows.{names_in, bound_in}
 use Rattle.fk_dentry.proofs.PlaceOrder.{place_total, place_same, apart_places}
-use Rattle.fk_dentry.proofs.RisingIds.{times_cons}
+use Rattle.fk_dentry.proofs.NamedIds.{times_cons}
 use Rattle.fk_dentry.proofs.SortedEntries.{both, both_first, both_second, tied_all, none_below}
 
 abbrev pub Slots : Type 0
 Slots = NameMap (Option Binding)
-
--- the binding in a slot, if there is one
-abbrev pub bound_in : Option (Option Binding) → Option Binding
-bound_in None = None
-bound_in (Some binding) = binding
 
 below-names : (x : Place) (slots : Slots) → T (below_all place_cmp x slots) → T (below_all place_cmp x (names_in slots))
 below-names x [] h = tt

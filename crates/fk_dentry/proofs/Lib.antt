@@ -1,5 +1,8 @@
+pub mod Places
 pub mod SortedEntries
 pub mod PlaceOrder
+pub mod HashRows
 pub mod BoundNames
-pub mod RisingIds
+pub mod NamedIds
+pub mod Counts
 pub mod TableLemmas

@@ -19,7 +19,7 @@ place_same x y is =
       | Greater ↦ λ p e. absurd (subst (λ r. T (is_eq r)) (sym e) tt)
     ] refl is
 
-tied : (r : Ordering) → is_eq r ≡ true → r ≡ Equal
+pub tied : (r : Ordering) → is_eq r ≡ true → r ≡ Equal
 tied Less e = absurd (subst T (sym e) tt)
 tied Equal e = refl
 tied Greater e = absurd (subst T (sym e) tt)

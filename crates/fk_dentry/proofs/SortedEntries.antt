@@ -1,15 +1,14 @@
 -- Entries in rising key: where a key stands, and what a write, a new entry and a removal there make of them.
-use Rattle.std.proofs.Common.{◌≡◌, ℕ, suc, zero, ◌≤◌, ◌<◌, Bool, true, false, not, cond, ◌&&◌, List, [], ◌∷◌, length, filter, map, set, Option, Some, None, refl, sym, ap, subst, ◌∙◌, arith, T, Less, Equal, Greater}
-use Rattle.std.specs.Prelude.{slice_get, slice_index_or}
+use Rattle.std.proofs.Common.{◌≡◌, suc, Bool, true, false, not, cond, ◌&&◌, List, [], ◌∷◌, filter, set, Option, Some, None, refl, sym, ap, subst, ◌∙◌, T, Less, Equal, Greater}
+use Rattle.std.specs.Prelude.{slice_get}
 use Rattle.std.specs.List.{insert, remove}
-use Rattle.std.specs.List.Sorted.{IsPartitionedBy, IsPartitionPoint}
 use Rattle.std.specs.declared.cmp.Ordering.{Ordering}
 use Rattle.std.specs.Ordering.{is_lt, is_eq, is_gt, eq_by_cmp}
 use Rattle.std.specs.Cmp.{IsTotalOrder}
 use Rattle.std.specs.FinMap.{find, put, is_sorted}
 use Rattle.std.specs.FinMap.Entries.{below_all, by_order}
 use Rattle.std.proofs.lemmas.Option.{same_Some}
-use Rattle.fk_dentry.specs.Places.{place_among}
+use Rattle.fk_dentry.proofs.Places.{place_among}
 
 pub both_first : (a b : Bool) → T (a && b) → T a
 both_first true b h = tt
@@ -32,24 +31,6 @@ abbrev is_found : {A : Type 0} → Option A → Type 0
 is_found None = ⊥
 is_found (Some x) = Unit {0}
 
-module _ {Y Z : Type 0} (f : Y → Z) where
-  pub map_insert : (ys : List Y) (i : ℕ) (y : Y) → map f (insert ys i y) ≡ insert (map f ys) i (f y)
-  map_insert [] zero y = refl
-  map_insert [] (suc i) y = refl
-  map_insert (x ∷ ys) zero y = refl
-  map_insert (x ∷ ys) (suc i) y = ap (λ zs. f x ∷ zs) (map_insert ys i y)
-
-  pub map_remove : (ys : List Y) (i : ℕ) → map f (remove ys i) ≡ remove (map f ys) i
-  map_remove [] zero = refl
-  map_remove [] (suc i) = refl
-  map_remove (x ∷ ys) zero = refl
-  map_remove (x ∷ ys) (suc i) = ap (λ zs. f x ∷ zs) (map_remove ys i)
-
-  pub map_set : (ys : List Y) (i : ℕ) (y : Y) → map f (set ys i y) ≡ set (map f ys) i (f y)
-  map_set [] i y = refl
-  map_set (x ∷ ys) zero y = refl
-  map_set (x ∷ ys) (suc i) y = ap (λ zs. f x ∷ zs) (map_set ys i y)
-
 module _ {K X : Type 0} (R : K → K → Ordering) (o : IsTotalOrder R) where
   less_all : (x y : K) (es : List (K × X)) → R x y ≡ Less → T (below_all R y es) → T (below_all R x es)
   less_all x y [] p h = tt
@@ -62,39 +43,6 @@ module _ {K X : Type 0} (R : K → K → Ordering) (o : IsTotalOrder R) where
   pub none_below : (x : K) (es : List (K × X)) → T (below_all R x es) → find R x es ≡ None
   none_below x [] h = refl
   none_below x (e ∷ es) h = ap (λ r. cond (is_eq r) (Some e.1) (find R x es)) (is_less _ (both_first _ _ h)) ∙ none_below x es (both_second _ _ h)
-
-  -- ---- where a key stands
-
-  module _ {Y : Type 0} (f : Y → K × X) (key : K) where
-    abbrev passes : Y → Bool
-    passes y = is_gt (R key (f y).0)
-
-    below_at : (x : K) (ys : List Y) → T (below_all R x (map f ys)) → (j : ℕ) (d : Y) → j < length ys → R x (f (slice_index_or ys j d)).0 ≡ Less
-    below_at x [] h j d b = absurd (omega arith)
-    below_at x (y ∷ ys) h zero d b = is_less _ (both_first _ _ h)
-    below_at x (y ∷ ys) h (suc j) d b = below_at x ys (both_second _ _ h) j d (omega arith)
-
-    no_pass : (ys : List Y) → T (below_all R key (map f ys)) → (j : ℕ) (d : Y) → j < length ys → passes (slice_index_or ys j d) ≡ true → ⊥
-    no_pass ys h j d b t = subst T (sym t ∙ ap is_gt (below_at key ys h j d b)) tt
-
-    pub is_partitioned : (ys : List Y) → T (is_sorted R (map f ys)) → IsPartitionedBy passes ys
-    is_partitioned [] h i j d le b t = absurd (omega arith)
-    is_partitioned (y ∷ ys) h zero zero d le b t = t
-    is_partitioned (y ∷ ys) h zero (suc j) d le b t =
-        elim (R key (f y).0) as (λ r. R key (f y).0 ≡ r → is_gt r ≡ true) [
-          | Less ↦ λ q. absurd (no_pass ys (less_all key (f y).0 (map f ys) q (both_first _ _ h)) j d (omega arith) t)
-          | Equal ↦ λ q. absurd (no_pass ys (tied_all key (f y).0 (map f ys) q (both_first _ _ h)) j d (omega arith) t)
-          | Greater ↦ λ q. refl
-        ] refl
-    is_partitioned (y ∷ ys) h (suc i) zero d le b t = absurd (omega arith)
-    is_partitioned (y ∷ ys) h (suc i) (suc j) d le b t = is_partitioned ys (both_second _ _ h) i j d (omega arith) (omega arith) t
-
-    pub place_is : (ys : List Y) (i : ℕ) → i ≤ length ys → IsPartitionPoint (λ y. passes y ≡ true) (λ y. passes y ≡ false) ys i → i ≡ place_among R key (map f ys)
-    place_is [] i b h = omega arith
-    place_is (y ∷ ys) zero b h = sym (ap (λ c. cond c (suc (place_among R key (map f ys))) 0) (h.1 0 y (omega arith) (omega arith)))
-    place_is (y ∷ ys) (suc i) b h =
-        let rest = place_is ys i (omega arith) (λ k d low high. h.0 (suc k) d (omega arith) (omega arith), λ k d low high. h.1 (suc k) d (omega arith) (omega arith)) in
-        ap suc rest ∙ sym (ap (λ c. cond c (suc (place_among R key (map f ys))) 0) (h.0 0 y (omega arith) (omega arith)))
 
   -- ---- what stands there
 

@@ -1,24 +1,21 @@
--- Rows and the nodes that they name, through a write, a new row and a removal.
-use Rattle.std.proofs.Common.{◌≡◌, ◌≢◌, ℕ, zero, suc, ◌+◌, ◌≤◌, ◌<◌, List, [], ◌∷◌, length, set, get_or, Option, Some, None, IsSome, is_some, true, false, cond, refl, ap, sym, subst, ◌∙◌, arith, T, Less, Equal, Greater}
-use Rattle.std.specs.Prelude.{slice_get, slice_index_or, MatchOption}
-use Rattle.std.specs.Option.{option_map}
-use Rattle.std.specs.List.{insert, remove}
-use Rattle.std.specs.declared.cmp.Ordering.{Ordering}
+-- Slots and the nodes that they name, through a write, a new row and a removal.
+use Rattle.std.proofs.Common.{◌≡◌, ℕ, zero, suc, ◌+◌, ◌≤◌, ◌<◌, List, [], ◌∷◌, length, set, get_or, Bool, Option, Some, None, true, false, cond, refl, ap, sym, subst, ◌∙◌, arith, T, inl, inr}
+use Rattle.std.specs.Prelude.{slice_get, is_some, IsSome}
+use Rattle.std.specs.List.{remove}
 use Rattle.std.specs.Ordering.{is_eq, is_gt}
 use Rattle.std.specs.FinMap.{is_sorted}
-use Rattle.std.proofs.lemmas.List.{length-set, length-map}
+use Rattle.std.proofs.lemmas.List.{length-set}
 use Rattle.std.proofs.lemmas.List.Edits.{length-insert, length-remove}
 use Rattle.std.proofs.lemmas.List.Sums.{sum_by-cons, sum_by-set, sum_by-insert, sum_by-remove}
-use Rattle.std.proofs.lemmas.Option.{same_Some, slice_get_read, slice_get_past, slice_get-map, get_or_from_slice_get}
-use Rattle.std.specs.declared.boxed.Box.{Box}
+use Rattle.std.proofs.lemmas.Bool.{cases_lt}
+use Rattle.std.proofs.lemmas.Option.{same_Some, slice_get_past, get_or_from_slice_get, none-some}
 use Rattle.fuse_spec.specs.declared.Binding.{Binding}
 use Rattle.fuse_spec.specs.Maps.{Place, place_cmp, get_name, put_name, remove_name}
-use Rattle.fk_dentry.specs.declared.row.Row.{Row}
 use Rattle.fk_dentry.specs.Named.{times, named, named_by, named_in, uses, mentions}
-use Rattle.fk_dentry.specs.Places.{place_among, IsEntryOf}
-use Rattle.fk_dentry.specs.Rows.{place_of_row, slot_of, slots_of, IsTable}
-use Rattle.fk_dentry.proofs.PlaceOrder.{place_total, place_same}
-use Rattle.fk_dentry.proofs.SortedEntries.{map_insert, map_remove, map_set, found, found_is, put_is, set_is, removed_is}
+use Rattle.fk_dentry.proofs.Places.{place_among, IsEntryOf}
+use Rattle.fk_dentry.specs.Rows.{bound_in, IsTable}
+use Rattle.fk_dentry.proofs.PlaceOrder.{place_total, place_same, tied}
+use Rattle.fk_dentry.proofs.SortedEntries.{found, found_is, put_is, set_is, removed_is, absent_is}
 use Rattle.fk_dentry.proofs.BoundNames.{Slots, sorted-put, sorted-remove}
 
 -- ---- what stands in a slot
@@ -85,15 +82,15 @@ module _ {slots : Slots} {key : Place} {place : ℕ} (r : EntryOf slots key plac
 
   -- ---- through a write and a removal
 
-  module _ {ids : List ℕ} {capacity : ℕ} (t : IsTable slots ids capacity) where
-    pub held_among : (q : ℕ) → times q held ≤ times q ids
+  module _ {count : ℕ → ℕ} {total capacity : ℕ} (t : IsTable slots count total capacity) where
+    pub held_among : (q : ℕ) → times q held ≤ count q
     held_among q =
         let less = sum_by-remove (λ s. times q (named_in s)) slots place r.entry r.bound in
         let here = ap (times q) held_is in
         let all = t.named q in
         omega arith
 
-    pub room_held : length ids + 2 ≤ capacity + length held
+    pub room_held : total + 2 ≤ capacity + length held
     room_held =
         let room = mentions_room slots place r.entry r.bound in
         let here = ap length held_is in
@@ -101,9 +98,9 @@ module _ {slots : Slots} {key : Place} {place : ℕ} (r : EntryOf slots key plac
         let fits = t.room in
         omega arith
 
-    pub table-put : (binding : Binding) (after : List ℕ) → ((q : ℕ) → times q after + times q held ≡ times q ids + times q (named key.0 binding.target))
-        → length after + length held ≡ length ids + length (named key.0 binding.target) → IsTable (put_name slots key (Some binding)) after capacity
-    table-put binding after swapped as_many = record {
+    pub table-put : (binding : Binding) (after : ℕ → ℕ) (total_after most : ℕ) → ((q : ℕ) → after q + times q held ≡ count q + times q (named key.0 binding.target))
+        → total_after + length held ≡ total + length (named key.0 binding.target) → capacity ≤ most → IsTable (put_name slots key (Some binding)) after total_after most
+    table-put binding after total_after most swapped as_many fits = record {
       sorted = sorted-put slots key (Some binding) t.sorted;
       named = λ q.
           let new : times q (named_in (r.entry.0, Some binding)) ≡ times q (named key.0 binding.target) = ap (λ (p : Place). times q (named p.0 binding.target)) (sym key_is) in
@@ -122,12 +119,12 @@ module _ {slots : Slots} {key : Place} {place : ℕ} (r : EntryOf slots key plac
           omega arith;
       room =
           let same : length (put_name slots key (Some binding)) ≡ length slots = ap length (sym (put_there (Some binding))) ∙ length-set slots place (r.entry.0, Some binding) in
-          let fits = t.room in
+          let room = t.room in
           omega arith;
     }
 
-    module _ (left : List ℕ) (gone : (q : ℕ) → times q left + times q held ≡ times q ids) (fewer : length left + length held ≡ length ids) where
-      pub table-remove : IsTable (remove_name slots key) left capacity
+    module _ (left : ℕ → ℕ) (total_left most : ℕ) (gone : (q : ℕ) → left q + times q held ≡ count q) (fewer : total_left + length held ≡ total) (fits : capacity ≤ most) where
+      pub table-remove : IsTable (remove_name slots key) left total_left most
       table-remove = record {
         sorted = sorted-remove slots key t.sorted;
         named = λ q.
@@ -146,11 +143,103 @@ module _ {slots : Slots} {key : Place} {place : ℕ} (r : EntryOf slots key plac
         room =
             let less = length-remove slots place r.bound in
             let is = ap length (remove_there t.sorted) in
-            let fits = t.room in
+            let room = t.room in
             omega arith;
       }
 
--- ---- a new row
+-- a name that is found has its entry
+module _ (slots : Slots) (key : Place) (slot : Option Binding) (h : T (is_sorted place_cmp slots)) (is : get_name slots key ≡ Some slot) where
+  abbrev its_place : ℕ
+  its_place = place_among place_cmp key slots
+
+  pub entry_there : (r : EntryOf slots key its_place) × (r.entry.1 ≡ slot)
+  entry_there = by (slice_get slots its_place) refl (sym (found_is place_cmp place_total key slots h) ∙ is)
+    where
+      within : (e : Place × Option Binding) → slice_get slots its_place ≡ Some e → its_place < length slots
+      within e at = elim (cases_lt its_place (length slots)) as (λ _. its_place < length slots) [
+        | inl lt ↦ lt
+        | inr le ↦ absurd (none-some e (sym (slice_get_past slots its_place le) ∙ at))
+      ]
+
+      at_entry : (e : Place × Option Binding) → slice_get slots its_place ≡ Some e → (b : Bool) → is_eq (place_cmp key e.0) ≡ b → cond b (Some e.1) None ≡ Some slot → (r : EntryOf slots key its_place) × (r.entry.1 ≡ slot)
+      at_entry e at true t f = (record { at = refl; bound = within e at; entry = e; there = at; same = tied _ t }, same_Some e.1 slot f)
+      at_entry e at false t f = absurd (none-some slot f)
+
+      by : (o : Option (Place × Option Binding)) → slice_get slots its_place ≡ o → found place_cmp place_total key o ≡ Some slot → (r : EntryOf slots key its_place) × (r.entry.1 ≡ slot)
+      by None at f = absurd (none-some slot f)
+      by (Some e) at f = at_entry e at (is_eq (place_cmp key e.0)) refl f
+
+-- ---- through a write and a removal under a name
+
+module _ {slots : Slots} {count : ℕ → ℕ} {total capacity : ℕ} (key : Place) where
+  module _ (slot : Option Binding) (t : IsTable slots count total capacity) (is : get_name slots key ≡ Some slot) where
+    r : EntryOf slots key (its_place slots key slot t.sorted is)
+    r = (entry_there slots key slot t.sorted is).0
+
+    slot_is : r.entry.1 ≡ slot
+    unfolding r
+    slot_is = (entry_there slots key slot t.sorted is).1
+
+    slot_among : (q : ℕ) → times q (named_by key.0 slot) ≤ count q
+    slot_among q = subst (λ (b : Option Binding). times q (named_by key.0 b) ≤ count q) slot_is (held_among r t q)
+
+    slot_room : total + 2 ≤ capacity + length (named_by key.0 slot)
+    slot_room = subst (λ (b : Option Binding). total + 2 ≤ capacity + length (named_by key.0 b)) slot_is (room_held r t)
+
+    slot-with : (binding : Binding) (after : ℕ → ℕ) (total_after most : ℕ) → ((q : ℕ) → after q + times q (named_by key.0 slot) ≡ count q + times q (named key.0 binding.target))
+        → total_after + length (named_by key.0 slot) ≡ total + length (named key.0 binding.target) → capacity ≤ most → IsTable (put_name slots key (Some binding)) after total_after most
+    slot-with binding after total_after most swapped as_many fits =
+        table-put r t binding after total_after most
+        (subst (λ (b : Option Binding). (q : ℕ) → after q + times q (named_by key.0 b) ≡ count q + times q (named key.0 binding.target)) (sym slot_is) swapped)
+        (subst (λ (b : Option Binding). total_after + length (named_by key.0 b) ≡ total + length (named key.0 binding.target)) (sym slot_is) as_many)
+        fits
+
+  module _ (t : IsTable slots count total capacity) where
+    pub bound_among : (q : ℕ) → times q (named_by key.0 (bound_in (get_name slots key))) ≤ count q
+    bound_among q = by (get_name slots key) refl
+      where
+        by : (o : Option (Option Binding)) → get_name slots key ≡ o → times q (named_by key.0 (bound_in o)) ≤ count q
+        by None e = omega arith
+        by (Some slot) e = slot_among slot t e q
+
+    -- through a write under a name that has room
+    module _ (there : IsSome (get_name slots key)) where
+      pub room_bound : total + 2 ≤ capacity + length (named_by key.0 (bound_in (get_name slots key)))
+      room_bound = by (get_name slots key) refl
+        where
+          by : (o : Option (Option Binding)) → get_name slots key ≡ o → total + 2 ≤ capacity + length (named_by key.0 (bound_in o))
+          by None e = absurd (subst T (sym there ∙ ap is_some e) tt)
+          by (Some slot) e = slot_room slot t e
+
+      pub table-with : (binding : Binding) (after : ℕ → ℕ) (total_after most : ℕ)
+          → ((q : ℕ) → after q + times q (named_by key.0 (bound_in (get_name slots key))) ≡ count q + times q (named key.0 binding.target))
+          → total_after + length (named_by key.0 (bound_in (get_name slots key))) ≡ total + length (named key.0 binding.target) → capacity ≤ most → IsTable (put_name slots key (Some binding)) after total_after most
+      table-with binding after total_after most swapped as_many fits = by (get_name slots key) refl swapped as_many
+        where
+          by : (o : Option (Option Binding)) → get_name slots key ≡ o → ((q : ℕ) → after q + times q (named_by key.0 (bound_in o)) ≡ count q + times q (named key.0 binding.target))
+              → total_after + length (named_by key.0 (bound_in o)) ≡ total + length (named key.0 binding.target) → IsTable (put_name slots key (Some binding)) after total_after most
+          by None e swapped as_many = absurd (subst T (sym there ∙ ap is_some e) tt)
+          by (Some slot) e swapped as_many = slot-with slot t e binding after total_after most swapped as_many fits
+
+    pub table-without : (left : ℕ → ℕ) (total_left most : ℕ) → ((q : ℕ) → left q + times q (named_by key.0 (bound_in (get_name slots key))) ≡ count q)
+        → total_left + length (named_by key.0 (bound_in (get_name slots key))) ≡ total → capacity ≤ most → IsTable (remove_name slots key) left total_left most
+    table-without left total_left most gone fewer fits = by (get_name slots key) refl gone fewer
+      where
+        by : (o : Option (Option Binding)) → get_name slots key ≡ o → ((q : ℕ) → left q + times q (named_by key.0 (bound_in o)) ≡ count q)
+            → total_left + length (named_by key.0 (bound_in o)) ≡ total → IsTable (remove_name slots key) left total_left most
+        by None e gone fewer = subst (λ s. IsTable s left total_left most) (sym (absent_is place_cmp place_total key slots e)) (record {
+          sorted = t.sorted;
+          named = λ q. (let was = t.named q in let is = gone q in omega arith);
+          many = (let was = t.many in omega arith);
+          room = (let room = t.room in omega arith);
+        })
+        by (Some slot) e gone fewer =
+            table-remove (r slot t e) t left total_left most
+            (subst (λ (b : Option Binding). (q : ℕ) → left q + times q (named_by key.0 b) ≡ count q) (sym (slot_is slot t e)) gone)
+            (subst (λ (b : Option Binding). total_left + length (named_by key.0 b) ≡ total) (sym (slot_is slot t e)) fewer)
+            fits
+
+-- ---- a name that gets room
 
 place_bound : (key : Place) (slots : Slots) → place_among place_cmp key slots ≤ length slots
 place_bound key [] = omega arith
@@ -158,9 +247,9 @@ place_bound key (slot ∷ slots) =
     let rest = place_bound key slots in
     elim (is_gt (place_cmp key slot.0)) as (λ b. cond b (suc (place_among place_cmp key slots)) 0 ≤ length (slot ∷ slots)) [ true ↦ omega arith | false ↦ omega arith ]
 
-pub table-room : {slots : Slots} {ids : List ℕ} {capacity : ℕ} (key : Place) (most : ℕ) → IsTable slots ids capacity → get_name slots key ≡ None → length slots + 1 + (length slots + 1) ≤ most
-    → IsTable (put_name slots key None) ids most
-table-room {slots = slots} {ids = ids} key most t none fits = record {
+pub table-room : {slots : Slots} {count : ℕ → ℕ} {total capacity : ℕ} (key : Place) (most : ℕ) → IsTable slots count total capacity → get_name slots key ≡ None → length slots + 1 + (length slots + 1) ≤ most
+    → IsTable (put_name slots key None) count total most
+table-room {slots = slots} key most t none fits = record {
   sorted = sorted-put slots key None t.sorted;
   named = λ q.
       let more = sum_by-insert (λ s. times q (named_in s)) slots (place_among place_cmp key slots) (key, None) in
@@ -177,76 +266,3 @@ table-room {slots = slots} {ids = ids} key most t none fits = record {
       let is = ap length (put_is place_cmp place_total key None slots none) in
       omega arith;
 }
-
--- ---- rows
-
-module _ {A : Type 0} (rows : List (Box (Row A) A)) where
-  pub length-slots : length (slots_of rows) ≡ length rows
-  length-slots = length-map rows slot_of
-
-  -- the entry of a row that was read
-  pub row_is : {key : Place} {place : ℕ} (r : EntryOf (slots_of rows) key place) (row : Box (Row A) A) → row ≡ slice_index_or rows place row → r.entry ≡ (place_of_row row.value, row.value.binding)
-  row_is {place = place} r row is =
-      let bound : place < length rows = subst (λ n. place < n) length-slots r.bound in
-      same_Some r.entry _ (sym r.there ∙ slice_get-map slot_of rows place ∙ ap (λ o. option_map slot_of o) (slice_get_read rows (length rows) place row refl bound is))
-
-  pub slots-put : {key : Place} {place : ℕ} (r : EntryOf (slots_of rows) key place) (row : Box (Row A) A) (binding : Option Binding) → row ≡ slice_index_or rows place row
-      → slots_of (set rows place (record row { value = record row.value { binding = binding } })) ≡ put_name (slots_of rows) key binding
-  slots-put {place = place} r row binding is =
-      map_set slot_of rows place (record row { value = record row.value { binding = binding } })
-      ∙ ap (λ (e : Place × Option Binding). set (slots_of rows) place (e.0, binding)) (sym (row_is r row is)) ∙ put_there r binding
-
-  pub slots-remove : {key : Place} {place : ℕ} → EntryOf (slots_of rows) key place → T (is_sorted place_cmp (slots_of rows)) → slots_of (remove rows place) ≡ remove_name (slots_of rows) key
-  slots-remove {place = place} r h = map_remove slot_of rows place ∙ remove_there r h
-
-  pub slots-insert : (key : Place) (place : ℕ) (row : Box (Row A) A) → place ≡ place_among place_cmp key (slots_of rows) → place_of_row row.value ≡ key → row.value.binding ≡ None → get_name (slots_of rows) key ≡ None
-      → slots_of (insert rows place row) ≡ put_name (slots_of rows) key None
-  slots-insert key place row at same unbound none =
-      map_insert slot_of rows place row ∙ ap (λ (k : Place). insert (slots_of rows) place (k, row.value.binding)) same
-      ∙ ap (λ (b : Option Binding). insert (slots_of rows) place (key, b)) unbound ∙ ap (λ i. insert (slots_of rows) i (key, None)) at ∙ put_is place_cmp place_total key None (slots_of rows) none
-
-  -- the same at the place where the rows that were seen have it
-  pub slots-insert_at : (seen : List (Box (Row A) A)) (key : Place) (place : ℕ) (row : Box (Row A) A) → seen ≡ rows → place ≡ place_among place_cmp key (slots_of seen) → place_of_row row.value ≡ key → row.value.binding ≡ None
-      → get_name (slots_of rows) key ≡ None → slots_of (insert rows place row) ≡ put_name (slots_of rows) key None
-  slots-insert_at seen key place row same at of_key unbound none = slots-insert key place row (at ∙ ap (λ (rs : List (Box (Row A) A)). place_among place_cmp key (slots_of rs)) same) of_key unbound none
-
-  -- ---- what a search ends at
-
-  found_at : (key : Place) (place : ℕ) → T (is_sorted place_cmp (slots_of rows)) → place ≡ place_among place_cmp key (slots_of rows)
-      → get_name (slots_of rows) key ≡ found place_cmp place_total key (option_map slot_of (slice_get rows place))
-  found_at key place h at =
-      found_is place_cmp place_total key (slots_of rows) h ∙ ap (λ i. found place_cmp place_total key (slice_get (slots_of rows) i)) (sym at)
-      ∙ ap (found place_cmp place_total key) (slice_get-map slot_of rows place)
-
-  pub none_past : (key : Place) (place : ℕ) → T (is_sorted place_cmp (slots_of rows)) → place ≡ place_among place_cmp key (slots_of rows) → place ≡ length rows → get_name (slots_of rows) key ≡ None
-  none_past key place h at end = found_at key place h at ∙ ap (λ o. found place_cmp place_total key (option_map slot_of o)) (slice_get_past rows place (omega arith))
-
-  pub none_other : (key : Place) (place : ℕ) (row : Box (Row A) A) → T (is_sorted place_cmp (slots_of rows)) → place ≡ place_among place_cmp key (slots_of rows) → place ≤ length rows → place ≢ length rows → row ≡ slice_index_or rows place row
-      → is_eq (place_cmp key (place_of_row row.value)) ≡ false → get_name (slots_of rows) key ≡ None
-  none_other key place row h at le ne is other =
-      let there : slice_get rows place ≡ Some row = slice_get_read rows (length rows) place row refl (omega arith) is in
-      found_at key place h at ∙ ap (λ o. found place_cmp place_total key (option_map slot_of o)) there ∙ ap (λ b. cond b (Some row.value.binding) None) other
-
-  equal : (r : Ordering) → is_eq r ≡ true → r ≡ Equal
-  equal Less e = absurd (subst T (sym e) tt)
-  equal Equal e = refl
-  equal Greater e = absurd (subst T (sym e) tt)
-
-  pub row_there : (key : Place) (place : ℕ) (row : Box (Row A) A) → place ≡ place_among place_cmp key (slots_of rows) → place ≤ length rows → place ≢ length rows → row ≡ slice_index_or rows place row
-      → is_eq (place_cmp key (place_of_row row.value)) ≡ true → EntryOf (slots_of rows) key place
-  row_there key place row at le ne is same = record {
-    at = at;
-    bound = subst (λ n. place < n) (sym length-slots) (omega arith);
-    entry = (place_of_row row.value, row.value.binding);
-    there = slice_get-map slot_of rows place ∙ ap (option_map slot_of) (slice_get_read rows (length rows) place row refl (omega arith) is);
-    same = equal _ same;
-  }
-
--- what a search says by whether it ended at a row
-pub no_row : (slots : Slots) (key : Place) (o : Option ℕ) → MatchOption o (get_name slots key ≡ None) (EntryOf slots key) → is_some o ≡ false → get_name slots key ≡ None
-no_row slots key None none e = none
-no_row slots key (Some place) r e = absurd (subst T e tt)
-
-pub some_row : (slots : Slots) (key : Place) (o : Option ℕ) → T (is_sorted place_cmp slots) → MatchOption o (get_name slots key ≡ None) (EntryOf slots key) → is_some o ≡ true → IsSome (get_name slots key)
-some_row slots key None h none e = absurd (subst T (sym e) tt)
-some_row slots key (Some place) h r e = ap is_some (get_is r h)

@@ -1,4 +1,5 @@
-pub mod Places
 pub mod Rows
+pub mod Keys
 pub mod Named
+pub mod Counts
 pub mod NamesInForce

@@ -1,21 +1,7 @@
 -- The nodes that bindings name, each as often as it is named.
-use Rattle.std.specs.Prelude.{ℕ, suc, Bool, true, ◌&&◌, List, [], ◌∷◌, Option, Some, None, cond, length, nat_eq, nat_lt, nat_le, count_by, sum_by}
+use Rattle.std.specs.Prelude.{ℕ, List, [], ◌∷◌, Option, Some, None, length, nat_eq, count_by, sum_by}
 use Rattle.fuse_spec.specs.declared.Binding.{Binding}
 use Rattle.fuse_spec.specs.Maps.{Place, NameMap}
-
-abbrev pub all_from : ℕ → List ℕ → Bool
-all_from x [] = true
-all_from x (y ∷ ys) = nat_le x y && all_from x ys
-
--- no number is below one before it
-abbrev pub is_rising : List ℕ → Bool
-is_rising [] = true
-is_rising (x ∷ xs) = all_from x xs && is_rising xs
-
--- how many of the numbers, from the first on, are lower
-abbrev pub place_under : ℕ → List ℕ → ℕ
-place_under id [] = 0
-place_under id (x ∷ xs) = cond (nat_lt x id) (suc (place_under id xs)) 0
 
 abbrev pub times : ℕ → List ℕ → ℕ
 times id ids = count_by (nat_eq id) ids

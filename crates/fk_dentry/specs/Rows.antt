@@ -1,22 +1,17 @@
 -- Rows of names, read as the names that have room and those that are bound.
-use Rattle.std.specs.Prelude.{◌≡◌, ℕ, ◌+◌, ◌≤◌, List, [], ◌∷◌, Option, Some, None, map, length, T}
+use Rattle.std.specs.Prelude.{◌≡◌, ℕ, ◌+◌, ◌≤◌, List, [], ◌∷◌, Option, Some, None, length, T}
 use Rattle.std.specs.FinMap.{is_sorted}
-use Rattle.std.specs.declared.boxed.Box.{Box}
 use Rattle.fuse_spec.specs.declared.Binding.{Binding}
-use Rattle.fuse_spec.specs.Maps.{Place, NameMap, place_cmp}
-use Rattle.fk_dentry.specs.declared.row.Row.{Row}
-use Rattle.fk_dentry.specs.Named.{times, uses, mentions}
+use Rattle.fuse_spec.specs.Maps.{NameMap, place_cmp, put_name}
+use Rattle.fk_dentry.specs.declared.key.NameKey.{NameKey}
+use Rattle.fk_dentry.specs.Keys.{place_of_key}
+use Rattle.fk_dentry.specs.Named.{uses, mentions}
 
 module _ {A : Type 0} where
-  abbrev pub place_of_row : Row A → Place
-  place_of_row row = (row.directory, row.name.items)
-
-  abbrev pub slot_of : Box (Row A) A → Place × Option Binding
-  slot_of row = (place_of_row row.value, row.value.binding)
-
-  -- each name that has room, with its binding if it has one
-  abbrev pub slots_of : List (Box (Row A) A) → NameMap (Option Binding)
-  slots_of rows = map slot_of rows
+  -- each name that has room, with its binding if it has one: the entries of a hash map, in rising order
+  abbrev pub slots_of : List (NameKey A × Option Binding) → NameMap (Option Binding)
+  slots_of [] = []
+  slots_of (e ∷ es) = put_name (slots_of es) (place_of_key e.0) e.1
 
 -- the names that are bound
 abbrev pub names_in : NameMap (Option Binding) → NameMap Binding
@@ -24,9 +19,14 @@ names_in [] = []
 names_in ((place, None) ∷ slots) = names_in slots
 names_in ((place, Some binding) ∷ slots) = (place, binding) ∷ names_in slots
 
--- The names rise, each node stands among the ids as often as bindings name it, and there is room for two ids a name.
-pub record IsTable (slots : NameMap (Option Binding)) (ids : List ℕ) (capacity : ℕ) : Type 0 where
+-- the binding in a slot, if there is one
+abbrev pub bound_in : Option (Option Binding) → Option Binding
+bound_in None = None
+bound_in (Some binding) = binding
+
+-- The names rise, each node is counted as often as bindings name it, and there is room for two mentions a name.
+pub record IsTable (slots : NameMap (Option Binding)) (count : ℕ → ℕ) (total capacity : ℕ) : Type 0 where
   pub sorted : T (is_sorted place_cmp slots)
-  pub named : (id : ℕ) → times id ids ≡ uses id slots
-  pub many : length ids ≡ mentions slots
+  pub named : (id : ℕ) → count id ≡ uses id slots
+  pub many : total ≡ mentions slots
   pub room : length slots + length slots ≤ capacity

@@ -5,12 +5,19 @@ ghost use Rattle.fuse_spec.specs.Vfs.{valid_at};
 ghost use Rattle.fk_dentry.specs.NamesInForce.{HasRoom, found_of, names_the_node};
 
 use crate::found::Found;
-use crate::named_nodes::NamedNodes;
-use crate::row::Row;
-use crate::rows::{add, bind, binding_at, find_in, take_out};
+use crate::key::NameKey;
+use crate::node_counts::NodeCounts;
+use crate::rows::{Rows, add, bind, slot, take_out};
 use fuse_spec::Binding;
+use indexmap::IndexMap;
 use std::alloc::{AllocError, Allocator, Global};
 use std::marker::Model;
+
+/// How many counts of nodes there is room for, for each name: it names two nodes at most, and one count more may have fallen to 0.
+const COUNTS: usize = 3;
+
+/// Names stay below this, so that three counts for each can be counted.
+const MOST: usize = 0x1000_0000_0000_0000;
 
 /// The names in force: each name of a directory that is bound, with the node to which it leads, if any, and the time
 /// in milliseconds from which it is valid no more.
@@ -21,17 +28,17 @@ use std::marker::Model;
 ///
 /// | Call | Time |
 /// |---|---|
-/// | `find`, `names_node` | `log n` steps |
-/// | `put`, `remove`, `reserve` | `log n` steps, and those behind move by one place |
+/// | `find`, `names_node`, `remove` | one step |
+/// | `put`, `reserve` | one step, on the whole of many calls: at times one moves all entries of a hash map |
 /// | `clear` | `n` steps |
 #[derive(Drop)]
 pub struct Bindings<A: Allocator = Global> {
-    rows: Vec<Box<Row<A>, A>, A>,
-    nodes: NamedNodes<A>,
+    rows: Rows<A>,
+    nodes: NodeCounts<A>,
 }
 
 impl<A: Allocator> Model for Bindings<A> {
-    ghost use Rattle.std.specs.Prelude.{vec_capacity};
+    ghost use Rattle.fk_dentry.specs.Counts.{count_in, total_in};
     ghost use Rattle.std.specs.Coded.{codes};
     ghost use Rattle.fk_dentry.specs.NamesInForce.{NamesInForce, names_code};
     ghost use Rattle.fk_dentry.specs.Rows.{slots_of, names_in, IsTable};
@@ -40,9 +47,9 @@ impl<A: Allocator> Model for Bindings<A> {
 
     ghost coded = { names_code };
 
-    ghost view = { λ b. record { names = names_in (slots_of b.rows.items); slots = slots_of b.rows.items } };
+    ghost view = { λ b. record { names = names_in (slots_of b.rows.entries); slots = slots_of b.rows.entries } };
 
-    ghost invariant = { λ b. IsTable (slots_of b.rows.items) b.nodes.ids.items (vec_capacity b.nodes.ids) };
+    ghost invariant = { λ b. IsTable (slots_of b.rows.entries) (count_in b.nodes.counts.entries) (total_in b.nodes.counts.entries) b.nodes.most };
 }
 
 impl<A: Allocator + Copy> Bindings<A> {
@@ -51,8 +58,8 @@ impl<A: Allocator + Copy> Bindings<A> {
         ensures { result.names ≡ [] }
     {
         Bindings {
-            rows: Vec::new(alloc),
-            nodes: NamedNodes::new(alloc),
+            rows: IndexMap::new(alloc),
+            nodes: NodeCounts::new(alloc),
         }
     }
 
@@ -73,8 +80,7 @@ impl<A: Allocator + Copy> Bindings<A> {
     fn bound(&self, directory: u64, name: &[u8]) -> Option<Binding>
         ensures { result ≡ get_name self.now.names (directory, name.now) }
     {
-        let place = find_in(&self.rows, directory, name)?;
-        binding_at(&self.rows, place)
+        slot(&self.rows, directory, name)?
     }
 
     /// Makes room for a name: from then on a `put` of it takes no memory, until it is removed or all are cleared.
@@ -88,20 +94,18 @@ impl<A: Allocator + Copy> Bindings<A> {
         ensures kept { (other : Place) → HasRoom self.old other → HasRoom self.new other }
         ensures succeeds { HasRoom self.old (directory, name.now) → IsOk result }
     {
-        if find_in(&self.rows, directory, name).is_some() {
+        if slot(&self.rows, directory, name).is_some() {
             return Ok(());
         }
-        let alloc = *self.rows.allocator();
-        let name = name.to_vec(alloc)?;
-        let row = Row {
-            directory,
-            name,
-            binding: None,
-        };
-        let row = Box::new(alloc, row)?;
+        let names = self.rows.len() + 1;
+        if names > MOST {
+            // no memory holds so many names
+            return Err(AllocError);
+        }
+        let name = name.to_vec(*self.rows.allocator())?;
         self.rows.reserve(1)?;
-        self.nodes.reserve_in_all(2 * self.rows.capacity())?;
-        add(&mut self.rows, row);
+        self.nodes.reserve_in_all(COUNTS * names)?;
+        add(&mut self.rows, NameKey { directory, name });
         Ok(())
     }
 
@@ -119,12 +123,8 @@ impl<A: Allocator + Copy> Bindings<A> {
         ensures names { self.new.names ≡ put_name self.old.names (directory, name.now) binding }
         ensures kept { (other : Place) → HasRoom self.old other → HasRoom self.new other }
     {
-        let Some(place) = find_in(&self.rows, directory, name) else {
-            return;
-        };
-        let old = binding_at(&self.rows, place);
+        let old = bind(&mut self.rows, directory, name, binding);
         self.nodes.replace(directory, old, binding.target);
-        bind(&mut self.rows, place, binding);
     }
 
     /// Removes the binding of a name and its room. Says whether it was bound, also after its end.
@@ -141,10 +141,7 @@ impl<A: Allocator + Copy> Bindings<A> {
         ensures names { self.new.names ≡ remove_name self.old.names (directory, name.now) }
         ensures kept { (other : Place) → other ≢ (directory, name.now) → HasRoom self.old other → HasRoom self.new other }
     {
-        let Some(place) = find_in(&self.rows, directory, name) else {
-            return None;
-        };
-        let binding = take_out(&mut self.rows, place);
+        let binding = take_out(&mut self.rows, directory, name);
         self.nodes.leave(directory, binding);
         binding
     }

@@ -3,8 +3,8 @@
 
 mod bindings;
 mod found;
-mod named_nodes;
-mod row;
+mod key;
+mod node_counts;
 mod rows;
 
 pub use bindings::Bindings;

@@ -1,83 +1,67 @@
-//! Rows in the order of their directories and names.
-ghost use Rattle.std.specs.Prelude.{◌≡◌, ◌<◌, ◌≤◌, None, Some, length, vec_len, vec_capacity, MatchOption, T};
-ghost use Rattle.std.specs.FinMap.{is_sorted};
-ghost use Rattle.fuse_spec.specs.Maps.{Place, place_cmp, get_name, put_name, remove_name};
-ghost use Rattle.fk_dentry.specs.Rows.{place_of_row, slots_of};
-ghost use Rattle.fk_dentry.specs.Places.{place_among, IsEntryOf};
+//! The names that have room, in a hash map.
+ghost use Rattle.std.specs.Prelude.{◌≡◌, ℕ, ◌+◌, ◌<◌, ◌≤◌, [], None, Some, IsSome, length};
+ghost use Rattle.indexmap.specs.IndexMap.{spare};
+ghost use Rattle.fuse_spec.specs.Maps.{get_name, put_name, remove_name};
+ghost use Rattle.fk_dentry.specs.Keys.{place_of_key};
+ghost use Rattle.fk_dentry.specs.Rows.{slots_of, bound_in};
 
-use crate::row::{Row, is_after, is_of};
+use crate::key::{LentKey, NameKey};
 use fuse_spec::Binding;
+use indexmap::IndexMap;
 use std::alloc::Allocator;
+use std::hash::{BuildHasherDefault, FoldHasher};
 
-/// How many of the rows, from the first on, come before a name.
-pub(crate) fn place_in<A: Allocator>(rows: &[Box<Row<A>, A>], directory: u64, name: &[u8]) -> usize
-    requires { T (is_sorted place_cmp (slots_of rows.now)) }
-    ensures place { result ≡ place_among place_cmp (directory, name.now) (slots_of rows.now) }
-    ensures bound { result ≤ length rows.now }
-{
-    rows.partition_point(|row| is_after(directory, name, row))
-}
+/// Each name that has room, with its binding if it has one.
+pub(crate) type Rows<A> = IndexMap<NameKey<A>, Option<Binding>, BuildHasherDefault<FoldHasher>, A>;
 
-/// Where the row of a name stands.
-pub(crate) fn find_in<A: Allocator>(
-    rows: &[Box<Row<A>, A>],
+/// What stands under a name that has room.
+pub(crate) fn slot<A: Allocator>(
+    rows: &Rows<A>,
     directory: u64,
     name: &[u8],
-) -> Option<usize>
-    requires { T (is_sorted place_cmp (slots_of rows.now)) }
-    ensures { MatchOption result (get_name (slots_of rows.now) (directory, name.now) ≡ None) (IsEntryOf place_cmp (slots_of rows.now) (directory, name.now)) }
+) -> Option<Option<Binding>>
+    ensures { result ≡ get_name (slots_of rows.now.entries) (directory, name.now) }
 {
-    let place = place_in(rows, directory, name);
-    if place == rows.len() {
-        return None;
-    }
-    if is_of(directory, name, &rows[place]) {
-        Some(place)
-    } else {
-        None
-    }
+    rows.get(LentKey { directory, name }).copied()
 }
 
-/// The binding in the row at a place.
-pub(crate) fn binding_at<A: Allocator>(rows: &[Box<Row<A>, A>], place: usize) -> Option<Binding>
-    requires { place < length rows.now }
-    ensures { (key : Place) → (r : IsEntryOf place_cmp (slots_of rows.now) key place) → result ≡ r.entry.1 }
+/// Puts a row without a binding, into room that was made.
+pub(crate) fn add<A: Allocator + Copy>(rows: &mut Rows<A>, key: NameKey<A>)
+    requires { 0 < spare rows.old }
+    ensures { slots_of rows.new.entries ≡ put_name (slots_of rows.old.entries) (place_of_key key) None }
 {
-    rows[place].binding
+    let _old = rows.insert(key, None).unwrap();
 }
 
-/// Puts a row without a binding for a name that has none, into room that was made.
-pub(crate) fn add<A: Allocator>(rows: &mut Vec<Box<Row<A>, A>, A>, row: Box<Row<A>, A>)
-    requires room { vec_len rows.old < vec_capacity rows.old }
-    requires sorted { T (is_sorted place_cmp (slots_of rows.old.items)) }
-    requires absent { get_name (slots_of rows.old.items) (place_of_row row.value) ≡ None }
-    requires unbound { row.value.binding ≡ None }
-    ensures slots { slots_of rows.new.items ≡ put_name (slots_of rows.old.items) (place_of_row row.value) None }
-    ensures capacity { vec_capacity rows.new ≡ vec_capacity rows.old }
-{
-    let place = place_in(rows.as_slice(), row.directory, row.name.as_slice());
-    let added: Result<(), _> = rows.insert(place, row);
-    added.unwrap();
-}
-
-/// Binds the name of the row at a place.
-pub(crate) fn bind<A: Allocator>(rows: &mut Vec<Box<Row<A>, A>, A>, place: usize, binding: Binding)
-    requires { place < vec_len rows.old }
-    ensures { (key : Place) → IsEntryOf place_cmp (slots_of rows.old.items) key place → slots_of rows.new.items ≡ put_name (slots_of rows.old.items) key (Some binding) }
-{
-    rows[place].binding = Some(binding);
-}
-
-/// Takes the row at a place out, and gives its binding.
-pub(crate) fn take_out<A: Allocator>(
-    rows: &mut Vec<Box<Row<A>, A>, A>,
-    place: usize,
+/// Binds a name that has room, and gives what it was bound to.
+pub(crate) fn bind<A: Allocator>(
+    rows: &mut Rows<A>,
+    directory: u64,
+    name: &[u8],
+    binding: Binding,
 ) -> Option<Binding>
-    requires there { place < vec_len rows.old }
-    requires sorted { T (is_sorted place_cmp (slots_of rows.old.items)) }
-    ensures binding { (key : Place) → (r : IsEntryOf place_cmp (slots_of rows.old.items) key place) → result ≡ r.entry.1 }
-    ensures slots { (key : Place) → IsEntryOf place_cmp (slots_of rows.old.items) key place → slots_of rows.new.items ≡ remove_name (slots_of rows.old.items) key }
+    requires { IsSome (get_name (slots_of rows.old.entries) (directory, name.now)) }
+    ensures old { result ≡ bound_in (get_name (slots_of rows.old.entries) (directory, name.now)) }
+    ensures slots { slots_of rows.new.entries ≡ put_name (slots_of rows.old.entries) (directory, name.now) (Some binding) }
 {
-    let row = rows.remove(place);
-    row.binding
+    match rows.get_mut(LentKey { directory, name }) {
+        Some(slot) => slot.replace(binding),
+        // Ruled out: the name has room.
+        None => None,
+    }
+}
+
+/// Takes the row of a name out, and gives its binding.
+pub(crate) fn take_out<A: Allocator>(
+    rows: &mut Rows<A>,
+    directory: u64,
+    name: &[u8],
+) -> Option<Binding>
+    ensures binding { result ≡ bound_in (get_name (slots_of rows.old.entries) (directory, name.now)) }
+    ensures slots { slots_of rows.new.entries ≡ remove_name (slots_of rows.old.entries) (directory, name.now) }
+{
+    match rows.swap_remove(LentKey { directory, name }) {
+        Some(binding) => binding,
+        None => None,
+    }
 }

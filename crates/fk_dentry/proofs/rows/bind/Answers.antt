@@ -1,11 +1,31 @@
-use Rattle.std.proofs.Common.{ap, ◌∙◌, Some, set}
-use Rattle.std.specs.Box.{with_value}
-use Rattle.fk_dentry.specs.declared.row.Row.{Row}
-use Rattle.fk_dentry.specs.Rows.{slots_of}
-use Rattle.fk_dentry.proofs.TableLemmas.{slots-put}
+use Rattle.std.proofs.Common.{◌≡◌, Some, Option, None, sym, ◌∙◌, ap, is_some, subst, T}
+use Rattle.std.specs.Option.{option_copied_mut}
+use Rattle.fuse_spec.specs.declared.Binding.{Binding}
+use Rattle.fuse_spec.specs.Maps.{Place, get_name, put_name}
+use Rattle.fk_dentry.specs.Rows.{slots_of, bound_in}
+use Rattle.fk_dentry.proofs.HashRows.{get-slots, slots-put}
 use Rattle.fk_dentry.proofs.rows.bind.Goals as goal
 
-pub returns : goal.returns
-returns g c = λ key r.
-    ap (λ (row : Row _). slots_of (set c.args.rows.now.items c.args.place (with_value c.index_mut.result.now (record row { binding = Some c.args.binding })))) c.deref_mut.ensures.value
-    ∙ slots-put c.args.rows.now.items r c.index_mut.result.now (Some c.args.binding) c.index_mut.ensures.value
+pub returns-in-Some-clause-old : goal.returns-in-Some-clause-old
+returns-in-Some-clause-old g c =
+    let key : Place = (c.args.directory, c.args.name.now) in
+    c.replace.ensures.value ∙ ap bound_in (c.in-Some.ensures.value ∙ sym (get-slots c.args.rows.now.entries key))
+
+pub returns-in-Some-clause-slots : goal.returns-in-Some-clause-slots
+returns-in-Some-clause-slots g c =
+    let key : Place = (c.args.directory, c.args.name.now) in
+    let wrote = c.get_mut.follows.holds _ in
+    let updates = wrote.3 (ap is_some (sym c.in-Some.ensures.value)) in
+    slots-put c.args.rows.now.entries _ key c.replace.new.self updates.1 updates.3 ∙ ap (λ (slot : Option Binding). put_name (slots_of c.args.rows.now.entries) key slot) c.replace.ensures.after
+
+pub returns-in-None-clause-old : goal.returns-in-None-clause-old
+returns-in-None-clause-old g c =
+    let key : Place = (c.args.directory, c.args.name.now) in
+    let none = get-slots c.args.rows.now.entries key ∙ sym c.get_mut.ensures.value ∙ ap option_copied_mut c.in-None.is in
+    absurd (subst T (sym c.requires ∙ ap is_some none) tt)
+
+pub returns-in-None-clause-slots : goal.returns-in-None-clause-slots
+returns-in-None-clause-slots g c =
+    let key : Place = (c.args.directory, c.args.name.now) in
+    let none = get-slots c.args.rows.now.entries key ∙ sym c.get_mut.ensures.value ∙ ap option_copied_mut c.in-None.is in
+    absurd (subst T (sym c.requires ∙ ap is_some none) tt)

@@ -1,14 +1,25 @@
-use Rattle.std.proofs.Common.{ap, sym, Option, ◌∙◌}
-use Rattle.fuse_spec.specs.declared.Binding.{Binding}
+use Rattle.std.proofs.Common.{sym, ◌∙◌, ap}
 use Rattle.fuse_spec.specs.Maps.{Place}
-use Rattle.fk_dentry.specs.declared.row.Row.{Row}
-use Rattle.fk_dentry.specs.Rows.{slots_of}
-use Rattle.fk_dentry.proofs.TableLemmas.{row_is, slots-remove}
+use Rattle.fk_dentry.specs.Rows.{bound_in}
+use Rattle.fk_dentry.proofs.HashRows.{get-slots, slots-remove}
 use Rattle.fk_dentry.proofs.rows.take_out.Goals as goal
 
-pub returns-clause-binding : goal.returns-clause-binding
-returns-clause-binding g c = λ key r.
-    ap (λ (row : Row _). row.binding) c.deref.ensures ∙ sym (ap (λ (e : Place × Option Binding). e.1) (row_is c.args.rows.now.items r c.remove-row.result c.remove-row.ensures.value))
+pub returns-in-Some-clause-binding : goal.returns-in-Some-clause-binding
+returns-in-Some-clause-binding g c =
+    let key : Place = (c.args.directory, c.args.name.now) in
+    ap bound_in (sym c.in-Some.is ∙ c.swap_remove.ensures.value ∙ sym (get-slots c.args.rows.now.entries key))
 
-pub returns-clause-slots : goal.returns-clause-slots
-returns-clause-slots g c = λ key r. ap slots_of c.remove-row.ensures.items ∙ slots-remove c.args.rows.now.items r c.requires.sorted
+pub returns-in-Some-clause-slots : goal.returns-in-Some-clause-slots
+returns-in-Some-clause-slots g c =
+    let key : Place = (c.args.directory, c.args.name.now) in
+    slots-remove c.args.rows.now.entries _ key c.swap_remove.ensures.updates.1 c.swap_remove.ensures.updates.3
+
+pub returns-in-None-clause-binding : goal.returns-in-None-clause-binding
+returns-in-None-clause-binding g c =
+    let key : Place = (c.args.directory, c.args.name.now) in
+    ap bound_in (sym c.in-None.is ∙ c.swap_remove.ensures.value ∙ sym (get-slots c.args.rows.now.entries key))
+
+pub returns-in-None-clause-slots : goal.returns-in-None-clause-slots
+returns-in-None-clause-slots g c =
+    let key : Place = (c.args.directory, c.args.name.now) in
+    slots-remove c.args.rows.now.entries _ key c.swap_remove.ensures.updates.1 c.swap_remove.ensures.updates.3
