@@ -1,4 +1,3 @@
-pub mod Counts
 pub mod Soundness
 pub mod Refused
 pub mod Said

@@ -23,16 +23,16 @@ impl<A: Allocator + Copy> Model for CountedNodes<A> {
     ghost use Rattle.fuse_spec.specs.Maps.{Map};
     ghost use Rattle.fuse_spec.specs.declared.Counted.{Counted};
     ghost use Rattle.fuse_spec.specs.contracts.Counted as counted_row;
+    ghost use Rattle.std.specs.Prelude.{◌≤◌, length};
     ghost use Rattle.fk_lookup_count.specs.Slots.{nodes_in};
-    ghost use Rattle.fk_kernel.specs.Counts.{counts_of, AreUnpinned};
 
     ghost Value = { Map Counted };
 
     ghost coded = { Prim.hlevel (codes, counted_row.the_row.coded) };
 
-    ghost view = { λ t. counts_of (nodes_in t.table.slots) };
+    ghost view = { λ t. nodes_in t.table.slots };
 
-    ghost invariant = { λ t. AreUnpinned (nodes_in t.table.slots) t.most };
+    ghost invariant = { λ t. length (nodes_in t.table.slots) ≤ t.most };
 }
 
 impl<A: Allocator + Copy> CountedNodes<A> {

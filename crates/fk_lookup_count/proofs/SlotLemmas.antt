@@ -5,21 +5,21 @@ use Rattle.std.specs.Ordering.{nat_cmp, eq_by_cmp}
 use Rattle.std.specs.Cmp.{nat_cmp_total}
 use Rattle.std.specs.FinMap.{FinMap, get as slot_of, insert, remove as without, empty, entries, entries_sorted, find, is_sorted, get-entries, get-insert, get-remove, get-empty, gets, nat_cmp-IsAntisymmetric}
 use Rattle.std.specs.FinMap.Entries.{find-put, is_sorted-put, is_sorted-where_key, same_entries}
-use Rattle.std.proofs.lemmas.Bool.{cases_eq}
+use Rattle.std.proofs.lemmas.Bool.{cases_eq, eqb-true}
 use Rattle.fuse_spec.specs.Maps.{Map, get, put, remove}
-use Rattle.fk_lookup_count.specs.declared.counted_node.CountedNode.{CountedNode}
+use Rattle.fuse_spec.specs.declared.Counted.{Counted}
 use Rattle.fk_lookup_count.specs.Slots.{is_node, nodes_among, nodes_in}
 use Rattle.fk_lookup_count.proofs.NumberMaps.{ties, both_first, both_second, find-remove, none-below, sorted-filter}
 
 abbrev pub Slots : Type 0
-Slots = FinMap nat_cmp CountedNode
+Slots = FinMap nat_cmp Counted
 
 -- the node in a slot, if it is one
-abbrev pub node_in : Option CountedNode → Option CountedNode
+abbrev pub node_in : Option Counted → Option Counted
 node_in None = None
 node_in (Some node) = cond (nat_lt 0 node.count) (Some node) None
 
-find-nodes : (rows : Map CountedNode) → T (is_sorted nat_cmp rows) → (q : ℕ) → find nat_cmp q (nodes_among rows) ≡ node_in (find nat_cmp q rows)
+find-nodes : (rows : Map Counted) → T (is_sorted nat_cmp rows) → (q : ℕ) → find nat_cmp q (nodes_among rows) ≡ node_in (find nat_cmp q rows)
 find-nodes [] h q = refl
 find-nodes (e ∷ es) h q =
     let rest : find nat_cmp q (nodes_among es) ≡ node_in (find nat_cmp q es) = find-nodes es (both_second _ _ h) q in
@@ -47,11 +47,11 @@ pub sorted_nodes : (s : Slots) → T (is_sorted nat_cmp (nodes_in s))
 sorted_nodes s = sorted-filter is_node (entries s) (entries_sorted s)
 
 -- maps that answer alike are the same
-alike : (s : Slots) (nodes : Map CountedNode) → T (is_sorted nat_cmp nodes) → ((q : ℕ) → node_in (slot_of s q) ≡ get nodes q) → nodes_in s ≡ nodes
+alike : (s : Slots) (nodes : Map Counted) → T (is_sorted nat_cmp nodes) → ((q : ℕ) → node_in (slot_of s q) ≡ get nodes q) → nodes_in s ≡ nodes
 alike s nodes h is = same_entries nat_cmp nat_cmp_total nat_cmp-IsAntisymmetric (nodes_in s) nodes (sorted_nodes s) h (λ q. get-nodes s q ∙ is q)
 
 -- a write of a node
-pub nodes-insert : (s : Slots) (id : ℕ) (node : CountedNode) → 0 < node.count → nodes_in (insert s id node) ≡ put (nodes_in s) id node
+pub nodes-insert : (s : Slots) (id : ℕ) (node : Counted) → 0 < node.count → nodes_in (insert s id node) ≡ put (nodes_in s) id node
 nodes-insert s id node some = alike (insert s id node) _ (is_sorted-put nat_cmp nat_cmp_total id node _ (sorted_nodes s)) (λ q.
     ap node_in (get-insert nat_cmp_total s id node q) ∙ by (eq_by_cmp nat_cmp q id) q ∙ ap (cond (eq_by_cmp nat_cmp q id) (Some node)) (sym (get-nodes s q))
     ∙ sym (find-put nat_cmp nat_cmp_total q id node (nodes_in s)))
@@ -64,7 +64,7 @@ nodes-insert s id node some = alike (insert s id node) _ (is_sorted-put nat_cmp 
     by false q = refl
 
 -- a slot that holds no node changes none
-pub nodes-room : (s : Slots) (id : ℕ) (node : CountedNode) → node.count ≡ 0 → slot_of s id ≡ None → nodes_in (insert s id node) ≡ nodes_in s
+pub nodes-room : (s : Slots) (id : ℕ) (node : Counted) → node.count ≡ 0 → slot_of s id ≡ None → nodes_in (insert s id node) ≡ nodes_in s
 nodes-room s id node none there = alike (insert s id node) (nodes_in s) (sorted_nodes s) (λ q. ap node_in (get-insert nat_cmp_total s id node q) ∙ at q ∙ sym (get-nodes s q))
   where
     room : node_in (Some node) ≡ None
@@ -89,6 +89,14 @@ nodes-remove s id = alike (without s id) _ (is_sorted-where_key nat_cmp (λ x. n
     by true q = refl
     by false q = refl
 
+-- a node that is not there leaves none behind
+pub nodes-absent : (s : Slots) (id : ℕ) → get (nodes_in s) id ≡ None → nodes_in s ≡ remove (nodes_in s) id
+nodes-absent s id none = alike s _ (is_sorted-where_key nat_cmp (λ x. not (nat_eq x id)) (nodes_in s) (sorted_nodes s)) (λ q. sym (get-nodes s q) ∙ by q (nat_eq q id) refl ∙ sym (find-remove (nodes_in s) id q))
+  where
+    by : (q : ℕ) (b : Bool) → nat_eq q id ≡ b → get (nodes_in s) q ≡ cond b None (get (nodes_in s) q)
+    by q true e = ap (λ k. get (nodes_in s) k) (eqb-true q id e) ∙ none
+    by q false e = refl
+
 pub nodes-empty : nodes_in empty ≡ []
 nodes-empty = alike empty [] tt (λ q. ap node_in (get-empty nat_cmp q))
 
@@ -96,27 +104,27 @@ nodes-empty = alike empty [] tt (λ q. ap node_in (get-empty nat_cmp q))
 pub no_slot : (s : Slots) (id : ℕ) → slot_of s id ≡ None → get (nodes_in s) id ≡ None
 no_slot s id is = get-nodes s id ∙ ap node_in is
 
-pub no_node : (s : Slots) (id : ℕ) (slot : CountedNode) → slot_of s id ≡ Some slot → slot.count ≡ 0 → get (nodes_in s) id ≡ None
+pub no_node : (s : Slots) (id : ℕ) (slot : Counted) → slot_of s id ≡ Some slot → slot.count ≡ 0 → get (nodes_in s) id ≡ None
 no_node s id slot is none = get-nodes s id ∙ ap node_in is ∙ room slot none
   where
-    room : (slot : CountedNode) → slot.count ≡ 0 → node_in (Some slot) ≡ None
+    room : (slot : Counted) → slot.count ≡ 0 → node_in (Some slot) ≡ None
     room slot none = grind (arith, none, rules)
 
-pub node_is : (s : Slots) (id : ℕ) (slot : CountedNode) → slot_of s id ≡ Some slot → 0 < slot.count → get (nodes_in s) id ≡ Some slot
+pub node_is : (s : Slots) (id : ℕ) (slot : Counted) → slot_of s id ≡ Some slot → 0 < slot.count → get (nodes_in s) id ≡ Some slot
 node_is s id slot is some = get-nodes s id ∙ ap node_in is ∙ node slot some
   where
-    node : (slot : CountedNode) → 0 < slot.count → node_in (Some slot) ≡ Some slot
+    node : (slot : Counted) → 0 < slot.count → node_in (Some slot) ≡ Some slot
     node slot some = grind (arith, some, rules)
 
 -- room stays through a write, and for other ids through a removal
-pub room-insert : (s : Slots) (id : ℕ) (node : CountedNode) (other : ℕ) → IsSome (slot_of s other) → IsSome (slot_of (insert s id node) other)
+pub room-insert : (s : Slots) (id : ℕ) (node : Counted) (other : ℕ) → IsSome (slot_of s other) → IsSome (slot_of (insert s id node) other)
 room-insert s id node other some = ap is_some (get-insert nat_cmp_total s id node other) ∙ by (eq_by_cmp nat_cmp other id)
   where
     by : (b : Bool) → is_some (cond b (Some node) (slot_of s other)) ≡ true
     by true = refl
     by false = some
 
-pub room_there : (s : Slots) (id : ℕ) (node : CountedNode) → IsSome (slot_of (insert s id node) id)
+pub room_there : (s : Slots) (id : ℕ) (node : Counted) → IsSome (slot_of (insert s id node) id)
 room_there s id node = (let h : slot_of (insert s id node) id ≡ Some node = grind (arith, gets, rules) in ap is_some h)
 
 pub room-remove : (s : Slots) (id other : ℕ) → other ≢ id → IsSome (slot_of s other) → IsSome (slot_of (without s id) other)

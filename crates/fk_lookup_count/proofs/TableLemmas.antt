@@ -11,11 +11,11 @@ use Rattle.std.specs.FinMap.{FinMap, get, insert, remove, find, is_sorted, get-i
 use Rattle.std.specs.FinMap.Entries.{below_all}
 use Rattle.std.proofs.lemmas.Bool.{cases_eq}
 use Rattle.std.proofs.lemmas.Option.{none-some, same_Some}
-use Rattle.fk_lookup_count.specs.declared.counted_node.CountedNode.{CountedNode}
+use Rattle.fuse_spec.specs.declared.Counted.{Counted}
 use Rattle.fk_lookup_count.specs.Table.{at_place, place_under, standing, rows_of, IsTable}
 use Rattle.fk_lookup_count.proofs.NumberMaps.{ties, both, map_of, get-map_of, same_as}
 
-find-rows : (slots : List (Option CountedNode)) (places : List (ℕ × ℕ)) (q : ℕ) → find nat_cmp q (rows_of slots places) ≡ option_map (standing slots) (place_under places q)
+find-rows : (slots : List (Option Counted)) (places : List (ℕ × ℕ)) (q : ℕ) → find nat_cmp q (rows_of slots places) ≡ option_map (standing slots) (place_under places q)
 find-rows slots [] q = refl
 find-rows slots (e ∷ es) q =
     elim (eq_by_cmp nat_cmp q e.0) as (λ b. cond b (Some (standing slots e.1)) (find nat_cmp q (rows_of slots es)) ≡ option_map (standing slots) (cond b (Some e.1) (place_under es q))) [
@@ -23,45 +23,45 @@ find-rows slots (e ∷ es) q =
       | false ↦ find-rows slots es q
     ]
 
-abbrev pub table_of : List (Option CountedNode) → List (ℕ × ℕ) → FinMap nat_cmp CountedNode
+abbrev pub table_of : List (Option Counted) → List (ℕ × ℕ) → FinMap nat_cmp Counted
 table_of slots places = map_of (rows_of slots places)
 
-pub get-table : (slots : List (Option CountedNode)) (places : List (ℕ × ℕ)) (q : ℕ) → get (table_of slots places) q ≡ option_map (standing slots) (place_under places q)
+pub get-table : (slots : List (Option Counted)) (places : List (ℕ × ℕ)) (q : ℕ) → get (table_of slots places) q ≡ option_map (standing slots) (place_under places q)
 get-table slots places q = get-map_of (rows_of slots places) q ∙ find-rows slots places q
 
-stands : (slot : Option CountedNode) → IsSome slot → slot ≡ Some (unwrap_or slot (record { generation = 0; count = 0; pins = 0 }))
+stands : (slot : Option Counted) → IsSome slot → slot ≡ Some (unwrap_or slot (record { generation = 0; count = 0 }))
 stands None some = absurd (subst T (sym some) tt)
 stands (Some slot) some = refl
 
-pub slot_at : {slots : List (Option CountedNode)} {places : List (ℕ × ℕ)} (id place : ℕ) → IsTable slots places → place_under places id ≡ Some place → at_place slots place ≡ get (table_of slots places) id
+pub slot_at : {slots : List (Option Counted)} {places : List (ℕ × ℕ)} (id place : ℕ) → IsTable slots places → place_under places id ≡ Some place → at_place slots place ≡ get (table_of slots places) id
 slot_at {slots = slots} {places = places} id place table is =
     stands (at_place slots place) (table.leads id place is) ∙ ap (option_map (standing slots)) (sym is) ∙ sym (get-table slots places id)
 
-pub no_slot_at : (slots : List (Option CountedNode)) (places : List (ℕ × ℕ)) (id : ℕ) → place_under places id ≡ None → get (table_of slots places) id ≡ None
+pub no_slot_at : (slots : List (Option Counted)) (places : List (ℕ × ℕ)) (id : ℕ) → place_under places id ≡ None → get (table_of slots places) id ≡ None
 no_slot_at slots places id is = get-table slots places id ∙ ap (option_map (standing slots)) is
 
-some_slot : (slots : List (Option CountedNode)) (o : Option ℕ) → option_map (standing slots) o ≡ None → o ≡ None
+some_slot : (slots : List (Option Counted)) (o : Option ℕ) → option_map (standing slots) o ≡ None → o ≡ None
 some_slot slots None is = refl
 some_slot slots (Some place) is = absurd (none-some (standing slots place) (sym is))
 
-pub no_place : (slots : List (Option CountedNode)) (places : List (ℕ × ℕ)) (id : ℕ) → get (table_of slots places) id ≡ None → place_under places id ≡ None
+pub no_place : (slots : List (Option Counted)) (places : List (ℕ × ℕ)) (id : ℕ) → get (table_of slots places) id ≡ None → place_under places id ≡ None
 no_place slots places id is = some_slot slots (place_under places id) (sym (get-table slots places id) ∙ is)
 
 -- the rows rise where the ids do
-below-rows : (slots : List (Option CountedNode)) (x : ℕ) (places : List (ℕ × ℕ)) → AllByRecursion (λ y. nat_cmp x y ≡ Less) (keys_of places) → T (below_all nat_cmp x (rows_of slots places))
+below-rows : (slots : List (Option Counted)) (x : ℕ) (places : List (ℕ × ℕ)) → AllByRecursion (λ y. nat_cmp x y ≡ Less) (keys_of places) → T (below_all nat_cmp x (rows_of slots places))
 below-rows slots x [] h = tt
 below-rows slots x (e ∷ es) h = both _ _ (subst (λ r. T (is_lt r)) (sym h.0) tt) (below-rows slots x es h.1)
 
-pub sorted_rows : (slots : List (Option CountedNode)) (places : List (ℕ × ℕ)) → IsStrictlySortedBy nat_cmp (keys_of places) → T (is_sorted nat_cmp (rows_of slots places))
+pub sorted_rows : (slots : List (Option Counted)) (places : List (ℕ × ℕ)) → IsStrictlySortedBy nat_cmp (keys_of places) → T (is_sorted nat_cmp (rows_of slots places))
 unfolding IsStrictlySortedBy
 sorted_rows slots [] h = tt
 sorted_rows slots (e ∷ es) h = both _ _ (below-rows slots e.0 es h.0) (sorted_rows slots es h.1)
 
-same_standing : (new old : List (Option CountedNode)) (place : ℕ) → at_place new place ≡ at_place old place → standing new place ≡ standing old place
-same_standing new old place is = ap (λ slot. unwrap_or slot (record { generation = 0; count = 0; pins = 0 })) is
+same_standing : (new old : List (Option Counted)) (place : ℕ) → at_place new place ≡ at_place old place → standing new place ≡ standing old place
+same_standing new old place is = ap (λ slot. unwrap_or slot (record { generation = 0; count = 0 })) is
 
 -- one place is written
-pub table-write : {old : List (Option CountedNode)} {places : List (ℕ × ℕ)} (new : List (Option CountedNode)) (id place : ℕ) (slot : CountedNode) → IsTable old places → place_under places id ≡ Some place
+pub table-write : {old : List (Option Counted)} {places : List (ℕ × ℕ)} (new : List (Option Counted)) (id place : ℕ) (slot : Counted) → IsTable old places → place_under places id ≡ Some place
     → at_place new place ≡ Some slot → ((other : ℕ) → other ≢ place → at_place new other ≡ at_place old other) → table_of new places ≡ insert (table_of old places) id slot
 table-write {old = old} {places = places} new id place slot table is changed others = same_as _ _ (λ q. find-rows new places q ∙ at q ∙ sym (get-insert nat_cmp_total (table_of old places) id slot q))
   where
@@ -73,7 +73,7 @@ table-write {old = old} {places = places} new id place slot table is changed oth
     at q = elim (cases_eq q id) [
       | inl e ↦
           let yes : nat_eq q id ≡ true = grind (arith, e, rules) in
-          ap (λ k. option_map (standing new) (place_under places k)) e ∙ ap (option_map (standing new)) is ∙ ap (λ s. Some (unwrap_or s (record { generation = 0; count = 0; pins = 0 }))) changed
+          ap (λ k. option_map (standing new) (place_under places k)) e ∙ ap (option_map (standing new)) is ∙ ap (λ s. Some (unwrap_or s (record { generation = 0; count = 0 }))) changed
           ∙ sym (ap (λ b. cond b (Some slot) (get (table_of old places) q)) (ties q id ∙ yes))
       | inr ne ↦
           let no : nat_eq q id ≡ false = grind (arith, ne, rules) in
@@ -90,7 +90,7 @@ placed_here new old id place placed = (let yes : nat_eq id id ≡ true = grind (
 placed_there : (new old : List (ℕ × ℕ)) (id q : ℕ) (place : Option ℕ) → Placed new old id place → q ≢ id → place_under new q ≡ place_under old q
 placed_there new old id q place placed ne = (let no : nat_eq id q ≡ false = grind (arith, ne, rules) in placed q ∙ ap (λ b. cond b place (place_under old q)) (ties id q ∙ no))
 
-module _ {old : List (Option CountedNode)} {places : List (ℕ × ℕ)} (new : List (Option CountedNode)) (more : List (ℕ × ℕ)) (id place : ℕ) (slot : CountedNode) (table : IsTable old places)
+module _ {old : List (Option Counted)} {places : List (ℕ × ℕ)} (new : List (Option Counted)) (more : List (ℕ × ℕ)) (id place : ℕ) (slot : Counted) (table : IsTable old places)
     (free : at_place old place ≡ None) (placed : Placed more places id (Some place)) (changed : at_place new place ≡ Some slot)
     (others : (other : ℕ) → other ≢ place → at_place new other ≡ at_place old other) where
   -- no other id has that place
@@ -138,7 +138,7 @@ module _ {old : List (Option CountedNode)} {places : List (ℕ × ℕ)} (new : L
         | inl e ↦
             let yes : nat_eq q id ≡ true = grind (arith, e, rules) in
             ap (λ k. option_map (standing new) (place_under more k)) e ∙ ap (option_map (standing new)) (placed_here more places id (Some place) placed)
-            ∙ ap (λ s. Some (unwrap_or s (record { generation = 0; count = 0; pins = 0 }))) changed ∙ sym (ap (λ b. cond b (Some slot) (get (table_of old places) q)) (ties q id ∙ yes))
+            ∙ ap (λ s. Some (unwrap_or s (record { generation = 0; count = 0 }))) changed ∙ sym (ap (λ b. cond b (Some slot) (get (table_of old places) q)) (ties q id ∙ yes))
         | inr ne ↦
             let no : nat_eq q id ≡ false = grind (arith, ne, rules) in
             ap (option_map (standing new)) (placed_there more places id q (Some place) placed ne) ∙ other_at q (place_under places q) refl ∙ sym (get-table old places q)
@@ -146,7 +146,7 @@ module _ {old : List (Option CountedNode)} {places : List (ℕ × ℕ)} (new : L
       ]
 
 -- an id lost its place
-module _ {old : List (Option CountedNode)} {places : List (ℕ × ℕ)} (new : List (Option CountedNode)) (fewer : List (ℕ × ℕ)) (id place : ℕ) (table : IsTable old places)
+module _ {old : List (Option Counted)} {places : List (ℕ × ℕ)} (new : List (Option Counted)) (fewer : List (ℕ × ℕ)) (id place : ℕ) (table : IsTable old places)
     (was : place_under places id ≡ Some place) (placed : Placed fewer places id None)
     (others : (other : ℕ) → other ≢ place → at_place new other ≡ at_place old other) where
   left : (q p : ℕ) → place_under fewer q ≡ Some p → place_under places q ≡ Some p

@@ -6,9 +6,9 @@ use Rattle.std.specs.Ordering.{nat_cmp}
 use Rattle.std.specs.Map.{lookup}
 use Rattle.std.specs.BTreeMap.{is_at}
 use Rattle.fuse_spec.specs.Maps.{Map}
-use Rattle.fk_lookup_count.specs.declared.counted_node.CountedNode.{CountedNode}
+use Rattle.fuse_spec.specs.declared.Counted.{Counted}
 
-abbrev pub at_place : List (Option CountedNode) → ℕ → Option CountedNode
+abbrev pub at_place : List (Option Counted) → ℕ → Option Counted
 at_place slots place = slice_index_or slots place None
 
 -- The place of an id.
@@ -16,14 +16,14 @@ abbrev pub place_under : List (ℕ × ℕ) → ℕ → Option ℕ
 place_under places id = lookup (is_at (nat_cmp id)) places
 
 -- What stands at a place.
-abbrev pub standing : List (Option CountedNode) → ℕ → CountedNode
-standing slots place = unwrap_or (at_place slots place) (record { generation = 0; count = 0; pins = 0 })
+abbrev pub standing : List (Option Counted) → ℕ → Counted
+standing slots place = unwrap_or (at_place slots place) (record { generation = 0; count = 0 })
 
 -- The slots by id.
-abbrev pub rows_of : List (Option CountedNode) → List (ℕ × ℕ) → Map CountedNode
+abbrev pub rows_of : List (Option Counted) → List (ℕ × ℕ) → Map Counted
 rows_of slots places = map (λ e. (e.0, standing slots e.1)) places
 
 -- Each id's place holds a slot, and no two ids share one.
-pub record IsTable (slots : List (Option CountedNode)) (places : List (ℕ × ℕ)) : Type 0 where
+pub record IsTable (slots : List (Option Counted)) (places : List (ℕ × ℕ)) : Type 0 where
   pub leads : (id place : ℕ) → place_under places id ≡ Some place → IsSome (at_place slots place)
   pub apart : (id other place : ℕ) → place_under places id ≡ Some place → place_under places other ≡ Some place → id ≡ other

@@ -1,11 +1,11 @@
 //! The contract of the table, for any representation.
 ghost use Rattle.std.specs.Prelude.{◌≡◌, ◌≢◌, ℕ, ◌+◌, ◌^◌, ◌<◌, ◌↔◌, [], OnOk, OnErr, IsOk, IsErr, IfOk};
 ghost use Rattle.std.specs.Option.{ForSome};
-ghost use Rattle.fuse_spec.specs.Maps.{Map, get};
-ghost use Rattle.fk_lookup_count.specs.declared.counted_node.CountedNode.{CountedNode};
-ghost use Rattle.fk_lookup_count.specs.CountedNodes.{count_at, generation_at, pins_at, IsUnlike, learnt, pinned, unpinned, forget_of, evicted, listed};
+ghost use Rattle.fuse_spec.specs.Maps.{Map, get, remove};
+ghost use Rattle.fuse_spec.specs.declared.Counted.{Counted};
+ghost use Rattle.fk_lookup_count.specs.CountedNodes.{count_at, generation_at, IsUnlike, learnt, forget_of, listed};
 
-use crate::counted_node::Forget;
+use crate::forget::Forget;
 use crate::unlike::Unlike;
 use std::alloc::{AllocError, Allocator};
 
@@ -16,8 +16,8 @@ pub trait CountTable {
     /// Where the room comes from.
     type Heap: Allocator + Copy;
 
-    /// Each counted id with its generation, its lookup count and its pins.
-    ghost counted: { Self → Map CountedNode };
+    /// Each counted id with its generation, its lookup count.
+    ghost counted: { Self → Map Counted };
 
     /// The id has room: to learn it takes no memory.
     ghost has_room: { Self → ℕ → Type 0 };
@@ -58,25 +58,10 @@ pub trait CountTable {
     fn generation_of(&self, id: u64) -> Option<u64>
         ensures { result ≡ generation_at (get (counted self.now) id) };
 
-    /// How many uses pin an id.
-    fn pins_of(&self, id: u64) -> u64
-        ensures { result ≡ pins_at (get (counted self.now) id) };
-
-    /// Pins a counted id once more.
-    fn pin(&mut self, id: u64)
-        requires { ForSome (get (counted self.old) id) (λ node. node.pins + 1 < 2 ^ 64) }
-        ensures counted { counted self.new ≡ pinned (counted self.old) id (get (counted self.old) id) }
-        ensures kept { (other : ℕ) → has_room self.old other → has_room self.new other };
-
-    /// Takes one pin of a counted id away, if it has one.
-    fn unpin(&mut self, id: u64)
-        ensures counted { counted self.new ≡ unpinned (counted self.old) id (get (counted self.old) id) }
-        ensures kept { (other : ℕ) → has_room self.old other → has_room self.new other };
-
-    /// Gives a counted id up, and gives the forget of its whole count. A pinned id stays, and there is no forget.
+    /// Gives a counted id up, and gives the forget of its whole count.
     fn evict(&mut self, id: u64) -> Option<Forget>
         ensures forget { result ≡ forget_of id (get (counted self.old) id) }
-        ensures counted { counted self.new ≡ evicted (counted self.old) id (get (counted self.old) id) }
+        ensures counted { counted self.new ≡ remove (counted self.old) id }
         ensures kept { (other : ℕ) → other ≢ id → has_room self.old other → has_room self.new other };
 
     /// Gives up all ids, without forgets, and their room.

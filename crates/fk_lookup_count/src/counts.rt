@@ -5,9 +5,10 @@ ghost use Rattle.fuse_spec.specs.Maps.{get, put, remove};
 ghost use Rattle.fk_lookup_count.specs.Slots.{nodes_in};
 
 use crate::count_table::CountTable;
-use crate::counted_node::{CountedNode, Forget};
+use crate::forget::Forget;
 use crate::slots::Slots;
 use crate::unlike::Unlike;
+use fuse_spec::Counted;
 use std::alloc::AllocError;
 
 /// The counted nodes, in slots under their ids.
@@ -18,7 +19,7 @@ pub struct CountsOf<S: Slots> {
 
 impl<S: Slots> CountsOf<S> {
     /// The node that is counted under an id.
-    fn node(&self, id: u64) -> Option<CountedNode>
+    fn node(&self, id: u64) -> Option<Counted>
         ensures node { result ≡ get (nodes_in (S.slots self.now.slots)) id }
         ensures some { IfSome result (λ node. 0 < node.count) }
         ensures room { IsSome result → IsSome (slot_of (S.slots self.now.slots) id) }
@@ -31,7 +32,7 @@ impl<S: Slots> CountsOf<S> {
     }
 
     /// Writes the node of an id that has room.
-    fn write(&mut self, id: u64, node: CountedNode)
+    fn write(&mut self, id: u64, node: Counted)
         requires room { IsSome (slot_of (S.slots self.old.slots) id) }
         requires some { 0 < node.count }
         ensures nodes { nodes_in (S.slots self.new.slots) ≡ put (nodes_in (S.slots self.old.slots)) id node }
@@ -72,13 +73,12 @@ impl<S: Slots> CountTable for CountsOf<S> {
 
     fn learn(&mut self, id: u64, generation: u64) -> Result<(), Unlike> {
         let node = match self.node(id) {
-            None => CountedNode {
+            None => Counted {
                 generation,
                 count: 1,
-                pins: 0,
             },
             Some(node) if node.generation != generation => return Err(Unlike),
-            Some(node) => CountedNode {
+            Some(node) => Counted {
                 count: node.count + 1,
                 ..node
             },
@@ -101,38 +101,8 @@ impl<S: Slots> CountTable for CountsOf<S> {
         }
     }
 
-    fn pins_of(&self, id: u64) -> u64 {
-        match self.node(id) {
-            None => 0,
-            Some(node) => node.pins,
-        }
-    }
-
-    fn pin(&mut self, id: u64) {
-        if let Some(node) = self.node(id) {
-            let more = CountedNode {
-                pins: node.pins + 1,
-                ..node
-            };
-            self.write(id, more);
-        }
-    }
-
-    fn unpin(&mut self, id: u64) {
-        if let Some(node) = self.node(id) {
-            let less = CountedNode {
-                pins: node.pins.saturating_sub(1),
-                ..node
-            };
-            self.write(id, less);
-        }
-    }
-
     fn evict(&mut self, id: u64) -> Option<Forget> {
         let node = self.node(id)?;
-        if node.pins != 0 {
-            return None;
-        }
         self.take_out(id);
         Some(Forget {
             nodeid: id,

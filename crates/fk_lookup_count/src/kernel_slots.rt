@@ -5,8 +5,8 @@ ghost use Rattle.std.specs.BTreeMap.{Updates as UpdatesTree};
 ghost use Rattle.slab.specs.Slab.{get, Updates};
 ghost use Rattle.fk_lookup_count.specs.Table.{standing};
 
-use crate::counted_node::CountedNode;
 use crate::slots::{ROOM, Slots};
+use fuse_spec::Counted;
 use slab::Slab;
 use std::alloc::{AllocError, Allocator, Global};
 use std::collections::BTreeMap;
@@ -15,7 +15,7 @@ use std::marker::Model;
 /// Slots in a slab. Of `n` slots one is found, written or taken out in `log n` steps.
 #[derive(Drop)]
 pub struct KernelSlots<A: Allocator = Global> {
-    nodes: Slab<CountedNode, A>,
+    nodes: Slab<Counted, A>,
     places: BTreeMap<u64, usize, A>,
 }
 
@@ -23,11 +23,11 @@ impl<A: Allocator> Model for KernelSlots<A> {
     ghost use Rattle.std.specs.Ordering.{nat_cmp};
     ghost use Rattle.std.specs.Coded.{codes};
     ghost use Rattle.std.specs.FinMap.{FinMap, from_entries, code as map_code};
-    ghost use Rattle.fk_lookup_count.specs.declared.counted_node.CountedNode.{CountedNode};
-    ghost use Rattle.fk_lookup_count.specs.contracts.counted_node.CountedNode as counted_row;
+    ghost use Rattle.fuse_spec.specs.declared.Counted.{Counted};
+    ghost use Rattle.fuse_spec.specs.contracts.Counted as counted_row;
     ghost use Rattle.fk_lookup_count.specs.Table.{rows_of, IsTable};
 
-    ghost Value = { FinMap nat_cmp CountedNode };
+    ghost Value = { FinMap nat_cmp Counted };
 
     ghost coded = { Prim.hlevel (codes, map_code, counted_row.the_row.coded) };
 
@@ -48,7 +48,7 @@ impl<A: Allocator + Copy> Slots for KernelSlots<A> {
         }
     }
 
-    fn slot(&self, id: u64) -> Option<CountedNode> {
+    fn slot(&self, id: u64) -> Option<Counted> {
         let place = *self.places.get(&id)?;
         self.nodes.get(place).copied()
     }
@@ -60,7 +60,7 @@ impl<A: Allocator + Copy> Slots for KernelSlots<A> {
         Ok(())
     }
 
-    fn write(&mut self, id: u64, slot: CountedNode) {
+    fn write(&mut self, id: u64, slot: Counted) {
         let Some(place) = self.places.get(&id).copied() else {
             return;
         };
@@ -92,7 +92,7 @@ impl<A: Allocator + Copy> Slots for KernelSlots<A> {
 }
 
 /// What stands at a place.
-fn standing<A: Allocator>(nodes: &Slab<CountedNode, A>, place: usize) -> CountedNode
+fn standing<A: Allocator>(nodes: &Slab<Counted, A>, place: usize) -> Counted
     ensures { result ≡ standing nodes.now.slots place }
 {
     match nodes.get(place) {
@@ -102,7 +102,7 @@ fn standing<A: Allocator>(nodes: &Slab<CountedNode, A>, place: usize) -> Counted
 }
 
 /// Writes what stands at a place.
-fn set<A: Allocator>(nodes: &mut Slab<CountedNode, A>, place: usize, slot: CountedNode)
+fn set<A: Allocator>(nodes: &mut Slab<Counted, A>, place: usize, slot: Counted)
     requires { IsSome (get nodes.old place) }
     ensures { Updates nodes.old nodes.new place (Some slot) }
 {

@@ -1,12 +1,12 @@
-//! The nodes that the kernel counts: each node id with its generation, its lookup count and its pins.
+//! The nodes that the kernel counts: each node id with its generation, its lookup count.
 //!
 //! A lookup count says how many entry replies named a node since it was learnt. The server keeps the same count, and takes it back
 //! by forgets (libfuse's low-level notes, "forget").
 #![tactic(auto)]
 
 pub mod count_table;
-mod counted_node;
 mod counts;
+mod forget;
 mod kernel_slots;
 mod list_slots;
 mod rows;
@@ -14,8 +14,8 @@ pub mod slots;
 mod unlike;
 
 pub use count_table::CountTable;
-pub use counted_node::{CountedNode, Forget};
 pub use counts::CountsOf;
+pub use forget::Forget;
 pub use kernel_slots::KernelSlots;
 pub use list_slots::ListSlots;
 use std::alloc::Global;

@@ -1,12 +1,12 @@
 //! The plain slots: rows in rising id.
 
-use crate::counted_node::CountedNode;
 use crate::rows::{find_in, place_in};
 use crate::slots::{ROOM, Slots};
+use fuse_spec::Counted;
 use std::alloc::{AllocError, Allocator, Global};
 use std::marker::Model;
 
-type Row = (u64, CountedNode);
+type Row = (u64, Counted);
 
 /// Slots in a vector, in rising id.
 #[derive(Drop)]
@@ -19,10 +19,10 @@ impl<A: Allocator> Model for ListSlots<A> {
     ghost use Rattle.std.specs.Ordering.{nat_cmp};
     ghost use Rattle.std.specs.Coded.{codes};
     ghost use Rattle.std.specs.FinMap.{FinMap, from_entries, is_sorted, code as map_code};
-    ghost use Rattle.fk_lookup_count.specs.declared.counted_node.CountedNode.{CountedNode};
-    ghost use Rattle.fk_lookup_count.specs.contracts.counted_node.CountedNode as counted_row;
+    ghost use Rattle.fuse_spec.specs.declared.Counted.{Counted};
+    ghost use Rattle.fuse_spec.specs.contracts.Counted as counted_row;
 
-    ghost Value = { FinMap nat_cmp CountedNode };
+    ghost Value = { FinMap nat_cmp Counted };
 
     ghost coded = { Prim.hlevel (codes, map_code, counted_row.the_row.coded) };
 
@@ -42,7 +42,7 @@ impl<A: Allocator + Copy> Slots for ListSlots<A> {
         }
     }
 
-    fn slot(&self, id: u64) -> Option<CountedNode> {
+    fn slot(&self, id: u64) -> Option<Counted> {
         let place = find_in(&self.rows, id)?;
         Some(self.rows[place].1)
     }
@@ -55,7 +55,7 @@ impl<A: Allocator + Copy> Slots for ListSlots<A> {
         Ok(())
     }
 
-    fn write(&mut self, id: u64, slot: CountedNode) {
+    fn write(&mut self, id: u64, slot: Counted) {
         let Some(place) = find_in(&self.rows, id) else {
             return;
         };

@@ -2,18 +2,17 @@
 ghost use Rattle.std.specs.Prelude.{◌≡◌, ℕ, Some, None, IsSome, OnOk, OnErr, IfOk};
 ghost use Rattle.std.specs.Ordering.{nat_cmp};
 ghost use Rattle.std.specs.FinMap.{FinMap, get, insert, remove, empty};
-ghost use Rattle.fk_lookup_count.specs.declared.counted_node.CountedNode.{CountedNode};
+ghost use Rattle.fuse_spec.specs.declared.Counted.{Counted};
 ghost use Rattle.fk_lookup_count.specs.CountedNodes.{listed};
 ghost use Rattle.fk_lookup_count.specs.Slots.{nodes_in};
 
-use crate::counted_node::CountedNode;
+use fuse_spec::Counted;
 use std::alloc::{AllocError, Allocator};
 
 /// A slot that holds no node: room for one.
-pub(crate) const ROOM: CountedNode = CountedNode {
+pub(crate) const ROOM: Counted = Counted {
     generation: 0,
     count: 0,
-    pins: 0,
 };
 
 /// Slots under node ids. A slot of count 0 is room for its id, and no node.
@@ -21,23 +20,23 @@ pub trait Slots {
     type Heap: Allocator + Copy;
 
     /// What stands in each slot.
-    ghost slots: { Self → FinMap nat_cmp CountedNode };
+    ghost slots: { Self → FinMap nat_cmp Counted };
 
     fn new(alloc: Self::Heap) -> Self
         ensures { slots result ≡ empty };
 
     /// The slot of an id.
-    fn slot(&self, id: u64) -> Option<CountedNode>
+    fn slot(&self, id: u64) -> Option<Counted>
         ensures { result ≡ get (slots self.now) id };
 
     /// Gives a slot to an id that has none.
     fn add(&mut self, id: u64) -> Result<(), AllocError>
         requires { get (slots self.old) id ≡ None }
-        ensures ok { OnOk result (slots self.new ≡ insert (slots self.old) id (record { generation = 0; count = 0; pins = 0 })) }
+        ensures ok { OnOk result (slots self.new ≡ insert (slots self.old) id (record { generation = 0; count = 0 })) }
         ensures err { OnErr result (slots self.new ≡ slots self.old) };
 
     /// Writes the slot of an id that has one.
-    fn write(&mut self, id: u64, slot: CountedNode)
+    fn write(&mut self, id: u64, slot: Counted)
         requires { IsSome (get (slots self.old) id) }
         ensures { slots self.new ≡ insert (slots self.old) id slot };
 

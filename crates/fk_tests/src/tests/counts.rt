@@ -14,11 +14,9 @@ enum Row {
     /// Room is made and an entry reply counted, with an id and a generation.
     Learn(u64, u64, Result<(), Unlike>),
     Evict(u64, Option<Forget>),
-    Pin(u64),
-    Unpin(u64),
     Clear,
-    /// Of an id: its generation, its count and its pins.
-    Node(u64, Option<u64>, u64, u64),
+    /// Of an id: its generation and its count.
+    Node(u64, Option<u64>, u64),
     /// The ids with their generations and counts.
     Nodes(&'static [(u64, u64, u64)]),
 }
@@ -35,25 +33,8 @@ fn learn<T: CountTable>(
     Ok(table.learn(id, generation))
 }
 
-/// Pins a node, where its pins can be counted.
-fn pins<T: CountTable>(table: &mut T, id: u64) -> bool {
-    if table.pins_of(id) == u64::MAX {
-        return false;
-    }
-    table.pin(id);
-    true
-}
-
-fn is_node<T: CountTable>(
-    table: &T,
-    id: u64,
-    generation: Option<u64>,
-    count: u64,
-    pins: u64,
-) -> bool {
-    table.generation_of(id) == generation
-        && table.count_of(id) == count
-        && table.pins_of(id) == pins
+fn is_node<T: CountTable>(table: &T, id: u64, generation: Option<u64>, count: u64) -> bool {
+    table.generation_of(id) == generation && table.count_of(id) == count
 }
 
 fn lists<T: CountTable>(table: &T, heap: T::Heap, wanted: &[(u64, u64, u64)]) -> Outcome {
@@ -74,18 +55,11 @@ fn tried<T: CountTable>(table: &mut T, heap: T::Heap, row: Row) -> Outcome {
             Err(AllocError) => Outcome::NoMemory,
         },
         Row::Evict(id, forget) => judged(table.evict(id) == forget),
-        Row::Pin(id) => judged(pins(table, id)),
-        Row::Unpin(id) => {
-            table.unpin(id);
-            Outcome::Right
-        }
         Row::Clear => {
             table.clear();
             Outcome::Right
         }
-        Row::Node(id, generation, count, pins) => {
-            judged(is_node(table, id, generation, count, pins))
-        }
+        Row::Node(id, generation, count) => judged(is_node(table, id, generation, count)),
         Row::Nodes(nodes) => lists(table, heap, nodes),
     }
 }
@@ -114,28 +88,19 @@ const ONE_OF_2: Forget = Forget {
     nlookup: 1,
 };
 
-static CALLS: [Row; 31] = [
-    Row::Node(9, None, 0, 0),
+static CALLS: [Row; 23] = [
+    Row::Node(9, None, 0),
     Row::Learn(9, 4, Ok(())),
     Row::Learn(9, 4, Ok(())),
     Row::Learn(9, 5, Err(Unlike)),
-    Row::Node(9, Some(4), 2, 0),
+    Row::Node(9, Some(4), 2),
     Row::Evict(9, Some(TWO_OF_9)),
     Row::Evict(9, None),
-    Row::Node(9, None, 0, 0),
-    // a node that is not counted has no pins, and one that is pinned stays
-    Row::Pin(2),
-    Row::Node(2, None, 0, 0),
-    Row::Learn(2, 1, Ok(())),
-    Row::Pin(2),
-    Row::Pin(2),
-    Row::Unpin(2),
-    Row::Node(2, Some(1), 1, 1),
+    Row::Node(9, None, 0),
     Row::Evict(2, None),
-    Row::Unpin(2),
-    Row::Unpin(2),
+    Row::Learn(2, 1, Ok(())),
+    Row::Node(2, Some(1), 1),
     Row::Evict(2, Some(ONE_OF_2)),
-    Row::Unpin(2),
     // nodes are listed in rising id
     Row::Learn(9, 7, Ok(())),
     Row::Learn(3, 7, Ok(())),
@@ -145,7 +110,7 @@ static CALLS: [Row; 31] = [
     Row::Reserve(4),
     Row::Nodes(&[(3, 7, 2), (5, 7, 1), (6, 8, 1), (9, 7, 1)]),
     Row::Clear,
-    Row::Node(3, None, 0, 0),
+    Row::Node(3, None, 0),
     Row::Nodes(&[]),
     Row::Learn(3, 1, Ok(())),
 ];

@@ -1,7 +1,7 @@
 use Rattle.std.proofs.Common.{ap, sym, subst, ◌∙◌, Some}
 use Rattle.std.specs.FinMap.{insert}
 use Rattle.slab.specs.Slab.{Updates, Slab}
-use Rattle.fk_lookup_count.specs.declared.counted_node.CountedNode.{CountedNode}
+use Rattle.fuse_spec.specs.declared.Counted.{Counted}
 use Rattle.fk_lookup_count.specs.Table.{IsTable}
 use Rattle.fk_lookup_count.proofs.TableLemmas.{table_of, kept-add, table-add}
 use Rattle.fk_lookup_count.proofs.kernel_slots.KernelSlotsSlots.add.Goals as goal
@@ -9,7 +9,7 @@ use Rattle.fk_lookup_count.proofs.kernel_slots.KernelSlotsSlots.add.Goals as goa
 pub invariant_of-self-2 : goal.invariant_of-self-2
 invariant_of-self-2 g c =
     let places = c.self.inside.places.entries in
-    let same = ap (λ (s : Slab CountedNode). s.slots) c.reserve.ensures.rest_kept in
+    let same = ap (λ (s : Slab Counted). s.slots) c.reserve.ensures.rest_kept in
     let table = subst (λ slots. IsTable slots places) (sym same) c.self.invariant in
     let key = c.insert_reserved-place.ensures.key ∙ sym c.vacant_key.ensures.value in
     let updates = subst (λ place. Updates c.reserve.new.self c.insert_reserved-place.new.self place (Some _)) key c.insert_reserved-place.ensures.updates in
@@ -18,7 +18,7 @@ invariant_of-self-2 g c =
 pub returns-clause-ok : goal.returns-clause-ok
 returns-clause-ok g c =
     let places = c.self.inside.places.entries in
-    let same = ap (λ (s : Slab CountedNode). s.slots) c.reserve.ensures.rest_kept in
+    let same = ap (λ (s : Slab Counted). s.slots) c.reserve.ensures.rest_kept in
     let table = subst (λ slots. IsTable slots places) (sym same) c.self.invariant in
     let key = c.insert_reserved-place.ensures.key ∙ sym c.vacant_key.ensures.value in
     let updates = subst (λ place. Updates c.reserve.new.self c.insert_reserved-place.new.self place (Some _)) key c.insert_reserved-place.ensures.updates in
