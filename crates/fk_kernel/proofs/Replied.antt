@@ -19,7 +19,8 @@ use Rattle.fuse_spec.specs.Replies.{Use, usable, useless, stale, first_use, use_
 use Rattle.fuse_spec.specs.Vfs.{Vfs, Advance, CallState, walking, doing, using, asked, answered, bound, opened_by, walks_on, no_more}
 use Rattle.fuse_spec.specs.Walks.{WalkPlan}
 use Rattle.fk_syscalls.specs.States.{StandsAt}
-use Rattle.fk_kernel.specs.Entries.{Awaits, EndsPast, MakesName, mkdirs, links, names_left}
+use Rattle.fk_calls.specs.Names.{names_left}
+use Rattle.fk_kernel.specs.Entries.{Awaits, EndsPast, MakesName, mkdirs, links}
 use Rattle.fk_kernel.specs.Said.{IsJudged, opcode_of}
 use Rattle.fk_kernel.specs.Refused.{is_past_end}
 use Rattle.fk_kernel.proofs.Closes.{released_some}

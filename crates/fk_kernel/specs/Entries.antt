@@ -1,12 +1,11 @@
 -- What replies are to the calls that asked for them.
 use Rattle.std.specs.Prelude.{◌≡◌, ◌<◌, ℕ, List, Option, Some, None, true, false, is_some}
 use Rattle.std.specs.List.{list_any}
-use Rattle.fuse_spec.specs.declared.Binding.{Binding}
 use Rattle.fuse_spec.specs.declared.Opened.{Opened}
 use Rattle.fuse_spec.specs.Kernel.{Kernel, is_using}
-use Rattle.fuse_spec.specs.Maps.{Place, NameMap, get, remove, remove_name, values}
+use Rattle.fuse_spec.specs.Maps.{Place, get, remove, values}
 use Rattle.fuse_spec.specs.Messages.{WireReply}
-use Rattle.fuse_spec.specs.Operations.{Operation, lookup, mkdir, create, unlink, rmdir, rename, link, opening}
+use Rattle.fuse_spec.specs.Operations.{Operation, lookup, mkdir, create, link, opening}
 use Rattle.fuse_spec.specs.Paths.{Name}
 use Rattle.fuse_spec.specs.Replies.{Use, usable, useless, stale, goes_with}
 use Rattle.fuse_spec.specs.Uniques.{numbers_left_from}
@@ -61,13 +60,6 @@ place_of (mkdir directory name) = Some (directory, name)
 place_of (create directory name) = Some (directory, name)
 place_of (link file directory name) = Some (directory, name)
 place_of operation = None
-
--- The names in force once the operation is done.
-abbrev pub names_left : Operation ℕ Opened → NameMap Binding → NameMap Binding
-names_left (unlink directory name) names = remove_name names (directory, name)
-names_left (rmdir directory name) names = remove_name names (directory, name)
-names_left (rename directory old newdir new) names = remove_name (remove_name names (directory, old)) (newdir, new)
-names_left operation names = names
 
 -- whether an entry of this node can be used
 abbrev pub use_meant : ℕ → EntryUse → Use

@@ -7,7 +7,6 @@ ghost use Rattle.fk_syscalls.specs.Values.{answer_of};
 ghost use Rattle.fuse_spec.specs.QueueCalls.{waiting, without};
 
 use crate::kernel::KernelOf;
-use crate::stored_answer::StoredAnswer;
 use fk_queues::QueueTable;
 use fk_syscalls::Answer;
 use fuse_spec::Purpose;
@@ -28,10 +27,7 @@ impl<Q: QueueTable<Purpose> + Drop> KernelOf<Q> {
         requires unanswered { is_some (get self.old.vfs.calls call) ≡ true }
         ensures { self.new ≡ record self.old { vfs = answered self.old.vfs call (answer_of answer) } }
     {
-        if self.calls.remove(call).is_none() {
-            return;
-        }
-        self.answers.put(call, StoredAnswer::new(answer));
+        fk_calls::answer(&mut self.calls, &mut self.answers, call, answer);
     }
 
     /// How many calls are unanswered.

@@ -11,13 +11,10 @@ ghost use Rattle.fk_kernel.specs.Refused.{or_no_memory, begin_refusal};
 ghost use Rattle.fuse_spec.specs.QueueCalls.{after_enqueue};
 
 use crate::kernel::KernelOf;
-use crate::stored_answer::StoredAnswer;
+use fk_calls::{MAX_CALLS, StoredAnswer, is_full};
 use fk_queues::QueueTable;
 use fk_syscalls::{Answer, Call, CallState, Next, begin};
 use fuse_spec::{Purpose, Refusal};
-
-/// At most so many calls are unanswered.
-pub(crate) const MAX_CALLS: usize = 64;
 
 /// No counter gives a number from here on.
 const COUNTER_END: u64 = 0x4000_0000_0000_0000;
@@ -41,7 +38,7 @@ impl<Q: QueueTable<Purpose> + Drop> KernelOf<Q> {
         if !self.is_ready() {
             return Err(Refusal::NotReady);
         }
-        if self.calls.len() >= MAX_CALLS {
+        if is_full(&self.calls) {
             return Err(Refusal::Full);
         }
         if self.next_call >= COUNTER_END {

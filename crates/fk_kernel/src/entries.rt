@@ -19,7 +19,7 @@ ghost use Rattle.fk_kernel.specs.Entries.{place_of, Awaits, LooksUp, Makes, Crea
 
 use crate::counted_nodes::CountedNodes;
 use crate::kernel::KernelOf;
-use crate::stored_answer::StoredAnswer;
+use fk_calls::{StoredAnswer, bind_missing};
 use fk_dentry::Bindings;
 use fk_queues::QueueTable;
 use fk_syscalls::{Answer, Asked, CallState, Next};
@@ -384,11 +384,10 @@ impl<Q: QueueTable<Purpose> + Drop> KernelOf<Q> {
         let Asked::Lookup { directory, name } = waiting.asks() else {
             return Ok(());
         };
-        let Ok(()) = self.names.reserve(directory, name) else {
+        let names = &mut self.names;
+        let Ok(()) = bind_missing(names, directory, name, self.clock, valid_ms) else {
             return Err(Refusal::NoMemory);
         };
-        let until = self.clock.saturating_add(valid_ms);
-        self.names.put(directory, name, None, until);
         Ok(())
     }
 }

@@ -1,45 +1,22 @@
 //! How nodes are given up, and forgets are read.
 
-ghost use Rattle.std.specs.Prelude.{◌≡◌, ℕ, List, Some, None, OnOk, OnErr, IfOk, IfErr, map, nat_eq};
-ghost use Rattle.std.specs.List.{list_any};
-ghost use Rattle.fuse_spec.specs.Kernel.{evicted, is_pinned, is_bound, nodes_of_state};
-ghost use Rattle.fuse_spec.specs.Maps.{get, values};
+ghost use Rattle.std.specs.Prelude.{◌≡◌, Some, None, OnOk, OnErr, IfOk, IfErr, map};
+ghost use Rattle.fuse_spec.specs.Kernel.{evicted};
+ghost use Rattle.fuse_spec.specs.Maps.{get};
 ghost use Rattle.fuse_spec.specs.QueueCalls.{first_forgets, after_read_forgets};
 ghost use Rattle.fuse_spec.specs.declared.Counted.{Counted};
 ghost use Rattle.fk_kernel.specs.Refused.{or_no_memory};
 ghost use Rattle.fk_kernel.specs.RefusedUpkeep.{evict_refusal, read_forgets_refusal, IsForgetFrame};
 
 use crate::kernel::KernelOf;
-use crate::open_files::{is_open, is_releasing};
+use crate::open_files::is_releasing;
+use fk_calls::is_node_in_use;
 use fk_queues::{Forgets, QueueTable};
-use fk_syscalls::CallState;
 use fuse_frames::RequestFrame;
 use fuse_spec::{Purpose, Refusal};
-use std::alloc::{AllocError, Allocator};
-
-/// Whether one of the calls stands on the node or names it.
-fn is_named<A: Allocator + Copy>(calls: &[(u64, CallState<A>)], node: u64) -> bool
-    ensures { result ≡ list_any (λ state. list_any (nat_eq node) (nodes_of_state state)) (values calls.now) }
-{
-    for call in calls {
-        if call.1.names_node(node) {
-            return true;
-        }
-    }
-    false
-}
+use std::alloc::AllocError;
 
 impl<Q: QueueTable<Purpose> + Drop> KernelOf<Q> {
-    /// Whether an unanswered call stands on the node or names it, an open file is of it, or a RELEASE of one is unanswered.
-    fn is_pinned(&self, node: u64) -> bool
-        ensures { result ≡ is_pinned self.now node }
-    {
-        let is_named = is_named(self.calls.rows(), node);
-        let is_open = is_open(self.opens.rows(), node);
-        let is_releasing = is_releasing(&self.queues, node);
-        is_named || (is_open || is_releasing)
-    }
-
     /// Why a node cannot be given up: `NotReady` where the mount is not live, `NoSuch` where the node is not counted,
     /// `Busy` where it is pinned or a name in force, valid or not, names it.
     pub fn evict_refusal(&self, node: u64) -> Option<Refusal>
@@ -51,7 +28,8 @@ impl<Q: QueueTable<Purpose> + Drop> KernelOf<Q> {
         if self.nodes.generation_of(node).is_none() {
             return Some(Refusal::NoSuch);
         }
-        if self.is_pinned(node) || self.names.names_node(node) {
+        let is_releasing = is_releasing(&self.queues, node);
+        if is_node_in_use(&self.calls, &self.opens, is_releasing, &self.names, node) {
             return Some(Refusal::Busy);
         }
         None

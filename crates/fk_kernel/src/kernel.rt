@@ -7,7 +7,7 @@ ghost use Rattle.fuse_spec.specs.Worlds.{first_kernel};
 ghost use Rattle.fk_kernel.specs.Refused.{is_past_end, or_no_memory, mount_refusal};
 
 use crate::counted_nodes::CountedNodes;
-use crate::stored_answer::StoredAnswer;
+use fk_calls::StoredAnswer;
 use fk_dentry::Bindings;
 use fk_queues::{QueueTable, Queues};
 use fk_syscalls::CallState;

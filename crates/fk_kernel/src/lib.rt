@@ -15,7 +15,6 @@ mod reading;
 mod refusing;
 mod replying;
 mod signals;
-mod stored_answer;
 mod writing;
 
 pub use fk_syscalls::{Answer, Call, ListedName};

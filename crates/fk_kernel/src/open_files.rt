@@ -1,11 +1,11 @@
 //! Open files: how they are closed and let go, and what uses them.
 
-ghost use Rattle.std.specs.Prelude.{◌≡◌, ◌<◌, ◌≤◌, ◌^◌, ◌&&◌, not, ℕ, None, Some, true, false, is_some, cond, length, OnOk, OnErr, IfOk, IfErr, nat_eq};
+ghost use Rattle.std.specs.Prelude.{◌≡◌, ◌<◌, ◌^◌, None, Some, true, false, is_some, length, OnOk, OnErr, IfOk, IfErr, nat_eq};
 ghost use Rattle.std.specs.List.{list_any};
 ghost use Rattle.fuse_spec.specs.Calls as call;
 ghost use Rattle.fuse_spec.specs.declared.Opened.{Opened as OpenedFile};
-ghost use Rattle.fuse_spec.specs.Kernel.{is_aborted, is_using, is_used, released_if_idle, after_use, call_begun, is_released_by};
-ghost use Rattle.fuse_spec.specs.Maps.{get, remove, values};
+ghost use Rattle.fuse_spec.specs.Kernel.{is_aborted, is_used, released_if_idle, after_use, call_begun, is_released_by};
+ghost use Rattle.fuse_spec.specs.Maps.{get};
 ghost use Rattle.fuse_spec.specs.QueueCalls.{waiting, without};
 ghost use Rattle.fuse_spec.specs.Steps.{is_ready};
 ghost use Rattle.fuse_spec.specs.Uniques.{numbers_left_from};
@@ -15,25 +15,13 @@ ghost use Rattle.fk_syscalls.specs.Values.{answer_of};
 ghost use Rattle.fk_kernel.specs.Entries.{EndsWithin, EndsPast};
 ghost use Rattle.fk_kernel.specs.Refused.{begin_refusal, or_no_memory};
 
-use crate::beginning::MAX_CALLS;
 use crate::kernel::KernelOf;
-use crate::stored_answer::StoredAnswer;
+use fk_calls::{MAX_CALLS, StoredAnswer, is_in_other_use, is_in_use};
 use fk_queues::QueueTable;
-use fk_syscalls::{Answer, CallState};
+use fk_syscalls::Answer;
 use fuse_spec::{Opened, Purpose, Refusal};
-use std::alloc::Allocator;
 
 const EBADF: u32 = 9;
-
-/// Whether a call waits for a read or write of an open file.
-fn uses<A: Allocator + Copy>(call: &CallState<A>, handle: u64) -> bool
-    ensures { result ≡ is_using handle call.now }
-{
-    match call.handle() {
-        Some(used) => used == handle,
-        None => false,
-    }
-}
 
 /// Whether an open file is of a node.
 fn is_of(opened: &Opened, node: u64) -> bool
@@ -50,53 +38,6 @@ fn releases(purpose: &Purpose, node: u64) -> bool
         Purpose::Release(opened) => is_of(opened, node),
         Purpose::Init | Purpose::Call(_) => false,
     }
-}
-
-/// Whether one of the calls waits for a read or write of an open file.
-fn is_in_use<A: Allocator + Copy>(calls: &[(u64, CallState<A>)], handle: u64) -> bool
-    ensures { result ≡ list_any (is_using handle) (values calls.now) }
-{
-    for call in calls {
-        if uses(&call.1, handle) {
-            return true;
-        }
-    }
-    false
-}
-
-/// Whether a call is another than this and waits for a read or write of an open file.
-fn is_other_use<A: Allocator + Copy>(row: &(u64, CallState<A>), but: u64, handle: u64) -> bool
-    ensures { result ≡ (not (nat_eq row.now.0 but) && is_using handle row.now.1) }
-{
-    row.0 != but && uses(&row.1, handle)
-}
-
-/// Whether one of the calls but this waits for a read or write of an open file.
-fn is_in_other_use<A: Allocator + Copy>(
-    calls: &[(u64, CallState<A>)],
-    but: u64,
-    handle: u64,
-) -> bool
-    ensures { result ≡ list_any (λ (e : ℕ × State OpenedFile). not (nat_eq e.0 but) && is_using handle e.1) calls.now }
-{
-    for call in calls {
-        if is_other_use(call, but, handle) {
-            return true;
-        }
-    }
-    false
-}
-
-/// Whether one of the open files is of a node.
-pub(crate) fn is_open(opens: &[(u64, Opened)], node: u64) -> bool
-    ensures { result ≡ list_any (λ (opened : OpenedFile). nat_eq opened.nodeid node) (values opens.now) }
-{
-    for file in opens {
-        if is_of(&file.1, node) {
-            return true;
-        }
-    }
-    false
 }
 
 /// Whether one of the requests is the RELEASE of a file of a node.

@@ -5,9 +5,8 @@ ghost use Rattle.fuse_spec.specs.Maps.{get};
 ghost use Rattle.fuse_spec.specs.Operations as reply;
 ghost use Rattle.fuse_spec.specs.QueueCalls.{waiting};
 ghost use Rattle.fuse_spec.specs.Replies.{reply_written};
-ghost use Rattle.fuse_spec.specs.Vfs.{CallState as State, asked};
 ghost use Rattle.fuse_spec.specs.declared.Opened.{Opened as OpenedFile};
-ghost use Rattle.fk_kernel.specs.Entries.{Awaits, EndsWithin, names_left};
+ghost use Rattle.fk_kernel.specs.Entries.{Awaits, EndsWithin};
 ghost use Rattle.fk_kernel.specs.Refused.{IsWriteRefusal, PassesEnd, is_past_end};
 ghost use Rattle.fk_said.specs.ReplySaid.{wire_of, LastsADay};
 ghost use Rattle.fk_kernel.specs.Said.{Says, SaysNothing, awaited_by_call, wrong_body, IsTaken};
@@ -17,43 +16,14 @@ ghost use Rattle.fuse_spec.specs.Messages.{WireReply};
 ghost use Rattle.fuse_spec.specs.Numbers.{max_validity};
 
 use crate::kernel::KernelOf;
-use fk_dentry::Bindings;
+use fk_calls::{result_of, unbind};
 use fk_queues::QueueTable;
 use fk_said::{ReplySaid, names_listed, said_to};
-use fk_syscalls::{Answer, Asked, CallState};
+use fk_syscalls::Answer;
 use fk_wire::{Opcode, Records, read_reply};
 use fuse_spec::{Purpose, Refusal, WriteResult};
-use fuse_tables::Table;
-use std::alloc::Allocator;
 
 const EIO: u32 = 5;
-
-/// The names of which a call asked that they go are in force no longer.
-fn unbind<A: Allocator + Copy>(calls: &Table<CallState<A>, A>, names: &mut Bindings<A>, call: u64)
-    ensures { (state : State OpenedFile) → get calls.now.entries call ≡ Some state → names.new.names ≡ names_left (asked state) names.old.names }
-{
-    let Some(waiting) = calls.get(call) else {
-        return;
-    };
-    match waiting.asks() {
-        Asked::Unlink { directory, name } => {
-            let _was = names.remove(directory, name);
-        }
-        Asked::Rmdir { directory, name } => {
-            let _was = names.remove(directory, name);
-        }
-        Asked::Rename {
-            directory,
-            old,
-            newdir,
-            new,
-        } => {
-            let _was = names.remove(directory, old);
-            let _other = names.remove(newdir, new);
-        }
-        _ => {}
-    }
-}
 
 impl<Q: QueueTable<Purpose> + Drop> KernelOf<Q> {
     /// A reply to the request of a call. Bytes that do not go with what it asked answer it EIO. Where the call is not
@@ -79,15 +49,16 @@ impl<Q: QueueTable<Purpose> + Drop> KernelOf<Q> {
         if self.ends_past(call) {
             return Err(Refusal::Exhausted);
         }
+        let told = result_of(said.is_some());
         let Some(said) = said else {
             self.end_call(unique, call, Answer::Failed { errno: EIO });
-            return Ok(WriteResult::Invalid);
+            return Ok(told);
         };
         if self.walks_past(unique, call, &said) {
             return Err(Refusal::Exhausted);
         }
         match self.replied(unique, call, said) {
-            Ok(()) => Ok(WriteResult::Accepted),
+            Ok(()) => Ok(told),
             Err(refusal) => Err(refusal),
         }
     }

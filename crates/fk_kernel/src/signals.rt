@@ -11,6 +11,7 @@ ghost use Rattle.fk_kernel.specs.Refused.{or_no_memory};
 ghost use Rattle.fk_kernel.specs.RefusedSignals.{signal_refusal, IsSignalled, read_interrupt_refusal, IsInterruptFrame};
 
 use crate::kernel::KernelOf;
+use fk_calls::is_interrupted;
 use fk_queues::QueueTable;
 use fk_syscalls::Answer;
 use fk_unique::interrupt_of;
@@ -100,7 +101,7 @@ impl<Q: QueueTable<Purpose> + Drop> KernelOf<Q> {
         ensures { (state : State Opened) → get self.old.vfs.calls call ≡ Some state → call_signalled self.old call state fatal ≡ (result, self.new) }
     {
         let effect = self.queues.interrupt(unique, fatal);
-        if let IntrEffect::Dequeued = effect {
+        if is_interrupted(effect) {
             self.finish_use(call, Answer::Failed { errno: EINTR });
         }
         effect

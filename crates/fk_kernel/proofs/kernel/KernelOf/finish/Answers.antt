@@ -1,19 +1,30 @@
-use Rattle.std.proofs.Common.{refl, sym, ap, ◌∙◌}
-use Rattle.std.specs.Prelude.{is_some}
-use Rattle.fuse_spec.specs.Maps.{get}
+use Rattle.std.proofs.Common.{refl, arith}
+use Rattle.fk_syscalls.specs.Values.{answer_of}
 use Rattle.fk_kernel.proofs.Nodes.{sorted_gone}
-use Rattle.fk_kernel.proofs.Sound.{sound_answered, there_is}
+use Rattle.fk_kernel.proofs.Sound.{sound_answered, there_is, length_gone}
 use Rattle.fk_kernel.proofs.Files.{answered_files}
+use Rattle.fuse_spec.specs.Maps.{get}
 use Rattle.fk_kernel.proofs.kernel.KernelOf.finish.Goals as goal
 
-pub invariant_of-self-2 : goal.invariant_of-self-2
-invariant_of-self-2 g c =
+pub answer-requires-clause-absent : goal.answer-requires-clause-absent
+answer-requires-clause-absent g c =
     let k = c.self.inside in
-    let there = there_is (get k.calls.entries c.args.call) (ap is_some (sym c.remove.ensures.value) ∙ c.if-is_none.ensures) in
+    c.self.invariant.numbers.apart c.args.call (there_is (get k.calls.entries c.args.call) (rw (← c.self.view_is) at c.requires.unanswered))
+
+pub answer-requires-clause-room : goal.answer-requires-clause-room
+answer-requires-clause-room g c =
+    let k = c.self.inside in
+    let there = there_is (get k.calls.entries c.args.call) (rw (← c.self.view_is) at c.requires.unanswered) in
+    omega (arith, c.self.invariant.numbers.room, length_gone k.calls.entries c.args.call there)
+
+pub invariant_of-self : goal.invariant_of-self
+invariant_of-self g c =
+    let k = c.self.inside in
+    let there = there_is (get k.calls.entries c.args.call) (rw (← c.self.view_is) at c.requires.unanswered) in
     let old = c.self.invariant in
-    rw (c.remove.ensures.entries, c.put.ensures.entries)
+    rw (c.answer.ensures.calls, c.answer.ensures.answers)
     (record {
-      numbers = sound_answered k.calls.entries k.answers.entries k.answers.room k.next_call old.numbers c.args.call c.new.result c.put.new.self.room there c.put.ensures.room;
+      numbers = sound_answered k.calls.entries k.answers.entries k.answers.room k.next_call old.numbers c.args.call (answer_of c.args.answer) c.answer.new.answers.room there c.answer.ensures.room;
       idle = λ down. rw (old.idle down) refl;
       sorted = sorted_gone k.calls.entries c.args.call old.sorted;
       files = answered_files k.calls.entries k.opens.entries k.closing.entries k.next_call old.files c.args.call;

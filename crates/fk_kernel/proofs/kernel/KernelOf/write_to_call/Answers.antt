@@ -1,4 +1,4 @@
-use Rattle.std.proofs.Common.{rules, ◌≡◌, ℕ, true, None, Some, refl, ap, sym, subst, ◌∙◌, arith}
+use Rattle.std.proofs.Common.{rules, ◌≡◌, ℕ, true, cond, None, Some, refl, ap, sym, subst, ◌∙◌, arith}
 use Rattle.std.specs.Prelude.{is_some}
 use Rattle.fuse_spec.specs.Maps.{get}
 use Rattle.fuse_spec.specs.Operations.{Operation}
@@ -6,6 +6,7 @@ use Rattle.fuse_spec.specs.QueueCalls.{waiting}
 use Rattle.fuse_spec.specs.Replies.{reply_written}
 use Rattle.fuse_spec.specs.Vfs.{using, asked}
 use Rattle.fuse_spec.specs.declared.Opened.{Opened}
+use Rattle.fuse_spec.specs.declared.WriteResult.TheVariants.{Accepted, Invalid}
 use Rattle.fk_syscalls.specs.States.{StandsAt}
 use Rattle.fk_syscalls.specs.Values.{operation_of}
 use Rattle.fk_kernel.specs.Refused.{IsWriteRefusal, no_memory, exhausted}
@@ -71,9 +72,11 @@ returns-in-Ok-clause-taken g c =
     let o = opcode_of operation in
     let bytes = c.args.bytes.now in
     let said = wire_of c.in-Some-said.said in
-    let says = c.in-Some-said.ensures.said.says in
+    let says = (rw c.in-Some-said.is at c.said_to-said.ensures.said).says in
+    let goes : c.is_some.result ≡ true = c.is_some.ensures ∙ ap is_some c.in-Some-said.is in
+    let told : c.result_of-told.result ≡ Accepted = c.result_of-told.ensures ∙ ap (λ b. cond b Accepted Invalid) goes in
     let ok = c.in-Ok.ensures.ok in
-    rw awaits
+    rw (awaits, told)
     (taken_judged now c.args.unique bytes _ _ o (judged_op operation) (λ wire other. ap (reply_written now c.args.unique) (says_one o bytes wire said other says) ∙ ok) (λ none. absurd (none said says)))
 
 pub returns-then-walks_past-clause-refusal : goal.returns-then-walks_past-clause-refusal
@@ -85,7 +88,7 @@ returns-then-walks_past-clause-refusal g c =
     let at : get k.calls.entries c.args.call ≡ Some state = search rules in
     let here : get now.vfs.calls c.args.call ≡ Some state = rw (← c.self.view_is) at in
     let awaits : awaited_by_call (get now.vfs.calls c.args.call) ≡ reply_to (opcode_of operation) = ap awaited_by_call here ∙ ap (λ (o : Operation ℕ Opened). reply_to (opcode_of o)) (sym c.asks.ensures.operation) in
-    rw awaits (exhausted (passes now c.args.unique c.args.bytes.now (opcode_of operation) (judged_op operation) (wire_of c.in-Some-said.said) c.in-Some-said.ensures.said.says (c.walks_past.ensures.past c.if-walks_past.true)))
+    rw awaits (exhausted (passes now c.args.unique c.args.bytes.now (opcode_of operation) (judged_op operation) (wire_of c.in-Some-said.said) (rw c.in-Some-said.is at c.said_to-said.ensures.said).says (c.walks_past.ensures.past c.if-walks_past.true)))
 
 pub returns-in-Err-clause-refusal : goal.returns-in-Err-clause-refusal
 returns-in-Err-clause-refusal g c = subst (IsWriteRefusal c.args.self.now c.args.unique c.args.bytes.now (awaited_by_call (get c.args.self.now.vfs.calls c.args.call))) (sym c.in-Err.ensures.refusal) no_memory
@@ -99,4 +102,4 @@ returns-in-Err-clause-memory g c = λ is.
     let at : get k.calls.entries c.args.call ≡ Some state = search rules in
     let here : get now.vfs.calls c.args.call ≡ Some state = rw (← c.self.view_is) at in
     let awaits : awaited_by_call (get now.vfs.calls c.args.call) ≡ reply_to (opcode_of operation) = ap awaited_by_call here ∙ ap (λ (o : Operation ℕ Opened). reply_to (opcode_of o)) (sym c.asks.ensures.operation) in
-    rw awaits (said_passes now c.args.unique c.args.bytes.now (opcode_of operation) (wire_of c.in-Some-said.said) c.in-Some-said.ensures.said.says (c.walks_past.ensures.within c.if-walks_past.false))
+    rw awaits (said_passes now c.args.unique c.args.bytes.now (opcode_of operation) (wire_of c.in-Some-said.said) (rw c.in-Some-said.is at c.said_to-said.ensures.said).says (c.walks_past.ensures.within c.if-walks_past.false))

@@ -1,0 +1,16 @@
+use Rattle.std.proofs.Common.{◌-◌, length, get_or, ap, ◌∙◌}
+use Rattle.fuse_spec.specs.Answers.{Answer}
+use Rattle.fuse_spec.specs.Maps.{put}
+use Rattle.fk_calls.proofs.Answered.{absent_last, answered_last}
+use Rattle.fk_calls.proofs.answers.answer_all.Goals as goal
+
+pub put-requires-clause-absent : goal.put-requires-clause-absent
+put-requires-clause-absent g c =
+    absent_last c.args.calls.now c.loop-left.left.now c.args.answers.now c.loop-left.answers c.loop-left.invariant c.in-len1-up.len_at_least c.requires.sorted c.requires.absent c.index-left-left.result
+
+pub loop-left-preserved : goal.loop-left-preserved
+loop-left-preserved g c =
+    let left = c.loop-left.left.now in
+    let last = get_or left (length left - 1) c.index-left-left.result in
+    answered_last c.args.calls.now left c.args.answers.now c.loop-left.answers c.put.new.self c.loop-left.invariant c.in-len1-up.len_at_least c.index-left-left.result
+    (c.put.ensures.entries ∙ ap (λ (a : Answer). put c.loop-left.answers.entries last.0 a) c.new.ensures) c.put.ensures.room

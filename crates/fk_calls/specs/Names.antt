@@ -1,0 +1,13 @@
+-- What the reply to a call's request makes of the names in force.
+use Rattle.std.specs.Prelude.{ℕ}
+use Rattle.fuse_spec.specs.declared.Binding.{Binding}
+use Rattle.fuse_spec.specs.declared.Opened.{Opened}
+use Rattle.fuse_spec.specs.Maps.{NameMap, remove_name}
+use Rattle.fuse_spec.specs.Operations.{Operation, unlink, rmdir, rename}
+
+-- The names in force once the operation is done.
+abbrev pub names_left : Operation ℕ Opened → NameMap Binding → NameMap Binding
+names_left (unlink directory name) names = remove_name names (directory, name)
+names_left (rmdir directory name) names = remove_name names (directory, name)
+names_left (rename directory old newdir new) names = remove_name (remove_name names (directory, old)) (newdir, new)
+names_left operation names = names

@@ -1,0 +1,71 @@
+//! Which nodes are in use.
+
+ghost use Rattle.std.specs.Prelude.{◌≡◌, ◌||◌, nat_eq};
+ghost use Rattle.std.specs.List.{list_any};
+ghost use Rattle.fuse_spec.specs.Kernel.{nodes_of_state};
+ghost use Rattle.fuse_spec.specs.Maps.{values};
+ghost use Rattle.fuse_spec.specs.declared.Opened.{Opened as OpenedFile};
+ghost use Rattle.fk_dentry.specs.NamesInForce.{names_the_node};
+ghost use Rattle.fk_calls.specs.Pins.{pins};
+
+use fk_dentry::Bindings;
+use fk_syscalls::CallState;
+use fuse_spec::Opened;
+use fuse_tables::Table;
+use std::alloc::Allocator;
+
+/// Whether one of the calls stands on the node or names it.
+fn is_named<A: Allocator + Copy>(calls: &[(u64, CallState<A>)], node: u64) -> bool
+    ensures { result ≡ list_any (λ state. list_any (nat_eq node) (nodes_of_state state)) (values calls.now) }
+{
+    for call in calls {
+        if call.1.names_node(node) {
+            return true;
+        }
+    }
+    false
+}
+
+/// Whether an open file is of a node.
+fn is_of(opened: &Opened, node: u64) -> bool
+    ensures { result ≡ nat_eq opened.now.nodeid node }
+{
+    opened.nodeid == node
+}
+
+/// Whether one of the open files is of a node.
+fn is_open(opens: &[(u64, Opened)], node: u64) -> bool
+    ensures { result ≡ list_any (λ (opened : OpenedFile). nat_eq opened.nodeid node) (values opens.now) }
+{
+    for file in opens {
+        if is_of(&file.1, node) {
+            return true;
+        }
+    }
+    false
+}
+
+/// Whether an unanswered call stands on the node or names it, an open file is of it, or the RELEASE of one is unanswered.
+pub fn is_pinned<A: Allocator + Copy>(
+    calls: &Table<CallState<A>, A>,
+    opens: &Table<Opened, A>,
+    is_releasing: bool,
+    node: u64,
+) -> bool
+    ensures { result ≡ pins calls.now.entries opens.now.entries is_releasing node }
+{
+    is_named(calls.rows(), node) || is_open(opens.rows(), node) || is_releasing
+}
+
+/// Whether a node is pinned, or a name in force, valid or not, names it.
+pub fn is_node_in_use<A: Allocator + Copy>(
+    calls: &Table<CallState<A>, A>,
+    opens: &Table<Opened, A>,
+    is_releasing: bool,
+    names: &Bindings<A>,
+    node: u64,
+) -> bool
+    ensures { result ≡ (pins calls.now.entries opens.now.entries is_releasing node || names_the_node node names.now.names) }
+{
+    is_pinned(calls, opens, is_releasing, node) || names.names_node(node)
+}

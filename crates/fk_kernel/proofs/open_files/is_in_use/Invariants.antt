@@ -1,8 +1,0 @@
-use Rattle.std.proofs.Common.{◌≡◌, drop}
-use Rattle.std.specs.List.{list_any}
-use Rattle.fuse_spec.specs.Kernel.{is_using}
-use Rattle.fuse_spec.specs.Maps.{values}
-use Rattle.fk_kernel.proofs.open_files.is_in_use.Given as goal
-
-abbrev pub invariant-loop-call : goal.invariant-loop-call
-invariant-loop-call g l = list_any (is_using l.handle) (values l.calls) ≡ list_any (is_using l.handle) (values (drop l.call-index l.calls))
