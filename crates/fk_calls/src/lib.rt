@@ -12,6 +12,6 @@ mod uses;
 pub use answers::{answer, answer_all, is_interrupted, result_of};
 pub use limit::{MAX_CALLS, is_full};
 pub use names::{bind_missing, unbind};
-pub use pins::{is_node_in_use, is_pinned};
+pub use pins::is_node_in_use;
 pub use stored_answer::StoredAnswer;
 pub use uses::{is_in_other_use, is_in_use};

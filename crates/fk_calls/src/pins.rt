@@ -46,7 +46,7 @@ fn is_open(opens: &[(u64, Opened)], node: u64) -> bool
 }
 
 /// Whether an unanswered call stands on the node or names it, an open file is of it, or the RELEASE of one is unanswered.
-pub fn is_pinned<A: Allocator + Copy>(
+fn is_pinned<A: Allocator + Copy>(
     calls: &Table<CallState<A>, A>,
     opens: &Table<Opened, A>,
     is_releasing: bool,

@@ -59,9 +59,9 @@ pub record PassesEnd (k : Kernel) (unique : ℕ) (bytes : List ℕ) (awaiting : 
   pub awaits : awaiting ≡ reply_to opcode
   pub past : (wire : WireReply) → Means opcode bytes wire → is_past_end (reply_written k unique wire).1 ≡ true
 
--- Why bytes under a unique are refused, by what awaits a reply under it. That want of memory comes last is a clause of `write`.
+-- Why bytes under a unique are refused, by what awaits a reply under it. Want of memory comes last.
 pub data IsWriteRefusal (k : Kernel) (unique : ℕ) (bytes : List ℕ) (awaiting : Awaited) : Refusal → Type 0 where
-  no_memory : IsWriteRefusal k unique bytes awaiting NoMemory
+  no_memory : (PassesEnd k unique bytes awaiting → ⊥) → IsWriteRefusal k unique bytes awaiting NoMemory
   exhausted : PassesEnd k unique bytes awaiting → IsWriteRefusal k unique bytes awaiting Exhausted
 
 -- Why bytes are refused: want of memory, or want of a number.

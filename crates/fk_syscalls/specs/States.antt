@@ -48,6 +48,12 @@ pub record IsSoundLentCall (bytes : List ℕ) (at : Option ℕ) (plan : LentPlan
   pub sound : IsSoundPlanLent plan
   pub last : at ≡ None → IsLast (plan_lent plan)
 
+-- The call waits for a word of its path.
+abbrev pub IsWalking : CallState Opened → Type 0
+IsWalking (walking directory word words plan) = Unit {0}
+IsWalking (doing operation) = ⊥
+IsWalking (using handle operation) = ⊥
+
 -- What a call has asked tells where it stands.
 pub record LooksUp (directory : ℕ) (word : Name) (state : CallState Opened) : Type 0 where
   pub words : List Name

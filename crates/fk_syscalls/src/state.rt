@@ -9,7 +9,7 @@ ghost use Rattle.fuse_spec.specs.Vfs.{Vfs, walking, using, asked, walks_on};
 ghost use Rattle.fuse_spec.specs.Walks.{WalkPlan, last};
 ghost use Rattle.fk_syscalls.specs.Words.{words_from, AreWords};
 ghost use Rattle.fk_syscalls.specs.Plans.{final_of, plan_lent, IsSoundFinal};
-ghost use Rattle.fk_syscalls.specs.States.{walking_at, IsSoundLentCall, StandsAt, used_by, HasNames};
+ghost use Rattle.fk_syscalls.specs.States.{walking_at, IsSoundLentCall, IsWalking, StandsAt, used_by, HasNames};
 ghost use Rattle.fk_syscalls.specs.NewNames.{with_name};
 ghost use Rattle.fk_syscalls.specs.Values.{operation_of, AsksWord, comes_to};
 
@@ -180,6 +180,7 @@ impl<A: Allocator + Copy> CallState<A> {
     /// The word that it asked for leads to this node. It walks on as far as the names in force lead at this time, in
     /// milliseconds. Takes no memory.
     pub fn found(self, names: &Bindings<A>, clock: u64, node: u64) -> Next<A>
+        requires { IsWalking self }
         ensures { (c : Vfs Opened) (call directory : ℕ) (word : Name) (words : List Name) (plan : WalkPlan ℕ) → HasNames c names.now.names clock → self ≡ walking directory word words plan → walks_on c call node words plan ≡ comes_to c call result }
     {
         let CallState {
@@ -236,6 +237,7 @@ impl<A: Allocator + Copy> CallState<A> {
 
     /// Whether it would ask anew, were the word that it asked for bound so and found.
     pub fn would_ask(&self, names: &Bindings<A>, clock: u64, new: &NewName<'_>) -> bool
+        requires { IsWalking self.now }
         ensures { (c : Vfs Opened) (call directory : ℕ) (word : Name) (words : List Name) (plan : WalkPlan ℕ) → HasNames c (with_name names.now.names new.now) clock → self.now ≡ walking directory word words plan → is_some (walks_on c call new.now.node words plan).operation ≡ result }
     {
         let Aim::Walks(plan) = &self.aim else {

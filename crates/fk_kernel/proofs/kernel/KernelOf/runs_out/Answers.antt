@@ -1,4 +1,4 @@
-use Rattle.std.proofs.Common.{rules, ◌≡◌, ◌+◌, ◌^◌, ◌≤◌, ◌<◌, ℕ, List, [], ◌∷◌, Some, true≢false, refl, ap, sym, ◌∙◌, arith}
+use Rattle.std.proofs.Common.{rules, ◌≡◌, ◌+◌, ◌^◌, ◌≤◌, ◌<◌, ℕ, List, [], ◌∷◌, Some, true≢false, refl, ap, sym, subst, ◌∙◌, arith}
 use Rattle.std.specs.Prelude.{is_some}
 use Rattle.fuse_spec.specs.declared.Opened.{Opened}
 use Rattle.fuse_spec.specs.declared.WriteResult.{WriteResult}
@@ -11,12 +11,22 @@ use Rattle.fuse_spec.specs.Vfs.{Advance, asked, walking, walks_on, bound}
 use Rattle.fuse_spec.specs.Operations.{Operation, lookup}
 use Rattle.fuse_spec.specs.Paths.{Name}
 use Rattle.fuse_spec.specs.Walks.{WalkPlan}
+use Rattle.fk_syscalls.specs.States.{IsWalking}
 use Rattle.fk_kernel.specs.Refused.{is_past_end}
 use Rattle.fk_kernel.proofs.Replied.{lookup_found}
 use Rattle.fk_kernel.proofs.Walking.{asks_past}
 use Rattle.fk_kernel.proofs.Within.{walks_within}
 use Rattle.fk_kernel.proofs.kernel.KernelOf.runs_out.Given as given
 use Rattle.fk_kernel.proofs.kernel.KernelOf.runs_out.Goals as goal
+
+pub would_ask-requires : goal.would_ask-requires
+would_ask-requires g c =
+    let k = c.self.inside in
+    let stands = c.requires.looks_up in
+    let at : get k.calls.entries c.args.call ≡ Some c.in-Some.waiting.now = search rules in
+    let here : get k.calls.entries c.args.call ≡ Some (walking stands.directory stands.word stands.words stands.plan) = rw (← c.self.view_is) at stands.is in
+    let same : c.in-Some.waiting.now ≡ walking stands.directory stands.word stands.words stands.plan = cc (at, here) in
+    subst IsWalking (sym same) tt
 
 -- whether it would ask is whether the machine's walk asks
 walks_so : (g : given.Over) (c : goal.After-would_ask g) (directory : ℕ) (word : Name) (words : List Name) (plan : WalkPlan ℕ)

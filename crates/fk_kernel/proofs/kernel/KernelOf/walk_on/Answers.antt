@@ -1,4 +1,4 @@
-use Rattle.std.proofs.Common.{◌≡◌, ◌≤◌, ◌+◌, [], ◌∷◌, length, true, false, Some, refl, ap, sym, ◌∙◌, arith}
+use Rattle.std.proofs.Common.{◌≡◌, ◌≤◌, ◌+◌, [], ◌∷◌, length, true, false, Some, refl, ap, sym, subst, ◌∙◌, arith}
 use Rattle.std.specs.Prelude.{is_some}
 use Rattle.fuse_spec.specs.Maps.{get}
 use Rattle.fuse_spec.specs.QueueCalls.{waiting, without, after_answer}
@@ -7,7 +7,7 @@ use Rattle.fuse_spec.specs.Replies.{learnt}
 use Rattle.fuse_spec.specs.Answers.{failed}
 use Rattle.fuse_spec.specs.declared.WriteResult.{WriteResult}
 use Rattle.fuse_spec.specs.declared.WriteResult.TheVariants.{Accepted}
-use Rattle.fk_syscalls.specs.States.{HasNames}
+use Rattle.fk_syscalls.specs.States.{HasNames, IsWalking}
 use Rattle.fk_syscalls.specs.Values.{comes_to}
 use Rattle.fuse_spec.specs.Vfs.{Vfs, Advance, walking, walks_on, bound, asking, answered, no_more}
 use Rattle.fuse_spec.specs.declared.Opened.{Opened}
@@ -24,6 +24,14 @@ pub bind_entry-requires-clause-names_one : goal.bind_entry-requires-clause-names
 bind_entry-requires-clause-names_one g c =
     let stands = c.requires.looks_up in
     (walking stands.directory stands.word stands.words stands.plan, (stands.directory, stands.word), rw (← c.self.view_is) at stands.is, refl)
+
+pub found-requires : goal.found-requires
+found-requires g c =
+    let k = c.self.inside in
+    let stands = c.requires.looks_up in
+    let here : get k.calls.entries c.args.call ≡ Some (walking stands.directory stands.word stands.words stands.plan) = rw (← c.self.view_is) at stands.is in
+    let state : c.in-Some-remove.state ≡ walking stands.directory stands.word stands.words stands.plan = cc (here, c.remove.ensures.value, c.in-Some-remove.is) in
+    subst IsWalking (sym state) tt
 
 pub enqueue-unique-requires-clause-number : goal.enqueue-unique-requires-clause-number
 enqueue-unique-requires-clause-number g c =

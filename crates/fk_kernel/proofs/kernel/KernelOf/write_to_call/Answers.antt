@@ -9,7 +9,7 @@ use Rattle.fuse_spec.specs.declared.Opened.{Opened}
 use Rattle.fuse_spec.specs.declared.WriteResult.TheVariants.{Accepted, Invalid}
 use Rattle.fk_syscalls.specs.States.{StandsAt}
 use Rattle.fk_syscalls.specs.Values.{operation_of}
-use Rattle.fk_kernel.specs.Refused.{IsWriteRefusal, no_memory, exhausted}
+use Rattle.fk_kernel.specs.Refused.{IsWriteRefusal, PassesEnd, no_memory, exhausted}
 use Rattle.fk_said.specs.ReplySaid.{wire_of}
 use Rattle.fk_kernel.specs.Said.{reply_to, gone, awaited_by_call, opcode_of}
 use Rattle.fk_kernel.proofs.PastEnds.{passes, said_passes}
@@ -91,7 +91,18 @@ returns-then-walks_past-clause-refusal g c =
     rw awaits (exhausted (passes now c.args.unique c.args.bytes.now (opcode_of operation) (judged_op operation) (wire_of c.in-Some-said.said) (rw c.in-Some-said.is at c.said_to-said.ensures.said).says (c.walks_past.ensures.past c.if-walks_past.true)))
 
 pub returns-in-Err-clause-refusal : goal.returns-in-Err-clause-refusal
-returns-in-Err-clause-refusal g c = subst (IsWriteRefusal c.args.self.now c.args.unique c.args.bytes.now (awaited_by_call (get c.args.self.now.vfs.calls c.args.call))) (sym c.in-Err.ensures.refusal) no_memory
+returns-in-Err-clause-refusal g c =
+    let k = c.self.inside in
+    let now = c.args.self.now in
+    let state = c.in-Some.waiting.now in
+    let operation = operation_of c.asks.result in
+    let at : get k.calls.entries c.args.call ≡ Some state = search rules in
+    let here : get now.vfs.calls c.args.call ≡ Some state = rw (← c.self.view_is) at in
+    let awaits : awaited_by_call (get now.vfs.calls c.args.call) ≡ reply_to (opcode_of operation) = ap awaited_by_call here ∙ ap (λ (o : Operation ℕ Opened). reply_to (opcode_of o)) (sym c.asks.ensures.operation) in
+    let standing = awaited_by_call (get now.vfs.calls c.args.call) in
+    let within : PassesEnd now c.args.unique c.args.bytes.now standing → ⊥ =
+        rw awaits (said_passes now c.args.unique c.args.bytes.now (opcode_of operation) (wire_of c.in-Some-said.said) (rw c.in-Some-said.is at c.said_to-said.ensures.said).says (c.walks_past.ensures.within c.if-walks_past.false)) in
+    subst (IsWriteRefusal now c.args.unique c.args.bytes.now standing) (sym c.in-Err.ensures.refusal) (no_memory within)
 
 pub returns-in-Err-clause-memory : goal.returns-in-Err-clause-memory
 returns-in-Err-clause-memory g c = λ is.
