@@ -13,7 +13,7 @@ use Rattle.fk_wire.specs.declared.opcode.Minor.{Minor}
 use Rattle.fk_wire.specs.Opcodes.{code_of, knows, served, has_node}
 use Rattle.fk_wire.specs.Faults.{NodeReads, shape_of, Fills, HasNames, BodyFaultIs, FaultIsAt}
 use Rattle.fk_wire.specs.Decoded.{name_from, first_from, request_content_at, opcode_from, decoded}
-use Rattle.fk_wire.proofs.Names.{name_is, first_is}
+use Rattle.fk_fields.proofs.Names.{name_is, first_is}
 
 content_is : (a : RequestContent) (bytes : List ℕ) → ReadsAs 40 (request_body a) bytes → request_content_at (opcode_of a) bytes ≡ a
 content_is (lookup name) bytes h = ap lookup (name_is 40 bytes name h)

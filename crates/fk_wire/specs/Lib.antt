@@ -1,4 +1,4 @@
-pub mod Fields
+pub use Rattle.fk_fields.specs.Fields
 pub mod Pairs
 pub mod Opcodes
 pub mod WireFaults

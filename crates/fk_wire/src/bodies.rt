@@ -7,11 +7,11 @@ ghost use Rattle.fk_wire.specs.Faults.{shape_of, BodyFaultIs, name_after};
 ghost use Rattle.fk_wire.specs.declared.opcode.Opcode.{Opcode};
 
 use crate::fault::WireFault;
-use crate::fields::{u32_at, u64_at};
 use crate::flags::offered;
 use crate::opcode::Opcode;
 use crate::request::RequestBody;
 use crate::shapes::{fixed, one_name, two_names, with_bytes, with_pairs};
+use fk_fields::{u32_at, u64_at};
 
 /// Where the name stands in a frame under this opcode, if it has one name and ends with it.
 fn name_place(opcode: Opcode) -> Option<usize>

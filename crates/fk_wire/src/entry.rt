@@ -5,8 +5,8 @@ ghost use Rattle.fk_wire.specs.Fields.{InRange, number_at, spellings};
 ghost use Rattle.fk_wire.specs.Entries.{attr_fields, entry_fields, entry_content, IsEntry};
 ghost use Rattle.fk_wire.specs.Entries.{attr_at as attributes_at, entry_at as entry_content_at};
 
-use crate::fields::{u32_at, u64_at};
 use crate::room::{put_u32, put_u64, put_zeros88};
+use fk_fields::{u32_at, u64_at};
 use std::alloc::Allocator;
 
 /// The attributes of a file: the fields of `struct fuse_attr` that are not free. `blksize` is written

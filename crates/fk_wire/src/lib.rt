@@ -16,7 +16,6 @@ mod bodies;
 mod directory;
 mod entry;
 mod fault;
-mod fields;
 mod flags;
 mod limits;
 mod opcode;

@@ -11,10 +11,10 @@ ghost use Rattle.fk_wire.specs.Faults.{FaultIs, FaultIsAt, HasLength, IsHeadFaul
 
 use crate::bodies::body_of;
 use crate::fault::WireFault;
-use crate::fields::{u32_at, u64_at};
 use crate::limits::MAX_FRAME;
 use crate::opcode::{Minor, Opcode, is_about_node, opcode_at, served_minor};
 use crate::request::Request;
+use fk_fields::{u32_at, u64_at};
 
 // The reader is inlined into its callers: a request that is taken apart at once is then never laid out
 // in memory.

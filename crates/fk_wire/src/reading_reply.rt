@@ -12,13 +12,13 @@ ghost use Rattle.fk_wire.specs.declared.fault.WireFault.TheVariants.{Body as Bod
 
 use crate::entry::{attr_at, entry_at, is_timed};
 use crate::fault::WireFault;
-use crate::fields::{i32_at, u32_at, u64_at};
 use crate::flags::offered;
 use crate::limits::{MAX_FRAME, is_error_number};
 use crate::opcode::{Minor, Opcode, is_known, served_minor};
 use crate::records::Records;
 use crate::records_plus::RecordsPlus;
 use crate::reply::{Reply, ReplyBody, ReplyKind};
+use fk_fields::{i32_at, u32_at, u64_at};
 
 /// The kind of body in the replies to an opcode.
 fn kind_of(opcode: Opcode) -> Option<ReplyKind>

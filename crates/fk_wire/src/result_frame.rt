@@ -7,10 +7,10 @@ ghost use Rattle.fk_wire.specs.Results.{SpellsResult, ResultFaultIs, ResultRefus
 ghost use Rattle.fk_wire.specs.declared.fault.WireFault.TheVariants.{Memory as MemoryFault};
 
 use crate::fault::WireFault;
-use crate::fields::{i32_at, u32_at, u64_at};
 use crate::limits::is_error_number;
 use crate::room::{put_u32, put_u64};
 use crate::writing_reply::error_word;
+use fk_fields::{i32_at, u32_at, u64_at};
 use std::alloc::Allocator;
 
 /// Reads the frame of a result, 16 bytes like a `struct fuse_out_header`: the result, 0 or a negated

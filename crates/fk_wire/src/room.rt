@@ -15,7 +15,7 @@ pub(crate) fn put_bytes<A: Allocator>(out: &mut Vec<u8, A>, bytes: &[u8])
     out.extend_from_slice(bytes).unwrap();
 }
 
-#[tactic(auto, unfolding(crate::specs::Fields::bytes_of))]
+#[tactic(auto, unfolding(fk_fields::specs::Fields::bytes_of))]
 pub(crate) fn put_u32<A: Allocator>(out: &mut Vec<u8, A>, value: u32)
     requires { vec_len out.old + 4 ≤ vec_capacity out.old }
     ensures items { out.new.items ≡ out.old.items ++ bytes_of 4 value }
@@ -27,7 +27,7 @@ pub(crate) fn put_u32<A: Allocator>(out: &mut Vec<u8, A>, value: u32)
     put_bytes(out, &buf);
 }
 
-#[tactic(auto, unfolding(crate::specs::Fields::bytes_of))]
+#[tactic(auto, unfolding(fk_fields::specs::Fields::bytes_of))]
 pub(crate) fn put_u64<A: Allocator>(out: &mut Vec<u8, A>, value: u64)
     requires { vec_len out.old + 8 ≤ vec_capacity out.old }
     ensures items { out.new.items ≡ out.old.items ++ bytes_of 8 value }
@@ -49,7 +49,7 @@ pub(crate) fn put_name<A: Allocator>(out: &mut Vec<u8, A>, name: &[u8])
     put_bytes(out, &[0]);
 }
 
-#[tactic(auto, unfolding(crate::specs::Fields::bytes_of))]
+#[tactic(auto, unfolding(fk_fields::specs::Fields::bytes_of))]
 pub(crate) fn put_u16<A: Allocator>(out: &mut Vec<u8, A>, value: u16)
     requires { vec_len out.old + 2 ≤ vec_capacity out.old }
     ensures items { out.new.items ≡ out.old.items ++ bytes_of 2 value }
@@ -61,7 +61,7 @@ pub(crate) fn put_u16<A: Allocator>(out: &mut Vec<u8, A>, value: u16)
     put_bytes(out, &buf);
 }
 
-#[tactic(auto, unfolding(crate::specs::Fields::bytes_of))]
+#[tactic(auto, unfolding(fk_fields::specs::Fields::bytes_of))]
 pub(crate) fn put_zeros88<A: Allocator>(out: &mut Vec<u8, A>)
     requires { vec_len out.old + 88 ≤ vec_capacity out.old }
     ensures items { out.new.items ≡ out.old.items ++ bytes_of 88 0 }

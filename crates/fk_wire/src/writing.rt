@@ -10,12 +10,12 @@ ghost use Rattle.fk_wire.specs.Requests.{RequestMessage, Written, WrittenAt, Spe
 ghost use Rattle.fk_wire.specs.declared.opcode.Minor.{Minor};
 
 use crate::fault::WireFault;
-use crate::fields::is_name;
 use crate::limits::MAX_FRAME;
 use crate::opcode::{Minor, code, is_known, is_node_of, served_minor};
 use crate::pairs::Pairs;
 use crate::request::{Request, RequestBody};
 use crate::room::{put_bytes, put_name, put_u32, put_u64};
+use fk_fields::is_name;
 use std::alloc::Allocator;
 
 /// How many bytes the body takes, or too many.

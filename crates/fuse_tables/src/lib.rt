@@ -4,6 +4,3 @@
 mod table;
 
 pub use table::Table;
-
-#[cfg(test)]
-mod tests;

@@ -4,8 +4,8 @@ use Rattle.std.specs.Prelude.{◌≢◌, ◌↔◌, All, Bool, ◌||◌, not, tr
 use Rattle.std.proofs.lemmas.List.{get_or_default, get_or-drop, length-drop, length-take-le}
 use Rattle.std.proofs.lemmas.Bool.{cases_lt}
 use Rattle.std.proofs.Math.Seq.{take-suc, get_or-append_seam}
-use Rattle.fk_wire.specs.Fields.{IsName, ends_name, bytes_at, named, ReadsAs}
-use Rattle.fk_wire.proofs.Names.{not_end, no_end, ending, name_is}
+use Rattle.fk_fields.specs.Fields.{IsName, ends_name, bytes_at, named, ReadsAs}
+use Rattle.fk_fields.proofs.Names.{not_end, no_end, ending, name_is}
 
 -- a test that fails of eight bytes fails of them together
 pub eight_of_none : (p : ℕ → Bool) (a b c d e f g h : Bool) → a ≡ p 0 → b ≡ p 1 → c ≡ p 2 → d ≡ p 3 → e ≡ p 4 → f ≡ p 5 → g ≡ p 6 → h ≡ p 7 → ((k : ℕ) → k < 8 → p k ≡ false) → (a || b || c || d || e || f || g || h) ≡ false

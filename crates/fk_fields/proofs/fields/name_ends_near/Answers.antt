@@ -1,8 +1,8 @@
 use Rattle.std.proofs.Common.{◌≡◌, ℕ, ◌+◌, get_or, ap, ◌∙◌, arith}
-use Rattle.fk_wire.specs.Fields.{ends_name}
-use Rattle.fk_wire.proofs.Names.{none_of_eight}
-use Rattle.fk_wire.proofs.WholeNames.{eight_of_none}
-use Rattle.fk_wire.proofs.fields.name_ends_near.Goals as goal
+use Rattle.fk_fields.specs.Fields.{ends_name}
+use Rattle.fk_fields.proofs.Names.{none_of_eight}
+use Rattle.fk_fields.proofs.WholeNames.{eight_of_none}
+use Rattle.fk_fields.proofs.fields.name_ends_near.Goals as goal
 
 pub returns : goal.returns
 returns c =
