@@ -1,5 +1,6 @@
 -- The headline, over whole lists of events.
-use Rattle.std.specs.Prelude.{◌≡◌, List, [], ◌∷◌, ◌++◌, AllPairs, ◌≢◌, ◌⊎◌}
+use Rattle.std.specs.Prelude.{◌≡◌, ◌<◌, ℕ, List, [], ◌∷◌, ◌++◌, None, All, AllPairs, ◌≢◌, ◌⊎◌}
+use Rattle.fuse_spec.specs.Maps.{get}
 use Rattle.fuse_spec.specs.declared.Refusal.{Refusal}
 use Rattle.fuse_spec.specs.Worlds.{World}
 use Rattle.fuse_spec.specs.Events.{Event, Outcome}
@@ -54,3 +55,19 @@ AnswersApart x y = Unit {0}
 -- Each call is answered at most once. (this project's rule)
 abbrev pub AnswersOnce : List Record → Type 0
 AnswersOnce records = AllPairs AnswersApart records
+
+-- A call that is over: it has begun, is not unanswered, and its answer is collected. (this project's rule)
+pub record IsOver (w : World) (call : ℕ) : Type 0 where
+  pub begun : call < w.kernel.vfs.next_call
+  pub not_waiting : get w.kernel.vfs.calls call ≡ None
+  pub no_answer : get w.kernel.vfs.answers call ≡ None
+
+-- A record that answers a call: the call was not over in the one world, and is in the other. (this project's rule)
+abbrev pub EndsCall : World → World → Record → Type 0
+EndsCall old new (answered call a) = (IsOver old call → ⊥) × IsOver new call
+EndsCall old new other = Unit {0}
+
+-- Each call that these records answer is over with them, and one that was over stays so: so it is answered in no later list. (this project's rule)
+pub record CallsEnd (old : World) (records : List Record) (new : World) : Type 0 where
+  pub ended : All (EndsCall old new) records
+  pub stay : (call : ℕ) → IsOver old call → IsOver new call

@@ -176,3 +176,4 @@ pub mod SetMarks
 pub mod EmptyQueues
 pub mod WithAnswers
 pub mod NoPremise
+pub mod CallsEnd
