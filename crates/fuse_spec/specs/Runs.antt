@@ -1,15 +1,26 @@
 -- The headline, over whole lists of events.
 use Rattle.std.specs.Prelude.{◌≡◌, ◌<◌, ℕ, List, [], ◌∷◌, ◌++◌, None, All, AllPairs, ◌≢◌, ◌⊎◌}
-use Rattle.fuse_spec.specs.Maps.{get}
+use Rattle.fuse_spec.specs.Maps.{get, remove}
 use Rattle.fuse_spec.specs.declared.Refusal.{Refusal}
 use Rattle.fuse_spec.specs.Worlds.{World}
 use Rattle.fuse_spec.specs.Events.{Event, Outcome}
 use Rattle.fuse_spec.specs.Steps.{Happens, RefusedWith}
 use Rattle.fuse_spec.specs.Records.{Record, outcome, refused, answered, answers_of, collected}
 use Rattle.fuse_spec.specs.Plain.{Plain}
+use Rattle.fuse_spec.specs.PlainReplies.{AsksServed}
 use Rattle.fuse_spec.specs.PlainWords.{Steps}
 use Rattle.fuse_spec.specs.Counts.{Keeps}
 use Rattle.fuse_spec.specs.Alike.{Alike}
+
+-- The world refines the plain world: that is one whose replies go with what was asked, and the two are alike. This is the refinement relation of the headline.
+-- (this project's rule)
+pub record Refines (w : World) (p : Plain) : Type 0 where
+  pub alike : Alike w p
+  pub served : AsksServed p
+
+-- The plain world once the answer of one call is collected. (this project's rule)
+abbrev pub plain_handed_out : Plain → ℕ → Plain
+plain_handed_out p call = record p { vfs = record p.vfs { answers = remove p.vfs.answers call } }
 
 -- The plain world once its answers are collected. (this project's rule)
 abbrev pub plain_collected : Plain → Plain

@@ -177,3 +177,4 @@ pub mod EmptyQueues
 pub mod WithAnswers
 pub mod NoPremise
 pub mod CallsEnd
+pub mod Refining

@@ -19,7 +19,7 @@ use Rattle.fuse_spec.specs.CallReplies.{call_replied}
 use Rattle.fuse_spec.specs.Vfs.{CallState, begun}
 use Rattle.fuse_spec.specs.Plain.{Plain, Ask, Stage, waiting, performed, declined, asking, call_begun, ask_performed, ask_declined, ask_told, ask_interrupted, ask_noted, ask_marked, plain_later, name_dropped, plain_aborted, plain_mounted, first_plain}
 use Rattle.fuse_spec.specs.PlainSteps.{where_so, serving_ask, serving, telling_call, telling_ask, telling, signalled_ask, signalling, marking, takes, Takes}
-use Rattle.fuse_theorem.specs.AsksServed.{RepliesTo, AskServed, AsksServed}
+use Rattle.fuse_spec.specs.PlainReplies.{RepliesTo, AskServed, AsksServed}
 use Rattle.fuse_theorem.proofs.NodesSound.{put_found, left_found}
 
 -- ---- replies

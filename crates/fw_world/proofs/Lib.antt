@@ -8,3 +8,4 @@ pub mod Copies
 pub mod Collecting
 pub mod Recording
 pub mod Interrupts
+pub mod Wanting

@@ -42,11 +42,6 @@ use Rattle.fs_server.specs.Effects.{RefusesHeld, not_held, exhausted, RefusesAga
 use Rattle.fs_server.specs.Effects.{fault_or, past_or_memory}
 use Rattle.fw_world.proofs.Counters.{server_past, as_judged, some_past}
 
--- a refusal that the kernel gave
-pub by_kernel : (w : World) (e : Event) (judged : Option Refusal) (given : Refusal) → ((r : Refusal) → judged ≡ Some r → IsRefused w e r) → given ≡ kernel.or_no_memory judged → RefusedWith w e given
-by_kernel w e None given refuses is = inr is
-by_kernel w e (Some r) given refuses is = inl (subst (IsRefused w e) (sym is) (refuses r refl))
-
 pub is_exhausted : (o : Outcome) (after : World) → is_past after ≡ true → going o after ≡ Err refusal.Exhausted
 is_exhausted o after past = ap (λ (b : Bool). cond b (Err refusal.Exhausted) (Ok (o, after))) past
 
@@ -171,17 +166,6 @@ perform_refused w unique r (exhausted held there past) choice may =
 pub refused_with : {X : Type 0} (w : World) (e : Event) (r : Result X Refusal) → IfErr r (IsRefused w e) → IfErr r (RefusedWith w e)
 refused_with w e (Ok x) h = tt
 refused_with w e (Err refusal) h = inl h
-
--- What the server refuses, the machine refuses.
-module _ (w : World) (e : Event) (Refuses : Refusal → Type 0) (refused : (r : Refusal) → Refuses r → IsRefused w e r) where
-  -- what the server judges, or else want of memory
-  pub judged_or_memory : (judged : Option Refusal) (given : Refusal) → IfSome judged Refuses → given ≡ unwrap_or judged refusal.NoMemory → RefusedWith w e given
-  judged_or_memory None given refuses is = inr is
-  judged_or_memory (Some r) given refuses is = inl (subst (IsRefused w e) (sym is) (refused r refuses))
-
-  pub refused_or_memory : (given : Refusal) → Refuses given ⊎ (given ≡ refusal.NoMemory) → RefusedWith w e given
-  refused_or_memory given (inl refuses) = inl (refused given refuses)
-  refused_or_memory given (inr is) = inr is
 
 -- ---- one more copy
 
