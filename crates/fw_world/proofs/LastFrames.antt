@@ -1,11 +1,18 @@
 -- The last frame of a link.
-use Rattle.std.proofs.Common.{◌≡◌, ℕ, ◌-◌, List, Some, length, slice_get, subst}
+use Rattle.std.proofs.Common.{◌≡◌, ℕ, ◌+◌, ◌-◌, Bool, true, false, List, [], ◌∷◌, ◌++◌, Some, length, get_or, slice_get, ap, sym, subst, ◌∙◌, arith}
+use Rattle.std.proofs.Math.Seq.{get_or-append_seam}
+use Rattle.std.proofs.lemmas.List.{length-append}
+use Rattle.std.proofs.lemmas.Option.{slice_get-get_or}
+use Rattle.fuse_spec.specs.Messages.{WireReply}
+use Rattle.fuse_spec.specs.Performs.{served}
+use Rattle.fuse_spec.specs.Server.{Server}
+use Rattle.fs_server.specs.Effects.{SendsAgain, PerformsHeld, first_copy}
 use Rattle.fuse_spec.specs.Messages.{Request}
 use Rattle.fuse_spec.specs.Worlds.{World, Sent}
 use Rattle.fk_wire.specs.declared.opcode.Opcode.{Opcode}
-use Rattle.fuse_frames.specs.RequestTies.{IsRequestFrame}
+use Rattle.fuse_frames.specs.RequestTies.{IsRequestFrame, asked_opcode}
 use Rattle.fuse_frames.specs.ReplyTies.{SaysReply}
-use Rattle.fw_world.specs.Frames.{IsLastFrame, of_request, of_reply}
+use Rattle.fw_world.specs.Frames.{IsLastFrame, of_request, of_reply, ShowsRequest, ShowsReply}
 
 pub last_request : (w : World) (requests : List Request) (request : Request) (bytes : List ℕ) → requests ≡ w.requests → slice_get requests (length requests - 1) ≡ Some request → IsRequestFrame bytes request → IsLastFrame w bytes
 last_request w requests request bytes same is_last frame = of_request request (subst (λ (rs : List Request). slice_get rs (length rs - 1) ≡ Some request) same is_last) frame
@@ -15,7 +22,11 @@ last_copy w copies sent bytes same is_last says = of_reply sent says.0 (subst (�
 
 -- What was appended stands last.
 appended_last : {X : Type 0} (xs : List X) (x : X) → slice_get (xs ++ x ∷ []) (length (xs ++ x ∷ []) - 1) ≡ Some x
-appended_last xs x = ap (slice_get (xs ++ x ∷ [])) (by_length xs x) ∙ slice_get-append_here xs x
+appended_last {X} xs x =
+    let ys : List X = xs ++ x ∷ [] in
+    let long : length ys ≡ length xs + 1 = length-append xs (x ∷ []) in
+    let at : length ys - 1 ≡ length xs = omega (arith, long) in
+    slice_get-get_or ys (length ys - 1) x (omega (arith, long)) ∙ ap Some (ap (λ (i : ℕ). get_or ys i x) at ∙ get_or-append_seam xs x [] x)
 
 -- What is told of a request that was put.
 pub shows_request : (w : World) (before : List Request) (request : Request) (unique : ℕ) (opcode : Opcode) (len : ℕ) → w.requests ≡ before ++ request ∷ [] → unique ≡ request.unique → opcode ≡ asked_opcode request.body

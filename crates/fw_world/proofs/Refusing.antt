@@ -205,30 +205,6 @@ pub or_default : (o : Option Refusal) → unwrap_or o refusal.NoMemory ≡ kerne
 or_default None = refl
 or_default (Some r) = refl
 
--- The fault of a request without one: a counter at its end, or want of memory.
-past_or : (w : World) (place : ℕ) (request : Request) → slice_get w.requests place ≡ Some request → (past : Bool) → server.is_past_end (taking w.server request.unique request.body).server ≡ past → RefusedWith w (event.take place) (refusal_for (past_or_memory past))
-past_or w place request there true past =
-    let did : TakeResult = taking w.server request.unique request.body in
-    let after = after_take w place request.unique did in
-    let same : after.server ≡ did.server = sent_server (record w { requests = without w.requests place; server = did.server }) w.server.next_copy request.unique did.reply in
-    let over : server_past after.server ≡ true = sym (as_judged after.server) ∙ ap server.is_past_end same ∙ past in
-    inl
-    (λ choice may.
-    ap (taking_request w place) there
-    ∙ is_exhausted (event.taken request.unique did.word) after (past_by_server (nat_lt counter_end after.kernel.queues.next) (nat_lt counter_end after.kernel.vfs.next_call) (server_past after.server) over))
-past_or w place request there false past = inr refl
-
--- A request on the link is refused for want of a number or of memory alone.
-pub take_refused : (w : World) → IsReached w → (place : ℕ) (request : Request) (bytes : List ℕ) (fault : ServerFault) → slice_get w.requests place ≡ Some request → IsRequestFrame bytes request → RefusesFrame w.server bytes fault
-    → RefusedWith w (event.take place) (refusal_for fault)
-take_refused w here place request bytes fault there frame refuses =
-    let all = here.sound in
-    let none : fault_of w.server request ≡ None = All-at (λ (r : Request). fault_of w.server r ≡ None) w.requests place request (no_fault w here.plain all.both all.releases all.faultless) there in
-    let is : fault ≡ past_or_memory (server.is_past_end (taking w.server request.unique request.body).server) =
-    refuses.of_request request (frame_says bytes request frame)
-    ∙ ap (λ (o : Option RequestFault). fault_or (server.as_fault o) (past_or_memory (server.is_past_end (taking w.server request.unique request.body).server))) none in
-    subst (λ (f : ServerFault). RefusedWith w (event.take place) (refusal_for f)) (sym is) (past_or w place request there (server.is_past_end (taking w.server request.unique request.body).server) refl)
-
 -- A result on the link is that of a copy which the server knows.
 pub is_known : (w : World) → IsReached w → (place : ℕ) (result : ReplyResult) (r : Refusal) → slice_get w.results place ≡ Some result → server.HasNoCopy w.server result r → ⊥
 is_known w here place result r there none =

@@ -1,5 +1,5 @@
 -- Where memory was wanting, nothing else refuses the event.
-use Rattle.std.proofs.Common.{◌≡◌, ℕ, ◌<◌, ◌^◌, ◌||◌, Bool, true, false, cond, not, List, [], ◌∷◌, Option, Some, None, Ok, Err, inl, inr, nat_eq, nat_lt, nat_le, max, length, slice_get, take, refl, ap, sym, subst, ◌∙◌, arith}
+use Rattle.std.proofs.Common.{◌≡◌, ℕ, ◌<◌, ◌^◌, ◌||◌, Bool, true, false, true≢false, cond, not, List, [], ◌∷◌, Option, Some, None, Ok, Err, inl, inr, nat_eq, nat_lt, nat_le, max, length, slice_get, take, refl, ap, sym, subst, ◌∙◌, arith}
 use Rattle.std.specs.Prelude.{◌⊎◌, IfSome, IfNone}
 use Rattle.std.specs.Option.{unwrap_or}
 use Rattle.fuse_spec.specs.declared.Opened.{Opened}
@@ -30,7 +30,16 @@ use Rattle.fk_kernel.specs.Refused as kernel
 use Rattle.fk_kernel.specs.RefusedSignals.{read_interrupt_refusal, oldest_refusal}
 use Rattle.fk_kernel.specs.RefusedUpkeep.{read_forgets_refusal, forgets_refusal}
 use Rattle.fs_server.specs.Effects as server
-use Rattle.fs_server.specs.Effects.{CanSendAgain, CanTake}
+use Rattle.fs_server.specs.Effects.{CanSendAgain, CanTake, RefusesFrame, fault_or, past_or_memory}
+use Rattle.fs_server.specs.declared.server.ServerFault.{ServerFault}
+use Rattle.fs_server.specs.declared.server.ServerFault.TheVariants.{Memory}
+use Rattle.fuse_spec.specs.Server.{RequestFault, fault_of}
+use Rattle.fuse_theorem.specs.Reached.{IsReached}
+use Rattle.fuse_theorem.proofs.NoFault.{no_fault}
+use Rattle.fuse_theorem.proofs.Queuing.{All-at}
+use Rattle.fw_world.specs.Values.{refusal_for}
+use Rattle.fw_world.proofs.Refusing.{is_exhausted}
+use Rattle.fuse_spec.specs.Steps.{taking_request}
 use Rattle.fs_server.specs.Steps.{CanPerform}
 use Rattle.fuse_spec.specs.Copies.{sent_again}
 use Rattle.fs_server.proofs.Performable.{performs_within, copies_within}
@@ -68,6 +77,19 @@ first_two : (a b c : Bool) → (a || (b || c)) ≡ false → (a || b) ≡ false
 first_two true b c e = absurd (cc e)
 first_two false true c e = absurd (cc e)
 first_two false false c e = refl
+
+-- The counters of the kernel, where no counter is past its end, and one that went past it.
+pub kernel_low : (w : World) → is_past w ≡ false → is_past_end w.kernel ≡ false
+kernel_low w within = first_two (nat_lt counter_end w.kernel.queues.next) (nat_lt counter_end w.kernel.vfs.next_call) (server_past w.server) within
+
+some_of : (a b c : Bool) → (a || (b || c)) ≡ true → c ≡ false → (a || b) ≡ true
+some_of true b c e low = refl
+some_of false true c e low = refl
+some_of false false c e low = absurd (true≢false (sym e ∙ low))
+
+pub kernel_past : (w : World) (k : Kernel) → is_past w ≡ false → (nat_lt counter_end k.queues.next || (nat_lt counter_end k.vfs.next_call || server_past w.server)) ≡ true → is_past_end k ≡ true
+kernel_past w k within past =
+    some_of (nat_lt counter_end k.queues.next) (nat_lt counter_end k.vfs.next_call) (server_past w.server) past (last_or (nat_lt counter_end w.kernel.queues.next) (nat_lt counter_end w.kernel.vfs.next_call) (server_past w.server) within)
 
 module _ (w : World) (within : is_past w ≡ false) where
   kernel_within : is_past_end w.kernel ≡ false
@@ -208,3 +230,30 @@ take_wanting w within place request bytes there frame can given is =
     let after = after_take w place request.unique took in
     wanting w (event.take place) (event.taken request.unique took.word) after refl
     (takes w place request there (past_of w within took.server low after (taken_kernel w place request) (taken_server w place request))) given is
+
+past_server : (a b c : Bool) → c ≡ true → (a || (b || c)) ≡ true
+past_server true b c e = refl
+past_server false true c e = refl
+past_server false false c e = e
+
+-- A request on the link has no fault; so it is refused for want of a number, or of memory where nothing else refuses it.
+pub take_refused : (w : World) → is_past w ≡ false → IsReached w → (place : ℕ) (request : Request) (bytes : List ℕ) (fault : ServerFault) → slice_get w.requests place ≡ Some request → IsRequestFrame bytes request → RefusesFrame w.server bytes fault
+    → (fault ≡ Memory → CanTake w.server bytes) → RefusedWith w (event.take place) (refusal_for fault)
+take_refused w within here place request bytes fault there frame refuses can =
+    let all = here.sound in
+    let none : fault_of w.server request ≡ None = All-at (λ (r : Request). fault_of w.server r ≡ None) w.requests place request (no_fault w here.plain all.both all.releases all.faultless) there in
+    let did = taking w.server request.unique request.body in
+    let is : fault ≡ past_or_memory (server.is_past_end did.server) =
+    refuses.of_request request (frame_says bytes request frame) ∙ ap (λ (o : Option RequestFault). fault_or (server.as_fault o) (past_or_memory (server.is_past_end did.server))) none in
+    subst (λ (f : ServerFault). RefusedWith w (event.take place) (refusal_for f)) (sym is) (by (server.is_past_end did.server) refl is)
+  where
+    by : (past : Bool) → server.is_past_end (taking w.server request.unique request.body).server ≡ past → fault ≡ past_or_memory past → RefusedWith w (event.take place) (refusal_for (past_or_memory past))
+    by true past is =
+        let did = taking w.server request.unique request.body in
+        let after = after_take w place request.unique did in
+        let over : server_past after.server ≡ true = sym (as_judged after.server) ∙ ap server.is_past_end (taken_server w place request) ∙ past in
+        inl
+        (λ choice may.
+        ap (taking_request w place) there
+        ∙ is_exhausted (event.taken request.unique did.word) after (past_server (nat_lt counter_end after.kernel.queues.next) (nat_lt counter_end after.kernel.vfs.next_call) (server_past after.server) over))
+    by false past is = take_wanting w within place request bytes there frame (can is) refusal.NoMemory refl
