@@ -104,7 +104,7 @@ module _ (k : Kernel) (unique : ℕ) where
       by false even is = (awaits_even None even is, ap (λ (b : Bool). cond b (odd_taken k unique wire (waiting k.queues (unique - 1))) (reply_taken k unique wire (waiting k.queues unique))) even ∙ ap (reply_taken k unique wire) is)
 
 -- A copy that stands on the reply link, in its frame.
-module _ (w : World) (within : is_past w ≡ false) (here : IsReached w) (place : ℕ) (sent : Sent) (found : slice_get w.replies place ≡ Some sent) (bytes : List ℕ)
+module _ (w : World) (here : IsReached w) (place : ℕ) (sent : Sent) (found : slice_get w.replies place ≡ Some sent) (bytes : List ℕ)
     (frame : (o : Opcode) × SaysReply o bytes sent.unique sent.wire)
     (fits : (operation : Operation ℕ Opened) → goes_with operation sent.wire ≡ true → SaysReply (asked_opcode (asks operation)) bytes sent.unique sent.wire)
     (init : is_init_reply sent.wire ≡ true → SaysReply opcode.Init bytes sent.unique sent.wire)
@@ -256,15 +256,15 @@ module _ (w : World) (within : is_past w ≡ false) (here : IsReached w) (place 
       by false ends = wanting w (event.write place) (event.written sent.unique took.0) after refl (writes w place sent took found refl ends) given is
 
   -- The kernel refused its bytes.
-  pub write_refused : (r : Refusal) → WriteRefused w.kernel bytes r → (r ≡ NoMemory → WritePasses w.kernel bytes → ⊥) → RefusedWith w (event.write place) r
-  write_refused r (exhausted it) last =
+  pub write_refused : is_past w ≡ false → (r : Refusal) → WriteRefused w.kernel bytes r → (r ≡ NoMemory → WritePasses w.kernel bytes → ⊥) → RefusedWith w (event.write place) r
+  write_refused within r (exhausted it) last =
       let awaits : awaited w.kernel sent.unique ≡ reply_to it.opcode = ap (awaited w.kernel) (sym head.1) ∙ it.awaits in
       let means : Means it.opcode bytes sent.wire = means_said sent.wire (heard_by can_hear it.opcode it.judged awaits) in
       let past : is_past_end (reply_written w.kernel sent.unique sent.wire).1 ≡ true = ap (λ (u : ℕ). is_past_end (reply_written w.kernel u sent.wire).1) (sym head.1) ∙ it.past sent.wire means in
       inl (past_written w place sent found past)
-  write_refused r no_memory last = write_wanting within (last refl) NoMemory refl
+  write_refused within r no_memory last = write_wanting within (last refl) NoMemory refl
 
   -- Where there is no room for its result: what the kernel would refuse it for, or want of memory.
-  pub look_refused : (o : Option Refusal) → IfSome o (λ r. (r ≡ Exhausted) × WritePasses w.kernel bytes) → IfNone o (WritePasses w.kernel bytes → ⊥) → RefusedWith w (event.write place) (unwrap_or o NoMemory)
-  look_refused None passes none = write_wanting within none NoMemory refl
-  look_refused (Some r) passes none = subst (RefusedWith w (event.write place)) (sym passes.0) (write_refused Exhausted (exhausted passes.1.1) (λ is. absurd (cc is)))
+  pub look_refused : is_past w ≡ false → (o : Option Refusal) → IfSome o (λ r. (r ≡ Exhausted) × WritePasses w.kernel bytes) → IfNone o (WritePasses w.kernel bytes → ⊥) → RefusedWith w (event.write place) (unwrap_or o NoMemory)
+  look_refused within None passes none = write_wanting within none NoMemory refl
+  look_refused within (Some r) passes none = subst (RefusedWith w (event.write place)) (sym passes.0) (write_refused within Exhausted (exhausted passes.1.1) (λ is. absurd (cc is)))

@@ -9,3 +9,4 @@ pub mod Collecting
 pub mod Recording
 pub mod Interrupts
 pub mod Wanting
+pub mod Stepping

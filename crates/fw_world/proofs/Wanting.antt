@@ -1,5 +1,5 @@
 -- Where memory was wanting, nothing else refuses the event.
-use Rattle.std.proofs.Common.{◌≡◌, ℕ, ◌<◌, ◌^◌, ◌||◌, Bool, true, false, true≢false, cond, not, List, [], ◌∷◌, Option, Some, None, Ok, Err, inl, inr, nat_eq, nat_lt, nat_le, max, length, slice_get, take, refl, ap, sym, subst, ◌∙◌, arith}
+use Rattle.std.proofs.Common.{◌≡◌, ℕ, ◌<◌, ◌^◌, ◌||◌, Bool, true, false, true≢false, cond, not, List, [], ◌∷◌, Option, Some, None, Ok, Err, inl, inr, nat_eq, nat_lt, nat_le, max, length, slice_get, take, option_map_or, refl, ap, sym, subst, ◌∙◌, arith}
 use Rattle.std.specs.Prelude.{◌⊎◌, IfSome, IfNone}
 use Rattle.std.specs.Option.{unwrap_or}
 use Rattle.fuse_spec.specs.declared.Opened.{Opened}
@@ -15,7 +15,11 @@ use Rattle.fuse_spec.specs.Messages.{Forget, Request, RequestBody, WireReply}
 use Rattle.fuse_spec.specs.Numbers.{counter_end, max_calls, max_validity}
 use Rattle.fuse_spec.specs.Operations.{errno_of}
 use Rattle.fuse_spec.specs.Performs.{served}
-use Rattle.fuse_spec.specs.QueueCalls.{pending_at, first_forgets, can_read_forgets, after_read_forgets}
+use Rattle.fuse_spec.specs.declared.Mark.{Mark}
+use Rattle.fuse_spec.specs.declared.Mark.TheVariants as mark
+use Rattle.fuse_spec.specs.declared.QueuedRequest.{QueuedRequest}
+use Rattle.fuse_spec.specs.Queues.{pending}
+use Rattle.fuse_spec.specs.QueueCalls.{after_reading, pending_at, first_forgets, can_read_forgets, after_read_forgets}
 use Rattle.fuse_spec.specs.Server.{Server, HeldRequest, Kept}
 use Rattle.fuse_spec.specs.Steps.{is_past, is_ready, takes_memory, IsRefused, MayChooseFor, RefusedWith, Happens}
 use Rattle.fuse_spec.specs.Worlds as worlds
@@ -126,12 +130,23 @@ module _ (w : World) (within : is_past w ≡ false) where
       by (pending_at w.kernel.queues place) refl
       (last_cond (not (is_live w.kernel.phase)) (not (nat_eq (length w.kernel.queues.interrupts) 0)) (place_refusal w.kernel (pending_at w.kernel.queues place)) none)
     where
+      next_read : (o : Option (ℕ × QueuedRequest Purpose)) → (option_map_or (λ e. after_reading w.kernel.queues e.0 e.1.mark) o w.kernel.queues).next ≡ w.kernel.queues.next
+      next_read None = refl
+      next_read (Some e) = by_mark e.1.mark
+        where
+          by_mark : (m : Mark) → (after_reading w.kernel.queues e.0 m).next ≡ w.kernel.queues.next
+          by_mark mark.Unread = refl
+          by_mark mark.Flagged = refl
+          by_mark mark.Read = refl
+          by_mark mark.Interrupted = refl
+
       at_body : (unique : ℕ) (purpose : Purpose) → pending_at w.kernel.queues place ≡ Some (unique, purpose) → (body : Option RequestBody) → body_of w.kernel purpose ≡ body → body_refusal body ≡ None → RefusedWith w (event.read_pending place) given
       at_body unique purpose at None there e = absurd (cc e)
       at_body unique purpose at (Some body) there e =
           let request : Request = record { unique = unique; body = body } in
           let after = worlds.after_read_pending w place unique body in
-          wanting w (event.read_pending place) (event.is_read unique) after refl (reads w place request none (record { purpose = purpose; pending = at; body = there }) within) given is
+          let low : is_past_end after.kernel ≡ false = ap (λ (n : ℕ). nat_lt counter_end n || nat_lt counter_end w.kernel.vfs.next_call) (next_read (slice_get (pending w.kernel.queues) place)) ∙ kernel_within in
+          wanting w (event.read_pending place) (event.is_read unique) after refl (reads w place request none (record { purpose = purpose; pending = at; body = there }) (past_by after.kernel low after refl refl)) given is
 
       by : (o : Option (ℕ × Purpose)) → pending_at w.kernel.queues place ≡ o → place_refusal w.kernel o ≡ None → RefusedWith w (event.read_pending place) given
       by None at e = absurd (cc e)
@@ -145,17 +160,17 @@ module _ (w : World) (within : is_past w ≡ false) where
       low true e = absurd (cc e)
       low false e = refl
 
-      next_of : (c : Bool) (read : ℕ × List Forget) → cond c (Some (w.kernel.queues.next, take n w.kernel.queues.forgets)) None ≡ Some read → (w.kernel.queues.next, read.1) ≡ read
-      next_of true read e = let is : ◌≡◌ {A = ℕ × List Forget} (w.kernel.queues.next, take n w.kernel.queues.forgets) read = cc e in λ i. ((is i).0, (sym is i).1)
+      next_of : (c : Bool) (read : ℕ × List Forget) → cond c (Some (w.kernel.queues.next, take n w.kernel.queues.forgets)) None ≡ Some read → read ≡ (w.kernel.queues.next, read.1)
+      next_of true read e = let is : ◌≡◌ {A = ℕ × List Forget} read (w.kernel.queues.next, take n w.kernel.queues.forgets) = sym (cc e) in ap (λ (u : ℕ). (u, read.1)) (ap (λ (x : ℕ × List Forget). x.0) is)
       next_of false read e = absurd (cc e)
 
       by : (o : Option (ℕ × List Forget)) → first_forgets w.kernel.queues n ≡ o → forgets_refusal w.kernel n o ≡ None → RefusedWith w (event.read_forgets n) given
       by None at e = absurd (cc e)
       by (Some read) at e =
-          let number : (w.kernel.queues.next, read.1) ≡ read = next_of (can_read_forgets w.kernel.queues n) read at in
+          let number : read ≡ (w.kernel.queues.next, read.1) = next_of (can_read_forgets w.kernel.queues n) read at in
           let after = worlds.after_read_forgets w n read.1 in
           wanting w (event.read_forgets n) (event.is_read w.kernel.queues.next) after refl
-          (reads_forgets w n read.1 none (at ∙ ap Some (sym number)) (past_by (record w.kernel { queues = after_read_forgets w.kernel.queues n }) (low (is_past_end (record w.kernel { queues = after_read_forgets w.kernel.queues n })) e) after refl refl)) given is
+          (reads_forgets w n read.1 none (at ∙ ap Some number) (past_by (record w.kernel { queues = after_read_forgets w.kernel.queues n }) (low (is_past_end (record w.kernel { queues = after_read_forgets w.kernel.queues n })) e) after refl refl)) given is
 
   pub interrupt_wanting : read_interrupt_refusal w.kernel ≡ None → (given : Refusal) → given ≡ refusal.NoMemory → RefusedWith w event.read_interrupt given
   interrupt_wanting none given is = by w.kernel.queues.interrupts refl (rest (not (is_live w.kernel.phase)) (oldest_refusal w.kernel.queues.interrupts) none)

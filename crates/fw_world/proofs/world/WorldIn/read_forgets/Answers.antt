@@ -19,7 +19,7 @@ returns-then-is_err-clause-refusal g c =
 pub returns-in-Err-clause-refusal : goal.returns-in-Err-clause-refusal
 returns-in-Err-clause-refusal g c =
     let w = (world_of c.self.inside.kernel c.self.inside.server c.self.inside.requests.items c.self.inside.replies.items c.self.inside.results.items) in
-    rw (← c.self.view_is) (judged w (event.read_forgets c.args.count) (read_forgets_refusal w.kernel c.args.count) c.in-Err.refusal (forgets_refused w c.args.count) (λ none is. forgets_wanting w (c.within-2.ensures w (sym c.in-Err.ensures.err) refl) c.args.count none c.in-Err.refusal is) c.in-Err.ensures.refusal)
+    rw (← c.self.view_is) (judged w (event.read_forgets c.args.count) (read_forgets_refusal w.kernel c.args.count) c.in-Err.refusal (forgets_refused w c.args.count) (λ none is. forgets_wanting w (c.within-in-Err.ensures w (sym c.in-Err.ensures.err) refl) c.args.count none c.in-Err.refusal is) c.in-Err.ensures.refusal)
 
 pub invariant_of-self-2 : goal.invariant_of-self-2
 invariant_of-self-2 g c =

@@ -22,7 +22,7 @@ returns-then-is_err-clause-refusal g c =
 pub returns-in-Err-clause-refusal : goal.returns-in-Err-clause-refusal
 returns-in-Err-clause-refusal g c =
     let w = (world_of c.self.inside.kernel c.self.inside.server c.self.inside.requests.items c.self.inside.replies.items c.self.inside.results.items) in
-    subst (λ (v : World). RefusedWith v event.read_interrupt c.in-Err.refusal) c.self.view_is (judged w event.read_interrupt (read_interrupt_refusal w.kernel) c.in-Err.refusal (read_interrupt_refused w) (λ none is. interrupt_wanting w (c.within-2.ensures w (sym c.in-Err.ensures.err) refl) none c.in-Err.refusal is) c.in-Err.ensures.refusal)
+    subst (λ (v : World). RefusedWith v event.read_interrupt c.in-Err.refusal) c.self.view_is (judged w event.read_interrupt (read_interrupt_refusal w.kernel) c.in-Err.refusal (read_interrupt_refused w) (λ none is. interrupt_wanting w (c.within-in-Err.ensures w (sym c.in-Err.ensures.err) refl) none c.in-Err.refusal is) c.in-Err.ensures.refusal)
 
 pub invariant_of-self-2 : goal.invariant_of-self-2
 invariant_of-self-2 g c =

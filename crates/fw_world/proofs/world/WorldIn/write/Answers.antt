@@ -15,7 +15,7 @@ returns-then-is_err-clause-refusal g c =
     let there = slice_get_read c.self.inside.replies.items (length c.self.inside.replies.items) c.args.place sent refl (omega (arith, c.if-place-len.false, c.len.ensures)) c.index-copy.ensures in
     let w = (world_of c.self.inside.kernel c.self.inside.server c.self.inside.requests.items c.self.inside.replies.items c.self.inside.results.items) in
     rw (← c.self.view_is, c.unwrap_or.ensures)
-    (look_refused w (c.within.ensures w refl refl) c.self.invariant c.args.place sent there c.bytes.result.now c.bytes.ensures.frame c.bytes.ensures.fits c.bytes.ensures.init c.bytes.ensures.empty c.write_refusal.result c.write_refusal.ensures.refused c.write_refusal.ensures.none)
+    (look_refused w c.self.invariant c.args.place sent there c.bytes.result.now c.bytes.ensures.frame c.bytes.ensures.fits c.bytes.ensures.init c.bytes.ensures.empty (c.within.ensures w refl refl) c.write_refusal.result c.write_refusal.ensures.refused c.write_refusal.ensures.none)
 
 pub returns-in-Err-clause-refusal : goal.returns-in-Err-clause-refusal
 returns-in-Err-clause-refusal g c =
@@ -23,7 +23,7 @@ returns-in-Err-clause-refusal g c =
     let there = slice_get_read c.self.inside.replies.items (length c.self.inside.replies.items) c.args.place sent refl (omega (arith, c.if-place-len.false, c.len.ensures)) c.index-copy.ensures in
     let w = (world_of c.self.inside.kernel c.self.inside.server c.self.inside.requests.items c.self.inside.replies.items c.self.inside.results.items) in
     rw (← c.self.view_is)
-    (write_refused w (c.within-2.ensures w (sym c.in-Err.ensures.err) refl) c.self.invariant c.args.place sent there c.bytes-2.result.now c.bytes-2.ensures.frame c.bytes-2.ensures.fits c.bytes-2.ensures.init c.bytes-2.ensures.empty c.in-Err.refusal
+    (write_refused w c.self.invariant c.args.place sent there c.bytes-2.result.now c.bytes-2.ensures.frame c.bytes-2.ensures.fits c.bytes-2.ensures.init c.bytes-2.ensures.empty (c.within-in-Err.ensures w (sym c.in-Err.ensures.err) refl) c.in-Err.refusal
     (c.in-Err.ensures.refusal (has_head w c.self.invariant c.args.place sent there c.bytes-2.result.now c.bytes-2.ensures.frame c.bytes-2.ensures.fits c.bytes-2.ensures.init c.bytes-2.ensures.empty)) c.in-Err.ensures.memory)
 
 pub invariant_of-self-2 : goal.invariant_of-self-2
