@@ -10,3 +10,5 @@ pub mod Outcomes
 pub mod Faulty
 pub mod Becoming
 pub mod Wanting
+pub mod Performable
+pub mod Judged

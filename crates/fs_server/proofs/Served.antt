@@ -175,11 +175,11 @@ new_generation nodes file id unheld may = by (get nodes.rows id) refl may
     by None e m = refl
     by (Some row) e m = absurd (unheld id row e m)
 
-all_numbers : (t : HandleTable) (files : List ℕ) → (all_opened t files).next_fh ≡ t.next_fh + length files
+pub all_numbers : (t : HandleTable) (files : List ℕ) → (all_opened t files).next_fh ≡ t.next_fh + length files
 all_numbers t [] = omega arith
 all_numbers t (file ∷ files) = let rest = all_numbers (handle_opened t file) files in omega (arith, rest)
 
-numbers_said : (s : Server) (h : HeldRequest) → (handles_said s h).next_fh ≡ s.handles.next_fh
+pub numbers_said : (s : Server) (h : HeldRequest) → (handles_said s h).next_fh ≡ s.handles.next_fh
 numbers_said s h = by h.marked (is_still_held s.nodes h.generations)
   where
     of_body : (body : RequestBody) → (handles_by s body).next_fh ≡ s.handles.next_fh
@@ -200,19 +200,19 @@ numbers_said s h = by h.marked (is_still_held s.nodes h.generations)
     by false false = refl
 
 module _ (files : FilesState) (held : Map HeldRequest) (kept : Map Kept) (copies : Map Copy) (next : ℕ) (v : Validity) (unique : ℕ) (h : HeldRequest) (there : get held unique ≡ Some h) where
-  abbrev bare : Server
+  abbrev pub bare : Server
   bare = server_of files v
 
   -- the server once the request is performed
-  abbrev end_live : (ℕ → ℕ) → Server
+  abbrev pub end_live : (ℕ → ℕ) → Server
   end_live choice =
       replying (without_unheld_files (told files held kept copies next v unique h choice (tree_said bare h) (handles_said bare h) (said bare h)).server) unique (told files held kept copies next v unique h choice (tree_said bare h) (handles_said bare h) (said bare h)).wire
 
-  abbrev end_lost : (ℕ → ℕ) → Server
+  abbrev pub end_lost : (ℕ → ℕ) → Server
   end_lost choice =
       replying (without_unheld_files (whole (tree_said bare h) files.nodes (handles_said bare h) (remove held unique) kept copies next v true)) unique (performed choice (server_with files (remove held unique) kept copies next v true) h).wire
 
-  ends_live : (choice : ℕ → ℕ) → (served choice (server_with files held kept copies next v false) unique h).server ≡ end_live choice
+  pub ends_live : (choice : ℕ → ℕ) → (served choice (server_with files held kept copies next v false) unique h).server ≡ end_live choice
   ends_live choice = ap (λ (r : PerformResult). replying (without_unheld_files r.server) unique r.wire) (did files held kept copies next v unique h choice)
 
   past_told : (choice : ℕ → ℕ) → MayChoose choice files.nodes (files_in_reply (said bare h)) → LacksNumber (tree_said bare h) files.nodes files.handles false (said bare h)
@@ -244,7 +244,7 @@ module _ (files : FilesState) (held : Map HeldRequest) (kept : Map Kept) (copies
   pub no_copy : 2 ^ 62 ≤ next → RefusesHeld (server_with files held kept copies next v false) unique Exhausted
   no_copy le = exhausted h there (λ choice may. ap is_past_end (ends_live choice) ∙ past (end_live choice) (inr (inr (inr (inr (omega (arith, le)))))))
 
-  lost_is : (choice : ℕ → ℕ) → (performed choice (server_with files (remove held unique) kept copies next v true) h).server ≡ whole (tree_said bare h) files.nodes (handles_said bare h) (remove held unique) kept copies next v true
+  pub lost_is : (choice : ℕ → ℕ) → (performed choice (server_with files (remove held unique) kept copies next v true) h).server ≡ whole (tree_said bare h) files.nodes (handles_said bare h) (remove held unique) kept copies next v true
   lost_is choice =
       (performed_lost choice (server_with files (remove held unique) kept copies next v true) refl h).0
       ∙ (λ i. whole (same_tree bare (remove held unique) kept copies next true h i) files.nodes (same_handles bare (remove held unique) kept copies next true h i) (remove held unique) kept copies next v true)

@@ -166,19 +166,23 @@ pub record AtRest (w : World) : Type 0 where
 abbrev pub SameNode : Option Counted → Option HeldNode → Type 0
 SameNode a b = OptionAlike (λ (node : Counted) (row : HeldNode). (node.generation ≡ row.generation) × (node.count ≡ row.count)) a b
 
--- At rest no call waits, and the two sides hold the same nodes and open files, with the same counts, each open number once. (this project's rule)
+-- At rest no call waits, and the two sides hold the same nodes and open files, with the same counts: each open number is one of its node's file and counted
+-- once, and there is none beside. (this project's rule)
 pub record Settled (w : World) : Type 0 where
   pub processing : processing w.kernel.queues ≡ []
   pub calls : w.kernel.vfs.calls ≡ []
   pub nodes : (id : ℕ) → SameNode (get w.kernel.nodes id) (get w.server.nodes.rows id)
   pub opens : (fh : ℕ) → handle_count (get w.server.handles.handles fh) ≡ count_by (λ (o : Opened). nat_eq o.fh fh) (values w.kernel.vfs.opens)
   pub once : (fh : ℕ) → handle_count (get w.server.handles.handles fh) ≤ 1
+  pub counted : (fh : ℕ) (handle : OpenNumber) → get w.server.handles.handles fh ≡ Some handle → 1 ≤ handle.count
+  pub files : All (λ (o : Opened). is_open w.server.handles o.fh (file_of w.server.nodes o.nodeid) ≡ true) (values w.kernel.vfs.opens)
 
--- The reference protocol, which is to hold after each event: Balance, Held, no fault in a request on its link, no reply with a wrong body, and what is true
--- at rest. (this project's rule)
+-- The reference protocol, which is to hold after each event: Balance, of nodes and of open numbers, each of which one file of the kernel has at most; Held, no
+-- fault in a request on its link, no reply with a wrong body, and what is true at rest. (this project's rule)
 pub record Keeps (w : World) : Type 0 where
   pub balance : is_live w.kernel.phase ≡ true → Balance w
   pub open_balance : is_live w.kernel.phase ≡ true → OpenBalance w
+  pub open_once : is_live w.kernel.phase ≡ true → (fh : ℕ) → open_in_kernel w.kernel fh ≤ 1
   pub held : Held w
   pub no_fault : All (λ (r : Request). fault_of w.server r ≡ None) w.requests
   pub no_wrong_body : All (λ (result : ReplyResult). result.result ≢ Invalid) w.results

@@ -32,6 +32,7 @@ pub mod Records
 pub mod Plain
 pub mod PlainSteps
 pub mod PlainCalls
+pub mod PlainReplies
 pub mod PlainWords
 pub mod Denotes
 pub mod Counts

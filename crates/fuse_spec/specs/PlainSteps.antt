@@ -32,11 +32,11 @@ abbrev pub telling_call : Plain → (label next : ℕ) → Ask → Reply ℕ ℕ
 telling_call p label next ask reply None = None
 telling_call p label next ask reply (Some state) = where_so (not (is_some (get p.asks next))) (ask_told p label next ask reply state)
 
--- The reply to a performed ask reaches its call, and a declined one answers its call EINTR. (this project's rule)
+-- The reply to a performed ask reaches its call, and a declined one answers its call EINTR, if that is unanswered. (this project's rule)
 abbrev pub telling_ask : Plain → (label next : ℕ) → Ask → Stage → Option Plain
 telling_ask p label next ask waiting = None
 telling_ask p label next ask (performed reply) = telling_call p label next ask reply (get p.vfs.calls ask.call)
-telling_ask p label next ask declined = where_so ask.noted (ask_interrupted p label ask)
+telling_ask p label next ask declined = where_so (ask.noted && is_some (get p.vfs.calls ask.call)) (ask_interrupted p label ask)
 
 -- A reply that is accepted is told to the call of its ask, and one under a label that no ask bears takes no step. (this project's rule)
 abbrev pub telling : Plain → (label next : ℕ) → Option Ask → Option Plain
@@ -59,10 +59,10 @@ may_signal effect.Flagged stage = true
 may_signal effect.Queued stage = true
 may_signal effect.None stage = true
 
--- A signal reaches the ask of its call. (this project's rule)
+-- A signal reaches the ask of its call, if that is unanswered. (this project's rule)
 abbrev pub signalling : Plain → IntrEffect → (call label : ℕ) → Option Ask → Option Plain
 signalling p signal call label None = None
-signalling p signal call label (Some ask) = where_so (nat_eq ask.call call && may_signal signal ask.stage) (signalled_ask p signal label ask)
+signalling p signal call label (Some ask) = where_so (is_some (get p.vfs.calls call) && (nat_eq ask.call call && may_signal signal ask.stage)) (signalled_ask p signal label ask)
 
 -- An INTERRUPT marks the ask of its original, if there is one. (this project's rule)
 abbrev pub marking : Plain → ℕ → Option Ask → Option Plain

@@ -52,18 +52,18 @@ pub data Steps (p : Plain) : Event → Outcome → Plain → Type 0 where
   declines : (unique u errno : ℕ) (lost : Bool) (ask : Ask) → get p.asks unique ≡ Some ask → ask.stage ≡ waiting → ask.marked ≡ true → ask.noted ≡ true
       → Steps p (event.perform unique) (event.performed u errno lost) (record p { asks = put p.asks unique (record ask { stage = declined }) })
   performs_none : (unique u errno : ℕ) (lost : Bool) → get p.asks unique ≡ None → Steps p (event.perform unique) (event.performed u errno lost) p
-  -- the reply to a performed ask reaches its call; a declined ask answers it EINTR
+  -- the reply to a performed ask reaches its call, which is unanswered; a declined ask answers it EINTR
   tells : (k unique label : ℕ) (ask : Ask) (reply : Reply ℕ ℕ) (state : CallState ℕ) (after : Vfs ℕ) (asked : Option (Operation ℕ ℕ)) (q : Plain) → get p.asks unique ≡ Some ask → ask.stage ≡ performed reply → get p.vfs.calls ask.call ≡ Some state
       → get p.asks label ≡ None → Hears p.vfs ask.call state reply after asked → Asks (record p { asks = remove p.asks unique }) label ask.call after asked q → Steps p (event.write k) (event.written unique Accepted) q
-  tells_eintr : (k unique : ℕ) (ask : Ask) → get p.asks unique ≡ Some ask → ask.stage ≡ declined → ask.noted ≡ true
+  tells_eintr : (k unique : ℕ) (ask : Ask) (state : CallState ℕ) → get p.asks unique ≡ Some ask → ask.stage ≡ declined → ask.noted ≡ true → get p.vfs.calls ask.call ≡ Some state
       → Steps p (event.write k) (event.written unique Accepted) (record p { asks = remove p.asks unique; vfs = is_answered p.vfs ask.call (failed eintr) })
   tells_none : (k unique : ℕ) → get p.asks unique ≡ None → Steps p (event.write k) (event.written unique Accepted) p
   no_entry : (k unique : ℕ) → Steps p (event.write k) (event.written unique NoEntry) p
   is_wrong : (k unique : ℕ) → Steps p (event.write k) (event.written unique Invalid) p
-  -- a signal reaches an ask of its call: one that waits goes and the call is answered EINTR, or the signal is noted
-  interrupts : (number label : ℕ) (fatal : Bool) (c : ℕ) (ask : Ask) → get p.asks label ≡ Some ask → ask.stage ≡ waiting → ask.call ≡ number
+  -- a signal reaches an ask of its call, which is unanswered: one that waits goes and the call is answered EINTR, or the signal is noted
+  interrupts : (number label : ℕ) (fatal : Bool) (c : ℕ) (ask : Ask) (state : CallState ℕ) → get p.asks label ≡ Some ask → ask.stage ≡ waiting → ask.call ≡ number → get p.vfs.calls number ≡ Some state
       → Steps p (event.intr number fatal) (event.interrupted c effect.Dequeued) (record p { asks = remove p.asks label; vfs = is_answered p.vfs ask.call (failed eintr) })
-  notes : (number label : ℕ) (fatal : Bool) (c : ℕ) (signal : IntrEffect) (ask : Ask) → signal ≢ effect.Dequeued → get p.asks label ≡ Some ask → ask.call ≡ number
+  notes : (number label : ℕ) (fatal : Bool) (c : ℕ) (signal : IntrEffect) (ask : Ask) (state : CallState ℕ) → signal ≢ effect.Dequeued → get p.asks label ≡ Some ask → ask.call ≡ number → get p.vfs.calls number ≡ Some state
       → Steps p (event.intr number fatal) (event.interrupted c signal) (record p { asks = put p.asks label (record ask { noted = true }) })
   marks : (k unique : ℕ) (ask : Ask) → get p.asks (unique - 1) ≡ Some ask → Steps p (event.take k) (event.taken unique Marked) (record p { asks = put p.asks (unique - 1) (record ask { marked = true }) })
   marks_none : (k unique : ℕ) → get p.asks (unique - 1) ≡ None → Steps p (event.take k) (event.taken unique Marked) p

@@ -1,14 +1,26 @@
 -- The headline, over whole lists of events.
-use Rattle.std.specs.Prelude.{◌≡◌, List, [], ◌∷◌, ◌++◌, AllPairs, ◌≢◌, ◌⊎◌}
+use Rattle.std.specs.Prelude.{◌≡◌, ◌<◌, ℕ, List, [], ◌∷◌, ◌++◌, None, All, AllPairs, ◌≢◌, ◌⊎◌}
+use Rattle.fuse_spec.specs.Maps.{get, remove}
 use Rattle.fuse_spec.specs.declared.Refusal.{Refusal}
 use Rattle.fuse_spec.specs.Worlds.{World}
 use Rattle.fuse_spec.specs.Events.{Event, Outcome}
 use Rattle.fuse_spec.specs.Steps.{Happens, RefusedWith}
 use Rattle.fuse_spec.specs.Records.{Record, outcome, refused, answered, answers_of, collected}
 use Rattle.fuse_spec.specs.Plain.{Plain}
+use Rattle.fuse_spec.specs.PlainReplies.{AsksServed}
 use Rattle.fuse_spec.specs.PlainWords.{Steps}
 use Rattle.fuse_spec.specs.Counts.{Keeps}
 use Rattle.fuse_spec.specs.Alike.{Alike}
+
+-- The world refines the plain world: that is one whose replies go with what was asked, and the two are alike. This is the refinement relation of the headline.
+-- (this project's rule)
+pub record Refines (w : World) (p : Plain) : Type 0 where
+  pub alike : Alike w p
+  pub served : AsksServed p
+
+-- The plain world once the answer of one call is collected. (this project's rule)
+abbrev pub plain_handed_out : Plain → ℕ → Plain
+plain_handed_out p call = record p { vfs = record p.vfs { answers = remove p.vfs.answers call } }
 
 -- The plain world once its answers are collected. (this project's rule)
 abbrev pub plain_collected : Plain → Plain
@@ -54,3 +66,19 @@ AnswersApart x y = Unit {0}
 -- Each call is answered at most once. (this project's rule)
 abbrev pub AnswersOnce : List Record → Type 0
 AnswersOnce records = AllPairs AnswersApart records
+
+-- A call that is over: it has begun, is not unanswered, and its answer is collected. (this project's rule)
+pub record IsOver (w : World) (call : ℕ) : Type 0 where
+  pub begun : call < w.kernel.vfs.next_call
+  pub not_waiting : get w.kernel.vfs.calls call ≡ None
+  pub no_answer : get w.kernel.vfs.answers call ≡ None
+
+-- A record that answers a call: the call was not over in the one world, and is in the other. (this project's rule)
+abbrev pub EndsCall : World → World → Record → Type 0
+EndsCall old new (answered call a) = (IsOver old call → ⊥) × IsOver new call
+EndsCall old new other = Unit {0}
+
+-- Each call that these records answer is over with them, and one that was over stays so: so it is answered in no later list. (this project's rule)
+pub record CallsEnd (old : World) (records : List Record) (new : World) : Type 0 where
+  pub ended : All (EndsCall old new) records
+  pub stay : (call : ℕ) → IsOver old call → IsOver new call

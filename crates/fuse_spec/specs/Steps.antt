@@ -186,6 +186,22 @@ Happens w event outcome after = (choice : ℕ → ℕ) × MayStep choice w event
 abbrev pub IsRefused : World → Event → Refusal → Type 0
 IsRefused w event refusal = (choice : ℕ → ℕ) → MayStep choice w event → step choice w event ≡ Err refusal
 
+-- Whether an event may want memory: these six never do, as their room was made before. (this project's rule)
+abbrev pub takes_memory : Event → Bool
+takes_memory (event.settle k) = false
+takes_memory (event.intr call fatal) = false
+takes_memory (event.tick ms) = false
+takes_memory (event.drop_name directory name) = false
+takes_memory (event.evict node) = false
+takes_memory event.abort = false
+takes_memory other = true
+
+-- Memory was wanting: this is the last refusal, of an event that takes memory and that nothing else refuses. (this project's rule)
+pub record WantsMemory (w : World) (event : Event) (refusal : Refusal) : Type 0 where
+  pub wanting : refusal ≡ NoMemory
+  pub takes : takes_memory event ≡ true
+  pub last : (other : Refusal) → IsRefused w event other → ⊥
+
 -- The event is refused so, or memory was wanting. (this project's rule)
 abbrev pub RefusedWith : World → Event → Refusal → Type 0
-RefusedWith w event refusal = IsRefused w event refusal ⊎ (refusal ≡ NoMemory)
+RefusedWith w event refusal = IsRefused w event refusal ⊎ WantsMemory w event refusal

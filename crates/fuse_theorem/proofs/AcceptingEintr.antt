@@ -1,5 +1,5 @@
 -- The kernel accepts EINTR for a request that was marked: its call is answered EINTR, and the plain world's ask ends so.
-use Rattle.std.proofs.Common.{◌≡◌, ℕ, Bool, true, List, [], ◌∷◌, ◌++◌, Option, Some, None, refl, ap, sym, subst, ◌∙◌}
+use Rattle.std.proofs.Common.{◌≡◌, ℕ, Bool, true, ◌&&◌, is_some, List, [], ◌∷◌, ◌++◌, Option, Some, None, refl, ap, sym, subst, ◌∙◌}
 use Rattle.fuse_spec.specs.declared.Opened.{Opened}
 use Rattle.fuse_spec.specs.declared.ReplyResult.{ReplyResult}
 use Rattle.fuse_spec.specs.declared.WriteResult.{WriteResult}
@@ -41,9 +41,15 @@ module _ (w : World) (p : Plain) (numbered : IsNumbered w) (one : OneId w.server
   other_state None h = absurd h
   other_state (Some s) h = (s, refl, h)
 
+  other : (s : CallState ℕ) × (get p.vfs.calls call ≡ Some s) × StateAlike (MeansIn w) (MeansOpenIn w) state s
+  other = other_state (get p.vfs.calls call) (subst (λ (o : Option (CallState Opened)). OptionAlike (StateAlike (MeansIn w) (MeansOpenIn w)) o (get p.vfs.calls call)) is.state_is (same.vfs.calls call))
+
+  -- its call is unanswered in the plain world too
+  unanswered : is_some (get p.vfs.calls is.ask.call) ≡ true
+  unanswered = ap (λ (n : ℕ). is_some (get p.vfs.calls n)) is.by_call ∙ ap is_some other.1
+
   told : Alike (record w { kernel = k2 }) q
   told =
-      let other = other_state (get p.vfs.calls call) (subst (λ (o : Option (CallState Opened)). OptionAlike (StateAlike (MeansIn w) (MeansOpenIn w)) o (get p.vfs.calls call)) is.state_is (same.vfs.calls call)) in
       declined_alike w p numbered (one_to_one w.kernel.nodes w.server.nodes one) same live sent.unique call is.request is.ask state other.0 is.under is.serves is.there is.by_call other.1 other.2 is.stage
 
   -- what the kernel makes of it
@@ -66,7 +72,7 @@ module _ (w : World) (p : Plain) (numbered : IsNumbered w) (one : OneId w.server
   pub eintr_goes : (q' : Plain) × Takes p (event.write k) (event.written sent.unique Accepted) q' × Alike (after_write w k sent (replied_to_call k1 call sent.wire (get w.kernel.vfs.calls call))) q'
   eintr_goes = (
     q,
-    (0, ap (λ (o : Option Ask). telling p sent.unique 0 o) is.there ∙ ap (λ (s : Stage). telling_ask p sent.unique 0 is.ask s) is.stage ∙ ap (λ (b : Bool). where_so b q) is.noted),
+    (0, ap (λ (o : Option Ask). telling p sent.unique 0 o) is.there ∙ ap (λ (s : Stage). telling_ask p sent.unique 0 is.ask s) is.stage ∙ ap (λ (b : Bool). where_so (b && is_some (get p.vfs.calls is.ask.call)) q) is.noted ∙ ap (λ (b : Bool). where_so b q) unanswered),
     subst (λ (took : WriteResult × Kernel). Alike (after_write w k sent took) q) (sym replied_is)
         (unsent_alike (record w { kernel = after_use k2 state }) q (used_alike (record w { kernel = k2 }) q (IsSound-without w.kernel.queues sent.unique numbered.queues) live told state) k results),
   )

@@ -22,7 +22,7 @@ use Rattle.fuse_theorem.proofs.AtRest.{same_node}
 use Rattle.fuse_theorem.proofs.NoFault.{no_fault}
 use Rattle.fuse_theorem.proofs.NodesHeld.{known_meant, nodes_held}
 use Rattle.fuse_theorem.proofs.NothingWaits.{none_called, none_processing}
-use Rattle.fuse_theorem.proofs.OnceStays.{once_at_rest}
+use Rattle.fuse_theorem.proofs.OnceStays.{once_at_rest, once_in_kernel}
 use Rattle.fuse_theorem.proofs.OpenNeeds.{held_numbers}
 use Rattle.fuse_theorem.proofs.OpensAtRest.{none_closing, opens_counted}
 use Rattle.fuse_theorem.proofs.OpensServable.{opens_fit, closing_fit, pending_fit, pending_servable, sent_servable, open_meant}
@@ -122,6 +122,8 @@ module _ (w : World) (p : Plain) (all : AllSound w p) where
         nodes = λ id. same_node w world.lookups rest id;
         opens = λ fh. opens_counted w rest fh balance no_closing;
         once = λ fh. once_at_rest w all.opens all.once rest fh;
+        counted = λ fh handle at. world.lookups.server.handles.counts fh handle at;
+        files = opens_fit w (balanced rest.live).files;
       }
 
   pub all_keep : Keeps w
@@ -131,6 +133,7 @@ module _ (w : World) (p : Plain) (all : AllSound w p) where
       record {
         balance = λ live. (lookups.balanced live).balance;
         open_balance = λ live. (balanced live).balance;
+        open_once = λ live fh. once_in_kernel w (all.once live) fh;
         held = all_held;
         no_fault = no_fault w p all.both all.releases all.faultless;
         no_wrong_body = no_wrong_body w p all.both all.fits;

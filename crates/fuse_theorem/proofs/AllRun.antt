@@ -2,7 +2,7 @@
 use Rattle.std.proofs.Common.{List}
 use Rattle.fuse_spec.specs.Worlds.{World}
 use Rattle.fuse_spec.specs.Records.{Record}
-use Rattle.fuse_spec.specs.Runs.{Run, AnswersOnce}
+use Rattle.fuse_spec.specs.Runs.{Run, AnswersOnce, CallsEnd}
 use Rattle.fuse_spec.specs.Events.{Event}
 use Rattle.fuse_spec.specs.Plain.{Plain}
 use Rattle.fuse_theorem.specs.AllSound.{AllSound}
@@ -11,6 +11,7 @@ use Rattle.fuse_theorem.specs.Recorded.{Recorded}
 use Rattle.fuse_theorem.proofs.AllCollected.{collected_all}
 use Rattle.fuse_theorem.proofs.AllKeeps.{all_keep}
 use Rattle.fuse_theorem.proofs.AllStaySound.{all_move}
+use Rattle.fuse_theorem.proofs.CallsEnd.{calls_end}
 use Rattle.fuse_theorem.proofs.EachAnsweredOnce.{answers_once}
 use Rattle.fuse_theorem.proofs.ListsRun.{KeptBy, lists_run}
 
@@ -26,10 +27,10 @@ all_kept = record {
 }
 
 -- Whatever the machine records of a list of events, the plain world has a run of the same records, alike after each event, in which the reference protocol
--- holds after each and each call is answered at most once.
+-- holds after each, each call is answered at most once, and is over then.
 pub all_run : (w : World) (p : Plain) → AllSound w p → AnswersSound w.kernel.vfs → (events : List Event) (records : List Record) (after : World) → Recorded w events records after
-    → (q : Plain) × Run w p events records after q × AllSound after q × AnswersOnce records
+    → (q : Plain) × Run w p events records after q × AllSound after q × AnswersOnce records × CallsEnd w records after
 all_run w p all answers events records after recorded =
     let run = lists_run AnyEvent AllSound all_kept w p all events records after (λ i e lt. tt) recorded in
     let world = all.both.world in
-    (run.0, run.1, run.2, answers_once w world.rooted answers events records after recorded)
+    (run.0, run.1, run.2, answers_once w world.rooted answers events records after recorded, calls_end w answers events records after recorded)

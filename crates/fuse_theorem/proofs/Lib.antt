@@ -176,3 +176,5 @@ pub mod SetMarks
 pub mod EmptyQueues
 pub mod WithAnswers
 pub mod NoPremise
+pub mod CallsEnd
+pub mod Refining

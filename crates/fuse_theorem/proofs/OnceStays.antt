@@ -1,8 +1,9 @@
 -- An open number is of one open file at most, whatever happens.
-use Rattle.std.proofs.Common.{◌≡◌, ◌≢◌, ℕ, ◌+◌, ◌-◌, ◌≤◌, ◌<◌, Bool, true, false, true≢false, cond, List, [], drop, Option, Some, None, nat_eq, slice_get, refl, ap, sym, subst, ◌∙◌, arith, ◌⊎◌, inl, inr, All}
+use Rattle.std.proofs.Common.{◌≡◌, ◌≢◌, ℕ, ◌+◌, ◌-◌, ◌≤◌, ◌<◌, Bool, true, false, true≢false, cond, List, [], ◌∷◌, ◌++◌, drop, Option, Some, None, nat_eq, slice_get, count_by, refl, ap, sym, subst, ◌∙◌, arith, ◌⊎◌, inl, inr, All}
 use Rattle.std.specs.Prelude.{◌%◌, sum_by}
 use Rattle.std.specs.List.{remove as without_at}
 use Rattle.std.proofs.lemmas.List.Elements.{All-head, All-tail}
+use Rattle.std.proofs.lemmas.List.Sums.{sum_by-append}
 use Rattle.fuse_spec.specs.declared.Opened.{Opened}
 use Rattle.fuse_spec.specs.declared.Purpose.{Purpose}
 use Rattle.fuse_spec.specs.declared.Purpose.TheVariants as purpose
@@ -10,8 +11,8 @@ use Rattle.fuse_spec.specs.declared.ReplyResult.{ReplyResult}
 use Rattle.fuse_spec.specs.declared.WriteResult.{WriteResult}
 use Rattle.fuse_spec.specs.declared.WriteResult.TheVariants.{Accepted, NoEntry, Invalid}
 use Rattle.fuse_spec.specs.Copies.{handles_back, given_back, kept_after, after_result}
-use Rattle.fuse_spec.specs.Counts.{AtRest, handle_count, opens_in, result_carries}
-use Rattle.fuse_spec.specs.Maps.{Map, get, put, remove}
+use Rattle.fuse_spec.specs.Counts.{AtRest, handle_count, open_in_kernel, opens_in, result_carries}
+use Rattle.fuse_spec.specs.Maps.{Map, get, put, remove, values}
 use Rattle.fuse_spec.specs.Messages.{Request, RequestBody, init, asks, release, forget, batch_forget, interrupt}
 use Rattle.fuse_spec.specs.Operations.{opens_in_reply}
 use Rattle.fuse_spec.specs.Queues.{QueueState, request_under}
@@ -32,7 +33,7 @@ use Rattle.fuse_theorem.specs.Copies.{SomeHas, here, there}
 use Rattle.fuse_theorem.specs.EveryList.{BothSound}
 use Rattle.fuse_theorem.specs.Lookups.{LookupsSound}
 use Rattle.fuse_theorem.specs.Numbering.{IsNumbered}
-use Rattle.fuse_theorem.specs.OpenNumbers.{open_files, OpensBalanced, OpensSound}
+use Rattle.fuse_theorem.specs.OpenNumbers.{open_files, released_pending, released_sent, released_held, OpensBalanced, OpensSound}
 use Rattle.fuse_theorem.specs.OpensOnce.{Carries, OpensOnce, OpensOnceWhileLive}
 use Rattle.fuse_theorem.specs.ReleasesKnown.{ReleasesKnown}
 use Rattle.fuse_theorem.specs.WorldSound.{WorldSound}
@@ -358,6 +359,25 @@ once_at_rest w opens old rest fh =
     let back : sum_by (result_carries (opens_in fh) w.server) w.results ≡ 0 = ap (λ (rs : List ReplyResult). sum_by (result_carries (opens_in fh) w.server) rs) rest.results in
     let once = (old rest.live).once fh in
     omega (arith, whole, sent, back, once)
+
+-- what is counted of a list is counted of one that goes on
+count_front : {X : Type 0} (f : X → Bool) (xs ys : List X) → count_by f xs ≤ count_by f (xs ++ ys)
+count_front f xs ys =
+    let both : count_by f (xs ++ ys) ≡ count_by f xs + count_by f ys = sum_by-append (λ x. cond (f x) 1 0) xs ys in
+    omega (arith, both)
+
+-- One file of the kernel at most has an open number.
+pub once_in_kernel : (w : World) → OpensOnce w → (fh : ℕ) → open_in_kernel w.kernel fh ≤ 1
+once_in_kernel w old fh =
+    let has = λ (o : Opened). nat_eq o.fh fh in
+    let kernel = values w.kernel.vfs.opens ++ values w.kernel.closing in
+    let pending = released_pending w.kernel.queues in
+    let sent = released_sent w.requests in
+    let first = count_front has kernel pending in
+    let second = count_front has (kernel ++ pending) sent in
+    let third = count_front has (kernel ++ pending ++ sent) (released_held w.server.held) in
+    let once = old.once fh in
+    omega (arith, first, second, third, once)
 
 pub first_once : OpensOnceWhileLive first_world
 first_once live = absurd (true≢false (sym live))

@@ -19,7 +19,7 @@ use Rattle.fuse_spec.specs.CallReplies.{call_replied}
 use Rattle.fuse_spec.specs.Vfs.{CallState, begun}
 use Rattle.fuse_spec.specs.Plain.{Plain, Ask, Stage, waiting, performed, declined, asking, call_begun, ask_performed, ask_declined, ask_told, ask_interrupted, ask_noted, ask_marked, plain_later, name_dropped, plain_aborted, plain_mounted, first_plain}
 use Rattle.fuse_spec.specs.PlainSteps.{where_so, serving_ask, serving, telling_call, telling_ask, telling, signalled_ask, signalling, marking, takes, Takes}
-use Rattle.fuse_theorem.specs.AsksServed.{RepliesTo, AskServed, AsksServed}
+use Rattle.fuse_spec.specs.PlainReplies.{RepliesTo, AskServed, AsksServed}
 use Rattle.fuse_theorem.proofs.NodesSound.{put_found, left_found}
 
 -- ---- replies
@@ -133,7 +133,7 @@ module _ (p : Plain) (old : AsksServed p) where
       by (Some state) f =
           where_served _ (ask_told p label next ask reply state) q
           (asking_served (record p { asks = remove p.asks label; vfs = (call_replied p.vfs ask.call state reply).vfs }) (left_ask p (record p { asks = remove p.asks label; vfs = (call_replied p.vfs ask.call state reply).vfs }) old label refl) next ask.call (call_replied p.vfs ask.call state reply).operation) f
-  told_ask label next ask q declined e = where_served ask.noted (ask_interrupted p label ask) q (left_ask p (ask_interrupted p label ask) old label refl) e
+  told_ask label next ask q declined e = where_served _ (ask_interrupted p label ask) q (left_ask p (ask_interrupted p label ask) old label refl) e
 
   signalled_served : (x : IntrEffect) (label : ℕ) (ask : Ask) → AskServed ask → AsksServed (signalled_ask p x label ask)
   signalled_served effect.Dequeued label ask served = left_ask p (ask_interrupted p label ask) old label refl

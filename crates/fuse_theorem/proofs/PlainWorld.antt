@@ -44,6 +44,11 @@ both : (a b : Bool) → (a && b) ≡ true → Both a b
 both true b e = record { first = refl; second = e }
 both false b e = absurd (cc)
 
+-- an option that is there
+standing : {X : Type 0} (o : Option X) → is_some o ≡ true → (x : X) × (o ≡ Some x)
+standing None e = absurd (cc)
+standing (Some x) e = (x, refl)
+
 same_number : (a b : ℕ) → nat_eq a b ≡ true → b ≡ a
 same_number a b e = elim (eqb_tells a b) [ inl h ↦ sym h.1 | inr h ↦ absurd (cc) ]
 
@@ -100,25 +105,31 @@ module _ (p q : Plain) where
       by : (stage : Stage) → ask.stage ≡ stage → telling_ask p unique label ask stage ≡ Some q → Steps p (event.write k) (event.written unique Accepted) q
       by waiting stage f = absurd (cc)
       by (performed reply) stage f = by_call reply stage (get p.vfs.calls ask.call) refl f
-      by declined stage f = let did = taken_so ask.noted (ask_interrupted p unique ask) q f in goes _ _ _ did.leads (plain.tells_eintr k unique ask there stage did.so)
+      by declined stage f =
+          let did = taken_so (ask.noted && is_some (get p.vfs.calls ask.call)) (ask_interrupted p unique ask) q f in
+          let holds = both ask.noted (is_some (get p.vfs.calls ask.call)) did.so in
+          let state = standing (get p.vfs.calls ask.call) holds.second in
+          goes _ _ _ did.leads (plain.tells_eintr k unique ask state.0 there stage holds.first state.1)
 
   signals : (number label : ℕ) (fatal : Bool) (c : ℕ) (signal : IntrEffect) (o : Option Ask) → get p.asks label ≡ o → signalling p signal number label o ≡ Some q → Steps p (event.intr number fatal) (event.interrupted c signal) q
   signals number label fatal c signal None there e = absurd (cc)
   signals number label fatal c signal (Some ask) there e =
-      let did = taken_so (nat_eq ask.call number && may_signal signal ask.stage) (signalled_ask p signal label ask) q e in
-      let holds = both (nat_eq ask.call number) (may_signal signal ask.stage) did.so in
-      goes _ _ _ did.leads (by signal holds.second (sym (same_number ask.call number holds.first)))
+      let did = taken_so (is_some (get p.vfs.calls number) && (nat_eq ask.call number && may_signal signal ask.stage)) (signalled_ask p signal label ask) q e in
+      let waits_so = both (is_some (get p.vfs.calls number)) (nat_eq ask.call number && may_signal signal ask.stage) did.so in
+      let state = standing (get p.vfs.calls number) waits_so.first in
+      let holds = both (nat_eq ask.call number) (may_signal signal ask.stage) waits_so.second in
+      goes _ _ _ did.leads (by state.0 state.1 signal holds.second (sym (same_number ask.call number holds.first)))
     where
       waits : (stage : Stage) → may_signal effect.Dequeued stage ≡ true → stage ≡ waiting
       waits waiting h = refl
       waits (performed reply) h = absurd (cc)
       waits declined h = absurd (cc)
 
-      by : (x : IntrEffect) → may_signal x ask.stage ≡ true → ask.call ≡ number → Steps p (event.intr number fatal) (event.interrupted c x) (signalled_ask p x label ask)
-      by effect.Dequeued may of = plain.interrupts number label fatal c ask there (waits ask.stage may) of
-      by effect.Flagged may of = plain.notes number label fatal c effect.Flagged ask (λ is. cc) there of
-      by effect.Queued may of = plain.notes number label fatal c effect.Queued ask (λ is. cc) there of
-      by effect.None may of = plain.notes number label fatal c effect.None ask (λ is. cc) there of
+      by : (state : CallState ℕ) → get p.vfs.calls number ≡ Some state → (x : IntrEffect) → may_signal x ask.stage ≡ true → ask.call ≡ number → Steps p (event.intr number fatal) (event.interrupted c x) (signalled_ask p x label ask)
+      by state stands effect.Dequeued may of = plain.interrupts number label fatal c ask state there (waits ask.stage may) of stands
+      by state stands effect.Flagged may of = plain.notes number label fatal c effect.Flagged ask state (λ is. cc) there of stands
+      by state stands effect.Queued may of = plain.notes number label fatal c effect.Queued ask state (λ is. cc) there of stands
+      by state stands effect.None may of = plain.notes number label fatal c effect.None ask state (λ is. cc) there of stands
 
   marks : (k unique : ℕ) (o : Option Ask) → get p.asks (unique - 1) ≡ o → marking p (unique - 1) o ≡ Some q → Steps p (event.take k) (event.taken unique Marked) q
   marks k unique None there e = some_goes _ _ p e (plain.marks_none k unique there)

@@ -14,7 +14,7 @@ use Rattle.fuse_spec.specs.Nodes.{NodeTable, HandleTable, HeldNode, is_open}
 use Rattle.fuse_spec.specs.Trees.{record_length}
 use Rattle.fuse_spec.specs.Denotes.{Denotes, generation_known, Means, Names, Opens, OperationAlike, ReplyAlike}
 use Rattle.fuse_spec.specs.Replies.{goes_with, Use, usable, first_use, use_of, use_counted, use_of_all}
-use Rattle.fuse_theorem.specs.AsksServed.{RepliesTo}
+use Rattle.fuse_spec.specs.PlainReplies.{RepliesTo}
 use Rattle.fuse_theorem.specs.Conditions.{OpensItsFile}
 use Rattle.fuse_theorem.specs.Lookups.{IsHeldAs}
 use Rattle.fuse_theorem.proofs.Cases.{SameOperation, both_lookup, both_getattr, both_mkdir, both_create, both_unlink, both_rmdir, both_rename, both_link, both_opening, both_readdir, both_read, both_write, same_operation, SameReply, same_found, same_missing, same_created, same_opened, same_attributes, same_listed, same_content, same_written, same_done, same_failed, same_reply}

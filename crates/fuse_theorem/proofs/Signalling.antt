@@ -1,5 +1,5 @@
 -- A signal reaches an unanswered call in both worlds.
-use Rattle.std.proofs.Common.{◌≡◌, ◌≢◌, ℕ, Bool, true, false, true≢false, ◌&&◌, Option, Some, None, nat_eq, option_map, get_or, All, refl, ap, sym, subst, ◌∙◌, arith, inl, inr}
+use Rattle.std.proofs.Common.{◌≡◌, ◌≢◌, ℕ, Bool, true, false, true≢false, ◌&&◌, Option, Some, None, nat_eq, option_map, get_or, All, refl, ap, sym, subst, ◌∙◌, arith, inl, inr, is_some}
 use Rattle.std.specs.Option.{option_map_or}
 use Rattle.std.specs.Prelude.{MatchOption}
 use Rattle.std.proofs.lemmas.Bool.{cases_eq}
@@ -23,7 +23,7 @@ use Rattle.fuse_spec.specs.Worlds.{World}
 use Rattle.fuse_spec.specs.Events as event
 use Rattle.fuse_spec.specs.Plain.{Plain, Ask, Stage, waiting, performed, declined, ask_noted, ask_interrupted}
 use Rattle.fuse_spec.specs.PlainSteps.{Takes, may_signal, signalled_ask, signalling, where_so}
-use Rattle.fuse_spec.specs.Denotes.{MeansIn, MeansOpenIn}
+use Rattle.fuse_spec.specs.Denotes.{MeansIn, MeansOpenIn, OptionAlike, StateAlike}
 use Rattle.fuse_spec.specs.Alike.{IsPaired, RequestBodyAsked, PurposeAsked, Alike}
 use Rattle.fuse_spec.proofs.Tables.{get_put_here}
 use Rattle.fuse_spec.proofs.QueueReadings.{key_count-le-one}
@@ -160,6 +160,14 @@ module _ (w : World) (p : Plain) (numbered : IsNumbered w) (one : IsOneToOne (Me
   by_effect Queued e = interrupted_alike w (ask_noted p pair.unique pair.ask) noted pair.unique (record pair.ask { noted = true }) noted_there refl found.0 found.1 (queues_read found.0.mark fatal q0.interrupts_off e)
   by_effect NoEffect e = noted
 
+  -- the call is unanswered in the plain world too
+  unanswered : is_some (get p.vfs.calls call) ≡ true
+  unanswered = by (get p.vfs.calls call) (subst (λ (o : Option (CallState Opened)). OptionAlike (StateAlike (MeansIn w) (MeansOpenIn w)) o (get p.vfs.calls call)) there (same.vfs.calls call))
+    where
+      by : (o : Option (CallState ℕ)) → OptionAlike (StateAlike (MeansIn w) (MeansOpenIn w)) (Some state) o → is_some o ≡ true
+      by None h = absurd h
+      by (Some s) h = refl
+
   -- A signal to an unanswered call: the plain world notes it on the call's ask, or ends the ask.
   pub signal_goes : (q : Plain) × Takes p (event.intr call fatal) (event.interrupted call (call_signalled w.kernel call state fatal).0) q × Alike (record w { kernel = (call_signalled w.kernel call state fatal).1 }) q
   signal_goes =
@@ -167,7 +175,7 @@ module _ (w : World) (p : Plain) (numbered : IsNumbered w) (one : IsOneToOne (Me
       let q = signalled_ask p e pair.unique pair.ask in
       let may : may_signal e pair.ask.stage ≡ true = subst (λ (x : IntrEffect). may_signal x pair.ask.stage ≡ true) (sym effect_is) (may_reach (signal_effect found.0.mark fatal q0.interrupts_off) refl) in
       let mine : nat_eq pair.ask.call call ≡ true = subst (λ (n : ℕ). nat_eq n call ≡ true) (sym pair.by) (same_is call) in
-      let taken : Takes p (event.intr call fatal) (event.interrupted call e) q = (pair.unique, ap (λ (o : Option Ask). signalling p e call pair.unique o) pair.there ∙ ap (λ (b : Bool). where_so (b && may_signal e pair.ask.stage) q) mine ∙ ap (λ (b : Bool). where_so b q) may) in
+      let taken : Takes p (event.intr call fatal) (event.interrupted call e) q = (pair.unique, ap (λ (o : Option Ask). signalling p e call pair.unique o) pair.there ∙ ap (λ (b : Bool). where_so (b && (nat_eq pair.ask.call call && may_signal e pair.ask.stage)) q) unanswered ∙ ap (λ (b : Bool). where_so (b && may_signal e pair.ask.stage) q) mine ∙ ap (λ (b : Bool). where_so b q) may) in
       let alike : Alike (record w { kernel = done_by e }) q = subst (λ (x : IntrEffect). Alike (record w { kernel = done_by x }) (signalled_ask p x pair.unique pair.ask)) (sym effect_is) (by_effect (signal_effect found.0.mark fatal q0.interrupts_off) refl) in
       let whole : signalled_at w.kernel call state fatal (Some pair.unique) ≡ call_signalled w.kernel call state fatal = ap (λ (o : Option ℕ). signalled_at w.kernel call state fatal o) (sym pair.request) in
       subst (λ (x : IntrEffect × Kernel). (q' : Plain) × Takes p (event.intr call fatal) (event.interrupted call x.0) q' × Alike (record w { kernel = x.1 }) q') whole (q, taken, alike)

@@ -18,7 +18,7 @@ use Rattle.fuse_spec.specs.Events as event
 use Rattle.fuse_spec.specs.Denotes.{Denotes, MeansIn, MeansOpenIn, generation_known, Names, Opens}
 use Rattle.fuse_spec.specs.Alike.{Alike, StageTold, IsPaired}
 use Rattle.fuse_theorem.specs.AskedRequests.{RequestsAskedWhileLive}
-use Rattle.fuse_theorem.specs.AsksServed.{AskServed, AsksServed}
+use Rattle.fuse_spec.specs.PlainReplies.{AskServed, AsksServed}
 use Rattle.fuse_theorem.specs.Conditions.{IsReply, IsDeclined}
 use Rattle.fuse_theorem.specs.EachEvent.{CanHear, Needs}
 use Rattle.fuse_theorem.specs.EachEvent as each

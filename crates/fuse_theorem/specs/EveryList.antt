@@ -7,7 +7,7 @@ use Rattle.fuse_spec.specs.Events.{Event}
 use Rattle.fuse_spec.specs.Events as event
 use Rattle.fuse_spec.specs.Alike.{Alike}
 use Rattle.fuse_theorem.specs.AskedRequests.{RequestsAskedWhileLive}
-use Rattle.fuse_theorem.specs.AsksServed.{AsksServed}
+use Rattle.fuse_spec.specs.PlainReplies.{AsksServed}
 use Rattle.fuse_theorem.specs.Copies.{KeptAreSent}
 use Rattle.fuse_theorem.specs.HeldKnown.{HeldKnownWhileLive}
 use Rattle.fuse_theorem.specs.KnownNodes.{NodesKnown}

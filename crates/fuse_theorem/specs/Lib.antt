@@ -9,7 +9,6 @@ pub mod Unperformed
 pub mod WorldSound
 pub mod AskedRequests
 pub mod Links
-pub mod AsksServed
 pub mod KnownNodes
 pub mod EveryList
 pub mod HeldKnown

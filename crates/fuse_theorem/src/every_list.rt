@@ -25,7 +25,7 @@ ghost use Rattle.fuse_spec.specs.PlainSteps.{Takes};
 ghost use Rattle.fuse_spec.specs.Steps.{Happens, MayStep, step};
 ghost use Rattle.fuse_spec.specs.Worlds.{World, first_world, after_settle};
 ghost use Rattle.fuse_theorem.specs.AskedRequests.{RequestsAskedWhileLive};
-ghost use Rattle.fuse_theorem.specs.AsksServed.{AsksServed};
+ghost use Rattle.fuse_spec.specs.PlainReplies.{AsksServed};
 ghost use Rattle.fuse_theorem.specs.EachEvent.{CanServe, Needs};
 ghost use Rattle.fuse_theorem.specs.EveryList.{BothSound, NeedsBothAlone};
 ghost use Rattle.fuse_theorem.specs.Faultless.{Faultless};

@@ -8,7 +8,7 @@ ghost use Rattle.fuse_spec.specs.Events.{Event, Outcome};
 ghost use Rattle.fuse_spec.specs.Plain.{Plain, first_plain};
 ghost use Rattle.fuse_spec.specs.PlainSteps.{Takes};
 ghost use Rattle.fuse_spec.specs.Records.{Record, refused, collected};
-ghost use Rattle.fuse_spec.specs.Runs.{AnswersOnce, Run, plain_collected};
+ghost use Rattle.fuse_spec.specs.Runs.{AnswersOnce, CallsEnd, Run, plain_collected};
 ghost use Rattle.fuse_spec.specs.Steps.{Happens};
 ghost use Rattle.fuse_spec.specs.Worlds.{World, first_world};
 ghost use Rattle.fuse_theorem.specs.AllSound.{AllSound};
@@ -31,11 +31,12 @@ pub fn protocol_is_kept()
 {}
 
 /// Whatever the machine records of a list of events: the plain world has a run over the list with the same records, in steps of its own words, alike after each
-/// event, with the reference protocol after each. What is refused changes nothing. Each call is answered at most once.
+/// event, with the reference protocol after each. What is refused changes nothing. Each call is answered at most once, and is over then: no later list answers
+/// it.
 pub fn every_list_runs()
-    ensures from_first { (events : List Event) (records : List Record) (after : World) → Recorded first_world events records after → (q : Plain) × Run first_world first_plain events records after q × Alike after q × Keeps after × AnswersOnce records }
+    ensures from_first { (events : List Event) (records : List Record) (after : World) → Recorded first_world events records after → (q : Plain) × Run first_world first_plain events records after q × Alike after q × Keeps after × AnswersOnce records × CallsEnd first_world records after }
     ensures from_any { (w : World) (p : Plain) → AllSound w p → AnswersSound w.kernel.vfs → (events : List Event) (records : List Record) (after : World) → Recorded w events records after →
-        (q : Plain) × Run w p events records after q × Alike after q × AllSound after q × AnswersOnce records }
+        (q : Plain) × Run w p events records after q × Alike after q × AllSound after q × AnswersOnce records × CallsEnd w records after }
 {}
 
 /// Every list of events has records, from any world: each event happens or is refused. There are records with no want of memory.

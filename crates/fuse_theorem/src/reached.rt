@@ -1,12 +1,17 @@
 //! The worlds to which lists of events lead.
 
-ghost use Rattle.std.specs.Prelude.{◌+◌, ◌≤◌, ℕ, length};
+ghost use Rattle.std.specs.Prelude.{◌+◌, ◌≤◌, ℕ, List, length};
+ghost use Rattle.fuse_spec.specs.Counts.{Keeps};
 ghost use Rattle.fuse_spec.specs.Events.{Event, Outcome};
 ghost use Rattle.fuse_spec.specs.Maps.{remove};
-ghost use Rattle.fuse_spec.specs.Records.{collected};
+ghost use Rattle.fuse_spec.specs.Plain.{Plain};
+ghost use Rattle.fuse_spec.specs.PlainWords.{Steps};
+ghost use Rattle.fuse_spec.specs.Records.{Record, collected};
+ghost use Rattle.fuse_spec.specs.Runs.{Refines, Run, AnswersOnce, IsOver, CallsEnd, plain_handed_out};
 ghost use Rattle.fuse_spec.specs.Steps.{Happens};
 ghost use Rattle.fuse_spec.specs.Worlds.{World, first_world};
 ghost use Rattle.fuse_theorem.specs.Reached.{IsReached};
+ghost use Rattle.fuse_theorem.specs.Recorded.{Recorded};
 
 /// All that is sound before the first mount stays so with any event, and as answers are collected, one or all.
 pub fn reached_worlds()
@@ -14,6 +19,18 @@ pub fn reached_worlds()
     ensures next { (w : World) → IsReached w → (e : Event) (o : Outcome) (after : World) → Happens w e o after → IsReached after }
     ensures handing_out { (w : World) (call : ℕ) → IsReached w → IsReached (record w { kernel = record w.kernel { vfs = record w.kernel.vfs { answers = remove w.kernel.vfs.answers call } } }) }
     ensures collecting { (w : World) → IsReached w → IsReached (collected w) }
+{}
+
+/// A world that events led to refines some plain world, and keeps the reference protocol. Whatever plain world it refines takes the step of an event that happens,
+/// in words of its own, and is refined again; so it is as an answer is collected, and along a list of events. A call that is over stays so.
+pub fn reached_worlds_refine()
+    ensures some { (w : World) → IsReached w → (p : Plain) × Refines w p }
+    ensures protocol { (w : World) → IsReached w → Keeps w }
+    ensures event { (w : World) → IsReached w → (e : Event) (o : Outcome) (after : World) → Happens w e o after → (p : Plain) → Refines w p → (q : Plain) × Steps p e o q × Refines after q }
+    ensures over { (w : World) → IsReached w → (e : Event) (o : Outcome) (after : World) → Happens w e o after → (call : ℕ) → IsOver w call → IsOver after call }
+    ensures handing_out { (w : World) → IsReached w → (call : ℕ) (p : Plain) → Refines w p → Refines (record w { kernel = record w.kernel { vfs = record w.kernel.vfs { answers = remove w.kernel.vfs.answers call } } }) (plain_handed_out p call) }
+    ensures list { (w : World) → IsReached w → (events : List Event) (records : List Record) (after : World) → Recorded w events records after → (p : Plain) → Refines w p → (q : Plain) × Run w p events records after q × Refines after q }
+    ensures answers { (w : World) → IsReached w → (events : List Event) (records : List Record) (after : World) → Recorded w events records after → AnswersOnce records × CallsEnd w records after }
 {}
 
 /// Any event, in any world, leaves at most one call more that is unanswered or whose answer waits.

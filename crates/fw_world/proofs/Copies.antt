@@ -1,5 +1,5 @@
 -- The kernel takes a copy on the reply link as the machine takes what it says.
-use Rattle.std.proofs.Common.{◌≡◌, ◌≤◌, ℕ, ◌-◌, ◌%◌, Bool, true, false, cond, List, length, Option, Some, None, nat_eq, slice_get, inl, inr, refl, ap, sym, subst, ◌∙◌, arith}
+use Rattle.std.proofs.Common.{◌≡◌, ◌≤◌, ℕ, ◌-◌, ◌%◌, Bool, true, false, true≢false, cond, List, length, Option, Some, None, nat_eq, slice_get, inl, inr, refl, ap, sym, subst, ◌∙◌, arith}
 use Rattle.std.specs.Int.{w32, cast_signed}
 use Rattle.std.proofs.lemmas.Bool.Decides.{nat_tests}
 use Rattle.std.proofs.lemmas.Int.{to_z-of_z}
@@ -23,10 +23,10 @@ use Rattle.fuse_spec.specs.Messages.{WireReply, asks}
 use Rattle.fuse_spec.specs.QueueCalls.{waiting}
 use Rattle.fuse_spec.specs.Kernel.{Kernel, is_live}
 use Rattle.fuse_spec.specs.Events as event
-use Rattle.fuse_spec.specs.Steps.{RefusedWith}
+use Rattle.fuse_spec.specs.Steps.{is_past, RefusedWith}
 use Rattle.fuse_spec.specs.Replies.{reply_written, reply_taken, odd_taken, goes_with, is_init_reply, is_empty_reply}
 use Rattle.fuse_spec.specs.Vfs.{CallState, asked}
-use Rattle.fuse_spec.specs.Worlds.{World, Sent}
+use Rattle.fuse_spec.specs.Worlds.{World, Sent, after_write}
 use Rattle.fuse_frames.specs.ReplyTies.{SaysReply}
 use Rattle.fuse_frames.specs.RequestTies.{asked_opcode}
 use Rattle.fuse_theorem.specs.EachEvent.{CanHear}
@@ -42,9 +42,12 @@ use Rattle.fk_kernel.specs.Said.{Says, HasReplyHead, head_unique, Awaited, reply
 use Rattle.fk_kernel.specs.Said.{said as means_said}
 use Rattle.fk_kernel.specs.Said as said
 use Rattle.std.specs.Option.{unwrap_or}
-use Rattle.std.specs.Prelude.{IfSome}
+use Rattle.std.specs.Prelude.{IfSome, IfNone}
 use Rattle.fuse_spec.specs.declared.Refusal.TheVariants.{NoMemory, Exhausted}
-use Rattle.fk_kernel.specs.Refused.{is_past_end, WriteRefused, WritePasses, no_memory, exhausted}
+use Rattle.fk_kernel.specs.Refused.{is_past_end, PassesEnd, WriteRefused, WritePasses, no_memory, exhausted}
+use Rattle.fk_kernel.proofs.PastEnds.{passes}
+use Rattle.fw_world.proofs.Happening.{writes}
+use Rattle.fw_world.proofs.Wanting.{wanting, kernel_low, kernel_past}
 use Rattle.fw_world.proofs.Refusing.{past_written}
 
 -- What says a reply has its head.
@@ -204,16 +207,64 @@ module _ (w : World) (here : IsReached w) (place : ℕ) (sent : Sent) (found : s
     pub written_so : reply_written w.kernel sent.unique sent.wire ≡ (written, new)
     written_so = by can_hear
 
+  -- ---- what the kernel refuses
+
+  judged_of : (operation : Operation ℕ Opened) → IsJudged (opcode_of operation)
+  judged_of (lookup d name) = tt
+  judged_of (getattr x) = tt
+  judged_of (mkdir d name) = tt
+  judged_of (create d name) = tt
+  judged_of (unlink d name) = tt
+  judged_of (rmdir d name) = tt
+  judged_of (rename d old e new) = tt
+  judged_of (link x d name) = tt
+  judged_of (opening x) = tt
+  judged_of (readdir d after size) = tt
+  judged_of (read o offset size) = tt
+  judged_of (write o offset bytes) = tt
+
+  -- A number is wanting for what the copy says, where the machine's counter goes past its end.
+  passes_end : is_past_end w.kernel ≡ false → is_past_end (reply_written w.kernel sent.unique sent.wire).1 ≡ true → WritePasses w.kernel bytes
+  passes_end low past = (head.0, subst (λ (u : ℕ). PassesEnd w.kernel u bytes (awaited w.kernel u)) (sym head.1) (by can_hear))
+    where
+      said_past : (o : Opcode) → IsJudged o → (awaited w.kernel sent.unique ≡ reply_to o) × Says o bytes sent.wire → PassesEnd w.kernel sent.unique bytes (awaited w.kernel sent.unique)
+      said_past o judged it = subst (PassesEnd w.kernel sent.unique bytes) (sym it.0) (passes w.kernel sent.unique bytes o judged sent.wire it.1 past)
+
+      by : CanHear w here.plain sent → PassesEnd w.kernel sent.unique bytes (awaited w.kernel sent.unique)
+      by (each.nothing e) =
+          let none = awaits_none w.kernel sent.unique sent.wire e in
+          absurd (true≢false (sym past ∙ ap (λ (took : WriteResult × Kernel). is_past_end took.1) none.1 ∙ low))
+      by (each.of_interrupt kept numbered live odd waits) = said_past opcode.Interrupt tt (to_interrupt kept live odd waits)
+      by (each.of_release o numbered live even waits) = said_past opcode.Release tt (to_release o live even waits)
+      by (each.of_init numbered live even waits wire_is) = said_past opcode.Init tt (to_init even waits wire_is)
+      by (each.of_call call state reply numbered one live even waits is) = said_past (opcode_of (asked state)) (judged_of (asked state)) (to_call call state even waits is.state_is is.goes)
+      by (each.of_declined call state numbered one live even waits is) =
+          said_past (opcode_of (asked state)) (judged_of (asked state)) (to_call call state even waits is.state_is (ap (goes_with (asked state)) is.wire_is ∙ goes_failed (asked state)))
+
+  -- Memory is wanting only where no number is.
+  write_wanting : is_past w ≡ false → (WritePasses w.kernel bytes → ⊥) → (given : Refusal) → given ≡ NoMemory → RefusedWith w (event.write place) given
+  write_wanting low none given is = by (is_past after) refl
+    where
+      took : WriteResult × Kernel
+      took = reply_written w.kernel sent.unique sent.wire
+
+      after : World
+      after = after_write w place sent took
+
+      by : (past : Bool) → is_past after ≡ past → RefusedWith w (event.write place) given
+      by true past = absurd (none (passes_end (kernel_low w low) (kernel_past w took.1 low past)))
+      by false ends = wanting w (event.write place) (event.written sent.unique took.0) after refl (writes w place sent took found refl ends) given is
+
   -- The kernel refused its bytes.
-  pub write_refused : (r : Refusal) → WriteRefused w.kernel bytes r → RefusedWith w (event.write place) r
-  write_refused r (exhausted it) =
+  pub write_refused : is_past w ≡ false → (r : Refusal) → WriteRefused w.kernel bytes r → (r ≡ NoMemory → WritePasses w.kernel bytes → ⊥) → RefusedWith w (event.write place) r
+  write_refused within r (exhausted it) last =
       let awaits : awaited w.kernel sent.unique ≡ reply_to it.opcode = ap (awaited w.kernel) (sym head.1) ∙ it.awaits in
       let means : Means it.opcode bytes sent.wire = means_said sent.wire (heard_by can_hear it.opcode it.judged awaits) in
       let past : is_past_end (reply_written w.kernel sent.unique sent.wire).1 ≡ true = ap (λ (u : ℕ). is_past_end (reply_written w.kernel u sent.wire).1) (sym head.1) ∙ it.past sent.wire means in
       inl (past_written w place sent found past)
-  write_refused r no_memory = inr refl
+  write_refused within r no_memory last = write_wanting within (last refl) NoMemory refl
 
   -- Where there is no room for its result: what the kernel would refuse it for, or want of memory.
-  pub look_refused : (o : Option Refusal) → IfSome o (λ r. (r ≡ Exhausted) × WritePasses w.kernel bytes) → RefusedWith w (event.write place) (unwrap_or o NoMemory)
-  look_refused None passes = inr refl
-  look_refused (Some r) passes = subst (RefusedWith w (event.write place)) (sym passes.0) (write_refused Exhausted (exhausted passes.1.1))
+  pub look_refused : is_past w ≡ false → (o : Option Refusal) → IfSome o (λ r. (r ≡ Exhausted) × WritePasses w.kernel bytes) → IfNone o (WritePasses w.kernel bytes → ⊥) → RefusedWith w (event.write place) (unwrap_or o NoMemory)
+  look_refused within None passes none = write_wanting within none NoMemory refl
+  look_refused within (Some r) passes none = subst (RefusedWith w (event.write place)) (sym passes.0) (write_refused within Exhausted (exhausted passes.1.1) (λ is. absurd (cc is)))

@@ -8,3 +8,5 @@ pub mod Copies
 pub mod Collecting
 pub mod Recording
 pub mod Interrupts
+pub mod Wanting
+pub mod Stepping

@@ -7,13 +7,9 @@ use Rattle.fuse_spec.specs.Events.{Event, Outcome}
 use Rattle.fuse_spec.specs.Records as records
 use Rattle.fuse_spec.specs.Records.{answers_of, collected}
 use Rattle.fuse_spec.specs.Steps.{Happens, RefusedWith}
-use Rattle.fuse_spec.specs.Plain.{Plain}
-use Rattle.fuse_spec.specs.Alike.{Alike}
-use Rattle.fuse_theorem.specs.AllSound.{AllSound}
-use Rattle.fuse_theorem.specs.AsksServed.{AsksServed}
 use Rattle.fuse_theorem.specs.Recorded.{Recorded, none_left, one_refused, one_accepted}
 use Rattle.fuse_theorem.specs.Reached.{IsReached}
-use Rattle.fuse_theorem.proofs.AllRun.{all_run}
+use Rattle.fuse_theorem.proofs.Refining.{list_refines, list_answers, list_keeps}
 use Rattle.fw_world.specs.declared.event.Event.{Event as EventValue}
 use Rattle.fw_world.specs.declared.event.Outcome.{Outcome as OutcomeValue}
 use Rattle.fw_world.specs.declared.record.Record.{Record}
@@ -94,32 +90,16 @@ module _ {A : Type 0} (old : World) (here : IsReached old) (events : List EventV
   abbrev pub Comes : World → List (Record A) → Type 0
   Comes new has = (added : List (Record A)) × (has ≡ had ++ added) × RunsAs old (map event_of events) (map record_of added) new
 
-  -- All that is sound with the plain world that is known is sound with any other that is alike.
-  sound_with : (p : Plain) → Alike old p → AsksServed p → AllSound old p
-  sound_with p same served =
-      let all = here.sound in
-      let both = all.both in
-      record {
-        both = record { alike = same; world = both.world; asked = both.asked; links = both.links; nodes = both.nodes; held = both.held; kept = both.kept; served = served };
-        releases = all.releases;
-        taken = all.taken;
-        faultless = all.faultless;
-        fits = all.fits;
-        still = all.still;
-        opens = all.opens;
-        left = all.left;
-        waiting = all.waiting;
-        once = all.once;
-      }
-
   pub comes_to : (new : World) (has : List (Record A)) → RanSo old events had new has → Comes new has
   comes_to new has ran =
-      let run = λ (p : Plain) (all : AllSound old p). all_run old p all here.answers (map event_of events) (map record_of ran.added) new ran.recorded in (
+      let answers = list_answers old here (map event_of events) (map record_of ran.added) new ran.recorded in (
         ran.added,
         ran.items,
         record {
-          plain_run = λ p same served. let at = run p (sound_with p same served) in (at.0, at.1, at.2.both.alike, at.2.both.served);
-          once = (run here.plain here.sound).3;
+          plain_run = λ p refines. list_refines old here (map event_of events) (map record_of ran.added) new ran.recorded p refines;
+          keeps = list_keeps old here (map event_of events) (map record_of ran.added) new ran.recorded;
+          once = answers.0;
+          ended = answers.1;
         },
       )
 

@@ -42,11 +42,6 @@ use Rattle.fs_server.specs.Effects.{RefusesHeld, not_held, exhausted, RefusesAga
 use Rattle.fs_server.specs.Effects.{fault_or, past_or_memory}
 use Rattle.fw_world.proofs.Counters.{server_past, as_judged, some_past}
 
--- a refusal that the kernel gave
-pub by_kernel : (w : World) (e : Event) (judged : Option Refusal) (given : Refusal) → ((r : Refusal) → judged ≡ Some r → IsRefused w e r) → given ≡ kernel.or_no_memory judged → RefusedWith w e given
-by_kernel w e None given refuses is = inr is
-by_kernel w e (Some r) given refuses is = inl (subst (IsRefused w e) (sym is) (refuses r refl))
-
 pub is_exhausted : (o : Outcome) (after : World) → is_past after ≡ true → going o after ≡ Err refusal.Exhausted
 is_exhausted o after past = ap (λ (b : Bool). cond b (Err refusal.Exhausted) (Ok (o, after))) past
 
@@ -172,17 +167,6 @@ pub refused_with : {X : Type 0} (w : World) (e : Event) (r : Result X Refusal) �
 refused_with w e (Ok x) h = tt
 refused_with w e (Err refusal) h = inl h
 
--- What the server refuses, the machine refuses.
-module _ (w : World) (e : Event) (Refuses : Refusal → Type 0) (refused : (r : Refusal) → Refuses r → IsRefused w e r) where
-  -- what the server judges, or else want of memory
-  pub judged_or_memory : (judged : Option Refusal) (given : Refusal) → IfSome judged Refuses → given ≡ unwrap_or judged refusal.NoMemory → RefusedWith w e given
-  judged_or_memory None given refuses is = inr is
-  judged_or_memory (Some r) given refuses is = inl (subst (IsRefused w e) (sym is) (refused r refuses))
-
-  pub refused_or_memory : (given : Refusal) → Refuses given ⊎ (given ≡ refusal.NoMemory) → RefusedWith w e given
-  refused_or_memory given (inl refuses) = inl (refused given refuses)
-  refused_or_memory given (inr is) = inr is
-
 -- ---- one more copy
 
 pub again_refused : (w : World) (unique : ℕ) (r : Refusal) → RefusesAgain w.server unique r → IsRefused w (event.again unique) r
@@ -220,30 +204,6 @@ no_result w place none choice may = ap (settling w place) none
 pub or_default : (o : Option Refusal) → unwrap_or o refusal.NoMemory ≡ kernel.or_no_memory o
 or_default None = refl
 or_default (Some r) = refl
-
--- The fault of a request without one: a counter at its end, or want of memory.
-past_or : (w : World) (place : ℕ) (request : Request) → slice_get w.requests place ≡ Some request → (past : Bool) → server.is_past_end (taking w.server request.unique request.body).server ≡ past → RefusedWith w (event.take place) (refusal_for (past_or_memory past))
-past_or w place request there true past =
-    let did : TakeResult = taking w.server request.unique request.body in
-    let after = after_take w place request.unique did in
-    let same : after.server ≡ did.server = sent_server (record w { requests = without w.requests place; server = did.server }) w.server.next_copy request.unique did.reply in
-    let over : server_past after.server ≡ true = sym (as_judged after.server) ∙ ap server.is_past_end same ∙ past in
-    inl
-    (λ choice may.
-    ap (taking_request w place) there
-    ∙ is_exhausted (event.taken request.unique did.word) after (past_by_server (nat_lt counter_end after.kernel.queues.next) (nat_lt counter_end after.kernel.vfs.next_call) (server_past after.server) over))
-past_or w place request there false past = inr refl
-
--- A request on the link is refused for want of a number or of memory alone.
-pub take_refused : (w : World) → IsReached w → (place : ℕ) (request : Request) (bytes : List ℕ) (fault : ServerFault) → slice_get w.requests place ≡ Some request → IsRequestFrame bytes request → RefusesFrame w.server bytes fault
-    → RefusedWith w (event.take place) (refusal_for fault)
-take_refused w here place request bytes fault there frame refuses =
-    let all = here.sound in
-    let none : fault_of w.server request ≡ None = All-at (λ (r : Request). fault_of w.server r ≡ None) w.requests place request (no_fault w here.plain all.both all.releases all.faultless) there in
-    let is : fault ≡ past_or_memory (server.is_past_end (taking w.server request.unique request.body).server) =
-    refuses.of_request request (frame_says bytes request frame)
-    ∙ ap (λ (o : Option RequestFault). fault_or (server.as_fault o) (past_or_memory (server.is_past_end (taking w.server request.unique request.body).server))) none in
-    subst (λ (f : ServerFault). RefusedWith w (event.take place) (refusal_for f)) (sym is) (past_or w place request there (server.is_past_end (taking w.server request.unique request.body).server) refl)
 
 -- A result on the link is that of a copy which the server knows.
 pub is_known : (w : World) → IsReached w → (place : ℕ) (result : ReplyResult) (r : Refusal) → slice_get w.results place ≡ Some result → server.HasNoCopy w.server result r → ⊥

@@ -1,12 +1,41 @@
--- The frame that was put last.
+-- The frame that was put last, and what an outcome tells of it.
 use Rattle.std.specs.Prelude.{◌≡◌, ℕ, ◌-◌, List, Some, length, slice_get}
 use Rattle.fuse_spec.specs.Messages.{Request}
 use Rattle.fuse_spec.specs.Worlds.{World, Sent}
 use Rattle.fk_wire.specs.declared.opcode.Opcode.{Opcode}
-use Rattle.fuse_frames.specs.RequestTies.{IsRequestFrame}
+use Rattle.fuse_frames.specs.RequestTies.{IsRequestFrame, asked_opcode}
 use Rattle.fuse_frames.specs.ReplyTies.{SaysReply}
+use Rattle.fw_world.specs.declared.event.Outcome.{Outcome}
+use Rattle.fw_world.specs.declared.event.Outcome.TheVariants as outcome
 
 -- The bytes are the frame of the last request on the request link, or of the last copy on the reply link.
 pub data IsLastFrame (w : World) (bytes : List ℕ) : Type 0 where
   of_request : (request : Request) → slice_get w.requests (length w.requests - 1) ≡ Some request → IsRequestFrame bytes request → IsLastFrame w bytes
   of_reply : (sent : Sent) (opcode : Opcode) → slice_get w.replies (length w.replies - 1) ≡ Some sent → SaysReply opcode bytes sent.unique sent.wire → IsLastFrame w bytes
+
+-- The last request on its link has this unique and this opcode, and its frame is so many bytes long.
+pub record ShowsRequest (w : World) (unique : ℕ) (opcode : Opcode) (len : ℕ) : Type 0 where
+  pub request : Request
+  pub last : slice_get w.requests (length w.requests - 1) ≡ Some request
+  pub under : unique ≡ request.unique
+  pub asks : opcode ≡ asked_opcode request.body
+  pub bytes : List ℕ
+  pub frame : IsRequestFrame bytes request
+  pub long : len ≡ length bytes
+
+-- The last copy on its link is one of a reply to this request, and its frame is so many bytes long.
+pub record ShowsReply (w : World) (unique len : ℕ) : Type 0 where
+  pub sent : Sent
+  pub last : slice_get w.replies (length w.replies - 1) ≡ Some sent
+  pub under : unique ≡ sent.unique
+  pub opcode : Opcode
+  pub bytes : List ℕ
+  pub says : SaysReply opcode bytes sent.unique sent.wire
+  pub long : len ≡ length bytes
+
+-- What an outcome tells of the frame that its event put on a link is so.
+abbrev pub IsShown : World → Outcome → Type 0
+IsShown w (outcome.Read unique opcode len) = ShowsRequest w unique opcode len
+IsShown w (outcome.Done unique errno len) = ShowsReply w unique len
+IsShown w (outcome.SentAgain unique len) = ShowsReply w unique len
+IsShown w other = Unit {0}

@@ -1,20 +1,29 @@
--- What a list of events comes to.
+-- What an event and a list of events come to.
 use Rattle.std.specs.Prelude.{ℕ, List, Result, Ok, Err, take}
 use Rattle.fuse_spec.specs.Worlds.{World}
-use Rattle.fuse_spec.specs.Events.{Event}
+use Rattle.fuse_spec.specs.Events.{Event, Outcome}
 use Rattle.fuse_spec.specs.Records.{Record}
 use Rattle.fuse_spec.specs.Plain.{Plain}
-use Rattle.fuse_spec.specs.Alike.{Alike}
-use Rattle.fuse_spec.specs.Runs.{Run, AnswersOnce}
-use Rattle.fuse_theorem.specs.AsksServed.{AsksServed}
+use Rattle.fuse_spec.specs.PlainWords.{Steps}
+use Rattle.fuse_spec.specs.Counts.{Keeps}
+use Rattle.fuse_spec.specs.Runs.{Refines, Run, AnswersOnce, CallsEnd, IsOver}
 
 -- The events that ran: all of them, or so many of the first.
 abbrev pub events_run : {X E : Type 0} → Result X ℕ → List E → List E
 events_run (Ok x) events = events
 events_run (Err k) events = take k events
 
--- The events ran with these records: from every plain world alike to the world before, in which each reply goes with its ask, there is one
--- plain run over the events with the same records, which ends so again with the world after. Each call is answered at most once.
+-- The event happened with this outcome: every plain world that the world before refines takes its step, in words of its own, and the world after refines it
+-- again and keeps the reference protocol. A call that was over stays so.
+pub record StepsAs (old : World) (event : Event) (outcome : Outcome) (new : World) : Type 0 where
+  pub plain_step : (p : Plain) → Refines old p → (q : Plain) × Steps p event outcome q × Refines new q
+  pub keeps : Keeps new
+  pub over : (call : ℕ) → IsOver old call → IsOver new call
+
+-- The events ran with these records: from every plain world that the world before refines there is one plain run over the events with the same records, at
+-- whose end the world after refines it again. Each call is answered at most once, and over with its answer, so that no later list answers it.
 pub record RunsAs (old : World) (events : List Event) (added : List Record) (new : World) : Type 0 where
-  pub plain_run : (p : Plain) → Alike old p → AsksServed p → (q : Plain) × Run old p events added new q × Alike new q × AsksServed q
+  pub plain_run : (p : Plain) → Refines old p → (q : Plain) × Run old p events added new q × Refines new q
+  pub keeps : Keeps new
   pub once : AnswersOnce added
+  pub ended : CallsEnd old added new

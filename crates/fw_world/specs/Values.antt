@@ -43,20 +43,6 @@ event_of (DropName directory name) = event.drop_name directory name.now
 event_of (Evict node) = event.evict node
 event_of Abort = event.abort
 
--- The event takes no memory.
-abbrev pub NeedsNoMemory : Event → Type 0
-NeedsNoMemory (Settle place) = Unit {0}
-NeedsNoMemory (Interrupt call fatal) = Unit {0}
-NeedsNoMemory (Tick ms) = Unit {0}
-NeedsNoMemory (DropName directory name) = Unit {0}
-NeedsNoMemory (Evict node) = Unit {0}
-NeedsNoMemory Abort = Unit {0}
-NeedsNoMemory event = ⊥
-
--- the result of a reply, by its error number
-abbrev pub result_of : ℕ → WriteResult
-result_of errno = cond (nat_eq errno 0) Accepted (cond (nat_eq errno 2) NoEntry Invalid)
-
 -- what an event is refused for that met a fault of the server
 abbrev pub refusal_for : ServerFault → Refusal
 refusal_for fault.Exhausted = Exhausted
@@ -68,7 +54,7 @@ abbrev pub with_copy : {X : Type 0} → List X → Option X → List X
 with_copy xs None = xs
 with_copy xs (Some x) = xs ++ x ∷ []
 
--- the outcome of the definitions, which has no opcode and no length
+-- the outcome of the definitions, which has no opcode and no length (`IsShown` says which these are)
 abbrev pub outcome_of : Outcome → event.Outcome
 outcome_of outcome.Mounted = event.mounted
 outcome_of (outcome.Begun call) = event.begun call
@@ -77,8 +63,8 @@ outcome_of (outcome.Taken unique word) = event.taken unique word
 outcome_of (outcome.Done unique errno len) = event.performed unique errno false
 outcome_of (outcome.Lost unique errno) = event.performed unique errno true
 outcome_of (outcome.SentAgain unique len) = event.sent_again unique
-outcome_of (outcome.Written unique errno) = event.written unique (result_of errno)
-outcome_of (outcome.Settled unique errno) = event.settled unique (result_of errno)
+outcome_of (outcome.Written unique result) = event.written unique result
+outcome_of (outcome.Settled unique result) = event.settled unique result
 outcome_of (outcome.Interrupted call effect) = event.interrupted call effect
 outcome_of (outcome.Now clock) = event.now clock
 outcome_of outcome.Dropped = event.dropped

@@ -2,7 +2,7 @@
 
 use fk_kernel::Call;
 use fk_wire::Opcode;
-use fuse_spec::{IntrEffect, Taken};
+use fuse_spec::{IntrEffect, Taken, WriteResult};
 
 /// What is read from the kernel's lists, and goes into the request link.
 #[derive(Clone, Copy, Debug, PartialEq, Eq)]
@@ -78,11 +78,11 @@ pub enum Outcome {
     },
     Written {
         unique: u64,
-        errno: u32,
+        result: WriteResult,
     },
     Settled {
         unique: u64,
-        errno: u32,
+        result: WriteResult,
     },
     /// What the signal did to the call's request.
     Interrupted {

@@ -14,7 +14,7 @@ use crate::world::WorldIn;
 use std::alloc::Allocator;
 
 /// Runs the events one after another. The records of each are its outcome or refusal, and then the answers that it
-/// gave, in rising call number.
+/// gave, in rising call number. This carries the headline: whatever the events, there is a run of a plain world with these records.
 ///
 /// # Errors
 ///
@@ -29,7 +29,7 @@ pub fn run<A: Allocator + Copy>(
     ensures err { IfErr result (λ k. k < length events.now) }
     ensures full { OnErr result (vec_capacity records.old < vec_len records.old + (length world.old.kernel.vfs.answers + length world.old.kernel.vfs.calls) + 2 * length events.now) }
 {
-    world.is_sound();
+    world.keeps_protocol();
     for (k, event) in events.iter().enumerate() {
         if !run_one(world, event, records) {
             return Err(k);
@@ -58,7 +58,7 @@ fn run_one<A: Allocator + Copy>(
     ensures ran { IsTrue result → (added : List (RecordValue A)) × (records.new.items ≡ records.old.items ++ added) × Recorded world.old (event_of event.now ∷ []) (map record_of added) world.new }
     ensures room { IsTrue result → vec_len records.new + (length world.new.kernel.vfs.answers + length world.new.kernel.vfs.calls) + vec_capacity records.old ≤ vec_len records.old + (length world.old.kernel.vfs.answers + length world.old.kernel.vfs.calls) + 2 + vec_capacity records.new }
 {
-    world.is_sound();
+    world.keeps_protocol();
     let Some(room) = most_records(world) else {
         return false;
     };
@@ -83,7 +83,7 @@ fn collect_all<A: Allocator + Copy>(world: &mut WorldIn<A>, records: &mut Vec<Re
     ensures len { vec_len records.new ≡ vec_len records.old + length world.old.kernel.vfs.answers }
     ensures capacity { vec_capacity records.old ≤ vec_capacity records.new }
 {
-    world.is_sound();
+    world.keeps_protocol();
     while let Some((call, answer)) = world.collect() {
         add(records, Record::Answered { call, answer });
     }

@@ -1,34 +1,35 @@
 //! The world.
 
-ghost use Rattle.std.specs.Prelude.{◌≡◌, ◌≤◌, ◌<◌, ◌++◌, ◌∷◌, [], ℕ, false, OnErr, IfOk, IfErr, IfNone, IfSome, length, option_map, slice_get};
+ghost use Rattle.std.specs.Prelude.{◌≡◌, ◌≤◌, ◌<◌, ◌++◌, ◌∷◌, [], ℕ, List, false, OnErr, IfOk, IfErr, IfNone, IfSome, length, option_map, slice_get};
 ghost use Rattle.std.specs.Vec.{vec_len, vec_capacity};
 ghost use Rattle.fuse_spec.specs.Events as event;
 ghost use Rattle.fuse_spec.specs.Maps.{remove};
 ghost use Rattle.fuse_spec.specs.Steps.{Happens, is_past, IsRefused, RefusedWith};
 ghost use Rattle.fuse_spec.specs.Worlds.{World as WorldState, first_world};
-ghost use Rattle.fuse_spec.specs.Plain.{first_plain};
-ghost use Rattle.fuse_spec.specs.Alike.{Alike};
+ghost use Rattle.fuse_spec.specs.Counts.{Keeps};
+ghost use Rattle.fuse_spec.specs.Plain.{Plain, first_plain};
+ghost use Rattle.fuse_spec.specs.Runs.{Refines, plain_handed_out};
 ghost use Rattle.fuse_spec.specs.declared.Refusal.TheVariants.{NoMemory};
 ghost use Rattle.fuse_theorem.specs.Reached.{IsReached};
 ghost use Rattle.fk_syscalls.specs.Values.{call_of, answer_of};
-ghost use Rattle.fuse_theorem.specs.AsksServed.{AsksServed};
-ghost use Rattle.fw_world.specs.Frames.{IsLastFrame};
-ghost use Rattle.fw_world.specs.Values.{NeedsNoMemory, counted_nodes, event_of, held_nodes, outcome_of, read_of, refusal_for, result_of, with_copy};
+ghost use Rattle.fk_wire.specs.declared.opcode.Opcode.{Opcode as OpcodeValue};
+ghost use Rattle.fuse_frames.specs.ReplyTies.{SaysReply};
+ghost use Rattle.fuse_frames.specs.RequestTies.{IsRequestFrame, asked_opcode};
+ghost use Rattle.fw_world.specs.Frames.{IsLastFrame, IsShown};
+ghost use Rattle.fw_world.specs.Runs.{StepsAs};
+ghost use Rattle.fw_world.specs.Values.{counted_nodes, event_of, held_nodes, outcome_of, read_of, refusal_for, with_copy};
 
 use crate::event::{Event, Outcome, Pick};
 use fk_kernel::{Answer, Call, Kernel};
+use fk_wire::Opcode;
 use fs_server::{Server, ServerFault};
 use fuse_frames::{ReplyCopy, RequestFrame};
-use fuse_spec::{Refusal, ReplyResult, WriteResult};
+use fuse_spec::{Refusal, ReplyResult};
 use std::alloc::{Allocator, Global};
 use std::marker::Model;
 
 /// The longest validity of a name, a day in milliseconds (this project's rule).
 const MAX_VALIDITY: u64 = 86_400_000;
-
-const ENOENT: u32 = 2;
-
-const EINVAL: u32 = 22;
 
 /// Which frame the last step put on a link.
 #[derive(Clone, Copy, Debug, PartialEq, Eq)]
@@ -74,8 +75,8 @@ impl<A: Allocator + Copy> WorldIn<A> {
     /// `NoMemory`.
     pub fn new(alloc: A) -> Result<WorldIn<A>, Refusal>
         ensures first { IfOk result (λ world. world ≡ first_world) }
-        ensures alike { IfOk result (λ world. Alike world first_plain) }
-        ensures served { AsksServed first_plain }
+        ensures refines { IfOk result (λ world. Refines world first_plain) }
+        ensures refusal { IfErr result (λ refusal. refusal ≡ NoMemory) }
     {
         let Ok(server) = Server::new(alloc) else {
             return Err(Refusal::NoMemory);
@@ -94,14 +95,24 @@ impl<A: Allocator + Copy> WorldIn<A> {
     ///
     /// # Errors
     ///
-    /// Each event has its refusals in the order in which the definitions judge them, with `NoMemory` last; but where a `Take` finds no
-    /// room on the reply link, it does not look whether a number for a copy is left. `Settle`, `Interrupt`, `Tick`, `DropName`,
-    /// `Evict` and `Abort` take no memory.
+    /// Each event has its refusals in the order in which `Steps.antt` of the definitions judges them. `NoMemory` is the last of them:
+    /// nothing else refuses the event, and `Settle`, `Interrupt`, `Tick`, `DropName`, `Evict` and `Abort` never get it.
     pub fn step(&mut self, event: &Event<'_>) -> Result<Outcome, Refusal>
         ensures err { OnErr result (self.new ≡ self.old) }
         ensures refusal { IfErr result (RefusedWith self.old (event_of event.now)) }
-        ensures memory { NeedsNoMemory event.now → IfErr result (IsRefused self.old (event_of event.now)) }
         ensures happens { IfOk result (λ outcome. Happens self.old (event_of event.now) (outcome_of outcome) self.new) }
+        ensures shows { IfOk result (IsShown self.new) }
+        ensures refines { IfOk result (λ outcome. StepsAs self.old (event_of event.now) (outcome_of outcome) self.new) }
+    {
+        self.keeps_protocol();
+        self.happen(event)
+    }
+
+    fn happen(&mut self, event: &Event<'_>) -> Result<Outcome, Refusal>
+        ensures err { OnErr result (self.new ≡ self.old) }
+        ensures refusal { IfErr result (RefusedWith self.old (event_of event.now)) }
+        ensures happens { IfOk result (λ outcome. Happens self.old (event_of event.now) (outcome_of outcome) self.new) }
+        ensures shows { IfOk result (IsShown self.new) }
     {
         self.last_put = LastPut::Nothing;
         match event {
@@ -129,7 +140,9 @@ impl<A: Allocator + Copy> WorldIn<A> {
         ensures answer { option_map (λ r. (r.0, answer_of r.1)) result ≡ slice_get self.old.kernel.vfs.answers 0 }
         ensures none { IfNone result (self.new ≡ self.old) }
         ensures taken { IfSome result (λ r. self.new ≡ record self.old { kernel = record self.old.kernel { vfs = record self.old.kernel.vfs { answers = remove self.old.kernel.vfs.answers r.0 } } }) }
+        ensures refines { IfSome result (λ r. (p : Plain) → Refines self.old p → Refines self.new (plain_handed_out p r.0)) }
     {
+        self.keeps_protocol();
         self.kernel.collect()
     }
 
@@ -147,9 +160,12 @@ impl<A: Allocator + Copy> WorldIn<A> {
         self.kernel.unanswered()
     }
 
-    /// Events led to the world.
-    pub(crate) fn is_sound(&self)
-        ensures { IsReached self.now }
+    /// A call without effect, for a caller's proof: the world refines some plain world, and the reference protocol holds of it. No state
+    /// that events lead to is left out: it is reached from the first world.
+    pub fn keeps_protocol(&self)
+        ensures reached { IsReached self.now }
+        ensures refines { (p : Plain) × Refines self.now p }
+        ensures keeps { Keeps self.now }
     {
         // A field is touched so that the type's invariant is at hand.
         let _ = &self.kernel;
@@ -206,6 +222,7 @@ impl<A: Allocator + Copy> WorldIn<A> {
         ensures err { OnErr result (self.new ≡ self.old) }
         ensures refusal { IfErr result (RefusedWith self.old (event.mount found_ms missing_ms)) }
         ensures happens { IfOk result (λ outcome. Happens self.old (event.mount found_ms missing_ms) (outcome_of outcome) self.new) }
+        ensures shows { IfOk result (IsShown self.new) }
     {
         if found_ms > MAX_VALIDITY || missing_ms > MAX_VALIDITY {
             return Err(Refusal::BadTime);
@@ -222,10 +239,14 @@ impl<A: Allocator + Copy> WorldIn<A> {
         ensures err { OnErr result (self.new ≡ self.old) }
         ensures refusal { IfErr result (RefusedWith self.old (event.call (call_of call.now))) }
         ensures happens { IfOk result (λ outcome. Happens self.old (event.call (call_of call.now)) (outcome_of outcome) self.new) }
+        ensures shows { IfOk result (IsShown self.new) }
     {
         let call = match self.kernel.begin(call) {
             Ok(call) => call,
-            Err(refusal) => return Err(refusal),
+            Err(refusal) => {
+                within(&self.kernel, &self.server);
+                return Err(refusal);
+            }
         };
         within(&self.kernel, &self.server);
         Ok(Outcome::Begun { call })
@@ -235,6 +256,7 @@ impl<A: Allocator + Copy> WorldIn<A> {
         ensures err { OnErr result (self.new ≡ self.old) }
         ensures refusal { IfErr result (RefusedWith self.old (read_of pick)) }
         ensures happens { IfOk result (λ outcome. Happens self.old (read_of pick) (outcome_of outcome) self.new) }
+        ensures shows { IfOk result (IsShown self.new) }
     {
         match pick {
             Pick::Interrupt => self.read_interrupt(),
@@ -247,8 +269,10 @@ impl<A: Allocator + Copy> WorldIn<A> {
         ensures err { OnErr result (self.new ≡ self.old) }
         ensures refusal { IfErr result (RefusedWith self.old event.read_interrupt) }
         ensures happens { IfOk result (λ outcome. Happens self.old event.read_interrupt (outcome_of outcome) self.new) }
+        ensures shows { IfOk result (IsShown self.new) }
     {
         if self.requests.reserve(1).is_err() {
+            within(&self.kernel, &self.server);
             return Err(
                 self.kernel
                     .read_interrupt_refusal()
@@ -257,12 +281,13 @@ impl<A: Allocator + Copy> WorldIn<A> {
         }
         let frame = match self.kernel.read_interrupt() {
             Ok(frame) => frame,
-            Err(refusal) => return Err(refusal),
+            Err(refusal) => {
+                within(&self.kernel, &self.server);
+                return Err(refusal);
+            }
         };
-        let (unique, opcode) = frame.head();
-        let len = frame.bytes().len();
-        append(&mut self.requests, frame);
         within(&self.kernel, &self.server);
+        let (unique, opcode, len) = put_request(&mut self.requests, frame);
         self.last_put = LastPut::Request;
         Ok(Outcome::Read {
             unique,
@@ -275,18 +300,21 @@ impl<A: Allocator + Copy> WorldIn<A> {
         ensures err { OnErr result (self.new ≡ self.old) }
         ensures refusal { IfErr result (RefusedWith self.old (event.read_pending place)) }
         ensures happens { IfOk result (λ outcome. Happens self.old (event.read_pending place) (outcome_of outcome) self.new) }
+        ensures shows { IfOk result (IsShown self.new) }
     {
         if self.requests.reserve(1).is_err() {
+            within(&self.kernel, &self.server);
             return Err(self.kernel.read_refusal(place).unwrap_or(Refusal::NoMemory));
         }
         let frame = match self.kernel.read_pending(place) {
             Ok(frame) => frame,
-            Err(refusal) => return Err(refusal),
+            Err(refusal) => {
+                within(&self.kernel, &self.server);
+                return Err(refusal);
+            }
         };
-        let (unique, opcode) = frame.head();
-        let len = frame.bytes().len();
-        append(&mut self.requests, frame);
         within(&self.kernel, &self.server);
+        let (unique, opcode, len) = put_request(&mut self.requests, frame);
         self.last_put = LastPut::Request;
         Ok(Outcome::Read {
             unique,
@@ -299,8 +327,10 @@ impl<A: Allocator + Copy> WorldIn<A> {
         ensures err { OnErr result (self.new ≡ self.old) }
         ensures refusal { IfErr result (RefusedWith self.old (event.read_forgets count)) }
         ensures happens { IfOk result (λ outcome. Happens self.old (event.read_forgets count) (outcome_of outcome) self.new) }
+        ensures shows { IfOk result (IsShown self.new) }
     {
         if self.requests.reserve(1).is_err() {
+            within(&self.kernel, &self.server);
             return Err(
                 self.kernel
                     .read_forgets_refusal(count)
@@ -309,12 +339,13 @@ impl<A: Allocator + Copy> WorldIn<A> {
         }
         let frame = match self.kernel.read_forgets(count) {
             Ok(frame) => frame,
-            Err(refusal) => return Err(refusal),
+            Err(refusal) => {
+                within(&self.kernel, &self.server);
+                return Err(refusal);
+            }
         };
-        let (unique, opcode) = frame.head();
-        let len = frame.bytes().len();
-        append(&mut self.requests, frame);
         within(&self.kernel, &self.server);
+        let (unique, opcode, len) = put_request(&mut self.requests, frame);
         self.last_put = LastPut::Request;
         Ok(Outcome::Read {
             unique,
@@ -327,6 +358,7 @@ impl<A: Allocator + Copy> WorldIn<A> {
         ensures err { OnErr result (self.new ≡ self.old) }
         ensures refusal { IfErr result (IsRefused self.old (event.intr call fatal)) }
         ensures happens { IfOk result (λ outcome. Happens self.old (event.intr call fatal) (outcome_of outcome) self.new) }
+        ensures shows { IfOk result (IsShown self.new) }
     {
         let effect = match self.kernel.interrupt(call, fatal) {
             Ok(effect) => effect,
@@ -340,6 +372,7 @@ impl<A: Allocator + Copy> WorldIn<A> {
         ensures err { OnErr result (self.new ≡ self.old) }
         ensures refusal { IfErr result (IsRefused self.old event.abort) }
         ensures happens { IfOk result (λ outcome. Happens self.old event.abort (outcome_of outcome) self.new) }
+        ensures shows { IfOk result (IsShown self.new) }
     {
         if let Err(refusal) = self.kernel.abort() {
             return Err(refusal);
@@ -353,6 +386,7 @@ impl<A: Allocator + Copy> WorldIn<A> {
         ensures err { OnErr result (self.new ≡ self.old) }
         ensures refusal { IfErr result (IsRefused self.old (event.tick ms)) }
         ensures happens { IfOk result (λ outcome. Happens self.old (event.tick ms) (outcome_of outcome) self.new) }
+        ensures shows { IfOk result (IsShown self.new) }
     {
         let clock = match self.kernel.tick(ms) {
             Ok(clock) => clock,
@@ -365,6 +399,7 @@ impl<A: Allocator + Copy> WorldIn<A> {
         ensures err { OnErr result (self.new ≡ self.old) }
         ensures refusal { IfErr result (IsRefused self.old (event.drop_name directory name.now)) }
         ensures happens { IfOk result (λ outcome. Happens self.old (event.drop_name directory name.now) (outcome_of outcome) self.new) }
+        ensures shows { IfOk result (IsShown self.new) }
     {
         if let Err(refusal) = self.kernel.drop_name(directory, name) {
             return Err(refusal);
@@ -376,6 +411,7 @@ impl<A: Allocator + Copy> WorldIn<A> {
         ensures err { OnErr result (self.new ≡ self.old) }
         ensures refusal { IfErr result (IsRefused self.old (event.evict node)) }
         ensures happens { IfOk result (λ outcome. Happens self.old (event.evict node) (outcome_of outcome) self.new) }
+        ensures shows { IfOk result (IsShown self.new) }
     {
         let count = match self.kernel.evict(node) {
             Ok(count) => count,
@@ -388,19 +424,24 @@ impl<A: Allocator + Copy> WorldIn<A> {
         ensures err { OnErr result (self.new ≡ self.old) }
         ensures refusal { IfErr result (RefusedWith self.old (event.take place)) }
         ensures happens { IfOk result (λ outcome. Happens self.old (event.take place) (outcome_of outcome) self.new) }
+        ensures shows { IfOk result (IsShown self.new) }
     {
         let place = place as usize;
         if place >= self.requests.len() {
             return Err(Refusal::NoSuch);
         }
-        // An INTERRUPT may be answered at once.
-        if self.replies.reserve(1).is_err() {
+        // Only an INTERRUPT may be answered at once, and only an answer wants room on its link.
+        let has_room = self.replies.reserve(1).is_ok();
+        if !has_room && self.server.take_answers(self.requests[place].bytes()) {
+            within(&self.kernel, &self.server);
             return Err(Refusal::NoMemory);
         }
-        self.server.within();
         let took = match self.server.take(self.requests[place].bytes()) {
             Ok(took) => took,
-            Err(fault) => return Err(refusal_of(fault)),
+            Err(fault) => {
+                within(&self.kernel, &self.server);
+                return Err(refusal_of(fault));
+            }
         };
         let _request = self.requests.remove(place);
         within(&self.kernel, &self.server);
@@ -416,8 +457,10 @@ impl<A: Allocator + Copy> WorldIn<A> {
         ensures err { OnErr result (self.new ≡ self.old) }
         ensures refusal { IfErr result (RefusedWith self.old (event.perform unique)) }
         ensures happens { IfOk result (λ outcome. Happens self.old (event.perform unique) (outcome_of outcome) self.new) }
+        ensures shows { IfOk result (IsShown self.new) }
     {
         if self.replies.reserve(1).is_err() {
+            within(&self.kernel, &self.server);
             return Err(
                 self.server
                     .perform_refusal(unique)
@@ -426,15 +469,17 @@ impl<A: Allocator + Copy> WorldIn<A> {
         }
         let done = match self.server.perform(unique) {
             Ok(done) => done,
-            Err(refusal) => return Err(refusal),
+            Err(refusal) => {
+                within(&self.kernel, &self.server);
+                return Err(refusal);
+            }
         };
         within(&self.kernel, &self.server);
         let errno = done.errno;
         let Some(first) = done.copy else {
             return Ok(Outcome::Lost { unique, errno });
         };
-        let len = first.bytes().len();
-        append(&mut self.replies, first);
+        let len = put_reply(&mut self.replies, first);
         self.last_put = LastPut::Reply;
         Ok(Outcome::Done { unique, errno, len })
     }
@@ -443,8 +488,10 @@ impl<A: Allocator + Copy> WorldIn<A> {
         ensures err { OnErr result (self.new ≡ self.old) }
         ensures refusal { IfErr result (RefusedWith self.old (event.again unique)) }
         ensures happens { IfOk result (λ outcome. Happens self.old (event.again unique) (outcome_of outcome) self.new) }
+        ensures shows { IfOk result (IsShown self.new) }
     {
         if self.replies.reserve(1).is_err() {
+            within(&self.kernel, &self.server);
             return Err(
                 self.server
                     .again_refusal(unique)
@@ -453,11 +500,13 @@ impl<A: Allocator + Copy> WorldIn<A> {
         }
         let copy = match self.server.again(unique) {
             Ok(copy) => copy,
-            Err(refusal) => return Err(refusal),
+            Err(refusal) => {
+                within(&self.kernel, &self.server);
+                return Err(refusal);
+            }
         };
-        let len = copy.bytes().len();
-        append(&mut self.replies, copy);
         within(&self.kernel, &self.server);
+        let len = put_reply(&mut self.replies, copy);
         self.last_put = LastPut::Reply;
         Ok(Outcome::SentAgain { unique, len })
     }
@@ -466,6 +515,7 @@ impl<A: Allocator + Copy> WorldIn<A> {
         ensures err { OnErr result (self.new ≡ self.old) }
         ensures refusal { IfErr result (RefusedWith self.old (event.write place)) }
         ensures happens { IfOk result (λ outcome. Happens self.old (event.write place) (outcome_of outcome) self.new) }
+        ensures shows { IfOk result (IsShown self.new) }
     {
         let place = place as usize;
         if place >= self.replies.len() {
@@ -473,6 +523,7 @@ impl<A: Allocator + Copy> WorldIn<A> {
         }
         let copy = &self.replies[place];
         if self.results.reserve(1).is_err() {
+            within(&self.kernel, &self.server);
             return Err(
                 self.kernel
                     .write_refusal(copy.bytes())
@@ -483,10 +534,13 @@ impl<A: Allocator + Copy> WorldIn<A> {
         let unique = copy.unique();
         let written = match self.kernel.write(copy.bytes()) {
             Ok(written) => written,
-            Err(refusal) => return Err(refusal),
+            Err(refusal) => {
+                within(&self.kernel, &self.server);
+                return Err(refusal);
+            }
         };
-        let _copy = self.replies.remove(place);
         within(&self.kernel, &self.server);
+        let _copy = self.replies.remove(place);
         append(
             &mut self.results,
             ReplyResult {
@@ -497,7 +551,7 @@ impl<A: Allocator + Copy> WorldIn<A> {
         );
         Ok(Outcome::Written {
             unique,
-            errno: errno_of(written),
+            result: written,
         })
     }
 
@@ -505,6 +559,7 @@ impl<A: Allocator + Copy> WorldIn<A> {
         ensures err { OnErr result (self.new ≡ self.old) }
         ensures refusal { IfErr result (IsRefused self.old (event.settle place)) }
         ensures happens { IfOk result (λ outcome. Happens self.old (event.settle place) (outcome_of outcome) self.new) }
+        ensures shows { IfOk result (IsShown self.new) }
     {
         let place = place as usize;
         if place >= self.results.len() {
@@ -517,7 +572,7 @@ impl<A: Allocator + Copy> WorldIn<A> {
         let _settled = self.results.remove(place);
         Ok(Outcome::Settled {
             unique: settled.unique,
-            errno: errno_of(settled.result),
+            result: settled.result,
         })
     }
 }
@@ -545,6 +600,34 @@ fn append<T: Drop, A: Allocator>(list: &mut Vec<T, A>, value: T)
     let _ = list.push(value);
 }
 
+/// Puts the frame of a request that was read onto its link, which has room, and tells its unique, its opcode and its length.
+fn put_request<A: Allocator>(
+    requests: &mut Vec<RequestFrame<A>, A>,
+    frame: RequestFrame<A>,
+) -> (u64, Opcode, usize)
+    requires { vec_len requests.old < vec_capacity requests.old }
+    ensures items { requests.new.items ≡ requests.old.items ++ frame ∷ [] }
+    ensures unique { result.0 ≡ frame.unique }
+    ensures opcode { result.1 ≡ asked_opcode frame.body }
+    ensures len { (bytes : List ℕ) × IsRequestFrame bytes frame × (result.2 ≡ length bytes) }
+{
+    let (unique, opcode) = frame.head();
+    let len = frame.bytes().len();
+    append(requests, frame);
+    (unique, opcode, len)
+}
+
+/// Puts a copy of a reply onto its link, which has room, and tells its length.
+fn put_reply<A: Allocator>(replies: &mut Vec<ReplyCopy<A>, A>, copy: ReplyCopy<A>) -> usize
+    requires { vec_len replies.old < vec_capacity replies.old }
+    ensures items { replies.new.items ≡ replies.old.items ++ copy ∷ [] }
+    ensures len { (opcode : OpcodeValue) × (bytes : List ℕ) × SaysReply opcode bytes copy.unique copy.wire × (result ≡ length bytes) }
+{
+    let len = copy.bytes().len();
+    append(replies, copy);
+    len
+}
+
 /// No counter of a world with this kernel and this server is past its end.
 fn within<A: Allocator + Copy>(kernel: &Kernel<A>, server: &Server<A>)
     ensures { (world : WorldState) → world.kernel ≡ kernel.now → world.server ≡ server.now → is_past world ≡ false }
@@ -553,20 +636,9 @@ fn within<A: Allocator + Copy>(kernel: &Kernel<A>, server: &Server<A>)
     server.within();
 }
 
-/// The error number of a reply's result: 0, ENOENT or EINVAL.
-fn errno_of(written: WriteResult) -> u32
-    ensures { result_of result ≡ written }
-{
-    match written {
-        WriteResult::Accepted => 0,
-        WriteResult::NoEntry => ENOENT,
-        WriteResult::Invalid => EINVAL,
-    }
-}
-
 /// The copy of a reply goes onto its link, if there is one.
 fn append_if_any<A: Allocator>(list: &mut Vec<ReplyCopy<A>, A>, copy: Option<ReplyCopy<A>>)
-    requires { vec_len list.old < vec_capacity list.old }
+    requires { IfSome copy (λ copy. vec_len list.old < vec_capacity list.old) }
     ensures { list.new.items ≡ with_copy list.old.items copy }
 {
     if let Some(copy) = copy {

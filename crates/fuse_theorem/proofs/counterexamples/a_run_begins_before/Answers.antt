@@ -1,9 +1,9 @@
-use Rattle.std.proofs.Common.{◌≡◌, ℕ, List, [], ◌∷◌, ◌++◌, Ok, inl, inr, refl, ap, sym, ◌∙◌, arith}
+use Rattle.std.proofs.Common.{◌≡◌, List, [], ◌∷◌, ◌++◌, Ok, inl, inr, refl, ap, sym, ◌∙◌, arith}
 use Rattle.fuse_spec.specs.Events.{Outcome}
 use Rattle.fuse_spec.specs.Events as event
 use Rattle.fuse_spec.specs.Steps.{Stepped}
 use Rattle.fuse_spec.specs.Plain.{Plain, first_plain}
-use Rattle.fuse_spec.specs.Records.{Record, collected, outcome, refused}
+use Rattle.fuse_spec.specs.Records.{Record, outcome, refused}
 use Rattle.fuse_spec.specs.Runs.{Accepts, Refuses}
 use Rattle.fuse_spec.specs.Worlds.{World, first_world, after_tick}
 use Rattle.fuse_theorem.specs.Counterexamples.{a_millisecond_later}

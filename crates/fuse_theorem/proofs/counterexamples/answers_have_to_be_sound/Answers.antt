@@ -1,7 +1,7 @@
-use Rattle.std.proofs.Common.{ℕ, [], ◌∷◌, refl, arith}
+use Rattle.std.proofs.Common.{[], ◌∷◌, refl, arith}
 use Rattle.fuse_spec.specs.Answers.{failed}
 use Rattle.fuse_spec.specs.Events as event
-use Rattle.fuse_spec.specs.Records.{Record, collected, answered, outcome}
+use Rattle.fuse_spec.specs.Records.{collected, answered, outcome}
 use Rattle.fuse_spec.specs.Worlds.{World, after_tick, after_abort}
 use Rattle.fuse_theorem.specs.Counterexamples.{with_an_early_answer}
 use Rattle.fuse_theorem.specs.Recorded.{none_left, one_accepted}

@@ -1,4 +1,4 @@
-use Rattle.std.proofs.Common.{◌≡◌, ℕ, ◌+◌, ◌||◌, Bool, true, false, cond, [], ◌∷◌, Option, Some, None, Ok, Err, nat_lt, refl, ap, sym, ◌∙◌, arith}
+use Rattle.std.proofs.Common.{◌≡◌, ℕ, ◌+◌, ◌||◌, Bool, true, false, cond, [], ◌∷◌, Option, Some, None, Ok, Err, nat_lt, refl, ap, ◌∙◌, arith}
 use Rattle.std.specs.Prelude.{◌≤◌, MatchOption}
 use Rattle.fuse_spec.specs.Events as event
 use Rattle.fuse_spec.specs.Maps.{get}

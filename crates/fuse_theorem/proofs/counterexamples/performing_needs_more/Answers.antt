@@ -1,4 +1,4 @@
-use Rattle.std.proofs.Common.{◌≡◌, ℕ, true, false, true≢false, refl, sym, [], ◌∷◌}
+use Rattle.std.proofs.Common.{ℕ, false, true≢false, refl, sym, [], ◌∷◌}
 use Rattle.fuse_spec.specs.Messages.{asks}
 use Rattle.fuse_spec.specs.Operations.{getattr}
 use Rattle.fuse_spec.specs.Plain.{first_plain}
