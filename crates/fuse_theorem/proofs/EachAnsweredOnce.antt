@@ -32,14 +32,14 @@ collected_unanswered w sound events records after (one_accepted v event o mid re
     (collected_unanswered (collected mid) (collected_sound mid stay.sound) rest more last recorded call a (record { begun = now.begun; not_waiting = now.not_waiting; no_answer = refl })))
 
 -- A call that has an answer is collected with it.
-answered_collected : (w : World) → AnswersSound w.kernel.vfs → (call : ℕ) (a : Answer) → get w.kernel.vfs.answers call ≡ Some a → IsCollected (collected w).kernel.vfs call
+pub answered_collected : (w : World) → AnswersSound w.kernel.vfs → (call : ℕ) (a : Answer) → get w.kernel.vfs.answers call ≡ Some a → IsCollected (collected w).kernel.vfs call
 answered_collected w sound call a at = record { begun = begun (nat_lt call w.kernel.vfs.next_call) refl; not_waiting = sound.one call a at; no_answer = refl }
   where
     begun : (b : Bool) → nat_lt call w.kernel.vfs.next_call ≡ b → call < w.kernel.vfs.next_call
     begun true e = grind (arith, nat_tests, e)
     begun false e = absurd (cc (at, sound.answers_below call (grind (arith, nat_tests, e))))
 
-collected_rooted : (w : World) → IsRooted w.kernel.vfs → IsRooted (collected w).kernel.vfs
+pub collected_rooted : (w : World) → IsRooted w.kernel.vfs → IsRooted (collected w).kernel.vfs
 collected_rooted w rooted = record { root = rooted.root; answers = tt }
 
 -- Whatever is recorded of a list of events, each call is answered at most once.

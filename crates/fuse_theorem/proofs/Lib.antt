@@ -176,3 +176,7 @@ pub mod SetMarks
 pub mod EmptyQueues
 pub mod WithAnswers
 pub mod NoPremise
+pub mod SessionsRun
+pub mod SessionsAnswered
+pub mod LostOnce
+pub mod AbortFollows
