@@ -8,3 +8,7 @@ pub mod Copies
 pub mod Collecting
 pub mod Recording
 pub mod Interrupts
+pub mod Sending
+pub mod Losing
+pub mod OverLinks
+pub mod InOrder

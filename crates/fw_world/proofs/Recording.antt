@@ -3,7 +3,7 @@ use Rattle.std.proofs.Common.{◌≡◌, ℕ, ◌+◌, ◌<◌, ◌≤◌, List,
 use Rattle.std.proofs.lemmas.List.{append_assoc, append-nil, map-append, take_more, take_all}
 use Rattle.fuse_spec.specs.declared.Refusal.{Refusal}
 use Rattle.fuse_spec.specs.Worlds.{World}
-use Rattle.fuse_spec.specs.Events.{Event, Outcome}
+use Rattle.fuse_spec.specs.Events.{Event}
 use Rattle.fuse_spec.specs.Records as records
 use Rattle.fuse_spec.specs.Records.{answers_of, collected}
 use Rattle.fuse_spec.specs.Steps.{Happens, RefusedWith}
@@ -95,7 +95,7 @@ module _ {A : Type 0} (old : World) (here : IsReached old) (events : List EventV
   Comes new has = (added : List (Record A)) × (has ≡ had ++ added) × RunsAs old (map event_of events) (map record_of added) new
 
   -- All that is sound with the plain world that is known is sound with any other that is alike.
-  sound_with : (p : Plain) → Alike old p → AsksServed p → AllSound old p
+  pub sound_with : (p : Plain) → Alike old p → AsksServed p → AllSound old p
   sound_with p same served =
       let all = here.sound in
       let both = all.both in

@@ -15,6 +15,8 @@ ghost use Rattle.fuse_theorem.specs.AsksServed.{AsksServed};
 ghost use Rattle.fw_world.specs.Frames.{IsLastFrame};
 ghost use Rattle.fw_world.specs.Values.{NeedsNoMemory, counted_nodes, event_of, held_nodes, outcome_of, read_of, refusal_for, result_of, with_copy};
 
+mod last_sent;
+
 use crate::event::{Event, Outcome, Pick};
 use fk_kernel::{Answer, Call, Kernel};
 use fs_server::{Server, ServerFault};
