@@ -52,6 +52,7 @@ pub fn write_result<A: Allocator>(
     ensures err { OnErr result (out.new.items ≡ out.old.items) }
     ensures fault { IfErr result (ResultRefusalIs error) }
     ensures room { vec_len out.old + 16 ≤ vec_capacity out.old → result ≢ Err MemoryFault }
+    ensures capacity { vec_capacity out.old ≤ vec_capacity out.new }
 {
     if !is_error_number(error) {
         return Err(WireFault::ErrorRange);

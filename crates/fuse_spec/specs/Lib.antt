@@ -38,5 +38,6 @@ pub mod Denotes
 pub mod Counts
 pub mod Alike
 pub mod Runs
+pub mod Sessions
 pub mod LockStep
 pub mod Worked

@@ -39,7 +39,7 @@ answered_collected w sound call a at = record { begun = begun (nat_lt call w.ker
     begun true e = grind (arith, nat_tests, e)
     begun false e = absurd (cc (at, sound.answers_below call (grind (arith, nat_tests, e))))
 
-collected_rooted : (w : World) → IsRooted w.kernel.vfs → IsRooted (collected w).kernel.vfs
+pub collected_rooted : (w : World) → IsRooted w.kernel.vfs → IsRooted (collected w).kernel.vfs
 collected_rooted w rooted = record { root = rooted.root; answers = tt }
 
 -- Whatever is recorded of a list of events, each call is answered at most once.

@@ -178,3 +178,7 @@ pub mod WithAnswers
 pub mod NoPremise
 pub mod CallsEnd
 pub mod Refining
+pub mod SessionsRun
+pub mod SessionsAnswered
+pub mod LostOnce
+pub mod AbortFollows

@@ -26,3 +26,4 @@ pub mod OnTheWay
 pub mod Reached
 pub mod Recorded
 pub mod Counterexamples
+pub mod SessionRecorded

@@ -144,6 +144,7 @@ nodes_text side nodes = side ++ flat_map node_words nodes ++ codes "\n"
 abbrev pub record_text : {A : Type 0} → Record A → List ℕ
 record_text (records.Outcome o) = outcome_line o ++ codes "\n"
 record_text (records.Refused r) = codes "refused " ++ decimal (refusal_number r) ++ codes " " ++ refusal_name r ++ codes "\n"
+record_text records.LinkLost = codes "link lost\n"
 record_text (records.Answered call a) = answer_text call a
 
 -- the line of a frame that was put

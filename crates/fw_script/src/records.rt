@@ -108,6 +108,7 @@ pub fn write_record<A: Allocator, W: Write>(out: &mut W, record: &Record<A>) -> 
             let number = number_of_refusal(*refusal);
             writeln!(out, "refused {number} {}", name_of_refusal(*refusal))
         }
+        Record::LinkLost => out.write_all(b"link lost\n"),
         Record::Answered { call, answer } => write_answered(out, *call, answer),
     }
 }

@@ -10,3 +10,7 @@ pub mod Recording
 pub mod Interrupts
 pub mod Wanting
 pub mod Stepping
+pub mod Sending
+pub mod Losing
+pub mod OverLinks
+pub mod InOrder

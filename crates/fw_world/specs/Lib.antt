@@ -1,3 +1,5 @@
 pub mod Values
 pub mod Runs
 pub mod Frames
+pub mod Sends
+pub mod OverLinks

@@ -75,6 +75,7 @@ outcome_of outcome.Aborted = event.aborted
 abbrev pub record_of : {A : Type 0} → Record A → record_of_run.Record
 record_of (recorded.Outcome outcome) = record_of_run.outcome (outcome_of outcome)
 record_of (recorded.Refused refusal) = record_of_run.refused refusal
+record_of recorded.LinkLost = record_of_run.link_lost
 record_of (recorded.Answered call answer) = record_of_run.answered call (answer_of answer)
 
 -- each counted node with its generation and its count, and each held one

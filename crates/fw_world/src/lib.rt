@@ -1,14 +1,19 @@
 //! One kernel, one server and the links between them, moved by events.
 #![tactic(auto)]
 
+mod envelopes;
 mod event;
+mod laws;
 mod record;
 mod runs;
+mod session;
 mod world;
 
 pub use event::{Event, Outcome, Pick};
 pub use fk_kernel::{Answer, Call, ListedName};
 pub use fuse_spec::{Attributes, IntrEffect, Kind, Refusal, Taken};
+pub use laws::lost_where_failed;
 pub use record::Record;
 pub use runs::run;
+pub use session::Session;
 pub use world::{World, WorldIn};

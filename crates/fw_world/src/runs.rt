@@ -76,7 +76,10 @@ fn run_one<A: Allocator + Copy>(
 }
 
 /// Collects and records every answer that waits.
-fn collect_all<A: Allocator + Copy>(world: &mut WorldIn<A>, records: &mut Vec<Record<A>, A>)
+pub(crate) fn collect_all<A: Allocator + Copy>(
+    world: &mut WorldIn<A>,
+    records: &mut Vec<Record<A>, A>,
+)
     requires { vec_len records.old + length world.old.kernel.vfs.answers ≤ vec_capacity records.old }
     ensures world { world.new ≡ collected world.old }
     ensures records { (added : List (RecordValue A)) × (records.new.items ≡ records.old.items ++ added) × (map record_of added ≡ answers_of world.old.kernel.vfs.answers) }
@@ -90,7 +93,7 @@ fn collect_all<A: Allocator + Copy>(world: &mut WorldIn<A>, records: &mut Vec<Re
 }
 
 /// Appends a record where there is room for it.
-fn add<A: Allocator>(records: &mut Vec<Record<A>, A>, value: Record<A>)
+pub(crate) fn add<A: Allocator>(records: &mut Vec<Record<A>, A>, value: Record<A>)
     requires { vec_len records.old < vec_capacity records.old }
     ensures items { records.new.items ≡ records.old.items ++ value ∷ [] }
     ensures len { vec_len records.new ≡ vec_len records.old + 1 }

@@ -19,6 +19,8 @@ ghost use Rattle.fw_world.specs.Frames.{IsLastFrame, IsShown};
 ghost use Rattle.fw_world.specs.Runs.{StepsAs};
 ghost use Rattle.fw_world.specs.Values.{counted_nodes, event_of, held_nodes, outcome_of, read_of, refusal_for, with_copy};
 
+mod last_sent;
+
 use crate::event::{Event, Outcome, Pick};
 use fk_kernel::{Answer, Call, Kernel};
 use fk_wire::Opcode;

@@ -1,4 +1,3 @@
-use Rattle.std.proofs.Common.{refl}
 use Rattle.fw_world.proofs.Parts.{world_of}
 use Rattle.fw_world.proofs.Made.{aborted}
 use Rattle.fw_world.proofs.Interrupts.{abort_refused}

@@ -1,0 +1,4 @@
+pub mod Cuts
+pub mod Spellings
+pub mod Splitting
+pub mod Fronts

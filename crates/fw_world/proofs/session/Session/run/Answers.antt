@@ -1,0 +1,31 @@
+use Rattle.std.proofs.Common.{take, arith}
+use Rattle.fw_world.specs.declared.event.Event.TheVariants.{Mount}
+use Rattle.fw_world.specs.OverLinks.{session_of}
+use Rattle.fw_world.proofs.OverLinks.{all_over, comes_over, none_ran, one_at_most, one_more, ran_as_before}
+use Rattle.fw_world.proofs.session.Session.run.Goals as goal
+
+pub loop-k-init : goal.loop-k-init
+loop-k-init g c = (none_ran g.L.Link.carries g.L.Link.failed (session_of c.args.self.now.world c.args.self.now.is_lost) c.args.self.now.link c.args.events.now c.args.records.now.items, omega (arith))
+
+pub loop-k-preserved : goal.loop-k-preserved
+loop-k-preserved g c = (
+  one_more g.L.Link.carries g.L.Link.failed (session_of c.args.self.now.world c.args.self.now.is_lost) c.args.self.now.link c.args.events.now c.args.records.now.items (session_of c.loop-k.self.world c.loop-k.self.is_lost) c.loop-k.self.link c.loop-k.records.items c.loop-k.k
+      (Mount 0 0) (session_of c.run_one.new.self.world c.run_one.new.self.is_lost) c.run_one.new.self.link c.run_one.new.records.items c.loop-k-test.true c.loop-k.invariant.0 (c.run_one.ensures.ran c.if-not-run_one.false),
+  omega (arith, c.loop-k.invariant.1, c.run_one.ensures.room c.if-not-run_one.false),
+)
+
+pub returns-then-not-run_one-clause-ran : goal.returns-then-not-run_one-clause-ran
+returns-then-not-run_one-clause-ran g c =
+    let same = c.run_one.ensures.not_run c.if-not-run_one.true in
+    comes_over g.L.Link.carries g.L.Link.failed (session_of c.args.self.now.world c.args.self.now.is_lost) c.args.self.now.link c.keeps_protocol.ensures.reached (take c.loop-k.k c.args.events.now) c.args.records.now.items (session_of c.run_one.new.self.world c.run_one.new.self.is_lost) c.run_one.new.self.link c.run_one.new.records.items
+    (ran_as_before g.L.Link.carries g.L.Link.failed (session_of c.args.self.now.world c.args.self.now.is_lost) c.args.self.now.link (take c.loop-k.k c.args.events.now) c.args.records.now.items c.loop-k.self.world c.run_one.new.self.world c.loop-k.self.is_lost c.run_one.new.self.is_lost c.loop-k.self.link c.run_one.new.self.link c.loop-k.records.items c.run_one.new.records.items same.0 same.1 same.2 same.3 c.loop-k.invariant.0)
+
+pub returns-clause-ran : goal.returns-clause-ran
+returns-clause-ran g c =
+    comes_over g.L.Link.carries g.L.Link.failed (session_of c.args.self.now.world c.args.self.now.is_lost) c.args.self.now.link c.keeps_protocol.ensures.reached c.args.events.now c.args.records.now.items (session_of c.loop-k.self.world c.loop-k.self.is_lost) c.loop-k.self.link c.loop-k.records.items
+    (all_over g.L.Link.carries g.L.Link.failed (session_of c.args.self.now.world c.args.self.now.is_lost) c.args.self.now.link c.args.events.now c.loop-k.k c.loop-k-test.false c.args.records.now.items (session_of c.loop-k.self.world c.loop-k.self.is_lost) c.loop-k.self.link c.loop-k.records.items c.loop-k.invariant.0)
+
+pub returns-then-not-run_one-clause-full : goal.returns-then-not-run_one-clause-full
+returns-then-not-run_one-clause-full g c =
+    let own = one_at_most c.args.self.now.is_lost in
+    omega (arith, own, c.loop-k.invariant.1, c.loop-k-test.true, c.run_one.ensures.full c.if-not-run_one.true)

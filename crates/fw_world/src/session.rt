@@ -1,0 +1,177 @@
+//! A world whose two sides talk over a link of bytes.
+
+ghost use Rattle.std.specs.Prelude.{◌≡◌, ◌≤◌, [], false, true, Err, IfErr, IfOk, IfNone, IfSome, OnErr, option_map, slice_get, vec_capacity};
+ghost use Rattle.fuse_spec.specs.Events.{abort, aborted};
+ghost use Rattle.fuse_spec.specs.Maps.{remove};
+ghost use Rattle.fuse_spec.specs.Plain.{first_plain};
+ghost use Rattle.fuse_spec.specs.Steps.{Happens, RefusedWith};
+ghost use Rattle.fuse_spec.specs.declared.Refusal.TheVariants.{LinkLost};
+ghost use Rattle.fuse_spec.specs.Runs.{Refines};
+ghost use Rattle.fk_syscalls.specs.Values.{answer_of};
+ghost use Rattle.fw_link.specs.Carrying.{IsEmpty};
+ghost use Rattle.fw_world.specs.Frames.{IsLastFrame};
+ghost use Rattle.fw_world.specs.Sends.{IsSent, LosesIn};
+ghost use Rattle.fw_world.specs.Values.{counted_nodes, event_of, held_nodes, outcome_of};
+
+mod lists;
+
+use crate::envelopes::{RESULT_LEN, send};
+use crate::event::{Event, Outcome};
+use crate::world::WorldIn;
+use fk_kernel::Answer;
+use fuse_spec::Refusal;
+use fw_link::{Carrier, Link};
+use std::alloc::{Allocator, Global};
+
+/// Aborts the mount of a world on whose links something is.
+fn give_up<A: Allocator + Copy>(world: &mut WorldIn<A>)
+    requires { (world.old.requests ≡ []) × (world.old.replies ≡ []) × (world.old.results ≡ []) → ⊥ }
+    ensures { Happens world.old abort aborted world.new }
+{
+    world.keeps_protocol();
+    let _aborted = world.step(&Event::Abort);
+}
+
+/// A world whose two sides talk over a link of bytes: each frame that an event sends goes over it in that event. Once
+/// the link is lost every event is refused.
+#[derive(Drop)]
+pub struct Session<L: Link + Drop, A: Allocator + Copy = Global> {
+    world: WorldIn<A>,
+    link: L,
+    carrier: Carrier<A>,
+    frame: Vec<u8, A>,
+    is_lost: bool,
+    ghost room: { 16 ≤ vec_capacity frame },
+    ghost empty: { is_lost ≡ false → IsEmpty carrier },
+}
+
+impl<L: Link + Drop, A: Allocator + Copy> Session<L, A> {
+    ghost use Rattle.fuse_spec.specs.Worlds.{first_world};
+
+    /// A session before its first mount, over a link with nothing outstanding.
+    ///
+    /// # Errors
+    ///
+    /// `NoMemory`. The link is handed back.
+    pub fn new(alloc: A, link: L) -> Result<Session<L, A>, L>
+        ensures first { IfOk result (λ session. session.world ≡ first_world) }
+        ensures refines { IfOk result (λ session. Refines session.world first_plain) }
+        ensures link { IfOk result (λ session. (session.link ≡ link) × (session.is_lost ≡ false)) }
+        ensures back { IfErr result (λ back. back ≡ link) }
+    {
+        let Ok(world) = WorldIn::new(alloc) else {
+            return Err(link);
+        };
+        let Ok(carrier) = Carrier::new(alloc) else {
+            return Err(link);
+        };
+        let Ok(frame) = Vec::with_capacity(alloc, RESULT_LEN) else {
+            return Err(link);
+        };
+        Ok(Session {
+            world,
+            link,
+            carrier,
+            frame,
+            is_lost: false,
+        })
+    }
+
+    /// One event. A refused one changes nothing.
+    ///
+    /// # Errors
+    ///
+    /// `LinkLost`, once the link is lost, and else those of the world.
+    pub fn step(&mut self, event: &Event<'_>) -> Result<Outcome, Refusal>
+        ensures err { OnErr result ((self.new.world ≡ self.old.world) × (self.new.link ≡ self.old.link)
+            × (self.new.is_lost ≡ self.old.is_lost)) }
+        ensures too_late { self.old.is_lost ≡ true → result ≡ Err LinkLost }
+        ensures refusal { self.old.is_lost ≡ false →
+            IfErr result (RefusedWith self.old.world (event_of event.now)) }
+        ensures accepted { IfOk result (λ _. self.old.is_lost ≡ false) }
+        ensures happens { IfOk result (λ outcome. self.new.is_lost ≡ false →
+            Happens self.old.world (event_of event.now) (outcome_of outcome) self.new.world) }
+        // The envelope of the event, if it has one, was put on the link and got at the other end, and nothing else.
+        ensures sent { IfOk result (λ outcome. self.new.is_lost ≡ false →
+            IsSent self.new.world (outcome_of outcome) (L.carries self.old.link self.new.link)) }
+        // Or it was lost, and the mount was aborted. If what was got is a beginning of what was put, the link has
+        // failed.
+        ensures lost { IfOk result (λ outcome. self.new.is_lost ≡ true →
+            LosesIn self.old.world (event_of event.now) (outcome_of outcome) self.new.world
+            (L.carries self.old.link self.new.link) (L.failed self.old.link) (L.failed self.new.link)) }
+        ensures not_failed { self.new.is_lost ≡ false → L.failed self.new.link ≡ L.failed self.old.link }
+    {
+        if self.is_lost {
+            return Err(Refusal::LinkLost);
+        }
+        let outcome = match self.world.step(event) {
+            Ok(outcome) => outcome,
+            Err(refusal) => return Err(refusal),
+        };
+        let sent = send(
+            &self.world,
+            &outcome,
+            &mut self.frame,
+            &mut self.link,
+            &mut self.carrier,
+        );
+        if sent.is_err() {
+            self.is_lost = true;
+            give_up(&mut self.world);
+        }
+        Ok(outcome)
+    }
+
+    /// Whether the link is lost.
+    pub fn is_lost(&self) -> bool
+        ensures { result ≡ self.now.is_lost }
+    {
+        self.is_lost
+    }
+
+    /// Hands out, once, the answer of the lowest answered call.
+    pub fn collect(&mut self) -> Option<(u64, Answer<A>)>
+        ensures answer { option_map (λ r. (r.0, answer_of r.1)) result
+            ≡ slice_get self.old.world.kernel.vfs.answers 0 }
+        ensures none { IfNone result (self.new.world ≡ self.old.world) }
+        ensures taken { IfSome result (λ r. self.new.world ≡ record self.old.world {
+          kernel = record self.old.world.kernel {
+            vfs = record self.old.world.kernel.vfs {
+              answers = remove self.old.world.kernel.vfs.answers r.0;
+            };
+          };
+        }) }
+        ensures link { (self.new.link ≡ self.old.link) × (self.new.is_lost ≡ self.old.is_lost) }
+    {
+        self.world.collect()
+    }
+
+    /// The request or reply frame that the last step put on its link.
+    pub fn last_put(&self) -> Option<&[u8]>
+        ensures { IfSome result (λ bytes. IsLastFrame self.now.world bytes.now) }
+    {
+        self.world.last_put()
+    }
+
+    /// The nodes that the kernel counts, as those of a world.
+    ///
+    /// # Errors
+    ///
+    /// `NoMemory`, for the list.
+    pub fn kernel_nodes(&self) -> Result<Vec<(u64, u64, u64), A>, Refusal>
+        ensures { IfOk result (λ nodes. nodes.items ≡ counted_nodes self.now.world.kernel.nodes) }
+    {
+        self.world.kernel_nodes()
+    }
+
+    /// The nodes that the server holds, as those of a world.
+    ///
+    /// # Errors
+    ///
+    /// `NoMemory`, for the list.
+    pub fn server_nodes(&self) -> Result<Vec<(u64, u64, u64), A>, Refusal>
+        ensures { IfOk result (λ nodes. nodes.items ≡ held_nodes self.now.world.server.nodes.rows) }
+    {
+        self.world.server_nodes()
+    }
+}

@@ -1,0 +1,107 @@
+//! Whole lists of events over a link.
+
+ghost use Rattle.std.specs.Prelude.{◌≡◌, ◌+◌, ◌*◌, ◌<◌, ◌≤◌, ◌^◌, ◌++◌, ◌∷◌, [], false, if◌then◌else◌, List, IsTrue, IfErr, IfNone, IfSome, OnErr, length, map};
+ghost use Rattle.std.specs.Vec.{vec_len, vec_capacity};
+ghost use Rattle.fw_world.specs.OverLinks.{RecordedOver, RunsOver, session_of};
+ghost use Rattle.fw_world.specs.Runs.{events_run};
+ghost use Rattle.fw_world.specs.Values.{event_of, record_of};
+ghost use Rattle.fw_world.specs.declared.record.Record.{Record as RecordValue};
+ghost use Rattle.fw_world.specs.declared.record.Record.TheVariants.{LinkLost};
+
+use super::Session;
+use crate::event::Event;
+use crate::record::Record;
+use crate::runs::{add, collect_all};
+use crate::world::WorldIn;
+use fw_link::Link;
+use std::alloc::Allocator;
+
+impl<L: Link + Drop, A: Allocator + Copy> Session<L, A> {
+    /// Runs the events one after another. The records of each are its outcome or refusal, `LinkLost` where the link
+    /// was lost in it, and then the answers that it gave, in rising call number.
+    ///
+    /// # Errors
+    ///
+    /// `Err(k)` where the list of records could not grow, after exactly k events; the events from the k-th on have not
+    /// run. With room for the answers that wait, those of the unanswered calls, two records an event and one of the
+    /// link it does not come to that.
+    pub fn run(
+        &mut self,
+        events: &[Event<'_>],
+        records: &mut Vec<Record<A>, A>,
+    ) -> Result<(), usize>
+        ensures ran { (added : List (RecordValue A)) × (records.new.items ≡ records.old.items ++ added)
+            × RunsOver L.carries L.failed (session_of self.old.world self.old.is_lost) self.old.link (map event_of (events_run result events.now)) (map record_of added) (session_of self.new.world self.new.is_lost) self.new.link }
+        ensures err { IfErr result (λ k. k < length events.now) }
+        ensures full { OnErr result (vec_capacity records.old < vec_len records.old
+            + (length self.old.world.kernel.vfs.answers + length self.old.world.kernel.vfs.calls) + 2 * length events.now + 1) }
+    {
+        self.world.keeps_protocol();
+        for (k, event) in events.iter().enumerate() {
+            if !self.run_one(event, records) {
+                return Err(k);
+            }
+        }
+        Ok(())
+    }
+
+    /// Runs one event and records what it came to, or does nothing where there is no memory for the records.
+    fn run_one(&mut self, event: &Event<'_>, records: &mut Vec<Record<A>, A>) -> bool
+        ensures not_run { result ≡ false → (self.new.world ≡ self.old.world) × (self.new.is_lost ≡ self.old.is_lost)
+            × (self.new.link ≡ self.old.link) × (records.new.items ≡ records.old.items) }
+        ensures full { result ≡ false → vec_capacity records.old < vec_len records.old
+            + (length self.old.world.kernel.vfs.answers + length self.old.world.kernel.vfs.calls)
+            + (if self.old.is_lost then 0 else 1) + 2 }
+        ensures ran { IsTrue result → (added : List (RecordValue A)) × (records.new.items ≡ records.old.items ++ added)
+            × RecordedOver L.carries L.failed (session_of self.old.world self.old.is_lost) self.old.link (event_of event.now ∷ []) (map record_of added) (session_of self.new.world self.new.is_lost) self.new.link }
+        ensures room { IsTrue result → vec_len records.new
+            + (length self.new.world.kernel.vfs.answers + length self.new.world.kernel.vfs.calls) + (if self.new.is_lost then 0 else 1) + vec_capacity records.old
+            ≤ vec_len records.old + (length self.old.world.kernel.vfs.answers + length self.old.world.kernel.vfs.calls)
+            + (if self.old.is_lost then 0 else 1) + 2 + vec_capacity records.new }
+    {
+        self.world.keeps_protocol();
+        let Some(room) = most_records(&self.world, self.is_lost) else {
+            return false;
+        };
+        if records.reserve(room).is_err() {
+            return false;
+        }
+        match self.step(event) {
+            Ok(outcome) => {
+                add(records, Record::Outcome(outcome));
+                add_loss(records, self.is_lost);
+                collect_all(&mut self.world, records);
+            }
+            Err(refusal) => add(records, Record::Refused(refusal)),
+        }
+        true
+    }
+}
+
+/// At most so many records the next event comes to: one of its own, one of a link that is lost in it, and the answers of
+/// calls that wait or of one that begins.
+fn most_records<A: Allocator + Copy>(world: &WorldIn<A>, is_lost: bool) -> Option<usize>
+    ensures some { IfSome result (λ room. room ≡ length world.now.kernel.vfs.answers
+        + length world.now.kernel.vfs.calls + (if is_lost then 0 else 1) + 2) }
+    ensures none { IfNone result (2 ^ 64 ≤ length world.now.kernel.vfs.answers
+        + length world.now.kernel.vfs.calls + (if is_lost then 0 else 1) + 2) }
+{
+    let waiting = world.answered().checked_add(world.unanswered())?;
+    if is_lost {
+        waiting.checked_add(2)
+    } else {
+        waiting.checked_add(3)
+    }
+}
+
+/// Appends the record of a lost link, if it is lost.
+fn add_loss<A: Allocator>(records: &mut Vec<Record<A>, A>, is_lost: bool)
+    requires { vec_len records.old < vec_capacity records.old }
+    ensures items { records.new.items ≡ records.old.items ++ (if is_lost then LinkLost ∷ [] else []) }
+    ensures len { vec_len records.new ≡ vec_len records.old + (if is_lost then 1 else 0) }
+    ensures capacity { vec_capacity records.old ≤ vec_capacity records.new }
+{
+    if is_lost {
+        add(records, Record::LinkLost);
+    }
+}
