@@ -1,11 +1,7 @@
 -- The unanswered calls of a mount that is aborted are answered, and the kernel stays sound.
-use Rattle.std.proofs.Common.{◌≡◌, ◌≢◌, ℕ, suc, ◌+◌, ◌-◌, ◌≤◌, ◌<◌, Bool, true, false, cond, [], ◌∷◌, ◌++◌, length, get_or, take, append_assoc, drop-cons, Option, Some, None, T, refl, ap, sym, ◌∙◌, arith, subst}
-use Rattle.std.specs.Prelude.{is_some}
-use Rattle.std.specs.FinMap.{is_sorted}
-use Rattle.std.specs.Ordering.{nat_cmp, is_eq, eq_by_cmp}
-use Rattle.std.proofs.lemmas.List.{drop_all, take-append-drop}
+use Rattle.std.proofs.Common.{ℕ, [], refl, arith}
 use Rattle.fuse_spec.specs.Answers.{Answer, failed}
-use Rattle.fuse_spec.specs.Maps.{Map, get, put}
+use Rattle.fuse_spec.specs.Maps.{Map}
 use Rattle.fuse_spec.specs.Numbers.{econnaborted}
 use Rattle.fuse_spec.specs.Queues.{QueueState, empty_queues}
 use Rattle.fuse_spec.specs.Vfs.{CallState, all_answered}
@@ -14,9 +10,6 @@ use Rattle.fuse_spec.specs.declared.Opened.{Opened}
 use Rattle.fuse_spec.specs.declared.Phase.{Phase}
 use Rattle.fuse_spec.specs.declared.Phase.TheVariants.{Aborted}
 use Rattle.fuse_spec.specs.declared.Purpose.{Purpose}
-use Rattle.fuse_spec.proofs.Tables.{cmp_same, get_put}
-use Rattle.fuse_tables.specs.TableState.{TableState}
-use Rattle.fk_lookup_count.proofs.NumberMaps.{both_first, both_second, none-below}
 use Rattle.fk_queues.specs.Room.{Room}
 use Rattle.fk_kernel.specs.Soundness.{IsSoundKernel}
 use Rattle.fk_calls.proofs.Answered.{untold}

@@ -101,7 +101,7 @@ returns-in-Err-clause-refusal g c =
     let awaits : awaited_by_call (get now.vfs.calls c.args.call) ≡ reply_to (opcode_of operation) = ap awaited_by_call here ∙ ap (λ (o : Operation ℕ Opened). reply_to (opcode_of o)) (sym c.asks.ensures.operation) in
     let standing = awaited_by_call (get now.vfs.calls c.args.call) in
     let within : PassesEnd now c.args.unique c.args.bytes.now standing → ⊥ =
-        rw awaits (said_passes now c.args.unique c.args.bytes.now (opcode_of operation) (wire_of c.in-Some-said.said) (rw c.in-Some-said.is at c.said_to-said.ensures.said).says (c.walks_past.ensures.within c.if-walks_past.false)) in
+    rw awaits (said_passes now c.args.unique c.args.bytes.now (opcode_of operation) (wire_of c.in-Some-said.said) (rw c.in-Some-said.is at c.said_to-said.ensures.said).says (c.walks_past.ensures.within c.if-walks_past.false)) in
     subst (IsWriteRefusal now c.args.unique c.args.bytes.now standing) (sym c.in-Err.ensures.refusal) (no_memory within)
 
 pub returns-in-Err-clause-memory : goal.returns-in-Err-clause-memory
