@@ -1,6 +1,9 @@
 //! An allocator that refuses one request.
 #![tactic(auto)]
 
+mod each_growth;
+
+pub use each_growth::EachGrowth;
 use std::alloc::{AllocError, Allocator};
 use std::cell::Cell;
 

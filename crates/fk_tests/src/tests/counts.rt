@@ -115,62 +115,48 @@ static CALLS: [Row; 23] = [
     Row::Learn(3, 1, Ok(())),
 ];
 
-/// The calls on a new table with the `n`th growth refused. Says whether that growth came.
-fn refused_at<A: Copy, T: CountTable<Heap = A> + Tried<A, Row> + Drop>(
-    rt: &impl Abort,
-    heap: A,
-    refusing: &FailAt<Global>,
-    alloc: Global,
-    n: u64,
-) -> bool {
-    refusing.refuse(n);
-    run(
-        rt,
-        T::new(heap),
-        heap,
-        refusing,
-        alloc,
-        &[],
-        &CALLS,
-        "calls",
-    );
-    refusing.left() == 0
-}
-
-/// Each growth refused in turn: how many came.
-fn growths<A: Copy, T: CountTable<Heap = A> + Tried<A, Row> + Drop>(
+/// The calls with each growth refused in turn: how many runs that took.
+fn runs<A: Copy, T: CountTable<Heap = A> + Tried<A, Row> + Drop>(
     rt: &impl Abort,
     heap: A,
     refusing: &FailAt<Global>,
     alloc: Global,
 ) -> u64 {
-    let mut last = 0;
-    for n in 1..40u64 {
-        if refused_at::<A, T>(rt, heap, refusing, alloc, n) {
-            last = n;
-        }
+    let mut runs = 0;
+    for n in refusing.each_growth(40) {
+        run(
+            rt,
+            T::new(heap),
+            heap,
+            refusing,
+            alloc,
+            &[],
+            &CALLS,
+            "calls",
+        );
+        runs = n;
     }
-    last
+    runs
 }
 
 /// Of each representation.
-fn growths_of_both<A: Allocator + Copy>(
+fn runs_of_both<A: Allocator + Copy>(
     rt: &impl Abort,
     heap: A,
     refusing: &FailAt<Global>,
     alloc: Global,
 ) -> (u64, u64) {
     (
-        growths::<A, KernelNodes<A>>(rt, heap, refusing, alloc),
-        growths::<A, ListCounts<A>>(rt, heap, refusing, alloc),
+        runs::<A, KernelNodes<A>>(rt, heap, refusing, alloc),
+        runs::<A, ListCounts<A>>(rt, heap, refusing, alloc),
     )
 }
 
 #[test]
 fn calls_with_each_growth_refused(rt: HostRuntime) -> Result<(), Fail> {
     let heap = FailAt::new(rt.alloc());
-    let (of_slab, of_list) = growths_of_both(&rt, &heap, &heap, rt.alloc());
-    assert!(rt; 3 <= of_slab && of_slab < 39, "slab");
-    assert!(rt; 2 <= of_list && of_list < 39, "list");
+    let (of_slab, of_list) = runs_of_both(&rt, &heap, &heap, rt.alloc());
+    assert!(rt; 3 < of_slab && of_slab < 40, "slab");
+    assert!(rt; 2 < of_list && of_list < 40, "list");
     Ok(())
 }

@@ -1,7 +1,7 @@
 //! Steps of a kernel, and what each must give.
 
 use crate::tests::digits::{spells, unhex};
-use crate::tests::tried::{Outcome, Tried, judged, run};
+use crate::tests::tried::{Outcome, Tried, judged, run_all};
 use fail_at::FailAt;
 use fk_kernel::{Answer, Call, Kernel, ListedName};
 use fk_wire::Opcode;
@@ -336,9 +336,21 @@ impl<A: Allocator + Copy> Tried<A, Row> for Kernel<A> {
     }
 }
 
+/// Tries the rows of some lists on a new kernel, which takes its memory from a heap.
+fn run_on<A: Allocator + Copy>(
+    rt: &impl Abort,
+    heap: A,
+    refusing: &FailAt<Global>,
+    alloc: Global,
+    lists: &[&[Row]],
+    name: &str,
+) {
+    let kernel: Kernel<A> = Kernel::new(heap);
+    run_all(rt, kernel, heap, refusing, alloc, lists, name);
+}
+
 /// Tries the rows of two lists on a new kernel, and refuses no growth.
 fn run_on_new(rt: &impl Abort, alloc: Global, first: &[Row], rows: &[Row], name: &str) {
     let refusing = FailAt::new(alloc);
-    let kernel: Kernel = Kernel::new(alloc);
-    run(rt, kernel, alloc, &refusing, alloc, first, rows, name);
+    run_on(rt, alloc, &refusing, alloc, &[first, rows], name);
 }

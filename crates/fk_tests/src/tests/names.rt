@@ -106,15 +106,13 @@ static CALLS: [Row; 27] = [
     Row::Bind(1, "a", Some(2), 1),
 ];
 
-/// The calls on new names with the `n`th growth refused. Says whether that growth came.
-fn refused_at<A: Allocator + Copy>(
+/// The calls on new names.
+fn run_calls<A: Allocator + Copy>(
     rt: &impl Abort,
     heap: A,
     refusing: &FailAt<Global>,
     alloc: Global,
-    n: u64,
-) -> bool {
-    refusing.refuse(n);
+) {
     run(
         rt,
         Bindings::new(heap),
@@ -125,18 +123,16 @@ fn refused_at<A: Allocator + Copy>(
         &CALLS,
         "calls",
     );
-    refusing.left() == 0
 }
 
 #[test]
 fn calls_with_each_growth_refused(rt: HostRuntime) -> Result<(), Fail> {
     let heap = FailAt::new(rt.alloc());
-    let mut growths = 0u64;
-    for n in 1..60u64 {
-        if refused_at(&rt, &heap, &heap, rt.alloc(), n) {
-            growths = n;
-        }
+    let mut runs = 0;
+    for n in heap.each_growth(60) {
+        run_calls(&rt, &heap, &heap, rt.alloc());
+        runs = n;
     }
-    assert!(rt; 8 <= growths && growths < 59, "{growths}");
+    assert!(rt; 8 < runs && runs < 60, "{runs}");
     Ok(())
 }

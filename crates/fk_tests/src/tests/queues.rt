@@ -205,60 +205,46 @@ static CALLS: [Row; 46] = [
     Row::Reserve(1000, 1000),
 ];
 
-/// The calls on new queues with the `n`th growth refused. Says whether that growth came.
-fn refused_at<A: Copy, T: QueueTable<u64, Heap = A> + Tried<A, Row> + Drop>(
-    rt: &impl Abort,
-    heap: A,
-    refusing: &FailAt<Global>,
-    alloc: Global,
-    n: u64,
-) -> bool {
-    refusing.refuse(n);
-    run(
-        rt,
-        T::new(heap),
-        heap,
-        refusing,
-        alloc,
-        &[],
-        &CALLS,
-        "calls",
-    );
-    refusing.left() == 0
-}
-
-/// Each growth refused in turn: how many came.
-fn growths<A: Copy, T: QueueTable<u64, Heap = A> + Tried<A, Row> + Drop>(
+/// The calls with each growth refused in turn: how many runs that took.
+fn runs<A: Copy, T: QueueTable<u64, Heap = A> + Tried<A, Row> + Drop>(
     rt: &impl Abort,
     heap: A,
     refusing: &FailAt<Global>,
     alloc: Global,
 ) -> u64 {
-    let mut last = 0;
-    for n in 1..60u64 {
-        if refused_at::<A, T>(rt, heap, refusing, alloc, n) {
-            last = n;
-        }
+    let mut runs = 0;
+    for n in refusing.each_growth(60) {
+        run(
+            rt,
+            T::new(heap),
+            heap,
+            refusing,
+            alloc,
+            &[],
+            &CALLS,
+            "calls",
+        );
+        runs = n;
     }
-    last
+    runs
 }
 
 #[test]
 fn calls_with_each_growth_refused(rt: HostRuntime) -> Result<(), Fail> {
     let heap = FailAt::new(rt.alloc());
-    let of_maps = growths::<&FailAt<Global>, Queues<u64, &FailAt<Global>>>(
+    let of_maps = runs::<&FailAt<Global>, Queues<u64, &FailAt<Global>>>(
         &rt,
         &heap,
         &heap,
         rt.alloc(),
     );
-    assert!(rt; 3 <= of_maps && of_maps < 59, "maps");
-    let of_lists = growths::<&FailAt<Global>, ListQueues<u64, &FailAt<Global>>>(
+    assert!(rt; 3 < of_maps && of_maps < 60, "maps");
+    let of_lists = runs::<&FailAt<Global>, ListQueues<u64, &FailAt<Global>>>(
         &rt,
         &heap,
         &heap,
         rt.alloc(),
     );
-    assert!(rt; 3 <= of_lists && of_lists < 59, "lists");
+    assert!(rt; 3 < of_lists && of_lists < 60, "lists");
     Ok(())
 }

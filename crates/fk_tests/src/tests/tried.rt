@@ -80,3 +80,19 @@ pub fn run<A: Copy, R: Copy, T: Tried<A, R> + Drop>(
     check(rt, &mut tried, heap, refusing, alloc, first, name);
     check(rt, &mut tried, heap, refusing, alloc, rows, name);
 }
+
+/// Tries the rows of some lists, one list after the other, and lets go what they were tried on.
+pub fn run_all<A: Copy, R: Copy, T: Tried<A, R> + Drop>(
+    rt: &impl Abort,
+    subject: T,
+    heap: A,
+    refusing: &FailAt<Global>,
+    alloc: Global,
+    lists: &[&[R]],
+    name: &str,
+) {
+    let mut tried = subject;
+    for rows in lists {
+        check(rt, &mut tried, heap, refusing, alloc, rows, name);
+    }
+}

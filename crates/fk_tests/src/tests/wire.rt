@@ -526,15 +526,13 @@ impl<A: Allocator + Copy> Tried<A, Row> for Vec<u8, A> {
     }
 }
 
-/// All that is written with the `n`th growth refused. Says whether that growth came.
-fn refused_at<A: Allocator + Copy>(
+/// All that is written.
+fn run_written<A: Allocator + Copy>(
     rt: &impl Abort,
     heap: A,
     refusing: &FailAt<Global>,
     alloc: Global,
-    n: u64,
-) -> bool {
-    refusing.refuse(n);
+) {
     run(
         rt,
         Vec::new(heap),
@@ -555,7 +553,6 @@ fn refused_at<A: Allocator + Copy>(
         &FREE,
         "others and free fields",
     );
-    refusing.left() == 0
 }
 
 /// A WRITE to open file 1, under number 4 about node 1.
@@ -589,13 +586,12 @@ fn frames_have_up_to_4176_bytes(rt: HostRuntime) -> Result<(), Fail> {
 #[test]
 fn frames_with_each_growth_refused(rt: HostRuntime) -> Result<(), Fail> {
     let heap = FailAt::new(rt.alloc());
-    let mut growths = 0u64;
-    for n in 1..200u64 {
-        if refused_at(&rt, &heap, &heap, rt.alloc(), n) {
-            growths = n;
-        }
+    let mut runs = 0;
+    for n in heap.each_growth(200) {
+        run_written(&rt, &heap, &heap, rt.alloc());
+        runs = n;
     }
-    assert!(rt; 40 <= growths && growths < 199, "{growths}");
+    assert!(rt; 40 < runs && runs < 200, "{runs}");
     assert!(rt; WireFault::Name.number() == 4 && WireFault::Name.name() == "Name");
     assert!(rt; Opcode::BatchForget.name() == "BATCH_FORGET");
     Ok(())

@@ -80,30 +80,26 @@ static CALLS: [Row; 20] = [
     Row::Open(8, 5),
 ];
 
-/// The calls on a new table with the `n`th growth refused. Says whether that growth came.
-fn refused_at<A: Allocator + Copy>(
+/// The calls on a new table.
+fn run_calls<A: Allocator + Copy>(
     rt: &impl Abort,
     heap: A,
     refusing: &FailAt<Global>,
     alloc: Global,
-    n: u64,
-) -> bool {
-    refusing.refuse(n);
+) {
     let table: HandleTable<A> = HandleTable::new(heap);
     run(rt, table, heap, refusing, alloc, &[], &CALLS, "calls");
-    refusing.left() == 0
 }
 
 #[test]
 fn calls_with_each_growth_refused(rt: HostRuntime) -> Result<(), Fail> {
     let heap = FailAt::new(rt.alloc());
-    let mut growths = 0u64;
-    for n in 1..24u64 {
-        if refused_at(&rt, &heap, &heap, rt.alloc(), n) {
-            growths = n;
-        }
+    let mut runs = 0;
+    for n in heap.each_growth(24) {
+        run_calls(&rt, &heap, &heap, rt.alloc());
+        runs = n;
     }
-    assert!(rt; 2 <= growths && growths < 23, "{growths}");
+    assert!(rt; 2 < runs && runs < 24, "{runs}");
     assert!(rt; matches!(copy_keeps_number(rt.alloc()), Ok(true)), "copy");
     Ok(())
 }

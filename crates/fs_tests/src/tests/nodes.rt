@@ -146,60 +146,46 @@ static CALLS: [Row; 27] = [
     Row::Nodes(&[(2, 7, 1), (3, 8, 1), (4, 9, 1)]),
 ];
 
-/// The calls on new nodes with the `n`th growth refused. Says whether that growth came.
-fn refused_at<A: Copy, T: NodeStore<Heap = A> + Tried<A, Row> + Drop>(
-    rt: &impl Abort,
-    heap: A,
-    refusing: &FailAt<Global>,
-    alloc: Global,
-    n: u64,
-) -> bool {
-    refusing.refuse(n);
-    run(
-        rt,
-        T::new(heap),
-        heap,
-        refusing,
-        alloc,
-        &[],
-        &CALLS,
-        "calls",
-    );
-    refusing.left() == 0
-}
-
-/// Each growth refused in turn: how many came.
-fn growths<A: Copy, T: NodeStore<Heap = A> + Tried<A, Row> + Drop>(
+/// The calls with each growth refused in turn: how many runs that took.
+fn runs<A: Copy, T: NodeStore<Heap = A> + Tried<A, Row> + Drop>(
     rt: &impl Abort,
     heap: A,
     refusing: &FailAt<Global>,
     alloc: Global,
 ) -> u64 {
-    let mut last = 0;
-    for n in 1..40u64 {
-        if refused_at::<A, T>(rt, heap, refusing, alloc, n) {
-            last = n;
-        }
+    let mut runs = 0;
+    for n in refusing.each_growth(40) {
+        run(
+            rt,
+            T::new(heap),
+            heap,
+            refusing,
+            alloc,
+            &[],
+            &CALLS,
+            "calls",
+        );
+        runs = n;
     }
-    last
+    runs
 }
 
 #[test]
 fn calls_with_each_growth_refused(rt: HostRuntime) -> Result<(), Fail> {
     let heap = FailAt::new(rt.alloc());
-    let of_table = growths::<&FailAt<Global>, NodeTable<&FailAt<Global>>>(
+    let of_table = runs::<&FailAt<Global>, NodeTable<&FailAt<Global>>>(
         &rt,
         &heap,
         &heap,
         rt.alloc(),
     );
-    assert!(rt; 4 <= of_table && of_table < 39, "table");
-    let of_list = growths::<&FailAt<Global>, ListNodes<&FailAt<Global>>>(
+    assert!(rt; 4 < of_table && of_table < 40, "table");
+    let of_list = runs::<&FailAt<Global>, ListNodes<&FailAt<Global>>>(
         &rt,
         &heap,
         &heap,
         rt.alloc(),
     );
-    assert!(rt; 3 <= of_list && of_list < 39, "list");
+    assert!(rt; 3 < of_list && of_list < 40, "list");
     Ok(())
 }

