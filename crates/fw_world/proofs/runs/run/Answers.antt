@@ -15,11 +15,11 @@ loop-k-preserved g c = (
 pub returns-then-not-run_one-clause-ran : goal.returns-then-not-run_one-clause-ran
 returns-then-not-run_one-clause-ran g c =
     let same = c.run_one.ensures.not_run c.if-not-run_one.true in
-    comes_as_before c.args.world.now c.is_sound.ensures (take c.loop-k.k c.args.events.now) c.args.records.now.items c.loop-k.world c.run_one.new.world c.loop-k.records.items c.run_one.new.records.items c.loop-k.invariant.0 same.0 same.1
+    comes_as_before c.args.world.now c.keeps_protocol.ensures.reached (take c.loop-k.k c.args.events.now) c.args.records.now.items c.loop-k.world c.run_one.new.world c.loop-k.records.items c.run_one.new.records.items c.loop-k.invariant.0 same.0 same.1
 
 pub returns-clause-ran : goal.returns-clause-ran
 returns-clause-ran g c =
-    comes_to c.args.world.now c.is_sound.ensures c.args.events.now c.args.records.now.items c.loop-k.world c.loop-k.records.items
+    comes_to c.args.world.now c.keeps_protocol.ensures.reached c.args.events.now c.args.records.now.items c.loop-k.world c.loop-k.records.items
     (all_ran c.args.world.now c.args.events.now c.loop-k.k c.loop-k-test.false c.args.records.now.items c.loop-k.world c.loop-k.records.items c.loop-k.invariant.0)
 
 pub returns-then-not-run_one-clause-full : goal.returns-then-not-run_one-clause-full
