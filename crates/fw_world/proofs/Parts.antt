@@ -1,6 +1,6 @@
 -- A world made of these parts.
-use Rattle.std.proofs.Common.{◌++◌, [], ◌∷◌, ◌∙◌, ◌≡◌, ◌≤◌, ◌<◌, ℕ, ◌+◌, Result, Ok, Err, arith, true, false, List, length, Option, Some, None, nat_lt, slice_get, refl, sym, subst}
-use Rattle.std.specs.Prelude.{slice_index_or, OnOk, is_err, IfNone, IfSome}
+use Rattle.std.proofs.Common.{◌++◌, [], ◌∷◌, ◌∙◌, ◌≡◌, ◌≤◌, ◌<◌, ℕ, ◌+◌, Result, Ok, Err, Bool, arith, true, false, true≢false, List, length, Option, Some, None, nat_lt, slice_get, refl, sym, subst}
+use Rattle.std.specs.Prelude.{slice_index_or, OnOk, is_err, is_ok, IfNone, IfSome, IsTrue}
 use Rattle.std.proofs.lemmas.Bool.{ltb-true, ltb-false}
 use Rattle.std.proofs.lemmas.Option.{slice_get_read, slice_get_past}
 use Rattle.fuse_spec.specs.declared.Refusal.{Refusal}
@@ -42,6 +42,22 @@ module _ {T : Type 0} (xs read : List T) (place : ℕ) (same : read ≡ xs) wher
 pub has_room : {T E : Type 0} (r : Result T E) (len capacity : ℕ) → OnOk r (len + 1 ≤ capacity) → is_err r ≡ false → len < capacity
 has_room (Ok x) len capacity made e = omega (arith, made)
 has_room (Err x) len capacity made e = absurd (cc e)
+
+pub has_room_ok : {T E : Type 0} (r : Result T E) (len capacity : ℕ) → OnOk r (len + 1 ≤ capacity) → is_ok r ≡ true → len < capacity
+has_room_ok (Ok x) len capacity made e = omega (arith, made)
+has_room_ok (Err x) len capacity made e = absurd (cc e)
+
+pub not_true : (b : Bool) → b ≡ false → IsTrue b → ⊥
+not_true b e h = true≢false (sym h ∙ e)
+
+-- Room that is wanted only where there is a copy.
+pub no_copy_wants : {X : Type 0} (P : Type 0) (copy : Option X) → copy ≡ None → IfSome copy (λ x. P)
+no_copy_wants P None e = tt
+no_copy_wants P (Some x) e = absurd (cc e)
+
+pub some_copy_wants : {X : Type 0} (P : Type 0) (copy : Option X) → P → IfSome copy (λ x. P)
+some_copy_wants P None room = tt
+some_copy_wants P (Some x) room = room
 
 -- what was written, of what is said of the whole result
 pub was_written : {a b : WriteResult} → ◌≡◌ {A = Result WriteResult Refusal} (Ok a) (Ok b) → a ≡ b

@@ -2,6 +2,7 @@
 use Rattle.std.proofs.Common.{◌≡◌, ℕ, Result, Ok, Err, Option, Some, None, subst, sym}
 use Rattle.std.specs.Prelude.{IfOk, IfSome}
 use Rattle.fuse_spec.specs.declared.Refusal.{Refusal}
+use Rattle.fuse_spec.specs.Kernel.{Kernel}
 use Rattle.fuse_spec.specs.Maps.{remove}
 use Rattle.fuse_spec.specs.Plain.{Plain}
 use Rattle.fuse_spec.specs.Runs.{Refines, plain_handed_out}
@@ -24,7 +25,7 @@ steps_as old new e here (Ok o) happens = record {
 }
 
 -- A plain world that the world refines is refined still, as the answer of one call is handed out in both.
-pub collect_refines : {X : Type 0} (old new : World) → IsReached old → (o : Option (ℕ × X)) → IfSome o (λ r. new ≡ record old { kernel = record old.kernel { vfs = record old.kernel.vfs { answers = remove old.kernel.vfs.answers r.0 } } })
-    → IfSome o (λ r. (p : Plain) → Refines old p → Refines new (plain_handed_out p r.0))
-collect_refines old new here None after = tt
-collect_refines old new here (Some r) after = λ p refines. subst (λ (w : World). Refines w (plain_handed_out p r.0)) (sym after) (handing_out old here r.0 p refines)
+pub collect_refines : {X : Type 0} (old : World) (kernel : Kernel) → IsReached old → (o : Option (ℕ × X)) → IfSome o (λ r. kernel ≡ record old.kernel { vfs = record old.kernel.vfs { answers = remove old.kernel.vfs.answers r.0 } })
+    → IfSome o (λ r. (p : Plain) → Refines old p → Refines (record old { kernel = kernel }) (plain_handed_out p r.0))
+collect_refines old kernel here None after = tt
+collect_refines old kernel here (Some r) after = λ p refines. subst (λ (k : Kernel). Refines (record old { kernel = k }) (plain_handed_out p r.0)) (sym after) (handing_out old here r.0 p refines)

@@ -1,7 +1,7 @@
 -- Where memory was wanting, nothing else refuses the event.
-use Rattle.std.proofs.Common.{◌≡◌, ℕ, ◌<◌, ◌^◌, ◌||◌, Bool, true, false, true≢false, cond, not, List, [], ◌∷◌, Option, Some, None, Ok, Err, inl, inr, nat_eq, nat_lt, nat_le, max, length, slice_get, take, option_map_or, refl, ap, sym, subst, ◌∙◌, arith}
+use Rattle.std.proofs.Common.{◌≡◌, ℕ, ◌<◌, ◌^◌, ◌||◌, Bool, true, false, true≢false, cond, not, List, [], ◌∷◌, Option, Some, None, Ok, Err, inl, inr, nat_eq, nat_lt, nat_le, max, length, slice_get, take, refl, ap, sym, subst, ◌∙◌, arith}
 use Rattle.std.specs.Prelude.{◌⊎◌, IfSome, IfNone}
-use Rattle.std.specs.Option.{unwrap_or}
+use Rattle.std.specs.Option.{unwrap_or, option_map_or}
 use Rattle.fuse_spec.specs.declared.Opened.{Opened}
 use Rattle.fuse_spec.specs.declared.Purpose.{Purpose}
 use Rattle.fuse_spec.specs.declared.Refusal.{Refusal}
@@ -34,7 +34,8 @@ use Rattle.fk_kernel.specs.Refused as kernel
 use Rattle.fk_kernel.specs.RefusedSignals.{read_interrupt_refusal, oldest_refusal}
 use Rattle.fk_kernel.specs.RefusedUpkeep.{read_forgets_refusal, forgets_refusal}
 use Rattle.fs_server.specs.Effects as server
-use Rattle.fs_server.specs.Effects.{CanSendAgain, CanTake, RefusesFrame, fault_or, past_or_memory}
+use Rattle.fs_server.specs.declared.server.Took.{Took}
+use Rattle.fs_server.specs.Effects.{CanSendAgain, CanTake, TakesFrame, AnswersFrame, copy_of, RefusesFrame, fault_or, past_or_memory}
 use Rattle.fs_server.specs.declared.server.ServerFault.{ServerFault}
 use Rattle.fs_server.specs.declared.server.ServerFault.TheVariants.{Memory}
 use Rattle.fuse_spec.specs.Server.{RequestFault, fault_of}
@@ -272,3 +273,16 @@ take_refused w within here place request bytes fault there frame refuses can =
         ap (taking_request w place) there
         ∙ is_exhausted (event.taken request.unique did.word) after (past_server (nat_lt counter_end after.kernel.queues.next) (nat_lt counter_end after.kernel.vfs.next_call) (server_past after.server) over))
     by false past is = take_wanting w within place request bytes there frame (can is) refusal.NoMemory refl
+
+-- A frame that is not answered at once is taken without a copy.
+pub takes_no_copy : {A : Type 0} (s : Server) (bytes : List ℕ) (took : Took A) (new : Server) → TakesFrame s bytes took new → server.is_past_end new ≡ false → (AnswersFrame s bytes → ⊥) → took.copy ≡ None
+takes_no_copy s bytes took new takes_it low none = by (taking s takes_it.request.unique takes_it.request.body).reply refl takes_it.copy
+  where
+    by : (o : Option WireReply) → (taking s takes_it.request.unique takes_it.request.body).reply ≡ o → took.copy ≡ copy_of s.next_copy takes_it.request.unique (taking s takes_it.request.unique takes_it.request.body).reply → took.copy ≡ None
+    by None e is = is ∙ ap (copy_of s.next_copy takes_it.request.unique) e
+    by (Some wire) e is =
+        absurd (none (record {
+          can = record { request = takes_it.request; says = takes_it.says; faultless = takes_it.faultless; within = ap server.is_past_end (sym takes_it.after) ∙ low };
+          reply = wire;
+          replies = e;
+        }))

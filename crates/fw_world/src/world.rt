@@ -432,13 +432,14 @@ impl<A: Allocator + Copy> WorldIn<A> {
         if place >= self.requests.len() {
             return Err(Refusal::NoSuch);
         }
+        let bytes = self.requests[place].bytes();
         // Only an INTERRUPT may be answered at once, and only an answer wants room on its link.
         let has_room = self.replies.reserve(1).is_ok();
-        if !has_room && self.server.take_answers(self.requests[place].bytes()) {
+        if !has_room && self.server.take_answers(bytes) {
             within(&self.kernel, &self.server);
             return Err(Refusal::NoMemory);
         }
-        let took = match self.server.take(self.requests[place].bytes()) {
+        let took = match self.server.take(bytes) {
             Ok(took) => took,
             Err(fault) => {
                 within(&self.kernel, &self.server);

@@ -4,7 +4,7 @@ use Rattle.fs_server.specs.Effects.{RefusesAgain, CanSendAgain}
 use Rattle.fw_world.proofs.Parts.{world_of, has_room}
 use Rattle.fw_world.proofs.Made.{copied}
 use Rattle.fw_world.proofs.Refusing.{again_refused}
-use Rattle.fw_world.proofs.LastFrames.{shows_reply}
+use Rattle.fw_world.proofs.LastFrames.{shows_reply, again_under}
 use Rattle.fw_world.proofs.Wanting.{looked, given_so, again_wanting}
 use Rattle.fw_world.proofs.world.WorldIn.again.Goals as goal
 
@@ -21,17 +21,17 @@ returns-in-Err-clause-refusal g c =
 pub invariant_of-self-2 : goal.invariant_of-self-2
 invariant_of-self-2 g c =
     (copied (world_of c.self.inside.kernel c.self.inside.server c.self.inside.requests.items c.self.inside.replies.items c.self.inside.results.items) c.self.invariant c.self.inside.kernel c.again.new.self c.self.inside.requests.items c.put_reply-len.new.replies.items c.self.inside.results.items c.args.unique c.in-Ok.copy c.in-Ok.ensures.sent refl refl
-    (rw (← c.reserve.ensures.items) c.put_reply-len.ensures.items) refl c.within-3.ensures).1
+    (rw (← c.reserve.ensures.items) c.put_reply-len.ensures.items) refl c.within-2.ensures).1
 
 pub returns-clause-happens : goal.returns-clause-happens
 returns-clause-happens g c =
     rw (← c.self.view_is)
     (copied (world_of c.self.inside.kernel c.self.inside.server c.self.inside.requests.items c.self.inside.replies.items c.self.inside.results.items) c.self.invariant c.self.inside.kernel c.again.new.self c.self.inside.requests.items c.put_reply-len.new.replies.items c.self.inside.results.items c.args.unique c.in-Ok.copy c.in-Ok.ensures.sent refl refl
-    (rw (← c.reserve.ensures.items) c.put_reply-len.ensures.items) refl c.within-3.ensures).0
+    (rw (← c.reserve.ensures.items) c.put_reply-len.ensures.items) refl c.within-2.ensures).0
 
 pub put_reply-len-requires : goal.put_reply-len-requires
 put_reply-len-requires g c = has_room c.reserve.result _ _ c.reserve.ensures.ok (sym c.is_err.ensures.value ∙ c.if-is_err.false)
 
 pub returns-clause-shows : goal.returns-clause-shows
 returns-clause-shows g c =
-    shows_reply (world_of c.self.inside.kernel c.again.new.self c.self.inside.requests.items c.put_reply-len.new.replies.items c.self.inside.results.items) c.reserve.new.self.items c.in-Ok.copy c.args.unique c.put_reply-len.result c.put_reply-len.ensures.items (again_under c.in-Ok.ensures.sent) c.put_reply-len.ensures.len
+    shows_reply (world_of c.self.inside.kernel c.again.new.self c.self.inside.requests.items c.put_reply-len.new.replies.items c.self.inside.results.items) c.reserve.new.self.items c.in-Ok.copy c.args.unique c.put_reply-len.result c.put_reply-len.ensures.items (again_under c.self.inside.server c.args.unique c.in-Ok.copy c.again.new.self c.in-Ok.ensures.sent) c.put_reply-len.ensures.len

@@ -2,14 +2,15 @@ use Rattle.fuse_spec.specs.Events as event
 use Rattle.fk_kernel.specs.Refused.{mount_refusal}
 use Rattle.fw_world.proofs.Parts.{world_of}
 use Rattle.fw_world.proofs.Made.{mounted, day_at_most}
-use Rattle.fw_world.proofs.Refusing.{by_kernel, mount_refused}
+use Rattle.fw_world.proofs.Refusing.{mount_refused}
+use Rattle.fw_world.proofs.Wanting.{judged, mount_wanting}
 use Rattle.fw_world.proofs.world.WorldIn.mount.Goals as goal
 
 pub returns-in-Err-clause-refusal : goal.returns-in-Err-clause-refusal
 returns-in-Err-clause-refusal g c =
     let w = (world_of c.self.inside.kernel c.self.inside.server c.self.inside.requests.items c.self.inside.replies.items c.self.inside.results.items) in
     let day = day_at_most c.args.found_ms c.args.missing_ms c.if-found_ms-gt-MAX_VALIDITY.false c.if-missing_ms-gt-MAX_VALIDITY.false in
-    rw (← c.self.view_is) (by_kernel w (event.mount c.args.found_ms c.args.missing_ms) (mount_refusal w.kernel) c.in-Err.refusal (mount_refused w c.args.found_ms c.args.missing_ms day) c.in-Err.ensures.refusal)
+    rw (← c.self.view_is) (judged w (event.mount c.args.found_ms c.args.missing_ms) (mount_refusal w.kernel) c.in-Err.refusal (mount_refused w c.args.found_ms c.args.missing_ms day) (λ none is. mount_wanting w c.args.found_ms c.args.missing_ms day none c.in-Err.refusal is) c.in-Err.ensures.refusal)
 
 pub invariant_of-self-2 : goal.invariant_of-self-2
 invariant_of-self-2 g c =

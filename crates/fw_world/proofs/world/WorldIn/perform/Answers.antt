@@ -4,7 +4,7 @@ use Rattle.fuse_spec.specs.Events as event
 use Rattle.fs_server.specs.Effects.{RefusesHeld}
 use Rattle.fw_world.proofs.Made.{lost, performed}
 use Rattle.fw_world.proofs.Refusing.{perform_refused}
-use Rattle.fw_world.proofs.LastFrames.{shows_reply}
+use Rattle.fw_world.proofs.LastFrames.{shows_reply, performed_under}
 use Rattle.fw_world.proofs.Wanting.{looked, given_so, perform_wanting}
 use Rattle.fs_server.specs.Steps.{CanPerform}
 use Rattle.fw_world.proofs.world.WorldIn.perform.Goals as goal
@@ -22,13 +22,13 @@ returns-in-Err-clause-refusal g c =
 pub invariant_of-self-2 : goal.invariant_of-self-2
 invariant_of-self-2 g c =
     (performed (world_of c.self.inside.kernel c.self.inside.server c.self.inside.requests.items c.self.inside.replies.items c.self.inside.results.items) c.self.invariant c.self.inside.kernel c.perform.new.self c.self.inside.requests.items c.put_reply-len.new.replies.items c.self.inside.results.items c.args.unique c.in-Ok.done.errno c.in-Some.first
-    (rw c.in-Some.is at c.in-Ok.ensures.performed) refl refl (rw (← c.reserve.ensures.items) (rw c.in-Some.is at c.put_reply-len.ensures.items)) refl c.within-3.ensures).1
+    (rw c.in-Some.is at c.in-Ok.ensures.performed) refl refl (rw (← c.reserve.ensures.items) (rw c.in-Some.is at c.put_reply-len.ensures.items)) refl c.within-2.ensures).1
 
 pub returns-clause-happens : goal.returns-clause-happens
 returns-clause-happens g c =
     rw (← c.self.view_is)
     (performed (world_of c.self.inside.kernel c.self.inside.server c.self.inside.requests.items c.self.inside.replies.items c.self.inside.results.items) c.self.invariant c.self.inside.kernel c.perform.new.self c.self.inside.requests.items c.put_reply-len.new.replies.items c.self.inside.results.items c.args.unique c.in-Ok.done.errno c.in-Some.first
-    (rw c.in-Some.is at c.in-Ok.ensures.performed) refl refl (rw (← c.reserve.ensures.items) (rw c.in-Some.is at c.put_reply-len.ensures.items)) refl c.within-3.ensures).0
+    (rw c.in-Some.is at c.in-Ok.ensures.performed) refl refl (rw (← c.reserve.ensures.items) (rw c.in-Some.is at c.put_reply-len.ensures.items)) refl c.within-2.ensures).0
 
 pub put_reply-len-requires : goal.put_reply-len-requires
 put_reply-len-requires g c = has_room c.reserve.result _ _ c.reserve.ensures.ok (sym c.is_err.ensures.value ∙ c.if-is_err.false)
@@ -37,13 +37,13 @@ pub returns-in_default-clause-happens : goal.returns-in_default-clause-happens
 returns-in_default-clause-happens g c =
     rw (← c.self.view_is)
     (lost (world_of c.self.inside.kernel c.self.inside.server c.self.inside.requests.items c.self.inside.replies.items c.self.inside.results.items) c.self.invariant c.self.inside.kernel c.perform.new.self c.self.inside.requests.items c.reserve.new.self.items c.self.inside.results.items c.args.unique c.in-Ok.done.errno (rw c.in_default.is at c.in-Ok.ensures.performed) refl refl
-    c.reserve.ensures.items refl c.within-3.ensures).0
+    c.reserve.ensures.items refl c.within-2.ensures).0
 
 pub invariant_of-self-in_default : goal.invariant_of-self-in_default
 invariant_of-self-in_default g c =
     (lost (world_of c.self.inside.kernel c.self.inside.server c.self.inside.requests.items c.self.inside.replies.items c.self.inside.results.items) c.self.invariant c.self.inside.kernel c.perform.new.self c.self.inside.requests.items c.reserve.new.self.items c.self.inside.results.items c.args.unique c.in-Ok.done.errno (rw c.in_default.is at c.in-Ok.ensures.performed) refl refl
-    c.reserve.ensures.items refl c.within-3.ensures).1
+    c.reserve.ensures.items refl c.within-2.ensures).1
 
 pub returns-clause-shows : goal.returns-clause-shows
 returns-clause-shows g c =
-    shows_reply (world_of c.self.inside.kernel c.perform.new.self c.self.inside.requests.items c.put_reply-len.new.replies.items c.self.inside.results.items) c.reserve.new.self.items c.in-Some.first c.args.unique c.put_reply-len.result c.put_reply-len.ensures.items (performed_under c.self.inside.server c.args.unique c.in-Ok.done.errno c.in-Some.first c.perform.new.self (rw c.in-Some.is at c.in-Ok.ensures.performed)) c.put_reply-len.ensures.len
+    shows_reply (world_of c.self.inside.kernel c.perform.new.self c.self.inside.requests.items c.put_reply-len.new.replies.items c.self.inside.results.items) c.reserve.new.self.items c.in-Some.first c.args.unique c.put_reply-len.result (rw c.in-Some.is at c.put_reply-len.ensures.items) (performed_under c.self.inside.server c.args.unique c.in-Ok.done.errno c.in-Some.first c.perform.new.self (rw c.in-Some.is at c.in-Ok.ensures.performed)) (rw c.in-Some.is at c.put_reply-len.ensures.len)

@@ -24,13 +24,13 @@ returns-in-Err-clause-refusal g c =
 pub invariant_of-self-2 : goal.invariant_of-self-2
 invariant_of-self-2 g c =
     (forgets_read (world_of c.self.inside.kernel c.self.inside.server c.self.inside.requests.items c.self.inside.replies.items c.self.inside.results.items) c.self.invariant c.read_forgets.new.self c.self.inside.server c.put_request-unique.new.requests.items c.self.inside.replies.items c.self.inside.results.items c.args.count c.put_request-unique.result.0 c.in-Ok.frame
-    c.in-Ok.ensures.judged c.in-Ok.ensures.frame c.put_request-unique.ensures.unique c.in-Ok.ensures.read refl (rw (← c.reserve.ensures.items) c.put_request-unique.ensures.items) refl refl c.within-3.ensures).1
+    c.in-Ok.ensures.judged c.in-Ok.ensures.frame c.put_request-unique.ensures.unique c.in-Ok.ensures.read refl (rw (← c.reserve.ensures.items) c.put_request-unique.ensures.items) refl refl c.within-2.ensures).1
 
 pub returns-clause-happens : goal.returns-clause-happens
 returns-clause-happens g c =
     rw (← c.self.view_is)
     (forgets_read (world_of c.self.inside.kernel c.self.inside.server c.self.inside.requests.items c.self.inside.replies.items c.self.inside.results.items) c.self.invariant c.read_forgets.new.self c.self.inside.server c.put_request-unique.new.requests.items c.self.inside.replies.items c.self.inside.results.items c.args.count c.put_request-unique.result.0 c.in-Ok.frame
-    c.in-Ok.ensures.judged c.in-Ok.ensures.frame c.put_request-unique.ensures.unique c.in-Ok.ensures.read refl (rw (← c.reserve.ensures.items) c.put_request-unique.ensures.items) refl refl c.within-3.ensures).0
+    c.in-Ok.ensures.judged c.in-Ok.ensures.frame c.put_request-unique.ensures.unique c.in-Ok.ensures.read refl (rw (← c.reserve.ensures.items) c.put_request-unique.ensures.items) refl refl c.within-2.ensures).0
 
 pub returns-clause-shows : goal.returns-clause-shows
 returns-clause-shows g c =

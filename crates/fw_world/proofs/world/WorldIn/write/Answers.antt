@@ -34,7 +34,7 @@ invariant_of-self-2 g c =
     (λ head none. let h = c.in-Ok.ensures.unawaited head none in (was_written h.0, h.1)) c.in-Ok.ensures.taken in
     let results = after_result c.self.inside.results.items c.reserve.new.self.items c.append.new.list.items c.number-number.result c.unique-unique.result c.in-Ok.written sent c.reserve.ensures.items c.append.ensures c.number-number.ensures c.unique-unique.ensures in
     (wrote (world_of c.self.inside.kernel c.self.inside.server c.self.inside.requests.items c.self.inside.replies.items c.self.inside.results.items) c.self.invariant c.write.new.self c.self.inside.server c.self.inside.requests.items c.remove-copy.new.self.items c.append.new.list.items c.args.place sent c.in-Ok.written
-    there took refl refl c.remove-copy.ensures.items results c.within-3.ensures).1
+    there took refl refl c.remove-copy.ensures.items results c.within-2.ensures).1
 
 pub returns-clause-happens : goal.returns-clause-happens
 returns-clause-happens g c =
@@ -45,7 +45,7 @@ returns-clause-happens g c =
     let results = after_result c.self.inside.results.items c.reserve.new.self.items c.append.new.list.items c.number-number.result c.unique-unique.result c.in-Ok.written sent c.reserve.ensures.items c.append.ensures c.number-number.ensures c.unique-unique.ensures in
     rw (← c.self.view_is, c.unique-unique.ensures)
     (wrote (world_of c.self.inside.kernel c.self.inside.server c.self.inside.requests.items c.self.inside.replies.items c.self.inside.results.items) c.self.invariant c.write.new.self c.self.inside.server c.self.inside.requests.items c.remove-copy.new.self.items c.append.new.list.items c.args.place sent c.in-Ok.written
-    there took refl refl c.remove-copy.ensures.items results c.within-3.ensures).0
+    there took refl refl c.remove-copy.ensures.items results c.within-2.ensures).0
 
 pub append-requires : goal.append-requires
 append-requires g c = has_room c.reserve.result _ _ c.reserve.ensures.ok (sym c.is_err.ensures.value ∙ c.if-is_err.false)
