@@ -10,6 +10,8 @@ use Rattle.fuse_spec.specs.declared.Taken.{Taken}
 use Rattle.fuse_spec.specs.declared.Taken.TheVariants as taken
 use Rattle.fuse_spec.specs.declared.IntrEffect.{IntrEffect}
 use Rattle.fuse_spec.specs.declared.IntrEffect.TheVariants as effect
+use Rattle.fuse_spec.specs.declared.WriteResult.{WriteResult}
+use Rattle.fuse_spec.specs.declared.WriteResult.TheVariants as written
 use Rattle.fuse_spec.specs.declared.Attributes.{Attributes}
 use Rattle.fuse_spec.specs.declared.Refusal.{Refusal}
 use Rattle.fuse_spec.specs.declared.Refusal.TheVariants as refusal
@@ -36,6 +38,12 @@ effect_word effect.Dequeued = codes "dequeued"
 effect_word effect.Flagged = codes "flagged"
 effect_word effect.Queued = codes "queued"
 effect_word effect.None = codes "none"
+
+-- the result of a reply's write, by its error number: 0, ENOENT or EINVAL
+abbrev pub result_number : WriteResult → List ℕ
+result_number written.Accepted = codes "0"
+result_number written.NoEntry = codes "2"
+result_number written.Invalid = codes "22"
 
 -- the kind of a file
 abbrev pub kind_word : Kind → List ℕ
@@ -98,8 +106,8 @@ outcome_line (outcome.Done unique errno len) =
     codes "done " ++ decimal unique ++ codes " " ++ decimal errno ++ codes " " ++ decimal len
 outcome_line (outcome.Lost unique errno) = codes "done " ++ decimal unique ++ codes " " ++ decimal errno ++ codes " lost"
 outcome_line (outcome.SentAgain unique len) = codes "again " ++ decimal unique ++ codes " " ++ decimal len
-outcome_line (outcome.Written unique errno) = codes "written " ++ decimal unique ++ codes " " ++ decimal errno
-outcome_line (outcome.Settled unique errno) = codes "settled " ++ decimal unique ++ codes " " ++ decimal errno
+outcome_line (outcome.Written unique result) = codes "written " ++ decimal unique ++ codes " " ++ result_number result
+outcome_line (outcome.Settled unique result) = codes "settled " ++ decimal unique ++ codes " " ++ result_number result
 outcome_line (outcome.Interrupted call effect) = codes "interrupted " ++ decimal call ++ codes " " ++ effect_word effect
 outcome_line (outcome.Now clock) = codes "now " ++ decimal clock
 outcome_line outcome.Dropped = codes "dropped"

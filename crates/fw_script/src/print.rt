@@ -1,9 +1,9 @@
 //! Outcomes and refusals as words.
 
 ghost use Rattle.std.specs.Prelude.{◌≡◌, Some};
-ghost use Rattle.fw_script.specs.Records.{effect_word, kind_word, outcome_line, refusal_name, refusal_number, taken_word};
+ghost use Rattle.fw_script.specs.Records.{effect_word, kind_word, outcome_line, refusal_name, refusal_number, result_number, taken_word};
 
-use fw_world::{IntrEffect, Kind, Outcome, Refusal, Taken};
+use fw_world::{IntrEffect, Kind, Outcome, Refusal, Taken, WriteResult};
 use std::fmt;
 
 /// What became of a taken request, in one word.
@@ -28,6 +28,17 @@ fn word_of_effect(effect: IntrEffect) -> &'static str
         IntrEffect::Flagged => "flagged",
         IntrEffect::Queued => "queued",
         IntrEffect::None => "none",
+    }
+}
+
+/// The result of a reply's write as its error number: 0, ENOENT or EINVAL.
+fn number_of_result(written: WriteResult) -> &'static str
+    ensures { result.now ≡ result_number written }
+{
+    match written {
+        WriteResult::Accepted => "0",
+        WriteResult::NoEntry => "2",
+        WriteResult::Invalid => "22",
     }
 }
 
@@ -87,8 +98,12 @@ impl fmt::Display for OutcomeLine {
             Outcome::Done { unique, errno, len } => write!(f, "done {unique} {errno} {len}"),
             Outcome::Lost { unique, errno } => write!(f, "done {unique} {errno} lost"),
             Outcome::SentAgain { unique, len } => write!(f, "again {unique} {len}"),
-            Outcome::Written { unique, errno } => write!(f, "written {unique} {errno}"),
-            Outcome::Settled { unique, errno } => write!(f, "settled {unique} {errno}"),
+            Outcome::Written { unique, result } => {
+                write!(f, "written {unique} {}", number_of_result(result))
+            }
+            Outcome::Settled { unique, result } => {
+                write!(f, "settled {unique} {}", number_of_result(result))
+            }
             Outcome::Interrupted { call, effect } => {
                 write!(f, "interrupted {call} {}", word_of_effect(effect))
             }

@@ -11,7 +11,7 @@ mod world;
 
 pub use event::{Event, Outcome, Pick};
 pub use fk_kernel::{Answer, Call, ListedName};
-pub use fuse_spec::{Attributes, IntrEffect, Kind, Refusal, Taken};
+pub use fuse_spec::{Attributes, IntrEffect, Kind, Refusal, Taken, WriteResult};
 pub use laws::lost_where_failed;
 pub use record::Record;
 pub use runs::run;
