@@ -1,22 +1,30 @@
--- What becomes of a request that is held, or that is an INTERRUPT.
-use Rattle.std.proofs.Common.{◌≡◌, ℕ, true, false, true≢false, List, Some, None, Result, Ok, Err, refl, sym, ap, ◌∙◌}
-use Rattle.std.specs.Prelude.{IfErr, IfOk, OnOk, MatchResult}
-use Rattle.fuse_spec.specs.Messages.{interrupt}
-use Rattle.fuse_spec.specs.Server.{Server, holding}
-use Rattle.fuse_spec.specs.Taking.{taking}
+-- What becomes of a request that nothing refuses but want of memory.
+use Rattle.std.proofs.Common.{◌≡◌, ℕ, ◌+◌, ◌<◌, ◌≤◌, ◌^◌, Bool, true, false, true≢false, not, ◌||◌, List, [], ◌∷◌, Option, Some, None, Result, Ok, Err, refl, sym, ap, ◌∙◌, arith, inr}
+use Rattle.std.specs.Prelude.{IfErr, IfOk, OnOk, MatchResult, is_some, nat_lt}
+use Rattle.std.proofs.lemmas.Bool.{le-ltb}
+use Rattle.fuse_spec.specs.Maps.{get}
+use Rattle.fuse_spec.specs.Messages.{Forget}
+use Rattle.fuse_spec.specs.Nodes.{NodeTable, taken_back}
+use Rattle.fuse_spec.specs.Numbers.{counter_end, eagain}
+use Rattle.fuse_spec.specs.Operations.{failed}
+use Rattle.fuse_spec.specs.Server.{Server, HeldRequest, Kept, holding, forgetting, sending, all_taken_back}
+use Rattle.fuse_spec.specs.Taking.{interrupting, taking}
 use Rattle.fuse_spec.specs.declared.Taken.TheVariants.{Held}
 use Rattle.fk_wire.specs.Requests as wire
 use Rattle.fk_wire.specs.Requests.{RequestContent, RequestMessage, Spells}
 use Rattle.fuse_frames.specs.RequestTies.{body_in}
 use Rattle.fs_server.specs.declared.server.ServerFault.{ServerFault}
 use Rattle.fs_server.specs.declared.server.ServerFault.TheVariants.{Memory}
+use Rattle.fs_server.specs.declared.server.ServerFault.TheVariants as fault
 use Rattle.fs_server.specs.declared.server.Took.{Took}
-use Rattle.fs_server.specs.Effects.{TakesFrame, RefusesFrame, is_past_end, past_or_memory}
-use Rattle.fs_server.specs.Interrupts.{Interrupts, RefusesInterrupt}
-use Rattle.fs_server.specs.Taking.{body_of, is_held}
-use Rattle.fs_server.proofs.Frames.{fault_in, holds, interrupts, refuses_for}
+use Rattle.fs_server.specs.Effects.{CanTake, TakesFrame, RefusesFrame, is_past_end, past_or_memory, request_fault}
+use Rattle.fs_server.specs.Interrupts.{Interrupts}
+use Rattle.fs_server.specs.Taking.{IsFaultless, IsTakeable, answers, body_of, is_held, serves}
+use Rattle.fs_server.proofs.Served.{past}
+use Rattle.fs_server.proofs.Frames.{fault_in, holds, interrupts, judged_so, refuses_for}
 
-pub asked_so : (nodeid : ℕ) (content : RequestContent) → is_held content ≡ true → body_in nodeid content ≡ Some (body_of nodeid content)
+-- what is served asks something
+pub asked_so : (nodeid : ℕ) (content : RequestContent) → serves content ≡ true → body_in nodeid content ≡ Some (body_of nodeid content)
 asked_so nodeid (wire.init major minor flags) is = refl
 asked_so nodeid (wire.lookup name) is = refl
 asked_so nodeid wire.getattr is = refl
@@ -31,40 +39,103 @@ asked_so nodeid (wire.readdir offset size) is = refl
 asked_so nodeid (wire.read fh offset size) is = refl
 asked_so nodeid (wire.write fh offset bytes) is = refl
 asked_so nodeid (wire.release fh) is = refl
-asked_so nodeid (wire.forget n) is = absurd (true≢false (sym is))
-asked_so nodeid (wire.batch_forget fs) is = absurd (true≢false (sym is))
-asked_so nodeid (wire.interrupt original) is = absurd (true≢false (sym is))
+asked_so nodeid (wire.forget n) is = refl
+asked_so nodeid (wire.batch_forget fs) is = refl
+asked_so nodeid (wire.interrupt original) is = refl
 asked_so nodeid (wire.readdirplus offset size) is = absurd (true≢false (sym is))
 
--- what is held draws no number
-past_held : (s : Server) (unique nodeid : ℕ) (content : RequestContent) → is_held content ≡ true → is_past_end (taking s unique (body_of nodeid content)).server ≡ is_past_end s
-past_held s unique nodeid (wire.init major minor flags) is = refl
-past_held s unique nodeid (wire.lookup name) is = refl
-past_held s unique nodeid wire.getattr is = refl
-past_held s unique nodeid (wire.mkdir name) is = refl
-past_held s unique nodeid (wire.create name) is = refl
-past_held s unique nodeid (wire.unlink name) is = refl
-past_held s unique nodeid (wire.rmdir name) is = refl
-past_held s unique nodeid (wire.rename newdir old new) is = refl
-past_held s unique nodeid (wire.link oldnodeid name) is = refl
-past_held s unique nodeid wire.opening is = refl
-past_held s unique nodeid (wire.readdir offset size) is = refl
-past_held s unique nodeid (wire.read fh offset size) is = refl
-past_held s unique nodeid (wire.write fh offset bytes) is = refl
-past_held s unique nodeid (wire.release fh) is = refl
-past_held s unique nodeid (wire.forget n) is = absurd (true≢false (sym is))
-past_held s unique nodeid (wire.batch_forget fs) is = absurd (true≢false (sym is))
-past_held s unique nodeid (wire.interrupt original) is = absurd (true≢false (sym is))
-past_held s unique nodeid (wire.readdirplus offset size) is = absurd (true≢false (sym is))
+-- a request with nothing wrong has no fault
+no_fault : (s : Server) (unique nodeid : ℕ) (content : RequestContent) → IsFaultless s unique nodeid content → request_fault s unique (body_in nodeid content) ≡ None
+no_fault s unique nodeid content right = sym (judged_so s unique nodeid content right.served_so right.known right.few false (λ i. is_some (right.unheld i) || is_some (right.unkept i)))
 
-module _ {A : Type 0} (s : Server) (bytes : List ℕ) (m : RequestMessage) (spells : Spells bytes m) (only : (n : RequestMessage) → Spells bytes n → m ≡ n) (none : fault_in s m ≡ None) where
-  pub held_so : is_held m.content ≡ true → is_past_end s ≡ false → (new : Server) (r : Result (Took A) ServerFault) → IfErr r (λ f. f ≡ Memory) → IfOk r (λ t. t ≡ record { unique = m.unique; word = Held; copy = None })
+-- forgets draw no generation
+same_generations : (t : NodeTable) (fs : List Forget) → (all_taken_back t fs).next_generation ≡ t.next_generation
+same_generations t [] = refl
+same_generations t (f ∷ fs) = same_generations (taken_back t f.0 f.1) fs
+
+last_or : (x e f : Bool) → (x || e) ≡ false → f ≡ false → (x || f) ≡ false
+last_or true e f before last = before
+last_or false e f before last = last
+
+module _ (s : Server) (unique : ℕ) (inside : is_past_end s ≡ false) where
+  past_forgotten : (fs : List Forget) → is_past_end (forgetting s fs) ≡ false
+  past_forgotten fs =
+      ap (λ (g : ℕ). nat_lt counter_end s.tree.next_birth || nat_lt counter_end s.tree.next_serial || nat_lt counter_end g || nat_lt counter_end s.handles.next_fh || nat_lt counter_end s.next_copy) (same_generations s.nodes fs)
+      ∙ inside
+
+  past_interrupting : (original : ℕ) (o : Option HeldRequest) (k : Option Kept) → (not (is_some o || is_some k) ≡ true → s.next_copy < 2 ^ 62) → is_past_end (interrupting s unique original o k).server ≡ false
+  past_interrupting original (Some h) k number = inside
+  past_interrupting original None (Some k) number = inside
+  past_interrupting original None None number =
+      last_or (nat_lt counter_end s.tree.next_birth || nat_lt counter_end s.tree.next_serial || nat_lt counter_end s.nodes.next_generation || nat_lt counter_end s.handles.next_fh) (nat_lt counter_end s.next_copy)
+      (nat_lt counter_end (s.next_copy + 1)) inside (le-ltb counter_end (s.next_copy + 1) (let low = number refl in omega (arith, low)))
+
+  -- what is taken draws no number but that of a copy
+  past_taken : (nodeid : ℕ) (content : RequestContent) → serves content ≡ true → (answers s content ≡ true → s.next_copy < 2 ^ 62) → is_past_end (taking s unique (body_of nodeid content)).server ≡ false
+  past_taken nodeid (wire.init major minor flags) is number = inside
+  past_taken nodeid (wire.lookup name) is number = inside
+  past_taken nodeid wire.getattr is number = inside
+  past_taken nodeid (wire.mkdir name) is number = inside
+  past_taken nodeid (wire.create name) is number = inside
+  past_taken nodeid (wire.unlink name) is number = inside
+  past_taken nodeid (wire.rmdir name) is number = inside
+  past_taken nodeid (wire.rename newdir old new) is number = inside
+  past_taken nodeid (wire.link oldnodeid name) is number = inside
+  past_taken nodeid wire.opening is number = inside
+  past_taken nodeid (wire.readdir offset size) is number = inside
+  past_taken nodeid (wire.read fh offset size) is number = inside
+  past_taken nodeid (wire.write fh offset bytes) is number = inside
+  past_taken nodeid (wire.release fh) is number = inside
+  past_taken nodeid (wire.forget n) is number = past_forgotten ((nodeid, n) ∷ [])
+  past_taken nodeid (wire.batch_forget fs) is number = past_forgotten fs
+  past_taken nodeid (wire.interrupt original) is number = past_interrupting original (get s.held original) (get s.kept original) number
+  past_taken nodeid (wire.readdirplus offset size) is number = absurd (true≢false (sym is))
+
+-- what is answered at once draws a copy number
+past_answered : (s : Server) (unique nodeid : ℕ) (content : RequestContent) → answers s content ≡ true → 2 ^ 62 ≤ s.next_copy → is_past_end (taking s unique (body_of nodeid content)).server ≡ true
+past_answered s unique nodeid (wire.interrupt original) answered over = by (get s.held original) (get s.kept original) answered
+  where
+    by : (o : Option HeldRequest) (k : Option Kept) → not (is_some o || is_some k) ≡ true → is_past_end (interrupting s unique original o k).server ≡ true
+    by (Some h) k e = absurd (true≢false (sym e))
+    by None (Some k) e = absurd (true≢false (sym e))
+    by None None e = past (sending s unique (failed eagain) s.next_copy) (inr (inr (inr (inr (omega (arith, over))))))
+past_answered s unique nodeid content answered over = absurd (true≢false (sym answered))
+
+-- a request with nothing wrong that would be answered, where no copy number is left
+pub exhausts : (s : Server) (bytes : List ℕ) (m : RequestMessage) → Spells bytes m → ((n : RequestMessage) → Spells bytes n → m ≡ n) → IsFaultless s m.unique m.nodeid m.content → answers s m.content ≡ true → 2 ^ 62 ≤ s.next_copy
+    → RefusesFrame s bytes fault.Exhausted
+exhausts s bytes m spells only right answered over =
+    refuses_for s bytes m spells only (body_of m.nodeid m.content) fault.Exhausted (asked_so m.nodeid m.content right.served_so) (no_fault s m.unique m.nodeid m.content right)
+    (sym (ap past_or_memory (past_answered s m.unique m.nodeid m.content answered over)))
+
+module _ (s : Server) (bytes : List ℕ) (m : RequestMessage) (right : IsTakeable s bytes m) where
+  pub asks : body_in m.nodeid m.content ≡ Some (body_of m.nodeid m.content)
+  asks = asked_so m.nodeid m.content right.faultless.served_so
+
+  pub faultless : fault_in s m ≡ None
+  faultless = no_fault s m.unique m.nodeid m.content right.faultless
+
+  pub within : is_past_end (taking s m.unique (body_of m.nodeid m.content)).server ≡ false
+  within = past_taken s m.unique right.within m.nodeid m.content right.faultless.served_so right.number
+
+  abbrev pub can_take : CanTake s bytes
+  can_take = record {
+    request = record { unique = m.unique; body = body_of m.nodeid m.content };
+    says = record { message = m; spells = right.spells; unique = refl; says = asks };
+    faultless = ap (request_fault s m.unique) (sym asks) ∙ faultless;
+    within = within;
+  }
+
+  -- only memory can be wanting
+  refused : (fault : ServerFault) → fault ≡ Memory → RefusesFrame s bytes fault
+  refused fault memory = refuses_for s bytes m right.spells right.only (body_of m.nodeid m.content) fault asks faultless (memory ∙ sym (ap past_or_memory within))
+
+  pub held_so : {A : Type 0} → is_held m.content ≡ true → (new : Server) (r : Result (Took A) ServerFault) → IfErr r (λ f. f ≡ Memory) → IfOk r (λ t. t ≡ record { unique = m.unique; word = Held; copy = None })
       → OnOk r (new ≡ holding s m.unique (body_of m.nodeid m.content)) → MatchResult r (λ t. TakesFrame s bytes t new) (RefusesFrame s bytes)
-  held_so is within new (Ok t) memory e server = holds s bytes m.unique m.nodeid t new m.content is e server spells none
-  held_so is within new (Err f) memory e after =
-      refuses_for s bytes m spells only (body_of m.nodeid m.content) f (asked_so m.nodeid m.content is) none (memory ∙ sym (ap past_or_memory (past_held s m.unique m.nodeid m.content is ∙ within)))
+  held_so is new (Ok t) memory e server = holds s bytes m.unique m.nodeid t new m.content is e server right.spells faultless
+  held_so is new (Err f) memory e after = refused f memory
 
-  pub interrupted_so : (original : ℕ) → m.content ≡ wire.interrupt original → (new : Server) (r : Result (Took A) ServerFault) → IfErr r (RefusesInterrupt s m.unique original) → IfOk r (λ t. Interrupts s m.unique original t new)
+  pub interrupted_so : {A : Type 0} (original : ℕ) → m.content ≡ wire.interrupt original → (new : Server) (r : Result (Took A) ServerFault) → IfErr r (λ f. f ≡ Memory) → IfOk r (λ t. Interrupts s m.unique original t new)
       → MatchResult r (λ t. TakesFrame s bytes t new) (RefusesFrame s bytes)
-  interrupted_so original is new (Ok t) e i = interrupts s bytes m.unique m.nodeid original t new i (rw is at spells) (rw is at none)
-  interrupted_so original is new (Err f) e i = refuses_for s bytes m spells only (interrupt original) f (ap (body_in m.nodeid) is) none e
+  interrupted_so original is new (Ok t) e i = let spelled = right.spells in let none = faultless in interrupts s bytes m.unique m.nodeid original t new i (rw is at spelled) (rw is at none)
+  interrupted_so original is new (Err f) e i = refused f e

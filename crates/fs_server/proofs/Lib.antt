@@ -10,3 +10,4 @@ pub mod Outcomes
 pub mod Faulty
 pub mod Becoming
 pub mod Wanting
+pub mod Judged

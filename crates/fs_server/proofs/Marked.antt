@@ -1,5 +1,5 @@
 -- INTERRUPTs are taken.
-use Rattle.std.proofs.Common.{◌≡◌, ℕ, ◌≤◌, ◌^◌, Bool, true, false, true≢false, not, nat_eq, Option, Some, None, T, refl, sym, ap, subst, ◌∙◌, arith, inl, inr}
+use Rattle.std.proofs.Common.{◌≡◌, ℕ, ◌≤◌, ◌^◌, Bool, true, false, true≢false, not, nat_eq, Option, Some, None, T, refl, sym, ap, subst, ◌∙◌, inl, inr}
 use Rattle.std.specs.Prelude.{is_some, nat_lt, ◌||◌}
 use Rattle.std.specs.Cmp.{nat_cmp_total}
 use Rattle.std.specs.FinMap.{is_sorted, nat_cmp-IsAntisymmetric}
@@ -7,19 +7,15 @@ use Rattle.std.specs.FinMap.Entries.{is_sorted-put, is_sorted-where_key, same_en
 use Rattle.std.specs.Ordering.{nat_cmp}
 use Rattle.std.proofs.lemmas.Bool.{cases_eq, le-ltb}
 use Rattle.fuse_spec.specs.Maps.{Map, get, put, remove}
-use Rattle.fuse_spec.specs.Numbers.{eagain, counter_end}
-use Rattle.fuse_spec.specs.Operations.{failed}
+use Rattle.fuse_spec.specs.Numbers.{counter_end}
 use Rattle.fuse_spec.specs.Messages.{interrupt}
-use Rattle.fuse_spec.specs.Server.{Server, HeldRequest, Kept, sending}
+use Rattle.fuse_spec.specs.Server.{Server, HeldRequest, Kept}
 use Rattle.fuse_spec.specs.Taking.{TakeResult, interrupting, taking}
 use Rattle.fuse_spec.specs.declared.Taken.TheVariants.{Marked, Ignored, Again}
 use Rattle.fuse_spec.proofs.Tables.{get_put_here, get_put_there, get_gone_there}
-use Rattle.fs_server.specs.declared.server.ServerFault.{ServerFault}
-use Rattle.fs_server.specs.declared.server.ServerFault.TheVariants as fault
 use Rattle.fs_server.specs.declared.server.Took.{Took}
-use Rattle.fs_server.specs.Effects.{copy_of, is_past_end, past_or_memory}
-use Rattle.fs_server.specs.Interrupts.{Interrupts, AsksAgain, RefusesInterrupt, RefusesEagain}
-use Rattle.fs_server.proofs.Served.{past}
+use Rattle.fs_server.specs.Effects.{copy_of, is_past_end}
+use Rattle.fs_server.specs.Interrupts.{Interrupts, AsksAgain}
 
 module _ {V : Type 0} where
   sorted_put : (m : Map V) (k : ℕ) (v : V) → T (is_sorted nat_cmp m) → T (is_sorted nat_cmp (put m k v))
@@ -91,9 +87,6 @@ module _ (s : Server) (unique original : ℕ) where
       pub asks_again : comes.word ≡ Again
       asks_again = ap (λ (r : TakeResult). r.word) unknown
 
-      pub refuses : (f : ServerFault) → RefusesEagain s unique f → RefusesInterrupt s unique original f
-      refuses f e = e ∙ sym (ap (λ (r : TakeResult). past_or_memory (is_past_end r.server)) unknown)
-
 -- ---- counters
 
 or_false : (a b c d e : Bool) → a ≡ false → b ≡ false → c ≡ false → d ≡ false → e ≡ false → (a || b || c || d || e) ≡ false
@@ -109,9 +102,3 @@ pub within : (s : Server) → nat_lt (2 ^ 62) s.tree.next_birth ≡ false → na
 within s births serials generations numbers copies =
     or_false (nat_lt counter_end s.tree.next_birth) (nat_lt counter_end s.tree.next_serial) (nat_lt counter_end s.nodes.next_generation) (nat_lt counter_end s.handles.next_fh) (nat_lt counter_end s.next_copy) births serials generations numbers
     (le-ltb counter_end s.next_copy copies)
-
-pub no_number : (s : Server) (unique : ℕ) → 2 ^ 62 ≤ s.next_copy → RefusesEagain s unique fault.Exhausted
-no_number s unique le = sym (ap past_or_memory (past (sending s unique (failed eagain) s.next_copy) (inr (inr (inr (inr (omega (arith, le))))))))
-
-pub no_memory : (t : Server) → is_past_end t ≡ false → fault.Memory ≡ past_or_memory (is_past_end t)
-no_memory t e = sym (ap past_or_memory e)

@@ -7,13 +7,13 @@ use Rattle.fuse_spec.specs.Server.{Server, RequestFault, unknown_node, too_many_
 use Rattle.fuse_spec.specs.Taking.{taking}
 use Rattle.fuse_spec.specs.declared.Taken.TheVariants.{Held, Again}
 use Rattle.fk_wire.specs.Requests as wire
-use Rattle.fk_wire.specs.Requests.{RequestContent, RequestMessage, Spells}
+use Rattle.fk_wire.specs.Requests.{RequestContent, RequestMessage}
 use Rattle.fuse_frames.specs.RequestTies.{body_in}
 use Rattle.fs_server.specs.declared.server.ServerFault.{ServerFault}
 use Rattle.fs_server.specs.declared.server.ServerFault.TheVariants.{Memory}
-use Rattle.fs_server.specs.Effects.{WantsMemory, as_fault, request_fault, takes_memory}
-use Rattle.fs_server.specs.Taking.{body_of, is_held}
-use Rattle.fs_server.proofs.Becoming.{asked_so}
+use Rattle.fs_server.specs.Effects.{CanTake, WantsMemory, as_fault, request_fault, takes_memory}
+use Rattle.fs_server.specs.Taking.{IsTakeable, body_of, is_held}
+use Rattle.fs_server.proofs.Becoming.{asks, can_take}
 
 abbrev is_memory_fault : ServerFault → Bool
 is_memory_fault Memory = true
@@ -57,18 +57,18 @@ held_word s unique nodeid (wire.batch_forget fs) is = absurd (true≢false (sym 
 held_word s unique nodeid (wire.interrupt original) is = absurd (true≢false (sym is))
 held_word s unique nodeid (wire.readdirplus offset size) is = absurd (true≢false (sym is))
 
--- the frame spells this message and no other
-module _ (s : Server) (bytes : List ℕ) (m : RequestMessage) (only : (n : RequestMessage) → Spells bytes n → m ≡ n) where
+-- nothing refuses the frame but want of memory
+module _ (s : Server) (bytes : List ℕ) (m : RequestMessage) (right : IsTakeable s bytes m) where
   wants_for : (body : RequestBody) → body_in m.nodeid m.content ≡ Some body → takes_memory (taking s m.unique body).word ≡ true → WantsMemory s bytes
   wants_for body is takes request says =
-      let one = only says.message says.spells in
+      let one = right.only says.message says.spells in
       let unique : m.unique ≡ request.unique = ap (λ (n : RequestMessage). n.unique) one ∙ says.unique in
       let asked : Some body ≡ Some request.body = sym is ∙ ap (λ (n : RequestMessage). body_in n.nodeid n.content) one ∙ says.says in
       let body_is : body ≡ request.body = same_Some body request.body asked in
       sym (λ i. takes_memory (taking s (unique i) (body_is i)).word) ∙ takes
 
   held_wants : is_held m.content ≡ true → WantsMemory s bytes
-  held_wants is = wants_for (body_of m.nodeid m.content) (asked_so m.nodeid m.content is) (ap takes_memory (held_word s m.unique m.nodeid m.content is))
+  held_wants is = wants_for (body_of m.nodeid m.content) (asks s bytes m right) (ap takes_memory (held_word s m.unique m.nodeid m.content is))
 
   interrupt_wants : (original : ℕ) → m.content ≡ wire.interrupt original → (taking s m.unique (interrupt original)).word ≡ Again → WantsMemory s bytes
   interrupt_wants original is word = wants_for (interrupt original) (ap (body_in m.nodeid) is) (ap takes_memory word)
@@ -81,3 +81,7 @@ module _ (s : Server) (bytes : List ℕ) (m : RequestMessage) (only : (n : Reque
   pub answer_wants : {T : Type 0} (original : ℕ) → m.content ≡ wire.interrupt original → (r : Result T ServerFault) → OnErr r ((taking s m.unique (interrupt original)).word ≡ Again) → IfErr r (λ fault. fault ≡ Memory → WantsMemory s bytes)
   answer_wants original is (Ok took) word = tt
   answer_wants original is (Err fault) word = λ memory. interrupt_wants original is word
+
+  pub memory_can : {T : Type 0} → (r : Result T ServerFault) → IfErr r (λ fault. fault ≡ Memory → CanTake s bytes)
+  memory_can (Ok took) = tt
+  memory_can (Err fault) = λ memory. can_take s bytes m right

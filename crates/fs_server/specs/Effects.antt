@@ -56,6 +56,19 @@ fault_or (Some fault) other = fault
 abbrev pub refused_for : Server → Request → ServerFault
 refused_for s request = fault_or (request_fault s request.unique (Some request.body)) (past_or_memory (is_past_end (taking s request.unique request.body).server))
 
+-- A frame spells a request that has no fault, and no counter would have given a number past its end: only memory can be wanting.
+pub record CanTake (s : Server) (bytes : List ℕ) : Type 0 where
+  pub request : Request
+  pub says : SaysRequest bytes request
+  pub faultless : request_fault s request.unique (Some request.body) ≡ None
+  pub within : is_past_end (taking s request.unique request.body).server ≡ false
+
+-- Taking a frame sends a copy of a reply at once.
+pub record AnswersFrame (s : Server) (bytes : List ℕ) : Type 0 where
+  pub can : CanTake s bytes
+  pub reply : WireReply
+  pub replies : (taking s can.request.unique can.request.body).reply ≡ Some reply
+
 -- the copy of a reply that is sent at once
 abbrev pub copy_of : (number unique : ℕ) → Option WireReply → Option Sent
 copy_of number unique None = None

@@ -6,9 +6,8 @@ use Rattle.fuse_spec.specs.Messages.{interrupt}
 use Rattle.fuse_spec.specs.Server.{Server, sending}
 use Rattle.fuse_spec.specs.Taking.{taking}
 use Rattle.fuse_spec.specs.declared.Taken.TheVariants.{Again}
-use Rattle.fs_server.specs.declared.server.ServerFault.{ServerFault}
 use Rattle.fs_server.specs.declared.server.Took.{Took}
-use Rattle.fs_server.specs.Effects.{copy_of, is_past_end, past_or_memory}
+use Rattle.fs_server.specs.Effects.{copy_of}
 
 -- An INTERRUPT is taken so.
 pub record Interrupts {A : Type 0} (old : Server) (unique original : ℕ) (took : Took A) (new : Server) : Type 0 where
@@ -17,16 +16,9 @@ pub record Interrupts {A : Type 0} (old : Server) (unique original : ℕ) (took 
   pub after : new ≡ (taking old unique (interrupt original)).server
   pub copy : took.copy ≡ copy_of old.next_copy unique (taking old unique (interrupt original)).reply
 
--- It is refused where it would be answered and no copy number is left, and else for want of memory.
-abbrev pub RefusesInterrupt : Server → (unique original : ℕ) → ServerFault → Type 0
-RefusesInterrupt s unique original fault = fault ≡ past_or_memory (is_past_end (taking s unique (interrupt original)).server)
-
 -- The same of one that is answered EAGAIN.
 pub record AsksAgain {A : Type 0} (old : Server) (unique : ℕ) (took : Took A) (new : Server) : Type 0 where
   pub under : took.unique ≡ unique
   pub word : took.word ≡ Again
   pub after : new ≡ sending old unique (failed eagain) old.next_copy
   pub copy : took.copy ≡ Some (record { number = old.next_copy; unique = unique; wire = failed eagain })
-
-abbrev pub RefusesEagain : Server → ℕ → ServerFault → Type 0
-RefusesEagain s unique fault = fault ≡ past_or_memory (is_past_end (sending s unique (failed eagain) s.next_copy))

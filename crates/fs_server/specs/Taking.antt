@@ -1,5 +1,5 @@
 -- What is taken of a request, by its node and by what it asks.
-use Rattle.std.specs.Prelude.{◌≡◌, ℕ, Bool, true, false, ◌&&◌, List, [], ◌∷◌, Option, Some, None, map, nat_lt, is_some}
+use Rattle.std.specs.Prelude.{◌≡◌, ◌<◌, ◌^◌, ℕ, Bool, true, false, ◌&&◌, ◌||◌, not, List, [], ◌∷◌, Option, Some, None, map, nat_lt, is_some}
 use Rattle.std.specs.Int.RustNames.{bit_and}
 use Rattle.std.specs.List.{list_all, list_any}
 use Rattle.fuse_spec.specs.Maps.{get}
@@ -7,10 +7,11 @@ use Rattle.fuse_spec.specs.Messages.{Forget, RequestBody}
 use Rattle.fuse_spec.specs.Nodes.{NodeTable, row_of}
 use Rattle.fuse_spec.specs.Server.{Server, HeldRequest, is_known, is_forgettable, count_in, forgotten, generation_in, nodes_of_body}
 use Rattle.fk_wire.specs.Requests as wire
-use Rattle.fk_wire.specs.Requests.{RequestContent, known_flags}
+use Rattle.fk_wire.specs.Requests.{RequestContent, RequestMessage, Spells, known_flags}
 use Rattle.fs_files.specs.declared.held.HeldBody.{HeldBody}
 use Rattle.fs_files.specs.declared.held.HeldBody.TheVariants.{Init}
 use Rattle.fuse_frames.specs.RequestTies.{body_in, body_or}
+use Rattle.fs_server.specs.Effects.{is_past_end}
 
 -- what is served: READDIRPLUS isn't so far
 abbrev pub serves : RequestContent → Bool
@@ -24,6 +25,11 @@ is_held (wire.batch_forget forgets) = false
 is_held (wire.interrupt original) = false
 is_held (wire.readdirplus offset size) = false
 is_held content = true
+
+-- what is answered at once: an INTERRUPT of a request that is not held and whose reply is not kept
+abbrev pub answers : Server → RequestContent → Bool
+answers s (wire.interrupt original) = not (is_some (get s.held original) || is_some (get s.kept original))
+answers s content = false
 
 -- what gives lookups back
 abbrev pub is_forgetting : RequestContent → Bool
@@ -103,3 +109,12 @@ pub record IsFaultless (s : Server) (unique nodeid : ℕ) (content : RequestCont
   pub few : forgets_too_many s.nodes nodeid content ≡ false
   pub unheld : get s.held unique ≡ None
   pub unkept : get s.kept unique ≡ None
+
+-- A frame spells this message and no other. It is a request with nothing wrong, no counter is past its end, and the copy number is
+-- left that it draws.
+pub record IsTakeable (s : Server) (bytes : List ℕ) (m : RequestMessage) : Type 0 where
+  pub spells : Spells bytes m
+  pub only : (n : RequestMessage) → Spells bytes n → m ≡ n
+  pub faultless : IsFaultless s m.unique m.nodeid m.content
+  pub within : is_past_end s ≡ false
+  pub number : answers s m.content ≡ true → s.next_copy < 2 ^ 62

@@ -1,15 +1,18 @@
 //! INTERRUPTs are taken.
 
-ghost use Rattle.std.specs.Prelude.{◌≡◌, true, None, Some, OnErr, IfErr, IfOk};
+ghost use Rattle.std.specs.Prelude.{◌≡◌, ◌<◌, ◌^◌, true, false, None, Some, OnErr, IfErr, IfOk};
 ghost use Rattle.fuse_spec.specs.Maps.{get, put};
 ghost use Rattle.fuse_spec.specs.Messages.{interrupt as asked};
 ghost use Rattle.fuse_spec.specs.Server.{HeldRequest as HeldState};
 ghost use Rattle.fuse_spec.specs.Taking.{taking};
 ghost use Rattle.fuse_spec.specs.declared.Taken.TheVariants.{Again as AgainWord};
-ghost use Rattle.fs_server.specs.Interrupts.{AsksAgain, Interrupts, RefusesEagain, RefusesInterrupt};
+ghost use Rattle.fk_wire.specs.Requests.{interrupt as content};
+ghost use Rattle.fs_server.specs.declared.server.ServerFault.TheVariants.{Memory as MemoryFault};
+ghost use Rattle.fs_server.specs.Interrupts.{AsksAgain, Interrupts};
+ghost use Rattle.fs_server.specs.Taking.{answers};
 
 use crate::replies::SentCopy;
-use crate::server::{COUNTER_END, Server, ServerFault, Took};
+use crate::server::{Server, ServerFault, Took};
 use fs_files::{PlainReply, SentReply};
 use fuse_frames::ReplyRoom;
 use fuse_spec::Taken;
@@ -23,10 +26,11 @@ impl<A: Allocator + Copy> Server<A> {
     ///
     /// # Errors
     ///
-    /// `Exhausted` where it is answered and no copy number is left, then `Memory`; the server is as before.
+    /// `Memory` where it is answered; the server is as before.
     pub(crate) fn interrupt(&mut self, unique: u64, original: u64) -> Result<Took<A>, ServerFault>
+        requires { answers self.old (content original) ≡ true → self.old.next_copy < 2 ^ 62 }
         ensures refused { OnErr result (self.new ≡ self.old) }
-        ensures fault { IfErr result (RefusesInterrupt self.old unique original) }
+        ensures fault { IfErr result (λ fault. fault ≡ MemoryFault) }
         ensures answered { OnErr result ((taking self.old unique (asked original)).word ≡ AgainWord) }
         ensures effect { IfOk result (λ took. Interrupts self.old unique original took self.new) }
     {
@@ -54,15 +58,12 @@ impl<A: Allocator + Copy> Server<A> {
 
     /// Answers an INTERRUPT with EAGAIN. The reply is not kept.
     fn ask_again(&mut self, unique: u64) -> Result<Took<A>, ServerFault>
+        requires { self.old.next_copy < 2 ^ 62 }
         ensures refused { OnErr result (self.new ≡ self.old) }
-        ensures fault { IfErr result (RefusesEagain self.old unique) }
+        ensures fault { IfErr result (λ fault. fault ≡ MemoryFault) }
         ensures sent { IfOk result (λ took. AsksAgain self.old unique took self.new) }
     {
         let number = self.next_copy;
-        if number >= COUNTER_END {
-            return Err(ServerFault::Exhausted);
-        }
-        self.files.within();
         let Ok(()) = self.copies.reserve(1) else {
             return Err(ServerFault::Memory);
         };

@@ -5,6 +5,7 @@ mod again;
 mod faults;
 mod holding;
 mod interrupting;
+mod judging;
 mod performing;
 mod replies;
 mod server;

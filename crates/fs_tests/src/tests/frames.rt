@@ -268,6 +268,18 @@ fn aborts<A: Allocator + Copy>(server: &mut Server<A>) -> bool {
     server.is_aborted()
 }
 
+/// Whether the server says of a frame, before it is taken, what a row has of it: why it is refused, and whether it is answered.
+fn is_foretold<A: Allocator + Copy>(server: &Server<A>, frame: &[u8], row: Row) -> bool {
+    let refusal = server.take_refusal(frame);
+    let is_answered = server.take_answers(frame);
+    match row {
+        Row::Takes(_, _) => refusal.is_none() && !is_answered,
+        Row::Answers(_, _) => refusal.is_none() && is_answered,
+        Row::Refuses(_, fault, _) => refusal == Some(fault) && !is_answered,
+        _ => false,
+    }
+}
+
 /// The step of a row that takes a frame.
 fn take_row<A: Allocator + Copy>(
     server: &mut Server<A>,
@@ -275,6 +287,9 @@ fn take_row<A: Allocator + Copy>(
     frame: &[u8],
     row: Row,
 ) -> Outcome {
+    if !is_foretold(server, frame, row) {
+        return Outcome::Wrong;
+    }
     match row {
         Row::Takes(_, word) => takes(server, frame, word),
         Row::Answers(_, text) => answers(server, alloc, frame, text),

@@ -3,7 +3,7 @@ use Rattle.std.specs.List.{list_any}
 use Rattle.fuse_spec.specs.Maps.{get}
 use Rattle.fuse_spec.specs.Server.{count_in, forgotten}
 use Rattle.fk_wire.specs.Pairs.{pairs_in}
-use Rattle.fs_server.proofs.taking.some_has_fewer.Given as goal
+use Rattle.fs_server.proofs.judging.some_has_fewer.Given as goal
 
 abbrev pub invariant-pairs : goal.invariant-pairs
 invariant-pairs g l =

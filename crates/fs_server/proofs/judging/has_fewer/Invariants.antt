@@ -1,7 +1,7 @@
 use Rattle.std.proofs.Common.{◌≡◌, nat_lt}
 use Rattle.fuse_spec.specs.Server.{forgotten}
 use Rattle.fk_wire.specs.Pairs.{pairs_in}
-use Rattle.fs_server.proofs.taking.has_fewer.Given as goal
+use Rattle.fs_server.proofs.judging.has_fewer.Given as goal
 
 abbrev pub invariant-pairs : goal.invariant-pairs
 invariant-pairs l =
