@@ -11,3 +11,4 @@ pub mod Faulty
 pub mod Becoming
 pub mod Wanting
 pub mod Judged
+pub mod Sweeps
