@@ -7,3 +7,5 @@ pub mod Told
 pub mod Counted
 pub mod Drawn
 pub mod StaysKnown
+pub mod Sweeping
+pub mod StaysNamed

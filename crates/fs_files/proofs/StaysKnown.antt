@@ -1,13 +1,9 @@
 -- Nodes stay of files of the tree, and open numbers of regular ones.
-use Rattle.std.proofs.Common.{◌≡◌, ◌≢◌, ℕ, ◌<◌, ◌^◌, Bool, true, false, cond, ◌||◌, not, nat_eq, List, [], ◌∷◌, Option, Some, None, Result, Ok, Err, refl, sym, ap, subst, ◌∙◌, arith, inl, inr}
+use Rattle.std.proofs.Common.{◌≡◌, ◌≢◌, ℕ, ◌<◌, ◌^◌, Bool, true, false, cond, not, nat_eq, List, [], ◌∷◌, Option, Some, None, Result, Ok, Err, refl, sym, ap, subst, ◌∙◌, arith, inl, inr}
 use Rattle.std.specs.Prelude.{IfOk, OnErr, IsSome, IsTrue, is_some}
-use Rattle.std.specs.List.{list_any}
-use Rattle.std.specs.FinMap.{nat_cmp-IsAntisymmetric}
-use Rattle.std.specs.FinMap.Entries.{find-where_key}
-use Rattle.std.specs.Ordering.{nat_cmp}
-use Rattle.std.proofs.lemmas.Bool.{cases_eq, eq-eqb}
+use Rattle.std.proofs.lemmas.Bool.{cases_eq}
 use Rattle.std.proofs.lemmas.Option.{none-some}
-use Rattle.fuse_spec.specs.Maps.{Map, get, put, values}
+use Rattle.fuse_spec.specs.Maps.{Map, get, put, remove}
 use Rattle.fuse_spec.specs.declared.Entry.{Entry}
 use Rattle.fuse_spec.specs.declared.Kind.TheVariants.{Regular}
 use Rattle.fuse_spec.specs.declared.Validity.{Validity}
@@ -20,9 +16,8 @@ use Rattle.fuse_spec.specs.FileOperations.{FileOperation, is_same, renamed, tree
 use Rattle.fuse_spec.specs.Operations as operation
 use Rattle.fuse_spec.specs.Trees.{Content, Tree, a_directory, a_file, bytes_of, file_at, is_directory, is_kind_directory, is_nameless, kind_of, overwritten, with_birth}
 use Rattle.fuse_spec.specs.TreeShape.{IsShaped, WritesRegular}
-use Rattle.fuse_spec.proofs.Tables.{get_put_here, get_put_there}
-use Rattle.fs_nodes.proofs.Maps.{any_there}
-use Rattle.fs_tree.specs.Outcomes.{is_kind_regular, is_regular, without_unheld}
+use Rattle.fuse_spec.proofs.Tables.{get_gone_there, get_put_here, get_put_there}
+use Rattle.fs_tree.specs.Outcomes.{is_kind_regular, discarded, is_regular}
 use Rattle.fs_tree.proofs.FileRows.{there-content}
 use Rattle.fs_tree.proofs.Keeping.{regular_kind}
 use Rattle.fs_tree.proofs.Shaping.{directory_there, same_number}
@@ -30,6 +25,7 @@ use Rattle.fs_files.specs.Bounds.{AreKnown, AreRegular, AreThere, IsThere, Keeps
 use Rattle.fs_files.specs.Performing.{Operates}
 use Rattle.fs_files.specs.Values.{FilesState, server_of}
 use Rattle.fs_files.specs.declared.replies.Outcome.{Outcome}
+use Rattle.fs_files.proofs.Sweeping.{unheld, unopened}
 use Rattle.fs_files.proofs.Bounds.{back_each, given_each, more_each, number_more_each, opened_each, row_back_each, taken_each}
 
 -- ---- nodes and open numbers
@@ -218,41 +214,18 @@ known_kept old new nodes handles keeps known = record {
       ap is_kind_regular (keeps.kind h.file (regular_there old h.file regular)) ∙ regular;
 }
 
--- ---- nameless files that nothing holds go
+-- ---- a file that nothing holds goes
 
-or_held : (a b : Bool) → b ≡ true → (a || b) ≡ true
-or_held true b e = refl
-or_held false b e = e
-
-held_first : (a b : Bool) → a ≡ true → (a || b) ≡ true
-held_first true b e = refl
-held_first false b e = absurd (cc)
-
-module _ (files : FilesState) (v : Validity) (known : AreKnown files.tree files.nodes files.handles) where
-  abbrev holds : ℕ → Bool
-  holds = is_file_held (server_of files v)
-
-  abbrev swept : Tree
-  swept = without_unheld holds files.tree
-
-  swept_is : (x : ℕ) → holds x ≡ true → get swept.files x ≡ get files.tree.files x
-  swept_is x held =
-      find-where_key nat_cmp (λ y. not (is_nameless files.tree y) || holds y) x (λ y t. ap (λ z. not (is_nameless files.tree z) || holds z) (sym (nat_cmp-IsAntisymmetric x y t))) files.tree.files
-      ∙ ap (λ (b : Bool). cond b (get files.tree.files x) None) (or_held (not (is_nameless files.tree x)) (holds x) held)
-
-  held_by_node : (id : ℕ) (row : HeldNode) → get files.nodes.rows id ≡ Some row → holds row.file ≡ true
-  held_by_node id row is =
-      held_first (list_any (λ (r : HeldNode). nat_eq r.file row.file) (values files.nodes.rows)) (list_any (λ (h : OpenNumber). nat_eq h.file row.file) (values files.handles.handles))
-      (any_there files.nodes.rows (λ (r : HeldNode). nat_eq r.file row.file) id row is (eq-eqb row.file row.file refl))
-
-  held_by_number : (fh : ℕ) (h : OpenNumber) → get files.handles.handles fh ≡ Some h → holds h.file ≡ true
-  held_by_number fh h is =
-      or_held (list_any (λ (r : HeldNode). nat_eq r.file h.file) (values files.nodes.rows)) (list_any (λ (g : OpenNumber). nat_eq g.file h.file) (values files.handles.handles))
-      (any_there files.handles.handles (λ (g : OpenNumber). nat_eq g.file h.file) fh h is (eq-eqb h.file h.file refl))
-
-  pub known_swept : AreKnown swept files.nodes files.handles
-  known_swept = record {
-    low = known.low;
-    there = λ id row is. ap is_some (swept_is row.file (held_by_node id row is)) ∙ known.there id row is;
-    regular = λ fh h is. ap (λ (o : Option Content). is_kind_regular (kind_of o)) (swept_is h.file (held_by_number fh h is)) ∙ known.regular fh h is;
-  }
+pub known_discarded : (files : FilesState) (v : Validity) → AreKnown files.tree files.nodes files.handles → (file : ℕ) → is_file_held (server_of files v) file ≡ false → AreKnown (discarded files.tree file) files.nodes files.handles
+known_discarded files v known file none = record {
+  low = known.low;
+  there = λ id row is. ap is_some (left_is row.file (unheld files v file none id row is)) ∙ known.there id row is;
+  regular = λ fh h is. ap (λ (o : Option Content). is_kind_regular (kind_of o)) (left_is h.file (unopened files v file none fh h is)) ∙ known.regular fh h is;
+}
+  where
+    left_is : (x : ℕ) → x ≢ file → get (discarded files.tree file).files x ≡ get files.tree.files x
+    left_is x ne = by (is_nameless files.tree file)
+      where
+        by : (b : Bool) → get (cond b (remove files.tree.files file) files.tree.files) x ≡ get files.tree.files x
+        by true = get_gone_there files.tree.files file x ne
+        by false = refl

@@ -1,8 +1,10 @@
 -- How far counts and births go, and what is known of the files that have nodes and open numbers.
-use Rattle.std.specs.Prelude.{◌≡◌, ◌<◌, ◌≤◌, ◌^◌, ℕ, Some, IsSome, IsTrue}
+use Rattle.std.specs.Prelude.{◌≡◌, ◌≢◌, ◌<◌, ◌≤◌, ◌^◌, ℕ, false, Option, None, Some, IsSome, IsTrue, T}
+use Rattle.std.specs.FinMap.{is_sorted}
+use Rattle.std.specs.Ordering.{nat_cmp}
 use Rattle.fuse_spec.specs.Maps.{get}
-use Rattle.fuse_spec.specs.Trees.{Tree, kind_of}
-use Rattle.fuse_spec.specs.Nodes.{NodeTable, HeldNode, HandleTable, OpenNumber}
+use Rattle.fuse_spec.specs.Trees.{Tree, is_nameless, kind_of}
+use Rattle.fuse_spec.specs.Nodes.{NodeTable, HeldNode, HandleTable, IsUnheld, OpenNumber}
 use Rattle.fs_tree.specs.Outcomes.{is_regular}
 
 -- no node has more lookups than this
@@ -34,6 +36,22 @@ pub record AreKnown (tree : Tree) (nodes : NodeTable) (handles : HandleTable) : 
   pub low : AreLow nodes
   pub there : AreThere tree nodes
   pub regular : AreRegular tree handles
+
+-- no open number is of the file
+abbrev pub IsUnopened : HandleTable → ℕ → Type 0
+IsUnopened handles file = (fh : ℕ) (handle : OpenNumber) → get handles.handles fh ≡ Some handle → handle.file ≢ file
+
+-- Each file of the tree that has no node and no open number has a name, but for one that is still to be looked at. Nodes and open
+-- numbers are in rising key, and none is in use from the next number on.
+pub record AreNamedBut (loose : Option ℕ) (tree : Tree) (nodes : NodeTable) (handles : HandleTable) : Type 0 where
+  pub rows : T (is_sorted nat_cmp nodes.rows)
+  pub opens : T (is_sorted nat_cmp handles.handles)
+  pub coming : (fh : ℕ) → handles.next_fh ≤ fh → get handles.handles fh ≡ None
+  pub named : (file : ℕ) → (loose ≡ Some file → ⊥) → IsThere tree file → IsUnheld nodes file → IsUnopened handles file → is_nameless tree file ≡ false
+
+-- Each file of the tree that has no node and no open number has a name.
+abbrev pub AreNamed : Tree → NodeTable → HandleTable → Type 0
+AreNamed tree nodes handles = AreNamedBut None tree nodes handles
 
 -- Each file of the one tree is in the other, and of the same kind.
 pub record KeepsFiles (old new : Tree) : Type 0 where

@@ -1,14 +1,16 @@
 -- What performing a held request comes to, before nodes and open numbers are given.
-use Rattle.std.specs.Prelude.{◌≡◌, ◌≤◌, ℕ, cond}
+use Rattle.std.specs.Prelude.{◌≡◌, ◌≤◌, ℕ, Option, None, cond, option_map}
 use Rattle.fuse_spec.specs.declared.Validity.{Validity}
+use Rattle.fuse_spec.specs.Maps.{get}
 use Rattle.fuse_spec.specs.Numbers.{eintr, eio, ebadf}
 use Rattle.fuse_spec.specs.Operations.{Reply, agreed, done, failed, files_in_reply, opens_in_reply}
 use Rattle.fuse_spec.specs.Trees.{Tree}
 use Rattle.fuse_spec.specs.FileOperations.{FileOperation, reply_by, reply_unrefused, tree_after, tree_unrefused}
 use Rattle.fuse_spec.specs.Messages.{RequestBody, init, asks, release, forget, batch_forget, interrupt}
-use Rattle.fuse_spec.specs.Nodes.{HandleTable, file_of, is_open, handle_back, all_given, all_opened}
+use Rattle.fuse_spec.specs.Nodes.{HandleTable, OpenNumber, file_of, is_open, handle_back, all_given, all_opened}
 use Rattle.fuse_spec.specs.Server.{Server, HeldRequest}
 use Rattle.fuse_spec.specs.Performs.{PerformResult, file_operation_of, is_open_for, is_still_held, wire_of}
+use Rattle.fs_tree.specs.Outcomes.{unnamed_by}
 use Rattle.fs_files.specs.declared.replies.Outcome.{Outcome}
 use Rattle.fs_files.specs.Replies.{IsTellable, outcome_len, outcome_reply}
 use Rattle.fs_files.specs.Values.{room_of, room_for}
@@ -49,6 +51,15 @@ tree_said s held = cond held.marked s.tree (cond (is_still_held s.nodes held.gen
 
 abbrev pub handles_said : Server → HeldRequest → HandleTable
 handles_said s held = cond held.marked s.handles (cond (is_still_held s.nodes held.generations) (handles_by s held.body) s.handles)
+
+-- the file that a request takes a name for good or an open number from, if it is performed
+abbrev pub loosened : Server → RequestBody → Option ℕ
+loosened s (asks operation) = unnamed_by s.tree (file_operation_of s.nodes operation)
+loosened s (release o) = option_map (λ (h : OpenNumber). h.file) (get s.handles.handles o.fh)
+loosened s init = None
+loosened s (forget f) = None
+loosened s (batch_forget fs) = None
+loosened s (interrupt original) = None
 
 -- The files that this reply names get nodes and open numbers, and are told by them.
 abbrev pub telling : (ℕ → ℕ) → Server → Reply ℕ ℕ → PerformResult

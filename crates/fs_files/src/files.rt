@@ -1,6 +1,6 @@
 //! The files that are served.
 
-ghost use Rattle.std.specs.Prelude.{◌≡◌, ◌≤◌, ◌<◌, ◌+◌, ◌^◌, [], nat_lt, false, OnOk, IfOk, IfSome, IfNone, None, is_some, Some};
+ghost use Rattle.std.specs.Prelude.{◌≡◌, ◌≤◌, ◌<◌, ◌+◌, ◌^◌, [], nat_lt, false, OnOk, IfOk, IfSome, IfNone, None, is_some, option_map, Some};
 ghost use Rattle.fuse_spec.specs.Maps.{get};
 ghost use Rattle.fuse_spec.specs.declared.Validity.{Validity as ValidityValue};
 ghost use Rattle.fuse_spec.specs.Nodes.{handle_back, handle_more, is_held, row_more, taken_back, OpenNumber};
@@ -8,7 +8,7 @@ ghost use Rattle.fuse_spec.specs.Copies.{row_back};
 ghost use Rattle.fuse_spec.specs.Server.{count_in, is_file_held};
 ghost use Rattle.fs_nodes.specs.Rows.{listed};
 ghost use Rattle.fs_tree.specs.Outcomes.{only_root, without_unheld};
-ghost use Rattle.fs_files.specs.Bounds.{AreCounted, AreUsed};
+ghost use Rattle.fs_files.specs.Bounds.{AreCounted, AreNamed, AreNamedBut, AreUsed};
 ghost use Rattle.fs_files.specs.Values.{no_nodes, no_handles, server_of};
 
 use crate::known::KnownFiles;
@@ -48,6 +48,7 @@ impl<A: Allocator + Copy> Files<A> {
         ensures tree { IfOk result (λ files. files.tree ≡ only_root) }
         ensures nodes { IfOk result (λ files. files.nodes ≡ no_nodes) }
         ensures handles { IfOk result (λ files. files.handles ≡ no_handles) }
+        ensures named { IfOk result (λ files. AreNamed files.tree files.nodes files.handles) }
     {
         let tree = Tree::new(alloc)?;
         Ok(Files {
@@ -143,21 +144,39 @@ impl<A: Allocator + Copy> Files<A> {
         self.known.handles.again(fh);
     }
 
-    /// Nameless files that nothing holds leave the tree.
-    pub fn discard_unheld(&mut self)
+    /// The file of an open number, if that is in use.
+    pub fn number_file(&self, fh: u64) -> Option<u64>
+        ensures { result ≡ option_map (λ (handle : OpenNumber). handle.file) (get self.now.handles.handles fh) }
+    {
+        self.known.handles.file_of(fh)
+    }
+
+    /// Takes a file out of the tree, if no name leads to it and nothing holds it. Every other file that nothing holds has a name, so
+    /// then all nameless files are gone that nothing holds.
+    pub fn discard_unheld(&mut self, loose: Option<u64>)
+        requires { AreNamedBut loose self.old.tree self.old.nodes self.old.handles }
         ensures tree { (v : ValidityValue) → self.new.tree ≡ without_unheld (is_file_held (server_of self.old v)) self.old.tree }
         ensures nodes { self.new.nodes ≡ self.old.nodes }
         ensures handles { self.new.handles ≡ self.old.handles }
+        ensures named { AreNamed self.new.tree self.new.nodes self.new.handles }
     {
-        self.tree.discard_unheld(&self.known);
+        let Some(file) = loose else {
+            return;
+        };
+        if self.known.holds(file) {
+            return;
+        }
+        self.tree.discard(file);
     }
 
-    /// Drops all nodes and open numbers. Their counters go on, and so does the tree.
+    /// Drops all nodes and open numbers, and takes all nameless files out of the tree. Counters go on.
     pub fn clear(&mut self)
-        ensures tree { self.new.tree ≡ self.old.tree }
+        ensures tree { (v : ValidityValue) → self.new.tree ≡ without_unheld (is_file_held (server_of self.new v)) self.old.tree }
         ensures nodes { self.new.nodes ≡ record self.old.nodes { rows = [] } }
         ensures handles { self.new.handles ≡ record self.old.handles { handles = [] } }
+        ensures named { AreNamed self.new.tree self.new.nodes self.new.handles }
     {
         self.known.clear();
+        self.tree.discard_nameless();
     }
 }

@@ -9,7 +9,6 @@ ghost use Rattle.fs_files.specs.Values.{no_nodes, no_handles};
 use crate::nodes::Nodes;
 use fs_handles::HandleTable;
 use fs_nodes::NodeTable;
-use fs_tree::Holders;
 use std::alloc::{AllocError, Allocator, Global};
 use std::marker::Model;
 
@@ -61,17 +60,11 @@ impl<A: Allocator + Copy> KnownFiles<A> {
         self.nodes.clear();
         self.handles.clear();
     }
-}
 
-impl<A: Allocator + Copy> Holders for KnownFiles<A> {
-    ghost use Rattle.std.specs.Prelude.{◌||◌, nat_eq};
-    ghost use Rattle.std.specs.List.{list_any};
-    ghost use Rattle.fuse_spec.specs.Maps.{values};
-    ghost use Rattle.fuse_spec.specs.Nodes.{HeldNode, OpenNumber};
-
-    ghost holding = { λ k file. list_any (λ (row : HeldNode). nat_eq row.file file) (values k.nodes.rows) || list_any (λ (h : OpenNumber). nat_eq h.file file) (values k.handles.handles) };
-
-    fn holds(&self, file: u64) -> bool {
+    /// Whether a file has a node or an open number.
+    pub(crate) fn holds(&self, file: u64) -> bool
+        ensures { result ≡ (list_any (λ (row : HeldNode). nat_eq row.file file) (values self.now.nodes.rows) || list_any (λ (h : OpenNumber). nat_eq h.file file) (values self.now.handles.handles)) }
+    {
         let has_node = self.nodes.has(file);
         let is_open = self.handles.has(file);
         has_node || is_open

@@ -6,6 +6,7 @@ mod answering;
 mod files;
 mod held;
 mod known;
+mod loosening;
 mod nodes;
 mod numbers;
 mod operating;

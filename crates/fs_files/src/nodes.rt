@@ -1,6 +1,6 @@
 //! The nodes that the server holds, the root among them.
 
-ghost use Rattle.std.specs.Prelude.{◌≡◌, ◌+◌, ◌^◌, ◌<◌, ◌≤◌, ℕ, [], true, false, Some, OnOk, IfOk, is_some, nat_eq};
+ghost use Rattle.std.specs.Prelude.{◌≡◌, ◌+◌, ◌^◌, ◌<◌, ◌≤◌, ℕ, [], true, false, Some, OnOk, IfOk, is_some, nat_eq, option_map};
 ghost use Rattle.std.specs.List.{list_any};
 ghost use Rattle.fuse_spec.specs.Maps.{get, values};
 ghost use Rattle.fuse_spec.specs.Nodes.{HeldNode, row_of, file_of, is_held, given, row_more, taken_back, MayName, IsUnheld};
@@ -100,6 +100,13 @@ impl<S: NodeStore> Nodes<S> {
             return ROOT_FILE;
         }
         self.store.file_of(id).unwrap_or(ROOT_FILE)
+    }
+
+    /// The file of a node but the root, if it is held.
+    pub fn counted_file(&self, id: u64) -> Option<u64>
+        ensures { result ≡ option_map (λ (row : HeldNode). row.file) (get self.now.table.rows id) }
+    {
+        self.store.file_of(id)
     }
 
     /// The lookup count of a node, without the root: 0 where it has none.

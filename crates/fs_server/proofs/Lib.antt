@@ -12,3 +12,4 @@ pub mod Becoming
 pub mod Wanting
 pub mod Performable
 pub mod Judged
+pub mod Sweeps

@@ -13,17 +13,18 @@ use Rattle.fuse_spec.specs.Operations.{Reply, files_in_reply, opens_in_reply}
 use Rattle.fuse_spec.specs.Performs.{is_still_held}
 use Rattle.fuse_spec.specs.Server.{Server, HeldRequest, all_taken_back}
 use Rattle.fuse_spec.proofs.Tables.{get_put_there, get_gone_here, get_gone_there}
-use Rattle.fs_files.specs.Bounds.{AreCounted, AreUsed}
+use Rattle.fs_files.specs.Bounds.{AreCounted, AreNamed, AreUsed}
 use Rattle.fs_files.specs.Performing.{handles_by, handles_said}
 use Rattle.fs_files.specs.Values.{FilesState, no_handles, no_nodes}
 use Rattle.fs_files.proofs.Bounds.{given_each, taken_each, more_each, opened_each, back_each, number_more_each}
 use Rattle.fs_server.specs.Sound.{IsSound, AreApart}
 
-pub sound_first : {V W X : Type 0} (files : FilesState) → files.nodes ≡ no_nodes → files.handles ≡ no_handles → IsSound {V = V} {W = W} {X = X} files [] [] [] 1 (record { found_ms = 0; missing_ms = 0 })
-sound_first files nodes handles = record {
+pub sound_first : {V W X : Type 0} (files : FilesState) → files.nodes ≡ no_nodes → files.handles ≡ no_handles → AreNamed files.tree files.nodes files.handles → IsSound {V = V} {W = W} {X = X} files [] [] [] 1 (record { found_ms = 0; missing_ms = 0 })
+sound_first files nodes handles named = record {
   requests = record { apart = λ n there. refl; copies_below = λ n le. refl };
   counted = λ id row is. absurd (none-some row (sym (ap (λ (t : NodeTable). get t.rows id) nodes) ∙ is));
   used = λ fh h is. absurd (none-some h (sym (ap (λ (t : HandleTable). get t.handles fh) handles) ∙ is));
+  named = named;
   numbers = omega arith;
   found_day = omega arith;
   missing_day = omega arith;

@@ -4,12 +4,13 @@ use Rattle.fuse_spec.specs.Maps.{get}
 use Rattle.fuse_spec.specs.Numbers.{counter_end}
 use Rattle.fuse_spec.specs.Messages.{Forget, RequestBody, Request, WireReply}
 use Rattle.fuse_spec.specs.Operations.{errno_of}
-use Rattle.fuse_spec.specs.Nodes.{MayChoose}
+use Rattle.fuse_spec.specs.Nodes.{HandleTable, MayChoose, NodeTable}
 use Rattle.fuse_spec.specs.Performs.{served, files_given}
 use Rattle.fuse_spec.specs.Worlds.{Sent}
-use Rattle.fuse_spec.specs.Server.{Server, HeldRequest, Kept, Copy, RequestFault, unknown_node, too_many_forgets, repeated_unique, fault_of, forgetting}
-use Rattle.fuse_spec.specs.Copies.{given_back, is_current, sent_again, settled}
+use Rattle.fuse_spec.specs.Server.{Server, HeldRequest, Kept, Copy, RequestFault, unknown_node, too_many_forgets, repeated_unique, all_taken_back, fault_of, forgetting, is_file_held}
+use Rattle.fuse_spec.specs.Copies.{given_back, handles_back, is_current, rows_back, sent_again, settled}
 use Rattle.fuse_spec.specs.Taking.{taking}
+use Rattle.fuse_spec.specs.declared.Entry.{Entry}
 use Rattle.fuse_spec.specs.declared.ReplyResult.{ReplyResult}
 use Rattle.fuse_spec.specs.declared.Taken.{Taken}
 use Rattle.fuse_spec.specs.declared.Taken.TheVariants.{Held, Forgot, Marked, Ignored, Again}
@@ -19,6 +20,8 @@ use Rattle.fuse_spec.specs.declared.Validity.{Validity}
 use Rattle.fuse_spec.specs.declared.WriteResult.{WriteResult}
 use Rattle.fuse_spec.specs.declared.WriteResult.TheVariants.{Accepted, NoEntry, Invalid}
 use Rattle.fuse_frames.specs.RequestTies.{SaysRequest}
+use Rattle.fs_tree.specs.Outcomes.{without_unheld}
+use Rattle.fs_files.specs.Bounds.{AreNamed}
 use Rattle.fs_files.specs.Values.{FilesState, server_of}
 use Rattle.fs_server.specs.declared.server.ServerFault.{ServerFault}
 use Rattle.fs_server.specs.declared.server.ServerFault.TheVariants.{Wire, UnknownNode, TooManyForgets, RepeatedUnique, Memory}
@@ -101,6 +104,21 @@ takes_memory Ignored = false
 -- Taking the request that a frame spells takes memory.
 abbrev pub WantsMemory : Server → List ℕ → Type 0
 WantsMemory s bytes = (request : Request) → SaysRequest bytes request → takes_memory (taking s request.unique request.body).word ≡ true
+
+-- These nodes and open numbers are left, and nameless files that nothing holds have gone.
+pub record Sweeps (old : FilesState) (nodes : NodeTable) (handles : HandleTable) (new : FilesState) : Type 0 where
+  pub tree : (v : Validity) → new.tree ≡ without_unheld (is_file_held (server_of new v)) old.tree
+  pub nodes_are : new.nodes ≡ nodes
+  pub handles_are : new.handles ≡ handles
+  pub named : AreNamed new.tree new.nodes new.handles
+
+-- These lookups are given back, and nameless files that nothing holds have gone.
+abbrev pub TakesBack : FilesState → List Forget → FilesState → Type 0
+TakesBack old fs new = Sweeps old (all_taken_back old.nodes fs) old.handles new
+
+-- What these entries and open numbers counted is given back, and nameless files that nothing holds have gone.
+abbrev pub CountsBack : FilesState → List Entry → List ℕ → FilesState → Type 0
+CountsBack old gs fhs new = Sweeps old (rows_back old.nodes gs) (handles_back old.handles fhs) new
 
 -- These lookups are given back, and nameless files that nothing holds go.
 abbrev pub Forgets : FilesState → List Forget → FilesState → Type 0

@@ -67,8 +67,9 @@ impl<A: Allocator + Copy> Server<A> {
         let Some(held) = self.held.get(unique) else {
             unreachable!();
         };
+        let loose = self.files.loosened_by(held);
         let outcome = self.files.answer(held, self.validity)?;
-        self.files.discard_unheld();
+        self.files.discard_unheld(loose);
         let _lost = self.held.remove(unique);
         Ok(Done {
             errno: outcome.errno(),
@@ -92,10 +93,11 @@ impl<A: Allocator + Copy> Server<A> {
         let len = held.reply_len();
         let room = ReplyRoom::new(self.alloc, len)?;
         let spare = Vec::with_capacity(self.alloc, len)?;
+        let loose = self.files.loosened_by(held);
         let outcome = self.files.answer(held, self.validity)?;
         let number = self.next_copy;
         let reply = self.files.tell(outcome, self.validity.found_ms);
-        self.files.discard_unheld();
+        self.files.discard_unheld(loose);
         let errno = reply.errno();
         let copy = reply.framed(room, number, unique);
         let sent = SentCopy::new(unique, reply.copied(spare), number);

@@ -132,7 +132,6 @@ impl<A: Allocator + Copy> Server<A> {
         ensures { self.new ≡ remounted self.old (record { found_ms = found_ms; missing_ms = missing_ms }) }
     {
         self.files.clear();
-        self.files.discard_unheld();
         self.held.clear();
         self.kept.clear();
         self.copies.clear();

@@ -1,16 +1,16 @@
 //! Copies are settled by the results of their writes.
 
-ghost use Rattle.std.specs.Prelude.{◌≡◌, OnErr, MatchResult};
-ghost use Rattle.fuse_spec.specs.Copies.{handles_back, kept_after, rows_back};
+ghost use Rattle.std.specs.Prelude.{◌≡◌, [], OnErr, MatchResult, option_to_list};
+ghost use Rattle.fuse_spec.specs.Copies.{kept_after};
 ghost use Rattle.fuse_spec.specs.Maps.{get};
-ghost use Rattle.fuse_spec.specs.Operations.{files_in_reply, opens_in_reply};
+ghost use Rattle.fs_files.specs.Bounds.{AreNamed};
 ghost use Rattle.fs_files.specs.Replies.{sent_wire};
-ghost use Rattle.fs_server.specs.Effects.{GivesBack, SettlesFiles, Settles, HasNoCopy, is_of_copy};
+ghost use Rattle.fs_server.specs.Effects.{CountsBack, GivesBack, SettlesFiles, Settles, HasNoCopy, is_of_copy};
 
 use crate::replies::{KeptReply, SentCopy};
 use crate::server::Server;
 use fs_files::{Files, SentReply};
-use fuse_spec::{Refusal, ReplyResult, WriteResult};
+use fuse_spec::{Entry, Refusal, ReplyResult, WriteResult};
 use fuse_tables::Table;
 use std::alloc::Allocator;
 
@@ -59,7 +59,9 @@ fn settle_files<A: Allocator + Copy>(
     reply: &SentReply<A>,
     settled: WriteResult,
 )
-    ensures { SettlesFiles files.old (sent_wire reply.now) settled files.new }
+    requires { AreNamed files.old.tree files.old.nodes files.old.handles }
+    ensures settles { SettlesFiles files.old (sent_wire reply.now) settled files.new }
+    ensures named { AreNamed files.new.tree files.new.nodes files.new.handles }
 {
     match settled {
         WriteResult::Accepted => {}
@@ -67,25 +69,38 @@ fn settle_files<A: Allocator + Copy>(
     }
 }
 
-/// Gives back what a refused copy carried, where it is still held, the node under the entry's generation. Nameless files that nothing
-/// holds then go.
+/// Gives back what a refused copy carried, where it is still held, the node under the entry's generation.
 fn give_back<A: Allocator + Copy>(files: &mut Files<A>, reply: &SentReply<A>)
-    ensures { GivesBack files.old (sent_wire reply.now) files.new }
+    requires { AreNamed files.old.tree files.old.nodes files.old.handles }
+    ensures gives { GivesBack files.old (sent_wire reply.now) files.new }
+    ensures named { AreNamed files.new.tree files.new.nodes files.new.handles }
 {
-    count_back(files, reply);
-    files.discard_unheld();
+    entry_back(files, reply.entry());
+    number_back(files, reply.opened());
 }
 
-/// Counts back the node and the open number that a reply names, if it names one.
-fn count_back<A: Allocator + Copy>(files: &mut Files<A>, reply: &SentReply<A>)
-    ensures tree { files.new.tree ≡ files.old.tree }
-    ensures nodes { files.new.nodes ≡ rows_back files.old.nodes (files_in_reply (sent_wire reply.now)) }
-    ensures handles { files.new.handles ≡ handles_back files.old.handles (opens_in_reply (sent_wire reply.now)) }
+/// Counts back the node of an entry. A nameless file that nothing holds any longer goes.
+fn entry_back<A: Allocator + Copy>(files: &mut Files<A>, entry: Option<Entry>)
+    requires { AreNamed files.old.tree files.old.nodes files.old.handles }
+    ensures { CountsBack files.old (option_to_list entry) [] files.new }
 {
-    if let Some(entry) = reply.entry() {
-        files.give_back(&entry);
-    }
-    if let Some(fh) = reply.opened() {
-        files.give_number_back(fh);
-    }
+    let Some(entry) = entry else {
+        return;
+    };
+    let loose = files.nodes().counted_file(entry.nodeid);
+    files.give_back(&entry);
+    files.discard_unheld(loose);
+}
+
+/// Counts back an open number. A nameless file that nothing holds any longer goes.
+fn number_back<A: Allocator + Copy>(files: &mut Files<A>, fh: Option<u64>)
+    requires { AreNamed files.old.tree files.old.nodes files.old.handles }
+    ensures { CountsBack files.old [] (option_to_list fh) files.new }
+{
+    let Some(fh) = fh else {
+        return;
+    };
+    let loose = files.number_file(fh);
+    files.give_number_back(fh);
+    files.discard_unheld(loose);
 }

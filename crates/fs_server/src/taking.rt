@@ -1,14 +1,15 @@
 //! Request frames are taken.
 
-ghost use Rattle.std.specs.Prelude.{◌≡◌, true, false, None, nat_lt, OnErr, OnOk, IfErr, IfOk, MatchResult};
+ghost use Rattle.std.specs.Prelude.{◌≡◌, ◌≤◌, ◌∷◌, [], true, false, None, nat_lt, OnErr, OnOk, IfErr, IfOk, MatchResult};
 ghost use Rattle.std.specs.List.{list_any};
 ghost use Rattle.fuse_spec.specs.Maps.{get};
-ghost use Rattle.fuse_spec.specs.Server.{count_in, forgetting, forgotten, holding, all_taken_back};
+ghost use Rattle.fuse_spec.specs.Server.{count_in, forgetting, forgotten, holding};
 ghost use Rattle.fuse_spec.specs.declared.Taken.TheVariants.{Held as HeldWord};
 ghost use Rattle.fk_wire.specs.Pairs.{pairs_in};
 ghost use Rattle.fk_wire.specs.Requests.{request_content};
 ghost use Rattle.fs_server.specs.declared.server.ServerFault.TheVariants.{Memory as MemoryFault};
-ghost use Rattle.fs_server.specs.Effects.{CanTake, Forgets, TakesFrame, RefusesFrame, WantsMemory};
+ghost use Rattle.fs_files.specs.Bounds.{AreNamed};
+ghost use Rattle.fs_server.specs.Effects.{CanTake, TakesBack, TakesFrame, RefusesFrame, WantsMemory};
 ghost use Rattle.fs_server.specs.Taking.{IsFaultless, body_of, forgets_in, forgets_too_many, is_forgetting, is_held};
 
 use crate::holding::held_request;
@@ -86,35 +87,35 @@ fn is_forget(body: &RequestBody<'_>) -> bool
 
 /// The same of the files that are served; each node has as many lookups.
 fn forget<A: Allocator + Copy>(files: &mut Files<A>, nodeid: u64, body: &RequestBody<'_>)
-    requires { forgets_too_many files.old.nodes nodeid (request_content body.now) ≡ false }
-    ensures { Forgets files.old (forgets_in nodeid (request_content body.now)) files.new }
-{
-    take_back(files, nodeid, body);
-    files.discard_unheld();
-}
-
-/// Gives the lookups back that a request tells; each node has as many.
-fn take_back<A: Allocator + Copy>(files: &mut Files<A>, nodeid: u64, body: &RequestBody<'_>)
-    requires { forgets_too_many files.old.nodes nodeid (request_content body.now) ≡ false }
-    ensures tree { files.new.tree ≡ files.old.tree }
-    ensures nodes { files.new.nodes ≡ all_taken_back files.old.nodes (forgets_in nodeid (request_content body.now)) }
-    ensures handles { files.new.handles ≡ files.old.handles }
+    requires enough { forgets_too_many files.old.nodes nodeid (request_content body.now) ≡ false }
+    requires named { AreNamed files.old.tree files.old.nodes files.old.handles }
+    ensures { TakesBack files.old (forgets_in nodeid (request_content body.now)) files.new }
 {
     match body {
-        RequestBody::Forget { nlookup } => files.take_back(nodeid, *nlookup),
+        RequestBody::Forget { nlookup } => forget_one(files, nodeid, *nlookup),
         RequestBody::BatchForget { pairs } => forget_all(files, *pairs),
         _ => {}
     }
 }
 
+/// Gives lookups of a node back, which has as many. A nameless file that nothing holds any longer goes.
+fn forget_one<A: Allocator + Copy>(files: &mut Files<A>, nodeid: u64, nlookup: u64)
+    requires enough { nlookup ≤ count_in (get files.old.nodes.rows nodeid) }
+    requires named { AreNamed files.old.tree files.old.nodes files.old.handles }
+    ensures { TakesBack files.old ((nodeid, nlookup) ∷ []) files.new }
+{
+    let loose = files.nodes().counted_file(nodeid);
+    files.take_back(nodeid, nlookup);
+    files.discard_unheld(loose);
+}
+
 /// Gives lookups back, pair by pair.
 fn forget_all<A: Allocator + Copy>(files: &mut Files<A>, pairs: Pairs<'_>)
-    requires { list_any (λ f. nat_lt (count_in (get files.old.nodes.rows f.0)) (forgotten f.0 (pairs_in pairs))) (pairs_in pairs) ≡ false }
-    ensures tree { files.new.tree ≡ files.old.tree }
-    ensures nodes { files.new.nodes ≡ all_taken_back files.old.nodes (pairs_in pairs.entry) }
-    ensures handles { files.new.handles ≡ files.old.handles }
+    requires enough { list_any (λ f. nat_lt (count_in (get files.old.nodes.rows f.0)) (forgotten f.0 (pairs_in pairs))) (pairs_in pairs) ≡ false }
+    requires named { AreNamed files.old.tree files.old.nodes files.old.handles }
+    ensures { TakesBack files.old (pairs_in pairs.entry) files.new }
 {
     'pairs: for (nodeid, nlookup) in pairs {
-        files.take_back(nodeid, nlookup);
+        forget_one(files, nodeid, nlookup);
     }
 }

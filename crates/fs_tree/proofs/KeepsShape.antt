@@ -89,14 +89,14 @@ module _ (tree : Tree) (shaped : IsShaped tree) (d : ℕ) (name : Name) where
   abbrev pub Apart : ℕ → Type 0
   Apart x = All (λ n. is_at d name n ≡ true → nat_eq n.file x ≡ false) tree.names
 
-  apart_from : (file x : ℕ) → file_at tree d name ≡ Some file → x ≢ file → Apart x
+  pub apart_from : (file x : ℕ) → file_at tree d name ≡ Some file → x ≢ file → Apart x
   apart_from file x at other =
       let found = name_at (find (is_at d name) tree.names) file at in
       λ i e lt here.
       let same = only_one (is_at d name) tree.names found.0 (shaped.once d name) found.1 i e lt here in
       other_number _ x (λ is. other (sym is ∙ ap (λ n. n.file) same ∙ found.2))
 
-  apart_where : (x : ℕ) → find (is_at d name) tree.names ≡ None → Apart x
+  pub apart_where : (x : ℕ) → find (is_at d name) tree.names ≡ None → Apart x
   apart_where x none = λ i e lt here. absurd (true≢false (sym here ∙ none_passes (is_at d name) tree.names none i e lt))
 
   -- the name of a file goes in which there is none

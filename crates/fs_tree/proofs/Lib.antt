@@ -13,3 +13,4 @@ pub mod Counting
 pub mod Below
 pub mod Shaping
 pub mod KeepsShape
+pub mod KeepsNames

@@ -1,5 +1,5 @@
 -- What is true of every tree stays true.
-use Rattle.std.proofs.Common.{◌≡◌, ◌≢◌, ℕ, ◌+◌, ◌≤◌, Bool, true, false, true≢false, not, cond, ◌&&◌, ◌||◌, List, Option, Some, None, IsSome, is_some, nat_eq, filter, count_by, refl, ap, sym, subst, ◌∙◌, arith, All, inl, inr, eq-eqb}
+use Rattle.std.proofs.Common.{◌≡◌, ◌≢◌, ℕ, ◌+◌, ◌≤◌, Bool, true, false, true≢false, not, cond, ◌&&◌, List, Option, Some, None, IsSome, is_some, nat_eq, filter, count_by, refl, ap, sym, subst, ◌∙◌, arith, All, inl, inr, eq-eqb}
 use Rattle.std.proofs.lemmas.Bool.{cases_eq}
 use Rattle.std.proofs.lemmas.Bool.Decides.{nat_tests}
 use Rattle.std.proofs.lemmas.List.Sums.{length-filter}
@@ -14,7 +14,7 @@ use Rattle.fuse_spec.specs.Trees.{Tree, Named, Content, a_directory, a_file, is_
 use Rattle.fuse_spec.specs.TreeShape.{IsShaped, Stands, names_of}
 use Rattle.fuse_spec.proofs.Tables.{tie_no, get_put_here, get_put_there, get_gone_there, get_gone}
 use Rattle.fuse_spec.proofs.QueueCounts.{count_by-push}
-use Rattle.fs_tree.specs.Outcomes.{discarded, only_root, without_nameless, without_unheld}
+use Rattle.fs_tree.specs.Outcomes.{discarded, only_root, without_nameless}
 use Rattle.fs_tree.proofs.BySerial.{same_name-equal}
 use Rattle.fs_tree.proofs.Counting.{found_passes, found_there, none_counted, each_counted, one_found, count_where}
 
@@ -270,16 +270,6 @@ module _ (tree : Tree) (shaped : IsShaped tree) where
 
       left_is : (x : ℕ) → get left x ≡ cond (not (is_nameless tree x)) (get tree.files x) None
       left_is x = find-where_key nat_cmp (λ y. not (is_nameless tree y)) x (λ y t. ap (λ z. not (is_nameless tree z)) (sym (nat_cmp-IsAntisymmetric x y t))) tree.files
-
-  -- all nameless files less that aren't held
-  pub without_unheld_files : (holds : ℕ → Bool) → IsShaped (without_unheld holds tree)
-  without_unheld_files holds = refiled tree shaped left tree.next_birth (λ x named. same_here left tree.files x (left_is x ∙ ap (λ b. cond (not b || holds x) (get tree.files x) None) named)) (λ x le. left_is x ∙ none_left (not (is_nameless tree x) || holds x) (get tree.files x) (shaped.unborn x le))
-    where
-      left : Map Content
-      left = filter (λ e. not (is_nameless tree e.0) || holds e.0) tree.files
-
-      left_is : (x : ℕ) → get left x ≡ cond (not (is_nameless tree x) || holds x) (get tree.files x) None
-      left_is x = find-where_key nat_cmp (λ y. not (is_nameless tree y) || holds y) x (λ y t. ap (λ z. not (is_nameless tree z) || holds z) (sym (nat_cmp-IsAntisymmetric x y t))) tree.files
 
 -- the tree with the root alone
 pub root_shaped : IsShaped only_root

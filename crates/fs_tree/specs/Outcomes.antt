@@ -5,8 +5,8 @@ use Rattle.fuse_spec.specs.declared.Kind.{Kind}
 use Rattle.fuse_spec.specs.declared.Kind.TheVariants.{Directory, Regular, Other}
 use Rattle.fuse_spec.specs.Numbers.{eperm, enoent, eexist, enotdir, eisdir, einval, efbig, enospc, enotempty}
 use Rattle.fuse_spec.specs.Maps.{get, remove}
-use Rattle.fuse_spec.specs.Operations.{Reply}
-use Rattle.fuse_spec.specs.Trees.{Tree, a_directory, kind_of, is_nameless}
+use Rattle.fuse_spec.specs.Operations.{Reply, unlink, rmdir, rename}
+use Rattle.fuse_spec.specs.Trees.{Tree, a_directory, file_at, kind_of, is_nameless}
 use Rattle.fuse_spec.specs.FileOperations.{FileOperation, Check, is_dir, is_file, is_filled, refusal, reply_unrefused}
 use Rattle.fs_tree.specs.declared.error.TreeError.{TreeError}
 use Rattle.fs_tree.specs.declared.error.TreeError.TheVariants.{NotPermitted, NotFound, NoMemory, AlreadyExists, NotADirectory, IsADirectory, Invalid, FileTooLarge, NoSpace, NotEmpty}
@@ -76,6 +76,13 @@ without_nameless tree = record tree { files = filter (λ e. not (is_nameless tre
 -- The tree without its nameless files that aren't held.
 abbrev pub without_unheld : (ℕ → Bool) → Tree → Tree
 without_unheld holds tree = record tree { files = filter (λ e. not (is_nameless tree e.0) || holds e.0) tree.files }
+
+-- The file from which an operation takes a name for good: that of the name by UNLINK and RMDIR, and one that is replaced by RENAME.
+abbrev pub unnamed_by : Tree → FileOperation → Option ℕ
+unnamed_by tree (unlink d name) = file_at tree d name
+unnamed_by tree (rmdir d name) = file_at tree d name
+unnamed_by tree (rename d old e new) = file_at tree e new
+unnamed_by tree operation = None
 
 -- What refuses to replace a file by another one.
 abbrev pub replacing : Tree → Option ℕ → Option ℕ → List Check

@@ -1,12 +1,11 @@
 //! The files of a tree: what each is.
 
-ghost use Rattle.std.specs.Prelude.{◌≡◌, ◌||◌, [], Some, filter, not, cond, count_by, nat_eq, OnErr, OnOk};
+ghost use Rattle.std.specs.Prelude.{◌≡◌, [], Some, filter, not, cond, count_by, nat_eq, OnErr, OnOk};
 ghost use Rattle.fuse_spec.specs.Maps.{get, put, remove};
 ghost use Rattle.fuse_spec.specs.Trees.{kind_of, bytes_of, a_file};
 ghost use Rattle.fuse_spec.specs.declared.Kind.TheVariants.{Regular};
 ghost use Rattle.fs_tree.specs.Views.{content_in};
 
-use crate::holders::Holders;
 use crate::names::Names;
 use crate::tree::ROOT;
 use fuse_spec::Kind;
@@ -121,14 +120,5 @@ impl<A: Allocator + Copy> Files<A> {
     {
         self.contents
             .retain(|file, _| *file == ROOT || names.count_of(*file) != 0);
-    }
-
-    /// Takes away each file that no name leads to and that is not held, but for the root.
-    pub(crate) fn retain_held<H: Holders>(&mut self, names: &Names<A>, holders: &H)
-        ensures { self.new ≡ filter (λ e. not (nat_eq (cond (nat_eq e.0 0) 1 (count_by (λ n. nat_eq n.file e.0) names.now)) 0) || H.holding holders.now e.0) self.old }
-    {
-        self.contents.retain(|file, _| {
-            *file == ROOT || names.count_of(*file) != 0 || holders.holds(*file)
-        });
     }
 }

@@ -11,7 +11,6 @@ mod directories;
 mod entries;
 mod error;
 mod files;
-mod holders;
 mod listing;
 mod names;
 mod operations;
@@ -23,7 +22,6 @@ mod tree;
 
 pub use error::TreeError;
 pub use fuse_spec::{Attributes, Kind};
-pub use holders::Holders;
 pub use listing::Record;
 pub use tree::{ROOT, Tree};
 

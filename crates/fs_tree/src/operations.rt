@@ -4,12 +4,11 @@ ghost use Rattle.std.specs.Prelude.{◌≡◌, ◌≢◌, ◌+◌, ◌^◌, ◌<
 ghost use Rattle.fuse_spec.specs.Operations.{mkdir, create, unlink, rmdir, link, rename};
 ghost use Rattle.fuse_spec.specs.Trees.{file_at, with_birth};
 ghost use Rattle.fuse_spec.specs.FileOperations.{refusal, tree_unrefused, is_same};
-ghost use Rattle.fs_tree.specs.Outcomes.{IsRefused, IsRefusedBy, discarded, without_nameless, without_unheld};
+ghost use Rattle.fs_tree.specs.Outcomes.{IsRefused, IsRefusedBy, discarded, without_nameless};
 ghost use Rattle.fs_tree.specs.Views.{content_in};
 
 use crate::error::TreeError;
 use crate::files::Content;
-use crate::holders::Holders;
 use crate::tree::Tree;
 use std::alloc::{AllocError, Allocator};
 
@@ -158,14 +157,6 @@ impl<A: Allocator + Copy> Tree<A> {
         ensures { self.new ≡ without_nameless self.old }
     {
         self.files.retain_named(&self.names);
-        self.names.forget_empty();
-    }
-
-    /// Takes all nameless files out of the tree that are not held. No memory is taken.
-    pub fn discard_unheld<H: Holders>(&mut self, holders: &H)
-        ensures { self.new ≡ without_unheld (H.holding holders.now) self.old }
-    {
-        self.files.retain_held(&self.names, holders);
         self.names.forget_empty();
     }
 }

@@ -126,6 +126,13 @@ impl<A: Allocator + Copy> Tree<A> {
         Ok(self.names.file_at(directory, name))
     }
 
+    /// The file to which a name leads; in a file that is no directory there is none.
+    pub fn file_at(&self, directory: u64, name: &[u8]) -> Option<u64>
+        ensures { result ≡ file_at self.now directory name.now }
+    {
+        self.names.file_at(directory, name)
+    }
+
     /// How many names lead to a file.
     pub fn names_of(&self, file: u64) -> usize
         ensures { result ≡ count_by (λ n. nat_eq n.file file) self.now.names }

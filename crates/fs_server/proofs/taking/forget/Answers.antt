@@ -1,9 +1,14 @@
+use Rattle.std.proofs.Common.{rules, ◌≡◌, sym, subst}
+use Rattle.fuse_spec.specs.Nodes.{NodeTable}
+use Rattle.fuse_spec.specs.Server.{all_taken_back}
 use Rattle.fk_wire.specs.Requests.{request_content}
+use Rattle.fs_server.specs.Effects.{Sweeps}
 use Rattle.fs_server.specs.Taking.{forgets_in}
-use Rattle.fs_server.proofs.GivenBack.{forgets}
+use Rattle.fs_server.proofs.Sweeps.{sweeps_none}
 use Rattle.fs_server.proofs.taking.forget.Goals as goal
 
-pub returns : goal.returns
-returns g c =
-    forgets c.args.files.now c.take_back.new.files c.discard_unheld.new.self (forgets_in c.args.nodeid (request_content c.args.body.now)) c.take_back.ensures.tree c.take_back.ensures.nodes c.take_back.ensures.handles
-    (record { tree = c.discard_unheld.ensures.tree; nodes = c.discard_unheld.ensures.nodes; handles = c.discard_unheld.ensures.handles })
+pub returns-in_default : goal.returns-in_default
+returns-in_default g c =
+    let files = c.args.files.now in
+    let none : all_taken_back files.nodes (forgets_in c.args.nodeid (request_content c.args.body.now)) ≡ files.nodes = search rules in
+    subst (λ (n : NodeTable). Sweeps files n files.handles files) (sym none) (sweeps_none files c.requires.named)

@@ -22,7 +22,7 @@ invariant_of-self-2 g c =
     let k = c.in-Some.copy in
     let less = settled s.files s.held.entries s.kept.entries s.copies.entries s.next_copy s.validity c.self.invariant c.args.settled.number in
     rw (c.remove.ensures.entries, c.drop_kept.ensures)
-    (unkept_copy _ _ _ _ _ _ (settled_files _ _ _ _ _ _ less c.settle_files.new.files (sent_wire c.reply.result.now) c.args.settled.result c.settle_files.ensures) k (get s.kept.entries k.unique))
+    (unkept_copy _ _ _ _ _ _ (settled_files _ _ _ _ _ _ less c.settle_files.new.files (sent_wire c.reply.result.now) c.args.settled.result c.settle_files.ensures.settles c.settle_files.ensures.named) k (get s.kept.entries k.unique))
 
 pub returns-clause-effect : goal.returns-clause-effect
 returns-clause-effect g c =
@@ -30,4 +30,4 @@ returns-clause-effect g c =
     let copy = c.in-Some.copy in
     let there : get s.copies.entries c.args.settled.number ≡ Some copy = sym c.remove.ensures.value ∙ c.in-Some.is in
     rw (← c.self.view_is, c.remove.ensures.entries, c.drop_kept.ensures)
-    (settles s.files c.settle_files.new.files s.held.entries s.kept.entries s.copies.entries s.next_copy s.validity s.is_aborted c.args.settled copy there (rw c.reply.ensures c.settle_files.ensures))
+    (settles s.files c.settle_files.new.files s.held.entries s.kept.entries s.copies.entries s.next_copy s.validity s.is_aborted c.args.settled copy there (rw c.reply.ensures c.settle_files.ensures.settles))

@@ -1,0 +1,56 @@
+//! Which file a request may leave without a name and without a holder.
+
+ghost use Rattle.std.specs.Prelude.{◌≡◌, None};
+ghost use Rattle.fuse_spec.specs.declared.Validity.{Validity as ValidityValue};
+ghost use Rattle.fs_tree.specs.Outcomes.{unnamed_by};
+ghost use Rattle.fs_files.specs.Bounds.{AreNamed, AreNamedBut};
+ghost use Rattle.fs_files.specs.Performing.{handles_said, loosened, tree_said};
+ghost use Rattle.fs_files.specs.Values.{asked_of, on_files, server_of};
+
+use crate::files::Files;
+use crate::held::{HeldBody, HeldOperation, HeldRequest};
+use crate::nodes::Nodes;
+use fs_nodes::NodeStore;
+use fs_tree::Tree;
+use std::alloc::Allocator;
+
+impl<A: Allocator + Copy> Files<A> {
+    /// The file that a held request takes a name for good or an open number from, if it is performed. Every other file that nothing
+    /// holds keeps a name.
+    pub fn loosened_by(&self, held: &HeldRequest<A>) -> Option<u64>
+        ensures file { (v : ValidityValue) → result ≡ loosened (server_of self.now v) held.now.body }
+        ensures others { (v : ValidityValue) → AreNamed self.now.tree self.now.nodes self.now.handles → AreNamedBut result (tree_said (server_of self.now v) held.now) self.now.nodes (handles_said (server_of self.now v) held.now) }
+    {
+        self.tree.keeps_shape();
+        self.loosened(held.body())
+    }
+
+    /// The same of what a request asks.
+    fn loosened(&self, body: &HeldBody<A>) -> Option<u64>
+        ensures { (v : ValidityValue) → result ≡ loosened (server_of self.now v) (asked_of body.now) }
+    {
+        match body {
+            HeldBody::Asks { operation } => unnamed_by(&self.tree, &self.known.nodes, operation),
+            HeldBody::Release { opened } => self.known.handles.file_of(opened.fh),
+            HeldBody::Init { .. } => None,
+        }
+    }
+}
+
+/// The file that an operation takes a name from for good.
+fn unnamed_by<A: Allocator + Copy, S: NodeStore>(
+    tree: &Tree<A>,
+    nodes: &Nodes<S>,
+    operation: &HeldOperation<A>,
+) -> Option<u64>
+    ensures { result ≡ unnamed_by tree.now (on_files nodes.now.table operation.now) }
+{
+    let file = nodes.file_of(operation.node());
+    let other = nodes.file_of(operation.other_node());
+    match operation {
+        HeldOperation::Unlink { name, .. } => tree.file_at(file, name),
+        HeldOperation::Rmdir { name, .. } => tree.file_at(file, name),
+        HeldOperation::Rename { new, .. } => tree.file_at(other, new),
+        _ => None,
+    }
+}

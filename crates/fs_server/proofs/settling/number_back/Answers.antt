@@ -1,0 +1,18 @@
+use Rattle.fuse_spec.specs.Nodes.{handle_back}
+use Rattle.fs_server.proofs.Sweeps.{but_number_back, sweeps_from, sweeps_none}
+use Rattle.fs_server.proofs.settling.number_back.Goals as goal
+
+pub returns-in_default : goal.returns-in_default
+returns-in_default g c = rw c.in_default.is (sweeps_none c.args.files.now c.requires)
+
+pub discard_unheld-requires : goal.discard_unheld-requires
+discard_unheld-requires g c =
+    but_number_back c.args.files.now c.give_number_back.new.self c.requires c.give_number_back.ensures.tree c.number_file-loose.result c.in-Some.fh c.number_file-loose.ensures c.give_number_back.ensures.nodes c.give_number_back.ensures.handles
+
+pub returns : goal.returns
+returns g c =
+    let old = c.args.files.now in
+    let swept = c.discard_unheld.ensures in
+    rw c.in-Some.is
+    (sweeps_from old c.give_number_back.new.self c.discard_unheld.new.self old.nodes (handle_back old.handles c.in-Some.fh) c.give_number_back.ensures.tree c.give_number_back.ensures.nodes c.give_number_back.ensures.handles swept.tree swept.nodes
+    swept.handles swept.named)
