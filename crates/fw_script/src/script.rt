@@ -11,16 +11,21 @@ ghost use Rattle.fw_script.specs.Stops.{status_of};
 use crate::hex_text::read_hex_or_none;
 use crate::line::{Line, read_line};
 use crate::lines::{Lines, first_fault, is_passed_over};
+use crate::machine::Machine;
 use crate::records::write_records;
 use crate::stop::Stop;
-use fw_world::{Call, Event, Record, WorldIn, run};
-use std::alloc::Allocator;
+use fw_link::Link;
+use fw_world::{Call, Event, Record, Session, WorldIn};
+use std::alloc::{Allocator, Global};
 use std::io;
 use std::io::{ErrorKind, Read, Write};
 
 /// The most records that one event comes to: its own, one of a lost link, and an answer for each
 /// of 64 calls.
 const MAX_RECORDS: usize = 66;
+
+/// The exit status where the link was lost.
+const LINK_LOST: u8 = 4;
 
 /// Room that one event after another uses: its records, and the bytes that a call puts into a file.
 #[derive(Drop)]
@@ -30,16 +35,16 @@ struct Room<A: Allocator> {
 }
 
 /// The frame that the last event put, if frames are printed.
-fn frame_put<A: Allocator + Copy>(world: &WorldIn<A>, hex: bool) -> Option<&[u8]> {
+fn frame_put<A: Allocator + Copy, M: Machine<A>>(machine: &M, hex: bool) -> Option<&[u8]> {
     if !hex {
         return None;
     }
-    world.last_put()
+    machine.last_put()
 }
 
 /// Runs one event, and writes what it came to.
-fn run_event<A: Allocator + Copy, W: Write>(
-    world: &mut WorldIn<A>,
+fn run_event<A: Allocator + Copy, M: Machine<A>, W: Write>(
+    machine: &mut M,
     event: Event<'_>,
     records: &mut Vec<Record<A>, A>,
     hex: bool,
@@ -48,10 +53,10 @@ fn run_event<A: Allocator + Copy, W: Write>(
     ensures { IfErr result (λ stop. status_of stop ≢ 1) }
 {
     records.clear();
-    if run(world, &[event], records).is_err() {
+    if machine.run(&[event], records).is_err() {
         return Err(Stop::NoMemory);
     }
-    let frame = frame_put(world, hex);
+    let frame = frame_put(machine, hex);
     if write_records(out, records.as_slice(), frame).is_err() {
         return Err(Stop::OutputRefused);
     }
@@ -107,10 +112,13 @@ fn write_nodes<W: Write>(out: &mut W, side: &str, nodes: &[(u64, u64, u64)]) -> 
 }
 
 /// Writes the nodes that the kernel counts and those that the server holds.
-fn show<A: Allocator + Copy, W: Write>(world: &WorldIn<A>, out: &mut W) -> Result<(), Stop<'static>>
+fn show<A: Allocator + Copy, M: Machine<A>, W: Write>(
+    machine: &M,
+    out: &mut W,
+) -> Result<(), Stop<'static>>
     ensures { IfErr result (λ stop. status_of stop ≢ 1) }
 {
-    let (Ok(kernel), Ok(server)) = (world.kernel_nodes(), world.server_nodes()) else {
+    let (Ok(kernel), Ok(server)) = (machine.kernel_nodes(), machine.server_nodes()) else {
         return Err(Stop::NoMemory);
     };
     if write_nodes(out, "kernel", kernel.as_slice()).is_err() {
@@ -120,8 +128,8 @@ fn show<A: Allocator + Copy, W: Write>(world: &WorldIn<A>, out: &mut W) -> Resul
 }
 
 /// Does what a good line says, and writes what it came to.
-fn run_line<A: Allocator + Copy, W: Write>(
-    world: &mut WorldIn<A>,
+fn run_line<A: Allocator + Copy, M: Machine<A>, W: Write>(
+    machine: &mut M,
     line: &[u8],
     room: &mut Room<A>,
     hex: bool,
@@ -130,7 +138,7 @@ fn run_line<A: Allocator + Copy, W: Write>(
     ensures { IfErr result (λ stop. status_of stop ≢ 1) }
 {
     match read_line(line) {
-        Ok(Line::Event(event)) => run_event(world, event, &mut room.records, hex, out),
+        Ok(Line::Event(event)) => run_event(machine, event, &mut room.records, hex, out),
         Ok(
             Line::CallWrite {
                 handle,
@@ -139,16 +147,16 @@ fn run_line<A: Allocator + Copy, W: Write>(
             },
         ) => {
             let event = event_of_write(&mut room.bytes, handle, offset, bytes)?;
-            run_event(world, event, &mut room.records, hex, out)
+            run_event(machine, event, &mut room.records, hex, out)
         }
-        Ok(Line::Show) => show(world, out),
+        Ok(Line::Show) => show(machine, out),
         Err(_) => Ok(()),
     }
 }
 
 /// Runs the events of a script whose lines are good, one after another.
-fn run_lines<A: Allocator + Copy, W: Write>(
-    world: &mut WorldIn<A>,
+fn run_lines<A: Allocator + Copy, M: Machine<A>, W: Write>(
+    machine: &mut M,
     script: &[u8],
     room: &mut Room<A>,
     hex: bool,
@@ -160,11 +168,24 @@ fn run_lines<A: Allocator + Copy, W: Write>(
         if is_passed_over(line) {
             continue;
         }
-        if let Err(stop) = run_line(world, line, room, hex, out) {
+        if let Err(stop) = run_line(machine, line, room, hex, out) {
             return Err(stop);
         }
     }
     flush(out)
+}
+
+/// Room for what one event comes to.
+fn make_room<A: Allocator + Copy>(alloc: A) -> Result<Room<A>, Stop<'static>>
+    ensures { IfErr result (λ stop. status_of stop ≢ 1) }
+{
+    let Ok(records) = Vec::with_capacity(alloc, MAX_RECORDS) else {
+        return Err(Stop::NoMemory);
+    };
+    Ok(Room {
+        records,
+        bytes: Vec::new(alloc),
+    })
 }
 
 /// Runs them on a new world.
@@ -176,11 +197,7 @@ fn run_events<A: Allocator + Copy, W: Write>(
 ) -> Result<(), Stop<'static>>
     ensures { IfErr result (λ stop. status_of stop ≢ 1) }
 {
-    let Ok(records) = Vec::with_capacity(alloc, MAX_RECORDS) else {
-        return Err(Stop::NoMemory);
-    };
-    let bytes = Vec::new(alloc);
-    let mut room = Room { records, bytes };
+    let mut room = make_room(alloc)?;
     let Ok(mut world) = WorldIn::new(alloc) else {
         return Err(Stop::NoMemory);
     };
@@ -188,6 +205,30 @@ fn run_events<A: Allocator + Copy, W: Write>(
     // By a call, since at the end of a scope the whole drop is proved as part of this function.
     drop(world);
     ended
+}
+
+/// Runs them on a new session over a link, and says whether the link was lost.
+fn run_session<A: Allocator + Copy, L: Link + Drop, W: Write>(
+    alloc: A,
+    link: L,
+    script: &[u8],
+    hex: bool,
+    out: &mut W,
+) -> Result<bool, Stop<'static>>
+    ensures { IfErr result (λ stop. status_of stop ≢ 1) }
+{
+    let mut room = make_room(alloc)?;
+    let Ok(mut session) = Session::new(alloc, link) else {
+        return Err(Stop::NoMemory);
+    };
+    let ended = run_lines(&mut session, script, &mut room, hex, out);
+    let is_lost = session.is_lost();
+    drop(session);
+    // A lost link is judged before an output that refuses.
+    match ended {
+        Err(stop) if !is_lost => Err(stop),
+        _ => Ok(is_lost),
+    }
 }
 
 /// Hands on all that was written.
@@ -214,6 +255,63 @@ fn read_script<'a, A: Allocator, R: Read>(
     }
 }
 
+/// A script whose lines are good.
+#[derive(Drop)]
+pub struct Script<A: Allocator = Global> {
+    lines: Vec<u8, A>,
+}
+
+impl<A: Allocator + Copy> Script<A> {
+    /// Reads a script, and judges its lines.
+    fn read_from<'a, R: Read>(alloc: A, name: &'a str, input: &mut R) -> Result<Script<A>, Stop<'a>>
+        ensures judged { OnOk result (IfSome (R.remaining input.old) IsGoodScript) }
+        ensures refused { IfErr result (λ stop. status_of stop ≢ 5) }
+    {
+        let lines = read_script(alloc, name, input)?;
+        if let Some((number, fault)) = first_fault(lines.as_slice()) {
+            return Err(Stop::BadLine { number, fault });
+        }
+        Ok(Script { lines })
+    }
+
+    /// Reads a script, and judges its lines before any is run. Else gives the exit status: 1 after `cannot read` with
+    /// the script's name, or `line N:` and the fault of the first bad line, on `faults`; or 3 after `no memory`.
+    pub fn read<R: Read, F: Write>(
+        alloc: A,
+        name: &str,
+        input: &mut R,
+        faults: &mut F,
+    ) -> Result<Script<A>, u8>
+        ensures judged { OnOk result (IfSome (R.remaining input.old) IsGoodScript) }
+        ensures statuses { IfErr result (Contains (1 ∷ 3 ∷ [])) }
+    {
+        match Script::read_from(alloc, name, input) {
+            Ok(script) => Ok(script),
+            Err(stop) => Err(stop.report(faults)),
+        }
+    }
+
+    /// Runs the script on a new session over a link on which nothing was put, and prints the lines of its records, under
+    /// `hex` also the frames that were put. Gives the exit status: 0; 4 where the link was lost; 3 after `no memory` on
+    /// `faults`; or 5 where `out` refuses.
+    pub fn run_over<L: Link + Drop, W: Write, F: Write>(
+        &self,
+        alloc: A,
+        link: L,
+        hex: bool,
+        out: &mut W,
+        faults: &mut F,
+    ) -> u8
+        ensures { Contains (0 ∷ 3 ∷ 4 ∷ 5 ∷ []) result }
+    {
+        match run_session(alloc, link, self.lines.as_slice(), hex, out) {
+            Ok(false) => 0,
+            Ok(true) => LINK_LOST,
+            Err(stop) => stop.report(faults),
+        }
+    }
+}
+
 /// Reads a script, judges its lines, and runs it.
 fn run_input<'a, A: Allocator + Copy, R: Read, W: Write>(
     alloc: A,
@@ -227,11 +325,26 @@ fn run_input<'a, A: Allocator + Copy, R: Read, W: Write>(
         IfSome (R.remaining input.old) IsGoodScript) }
     ensures silent { IfErr result (λ stop. status_of stop ≡ 1 → out.new ≡ out.old) }
 {
-    let script = read_script(alloc, name, input)?;
-    if let Some((number, fault)) = first_fault(script.as_slice()) {
-        return Err(Stop::BadLine { number, fault });
-    }
-    run_events(alloc, script.as_slice(), hex, out)
+    let script = Script::read_from(alloc, name, input)?;
+    run_events(alloc, script.lines.as_slice(), hex, out)
+}
+
+/// Reads a script, judges its lines, and runs it over a link. Says whether the link was lost.
+fn run_input_over<'a, A: Allocator + Copy, L: Link + Drop, R: Read, W: Write>(
+    alloc: A,
+    link: L,
+    name: &'a str,
+    hex: bool,
+    input: &mut R,
+    out: &mut W,
+) -> Result<bool, Stop<'a>>
+    ensures judged { OnOk result (IfSome (R.remaining input.old) IsGoodScript) }
+    ensures refused { IfErr result (λ stop. status_of stop ≡ 5 →
+        IfSome (R.remaining input.old) IsGoodScript) }
+    ensures silent { IfErr result (λ stop. status_of stop ≡ 1 → out.new ≡ out.old) }
+{
+    let script = Script::read_from(alloc, name, input)?;
+    run_session(alloc, link, script.lines.as_slice(), hex, out)
 }
 
 /// Runs a script on a new world, and prints the lines of its records, under `hex` also the frames
@@ -255,6 +368,29 @@ pub fn run_script<A: Allocator + Copy, R: Read, W: Write, F: Write>(
 {
     match run_input(alloc, name, hex, input, out) {
         Ok(()) => 0,
+        Err(stop) => stop.report(faults),
+    }
+}
+
+/// Runs a script on a new session over a link on which nothing was put, as `run_script` does on a world. Where the link
+/// is lost, the line `link lost` follows that of the event in which it was, and the status is 4.
+pub fn run_over<A: Allocator + Copy, L: Link + Drop, R: Read, W: Write, F: Write>(
+    alloc: A,
+    link: L,
+    name: &str,
+    hex: bool,
+    input: &mut R,
+    out: &mut W,
+    faults: &mut F,
+) -> u8
+    ensures statuses { Contains (0 ∷ 1 ∷ 3 ∷ 4 ∷ 5 ∷ []) result }
+    // Nothing is run of a script with a bad line.
+    ensures judged { (result ≡ 0) ⊎ (result ≡ 4) ⊎ (result ≡ 5) → IfSome (R.remaining input.old) IsGoodScript }
+    ensures silent { result ≡ 1 → out.new ≡ out.old }
+{
+    match run_input_over(alloc, link, name, hex, input, out) {
+        Ok(false) => 0,
+        Ok(true) => LINK_LOST,
         Err(stop) => stop.report(faults),
     }
 }

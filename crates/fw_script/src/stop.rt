@@ -91,3 +91,11 @@ pub fn no_memory<F: Write>(faults: &mut F) -> u8
 {
     Stop::NoMemory.report(faults)
 }
+
+/// Says on standard error that a socket failed, and gives the exit status, 4.
+pub fn socket_failed<F: Write>(faults: &mut F) -> u8
+    ensures { result ≡ 4 }
+{
+    let _ = writeln!(faults, "socket failed");
+    4
+}

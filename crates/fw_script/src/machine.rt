@@ -1,0 +1,55 @@
+//! What runs the events of a script: a world, or a session over a link.
+
+use fw_link::Link;
+use fw_world::{Event, Record, Refusal, Session, WorldIn, run};
+use std::alloc::Allocator;
+
+/// The nodes of one side: id, generation and lookup count of each.
+pub(crate) type Nodes<A> = Vec<(u64, u64, u64), A>;
+
+/// What runs events. What its calls give is said by those of `fw_world`.
+pub(crate) trait Machine<A: Allocator> {
+    fn run(&mut self, events: &[Event<'_>], records: &mut Vec<Record<A>, A>) -> Result<(), usize>;
+
+    fn last_put(&self) -> Option<&[u8]>;
+
+    fn kernel_nodes(&self) -> Result<Nodes<A>, Refusal>;
+
+    fn server_nodes(&self) -> Result<Nodes<A>, Refusal>;
+}
+
+impl<A: Allocator + Copy> Machine<A> for WorldIn<A> {
+    fn run(&mut self, events: &[Event<'_>], records: &mut Vec<Record<A>, A>) -> Result<(), usize> {
+        run(self, events, records)
+    }
+
+    fn last_put(&self) -> Option<&[u8]> {
+        WorldIn::last_put(self)
+    }
+
+    fn kernel_nodes(&self) -> Result<Nodes<A>, Refusal> {
+        WorldIn::kernel_nodes(self)
+    }
+
+    fn server_nodes(&self) -> Result<Nodes<A>, Refusal> {
+        WorldIn::server_nodes(self)
+    }
+}
+
+impl<L: Link + Drop, A: Allocator + Copy> Machine<A> for Session<L, A> {
+    fn run(&mut self, events: &[Event<'_>], records: &mut Vec<Record<A>, A>) -> Result<(), usize> {
+        Session::run(self, events, records)
+    }
+
+    fn last_put(&self) -> Option<&[u8]> {
+        Session::last_put(self)
+    }
+
+    fn kernel_nodes(&self) -> Result<Nodes<A>, Refusal> {
+        Session::kernel_nodes(self)
+    }
+
+    fn server_nodes(&self) -> Result<Nodes<A>, Refusal> {
+        Session::server_nodes(self)
+    }
+}
