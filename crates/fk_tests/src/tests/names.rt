@@ -132,11 +132,11 @@ fn refused_at<A: Allocator + Copy>(
 fn calls_with_each_growth_refused(rt: HostRuntime) -> Result<(), Fail> {
     let heap = FailAt::new(rt.alloc());
     let mut growths = 0u64;
-    for n in 1..60u64 {
+    for n in 1..100u64 {
         if refused_at(&rt, &heap, &heap, rt.alloc(), n) {
             growths = n;
         }
     }
-    assert!(rt; 8 <= growths && growths < 59, "{growths}");
+    assert!(rt; 8 <= growths && growths < 99, "{growths}");
     Ok(())
 }
