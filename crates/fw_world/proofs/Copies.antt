@@ -262,7 +262,7 @@ module _ (w : World) (here : IsReached w) (place : ℕ) (sent : Sent) (found : s
       let means : Means it.opcode bytes sent.wire = means_said sent.wire (heard_by can_hear it.opcode it.judged awaits) in
       let past : is_past_end (reply_written w.kernel sent.unique sent.wire).1 ≡ true = ap (λ (u : ℕ). is_past_end (reply_written w.kernel u sent.wire).1) (sym head.1) ∙ it.past sent.wire means in
       inl (past_written w place sent found past)
-  write_refused within r no_memory last = write_wanting within (last refl) NoMemory refl
+  write_refused within r (no_memory none) last = write_wanting within (last refl) NoMemory refl
 
   -- Where there is no room for its result: what the kernel would refuse it for, or want of memory.
   pub look_refused : is_past w ≡ false → (o : Option Refusal) → IfSome o (λ r. (r ≡ Exhausted) × WritePasses w.kernel bytes) → IfNone o (WritePasses w.kernel bytes → ⊥) → RefusedWith w (event.write place) (unwrap_or o NoMemory)

@@ -129,10 +129,10 @@ fn run_calls<A: Allocator + Copy>(
 fn calls_with_each_growth_refused(rt: HostRuntime) -> Result<(), Fail> {
     let heap = FailAt::new(rt.alloc());
     let mut runs = 0;
-    for n in heap.each_growth(60) {
+    for n in heap.each_growth(100) {
         run_calls(&rt, &heap, &heap, rt.alloc());
         runs = n;
     }
-    assert!(rt; 8 < runs && runs < 60, "{runs}");
+    assert!(rt; 8 < runs && runs < 100, "{runs}");
     Ok(())
 }
