@@ -1,6 +1,6 @@
 #!/bin/sh
-# Runs the built program on each script of tests/rows and compares what it prints, and then the
-# command `frame` and the program's faults. A script whose name ends in -in-hex is run with --hex.
+# Runs the built program on each script of tests/rows, in memory and over a socket, and compares what it
+# prints, and then the command `frame` and the program's faults. A script whose name ends in -in-hex is run with --hex.
 # Prints a line for each case, and ends with status 1 at a difference.
 set -u
 cd "$(dirname "$0")/.." || exit 1
@@ -59,6 +59,18 @@ for script in tests/rows/*.script; do
     cp "tests/rows/$name.expected" "$work/want-out"
     : > "$work/want-err"
     judge "$name" "$code" 0
+done
+
+# The same over a socket, which is gone afterwards.
+for script in tests/rows/*.script; do
+    name=$(basename "$script" .script)
+    case $name in *-in-hex) continue ;; esac
+    "$program" socket "$script" "$work/sock" > "$work/out" 2> "$work/err"
+    code=$?
+    [ -e "$work/sock" ] && echo "the socket is left" >> "$work/err"
+    cp "tests/rows/$name.expected" "$work/want-out"
+    : > "$work/want-err"
+    judge "$name over a socket" "$code" 0
 done
 
 # The bytes of some frames: the line of a row after which they are printed, the place of the first
@@ -139,8 +151,19 @@ expect mistake-on-standard-input 1 "" "line 3: bad number$newline"
 expect missing-file 1 "" "cannot read $work/none$newline" run "$work/none"
 expect directory-as-file 1 "" "cannot read $work$newline" run "$work"
 
+# Sockets that cannot be made. A file in a socket's place stays, and a script is judged first.
+: > "$work/in"
+: > "$work/sock"
+expect socket-in-the-place-of-a-file 4 "" "socket failed$newline" socket tests/rows/stat-of-root.script "$work/sock"
+[ -e "$work/sock" ]
+judge file-in-place-of-a-socket-stays $? 0
+expect socket-in-no-folder 4 "" "socket failed$newline" socket tests/rows/stat-of-root.script "$work/none/sock"
+expect socket-for-a-bad-script 1 "" "line 3: bad number$newline" socket "$work/script" "$work/sock"
+expect socket-for-a-missing-script 1 "" "cannot read $work/none$newline" socket "$work/none" "$work/sock"
+rm "$work/sock"
+
 # The command line. Its help goes to standard error.
-for words in --help "run --help" "frame --help" "run" "frame" "other" "run --hex --hex a"; do
+for words in --help "run --help" "frame --help" "socket --help" "run" "frame" "socket a" "other" "run --hex --hex a"; do
     # shellcheck disable=SC2086
     "$program" $words < /dev/null > "$work/out" 2> "$work/err"
     code=$?

@@ -11,6 +11,8 @@ pub enum Task<'a> {
     Input,
     /// The script in a file, with the frames that are put under `hex`.
     Run { file: &'a str, hex: bool },
+    /// The script in a file, over a Unix socket that is made at a path.
+    Socket { file: &'a str, path: &'a str },
     /// One request frame.
     Frame { hex: &'a str },
 }
@@ -34,6 +36,19 @@ fn run_command<'a>(alloc: Global) -> Result<Command<'a>, AllocError> {
         .arg(file)
 }
 
+fn socket_command<'a>(alloc: Global) -> Result<Command<'a>, AllocError> {
+    let file = Arg::new(alloc, "FILE")
+        .required(true)
+        .help("The script: one event a line");
+    let path = Arg::new(alloc, "SOCK")
+        .required(true)
+        .help("Where the socket is made, and removed at the end");
+    Command::new(alloc, "socket")
+        .about("Run a script over a Unix socket, both ends in this process")
+        .arg(file)?
+        .arg(path)
+}
+
 fn frame_command<'a>(alloc: Global) -> Result<Command<'a>, AllocError> {
     let hex = Arg::new(alloc, "HEX")
         .required(true)
@@ -48,6 +63,7 @@ fn program<'a>(alloc: Global) -> Result<Command<'a>, AllocError> {
         .about("A FUSE 7.31 kernel and its server, run by a script")
         .after_help("Without a command, the script is read from standard input.")
         .subcommand(run_command(alloc)?)?
+        .subcommand(socket_command(alloc)?)?
         .subcommand(frame_command(alloc)?)
 }
 
@@ -61,6 +77,11 @@ pub fn read_task<'a>(alloc: Global, words: &'a [String]) -> Result<Task<'a>, Err
         let file = inner.get_str("FILE").unwrap_or("");
         let hex = inner.get_flag("hex");
         return Ok(Task::Run { file, hex });
+    }
+    if name == "socket" {
+        let file = inner.get_str("FILE").unwrap_or("");
+        let path = inner.get_str("SOCK").unwrap_or("");
+        return Ok(Task::Socket { file, path });
     }
     let hex = inner.get_str("HEX").unwrap_or("");
     Ok(Task::Frame { hex })

@@ -2,9 +2,11 @@
 #![tactic(auto)]
 
 mod command;
+mod socket;
 
 use command::{Task, is_memory, read_task};
-use fw_script::{cannot_read, no_memory, run_frame, run_script};
+use fw_script::{Script, cannot_read, no_memory, run_frame, run_script};
+use socket::run_socket;
 use std::fs::File;
 use std::io;
 use std::io::{BufWriter, ErrorKind};
@@ -27,11 +29,26 @@ fn run_file(rt: &HostRuntime, file: Option<&str>, hex: bool) -> u8 {
     }
 }
 
+/// Runs the script in a file over a socket at a path, and gives the exit status.
+fn run_over_socket(rt: &HostRuntime, file: &str, path: &str) -> u8 {
+    let mut faults = rt.stderr();
+    let mut input = match File::open(rt, file) {
+        Ok(input) => input,
+        Err(error) if error.kind() == ErrorKind::OutOfMemory => return no_memory(&mut faults),
+        Err(_) => return cannot_read(file, &mut faults),
+    };
+    match Script::read(rt.alloc(), file, &mut input, &mut faults) {
+        Ok(script) => run_socket(rt, &script, path),
+        Err(status) => status,
+    }
+}
+
 /// Does what the words of the command line ask for, and gives the exit status.
 fn run_words(rt: &HostRuntime, words: &[String]) -> u8 {
     match read_task(rt.alloc(), words) {
         Ok(Task::Input) => run_file(rt, None, false),
         Ok(Task::Run { file, hex }) => run_file(rt, Some(file), hex),
+        Ok(Task::Socket { file, path }) => run_over_socket(rt, file, path),
         Ok(Task::Frame { hex }) => {
             run_frame(rt.alloc(), hex, &mut io::writer(rt), &mut rt.stderr())
         }

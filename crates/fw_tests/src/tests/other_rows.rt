@@ -1,0 +1,423 @@
+//! The rows of `tests/rows` that are not in `rows`, but the one in hex.
+
+use super::rows::Row;
+
+pub(super) static OTHER_ROWS: [Row; 21] = [
+    Row {
+        name: "call-before-init-is-answered",
+        script: "mount 1000 0\ncall stat /a\n",
+        output: "mounted\nrefused 4 NotReady\n",
+    },
+    Row {
+        name: "call-before-mount",
+        script: "call stat /\n",
+        output: "refused 4 NotReady\n",
+    },
+    Row {
+        name: "clock-and-validity-limits",
+        script: "mount 86400001 0\ntick 9007199254740992\ntick 9007199254740991\ntick 1\n",
+        output: "refused 9 BadTime\nrefused 9 BadTime\nnow 9007199254740991\nrefused 9 BadTime\n",
+    },
+    Row {
+        name: "copy-in-flight-holds-node-and-id",
+        script: "mount 1000 0\nread p 0\ntake 0\ndo 2\nwrite 0\nsettle 0\ncall mkdir /a\n\
+            read p 0\ntake 0\ndo 4\nwrite 0\nsettle 0\ntick 1000\ncall stat /a\nread p 0\ntake 0\n\
+            do 6\nagain 6\nwrite 0\nread p 0\ntake 0\ndo 8\nwrite 1\ndrop 1 a\nevict 2\nread f 1\n\
+            take 0\nshow\nwrite 0\nsettle 2\nshow\ncall mkdir /b\nread p 0\ntake 0\ndo 12\nwrite 0\n\
+            show\n",
+        output: "mounted\nread 2 INIT 56\ntaken 2 held\ndone 2 0 80\nwritten 2 0\nsettled 2 0\n\
+            call 1\nread 4 MKDIR 50\ntaken 4 held\ndone 4 0 144\nwritten 4 0\nanswer 1 0\n\
+            settled 4 0\nnow 1000\ncall 2\nread 6 LOOKUP 42\ntaken 6 held\ndone 6 0 144\n\
+            again 6 144\nwritten 6 0\nread 8 GETATTR 56\ntaken 8 held\ndone 8 0 120\nwritten 8 0\n\
+            answer 2 0 dir 2 0 1\ndropped\nevicted 2 2\nread 10 FORGET 48\ntaken 10 forgot\nkernel\n\
+            server 2:1:1\nwritten 6 2\nsettled 6 2\nkernel\nserver\ncall 3\nread 12 MKDIR 50\n\
+            taken 12 held\ndone 12 0 144\nwritten 12 0\nanswer 3 0\nkernel 2:2:1\nserver 2:2:1\n",
+    },
+    Row {
+        name: "counts-of-two-lookups-and-exact-forget",
+        script: "mount 1000 0\nread p 0\ntake 0\ndo 2\nwrite 0\nsettle 0\ncall mkdir /a\n\
+            read p 0\ntake 0\ndo 4\nwrite 0\nsettle 0\ntick 1000\ncall stat /a\ncall stat /a\n\
+            read p 0\ntake 0\ndo 6\nwrite 0\nsettle 0\nread p 0\ntake 0\ndo 8\nwrite 0\nsettle 0\n\
+            evict 2\nread p 0\ntake 0\ndo 10\nwrite 0\nsettle 0\nread p 0\ntake 0\ndo 12\nwrite 0\n\
+            settle 0\nshow\ndrop 1 a\nevict 2\nread f 1\ntake 0\nshow\n",
+        output: "mounted\nread 2 INIT 56\ntaken 2 held\ndone 2 0 80\nwritten 2 0\nsettled 2 0\n\
+            call 1\nread 4 MKDIR 50\ntaken 4 held\ndone 4 0 144\nwritten 4 0\nanswer 1 0\n\
+            settled 4 0\nnow 1000\ncall 2\ncall 3\nread 6 LOOKUP 42\ntaken 6 held\ndone 6 0 144\n\
+            written 6 0\nsettled 6 0\nread 8 LOOKUP 42\ntaken 8 held\ndone 8 0 144\nwritten 8 0\n\
+            settled 8 0\nrefused 5 Busy\nread 10 GETATTR 56\ntaken 10 held\ndone 10 0 120\n\
+            written 10 0\nanswer 2 0 dir 2 0 1\nsettled 10 0\nread 12 GETATTR 56\ntaken 12 held\n\
+            done 12 0 120\nwritten 12 0\nanswer 3 0 dir 2 0 1\nsettled 12 0\nkernel 2:1:3\n\
+            server 2:1:3\ndropped\nevicted 2 3\nread 14 FORGET 48\ntaken 14 forgot\nkernel\nserver\n",
+    },
+    Row {
+        name: "do-after-abort",
+        script: "mount 1000 0\nread p 0\ntake 0\ndo 2\nwrite 0\nsettle 0\ncall mkdir /a\n\
+            read p 0\ntake 0\nabort\ndo 4\nmount 1000 0\nread p 0\ntake 0\ndo 2\nwrite 0\nsettle 0\n\
+            call stat /a\nread p 0\ntake 0\ndo 4\nwrite 0\nsettle 0\nread p 0\ntake 0\ndo 6\n\
+            write 0\nsettle 0\nshow\n",
+        output: "mounted\nread 2 INIT 56\ntaken 2 held\ndone 2 0 80\nwritten 2 0\nsettled 2 0\n\
+            call 1\nread 4 MKDIR 50\ntaken 4 held\naborted\nanswer 1 103\ndone 4 0 lost\nmounted\n\
+            read 2 INIT 56\ntaken 2 held\ndone 2 0 80\nwritten 2 0\nsettled 2 0\ncall 2\n\
+            read 4 LOOKUP 42\ntaken 4 held\ndone 4 0 144\nwritten 4 0\nsettled 4 0\n\
+            read 6 GETATTR 56\ntaken 6 held\ndone 6 0 120\nwritten 6 0\nanswer 2 0 dir 2 0 1\n\
+            settled 6 0\nkernel 2:1:1\nserver 2:1:1\n",
+    },
+    Row {
+        name: "empty-script",
+        script: "",
+        output: "",
+    },
+    Row {
+        name: "fatal-signals-unread-and-read",
+        script: "mount 1000 0\nread p 0\ntake 0\ndo 2\nwrite 0\nsettle 0\ncall mkdir /a\n\
+            intr 1 fatal\nread p 0\ncall mkdir /a\ncall stat /\nread p 0\nintr 2 fatal\nread p 0\n\
+            read i\nread p 0\ntake 0\ntake 0\ndo 6\nwrite 0\n",
+        output: "mounted\nread 2 INIT 56\ntaken 2 held\ndone 2 0 80\nwritten 2 0\nsettled 2 0\n\
+            call 1\ninterrupted 1 dequeued\nanswer 1 4\nrefused 2 NoSuch\ncall 2\ncall 3\n\
+            read 6 MKDIR 50\ninterrupted 2 queued\nrefused 3 InterruptFirst\nread 7 INTERRUPT 48\n\
+            read 8 GETATTR 56\ntaken 6 held\ntaken 7 marked\ndone 6 4 16\nwritten 6 0\nanswer 2 4\n",
+    },
+    Row {
+        name: "id-used-again-while-older-reply-is-kept",
+        script: "mount 1000 0\nread p 0\ntake 0\ndo 2\nwrite 0\nsettle 0\ncall mkdir /a\n\
+            read p 0\ntake 0\ndo 4\nwrite 0\ndrop 1 a\nevict 2\nread f 1\ntake 0\nagain 4\n\
+            call mkdir /b\nread p 0\ntake 0\ndo 8\nagain 4\nsettle 0\nwrite 0\nshow\n",
+        output: "mounted\nread 2 INIT 56\ntaken 2 held\ndone 2 0 80\nwritten 2 0\nsettled 2 0\n\
+            call 1\nread 4 MKDIR 50\ntaken 4 held\ndone 4 0 144\nwritten 4 0\nanswer 1 0\ndropped\n\
+            evicted 2 1\nread 6 FORGET 48\ntaken 6 forgot\nrefused 6 NoCopy\ncall 2\n\
+            read 8 MKDIR 50\ntaken 8 held\ndone 8 0 144\nrefused 6 NoCopy\nsettled 4 0\n\
+            written 8 0\nanswer 2 0\nkernel 2:2:1\nserver 2:2:1\n",
+    },
+    Row {
+        name: "interrupt-mark-belongs-to-the-request",
+        script: "mount 1000 0\nread p 0\ntake 0\ndo 2\nwrite 0\nsettle 0\ncall mkdir /a\n\
+            read p 0\ntake 0\ndo 4\nwrite 0\nsettle 0\ntick 1000\ncall stat /a\nread p 0\ntake 0\n\
+            do 6\nintr 2 soft\nread i\ntake 0\nwrite 0\nintr 2 soft\nread p 0\nread i\ntake 0\n\
+            take 0\ndo 8\nwrite 0\n",
+        output: "mounted\nread 2 INIT 56\ntaken 2 held\ndone 2 0 80\nwritten 2 0\nsettled 2 0\n\
+            call 1\nread 4 MKDIR 50\ntaken 4 held\ndone 4 0 144\nwritten 4 0\nanswer 1 0\n\
+            settled 4 0\nnow 1000\ncall 2\nread 6 LOOKUP 42\ntaken 6 held\ndone 6 0 144\n\
+            interrupted 2 queued\nread 7 INTERRUPT 48\ntaken 7 ignored\nwritten 6 0\n\
+            interrupted 2 flagged\nread 8 GETATTR 56\nread 9 INTERRUPT 48\ntaken 8 held\n\
+            taken 9 marked\ndone 8 4 16\nwritten 8 0\nanswer 2 4\n",
+    },
+    Row {
+        name: "mount-busy-with-an-open-file",
+        script: "mount 1000 0\nread p 0\ntake 0\ndo 2\nwrite 0\nsettle 0\ncall create /a\n\
+            read p 0\ntake 0\ndo 4\nwrite 0\nsettle 0\nmount 1000 0\ncall close 1\nmount 1000 0\n\
+            read p 0\n",
+        output: "mounted\nread 2 INIT 56\ntaken 2 held\ndone 2 0 80\nwritten 2 0\nsettled 2 0\n\
+            call 1\nread 4 CREATE 58\ntaken 4 held\ndone 4 0 160\nwritten 4 0\nanswer 1 0\n\
+            settled 4 0\nrefused 5 Busy\ncall 2\nanswer 2 0\nmounted\nread 2 INIT 56\n",
+    },
+    Row {
+        name: "name-lengths-and-path-faults",
+        script: "mount 1000 0\nread p 0\ntake 0\ndo 2\nwrite 0\nsettle 0\n\
+            call stat /nnnnnnnnnnnnnnnnnnnnnnnnnnnnnnnnnnnnnnnnnnnnnnnnnnnnnnnnnnnnnnnnnnnnnnn\
+            nnnnnnnnnnnnnnnnnnnnnnnnnnnnnnnnnnnnnnnnnnnnnnnnnnnnnnnnnnnnnnnnnnnnnnnnnnnnnnnnnn\
+            nnnnnnnnnnnnnnnnnnnnnnnnnnnnnnnnnnnnnnnnnnnnnnnnnnnnnnnnnnnnnnnnnnnnnnnnnnnnnnnnnn\
+            nnnnnnnnnnnnnnnnnnnn\n\
+            call stat /nnnnnnnnnnnnnnnnnnnnnnnnnnnnnnnnnnnnnnnnnnnnnnnnnnnnnnnnnnnnnnnnnnnnnnn\
+            nnnnnnnnnnnnnnnnnnnnnnnnnnnnnnnnnnnnnnnnnnnnnnnnnnnnnnnnnnnnnnnnnnnnnnnnnnnnnnnnnn\
+            nnnnnnnnnnnnnnnnnnnnnnnnnnnnnnnnnnnnnnnnnnnnnnnnnnnnnnnnnnnnnnnnnnnnnnnnnnnnnnnnnn\
+            nnnnnnnnnnnnnnnnnnnnn\n\
+            call stat /a//b\nread p 0\nread p 0\n",
+        output: "mounted\nread 2 INIT 56\ntaken 2 held\ndone 2 0 80\nwritten 2 0\nsettled 2 0\n\
+            call 1\ncall 2\nanswer 2 36\ncall 3\nanswer 3 22\nread 4 LOOKUP 296\nrefused 2 NoSuch\n",
+    },
+    Row {
+        name: "no-copy-after-settle",
+        script: "mount 1000 0\nread p 0\ntake 0\ndo 2\nwrite 0\nsettle 0\ncall mkdir /a\n\
+            read p 0\ntake 0\ndo 4\nwrite 0\nsettle 0\ntick 1000\ncall stat /a\nread p 0\ntake 0\n\
+            do 6\nagain 6\nwrite 0\nwrite 0\nshow\nsettle 0\nagain 6\n",
+        output: "mounted\nread 2 INIT 56\ntaken 2 held\ndone 2 0 80\nwritten 2 0\nsettled 2 0\n\
+            call 1\nread 4 MKDIR 50\ntaken 4 held\ndone 4 0 144\nwritten 4 0\nanswer 1 0\n\
+            settled 4 0\nnow 1000\ncall 2\nread 6 LOOKUP 42\ntaken 6 held\ndone 6 0 144\n\
+            again 6 144\nwritten 6 0\nwritten 6 2\nkernel 2:1:2\nserver 2:1:3\nsettled 6 0\n\
+            refused 6 NoCopy\n",
+    },
+    Row {
+        name: "no-such-call-binding-or-node",
+        script: "mount 1000 0\nread p 0\ntake 0\ndo 2\nwrite 0\nsettle 0\nintr 1 soft\n\
+            drop 1 a\nevict 1\n",
+        output: "mounted\nread 2 INIT 56\ntaken 2 held\ndone 2 0 80\nwritten 2 0\nsettled 2 0\n\
+            refused 2 NoSuch\nrefused 2 NoSuch\nrefused 2 NoSuch\n",
+    },
+    Row {
+        name: "remount-drops-what-was-held",
+        script: "mount 1000 0\nread p 0\ntake 0\ndo 2\nwrite 0\nsettle 0\ncall mkdir /a\n\
+            read p 0\ntake 0\nabort\nabort\nmount 1000 0\ndo 4\nread p 0\ntake 0\ndo 2\nwrite 0\n\
+            settle 0\ncall stat /a\nread p 0\ntake 0\ndo 4\nwrite 0\nsettle 0\n",
+        output: "mounted\nread 2 INIT 56\ntaken 2 held\ndone 2 0 80\nwritten 2 0\nsettled 2 0\n\
+            call 1\nread 4 MKDIR 50\ntaken 4 held\naborted\nanswer 1 103\nrefused 4 NotReady\n\
+            mounted\nrefused 2 NoSuch\nread 2 INIT 56\ntaken 2 held\ndone 2 0 80\nwritten 2 0\n\
+            settled 2 0\ncall 2\nread 4 LOOKUP 42\ntaken 4 held\ndone 4 0 144\nwritten 4 0\n\
+            answer 2 2\nsettled 4 0\n",
+    },
+    Row {
+        name: "sixty-four-calls-then-full",
+        script: "mount 1000 0\nread p 0\ntake 0\ndo 2\nwrite 0\nsettle 0\ncall stat /\n\
+            call stat /\ncall stat /\ncall stat /\ncall stat /\ncall stat /\ncall stat /\n\
+            call stat /\ncall stat /\ncall stat /\ncall stat /\ncall stat /\ncall stat /\n\
+            call stat /\ncall stat /\ncall stat /\ncall stat /\ncall stat /\ncall stat /\n\
+            call stat /\ncall stat /\ncall stat /\ncall stat /\ncall stat /\ncall stat /\n\
+            call stat /\ncall stat /\ncall stat /\ncall stat /\ncall stat /\ncall stat /\n\
+            call stat /\ncall stat /\ncall stat /\ncall stat /\ncall stat /\ncall stat /\n\
+            call stat /\ncall stat /\ncall stat /\ncall stat /\ncall stat /\ncall stat /\n\
+            call stat /\ncall stat /\ncall stat /\ncall stat /\ncall stat /\ncall stat /\n\
+            call stat /\ncall stat /\ncall stat /\ncall stat /\ncall stat /\ncall stat /\n\
+            call stat /\ncall stat /\ncall stat /\ncall stat /\ncall stat /\ncall stat /\n\
+            call stat /\ncall stat /\ncall stat /\ncall stat /\nread p 0\ntake 0\nread p 0\ntake 0\n\
+            read p 0\ntake 0\nread p 0\ntake 0\nread p 0\ntake 0\nread p 0\ntake 0\nread p 0\n\
+            take 0\nread p 0\ntake 0\nread p 0\ntake 0\nread p 0\ntake 0\nread p 0\ntake 0\n\
+            read p 0\ntake 0\nread p 0\ntake 0\nread p 0\ntake 0\nread p 0\ntake 0\nread p 0\n\
+            take 0\nread p 0\ntake 0\nread p 0\ntake 0\nread p 0\ntake 0\nread p 0\ntake 0\n\
+            read p 0\ntake 0\nread p 0\ntake 0\nread p 0\ntake 0\nread p 0\ntake 0\nread p 0\n\
+            take 0\nread p 0\ntake 0\nread p 0\ntake 0\nread p 0\ntake 0\nread p 0\ntake 0\n\
+            read p 0\ntake 0\nread p 0\ntake 0\nread p 0\ntake 0\nread p 0\ntake 0\nread p 0\n\
+            take 0\nread p 0\ntake 0\nread p 0\ntake 0\nread p 0\ntake 0\nread p 0\ntake 0\n\
+            read p 0\ntake 0\nread p 0\ntake 0\nread p 0\ntake 0\nread p 0\ntake 0\nread p 0\n\
+            take 0\nread p 0\ntake 0\nread p 0\ntake 0\nread p 0\ntake 0\nread p 0\ntake 0\n\
+            read p 0\ntake 0\nread p 0\ntake 0\nread p 0\ntake 0\nread p 0\ntake 0\nread p 0\n\
+            take 0\nread p 0\ntake 0\nread p 0\ntake 0\nread p 0\ntake 0\nread p 0\ntake 0\n\
+            read p 0\ntake 0\nread p 0\ntake 0\nread p 0\ntake 0\nread p 0\ntake 0\nread p 0\n\
+            take 0\nread p 0\ntake 0\nread p 0\ntake 0\nread p 0\ntake 0\ndo 130\nwrite 0\n\
+            settle 0\ndo 128\nwrite 0\nsettle 0\ndo 126\nwrite 0\nsettle 0\ndo 124\nwrite 0\n\
+            settle 0\ndo 122\nwrite 0\nsettle 0\ndo 120\nwrite 0\nsettle 0\ndo 118\nwrite 0\n\
+            settle 0\ndo 116\nwrite 0\nsettle 0\ndo 114\nwrite 0\nsettle 0\ndo 112\nwrite 0\n\
+            settle 0\ndo 110\nwrite 0\nsettle 0\ndo 108\nwrite 0\nsettle 0\ndo 106\nwrite 0\n\
+            settle 0\ndo 104\nwrite 0\nsettle 0\ndo 102\nwrite 0\nsettle 0\ndo 100\nwrite 0\n\
+            settle 0\ndo 98\nwrite 0\nsettle 0\ndo 96\nwrite 0\nsettle 0\ndo 94\nwrite 0\nsettle 0\n\
+            do 92\nwrite 0\nsettle 0\ndo 90\nwrite 0\nsettle 0\ndo 88\nwrite 0\nsettle 0\ndo 86\n\
+            write 0\nsettle 0\ndo 84\nwrite 0\nsettle 0\ndo 82\nwrite 0\nsettle 0\ndo 80\nwrite 0\n\
+            settle 0\ndo 78\nwrite 0\nsettle 0\ndo 76\nwrite 0\nsettle 0\ndo 74\nwrite 0\nsettle 0\n\
+            do 72\nwrite 0\nsettle 0\ndo 70\nwrite 0\nsettle 0\ndo 68\nwrite 0\nsettle 0\ndo 66\n\
+            write 0\nsettle 0\ndo 64\nwrite 0\nsettle 0\ndo 62\nwrite 0\nsettle 0\ndo 60\nwrite 0\n\
+            settle 0\ndo 58\nwrite 0\nsettle 0\ndo 56\nwrite 0\nsettle 0\ndo 54\nwrite 0\nsettle 0\n\
+            do 52\nwrite 0\nsettle 0\ndo 50\nwrite 0\nsettle 0\ndo 48\nwrite 0\nsettle 0\ndo 46\n\
+            write 0\nsettle 0\ndo 44\nwrite 0\nsettle 0\ndo 42\nwrite 0\nsettle 0\ndo 40\nwrite 0\n\
+            settle 0\ndo 38\nwrite 0\nsettle 0\ndo 36\nwrite 0\nsettle 0\ndo 34\nwrite 0\nsettle 0\n\
+            do 32\nwrite 0\nsettle 0\ndo 30\nwrite 0\nsettle 0\ndo 28\nwrite 0\nsettle 0\ndo 26\n\
+            write 0\nsettle 0\ndo 24\nwrite 0\nsettle 0\ndo 22\nwrite 0\nsettle 0\ndo 20\nwrite 0\n\
+            settle 0\ndo 18\nwrite 0\nsettle 0\ndo 16\nwrite 0\nsettle 0\ndo 14\nwrite 0\nsettle 0\n\
+            do 12\nwrite 0\nsettle 0\ndo 10\nwrite 0\nsettle 0\ndo 8\nwrite 0\nsettle 0\ndo 6\n\
+            write 0\nsettle 0\ndo 4\nwrite 0\nsettle 0\n",
+        output: "mounted\nread 2 INIT 56\ntaken 2 held\ndone 2 0 80\nwritten 2 0\nsettled 2 0\n\
+            call 1\ncall 2\ncall 3\ncall 4\ncall 5\ncall 6\ncall 7\ncall 8\ncall 9\ncall 10\n\
+            call 11\ncall 12\ncall 13\ncall 14\ncall 15\ncall 16\ncall 17\ncall 18\ncall 19\n\
+            call 20\ncall 21\ncall 22\ncall 23\ncall 24\ncall 25\ncall 26\ncall 27\ncall 28\n\
+            call 29\ncall 30\ncall 31\ncall 32\ncall 33\ncall 34\ncall 35\ncall 36\ncall 37\n\
+            call 38\ncall 39\ncall 40\ncall 41\ncall 42\ncall 43\ncall 44\ncall 45\ncall 46\n\
+            call 47\ncall 48\ncall 49\ncall 50\ncall 51\ncall 52\ncall 53\ncall 54\ncall 55\n\
+            call 56\ncall 57\ncall 58\ncall 59\ncall 60\ncall 61\ncall 62\ncall 63\ncall 64\n\
+            refused 7 Full\nread 4 GETATTR 56\ntaken 4 held\nread 6 GETATTR 56\ntaken 6 held\n\
+            read 8 GETATTR 56\ntaken 8 held\nread 10 GETATTR 56\ntaken 10 held\nread 12 GETATTR 56\n\
+            taken 12 held\nread 14 GETATTR 56\ntaken 14 held\nread 16 GETATTR 56\ntaken 16 held\n\
+            read 18 GETATTR 56\ntaken 18 held\nread 20 GETATTR 56\ntaken 20 held\n\
+            read 22 GETATTR 56\ntaken 22 held\nread 24 GETATTR 56\ntaken 24 held\n\
+            read 26 GETATTR 56\ntaken 26 held\nread 28 GETATTR 56\ntaken 28 held\n\
+            read 30 GETATTR 56\ntaken 30 held\nread 32 GETATTR 56\ntaken 32 held\n\
+            read 34 GETATTR 56\ntaken 34 held\nread 36 GETATTR 56\ntaken 36 held\n\
+            read 38 GETATTR 56\ntaken 38 held\nread 40 GETATTR 56\ntaken 40 held\n\
+            read 42 GETATTR 56\ntaken 42 held\nread 44 GETATTR 56\ntaken 44 held\n\
+            read 46 GETATTR 56\ntaken 46 held\nread 48 GETATTR 56\ntaken 48 held\n\
+            read 50 GETATTR 56\ntaken 50 held\nread 52 GETATTR 56\ntaken 52 held\n\
+            read 54 GETATTR 56\ntaken 54 held\nread 56 GETATTR 56\ntaken 56 held\n\
+            read 58 GETATTR 56\ntaken 58 held\nread 60 GETATTR 56\ntaken 60 held\n\
+            read 62 GETATTR 56\ntaken 62 held\nread 64 GETATTR 56\ntaken 64 held\n\
+            read 66 GETATTR 56\ntaken 66 held\nread 68 GETATTR 56\ntaken 68 held\n\
+            read 70 GETATTR 56\ntaken 70 held\nread 72 GETATTR 56\ntaken 72 held\n\
+            read 74 GETATTR 56\ntaken 74 held\nread 76 GETATTR 56\ntaken 76 held\n\
+            read 78 GETATTR 56\ntaken 78 held\nread 80 GETATTR 56\ntaken 80 held\n\
+            read 82 GETATTR 56\ntaken 82 held\nread 84 GETATTR 56\ntaken 84 held\n\
+            read 86 GETATTR 56\ntaken 86 held\nread 88 GETATTR 56\ntaken 88 held\n\
+            read 90 GETATTR 56\ntaken 90 held\nread 92 GETATTR 56\ntaken 92 held\n\
+            read 94 GETATTR 56\ntaken 94 held\nread 96 GETATTR 56\ntaken 96 held\n\
+            read 98 GETATTR 56\ntaken 98 held\nread 100 GETATTR 56\ntaken 100 held\n\
+            read 102 GETATTR 56\ntaken 102 held\nread 104 GETATTR 56\ntaken 104 held\n\
+            read 106 GETATTR 56\ntaken 106 held\nread 108 GETATTR 56\ntaken 108 held\n\
+            read 110 GETATTR 56\ntaken 110 held\nread 112 GETATTR 56\ntaken 112 held\n\
+            read 114 GETATTR 56\ntaken 114 held\nread 116 GETATTR 56\ntaken 116 held\n\
+            read 118 GETATTR 56\ntaken 118 held\nread 120 GETATTR 56\ntaken 120 held\n\
+            read 122 GETATTR 56\ntaken 122 held\nread 124 GETATTR 56\ntaken 124 held\n\
+            read 126 GETATTR 56\ntaken 126 held\nread 128 GETATTR 56\ntaken 128 held\n\
+            read 130 GETATTR 56\ntaken 130 held\ndone 130 0 120\nwritten 130 0\n\
+            answer 64 0 dir 1 0 1\nsettled 130 0\ndone 128 0 120\nwritten 128 0\n\
+            answer 63 0 dir 1 0 1\nsettled 128 0\ndone 126 0 120\nwritten 126 0\n\
+            answer 62 0 dir 1 0 1\nsettled 126 0\ndone 124 0 120\nwritten 124 0\n\
+            answer 61 0 dir 1 0 1\nsettled 124 0\ndone 122 0 120\nwritten 122 0\n\
+            answer 60 0 dir 1 0 1\nsettled 122 0\ndone 120 0 120\nwritten 120 0\n\
+            answer 59 0 dir 1 0 1\nsettled 120 0\ndone 118 0 120\nwritten 118 0\n\
+            answer 58 0 dir 1 0 1\nsettled 118 0\ndone 116 0 120\nwritten 116 0\n\
+            answer 57 0 dir 1 0 1\nsettled 116 0\ndone 114 0 120\nwritten 114 0\n\
+            answer 56 0 dir 1 0 1\nsettled 114 0\ndone 112 0 120\nwritten 112 0\n\
+            answer 55 0 dir 1 0 1\nsettled 112 0\ndone 110 0 120\nwritten 110 0\n\
+            answer 54 0 dir 1 0 1\nsettled 110 0\ndone 108 0 120\nwritten 108 0\n\
+            answer 53 0 dir 1 0 1\nsettled 108 0\ndone 106 0 120\nwritten 106 0\n\
+            answer 52 0 dir 1 0 1\nsettled 106 0\ndone 104 0 120\nwritten 104 0\n\
+            answer 51 0 dir 1 0 1\nsettled 104 0\ndone 102 0 120\nwritten 102 0\n\
+            answer 50 0 dir 1 0 1\nsettled 102 0\ndone 100 0 120\nwritten 100 0\n\
+            answer 49 0 dir 1 0 1\nsettled 100 0\ndone 98 0 120\nwritten 98 0\n\
+            answer 48 0 dir 1 0 1\nsettled 98 0\ndone 96 0 120\nwritten 96 0\n\
+            answer 47 0 dir 1 0 1\nsettled 96 0\ndone 94 0 120\nwritten 94 0\n\
+            answer 46 0 dir 1 0 1\nsettled 94 0\ndone 92 0 120\nwritten 92 0\n\
+            answer 45 0 dir 1 0 1\nsettled 92 0\ndone 90 0 120\nwritten 90 0\n\
+            answer 44 0 dir 1 0 1\nsettled 90 0\ndone 88 0 120\nwritten 88 0\n\
+            answer 43 0 dir 1 0 1\nsettled 88 0\ndone 86 0 120\nwritten 86 0\n\
+            answer 42 0 dir 1 0 1\nsettled 86 0\ndone 84 0 120\nwritten 84 0\n\
+            answer 41 0 dir 1 0 1\nsettled 84 0\ndone 82 0 120\nwritten 82 0\n\
+            answer 40 0 dir 1 0 1\nsettled 82 0\ndone 80 0 120\nwritten 80 0\n\
+            answer 39 0 dir 1 0 1\nsettled 80 0\ndone 78 0 120\nwritten 78 0\n\
+            answer 38 0 dir 1 0 1\nsettled 78 0\ndone 76 0 120\nwritten 76 0\n\
+            answer 37 0 dir 1 0 1\nsettled 76 0\ndone 74 0 120\nwritten 74 0\n\
+            answer 36 0 dir 1 0 1\nsettled 74 0\ndone 72 0 120\nwritten 72 0\n\
+            answer 35 0 dir 1 0 1\nsettled 72 0\ndone 70 0 120\nwritten 70 0\n\
+            answer 34 0 dir 1 0 1\nsettled 70 0\ndone 68 0 120\nwritten 68 0\n\
+            answer 33 0 dir 1 0 1\nsettled 68 0\ndone 66 0 120\nwritten 66 0\n\
+            answer 32 0 dir 1 0 1\nsettled 66 0\ndone 64 0 120\nwritten 64 0\n\
+            answer 31 0 dir 1 0 1\nsettled 64 0\ndone 62 0 120\nwritten 62 0\n\
+            answer 30 0 dir 1 0 1\nsettled 62 0\ndone 60 0 120\nwritten 60 0\n\
+            answer 29 0 dir 1 0 1\nsettled 60 0\ndone 58 0 120\nwritten 58 0\n\
+            answer 28 0 dir 1 0 1\nsettled 58 0\ndone 56 0 120\nwritten 56 0\n\
+            answer 27 0 dir 1 0 1\nsettled 56 0\ndone 54 0 120\nwritten 54 0\n\
+            answer 26 0 dir 1 0 1\nsettled 54 0\ndone 52 0 120\nwritten 52 0\n\
+            answer 25 0 dir 1 0 1\nsettled 52 0\ndone 50 0 120\nwritten 50 0\n\
+            answer 24 0 dir 1 0 1\nsettled 50 0\ndone 48 0 120\nwritten 48 0\n\
+            answer 23 0 dir 1 0 1\nsettled 48 0\ndone 46 0 120\nwritten 46 0\n\
+            answer 22 0 dir 1 0 1\nsettled 46 0\ndone 44 0 120\nwritten 44 0\n\
+            answer 21 0 dir 1 0 1\nsettled 44 0\ndone 42 0 120\nwritten 42 0\n\
+            answer 20 0 dir 1 0 1\nsettled 42 0\ndone 40 0 120\nwritten 40 0\n\
+            answer 19 0 dir 1 0 1\nsettled 40 0\ndone 38 0 120\nwritten 38 0\n\
+            answer 18 0 dir 1 0 1\nsettled 38 0\ndone 36 0 120\nwritten 36 0\n\
+            answer 17 0 dir 1 0 1\nsettled 36 0\ndone 34 0 120\nwritten 34 0\n\
+            answer 16 0 dir 1 0 1\nsettled 34 0\ndone 32 0 120\nwritten 32 0\n\
+            answer 15 0 dir 1 0 1\nsettled 32 0\ndone 30 0 120\nwritten 30 0\n\
+            answer 14 0 dir 1 0 1\nsettled 30 0\ndone 28 0 120\nwritten 28 0\n\
+            answer 13 0 dir 1 0 1\nsettled 28 0\ndone 26 0 120\nwritten 26 0\n\
+            answer 12 0 dir 1 0 1\nsettled 26 0\ndone 24 0 120\nwritten 24 0\n\
+            answer 11 0 dir 1 0 1\nsettled 24 0\ndone 22 0 120\nwritten 22 0\n\
+            answer 10 0 dir 1 0 1\nsettled 22 0\ndone 20 0 120\nwritten 20 0\nanswer 9 0 dir 1 0 1\n\
+            settled 20 0\ndone 18 0 120\nwritten 18 0\nanswer 8 0 dir 1 0 1\nsettled 18 0\n\
+            done 16 0 120\nwritten 16 0\nanswer 7 0 dir 1 0 1\nsettled 16 0\ndone 14 0 120\n\
+            written 14 0\nanswer 6 0 dir 1 0 1\nsettled 14 0\ndone 12 0 120\nwritten 12 0\n\
+            answer 5 0 dir 1 0 1\nsettled 12 0\ndone 10 0 120\nwritten 10 0\nanswer 4 0 dir 1 0 1\n\
+            settled 10 0\ndone 8 0 120\nwritten 8 0\nanswer 3 0 dir 1 0 1\nsettled 8 0\n\
+            done 6 0 120\nwritten 6 0\nanswer 2 0 dir 1 0 1\nsettled 6 0\ndone 4 0 120\n\
+            written 4 0\nanswer 1 0 dir 1 0 1\nsettled 4 0\n",
+    },
+    Row {
+        name: "stat-of-missing-name",
+        script: "mount 1000 0\nread p 0\ntake 0\ndo 2\nwrite 0\nsettle 0\ncall stat /a\n\
+            read p 0\ntake 0\ndo 4\nwrite 0\n",
+        output: "mounted\nread 2 INIT 56\ntaken 2 held\ndone 2 0 80\nwritten 2 0\nsettled 2 0\n\
+            call 1\nread 4 LOOKUP 42\ntaken 4 held\ndone 4 0 144\nwritten 4 0\nanswer 1 2\n",
+    },
+    Row {
+        name: "storm-of-sixty-four-copies",
+        script: "mount 1000 0\nread p 0\ntake 0\ndo 2\nwrite 0\nsettle 0\ncall mkdir /a\n\
+            read p 0\ntake 0\ndo 4\nwrite 0\nsettle 0\ntick 1000\ncall stat /a\nread p 0\ntake 0\n\
+            do 6\nagain 6\nagain 6\nagain 6\nagain 6\nagain 6\nagain 6\nagain 6\nagain 6\nagain 6\n\
+            again 6\nagain 6\nagain 6\nagain 6\nagain 6\nagain 6\nagain 6\nagain 6\nagain 6\n\
+            again 6\nagain 6\nagain 6\nagain 6\nagain 6\nagain 6\nagain 6\nagain 6\nagain 6\n\
+            again 6\nagain 6\nagain 6\nagain 6\nagain 6\nagain 6\nagain 6\nagain 6\nagain 6\n\
+            again 6\nagain 6\nagain 6\nagain 6\nagain 6\nagain 6\nagain 6\nagain 6\nagain 6\n\
+            again 6\nagain 6\nagain 6\nagain 6\nagain 6\nagain 6\nagain 6\nagain 6\nagain 6\n\
+            again 6\nagain 6\nagain 6\nagain 6\nagain 6\nagain 6\nagain 6\nagain 6\nagain 6\nshow\n\
+            write 0\nwrite 0\nwrite 0\nwrite 0\nwrite 0\nwrite 0\nwrite 0\nwrite 0\nwrite 0\n\
+            write 0\nwrite 0\nwrite 0\nwrite 0\nwrite 0\nwrite 0\nwrite 0\nwrite 0\nwrite 0\n\
+            write 0\nwrite 0\nwrite 0\nwrite 0\nwrite 0\nwrite 0\nwrite 0\nwrite 0\nwrite 0\n\
+            write 0\nwrite 0\nwrite 0\nwrite 0\nwrite 0\nwrite 0\nwrite 0\nwrite 0\nwrite 0\n\
+            write 0\nwrite 0\nwrite 0\nwrite 0\nwrite 0\nwrite 0\nwrite 0\nwrite 0\nwrite 0\n\
+            write 0\nwrite 0\nwrite 0\nwrite 0\nwrite 0\nwrite 0\nwrite 0\nwrite 0\nwrite 0\n\
+            write 0\nwrite 0\nwrite 0\nwrite 0\nwrite 0\nwrite 0\nwrite 0\nwrite 0\nwrite 0\n\
+            write 0\nshow\nsettle 0\nsettle 0\nsettle 0\nsettle 0\nsettle 0\nsettle 0\nsettle 0\n\
+            settle 0\nsettle 0\nsettle 0\nsettle 0\nsettle 0\nsettle 0\nsettle 0\nsettle 0\n\
+            settle 0\nsettle 0\nsettle 0\nsettle 0\nsettle 0\nsettle 0\nsettle 0\nsettle 0\n\
+            settle 0\nsettle 0\nsettle 0\nsettle 0\nsettle 0\nsettle 0\nsettle 0\nsettle 0\n\
+            settle 0\nsettle 0\nsettle 0\nsettle 0\nsettle 0\nsettle 0\nsettle 0\nsettle 0\n\
+            settle 0\nsettle 0\nsettle 0\nsettle 0\nsettle 0\nsettle 0\nsettle 0\nsettle 0\n\
+            settle 0\nsettle 0\nsettle 0\nsettle 0\nsettle 0\nsettle 0\nsettle 0\nsettle 0\n\
+            settle 0\nsettle 0\nsettle 0\nsettle 0\nsettle 0\nsettle 0\nsettle 0\nsettle 0\n\
+            settle 0\nshow\n",
+        output: "mounted\nread 2 INIT 56\ntaken 2 held\ndone 2 0 80\nwritten 2 0\nsettled 2 0\n\
+            call 1\nread 4 MKDIR 50\ntaken 4 held\ndone 4 0 144\nwritten 4 0\nanswer 1 0\n\
+            settled 4 0\nnow 1000\ncall 2\nread 6 LOOKUP 42\ntaken 6 held\ndone 6 0 144\n\
+            again 6 144\nagain 6 144\nagain 6 144\nagain 6 144\nagain 6 144\nagain 6 144\n\
+            again 6 144\nagain 6 144\nagain 6 144\nagain 6 144\nagain 6 144\nagain 6 144\n\
+            again 6 144\nagain 6 144\nagain 6 144\nagain 6 144\nagain 6 144\nagain 6 144\n\
+            again 6 144\nagain 6 144\nagain 6 144\nagain 6 144\nagain 6 144\nagain 6 144\n\
+            again 6 144\nagain 6 144\nagain 6 144\nagain 6 144\nagain 6 144\nagain 6 144\n\
+            again 6 144\nagain 6 144\nagain 6 144\nagain 6 144\nagain 6 144\nagain 6 144\n\
+            again 6 144\nagain 6 144\nagain 6 144\nagain 6 144\nagain 6 144\nagain 6 144\n\
+            again 6 144\nagain 6 144\nagain 6 144\nagain 6 144\nagain 6 144\nagain 6 144\n\
+            again 6 144\nagain 6 144\nagain 6 144\nagain 6 144\nagain 6 144\nagain 6 144\n\
+            again 6 144\nagain 6 144\nagain 6 144\nagain 6 144\nagain 6 144\nagain 6 144\n\
+            again 6 144\nagain 6 144\nagain 6 144\nkernel 2:1:1\nserver 2:1:65\nwritten 6 0\n\
+            written 6 2\nwritten 6 2\nwritten 6 2\nwritten 6 2\nwritten 6 2\nwritten 6 2\n\
+            written 6 2\nwritten 6 2\nwritten 6 2\nwritten 6 2\nwritten 6 2\nwritten 6 2\n\
+            written 6 2\nwritten 6 2\nwritten 6 2\nwritten 6 2\nwritten 6 2\nwritten 6 2\n\
+            written 6 2\nwritten 6 2\nwritten 6 2\nwritten 6 2\nwritten 6 2\nwritten 6 2\n\
+            written 6 2\nwritten 6 2\nwritten 6 2\nwritten 6 2\nwritten 6 2\nwritten 6 2\n\
+            written 6 2\nwritten 6 2\nwritten 6 2\nwritten 6 2\nwritten 6 2\nwritten 6 2\n\
+            written 6 2\nwritten 6 2\nwritten 6 2\nwritten 6 2\nwritten 6 2\nwritten 6 2\n\
+            written 6 2\nwritten 6 2\nwritten 6 2\nwritten 6 2\nwritten 6 2\nwritten 6 2\n\
+            written 6 2\nwritten 6 2\nwritten 6 2\nwritten 6 2\nwritten 6 2\nwritten 6 2\n\
+            written 6 2\nwritten 6 2\nwritten 6 2\nwritten 6 2\nwritten 6 2\nwritten 6 2\n\
+            written 6 2\nwritten 6 2\nwritten 6 2\nkernel 2:1:2\nserver 2:1:65\nsettled 6 0\n\
+            settled 6 2\nsettled 6 2\nsettled 6 2\nsettled 6 2\nsettled 6 2\nsettled 6 2\n\
+            settled 6 2\nsettled 6 2\nsettled 6 2\nsettled 6 2\nsettled 6 2\nsettled 6 2\n\
+            settled 6 2\nsettled 6 2\nsettled 6 2\nsettled 6 2\nsettled 6 2\nsettled 6 2\n\
+            settled 6 2\nsettled 6 2\nsettled 6 2\nsettled 6 2\nsettled 6 2\nsettled 6 2\n\
+            settled 6 2\nsettled 6 2\nsettled 6 2\nsettled 6 2\nsettled 6 2\nsettled 6 2\n\
+            settled 6 2\nsettled 6 2\nsettled 6 2\nsettled 6 2\nsettled 6 2\nsettled 6 2\n\
+            settled 6 2\nsettled 6 2\nsettled 6 2\nsettled 6 2\nsettled 6 2\nsettled 6 2\n\
+            settled 6 2\nsettled 6 2\nsettled 6 2\nsettled 6 2\nsettled 6 2\nsettled 6 2\n\
+            settled 6 2\nsettled 6 2\nsettled 6 2\nsettled 6 2\nsettled 6 2\nsettled 6 2\n\
+            settled 6 2\nsettled 6 2\nsettled 6 2\nsettled 6 2\nsettled 6 2\nsettled 6 2\n\
+            settled 6 2\nsettled 6 2\nsettled 6 2\nkernel 2:1:2\nserver 2:1:2\n",
+    },
+    Row {
+        name: "unlink-overtakes-lookup-reply",
+        script: "mount 1000 0\nread p 0\ntake 0\ndo 2\nwrite 0\nsettle 0\ncall create /a\n\
+            read p 0\ntake 0\ndo 4\nwrite 0\nsettle 0\ntick 1000\ncall stat /a\ncall unlink /a\n\
+            read p 0\nread p 0\ntake 0\ntake 0\ndo 6\ndo 8\nwrite 1\nwrite 0\nsettle 0\nsettle 0\n\
+            read p 0\ntake 0\ndo 10\nwrite 0\nsettle 0\ntick 1000\ncall stat /a\nread p 0\ntake 0\n\
+            do 12\nwrite 0\nsettle 0\n",
+        output: "mounted\nread 2 INIT 56\ntaken 2 held\ndone 2 0 80\nwritten 2 0\nsettled 2 0\n\
+            call 1\nread 4 CREATE 58\ntaken 4 held\ndone 4 0 160\nwritten 4 0\nanswer 1 0\n\
+            settled 4 0\nnow 1000\ncall 2\ncall 3\nread 6 LOOKUP 42\nread 8 UNLINK 42\n\
+            taken 6 held\ntaken 8 held\ndone 6 0 144\ndone 8 0 16\nwritten 8 0\nanswer 3 0\n\
+            written 6 0\nsettled 8 0\nsettled 6 0\nread 10 GETATTR 56\ntaken 10 held\n\
+            done 10 0 120\nwritten 10 0\nanswer 2 0 file 2 0 0\nsettled 10 0\nnow 2000\ncall 4\n\
+            read 12 LOOKUP 42\ntaken 12 held\ndone 12 0 144\nwritten 12 0\nanswer 4 2\n\
+            settled 12 0\n",
+    },
+    Row {
+        name: "walk-of-two-words-and-expiry",
+        script: "mount 500 500\nread p 0\ntake 0\ndo 2\nwrite 0\nsettle 0\ncall mkdir /a\n\
+            read p 0\ntake 0\ndo 4\nwrite 0\nsettle 0\ncall mkdir /a/b\nread p 0\ntake 0\ndo 6\n\
+            write 0\nsettle 0\ncall stat /a/b\nread p 0\ntake 0\ndo 8\nwrite 0\nsettle 0\n\
+            call stat /a/c\nread p 0\ntake 0\ndo 10\nwrite 0\nsettle 0\ntick 499\ncall stat /a/c\n\
+            tick 1\ncall stat /a/c\nread p 0\ntake 0\ndo 12\nwrite 0\nsettle 0\nread p 0\ntake 0\n\
+            do 14\nwrite 0\nsettle 0\n",
+        output: "mounted\nread 2 INIT 56\ntaken 2 held\ndone 2 0 80\nwritten 2 0\nsettled 2 0\n\
+            call 1\nread 4 MKDIR 50\ntaken 4 held\ndone 4 0 144\nwritten 4 0\nanswer 1 0\n\
+            settled 4 0\ncall 2\nread 6 MKDIR 50\ntaken 6 held\ndone 6 0 144\nwritten 6 0\n\
+            answer 2 0\nsettled 6 0\ncall 3\nread 8 GETATTR 56\ntaken 8 held\ndone 8 0 120\n\
+            written 8 0\nanswer 3 0 dir 3 0 1\nsettled 8 0\ncall 4\nread 10 LOOKUP 42\n\
+            taken 10 held\ndone 10 0 144\nwritten 10 0\nanswer 4 2\nsettled 10 0\nnow 499\ncall 5\n\
+            answer 5 2\nnow 500\ncall 6\nread 12 LOOKUP 42\ntaken 12 held\ndone 12 0 144\n\
+            written 12 0\nsettled 12 0\nread 14 LOOKUP 42\ntaken 14 held\ndone 14 0 144\n\
+            written 14 0\nanswer 6 2\nsettled 14 0\n",
+    },
+    Row {
+        name: "write-past-the-largest-file",
+        script: "mount 1000 0\nread p 0\ntake 0\ndo 2\nwrite 0\nsettle 0\ncall create /a\n\
+            read p 0\ntake 0\ndo 4\nwrite 0\nsettle 0\ncall write 1 65530 00000000000000\nread p 0\n\
+            take 0\ndo 6\nwrite 0\nsettle 0\n",
+        output: "mounted\nread 2 INIT 56\ntaken 2 held\ndone 2 0 80\nwritten 2 0\nsettled 2 0\n\
+            call 1\nread 4 CREATE 58\ntaken 4 held\ndone 4 0 160\nwritten 4 0\nanswer 1 0\n\
+            settled 4 0\ncall 2\nread 6 WRITE 87\ntaken 6 held\ndone 6 27 16\nwritten 6 0\n\
+            answer 2 27\nsettled 6 0\n",
+    },
+];
