@@ -73,6 +73,21 @@ for script in tests/rows/*.script; do
     judge "$name over a socket" "$code" 0
 done
 
+# The same rows, and no others, stand in a table of fw_tests: name, script and output are a text each, cut into lines.
+sed -e ':join' -e '/\\$/{N' -e 's/\\\n *//' -e 'b join' -e '}' crates/fw_tests/src/tests/rows.rt \
+    | sed -n -E 's/^ *(name|script|output): "(.*)",$/\1 \2/p' > "$work/table"
+ls tests/rows/*.script | wc -l > "$work/want-out"
+grep -c '^name ' "$work/table" > "$work/out"
+: > "$work/want-err"
+: > "$work/err"
+for script in tests/rows/*.script; do
+    name=$(basename "$script" .script)
+    cat "$script" "tests/rows/$name.expected" >> "$work/want-out"
+    grep -x -A 2 "name $name" "$work/table" | sed -n -E 's/^(script|output) //p' \
+        | while IFS= read -r text; do printf %b "$text"; done >> "$work/out"
+done
+judge "rows in the table of fw_tests" 0 0
+
 # The bytes of some frames: the line of a row after which they are printed, the place of the first
 # of them in the frame, and the bytes.
 while IFS='|' read -r name line from bytes; do

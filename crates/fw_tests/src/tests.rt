@@ -4,7 +4,6 @@
 mod cutting;
 mod growths;
 mod lines;
-mod other_rows;
 mod over_links;
 mod rows;
 mod want;

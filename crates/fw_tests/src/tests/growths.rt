@@ -1,25 +1,94 @@
-//! Each growth of each event of the rows, refused in turn.
+//! Each growth of each row, refused in turn: those of its events, and those of the list of records of a whole run.
 
-use super::rows::{ROWS, Row};
+use super::rows::{Row, lists};
 use fail_at::FailAt;
-use fw_script::{Line, read_hex, read_line, write_record};
-use fw_world::{Call, Event, Outcome, Record, Refusal, WorldIn};
-use std::alloc::{Allocator, Global};
+use fw_script::{Line, read_hex, read_line, write_hex, write_record};
+use fw_world::{Call, Event, Outcome, Record, Refusal, WorldIn, run};
+use std::alloc::{AllocError, Allocator, Global};
 use std::io;
 use std::io::Write;
 use std::process::Abort;
 use std::test::Fail;
 
-/// Steps, and again where a growth was refused: `NoMemory` comes only then, and the same event given again goes on.
+/// More growths than a row has.
+const MOST: u64 = 1_000_000;
+
+/// The bytes that the calls of a script put into files, one after another.
+fn bytes_of_writes(alloc: Global, script: &str) -> Result<Vec<u8>, AllocError> {
+    let mut bytes = Vec::new(alloc);
+    for line in script.lines() {
+        if let Ok(Line::CallWrite { hex, .. }) = read_line(line.as_bytes())
+            && let Ok(put) = read_hex(alloc, hex)
+        {
+            bytes.extend_from_slice(put.as_slice())?;
+        }
+    }
+    Ok(bytes)
+}
+
+/// The events of a script, and `None` where it shows the nodes.
+fn steps_of<'a>(
+    alloc: Global,
+    script: &'a str,
+    bytes: &'a [u8],
+) -> Result<Vec<Option<Event<'a>>>, AllocError> {
+    let mut steps = Vec::new(alloc);
+    let mut rest = bytes;
+    for line in script.lines() {
+        match read_line(line.as_bytes()) {
+            Ok(Line::Event(event)) => steps.push(Some(event))?,
+            Ok(
+                Line::CallWrite {
+                    handle,
+                    offset,
+                    hex,
+                },
+            ) => {
+                let len = hex.len() / 2;
+                let bytes = rest.get(..len).unwrap_or(&[]);
+                rest = rest.get(len..).unwrap_or(&[]);
+                steps.push(Some(Event::Call(Call::Write {
+                    handle,
+                    offset,
+                    bytes,
+                })))?;
+            }
+            Ok(Line::Show) => steps.push(None)?,
+            Err(_) => {}
+        }
+    }
+    Ok(steps)
+}
+
+/// Whether an event takes no memory.
+fn takes_no_memory(event: &Event<'_>) -> bool {
+    matches!(
+        event,
+        Event::Settle(_)
+            | Event::Interrupt { .. }
+            | Event::Tick(_)
+            | Event::DropName { .. }
+            | Event::Evict(_)
+            | Event::Abort
+    )
+}
+
+/// Steps. Where a growth was refused, the step must be refused, and for want of memory it is tried again; where none was, memory is not
+/// wanting. Else it is `NoMemory`, which no row has.
 fn step<A: Allocator + Copy>(
     heap: &FailAt<Global>,
     world: &mut WorldIn<A>,
     event: &Event<'_>,
 ) -> Result<Outcome, Refusal> {
     let before = heap.left();
-    match world.step(event) {
-        Err(Refusal::NoMemory) if before != 0 && heap.left() == 0 => world.step(event),
-        stepped => stepped,
+    let stepped = world.step(event);
+    if before == 0 || heap.left() != 0 {
+        return stepped;
+    }
+    match stepped {
+        Err(Refusal::NoMemory) if !takes_no_memory(event) => world.step(event),
+        Err(refusal) => Err(refusal),
+        Ok(_) => Err(Refusal::NoMemory),
     }
 }
 
@@ -30,26 +99,6 @@ fn write_nodes(out: &mut Vec<u8>, side: &str, nodes: &[(u64, u64, u64)]) -> io::
         write!(out, " {node}:{generation}:{count}")?;
     }
     writeln!(out)?;
-    Ok(())
-}
-
-/// Runs an event, and prints what it came to and what it answered.
-fn write_event<A: Allocator + Copy>(
-    heap: &FailAt<Global>,
-    world: &mut WorldIn<A>,
-    event: &Event<'_>,
-    out: &mut Vec<u8>,
-) -> io::Result<()> {
-    let record: Record<A> = match step(heap, world, event) {
-        Ok(outcome) => Record::Outcome(outcome),
-        Err(refusal) => Record::Refused(refusal),
-    };
-    write_record(out, &record)?;
-    for _ in 0..world.answered() {
-        if let Some((call, answer)) = world.collect() {
-            write_record(out, &Record::Answered { call, answer })?;
-        }
-    }
     Ok(())
 }
 
@@ -71,96 +120,256 @@ fn write_both<A: Allocator + Copy>(
     Ok(())
 }
 
-/// Runs the lines of a script, and prints what they come to.
-fn print_lines<A: Allocator + Copy>(
+/// Prints the frame that the last event put.
+fn write_frame(out: &mut Vec<u8>, frame: Option<&[u8]>) -> io::Result<()> {
+    if let Some(frame) = frame {
+        write!(out, "frame ")?;
+        write_hex(out, frame)?;
+        writeln!(out)?;
+    }
+    Ok(())
+}
+
+/// Runs an event, and prints what it came to and what it answered.
+fn write_event<A: Allocator + Copy>(
     heap: &FailAt<Global>,
     world: &mut WorldIn<A>,
-    script: &str,
+    event: &Event<'_>,
+    hex: bool,
     out: &mut Vec<u8>,
 ) -> io::Result<()> {
-    for line in script.lines() {
-        match read_line(line.as_bytes()) {
-            Ok(Line::Event(event)) => write_event(heap, world, &event, out)?,
-            Ok(
-                Line::CallWrite {
-                    handle,
-                    offset,
-                    hex,
-                },
-            ) => {
-                if let Ok(bytes) = read_hex(*out.allocator(), hex) {
-                    let bytes = bytes.as_slice();
-                    let call = Call::Write {
-                        handle,
-                        offset,
-                        bytes,
-                    };
-                    write_event(heap, world, &Event::Call(call), out)?;
-                }
-            }
-            Ok(Line::Show) => write_both(heap, world, out)?,
-            Err(_) => {}
+    let record: Record<A> = match step(heap, world, event) {
+        Ok(outcome) => Record::Outcome(outcome),
+        Err(refusal) => Record::Refused(refusal),
+    };
+    write_record(out, &record)?;
+    if hex {
+        write_frame(out, world.last_put())?;
+    }
+    for _ in 0..world.answered() {
+        if let Some((call, answer)) = world.collect() {
+            write_record(out, &Record::Answered { call, answer })?;
         }
     }
     Ok(())
 }
 
-/// Runs a row on a new world. Says whether it prints what it must.
-fn prints_the_same<A: Allocator + Copy>(
+/// Runs the steps of a row, and prints what they come to.
+fn write_steps<A: Allocator + Copy>(
     heap: &FailAt<Global>,
     world: &mut WorldIn<A>,
+    steps: &[Option<Event<'_>>],
+    hex: bool,
     out: &mut Vec<u8>,
-    row: &Row,
-) -> bool {
-    out.clear();
-    let is_printed = print_lines(heap, world, row.script, out).is_ok();
-    is_printed && out.as_slice() == row.output.as_bytes()
-}
-
-/// Runs a row whose n-th growth is refused. Says whether it prints what it must.
-fn is_same_at<A: Allocator + Copy>(
-    alloc: A,
-    heap: &FailAt<Global>,
-    out: &mut Vec<u8>,
-    n: u64,
-    row: &Row,
-) -> Result<bool, Refusal> {
-    let mut world = WorldIn::new(alloc)?;
-    heap.refuse(n);
-    let is_same = prints_the_same(heap, &mut world, out, row);
-    drop(world);
-    Ok(is_same)
-}
-
-/// Runs a row with each of its growths refused in turn, and gives how many there are.
-fn growths_of<A: Allocator + Copy>(
-    rt: &impl Abort,
-    alloc: A,
-    heap: &FailAt<Global>,
-    out: &mut Vec<u8>,
-    row: &Row,
-) -> Result<u64, Refusal> {
-    for n in 1..4000u64 {
-        assert!(rt; is_same_at(alloc, heap, out, n, row)?, "{} {n}", row.name);
-        let is_refused = heap.left() == 0;
-        heap.refuse(0);
-        if !is_refused {
-            return Ok(n - 1);
+) -> io::Result<()> {
+    for step in steps {
+        match step {
+            Some(event) => write_event(heap, world, event, hex, out)?,
+            None => write_both(heap, world, out)?,
         }
     }
-    Ok(4000)
+    Ok(())
 }
 
-/// Checks that each row has some growths, and none too many.
-fn check_growths<A: Allocator + Copy>(
+/// A world, which is made again where a growth of it was refused.
+fn made<A: Allocator + Copy>(alloc: A) -> Result<WorldIn<A>, Refusal> {
+    match WorldIn::new(alloc) {
+        Ok(world) => Ok(world),
+        Err(_) => WorldIn::new(alloc),
+    }
+}
+
+/// Whether the steps of a row print on a new world what they must.
+fn prints_the_row<A: Allocator + Copy>(
+    alloc: A,
+    heap: &FailAt<Global>,
+    row: &Row,
+    steps: &[Option<Event<'_>>],
+    out: &mut Vec<u8>,
+) -> bool {
+    out.clear();
+    let Ok(mut world) = made(alloc) else {
+        return false;
+    };
+    let is_printed = write_steps(heap, &mut world, steps, row.name.ends_with("-in-hex"), out);
+    drop(world);
+    is_printed.is_ok() && out.as_slice() == row.output.as_bytes()
+}
+
+/// Runs the steps of a row with each growth refused in turn.
+fn check_steps<A: Allocator + Copy>(
     rt: &impl Abort,
     alloc: A,
     heap: &FailAt<Global>,
+    row: &Row,
+    steps: &[Option<Event<'_>>],
     out: &mut Vec<u8>,
-) -> Result<(), Refusal> {
-    for row in &ROWS {
-        let growths = growths_of(rt, alloc, heap, out, row)?;
-        assert!(rt; 10 <= growths && growths < 4000, "{} {growths}", row.name);
+) {
+    let mut turns = 0;
+    for turn in heap.each_growth(MOST) {
+        assert!(rt;
+            prints_the_row(alloc, heap, row, steps, out),
+            "{} {turn}",
+            row.name
+        );
+        turns = turn;
+    }
+    assert!(rt; 1 < turns && turns < MOST, "{} {turns}", row.name);
+}
+
+/// How many events these are the records of.
+fn events_of<A: Allocator>(records: &[Record<A>]) -> usize {
+    let mut events = 0usize;
+    for record in records {
+        if !matches!(record, Record::Answered { .. }) {
+            events = events.saturating_add(1);
+        }
+    }
+    events
+}
+
+/// Runs a list of events. Where a growth of the records was refused, and nowhere else, it ends before an event, with the records of
+/// those before; then it goes on from there.
+fn runs_all<A: Allocator + Copy>(
+    heap: &FailAt<Global>,
+    world: &mut WorldIn<A>,
+    events: &[Event<'_>],
+    records: &mut Vec<Record<A>, A>,
+) -> bool {
+    let Err(k) = run(world, events, records) else {
+        return heap.left() != 0;
+    };
+    heap.left() == 0
+        && events_of(records.as_slice()) == k
+        && run(world, events.get(k..).unwrap_or(&[]), records).is_ok()
+}
+
+/// Prints records.
+fn write_records<A: Allocator>(records: &[Record<A>], out: &mut Vec<u8>) -> io::Result<()> {
+    for record in records {
+        write_record(out, record)?;
+    }
+    Ok(())
+}
+
+/// Whether a run of all events on a new world gives the records that it must. The list of records has a heap of its own.
+fn gives_the_records<A: Allocator + Copy>(
+    alloc: A,
+    of_records: A,
+    heap: &FailAt<Global>,
+    events: &[Event<'_>],
+    wanted: &[u8],
+    out: &mut Vec<u8>,
+) -> bool {
+    out.clear();
+    let mut records = Vec::new(of_records);
+    let Ok(mut world) = WorldIn::new(alloc) else {
+        return false;
+    };
+    let is_run = runs_all(heap, &mut world, events, &mut records);
+    drop(world);
+    is_run && write_records(records.as_slice(), out).is_ok() && out.as_slice() == wanted
+}
+
+/// Runs all events of a row with each growth of the list of records refused in turn.
+fn check_run<A: Allocator + Copy>(
+    rt: &impl Abort,
+    alloc: A,
+    of_records: A,
+    heap: &FailAt<Global>,
+    name: &str,
+    events: &[Event<'_>],
+    wanted: &[u8],
+    out: &mut Vec<u8>,
+) {
+    let mut turns = 0;
+    for turn in heap.each_growth(MOST) {
+        assert!(rt;
+            gives_the_records(alloc, of_records, heap, events, wanted, out),
+            "{name} {turn}"
+        );
+        turns = turn;
+    }
+    assert!(rt;
+        turns < MOST && (events.is_empty() || 1 < turns),
+        "{name} {turns}"
+    );
+}
+
+/// The events among the steps of a script.
+fn events_among<'a>(
+    alloc: Global,
+    steps: &[Option<Event<'a>>],
+) -> Result<Vec<Event<'a>>, AllocError> {
+    let mut events = Vec::new(alloc);
+    for event in steps.iter().flatten() {
+        events.push(*event)?;
+    }
+    Ok(events)
+}
+
+/// What a row prints, but for the lines that are no records.
+fn lines_of_records(alloc: Global, output: &str) -> Result<Vec<u8>, AllocError> {
+    let mut lines = Vec::new(alloc);
+    for line in output.lines() {
+        let is_record = !["kernel", "server", "frame"]
+            .iter()
+            .any(|word| line.starts_with(*word));
+        if is_record {
+            lines.extend_from_slice(line.as_bytes())?;
+            lines.push(b'\n')?;
+        }
+    }
+    Ok(lines)
+}
+
+/// Each growth of the events of a row, refused in turn.
+fn check_row<A: Allocator + Copy>(
+    rt: &impl Abort,
+    alloc: A,
+    heap: &FailAt<Global>,
+    outer: Global,
+    row: &Row,
+) -> Result<(), AllocError> {
+    let bytes = bytes_of_writes(outer, row.script)?;
+    let steps = steps_of(outer, row.script, &bytes)?;
+    check_steps(rt, alloc, heap, row, &steps, &mut Vec::new(outer));
+    Ok(())
+}
+
+/// Each growth of the records of a row, refused in turn.
+fn check_records<A: Allocator + Copy>(
+    rt: &impl Abort,
+    alloc: A,
+    of_records: A,
+    heap: &FailAt<Global>,
+    outer: Global,
+    row: &Row,
+) -> Result<(), AllocError> {
+    let bytes = bytes_of_writes(outer, row.script)?;
+    let steps = steps_of(outer, row.script, &bytes)?;
+    let events = events_among(outer, &steps)?;
+    let wanted = lines_of_records(outer, row.output)?;
+    let mut out = Vec::new(outer);
+    check_run(
+        rt, alloc, of_records, heap, row.name, &events, &wanted, &mut out,
+    );
+    Ok(())
+}
+
+/// Both of each row. What runs and the list of records have a heap each.
+fn check_rows<A: Allocator + Copy>(
+    rt: &impl Abort,
+    alloc: A,
+    of_records: A,
+    heap: &FailAt<Global>,
+    of_refused_records: &FailAt<Global>,
+    outer: Global,
+    rows: &[Row],
+) -> Result<(), AllocError> {
+    for row in rows {
+        check_row(rt, alloc, heap, outer, row)?;
+        check_records(rt, alloc, of_records, of_refused_records, outer, row)?;
     }
     Ok(())
 }
@@ -168,7 +377,17 @@ fn check_growths<A: Allocator + Copy>(
 #[test]
 fn each_growth_of_each_row_refused(rt: HostRuntime) -> Result<(), Fail> {
     let heap = FailAt::new(rt.alloc());
-    let mut out = Vec::new(rt.alloc());
-    check_growths(&rt, &heap, &heap, &mut out)?;
+    let of_records = FailAt::new(rt.alloc());
+    for rows in lists() {
+        check_rows(
+            &rt,
+            &heap,
+            &of_records,
+            &heap,
+            &of_records,
+            rt.alloc(),
+            rows,
+        )?;
+    }
     Ok(())
 }

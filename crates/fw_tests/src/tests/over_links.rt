@@ -1,7 +1,6 @@
 //! Rows over links of bytes: one that fails at one envelope, and one that gives and takes one byte at a time.
 
-use super::other_rows::OTHER_ROWS;
-use super::rows::{ROWS, Row, STAT_OF_ROOT};
+use super::rows::{Row, STAT_OF_ROOT, lists};
 use fw_link::{FailingLink, FailsIn, Link, MemoryLink, StreamLink};
 use fw_script::run_over;
 use std::alloc::{AllocError, Global};
@@ -99,6 +98,9 @@ fn is_cut_off_at_each(
 fn check_cut_off(rt: &impl Abort, alloc: Global, rows: &[Row]) -> Result<(), AllocError> {
     let mut out = Vec::new(alloc);
     for row in rows {
+        if row.name.ends_with("-in-hex") {
+            continue;
+        }
         assert!(rt;
             is_cut_off_at_each(alloc, FailsIn::Put, row, &mut out)?,
             "put {}",
@@ -115,8 +117,9 @@ fn check_cut_off(rt: &impl Abort, alloc: Global, rows: &[Row]) -> Result<(), All
 
 #[test]
 fn a_failure_at_each_envelope(rt: HostRuntime) -> Result<(), Fail> {
-    check_cut_off(&rt, rt.alloc(), &ROWS)?;
-    check_cut_off(&rt, rt.alloc(), &OTHER_ROWS)?;
+    for rows in lists() {
+        check_cut_off(&rt, rt.alloc(), rows)?;
+    }
     Ok(())
 }
 
@@ -231,19 +234,14 @@ fn is_same_over_links(net: &impl Net, alloc: Global, row: &Row, out: &mut Vec<u8
 #[test]
 fn each_row_one_byte_at_a_time(rt: HostRuntime) -> Result<(), Fail> {
     let mut out = Vec::new(rt.alloc());
-    for row in &ROWS {
-        assert!(rt;
-            is_same_over_links(&rt, rt.alloc(), row, &mut out),
-            "{}",
-            row.name
-        );
-    }
-    for row in &OTHER_ROWS {
-        assert!(rt;
-            is_same_over_links(&rt, rt.alloc(), row, &mut out),
-            "{}",
-            row.name
-        );
+    for rows in lists() {
+        for row in rows {
+            assert!(rt;
+                row.name.ends_with("-in-hex") || is_same_over_links(&rt, rt.alloc(), row, &mut out),
+                "{}",
+                row.name
+            );
+        }
     }
     Ok(())
 }

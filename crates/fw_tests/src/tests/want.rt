@@ -105,39 +105,28 @@ fn tells_of_no_memory(status: u8, out: &[u8], faults: &[u8]) -> bool {
     status == 0 && printed.contains("refused 1 NoMemory\n") && faults.is_empty()
 }
 
-/// Runs a script whose n-th growth is refused. Gives whether one was, and whether the run is as it must be then.
-fn run_refused_at<A: Allocator + Copy>(
-    alloc: A,
-    heap: &FailAt<Global>,
-    outer: Global,
-    n: u64,
-) -> (bool, bool) {
+/// Whether a script runs as it must, one of whose growths may be refused.
+fn is_run<A: Allocator + Copy>(alloc: A, heap: &FailAt<Global>, outer: Global) -> bool {
     let mut input = STAT_OF_ROOT.script.as_bytes();
     let mut out = Vec::new(outer);
     let mut faults = Vec::new(outer);
-    heap.refuse(n);
     let status = run_script(alloc, "-", false, &mut input, &mut out, &mut faults);
-    let is_refused = heap.left() == 0;
-    let is_right = if is_refused {
+    if heap.left() == 0 {
         tells_of_no_memory(status, &out, &faults)
     } else {
         status == 0 && out.as_slice() == STAT_OF_ROOT.output.as_bytes() && faults.is_empty()
-    };
-    (is_refused, is_right)
+    }
 }
 
 #[test]
 fn each_growth_refused_in_a_script(rt: HostRuntime) -> Result<(), Fail> {
     let heap = FailAt::new(rt.alloc());
-    let mut most = 0;
-    for n in 1..200u64 {
-        let (is_refused, is_right) = run_refused_at(&heap, &heap, rt.alloc(), n);
-        assert!(rt; is_right, "{n}");
-        if is_refused {
-            most = n;
-        }
+    let mut runs = 0;
+    for n in heap.each_growth(200) {
+        assert!(rt; is_run(&heap, &heap, rt.alloc()), "{n}");
+        runs = n;
     }
-    assert!(rt; 3 < most && most < 199, "{most}");
+    assert!(rt; 3 < runs && runs < 200, "{runs}");
     Ok(())
 }
 
