@@ -43,6 +43,7 @@ use Rattle.fuse_theorem.specs.Reached.{IsReached}
 use Rattle.fuse_theorem.proofs.NoFault.{no_fault}
 use Rattle.fuse_theorem.proofs.Queuing.{All-at}
 use Rattle.fw_world.specs.Values.{refusal_for}
+use Rattle.fw_world.proofs.Parts.{no_copy_wants, some_copy_wants}
 use Rattle.fw_world.proofs.Refusing.{is_exhausted}
 use Rattle.fuse_spec.specs.Steps.{taking_request}
 use Rattle.fs_server.specs.Steps.{CanPerform}
@@ -274,14 +275,15 @@ take_refused w within here place request bytes fault there frame refuses can =
         ∙ is_exhausted (event.taken request.unique did.word) after (past_server (nat_lt counter_end after.kernel.queues.next) (nat_lt counter_end after.kernel.vfs.next_call) (server_past after.server) over))
     by false past is = take_wanting w within place request bytes there frame (can is) refusal.NoMemory refl
 
--- A frame that is not answered at once is taken without a copy.
-pub takes_no_copy : {A : Type 0} (s : Server) (bytes : List ℕ) (took : Took A) (new : Server) → TakesFrame s bytes took new → server.is_past_end new ≡ false → (AnswersFrame s bytes → ⊥) → took.copy ≡ None
-takes_no_copy s bytes took new takes_it low none = by (taking s takes_it.request.unique takes_it.request.body).reply refl takes_it.copy
+-- The copy with which a frame is taken, if it is answered at once, has the room that was made for it.
+pub answer_has_room : {A P : Type 0} (s : Server) (bytes : List ℕ) (took : Took A) (new : Server) → TakesFrame s bytes took new → server.is_past_end new ≡ false → (AnswersFrame s bytes → P) → IfSome took.copy (λ copy. P)
+answer_has_room {A} {P} s bytes took new takes_it low room = by (taking s takes_it.request.unique takes_it.request.body).reply refl takes_it.copy
   where
-    by : (o : Option WireReply) → (taking s takes_it.request.unique takes_it.request.body).reply ≡ o → took.copy ≡ copy_of s.next_copy takes_it.request.unique (taking s takes_it.request.unique takes_it.request.body).reply → took.copy ≡ None
-    by None e is = is ∙ ap (copy_of s.next_copy takes_it.request.unique) e
+    by : (o : Option WireReply) → (taking s takes_it.request.unique takes_it.request.body).reply ≡ o → took.copy ≡ copy_of s.next_copy takes_it.request.unique (taking s takes_it.request.unique takes_it.request.body).reply → IfSome took.copy (λ copy. P)
+    by None e is = no_copy_wants P took.copy (is ∙ ap (copy_of s.next_copy takes_it.request.unique) e)
     by (Some wire) e is =
-        absurd (none (record {
+        some_copy_wants P took.copy
+        (room (record {
           can = record { request = takes_it.request; says = takes_it.says; faultless = takes_it.faultless; within = ap server.is_past_end (sym takes_it.after) ∙ low };
           reply = wire;
           replies = e;

@@ -1,6 +1,6 @@
 //! The world.
 
-ghost use Rattle.std.specs.Prelude.{◌≡◌, ◌≤◌, ◌<◌, ◌++◌, ◌∷◌, [], ℕ, List, false, OnErr, IfOk, IfErr, IfNone, IfSome, length, option_map, slice_get};
+ghost use Rattle.std.specs.Prelude.{◌≡◌, ◌≤◌, ◌<◌, ◌++◌, ◌∷◌, [], ℕ, List, true, false, OnErr, IfOk, IfErr, IfNone, IfSome, length, option_map, slice_get};
 ghost use Rattle.std.specs.Vec.{vec_len, vec_capacity};
 ghost use Rattle.fuse_spec.specs.Events as event;
 ghost use Rattle.fuse_spec.specs.Maps.{remove};
@@ -15,6 +15,7 @@ ghost use Rattle.fk_syscalls.specs.Values.{call_of, answer_of};
 ghost use Rattle.fk_wire.specs.declared.opcode.Opcode.{Opcode as OpcodeValue};
 ghost use Rattle.fuse_frames.specs.ReplyTies.{SaysReply};
 ghost use Rattle.fuse_frames.specs.RequestTies.{IsRequestFrame, asked_opcode};
+ghost use Rattle.fs_server.specs.Effects.{AnswersFrame};
 ghost use Rattle.fw_world.specs.Frames.{IsLastFrame, IsShown};
 ghost use Rattle.fw_world.specs.Runs.{StepsAs};
 ghost use Rattle.fw_world.specs.Values.{counted_nodes, event_of, held_nodes, outcome_of, read_of, refusal_for, with_copy};
@@ -433,9 +434,7 @@ impl<A: Allocator + Copy> WorldIn<A> {
             return Err(Refusal::NoSuch);
         }
         let bytes = self.requests[place].bytes();
-        // Only an INTERRUPT may be answered at once, and only an answer wants room on its link.
-        let has_room = self.replies.reserve(1).is_ok();
-        if !has_room && self.server.take_answers(bytes) {
+        if !reserve_answer(&mut self.replies, &self.server, bytes) {
             within(&self.kernel, &self.server);
             return Err(Refusal::NoMemory);
         }
@@ -601,6 +600,22 @@ fn append<T: Drop, A: Allocator>(list: &mut Vec<T, A>, value: T)
     ensures { list.new.items ≡ list.old.items ++ value ∷ [] }
 {
     let _ = list.push(value);
+}
+
+/// Makes room for the answer that a request frame gets at once, as only an INTERRUPT may, and tells whether there is room.
+fn reserve_answer<A: Allocator + Copy>(
+    replies: &mut Vec<ReplyCopy<A>, A>,
+    server: &Server<A>,
+    bytes: &[u8],
+) -> bool
+    ensures items { replies.new.items ≡ replies.old.items }
+    ensures room { result ≡ true → AnswersFrame server.now bytes.now → vec_len replies.new < vec_capacity replies.new }
+    ensures answers { result ≡ false → AnswersFrame server.now bytes.now }
+{
+    if !server.take_answers(bytes) {
+        return true;
+    }
+    replies.reserve(1).is_ok()
 }
 
 /// Puts the frame of a request that was read onto its link, which has room, and tells its unique, its opcode and its length.

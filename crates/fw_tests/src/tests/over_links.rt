@@ -1,6 +1,6 @@
 //! Rows over links of bytes: one that fails at one envelope, and one that gives and takes one byte at a time.
 
-use super::rows::{Row, STAT_OF_ROOT, lists};
+use super::rows::{Row, STAT_OF_ROOT, short_lists};
 use fw_link::{FailingLink, FailsIn, Link, MemoryLink, StreamLink};
 use fw_script::run_over;
 use std::alloc::{AllocError, Global};
@@ -117,7 +117,7 @@ fn check_cut_off(rt: &impl Abort, alloc: Global, rows: &[Row]) -> Result<(), All
 
 #[test]
 fn a_failure_at_each_envelope(rt: HostRuntime) -> Result<(), Fail> {
-    for rows in lists() {
+    for rows in short_lists() {
         check_cut_off(&rt, rt.alloc(), rows)?;
     }
     Ok(())
@@ -234,7 +234,7 @@ fn is_same_over_links(net: &impl Net, alloc: Global, row: &Row, out: &mut Vec<u8
 #[test]
 fn each_row_one_byte_at_a_time(rt: HostRuntime) -> Result<(), Fail> {
     let mut out = Vec::new(rt.alloc());
-    for rows in lists() {
+    for rows in short_lists() {
         for row in rows {
             assert!(rt;
                 row.name.ends_with("-in-hex") || is_same_over_links(&rt, rt.alloc(), row, &mut out),

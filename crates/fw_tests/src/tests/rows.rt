@@ -494,6 +494,11 @@ static LONG: [Row; 2] = [
     },
 ];
 
+/// The rows but the two with hundreds of lines.
+pub(super) fn short_lists() -> [&'static [Row]; 4] {
+    [&FIRST, &SECOND, &THIRD, &FOURTH]
+}
+
 /// The rows, in several lists: of a long one the check runs out of steps.
 pub(super) fn lists() -> [&'static [Row]; 5] {
     [&FIRST, &SECOND, &THIRD, &FOURTH, &LONG]
