@@ -1,4 +1,4 @@
-//! Rows over links of bytes: one that fails at one envelope, and one that gives and takes one byte at a time.
+//! Rows over links of bytes: one that fails at one envelope, and one that gives one byte at a time.
 
 use super::rows::{Row, STAT_OF_ROOT, short_lists};
 use fw_link::{FailingLink, FailsIn, Link, MemoryLink, StreamLink};
@@ -180,7 +180,7 @@ fn stat_of_root_over_a_link_that_fails(rt: HostRuntime) -> Result<(), Fail> {
     Ok(())
 }
 
-/// An end of a socket that gives and takes one byte at a time.
+/// An end of a socket that gives one byte at a time. It takes what comes: single bytes would fill the socket's buffer.
 #[derive(Drop)]
 struct Slow(UnixStream);
 
@@ -193,8 +193,7 @@ impl Read for Slow {
 
 impl Write for Slow {
     fn write(&mut self, buf: &[u8]) -> io::Result<usize> {
-        let most = buf.len().min(1);
-        self.0.write(&buf[..most])
+        self.0.write(buf)
     }
 
     fn flush(&mut self) -> io::Result<()> {
