@@ -1,5 +1,5 @@
 -- A call that is answered and collected is over for good.
-use Rattle.std.proofs.Common.{◌≡◌, ℕ, Bool, true, false, cond, List, [], ◌∷◌, ◌++◌, Some, get_or, refl, ap, sym, ◌∙◌, All}
+use Rattle.std.proofs.Common.{◌≡◌, ℕ, Bool, true, false, cond, List, [], ◌∷◌, ◌++◌, Some, get_or, refl, ap, All}
 use Rattle.std.specs.declared.cmp.Ordering.{Ordering}
 use Rattle.std.specs.Ordering.{nat_cmp, eq_by_cmp, is_eq}
 use Rattle.std.proofs.lemmas.List.Elements.{All-nil, All-cons, All-append}
@@ -15,14 +15,14 @@ use Rattle.fuse_theorem.specs.Recorded.{Recorded, none_left, one_refused, one_ac
 use Rattle.fuse_theorem.proofs.AnswersStay.{IsCollected, calls_stay, collected_sound}
 use Rattle.fuse_theorem.proofs.EachAnsweredOnce.{answered_collected}
 
-over_is : (w : World) (call : ℕ) → IsOver w call → IsCollected w.kernel.vfs call
+pub over_is : (w : World) (call : ℕ) → IsOver w call → IsCollected w.kernel.vfs call
 over_is w call over = record { begun = over.begun; not_waiting = over.not_waiting; no_answer = over.no_answer }
 
-is_over : (w : World) (call : ℕ) → IsCollected w.kernel.vfs call → IsOver w call
+pub is_over : (w : World) (call : ℕ) → IsCollected w.kernel.vfs call → IsOver w call
 is_over w call is = record { begun = is.begun; not_waiting = is.not_waiting; no_answer = is.no_answer }
 
 -- what holds of each call that has an answer holds of the records of all answers
-all_answers : (P : ℕ → Type 0) (R : Record → Type 0) → ((call : ℕ) (a : Answer) → P call → R (answered call a)) → (answers : Map Answer) → ((call : ℕ) (a : Answer) → get answers call ≡ Some a → P call) → All R (answers_of answers)
+pub all_answers : (P : ℕ → Type 0) (R : Record → Type 0) → ((call : ℕ) (a : Answer) → P call → R (answered call a)) → (answers : Map Answer) → ((call : ℕ) (a : Answer) → get answers call ≡ Some a → P call) → All R (answers_of answers)
 all_answers P R told [] each = All-nil R
 all_answers P R told (e ∷ answers) each =
     let here : get (e ∷ answers) e.0 ≡ Some e.1 = ap (λ (r : Ordering). cond (is_eq r) (Some e.1) (get answers e.0)) (cmp_same e.0) in
@@ -36,7 +36,7 @@ all_answers P R told (e ∷ answers) each =
     rest call a at = let there = found call a (eq_by_cmp nat_cmp call e.0) at in each call there.0 there.1
 
 -- what ends a call that was not over, where more calls were not
-ends_before : (old mid new : World) → ((call : ℕ) → IsOver old call → IsOver mid call) → (r : Record) → EndsCall mid new r → EndsCall old new r
+pub ends_before : (old mid new : World) → ((call : ℕ) → IsOver old call → IsOver mid call) → (r : Record) → EndsCall mid new r → EndsCall old new r
 ends_before old mid new stay (answered call a) ends = ((λ over. ends.0 (stay call over)), ends.1)
 ends_before old mid new stay (outcome o) ends = tt
 ends_before old mid new stay (refused r) ends = tt

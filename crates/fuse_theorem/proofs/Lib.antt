@@ -182,3 +182,5 @@ pub mod SessionsRun
 pub mod SessionsAnswered
 pub mod LostOnce
 pub mod AbortFollows
+pub mod FewCalls
+pub mod SessionsEnd

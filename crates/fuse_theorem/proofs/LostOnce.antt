@@ -1,9 +1,8 @@
 -- A link is lost once.
-use Rattle.std.proofs.Common.{◌≡◌, Bool, true, false, true≢false, List, [], ◌∷◌, ◌++◌, refl, sym, ap, ◌∙◌, append_assoc}
+use Rattle.std.proofs.Common.{◌≡◌, true, false, true≢false, List, [], ◌∷◌, ◌++◌, refl, sym, ap, ◌∙◌, append_assoc}
 use Rattle.std.specs.Prelude.{map}
 use Rattle.fuse_spec.specs.declared.Refusal.TheVariants.{LinkLost}
-use Rattle.fuse_spec.specs.Worlds.{World, after_abort}
-use Rattle.fuse_spec.specs.Events.{Event, abort, aborted}
+use Rattle.fuse_spec.specs.Events.{Event}
 use Rattle.fuse_spec.specs.Records.{Record, outcome, refused, link_lost, answers_of, collected}
 use Rattle.fuse_spec.specs.Sessions.{Session, linked, lost}
 use Rattle.fuse_theorem.specs.Recorded.{Recorded}

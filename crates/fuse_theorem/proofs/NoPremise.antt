@@ -1,23 +1,19 @@
 -- What the worlds of the counterexamples are.
-use Rattle.std.proofs.Common.{◌≡◌, ◌≢◌, ◌≤◌, ◌<◌, ℕ, ◌+◌, ◌%◌, Bool, true, false, true≢false, is_some, cond, not, ◌||◌, List, [], ◌∷◌, Option, Some, None, refl, ap, sym, subst, ◌∙◌, arith, inl, inr}
+use Rattle.std.proofs.Common.{◌≡◌, ◌≤◌, ℕ, ◌+◌, Bool, true, false, true≢false, is_some, cond, [], ◌∷◌, Some, None, refl, ap, sym, subst, ◌∙◌, arith, inl, inr}
 use Rattle.std.proofs.lemmas.Bool.{cases_eq}
-use Rattle.std.proofs.lemmas.List.Elements.{All-nil, All-cons}
+use Rattle.std.proofs.lemmas.List.Elements.{All-cons}
 use Rattle.fuse_spec.specs.Alike.{Alike, RequestBodyAsked}
 use Rattle.fuse_spec.specs.Denotes.{MeansIn, MeansOpenIn}
 use Rattle.fuse_spec.specs.Maps.{get}
 use Rattle.fuse_spec.specs.Messages.{Request, forget}
-use Rattle.fuse_spec.specs.Nodes.{HeldNode, NodeTable, root_row}
+use Rattle.fuse_spec.specs.Nodes.{HeldNode, root_row}
 use Rattle.fuse_spec.specs.Plain.{first_plain}
-use Rattle.fuse_spec.specs.Server.{HeldRequest, Server}
-use Rattle.fuse_spec.specs.Worlds.{first_world}
 use Rattle.fuse_spec.proofs.Tables.{get_put_here, tie_no}
 use Rattle.fuse_theorem.specs.Counterexamples.{with_a_stray_forget, with_a_node_left, with_a_late_request}
 use Rattle.fuse_theorem.specs.Lookups.{LookupsSound}
-use Rattle.fuse_theorem.specs.ServerTables.{NodesSound, ServerSound}
-use Rattle.fuse_theorem.specs.Unperformed.{RequestsSound}
+use Rattle.fuse_theorem.specs.ServerTables.{NodesSound}
 use Rattle.fuse_theorem.specs.WorldSound.{WorldSound}
 use Rattle.fuse_theorem.proofs.First.{first_alike}
-use Rattle.fuse_theorem.proofs.LookupsStay.{first_lookups}
 use Rattle.fuse_theorem.proofs.ServerSound.{first_sound}
 use Rattle.fuse_theorem.proofs.WorldSound.{first_world_sound}
 

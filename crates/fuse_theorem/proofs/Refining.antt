@@ -1,7 +1,6 @@
 -- What holds of a world that events led to, and of any plain world that it refines.
-use Rattle.std.proofs.Common.{◌≡◌, ℕ, List, refl, sym, ap}
+use Rattle.std.proofs.Common.{ℕ, List, ap}
 use Rattle.fuse_spec.specs.Maps.{remove}
-use Rattle.fuse_spec.specs.Alike.{Alike}
 use Rattle.fuse_spec.specs.Counts.{Keeps}
 use Rattle.fuse_spec.specs.Events.{Event, Outcome}
 use Rattle.fuse_spec.specs.Plain.{Plain}
@@ -18,7 +17,7 @@ use Rattle.fuse_theorem.proofs.AllRun.{all_run}
 use Rattle.fuse_theorem.proofs.AllStaySound.{all_move}
 use Rattle.fuse_theorem.proofs.AnswersStay.{calls_stay}
 use Rattle.fuse_theorem.proofs.PlainWorld.{steps_in_words}
-use Rattle.fuse_theorem.proofs.WithAnswers.{with_answers, plain_with_answers, answers_alike}
+use Rattle.fuse_theorem.proofs.WithAnswers.{with_answers, answers_alike}
 
 module _ (w : World) (here : IsReached w) where
   -- All that is sound with the plain world that is known is sound with any other that the world refines.
@@ -39,7 +38,7 @@ module _ (w : World) (here : IsReached w) where
         once = all.once;
       }
 
-  refined_by : (v : World) (q : Plain) → AllSound v q → Refines v q
+  pub refined_by : (v : World) (q : Plain) → AllSound v q → Refines v q
   refined_by v q all = record { alike = all.both.alike; served = all.both.served }
 
   pub refined : (p : Plain) × Refines w p

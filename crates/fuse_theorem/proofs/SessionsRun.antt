@@ -1,19 +1,15 @@
 -- Every list of all events over a link that may fail: the plain world has a run with the records.
-use Rattle.std.proofs.Common.{◌≡◌, List, [], ◌∷◌, ◌++◌, true, false, refl, sym, ap, ◌∙◌, inl, inr, append_assoc}
-use Rattle.std.specs.Prelude.{map}
+use Rattle.std.proofs.Common.{List, [], ◌∷◌, refl, ap, inl, inr}
 use Rattle.fuse_spec.specs.Maps.{Map}
 use Rattle.fuse_spec.specs.Answers.{Answer}
 use Rattle.fuse_spec.specs.declared.Refusal.TheVariants.{LinkLost}
-use Rattle.fuse_spec.specs.Worlds.{World, after_abort}
 use Rattle.fuse_spec.specs.Records.{Record, outcome, refused, link_lost, answers_of, collected}
 use Rattle.fuse_spec.specs.Runs.{plain_collected, Accepts, Refuses}
-use Rattle.fuse_spec.specs.Sessions.{Session, linked, lost, Loses, SessionMoves, moves, loses, refuses, SessionRun}
-use Rattle.fuse_spec.specs.Events.{Event, Outcome, abort, aborted}
+use Rattle.fuse_spec.specs.Sessions.{Session, linked, lost, Loses, moves, loses, refuses, SessionRun}
+use Rattle.fuse_spec.specs.Events.{Event, abort, aborted}
 use Rattle.fuse_spec.specs.Plain.{Plain}
 use Rattle.fuse_theorem.specs.AllSound.{AllSound}
-use Rattle.fuse_theorem.specs.SessionRecorded.{LostIn, SessionRecorded, none_left, one_refused, one_accepted, one_lost, one_too_late}
-use Rattle.fuse_theorem.specs.Recorded.{Recorded}
-use Rattle.fuse_theorem.specs.Recorded as machine
+use Rattle.fuse_theorem.specs.SessionRecorded.{SessionRecorded, none_left, one_refused, one_accepted, one_lost, one_too_late}
 use Rattle.fuse_theorem.proofs.AllCollected.{collected_all}
 use Rattle.fuse_theorem.proofs.AllKeeps.{all_keep}
 use Rattle.fuse_theorem.proofs.AllStaySound.{all_move}

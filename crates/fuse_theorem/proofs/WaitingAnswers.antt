@@ -1,5 +1,5 @@
 -- An event leaves at most one call more that is unanswered or whose answer waits.
-use Rattle.std.proofs.Common.{ℕ, ◌+◌, ◌-◌, ◌≤◌, Bool, true, false, not, cond, [], ◌∷◌, Option, Some, None, Ok, nat_eq, length, sym, subst, ◌∙◌, arith}
+use Rattle.std.proofs.Common.{ℕ, ◌+◌, ◌-◌, ◌≤◌, Bool, true, false, not, cond, [], ◌∷◌, Option, Some, None, nat_eq, length, sym, subst, ◌∙◌, arith}
 use Rattle.std.specs.Prelude.{◌%◌}
 use Rattle.std.specs.declared.cmp.Ordering.TheVariants.{Less, Equal, Greater}
 use Rattle.std.specs.Ordering.{nat_cmp}
@@ -9,7 +9,6 @@ use Rattle.fuse_spec.specs.declared.IntrEffect.{IntrEffect}
 use Rattle.fuse_spec.specs.declared.IntrEffect.TheVariants.{Dequeued, Flagged, Queued, None as NoEffect}
 use Rattle.fuse_spec.specs.declared.Opened.{Opened}
 use Rattle.fuse_spec.specs.declared.Phase.TheVariants.{Ready}
-use Rattle.fuse_spec.specs.declared.Refusal.TheVariants.{NotReady}
 use Rattle.fuse_spec.specs.declared.Purpose.{Purpose}
 use Rattle.fuse_spec.specs.declared.Purpose.TheVariants as purpose
 use Rattle.fuse_spec.specs.Maps.{Map, get, put, remove}
@@ -18,7 +17,7 @@ use Rattle.fuse_spec.specs.Answers as answer
 use Rattle.fuse_spec.specs.Begins.{Beginning, faulty, sets_out, uses, closes, beginning}
 use Rattle.fuse_spec.specs.Calls.{Call}
 use Rattle.fuse_spec.specs.CallReplies.{call_replied, operation_replied}
-use Rattle.fuse_spec.specs.Kernel.{is_live, Kernel, kernel_aborted, is_aborted, advanced, after_use, closed_by, call_begun, after_signal, signalled_at, call_signalled, request_of}
+use Rattle.fuse_spec.specs.Kernel.{Kernel, kernel_aborted, is_aborted, advanced, after_use, closed_by, call_begun, after_signal, signalled_at, call_signalled, request_of}
 use Rattle.fuse_spec.specs.Messages.{WireReply}
 use Rattle.fuse_spec.specs.Operations.{Operation, getattr, mkdir, create, unlink, rmdir, rename, link, opening, readdir, read, write, Reply, found, missing, created, opened, attributes, listed, content, written, done, failed, files_in_reply}
 use Rattle.fuse_spec.specs.QueueCalls.{waiting, without, after_interrupt, interrupt_effect}
@@ -29,9 +28,8 @@ use Rattle.fuse_spec.specs.Taking.{taking}
 use Rattle.fuse_spec.specs.Performs.{served}
 use Rattle.fuse_spec.specs.Worlds.{World}
 use Rattle.fuse_spec.specs.Worlds as worlds
-use Rattle.fuse_spec.specs.Events.{Event, Outcome, abort, aborted}
+use Rattle.fuse_spec.specs.Events.{Event, Outcome}
 use Rattle.fuse_spec.specs.Steps.{Happens}
-use Rattle.fuse_theorem.proofs.Accepted.{unless_ok, ok_is}
 use Rattle.fuse_theorem.proofs.AnswersStay.{advanced_vfs, used_vfs, closing_vfs}
 use Rattle.fuse_theorem.proofs.Happened.{Happened, by_mount, by_call, by_read_interrupt, by_read_forgets, by_read_pending, by_take, by_perform, by_again, by_write, by_settle, by_signal, by_tick, by_drop, by_evict, by_abort, happened}
 
@@ -51,7 +49,7 @@ length_remove (e ∷ m) k = by (not (nat_eq e.0 k)) (length_remove m k)
     by true rest = omega (arith, rest)
     by false rest = omega (arith, rest)
 
-length_all : {X : Type 0} (a : Answer) (calls : Map X) (answers : Map Answer) → length (all_answered a calls answers) ≤ length calls + length answers
+pub length_all : {X : Type 0} (a : Answer) (calls : Map X) (answers : Map Answer) → length (all_answered a calls answers) ≤ length calls + length answers
 length_all a [] answers = omega arith
 length_all a (call ∷ calls) answers = omega (arith, length_put (all_answered a calls answers) call.0 a, length_all a calls answers)
 
@@ -215,12 +213,3 @@ by_event choice w e o after (by_abort live) = given_up_more w.kernel.vfs
 pub one_more_waits : (w : World) (e : Event) (o : Outcome) (after : World) → Happens w e o after
     → length after.kernel.vfs.answers + length after.kernel.vfs.calls ≤ length w.kernel.vfs.answers + length w.kernel.vfs.calls + 1
 one_more_waits w e o after happens = by_event happens.0 w e o after (happened happens.0 w o after e happens.2)
-
--- An abort leaves no more of them.
-pub no_more_after_abort : (w : World) (o : Outcome) (after : World) → Happens w abort o after
-    → length after.kernel.vfs.answers + length after.kernel.vfs.calls ≤ length w.kernel.vfs.answers + length w.kernel.vfs.calls
-no_more_after_abort w o after happens =
-    let went = unless_ok (not (is_live w.kernel.phase)) NotReady (Ok (aborted, worlds.after_abort w)) o after happens.2 in
-    let led = ok_is aborted (worlds.after_abort w) o after went.rest in
-    let FewerThan : World → Type 0 = λ v. waits v.kernel.vfs ≤ waits w.kernel.vfs in
-    subst FewerThan led.after_is (omega (arith, length_all (answer.failed 103) w.kernel.vfs.calls w.kernel.vfs.answers))

@@ -1,5 +1,5 @@
 -- Worlds in which a law fails once one of its premises is left out.
-use Rattle.std.specs.Prelude.{ℕ, false, List, [], ◌∷◌}
+use Rattle.std.specs.Prelude.{false, List, [], ◌∷◌}
 use Rattle.fuse_spec.specs.declared.Phase.TheVariants.{Ready}
 use Rattle.fuse_spec.specs.Answers.{failed as failed_with}
 use Rattle.fuse_spec.specs.Events.{Event}

@@ -4,14 +4,17 @@ ghost use Rattle.std.specs.Prelude.{◌+◌, ◌≤◌, ℕ, List, length};
 ghost use Rattle.fuse_spec.specs.Counts.{Keeps};
 ghost use Rattle.fuse_spec.specs.Events.{Event, Outcome};
 ghost use Rattle.fuse_spec.specs.Maps.{remove};
+ghost use Rattle.fuse_spec.specs.Numbers.{max_calls};
 ghost use Rattle.fuse_spec.specs.Plain.{Plain};
 ghost use Rattle.fuse_spec.specs.PlainWords.{Steps};
 ghost use Rattle.fuse_spec.specs.Records.{Record, collected};
 ghost use Rattle.fuse_spec.specs.Runs.{Refines, Run, AnswersOnce, IsOver, CallsEnd, plain_handed_out};
+ghost use Rattle.fuse_spec.specs.Sessions.{Session, SessionRun};
 ghost use Rattle.fuse_spec.specs.Steps.{Happens};
 ghost use Rattle.fuse_spec.specs.Worlds.{World, first_world};
 ghost use Rattle.fuse_theorem.specs.Reached.{IsReached};
 ghost use Rattle.fuse_theorem.specs.Recorded.{Recorded};
+ghost use Rattle.fuse_theorem.specs.SessionRecorded.{SessionRecorded};
 
 /// All that is sound before the first mount stays so with any event, and as answers are collected, one or all.
 pub fn reached_worlds()
@@ -33,7 +36,17 @@ pub fn reached_worlds_refine()
     ensures answers { (w : World) → IsReached w → (events : List Event) (records : List Record) (after : World) → Recorded w events records after → AnswersOnce records × CallsEnd w records after }
 {}
 
-/// Any event, in any world, leaves at most one call more that is unanswered or whose answer waits.
+/// Over a link that may fail, too: along a list of events whatever plain world a session's world refines takes its steps in words of its own, and is refined
+/// again. The reference protocol is kept, and each call is answered at most once and over with its answer.
+pub fn reached_sessions_refine()
+    ensures list { (s : Session) → IsReached s.world → (events : List Event) (records : List Record) (after : Session) → SessionRecorded s events records after → (p : Plain) → Refines s.world p → (q : Plain) × SessionRun s p events records after q × Refines after.world q }
+    ensures protocol { (s : Session) → IsReached s.world → (events : List Event) (records : List Record) (after : Session) → SessionRecorded s events records after → Keeps after.world }
+    ensures answers { (s : Session) → IsReached s.world → (events : List Event) (records : List Record) (after : Session) → SessionRecorded s events records after → AnswersOnce records × CallsEnd s.world records after.world }
+{}
+
+/// Any event, in any world, leaves at most one call more that is unanswered or whose answer waits. In a world that events led to no more calls are unanswered
+/// than may be.
 pub fn calls_wait_one_by_one()
-    ensures { (w : World) (e : Event) (o : Outcome) (after : World) → Happens w e o after → length after.kernel.vfs.answers + length after.kernel.vfs.calls ≤ length w.kernel.vfs.answers + length w.kernel.vfs.calls + 1 }
+    ensures one_more { (w : World) (e : Event) (o : Outcome) (after : World) → Happens w e o after → length after.kernel.vfs.answers + length after.kernel.vfs.calls ≤ length w.kernel.vfs.answers + length w.kernel.vfs.calls + 1 }
+    ensures few { (w : World) → IsReached w → length w.kernel.vfs.calls ≤ max_calls }
 {}

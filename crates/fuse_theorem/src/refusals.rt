@@ -1,11 +1,12 @@
 //! The machine by cases: which refusal each event has and what it leads to, said as relations (`Refusals.antt` of `fuse_spec`), are exactly what its
 //! step function gives.
 
-ghost use Rattle.std.specs.Prelude.{◌≡◌, ◌⊎◌, ℕ, true, false, Ok, Err};
+ghost use Rattle.std.specs.Prelude.{◌≡◌, ◌≢◌, ◌⊎◌, ℕ, true, false, Ok, Err};
 ghost use Rattle.fuse_spec.specs.declared.Refusal.{Refusal};
+ghost use Rattle.fuse_spec.specs.declared.Refusal.TheVariants.{LinkLost, NoMemory};
 ghost use Rattle.fuse_spec.specs.Worlds.{World};
 ghost use Rattle.fuse_spec.specs.Events.{Event, Outcome};
-ghost use Rattle.fuse_spec.specs.Steps.{step, is_past, Happens, MayStep, IsRefused};
+ghost use Rattle.fuse_spec.specs.Steps.{step, is_past, Happens, MayStep, IsRefused, RefusedWith};
 ghost use Rattle.fuse_spec.specs.Refusals.{Leads, Refuses, draws};
 
 /// An event gets a refusal exactly where a case of `Refuses` has it. The server's choice of ids is given.
@@ -47,4 +48,10 @@ pub fn same_refusal_for_each_choice()
 /// Each event happens, or it is refused whatever the server chooses.
 pub fn happens_or_refused()
     ensures { (w : World) (e : Event) → ((o : Outcome) × (after : World) × Happens w e o after) ⊎ ((r : Refusal) × IsRefused w e r) }
+{}
+
+/// No event is refused for a lost link, and by the machine itself none for want of memory.
+pub fn never_for_the_link()
+    ensures memory { (w : World) (e : Event) (r : Refusal) → IsRefused w e r → r ≢ NoMemory }
+    ensures link { (w : World) (e : Event) (r : Refusal) → RefusedWith w e r → r ≢ LinkLost }
 {}
