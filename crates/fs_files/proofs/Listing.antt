@@ -18,12 +18,12 @@ use Rattle.fk_wire.specs.declared.records.Records.{Records}
 use Rattle.fk_wire.proofs.Frames.{reads_back}
 use Rattle.fk_wire.proofs.OneReply.{counted_from, ends_beyond}
 use Rattle.fk_wire.proofs.RecordLists.{dirents_are_named, one_dirent_list, sizes_of_dirents}
-use Rattle.fuse_frames.specs.ReplyTies.{dirent_in, kind_of_type}
+use Rattle.fuse_frames.specs.ReplyTies.{dirent_in, dirent_of as dirent_written, kind_of_type, type_of}
 use Rattle.fuse_spec.specs.declared.Kind.{Kind}
 use Rattle.fuse_spec.specs.declared.Kind.TheVariants.{Directory, Regular, Other}
 use Rattle.fs_tree.specs.declared.listing.Record.{Record}
 use Rattle.fs_tree.specs.Views.{dirent_of}
-use Rattle.fs_files.specs.Listing.{record_of, type_of}
+use Rattle.fs_files.specs.Listing.{record_of}
 use Rattle.fs_files.specs.Replies.{AreRecordBytes, dirents_in}
 
 records_read : (ds : List DirentContent) (bytes : List ℕ) → InRange (dirents ds) → bytes ≡ spellings (dirents ds) → ReadsAs 0 (dirents ds) bytes
@@ -44,10 +44,14 @@ size_is ds bytes h =
     let same : sizes (dirents (dirents_from (length ds) 0 bytes)) ≡ sizes (dirents ds) = ap (λ (xs : List DirentContent). sizes (dirents xs)) one.0 in
     omega (arith, all, same)
 
-pub are_records : (ds : List DirentContent) (bytes : List ℕ) → HaveRecordNames ds → InRange (dirents ds) → bytes ≡ spellings (dirents ds) → AreRecordBytes bytes
-are_records ds bytes named fits is =
+abbrev AreTyped : List DirentContent → Type 0
+AreTyped ds = map dirent_written (map dirent_in ds) ≡ ds
+
+are_records : (ds : List DirentContent) (bytes : List ℕ) → AreTyped ds → HaveRecordNames ds → InRange (dirents ds) → bytes ≡ spellings (dirents ds) → AreRecordBytes bytes
+are_records ds bytes typed named fits is =
     let reads = records_read ds bytes fits is in
-    subst (λ (xs : List DirentContent). AreRecords 0 bytes xs) (sym (dirents_are ds bytes reads)) (named, reads)
+    let same = sym (dirents_are ds bytes reads) in
+    (subst (λ (xs : List DirentContent). AreRecords 0 bytes xs) same (named, reads), subst AreTyped same typed)
 
 kind_back : (k : Kind) → kind_of_type (type_of k) ≡ k
 kind_back Directory = refl
@@ -57,6 +61,13 @@ kind_back Other = refl
 records_back : (rs : List Record) → map dirent_in (map record_of rs) ≡ map dirent_of rs
 records_back [] = refl
 records_back (r ∷ rs) = λ i. record { ino = (dirent_of r).ino; offset = (dirent_of r).offset; kind = kind_back r.kind i; name = (dirent_of r).name } ∷ records_back rs i
+
+types_back : (rs : List Record) → AreTyped (map record_of rs)
+types_back [] = refl
+types_back (r ∷ rs) = λ i. record { ino = (record_of r).ino; off = (record_of r).off; kind = type_of (kind_back r.kind i); name = (record_of r).name } ∷ types_back rs i
+
+pub names_are_records : (rs : List Record) (bytes : List ℕ) → HaveRecordNames (map record_of rs) → InRange (dirents (map record_of rs)) → bytes ≡ spellings (dirents (map record_of rs)) → AreRecordBytes bytes
+names_are_records rs bytes named fits is = are_records (map record_of rs) bytes (types_back rs) named fits is
 
 -- the records of these names, as they were written
 pub listed_are : (rs : List Record) (bytes : List ℕ) → InRange (dirents (map record_of rs)) → bytes ≡ spellings (dirents (map record_of rs)) → map dirent_in (dirents_in bytes) ≡ map dirent_of rs
@@ -68,7 +79,7 @@ abbrev IsOver : List ℕ → Option Records → Type 0
 IsOver bytes r = MatchOption r ((ds : List DirentContent) → AreRecords 0 bytes ds → ⊥) (λ p. AreRecords 0 bytes (records_in p))
 
 pub is_over : (bytes : List ℕ) (r : Option Records) → AreRecordBytes bytes → IsOver bytes r → IsSome r
-is_over bytes None h over = absurd (over (dirents_in bytes) h)
+is_over bytes None h over = absurd (over (dirents_in bytes) h.0)
 is_over bytes (Some p) h over = search rules
 
 pub over_are : (bytes : List ℕ) (r : Option Records) (p : Records) → IsOver bytes r → r ≡ Some p → (records_in p ≡ dirents_in bytes) × (sizes (dirents (records_in p)) ≡ length bytes)

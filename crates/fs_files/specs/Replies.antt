@@ -1,5 +1,6 @@
 -- What replies say.
-use Rattle.std.specs.Prelude.{◌≢◌, ◌≤◌, ◌<◌, ◌^◌, ℕ, List, Option, Some, None, IsTrue, length, map, false}
+use Rattle.std.specs.Prelude.{◌≡◌, ◌≢◌, ◌≤◌, ◌<◌, ◌^◌, ℕ, List, Option, Some, None, IsTrue, length, map, false}
+use Rattle.std.specs.Int.RustNames.{bit_and}
 use Rattle.fuse_spec.specs.Numbers.{max_transfer, max_validity}
 use Rattle.fuse_spec.specs.Operations as operation
 use Rattle.fuse_spec.specs.Operations.{Reply}
@@ -11,8 +12,8 @@ use Rattle.fs_files.specs.Bounds.{IsThere}
 use Rattle.fk_wire.specs.Decoded.{count_from}
 use Rattle.fk_wire.specs.Dirents.{DirentContent, dirents_from}
 use Rattle.fk_wire.specs.Records.{AreRecords}
-use Rattle.fk_wire.specs.declared.flags.InitFlags.{InitFlags}
-use Rattle.fuse_frames.specs.ReplyTies.{dirent_in}
+use Rattle.fk_wire.specs.Requests.{known_flags}
+use Rattle.fuse_frames.specs.ReplyTies.{dirent_in, dirent_of}
 use Rattle.fs_files.specs.declared.replies.PlainReply.{PlainReply}
 use Rattle.fs_files.specs.declared.replies.PlainReply.TheVariants.{Missing, Attributes, Listed, Content, Written, Agreed, Done, Failed}
 use Rattle.fs_files.specs.declared.replies.Outcome.{Outcome}
@@ -24,9 +25,9 @@ use Rattle.fs_files.specs.declared.replies.SentReply.TheVariants as sent
 abbrev pub dirents_in : List ℕ → List DirentContent
 dirents_in bytes = dirents_from (count_from (length bytes) false 0 bytes) 0 bytes
 
--- These bytes are records.
+-- These bytes are records, whose types are those of kinds.
 abbrev pub AreRecordBytes : List ℕ → Type 0
-AreRecordBytes bytes = AreRecords 0 bytes (dirents_in bytes)
+AreRecordBytes bytes = AreRecords 0 bytes (dirents_in bytes) × (map dirent_of (map dirent_in (dirents_in bytes)) ≡ dirents_in bytes)
 
 module _ {A : Type 0} where
   -- what a reply says that names no file, whatever files are named by
@@ -52,18 +53,18 @@ module _ {A : Type 0} where
   content_len (Content bytes) = length bytes.items
   content_len reply = 0
 
-  -- the flags that the answer to INIT takes up
-  abbrev pub flags_in : PlainReply A → Option InitFlags
-  flags_in (Agreed flags) = Some flags
-  flags_in reply = None
+  -- the flags that the answer to INIT takes up, of those that are known; another reply has none, which is 0
+  abbrev pub flags_in : PlainReply A → ℕ
+  flags_in (Agreed flags) = bit_and flags.0 known_flags
+  flags_in reply = 0
 
-  abbrev pub outcome_flags : Outcome A → Option InitFlags
+  abbrev pub outcome_flags : Outcome A → ℕ
   outcome_flags (outcome.Plain reply) = flags_in reply
-  outcome_flags o = None
+  outcome_flags o = 0
 
-  abbrev pub sent_flags : SentReply A → Option InitFlags
+  abbrev pub sent_flags : SentReply A → ℕ
   sent_flags (sent.Plain reply) = flags_in reply
-  sent_flags reply = None
+  sent_flags reply = 0
 
   -- what an outcome says, with files named by their births
   abbrev pub outcome_reply : (found_ms : ℕ) → Outcome A → Reply ℕ ℕ

@@ -5,7 +5,8 @@ ghost use Rattle.fk_wire.specs.Dirents.{dirents, HaveRecordNames};
 ghost use Rattle.fk_wire.specs.Fields.{InRange, spellings};
 ghost use Rattle.fk_wire.specs.Records.{dirent_content};
 ghost use Rattle.fs_tree.specs.declared.listing.Record.{Record as RecordValue};
-ghost use Rattle.fs_files.specs.Listing.{record_of, type_of};
+ghost use Rattle.fs_files.specs.Listing.{record_of};
+ghost use Rattle.fuse_frames.specs.ReplyTies.{type_of};
 
 use fk_wire::{Dirent, put_record};
 use fs_tree::{Kind, Record};

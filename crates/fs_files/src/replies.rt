@@ -7,7 +7,7 @@ ghost use Rattle.fuse_frames.specs.ReplyTies.{dirent_in};
 ghost use Rattle.fs_files.specs.Replies.{AreRecordBytes, dirents_in};
 
 use fk_wire::{InitFlags, Records};
-use fuse_frames::{ReplyCopy, ReplyRoom};
+use fuse_frames::{ReplyFrame, ReplyRoom};
 use fuse_spec::{Attributes, Entry};
 use std::alloc::Allocator;
 
@@ -97,21 +97,21 @@ impl<A: Allocator> PlainReply<A> {
         }
     }
 
-    /// A copy of it, in its frame.
-    fn framed(&self, room: ReplyRoom<A>, number: u64, unique: u64) -> ReplyCopy<A>
+    /// Its frame.
+    fn framed(&self, room: ReplyRoom<A>, unique: u64) -> ReplyFrame<A>
         requires sendable { IsPlainSendable self.now }
         requires room { 16 + content_len self.now ≤ room }
-        ensures { result ≡ record { number = number; unique = unique; wire = plain_wire self.now } }
+        ensures { result ≡ record { unique = unique; wire = plain_wire self.now; flags = flags_in self.now } }
     {
         match self {
-            PlainReply::Missing { missing_ms } => room.missing(number, unique, *missing_ms),
-            PlainReply::Attributes { attributes } => room.attributes(number, unique, attributes),
-            PlainReply::Listed { records } => listed(records, room, number, unique),
-            PlainReply::Content { bytes } => room.content(number, unique, bytes),
-            PlainReply::Written { size } => room.written(number, unique, *size),
-            PlainReply::Agreed { flags } => room.agreed(number, unique, *flags),
-            PlainReply::Done => room.done(number, unique),
-            PlainReply::Failed { errno } => room.failed(number, unique, *errno),
+            PlainReply::Missing { missing_ms } => room.missing(unique, *missing_ms),
+            PlainReply::Attributes { attributes } => room.attributes(unique, attributes),
+            PlainReply::Listed { records } => listed(records, room, unique),
+            PlainReply::Content { bytes } => room.content(unique, bytes),
+            PlainReply::Written { size } => room.written(unique, *size),
+            PlainReply::Agreed { flags } => room.agreed(unique, *flags),
+            PlainReply::Done => room.done(unique),
+            PlainReply::Failed { errno } => room.failed(unique, *errno),
         }
     }
 }
@@ -128,18 +128,13 @@ fn with_bytes<A: Allocator>(spare: Vec<u8, A>, bytes: &[u8]) -> Vec<u8, A>
 }
 
 /// The reply to a READDIR in its frame.
-fn listed<A: Allocator>(
-    records: &[u8],
-    room: ReplyRoom<A>,
-    number: u64,
-    unique: u64,
-) -> ReplyCopy<A>
+fn listed<A: Allocator>(records: &[u8], room: ReplyRoom<A>, unique: u64) -> ReplyFrame<A>
     requires some { AreRecordBytes records.now }
     requires most { length records.now ≤ max_transfer }
     requires room { 16 + length records.now ≤ room }
-    ensures { result ≡ record { number = number; unique = unique; wire = reply.listed (map dirent_in (dirents_in records.now)) } }
+    ensures { result ≡ record { unique = unique; wire = reply.listed (map dirent_in (dirents_in records.now)); flags = 0 } }
 {
-    room.listed(number, unique, Records::over(records).unwrap())
+    room.listed(unique, Records::over(records).unwrap())
 }
 
 impl<A: Allocator> Outcome<A> {
@@ -233,21 +228,21 @@ impl<A: Allocator> SentReply<A> {
         }
     }
 
-    /// A copy of it, in its frame.
-    pub fn framed(&self, room: ReplyRoom<A>, number: u64, unique: u64) -> ReplyCopy<A>
+    /// Its frame.
+    pub fn framed(&self, room: ReplyRoom<A>, unique: u64) -> ReplyFrame<A>
         requires sendable { IsSendable self.now }
         requires room { 16 + sent_len self.now ≤ room }
-        ensures { result ≡ record { number = number; unique = unique; wire = sent_wire self.now } }
+        ensures { result ≡ record { unique = unique; wire = sent_wire self.now; flags = sent_flags self.now } }
     {
         match self {
-            SentReply::Found { entry, found_ms } => room.found(number, unique, entry, *found_ms),
+            SentReply::Found { entry, found_ms } => room.found(unique, entry, *found_ms),
             SentReply::Created {
                 entry,
                 found_ms,
                 fh,
-            } => room.created(number, unique, entry, *found_ms, *fh),
-            SentReply::Opened { fh } => room.opened(number, unique, *fh),
-            SentReply::Plain { reply } => reply.framed(room, number, unique),
+            } => room.created(unique, entry, *found_ms, *fh),
+            SentReply::Opened { fh } => room.opened(unique, *fh),
+            SentReply::Plain { reply } => reply.framed(room, unique),
         }
     }
 }

@@ -74,7 +74,7 @@ impl<A: Allocator + Copy> Server<A> {
         let room = ReplyRoom::new(self.alloc, len)?;
         let spare = Vec::with_capacity(self.alloc, len)?;
         let number = self.next_copy;
-        let copy = reply.framed(room, number, unique);
+        let copy = ReplyCopy::new(number, reply.framed(room, unique));
         let sent = SentCopy::new(unique, reply.copied(spare), kept.first());
         count_again(&mut self.files, reply);
         self.copies.put(number, sent);

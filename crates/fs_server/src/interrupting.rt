@@ -14,7 +14,7 @@ ghost use Rattle.fs_server.specs.Taking.{answers};
 use crate::replies::SentCopy;
 use crate::server::{Server, ServerFault, Took};
 use fs_files::{PlainReply, SentReply};
-use fuse_frames::ReplyRoom;
+use fuse_frames::{ReplyCopy, ReplyRoom};
 use fuse_spec::Taken;
 use std::alloc::Allocator;
 
@@ -73,7 +73,7 @@ impl<A: Allocator + Copy> Server<A> {
         let reply = SentReply::Plain {
             reply: PlainReply::Failed { errno: EAGAIN },
         };
-        let copy = reply.framed(room, number, unique);
+        let copy = ReplyCopy::new(number, reply.framed(room, unique));
         self.copies
             .put(number, SentCopy::new(unique, reply, number));
         self.next_copy = number + 1;

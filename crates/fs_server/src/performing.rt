@@ -7,7 +7,7 @@ ghost use Rattle.fs_server.specs.Steps.{CanPerform};
 
 use crate::replies::{KeptReply, SentCopy};
 use crate::server::{COUNTER_END, Done, Server};
-use fuse_frames::ReplyRoom;
+use fuse_frames::{ReplyCopy, ReplyRoom};
 use fuse_spec::Refusal;
 use std::alloc::{AllocError, Allocator};
 
@@ -99,7 +99,7 @@ impl<A: Allocator + Copy> Server<A> {
         let reply = self.files.tell(outcome, self.validity.found_ms);
         self.files.discard_unheld(loose);
         let errno = reply.errno();
-        let copy = reply.framed(room, number, unique);
+        let copy = ReplyCopy::new(number, reply.framed(room, unique));
         let sent = SentCopy::new(unique, reply.copied(spare), number);
         let _held = self.held.remove(unique);
         self.kept.put(unique, KeptReply::new(reply, number));

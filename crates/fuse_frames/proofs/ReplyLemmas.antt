@@ -20,28 +20,25 @@ use Rattle.fuse_spec.specs.Numbers.{max_validity}
 use Rattle.fuse_spec.specs.Operations as reply
 use Rattle.fuse_spec.specs.Operations.{Operation}
 use Rattle.fuse_spec.specs.Replies.{goes_with, is_init_reply, is_empty_reply}
-use Rattle.fuse_spec.specs.Worlds.{Sent}
-use Rattle.fuse_frames.specs.ReplyTies.{SaysReply, IsReplyFrame, has_reply, wire_in, unique_in, wire_said, wire_body, milliseconds}
+use Rattle.fuse_frames.specs.ReplyTies.{SaysReply, IsReplyFrame, Framed, framed_by, framed_in, message_of, content_of, error_of, has_reply, wire_said, wire_body, milliseconds}
 use Rattle.fuse_frames.specs.RequestTies.{asked_opcode}
 
 -- the bytes spell one reply to an opcode
-pub one_reply : (o : Opcode) (bytes : List ℕ) (unique : ℕ) (wire : WireReply) → SaysReply o bytes unique wire → (wire_in o bytes ≡ wire) × (unique_in o bytes ≡ unique)
-unfolding wire_in unique_in
-one_reply o bytes unique wire h =
-    let is = decoded_reply_is o bytes h.message h.spells in
-    (ap (λ (m : ReplyMessage). wire_said m.error m.content) is ∙ h.says, ap (λ (m : ReplyMessage). m.unique) is ∙ h.unique_is)
+pub one_framed : (o : Opcode) (bytes : List ℕ) (m : ReplyMessage) → GoesWith served o m → WrittenReply m bytes → framed_in o bytes ≡ framed_by m
+unfolding framed_in
+one_framed o bytes m goes w = ap framed_by (decoded_reply_is o bytes m (spells_reply served o m bytes goes w))
 
-pub frame_replies : (o : Opcode) (bytes : List ℕ) (m : ReplyMessage) → GoesWith served o m → WrittenReply m bytes → SaysReply o bytes m.unique (wire_said m.error m.content)
-frame_replies o bytes m goes w = record { message = m; spells = spells_reply served o m bytes goes w; unique_is = refl; says = refl }
+-- What is written as a message that is a reply's is that reply's frame.
+frame_of : (o : Opcode) (bytes : List ℕ) (m : ReplyMessage) → GoesWith served o m → WrittenReply m bytes → m ≡ message_of (framed_by m) → IsReplyFrame o bytes (framed_by m)
+frame_of o bytes m goes w exact =
+    record {
+      written = subst (λ (n : ReplyMessage). WrittenReply n bytes) exact w;
+      goes = subst (λ (n : ReplyMessage). GoesWith served o n) exact goes;
+      says = ap (λ (n : ReplyMessage). wire_said n.error n.content) (sym exact);
+    }
 
-pub framed_is : (number : ℕ) (o : Opcode) (bytes : List ℕ) (m : ReplyMessage) → GoesWith served o m → WrittenReply m bytes
-    → ◌≡◌ {A = Sent} (record { number = number; unique = unique_in o bytes; wire = wire_in o bytes }) (record { number = number; unique = m.unique; wire = wire_said m.error m.content })
-framed_is number o bytes m goes w =
-    let one = one_reply o bytes m.unique (wire_said m.error m.content) (frame_replies o bytes m goes w) in
-    λ i. record { number = number; unique = one.1 i; wire = one.0 i }
-
-pub is_framed : (o : Opcode) (bytes : List ℕ) (m : ReplyMessage) → GoesWith served o m → WrittenReply m bytes → IsReplyFrame o bytes
-is_framed o bytes m goes w = record { message = m; written = w; goes = goes }
+pub is_framed : (o : Opcode) (bytes : List ℕ) (m : ReplyMessage) → GoesWith served o m → WrittenReply m bytes → m ≡ message_of (framed_by m) → IsReplyFrame o bytes (framed_in o bytes)
+is_framed o bytes m goes w exact = subst (λ (f : Framed). IsReplyFrame o bytes f) (sym (one_framed o bytes m goes w)) (frame_of o bytes m goes w exact)
 
 -- a validity in milliseconds, in whole seconds and the rest as nanoseconds, reads as itself
 pub reads_as_itself : (ms : ℕ) → ms ≤ max_validity → milliseconds (ms / 1000) (ms % 1000 * 1000000) ≡ ms
@@ -151,43 +148,40 @@ empty_kind wire e good = absurd (true≢false (sym e))
 one_some : {K : Type 0} {j k : K} → Some j ≡ Some k → j ≡ k
 one_some e = cc
 
-module _ (o : Opcode) (bytes : List ℕ) (frame : IsReplyFrame o bytes) where
-  one : (wire_in o bytes ≡ wire_said frame.message.error frame.message.content) × (unique_in o bytes ≡ frame.message.unique)
-  one = one_reply o bytes frame.message.unique (wire_said frame.message.error frame.message.content) (frame_replies o bytes frame.message frame.goes frame.written)
-
+module _ (o : Opcode) (bytes : List ℕ) (f : Framed) (frame : IsReplyFrame o bytes f) where
   -- The frame says what it says to every opcode that it goes with.
-  says_to : (p : Opcode) → GoesWith served p frame.message → SaysReply p bytes (unique_in o bytes) (wire_in o bytes)
-  says_to p goes = record { message = frame.message; spells = spells_reply served p frame.message bytes goes frame.written; unique_is = sym one.1; says = sym one.0 }
+  says_to : (p : Opcode) → GoesWith served p (message_of f) → SaysReply p bytes f.unique f.wire
+  says_to p goes = record { message = message_of f; spells = spells_reply served p (message_of f) bytes goes frame.written; unique_is = refl; says = frame.says }
 
-  pub says : SaysReply o bytes (unique_in o bytes) (wire_in o bytes)
+  pub says : SaysReply o bytes f.unique f.wire
   says = says_to o frame.goes
 
   -- The frame says what it says to each opcode whose replies have the kind of body that says it.
-  says_as : (p : Opcode) (d : ReplyContent) → reply_kind served p ≡ Some (kind_of_content d) → (is_failure (wire_in o bytes) ≡ false → kind_of_content (body_saying (wire_in o bytes)) ≡ kind_of_content d) → SaysReply p bytes (unique_in o bytes) (wire_in o bytes)
+  says_as : (p : Opcode) (d : ReplyContent) → reply_kind served p ≡ Some (kind_of_content d) → (is_failure f.wire ≡ false → kind_of_content (body_saying f.wire) ≡ kind_of_content d) → SaysReply p bytes f.unique f.wire
   says_as p d has same =
-      let m = frame.message in
-      let said = subst (λ (w : WireReply). is_failure w ≡ false → kind_of_content (body_saying w) ≡ kind_of_content d) one.0 same in
+      let m = message_of f in
+      let said = subst (λ (w : WireReply). is_failure w ≡ false → kind_of_content (body_saying w) ≡ kind_of_content d) (sym frame.says) same in
       says_to p (goes_saying o p d m.unique m.error m.content frame.goes frame.written.1 frame.written.2 has said)
 
-  pub fits : (operation : Operation ℕ Opened) → goes_with operation (wire_in o bytes) ≡ true → SaysReply (asked_opcode (asks operation)) bytes (unique_in o bytes) (wire_in o bytes)
+  pub fits : (operation : Operation ℕ Opened) → goes_with operation f.wire ≡ true → SaysReply (asked_opcode (asks operation)) bytes f.unique f.wire
   fits operation goes =
       let by = replied_by operation in
-      says_as (asked_opcode (asks operation)) by.0 by.1 (λ good. one_some (sym (kind_going operation (wire_in o bytes) goes good) ∙ by.1))
+      says_as (asked_opcode (asks operation)) by.0 by.1 (λ good. one_some (sym (kind_going operation f.wire goes good) ∙ by.1))
 
-  pub init : is_init_reply (wire_in o bytes) ≡ true → SaysReply op.Init bytes (unique_in o bytes) (wire_in o bytes)
-  init is = says_as op.Init (init_reply 0 0 0) refl (init_kind (wire_in o bytes) is)
+  pub init : is_init_reply f.wire ≡ true → SaysReply op.Init bytes f.unique f.wire
+  init is = says_as op.Init (init_reply 0 0 0) refl (init_kind f.wire is)
 
-  pub empty : is_empty_reply (wire_in o bytes) ≡ true → SaysReply op.Release bytes (unique_in o bytes) (wire_in o bytes) × SaysReply op.Interrupt bytes (unique_in o bytes) (wire_in o bytes)
+  pub empty : is_empty_reply f.wire ≡ true → SaysReply op.Release bytes f.unique f.wire × SaysReply op.Interrupt bytes f.unique f.wire
   empty is =
-      let kind = empty_kind (wire_in o bytes) is in
+      let kind = empty_kind f.wire is in
       (says_as op.Release empty_reply refl kind, says_as op.Interrupt empty_reply refl kind)
 
   -- The head that is read is the frame's.
-  pub unique_read : (read : List ℕ) → read ≡ bytes → (unique : ℕ) → unique ≡ number_at 8 8 read → unique ≡ unique_in o bytes
-  unique_read read same unique is = is ∙ ap (number_at 8 8) same ∙ (spells_reply served o frame.message bytes frame.goes frame.written).5.1.1.0 ∙ sym one.1
+  pub unique_read : (read : List ℕ) → read ≡ bytes → (unique : ℕ) → unique ≡ number_at 8 8 read → unique ≡ f.unique
+  unique_read read same unique is = is ∙ ap (number_at 8 8) same ∙ (spells_reply served o (message_of f) bytes frame.goes frame.written).5.1.1.0
 
-  pub no_fault : (read : List ℕ) → read ≡ bytes → (f : WireFault) → ReplyFaultIsAt served o read f → ⊥
-  no_fault read same f is = no_reply_fault served o bytes frame.message f (spells_reply served o frame.message bytes frame.goes frame.written) (subst (λ (x : List ℕ). ReplyFaultIsAt served o x f) same is)
+  pub no_fault : (read : List ℕ) → read ≡ bytes → (fault : WireFault) → ReplyFaultIsAt served o read fault → ⊥
+  no_fault read same fault is = no_reply_fault served o bytes (message_of f) fault (spells_reply served o (message_of f) bytes frame.goes frame.written) (subst (λ (x : List ℕ). ReplyFaultIsAt served o x fault) same is)
 
 -- ---- an error of a reply
 
@@ -223,3 +217,9 @@ error_goes o unique errno z has some most is =
     let shows : cast_unsigned w32 z ≢ 0 = λ e. error_shows (errno - 1) (subst IsErrorNumber is (error_in_range errno z some most is)) (ap (cast_unsigned w32) (sym is) ∙ e) in
     let by = has_kind o has in
     (kind_of_content by.0, by.1, elim (eqb_tells (cast_unsigned w32 z) 0) [ inl h ↦ absurd (shows h.1) | inr h ↦ sym (ap (λ (b : Bool). if b then kind_of_content by.0 else kind_of_content empty_reply) h.0) ])
+
+-- An error alone is the message of what it says.
+pub error_exact : (unique errno : ℕ) (z : ℤ) → 1 ≤ errno → z ≡ negsuc (errno - 1) → ◌≡◌ {A = ReplyMessage} (record { unique = unique; error = z; content = empty_reply }) (message_of (framed_by (record { unique = unique; error = z; content = empty_reply })))
+error_exact unique errno z some is =
+    let said = error_said errno z empty_reply some is in
+    λ i. record { unique = unique; error = (is ∙ ap error_of (sym said)) i; content = (ap (content_of 0) (sym said)) i }

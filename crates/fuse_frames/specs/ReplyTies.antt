@@ -1,10 +1,10 @@
 -- A reply as its frame spells it, and as the machine of kernel and server has it.
-use Rattle.std.specs.Prelude.{◌≡◌, ◌≤◌, Bool, true, false, IsTrue, ℕ, ℤ, pos, negsuc, ◌+◌, ◌*◌, ◌/◌, min, cond, nat_eq, List, [], map}
+use Rattle.std.specs.Prelude.{◌≡◌, ◌≤◌, Bool, true, false, IsTrue, ℕ, ℤ, pos, negsuc, ◌+◌, ◌-◌, ◌*◌, ◌/◌, ◌%◌, min, cond, nat_eq, List, [], map}
 use Rattle.std.specs.Int.RustNames.{bit_and}
 use Rattle.fk_wire.specs.declared.opcode.Opcode.{Opcode}
 use Rattle.fk_wire.specs.declared.opcode.Opcode.TheVariants as op
 use Rattle.fk_wire.specs.declared.entry.Attr.{Attr}
-use Rattle.fk_wire.specs.Entries.{missing, found}
+use Rattle.fk_wire.specs.Entries.{EntryContent, missing, found}
 use Rattle.fk_wire.specs.Dirents.{DirentContent}
 use Rattle.fk_wire.specs.Fields.{sizes}
 use Rattle.fk_wire.specs.Replies.{ReplyContent, empty_reply, entry_reply, attr_reply, open_reply, bytes_reply, write_reply, init_reply, create_reply, records_reply, plus_reply, ReplyMessage, GoesWith, SpellsReply, WrittenReply, IsErrorNumber, IsReplyContent, HasReplyNames, kind_of_content, knows_kind, reply_body}
@@ -72,18 +72,76 @@ pub record SaysReply (o : Opcode) (bytes : List ℕ) (unique : ℕ) (wire : Wire
   pub unique_is : message.unique ≡ unique
   pub says : wire_said message.error message.content ≡ wire
 
--- The bytes are the one frame in which a reply to a request of this opcode is written.
-pub record IsReplyFrame (o : Opcode) (bytes : List ℕ) : Type 0 where
-  pub message : ReplyMessage
-  pub written : WrittenReply message bytes
-  pub goes : GoesWith served o message
+-- A reply as its frame has it. The flags are those that an answer to INIT takes up; another reply has none, which is 0.
+pub record Framed : Type 0 where
+  pub unique : ℕ
+  pub wire : WireReply
+  pub flags : ℕ
 
--- What the bytes of a reply say, where they say anything, and under which unique.
-unfoldable pub wire_in : Opcode → List ℕ → WireReply
-wire_in o bytes = wire_said (decoded_reply o bytes).error (decoded_reply o bytes).content
+abbrev pub flags_said : ReplyContent → ℕ
+flags_said (init_reply major minor flags) = flags
+flags_said content = 0
 
-unfoldable pub unique_in : Opcode → List ℕ → ℕ
-unique_in o bytes = (decoded_reply o bytes).unique
+abbrev pub framed_by : ReplyMessage → Framed
+framed_by m = record { unique = m.unique; wire = wire_said m.error m.content; flags = flags_said m.content }
+
+-- ---- how replies are written
+
+-- The mode of a file: octal 040755 of a directory, 0100644 of a regular file. No file of another kind is served.
+abbrev pub mode_of : Kind → ℕ
+mode_of Directory = 16877
+mode_of Regular = 33188
+mode_of Other = 0
+
+abbrev pub attr_of : Attributes → Attr
+attr_of a = record { ino = a.ino; size = a.size; mode = mode_of a.kind; nlink = a.nlink }
+
+-- A validity in milliseconds is written as whole seconds, and the rest as nanoseconds.
+abbrev pub found_of : Entry → ℕ → EntryContent
+found_of e valid = found e.nodeid e.generation (valid / 1000) (valid % 1000 * 1000000) (attr_of e.attributes)
+
+abbrev pub missing_of : ℕ → EntryContent
+missing_of valid = missing (valid / 1000) (valid % 1000 * 1000000)
+
+-- the type of a kind: 4 is a directory, 8 a regular file
+abbrev pub type_of : Kind → ℕ
+type_of Directory = 4
+type_of Regular = 8
+type_of Other = 0
+
+abbrev pub dirent_of : Dirent → DirentContent
+dirent_of d = record { ino = d.ino; off = d.offset; kind = type_of d.kind; name = d.name }
+
+-- the body of a reply; an error has none
+abbrev pub content_of : (flags : ℕ) → WireReply → ReplyContent
+content_of flags (reply.found entry valid) = entry_reply (found_of entry valid)
+content_of flags (reply.missing valid) = entry_reply (missing_of valid)
+content_of flags (reply.created entry valid fh) = create_reply (found_of entry valid) fh
+content_of flags (reply.opened fh) = open_reply fh
+content_of flags (reply.attributes attributes) = attr_reply (attr_of attributes)
+content_of flags (reply.listed records) = records_reply (map dirent_of records)
+content_of flags (reply.content bytes) = bytes_reply bytes
+content_of flags (reply.written size) = write_reply size
+content_of flags (reply.agreed major minor) = init_reply major minor flags
+content_of flags reply.done = empty_reply
+content_of flags (reply.failed errno) = empty_reply
+
+abbrev pub error_of : WireReply → ℤ
+error_of (reply.failed errno) = negsuc (errno - 1)
+error_of wire = pos 0
+
+abbrev pub message_of : Framed → ReplyMessage
+message_of f = record { unique = f.unique; error = error_of f.wire; content = content_of f.flags f.wire }
+
+-- The bytes are the one frame in which this reply to a request of this opcode is written, and they say it.
+pub record IsReplyFrame (o : Opcode) (bytes : List ℕ) (framed : Framed) : Type 0 where
+  pub written : WrittenReply (message_of framed) bytes
+  pub goes : GoesWith served o (message_of framed)
+  pub says : wire_said (error_of framed.wire) (content_of framed.flags framed.wire) ≡ framed.wire
+
+-- What the bytes of a reply are, where they spell anything.
+unfoldable pub framed_in : Opcode → List ℕ → Framed
+framed_in o bytes = framed_by (decoded_reply o bytes)
 
 -- The opcodes that are replied to. READDIRPLUS is not served yet.
 abbrev pub has_reply : Opcode → Bool

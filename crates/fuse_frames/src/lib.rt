@@ -4,11 +4,13 @@
 mod pair_bytes;
 mod reply_body;
 mod reply_copy;
+mod reply_frame;
 mod reply_room;
 mod request_frame;
 mod request_operations;
 
 pub use reply_body::{attributes_of, kind_of_type, milliseconds};
 pub use reply_copy::ReplyCopy;
+pub use reply_frame::ReplyFrame;
 pub use reply_room::ReplyRoom;
 pub use request_frame::RequestFrame;

@@ -1,17 +1,19 @@
 //! Room for one reply.
 
-ghost use Rattle.std.specs.Prelude.{◌≡◌, ◌≢◌, ◌≤◌, ◌+◌, pos, negsuc, ◌-◌, Some, IfOk, length, map};
+ghost use Rattle.std.specs.Int.RustNames.{bit_and};
+ghost use Rattle.std.specs.Prelude.{◌≡◌, ◌≢◌, ◌≤◌, ◌+◌, ◌*◌, ◌/◌, ◌%◌, pos, negsuc, ◌-◌, Some, IfOk, length, map};
 ghost use Rattle.fk_wire.specs.Dirents.{dirents};
 ghost use Rattle.fk_wire.specs.Fields.{sizes};
 ghost use Rattle.fk_wire.specs.Opcodes.{served};
 ghost use Rattle.fk_wire.specs.Records.{records_in};
-ghost use Rattle.fk_wire.specs.Replies.{reply_body, reply_content, kind_of_content, reply_kind};
+ghost use Rattle.fk_wire.specs.Replies.{init_reply, reply_body, reply_content, kind_of_content, reply_kind};
+ghost use Rattle.fk_wire.specs.Requests.{known_flags};
 ghost use Rattle.fuse_spec.specs.Numbers.{max_transfer, max_validity};
 ghost use Rattle.fuse_spec.specs.Operations as reply;
-ghost use Rattle.fuse_frames.specs.ReplyTies.{FitsRoom, wire_body, attributes_in, dirent_in};
-ghost use Rattle.fuse_frames.specs.ReplyTies.{milliseconds as milliseconds_in};
+ghost use Rattle.fuse_frames.specs.ReplyTies.{FitsRoom, content_of, dirent_in, dirent_of, flags_said, wire_body};
+ghost use Rattle.fuse_frames.specs.ReplyTies.{attr_of as attr_written};
 
-use crate::reply_copy::ReplyCopy;
+use crate::reply_frame::ReplyFrame;
 use fk_wire::{Attr, InitFlags, Opcode, Records, Reply, ReplyBody};
 use fuse_spec::{Attributes, Entry, Kind};
 use std::alloc::{AllocError, Allocator, Global};
@@ -48,150 +50,136 @@ impl<A: Allocator> ReplyRoom<A> {
         Ok(ReplyRoom { bytes })
     }
 
-    /// The copy of a reply without error.
-    fn said(self, number: u64, unique: u64, opcode: Opcode, body: ReplyBody<'_>) -> ReplyCopy<A>
+    /// The frame of a reply without error.
+    fn said(self, unique: u64, opcode: Opcode, body: ReplyBody<'_>) -> ReplyFrame<A>
         requires goes { reply_kind served opcode ≡ Some (kind_of_content (reply_content body)) }
         requires fits { FitsRoom (record { unique = unique; error = pos 0; content = reply_content body }) }
         requires room { 16 + sizes (reply_body (reply_content body)) ≤ self }
-        ensures { result ≡ record { number = number; unique = unique; wire = wire_body (reply_content body.entry) } }
+        requires exact { reply_content body ≡ content_of (flags_said (reply_content body)) (wire_body (reply_content body)) }
+        ensures { result ≡ record { unique = unique; wire = wire_body (reply_content body.entry); flags = flags_said (reply_content body.entry) } }
     {
         let reply = Reply {
             unique,
             error: 0,
             body,
         };
-        ReplyCopy::written(number, opcode, self.bytes, &reply)
+        ReplyFrame::written(opcode, self.bytes, &reply)
     }
 
     /// The answer to INIT: version 7.31, and which flags of those that were offered are taken up.
-    pub fn agreed(self, number: u64, unique: u64, flags: InitFlags) -> ReplyCopy<A>
-        ensures { result ≡ record { number = number; unique = unique; wire = reply.agreed 7 31 } }
+    pub fn agreed(self, unique: u64, flags: InitFlags) -> ReplyFrame<A>
+        ensures { result ≡ record { unique = unique; wire = reply.agreed 7 31; flags = bit_and flags.0 known_flags } }
     {
-        let body = ReplyBody::Init {
-            major: 7,
-            minor: 31,
-            flags,
-        };
-        self.said(number, unique, Opcode::Init, body)
+        self.said(unique, Opcode::Init, agreement(flags))
     }
 
     /// The answer to a LOOKUP that found nothing: the name is missing for so many milliseconds, at most a day.
-    pub fn missing(self, number: u64, unique: u64, missing_ms: u64) -> ReplyCopy<A>
+    pub fn missing(self, unique: u64, missing_ms: u64) -> ReplyFrame<A>
         requires { missing_ms ≤ max_validity }
-        ensures { result ≡ record { number = number; unique = unique; wire = reply.missing missing_ms } }
+        ensures { result ≡ record { unique = unique; wire = reply.missing missing_ms; flags = 0 } }
     {
         let entry = no_entry(missing_ms);
-        self.said(number, unique, Opcode::Lookup, ReplyBody::Entry { entry })
+        self.said(unique, Opcode::Lookup, ReplyBody::Entry { entry })
     }
 
     /// The answer to a LOOKUP, MKDIR or LINK: the name leads to this node for so many milliseconds, at most a day.
-    pub fn found(self, number: u64, unique: u64, entry: &Entry, found_ms: u64) -> ReplyCopy<A>
+    pub fn found(self, unique: u64, entry: &Entry, found_ms: u64) -> ReplyFrame<A>
         requires node { entry.now.nodeid ≢ 0 }
         requires valid { found_ms ≤ max_validity }
-        ensures { result ≡ record { number = number; unique = unique; wire = reply.found entry.now found_ms } }
+        ensures { result ≡ record { unique = unique; wire = reply.found entry.now found_ms; flags = 0 } }
     {
         let entry = entry_of(entry, found_ms);
-        self.said(number, unique, Opcode::Lookup, ReplyBody::Entry { entry })
+        self.said(unique, Opcode::Lookup, ReplyBody::Entry { entry })
     }
 
     /// The answer to CREATE: the new name leads to this node, which is open under a number.
-    pub fn created(
-        self,
-        number: u64,
-        unique: u64,
-        entry: &Entry,
-        found_ms: u64,
-        fh: u64,
-    ) -> ReplyCopy<A>
+    pub fn created(self, unique: u64, entry: &Entry, found_ms: u64, fh: u64) -> ReplyFrame<A>
         requires node { entry.now.nodeid ≢ 0 }
         requires valid { found_ms ≤ max_validity }
-        ensures { result ≡ record { number = number; unique = unique; wire = reply.created entry.now found_ms fh } }
+        ensures { result ≡ record { unique = unique; wire = reply.created entry.now found_ms fh; flags = 0 } }
     {
         let entry = entry_of(entry, found_ms);
-        self.said(
-            number,
-            unique,
-            Opcode::Create,
-            ReplyBody::Create { entry, fh },
-        )
+        self.said(unique, Opcode::Create, ReplyBody::Create { entry, fh })
     }
 
     /// The answer to OPEN: the node is open under a number.
-    pub fn opened(self, number: u64, unique: u64, fh: u64) -> ReplyCopy<A>
-        ensures { result ≡ record { number = number; unique = unique; wire = reply.opened fh } }
+    pub fn opened(self, unique: u64, fh: u64) -> ReplyFrame<A>
+        ensures { result ≡ record { unique = unique; wire = reply.opened fh; flags = 0 } }
     {
-        self.said(number, unique, Opcode::Open, ReplyBody::Open { fh })
+        self.said(unique, Opcode::Open, ReplyBody::Open { fh })
     }
 
     /// The answer to READ: the bytes, for which there is room.
-    pub fn content(self, number: u64, unique: u64, bytes: &[u8]) -> ReplyCopy<A>
+    pub fn content(self, unique: u64, bytes: &[u8]) -> ReplyFrame<A>
         requires room { 16 + length bytes.now ≤ self }
         requires most { length bytes.now ≤ max_transfer }
-        ensures { result ≡ record { number = number; unique = unique; wire = reply.content bytes.now } }
+        ensures { result ≡ record { unique = unique; wire = reply.content bytes.now; flags = 0 } }
     {
-        self.said(number, unique, Opcode::Read, ReplyBody::Bytes { bytes })
+        self.said(unique, Opcode::Read, ReplyBody::Bytes { bytes })
     }
 
-    /// The answer to READDIR: the records, for which there is room.
+    /// The answer to READDIR: the records, for which there is room. The types are those of kinds (`type_of`).
     #[tactic(auto, using(fk_wire::proofs::RecordLists::records_are_named))]
-    pub fn listed(self, number: u64, unique: u64, records: Records<'_>) -> ReplyCopy<A>
+    pub fn listed(self, unique: u64, records: Records<'_>) -> ReplyFrame<A>
+        requires types { map dirent_of (map dirent_in (records_in records)) ≡ records_in records }
         requires room { 16 + sizes (dirents (records_in records)) ≤ self }
         requires most { sizes (dirents (records_in records)) ≤ max_transfer }
-        ensures { result ≡ record { number = number; unique = unique; wire = reply.listed (map dirent_in (records_in records.entry)) } }
+        ensures { result ≡ record { unique = unique; wire = reply.listed (map dirent_in (records_in records.entry)); flags = 0 } }
     {
-        self.said(
-            number,
-            unique,
-            Opcode::Readdir,
-            ReplyBody::Records { records },
-        )
+        self.said(unique, Opcode::Readdir, ReplyBody::Records { records })
     }
 
     /// The answer to WRITE: how many bytes were written.
-    pub fn written(self, number: u64, unique: u64, size: u32) -> ReplyCopy<A>
-        ensures { result ≡ record { number = number; unique = unique; wire = reply.written size } }
+    pub fn written(self, unique: u64, size: u32) -> ReplyFrame<A>
+        ensures { result ≡ record { unique = unique; wire = reply.written size; flags = 0 } }
     {
-        self.said(number, unique, Opcode::Write, ReplyBody::Write { size })
+        self.said(unique, Opcode::Write, ReplyBody::Write { size })
     }
 
     /// The answer to GETATTR.
-    pub fn attributes(self, number: u64, unique: u64, attributes: &Attributes) -> ReplyCopy<A>
-        ensures { result ≡ record { number = number; unique = unique; wire = reply.attributes attributes.now } }
+    pub fn attributes(self, unique: u64, attributes: &Attributes) -> ReplyFrame<A>
+        ensures { result ≡ record { unique = unique; wire = reply.attributes attributes.now; flags = 0 } }
     {
         let attr = attr_of(attributes);
-        self.said(number, unique, Opcode::Getattr, ReplyBody::Attr { attr })
+        self.said(unique, Opcode::Getattr, ReplyBody::Attr { attr })
     }
 
     /// The answer to UNLINK, RMDIR, RENAME, RELEASE or INTERRUPT: it is done.
-    pub fn done(self, number: u64, unique: u64) -> ReplyCopy<A>
-        ensures { result ≡ record { number = number; unique = unique; wire = reply.done } }
+    pub fn done(self, unique: u64) -> ReplyFrame<A>
+        ensures { result ≡ record { unique = unique; wire = reply.done; flags = 0 } }
     {
-        self.said(number, unique, Opcode::Release, ReplyBody::Empty)
+        self.said(unique, Opcode::Release, ReplyBody::Empty)
     }
 
     /// An error, from 1 to 511, to any request that has a reply.
-    pub fn failed(self, number: u64, unique: u64, errno: u32) -> ReplyCopy<A>
+    pub fn failed(self, unique: u64, errno: u32) -> ReplyFrame<A>
         requires some { 1 ≤ errno }
         requires most { errno ≤ 511 }
-        ensures { result ≡ record { number = number; unique = unique; wire = reply.failed errno } }
+        ensures { result ≡ record { unique = unique; wire = reply.failed errno; flags = 0 } }
     {
         let reply = Reply {
             unique,
             error: negated(errno),
             body: ReplyBody::Empty,
         };
-        ReplyCopy::written(number, Opcode::Release, self.bytes, &reply)
+        ReplyFrame::written(Opcode::Release, self.bytes, &reply)
     }
 }
 
-/// The entry of a name that leads to a node.
+/// What is agreed on at INIT: version 7.31, and the flags that are taken up.
+fn agreement(flags: InitFlags) -> ReplyBody<'static>
+    ensures { reply_content result ≡ init_reply 7 31 (bit_and flags.0 known_flags) }
+{
+    ReplyBody::Init {
+        major: 7,
+        minor: 31,
+        flags,
+    }
+}
+
+/// The entry of a name that leads to a node: its validity in whole seconds, and the rest in nanoseconds.
 fn entry_of(entry: &Entry, found_ms: u64) -> fk_wire::Entry
-    requires { found_ms ≤ max_validity }
-    ensures nodeid { result.nodeid ≡ entry.now.nodeid }
-    ensures generation { result.generation ≡ entry.now.generation }
-    ensures attributes { attributes_in result.attr ≡ entry.now.attributes }
-    ensures timed { result.entry_valid_nsec ≤ 999999999 }
-    ensures valid { milliseconds_in result.entry_valid result.entry_valid_nsec ≡ found_ms }
+    ensures { result ≡ record { nodeid = entry.now.nodeid; generation = entry.now.generation; entry_valid = found_ms / 1000; entry_valid_nsec = found_ms % 1000 * 1000000; attr = attr_written entry.now.attributes } }
 {
     fk_wire::Entry {
         nodeid: entry.nodeid,
@@ -204,10 +192,7 @@ fn entry_of(entry: &Entry, found_ms: u64) -> fk_wire::Entry
 
 /// The entry of a name that leads nowhere.
 fn no_entry(missing_ms: u64) -> fk_wire::Entry
-    requires { missing_ms ≤ max_validity }
-    ensures nodeid { result.nodeid ≡ 0 }
-    ensures timed { result.entry_valid_nsec ≤ 999999999 }
-    ensures valid { milliseconds_in result.entry_valid result.entry_valid_nsec ≡ missing_ms }
+    ensures { result ≡ record { nodeid = 0; generation = 0; entry_valid = missing_ms / 1000; entry_valid_nsec = missing_ms % 1000 * 1000000; attr = record { ino = 0; size = 0; mode = 0; nlink = 0 } } }
 {
     let attr = Attr {
         ino: 0,
@@ -226,7 +211,7 @@ fn no_entry(missing_ms: u64) -> fk_wire::Entry
 
 /// Attributes as their struct has them. The permission bits are 0755 of a directory and 0644 of a file.
 fn attr_of(attributes: &Attributes) -> Attr
-    ensures { attributes_in result ≡ attributes.now }
+    ensures { result ≡ attr_written attributes.now }
 {
     let mode = match attributes.kind {
         Kind::Directory => 0o040755,

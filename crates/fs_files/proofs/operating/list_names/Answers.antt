@@ -4,8 +4,7 @@ use Rattle.fuse_spec.specs.Operations.{listed}
 use Rattle.fuse_spec.specs.Numbers.{max_transfer}
 use Rattle.fuse_spec.specs.Trees.{fitting, records_after}
 use Rattle.fs_tree.specs.Views.{dirent_of}
-use Rattle.fs_files.specs.Listing.{record_of}
-use Rattle.fs_files.proofs.Listing.{are_records, few_bytes, listed_are, listed_same, low_records}
+use Rattle.fs_files.proofs.Listing.{few_bytes, listed_are, listed_same, low_records, names_are_records}
 use Rattle.fs_files.proofs.operating.list_names.Goals as goal
 
 pub record_bytes-requires : goal.record_bytes-requires
@@ -22,6 +21,6 @@ returns g c v =
     record {
       says = ap listed (listed_are c.deref.result.now bytes c.in_ok-records.ensures.fits c.in_ok-records.ensures.items) ∙ rw c.deref.ensures.value (sym (c.in-Ok.ensures.ok.1 v));
       tree_is = refl;
-      tellable = (are_records (map record_of c.deref.result.now) bytes c.in_ok-records.ensures.named c.in_ok-records.ensures.fits c.in_ok-records.ensures.items, few);
+      tellable = (names_are_records c.deref.result.now bytes c.in_ok-records.ensures.named c.in_ok-records.ensures.fits c.in_ok-records.ensures.items, few);
       short = few;
     }

@@ -48,8 +48,8 @@ returns-clause-performed g c =
     let up : s.is_aborted ≡ false = rw (← c.self.view_is) at c.requires.serving in
     rw (← c.self.view_is, c.remove-held.ensures.entries, c.put.ensures.entries, c.put-2.ensures.entries, c.in_ok-reserve.ensures.entries, c.in_ok-reserve-2.ensures.entries, c.new-2.ensures, c.new-sent.ensures, c.copied.ensures.wire, up)
     (performs_from s.files s.held.entries s.kept.entries s.copies.entries s.next_copy s.validity c.args.unique h there c.reserve-3.new.self c.answer.new.self c.tell-reply.new.self c.discard_unheld.new.self
-    (outcome_reply s.validity.found_ms c.in_ok-outcome.outcome) c.tell-reply.result c.framed-copy.result c.errno-errno.result c.reserve-3.ensures.tree c.reserve-3.ensures.nodes c.reserve-3.ensures.handles c.in_ok-outcome.ensures.tree
-    c.in_ok-outcome.ensures.handles c.answer.ensures.nodes c.in_ok-outcome.ensures.says c.tell-reply.ensures.tells (c.discard_unheld.ensures.tree s.validity) c.discard_unheld.ensures.nodes c.discard_unheld.ensures.handles c.framed-copy.ensures
+    (outcome_reply s.validity.found_ms c.in_ok-outcome.outcome) c.tell-reply.result c.new-copy.result c.errno-errno.result c.reserve-3.ensures.tree c.reserve-3.ensures.nodes c.reserve-3.ensures.handles c.in_ok-outcome.ensures.tree
+    c.in_ok-outcome.ensures.handles c.answer.ensures.nodes c.in_ok-outcome.ensures.says c.tell-reply.ensures.tells (c.discard_unheld.ensures.tree s.validity) c.discard_unheld.ensures.nodes c.discard_unheld.ensures.handles (rw c.framed.ensures at c.new-copy.ensures)
     c.errno-errno.ensures)
 
 pub discard_unheld-requires : goal.discard_unheld-requires

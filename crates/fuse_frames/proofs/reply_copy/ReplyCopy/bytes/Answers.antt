@@ -1,17 +1,7 @@
-use Rattle.fuse_frames.proofs.ReplyLemmas.{says, fits, init, empty}
 use Rattle.fuse_frames.proofs.reply_copy.ReplyCopy.bytes.Goals as goal
 
 pub returns-clause-written : goal.returns-clause-written
-returns-clause-written g c = (c.self.inside.opcode, rw c.deref.ensures.value c.self.invariant)
+returns-clause-written g c = (c.bytes.ensures.written.0, c.self.inside.frame.flags, rw (← c.self.view_is) c.bytes.ensures.written.1)
 
 pub returns-clause-frame : goal.returns-clause-frame
-returns-clause-frame g c = (c.self.inside.opcode, rw (c.deref.ensures.value, ← c.self.view_is) (says c.self.inside.opcode c.self.inside.bytes.items c.self.invariant))
-
-pub returns-clause-fits : goal.returns-clause-fits
-returns-clause-fits g c operation e = rw (c.deref.ensures.value, ← c.self.view_is) (fits c.self.inside.opcode c.self.inside.bytes.items c.self.invariant operation (rw (← c.self.view_is) at e))
-
-pub returns-clause-init : goal.returns-clause-init
-returns-clause-init g c e = rw (c.deref.ensures.value, ← c.self.view_is) (init c.self.inside.opcode c.self.inside.bytes.items c.self.invariant (rw (← c.self.view_is) at e))
-
-pub returns-clause-empty : goal.returns-clause-empty
-returns-clause-empty g c e = rw (c.deref.ensures.value, ← c.self.view_is) (empty c.self.inside.opcode c.self.inside.bytes.items c.self.invariant (rw (← c.self.view_is) at e))
+returns-clause-frame g c = rw (← c.self.view_is) c.bytes.ensures.frame

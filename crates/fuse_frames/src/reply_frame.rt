@@ -1,0 +1,75 @@
+//! Replies in their frames.
+
+ghost use Rattle.std.specs.Prelude.{◌≡◌, ◌≤◌, ◌+◌, ℕ, [], true, vec_capacity};
+ghost use Rattle.fk_wire.specs.Fields.{sizes};
+ghost use Rattle.fk_wire.specs.Opcodes.{served};
+ghost use Rattle.fk_wire.specs.Replies.{GoesWith, reply_body, reply_message, reply_content};
+ghost use Rattle.fuse_spec.specs.Messages.{asks};
+ghost use Rattle.fuse_spec.specs.Operations.{Operation};
+ghost use Rattle.fuse_spec.specs.Replies.{goes_with, is_init_reply, is_empty_reply};
+ghost use Rattle.fuse_frames.specs.ReplyTies.{SaysReply, IsReplyFrame, FitsRoom, framed_by, message_of};
+ghost use Rattle.fuse_frames.specs.RequestTies.{asked_opcode};
+
+use fk_wire::{Opcode, Reply, read_reply_head, write_reply};
+use fuse_spec::Opened;
+use std::alloc::{Allocator, Global};
+use std::marker::Model;
+
+/// A frame of the reply link, seen as the reply that it says: its unique, its words, and the flags that an answer to INIT takes up.
+#[derive(Drop)]
+pub struct ReplyFrame<A: Allocator = Global> {
+    opcode: Opcode,
+    bytes: Vec<u8, A>,
+}
+
+impl<A: Allocator> Model for ReplyFrame<A> {
+    ghost use Rattle.std.specs.Coded.{codes};
+    ghost use Rattle.fuse_frames.specs.ReplyTies.{Framed, IsReplyFrame, framed_in};
+
+    ghost Value = { Framed };
+
+    ghost coded = { Prim.hlevel (codes) };
+
+    ghost view = { λ f. framed_in f.opcode f.bytes.items };
+
+    ghost invariant = { λ f. IsReplyFrame f.opcode f.bytes.items (framed_in f.opcode f.bytes.items) };
+}
+
+impl<A: Allocator> ReplyFrame<A> {
+    /// The unique of the request that it replies to.
+    pub fn unique(&self) -> u64
+        ensures { result ≡ self.now.unique }
+    {
+        match read_reply_head(&self.bytes) {
+            Ok((_, unique)) => unique,
+            // The invariant rules this out.
+            Err(_) => 0,
+        }
+    }
+
+    /// The frame's bytes: the one frame in which the reply is written. They say it to the requests that it may reply to.
+    pub fn bytes(&self) -> &[u8]
+        ensures written { (opcode : Opcode) × IsReplyFrame opcode result.now self.now }
+        ensures frame { (opcode : Opcode) × SaysReply opcode result.now self.now.unique self.now.wire }
+        ensures fits { (operation : Operation ℕ Opened) → goes_with operation self.now.wire ≡ true → SaysReply (asked_opcode (asks operation)) result.now self.now.unique self.now.wire }
+        ensures init { is_init_reply self.now.wire ≡ true → SaysReply Opcode.Init result.now self.now.unique self.now.wire }
+        ensures empty { is_empty_reply self.now.wire ≡ true → SaysReply Opcode.Release result.now self.now.unique self.now.wire × SaysReply Opcode.Interrupt result.now self.now.unique self.now.wire }
+    {
+        &self.bytes
+    }
+
+    /// The frame of a reply to a request of this opcode, written into an empty vector that has room for it. It is written as `message_of`
+    /// has it.
+    pub(crate) fn written(opcode: Opcode, bytes: Vec<u8, A>, reply: &Reply<'_>) -> ReplyFrame<A>
+        requires empty { bytes.items ≡ [] }
+        requires room { 16 + sizes (reply_body (reply_content reply.now.body)) ≤ vec_capacity bytes }
+        requires goes { GoesWith served opcode (reply_message reply.now) }
+        requires fits { FitsRoom (reply_message reply.now) }
+        requires exact { reply_message reply.now ≡ message_of (framed_by (reply_message reply.now)) }
+        ensures { result ≡ framed_by (reply_message reply.now) }
+    {
+        let mut bytes = bytes;
+        write_reply(&mut bytes, reply).unwrap();
+        ReplyFrame { opcode, bytes }
+    }
+}
