@@ -1,16 +1,15 @@
 -- A reply that was read says its body, or its error number alone.
-use Rattle.std.proofs.Common.{◌≡◌, ℕ, true, List, Result, Err, refl, sym, ◌∙◌}
+use Rattle.std.proofs.Common.{◌≡◌, ℕ, true, List, Result, Err, refl, ap, sym, ◌∙◌}
 use Rattle.std.specs.Prelude.{ℤ, IsOkAnd}
 use Rattle.std.specs.Int.{w32, cast_unsigned, cast_signed}
 use Rattle.std.proofs.lemmas.Int.{to_z-of_z}
-use Rattle.fk_wire.proofs.OneReply.{error_fits}
+use Rattle.fk_wire.proofs.OneReply.{error_fits, decoded_reply_is}
 use Rattle.fk_wire.specs.declared.fault.WireFault.{WireFault}
 use Rattle.fk_wire.specs.declared.opcode.Opcode.{Opcode}
 use Rattle.fk_wire.specs.declared.reply.Reply.{Reply}
 use Rattle.fk_wire.specs.Replies.{ReplyMessage, reply_content, reply_message, SpellsReply, IsErrorNumber}
 use Rattle.fuse_spec.specs.Messages.{WireReply}
 use Rattle.fuse_frames.specs.ReplyTies.{wire_said}
-use Rattle.fuse_frames.proofs.ReplyLemmas.{one_reply}
 use Rattle.fuse_spec.specs.Replies.{is_init_reply}
 use Rattle.fk_said.specs.declared.said.InitSaid.{InitSaid}
 use Rattle.fk_said.specs.declared.said.InitSaid.TheVariants as init_said
@@ -32,7 +31,9 @@ says_read o bytes r wire spells e = record { unique = r.unique; says = record { 
 
 -- One thing is said.
 pub says_one : (o : Opcode) (bytes : List ℕ) (wire other : WireReply) → Says o bytes wire → Says o bytes other → wire ≡ other
-says_one o bytes wire other a b = sym (one_reply o bytes a.unique wire a.says).0 ∙ (one_reply o bytes b.unique other b.says).0
+says_one o bytes wire other a b =
+    let same = sym (decoded_reply_is o bytes a.says.message a.says.spells) ∙ decoded_reply_is o bytes b.says.message b.says.spells in
+    sym a.says.says ∙ ap (λ (m : ReplyMessage). wire_said m.error m.content) same ∙ b.says.says
 
 -- What was made of a reply to INIT is a reply to INIT.
 pub init_reply_said : (said : InitSaid) → is_init_reply (init_wire said) ≡ true
