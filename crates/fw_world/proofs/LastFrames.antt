@@ -11,14 +11,18 @@ use Rattle.fuse_spec.specs.Messages.{Request}
 use Rattle.fuse_spec.specs.Worlds.{World, Sent}
 use Rattle.fk_wire.specs.declared.opcode.Opcode.{Opcode}
 use Rattle.fuse_frames.specs.RequestTies.{IsRequestFrame, asked_opcode}
-use Rattle.fuse_frames.specs.ReplyTies.{SaysReply}
-use Rattle.fw_world.specs.Frames.{IsLastFrame, of_request, of_reply, ShowsRequest, ShowsReply}
+use Rattle.fuse_frames.specs.ReplyTies.{IsReplyFrame}
+use Rattle.fw_world.specs.Frames.{IsCopyFrame, IsLastFrame, of_request, of_reply, ShowsRequest, ShowsReply}
 
 pub last_request : (w : World) (requests : List Request) (request : Request) (bytes : List ℕ) → requests ≡ w.requests → slice_get requests (length requests - 1) ≡ Some request → IsRequestFrame bytes request → IsLastFrame w bytes
 last_request w requests request bytes same is_last frame = of_request request (subst (λ (rs : List Request). slice_get rs (length rs - 1) ≡ Some request) same is_last) frame
 
-pub last_copy : (w : World) (copies : List Sent) (sent : Sent) (bytes : List ℕ) → copies ≡ w.replies → slice_get copies (length copies - 1) ≡ Some sent → (opcode : Opcode) × SaysReply opcode bytes sent.unique sent.wire → IsLastFrame w bytes
-last_copy w copies sent bytes same is_last says = of_reply sent says.0 (subst (λ (ss : List Sent). slice_get ss (length ss - 1) ≡ Some sent) same is_last) says.1
+pub last_copy : (w : World) (copies : List Sent) (sent : Sent) (bytes : List ℕ) → copies ≡ w.replies → slice_get copies (length copies - 1) ≡ Some sent → IsCopyFrame bytes sent → IsLastFrame w bytes
+last_copy w copies sent bytes same is_last frame = of_reply sent (subst (λ (ss : List Sent). slice_get ss (length ss - 1) ≡ Some sent) same is_last) frame
+
+-- What a copy's bytes are, as they are read off it.
+pub copy_frame : (bytes : List ℕ) (sent : Sent) → (opcode : Opcode) × (flags : ℕ) × IsReplyFrame opcode bytes (record { unique = sent.unique; wire = sent.wire; flags = flags }) → IsCopyFrame bytes sent
+copy_frame bytes sent written = record { opcode = written.0; flags = written.1; written = written.2 }
 
 -- What was appended stands last.
 appended_last : {X : Type 0} (xs : List X) (x : X) → slice_get (xs ++ x ∷ []) (length (xs ++ x ∷ []) - 1) ≡ Some x
@@ -42,15 +46,14 @@ shows_request w before request unique opcode len put under asks told = record {
 }
 
 -- What is told of a copy that was put.
-pub shows_reply : (w : World) (before : List Sent) (sent : Sent) (unique len : ℕ) → w.replies ≡ before ++ sent ∷ [] → unique ≡ sent.unique → (opcode : Opcode) × (bytes : List ℕ) × SaysReply opcode bytes sent.unique sent.wire × (len ≡ length bytes) → ShowsReply w unique len
+pub shows_reply : (w : World) (before : List Sent) (sent : Sent) (unique len : ℕ) → w.replies ≡ before ++ sent ∷ [] → unique ≡ sent.unique → (bytes : List ℕ) × IsCopyFrame bytes sent × (len ≡ length bytes) → ShowsReply w unique len
 shows_reply w before sent unique len put under told = record {
   sent = sent;
   last = ap (λ (cs : List Sent). slice_get cs (length cs - 1)) put ∙ appended_last before sent;
   under = under;
-  opcode = told.0;
-  bytes = told.1;
-  says = told.2;
-  long = told.3;
+  bytes = told.0;
+  frame = told.1;
+  long = told.2;
 }
 
 pub again_under : (s : Server) (unique : ℕ) (copy : Sent) (new : Server) → SendsAgain s unique copy new → unique ≡ copy.unique

@@ -1,10 +1,10 @@
 -- Lists of events over a link, and what is recorded of each.
-use Rattle.std.proofs.Common.{◌≡◌, ℕ, ◌+◌, ◌<◌, ◌≤◌, Bool, true, false, cond, List, [], ◌∷◌, ◌++◌, length, map, take, get_or, refl, ap, sym, subst, ◌∙◌, arith}
+use Rattle.std.proofs.Common.{◌≡◌, ℕ, ◌+◌, ◌*◌, ◌<◌, ◌≤◌, Bool, true, false, cond, List, [], ◌∷◌, ◌++◌, length, map, take, get_or, refl, ap, sym, subst, ◌∙◌, arith}
 use Rattle.std.proofs.lemmas.List.{append_assoc, append-nil, map-append, take_more, take_all}
 use Rattle.fuse_spec.specs.declared.Refusal.{Refusal}
 use Rattle.fuse_spec.specs.declared.Refusal.TheVariants.{LinkLost}
 use Rattle.fuse_spec.specs.Worlds.{World}
-use Rattle.fuse_spec.specs.Events.{Event, Outcome, aborted}
+use Rattle.fuse_spec.specs.Events.{Event, Outcome, abort, aborted}
 use Rattle.fuse_spec.specs.Records as records
 use Rattle.fuse_spec.specs.Records.{answers_of, collected}
 use Rattle.fuse_spec.specs.Sessions.{Session, linked, lost}
@@ -12,45 +12,60 @@ use Rattle.fuse_spec.specs.Steps.{Happens, RefusedWith}
 use Rattle.fuse_theorem.specs.Reached.{IsReached}
 use Rattle.fuse_theorem.specs.SessionRecorded.{SessionRecorded}
 use Rattle.fuse_theorem.specs.SessionRecorded as machine
-use Rattle.fuse_theorem.proofs.WaitingAnswers.{one_more_waits, no_more_after_abort}
-use Rattle.fuse_theorem.proofs.SessionsRun.{session_run}
-use Rattle.fuse_theorem.proofs.SessionsAnswered.{session_answers_once}
+use Rattle.fuse_theorem.proofs.AnswersStay.{begins_call}
+use Rattle.fuse_theorem.proofs.Happened.{Happened, by_mount, by_call, by_read_interrupt, by_read_forgets, by_read_pending, by_take, by_perform, by_again, by_write, by_settle, by_signal, by_tick, by_drop, by_evict, by_abort, happened}
+use Rattle.fuse_theorem.proofs.ReachedWorlds.{none_more_waits, reached_next}
+use Rattle.fuse_theorem.proofs.SessionsEnd.{session_refines, session_keeps, session_answers}
+use Rattle.fuse_theorem.proofs.WaitingAnswers.{one_more_waits}
 use Rattle.fw_link.specs.Traffic.{Traffic}
 use Rattle.fw_world.specs.declared.event.Event.{Event as EventValue}
 use Rattle.fw_world.specs.declared.event.Outcome.{Outcome as OutcomeValue}
 use Rattle.fw_world.specs.declared.record.Record.{Record}
 use Rattle.fw_world.specs.declared.record.Record.TheVariants as recorded
-use Rattle.fw_world.specs.Sends.{IsSent, LosesIn}
+use Rattle.fw_world.specs.Sends.{IsSent, IsLostOn, LosesIn}
 use Rattle.fw_world.specs.Values.{event_of, outcome_of, record_of}
 use Rattle.fw_world.specs.OverLinks.{RecordedOver, none_left, one_refused, one_accepted, one_lost, one_too_late, RunsOver, session_of}
-use Rattle.fuse_theorem.proofs.Refining.{sound_with}
 
 -- ---- room for the records
 
-pub one_or_other : (b : Bool) → cond b 1 0 + cond b 0 1 ≡ 1
-one_or_other true = refl
-one_or_other false = refl
+pub at_most_one : (b : Bool) → cond b 1 0 ≤ 1
+at_most_one true = omega arith
+at_most_one false = omega arith
 
-pub one_at_most : (b : Bool) → cond b 0 1 ≤ 1
-one_at_most true = omega arith
-one_at_most false = omega arith
+-- What is lost on the link is sent by an event that is no call.
+no_call : (mid : World) (e : Event) (o : Outcome) (w : World) (carries : Traffic → Type 0) (before now : ℕ) → Happens w e o mid → IsLostOn mid o carries before now → begins_call e ≡ false
+no_call mid e o w carries before now happens lost = by_case e o mid (happened happens.0 w o mid e happens.2) lost
+  where
+    by_case : (e : Event) (o : Outcome) (mid : World) → Happened happens.0 w e o mid → IsLostOn mid o carries before now → begins_call e ≡ false
+    by_case e o mid (by_mount f m idle) lost = refl
+    by_case e o mid (by_call call ready room within) lost = absurd lost
+    by_case e o mid (by_read_interrupt original rest live there within) lost = refl
+    by_case e o mid (by_read_forgets n live free can within) lost = refl
+    by_case e o mid (by_read_pending k unique kept body live free there says within) lost = refl
+    by_case e o mid (by_take k q there within) lost = refl
+    by_case e o mid (by_perform unique t there within) lost = refl
+    by_case e o mid (by_again unique kept there current within) lost = refl
+    by_case e o mid (by_write k s there within) lost = refl
+    by_case e o mid (by_settle k result there) lost = refl
+    by_case e o mid (by_signal call fatal state live there within) lost = refl
+    by_case e o mid (by_tick ms timely) lost = refl
+    by_case e o mid (by_drop directory name bound live there) lost = refl
+    by_case e o mid (by_evict node counted live there unused) lost = refl
+    by_case e o mid (by_abort live) lost = refl
 
-pub one_if_not : (b : Bool) → b ≡ false → ◌≡◌ {A = ℕ} (cond b 0 1) 1
-one_if_not true e = absurd (cc (e))
-one_if_not false e = refl
-
--- How many calls are unanswered or have an answer that waits.
-abbrev waits : World → ℕ
-waits w = length w.kernel.vfs.answers + length w.kernel.vfs.calls
-
-pub one_more_at_most : (w after : World) (is_lost : Bool) (e : Event) (o : Outcome) (carries : Traffic → Type 0) (before now : ℕ) → (is_lost ≡ false → Happens w e o after) → (is_lost ≡ true → LosesIn w e o after carries before now)
-    → length after.kernel.vfs.answers + length after.kernel.vfs.calls ≤ length w.kernel.vfs.answers + length w.kernel.vfs.calls + 1
-one_more_at_most w after false e o carries before now happens loses = one_more_waits w e o after (happens refl)
-one_more_at_most w after true e o carries before now happens loses =
+-- An event leaves at most one call more that is unanswered or has an answer that waits, and none where the link is lost in it.
+pub one_more_at_most : (w after : World) → IsReached w → (is_lost : Bool) (e : Event) (o : Outcome) (carries : Traffic → Type 0) (before now : ℕ) → (is_lost ≡ false → Happens w e o after) → (is_lost ≡ true → LosesIn w e o after carries before now)
+    → cond is_lost 1 0 + (length after.kernel.vfs.answers + length after.kernel.vfs.calls) ≤ length w.kernel.vfs.answers + length w.kernel.vfs.calls + 1
+one_more_at_most w after here false e o carries before now happens loses = one_more_waits w e o after (happens refl)
+one_more_at_most w after here true e o carries before now happens loses =
     let gone = loses refl in
-    let first : waits gone.mid ≤ waits w + 1 = one_more_waits w e o gone.mid gone.happens in
-    let then : waits after ≤ waits gone.mid = no_more_after_abort gone.mid aborted after gone.aborts in
+    let first = none_more_waits w here e o gone.mid (no_call gone.mid e o w carries before now gone.happens gone.is_lost) gone.happens in
+    let then = none_more_waits gone.mid (reached_next w here e o gone.mid gone.happens) abort aborted after refl gone.aborts in
     omega (arith, first, then)
+
+-- With room for 66 records an event there is room for two an event and for the answers of all calls that may be unanswered.
+pub room_for_all : (w : World) → IsReached w → (len capacity k n : ℕ) → k < n → capacity < len + (length w.kernel.vfs.answers + length w.kernel.vfs.calls) + 2 * n → w.kernel.vfs.answers ≡ [] → capacity < len + 66 * n
+room_for_all w here len capacity k n some full none = omega (arith, some, full, here.few, ap length none)
 
 module _ {L : Type 0} (carries : L → L → Traffic → Type 0) (failed : L → ℕ) where
   -- ---- lists one after another
@@ -192,13 +207,16 @@ module _ {L : Type 0} (carries : L → L → Traffic → Type 0) (failed : L →
 
       pub comes_over : (new : Session) (last : L) (has : List (Record A)) → RanOver old link events had new last has → ComesOver new last has
       comes_over new last has ran =
-          let by_it = by_machine old new link last (map event_of events) (map record_of ran.added) ran.recorded_so in (
+          let by_it = by_machine old new link last (map event_of events) (map record_of ran.added) ran.recorded_so in
+          let answers = session_answers old here (map event_of events) (map record_of ran.added) new by_it in (
             ran.added,
             ran.items,
             record {
               recorded = ran.recorded_so;
-              plain_run = λ p refines. let at = session_run old p (sound_with old.world here p refines) (map event_of events) (map record_of ran.added) new by_it in (at.0, at.1, record { alike = at.2.both.alike; served = at.2.both.served });
-              once = session_answers_once old here.sound.both.world.rooted here.answers (map event_of events) (map record_of ran.added) new by_it;
+              plain_run = λ p refines. session_refines old here (map event_of events) (map record_of ran.added) new by_it p refines;
+              keeps = session_keeps old here (map event_of events) (map record_of ran.added) new by_it;
+              once = answers.0;
+              ended = answers.1;
             },
           )
 

@@ -1,6 +1,5 @@
 -- What is sent is a whole envelope, and there is something to send.
 use Rattle.std.proofs.Common.{◌≡◌, ◌≢◌, ℕ, ◌^◌, ◌<◌, Bool, true, false, List, [], ◌∷◌, ◌++◌, Option, Result, Ok, Err, Some, None, cond, drop, length, refl, sym, subst, ◌∙◌, rules, arith}
-use Rattle.fk_wire.specs.declared.opcode.Opcode.{Opcode}
 use Rattle.std.specs.Prelude.{OnOk, OnErr, IfErr}
 use Rattle.std.specs.Int.{cast_unsigned, w32}
 use Rattle.fk_wire.specs.declared.fault.WireFault.{WireFault}
@@ -13,14 +12,14 @@ use Rattle.fk_wire.specs.Results.{ResultRefusalIs, SpellsResult, result_fields}
 use Rattle.fk_wire.proofs.Frames.{reads_back, spells}
 use Rattle.fk_wire.proofs.OneRequest.{within}
 use Rattle.fuse_frames.specs.RequestTies.{IsRequestFrame}
-use Rattle.fuse_frames.specs.ReplyTies.{SaysReply}
+use Rattle.fuse_frames.proofs.ReplyLemmas.{says}
 use Rattle.fuse_spec.specs.Messages.{Request, RequestBody, init, asks, release, forget, batch_forget, interrupt, WireReply}
 use Rattle.fuse_spec.specs.declared.WriteResult.{WriteResult}
 use Rattle.fuse_spec.specs.declared.WriteResult.TheVariants.{Accepted, NoEntry, Invalid}
 use Rattle.fuse_spec.specs.Maps.{get}
 use Rattle.fuse_spec.specs.Server.{HeldRequest, Kept}
 use Rattle.fuse_spec.specs.Taking.{interrupting, taking}
-use Rattle.fuse_spec.specs.Worlds.{World, after_perform, after_take, replying}
+use Rattle.fuse_spec.specs.Worlds.{World, Sent, after_perform, after_take, replying}
 use Rattle.fuse_spec.specs.Events.{Event, Outcome, performed, taken}
 use Rattle.fuse_spec.specs.Operations.{errno_of}
 use Rattle.fuse_spec.specs.Performs.{PerformResult, served}
@@ -28,6 +27,7 @@ use Rattle.fuse_spec.specs.Steps.{Happens}
 use Rattle.fuse_spec.specs.Refusals.{Leads, mounts, calls, reads_interrupt, reads_forgets, reads_pending, takes, performs, sends_again, writes, settles, signals, passes, drops, evicts, aborts}
 use Rattle.fuse_theorem.proofs.RefusalsByCases.{only_accepted}
 use Rattle.fw_link.specs.Envelopes.{IsEnvelope, stated_len}
+use Rattle.fw_world.specs.Frames.{IsCopyFrame}
 use Rattle.fw_world.specs.Sends.{IsOut, error_of}
 
 stated : (bytes : List ℕ) → number_at 0 4 bytes ≡ length bytes → stated_len bytes ≡ length bytes
@@ -40,10 +40,11 @@ request_whole bytes request frame =
     let long = within 16 (drop 3 (request_fields (length bytes) frame.message)) bytes said.3.1.1.1 in
     record { kind_known = omega arith; copy_fits = omega arith; no_shorter = omega arith; no_longer = said.0; len_stated = stated bytes said.3.0 }
 
-pub reply_whole : (o : Opcode) (bytes : List ℕ) (unique : ℕ) (wire : WireReply) (number : ℕ) → number < 2 ^ 64 → SaysReply o bytes unique wire → IsEnvelope 1 number bytes
-reply_whole o bytes unique wire number small says =
-    let said = says.spells in
-    let long = within 16 (reply_body says.message.content) bytes said.5.1.1.1 in
+pub reply_whole : (bytes : List ℕ) (sent : Sent) (number : ℕ) → number < 2 ^ 64 → IsCopyFrame bytes sent → IsEnvelope 1 number bytes
+reply_whole bytes sent number small frame =
+    let told = says frame.opcode bytes (record { unique = sent.unique; wire = sent.wire; flags = frame.flags }) frame.written in
+    let said = told.spells in
+    let long = within 16 (reply_body told.message.content) bytes said.5.1.1.1 in
     record { kind_known = omega arith; copy_fits = small; no_shorter = omega arith; no_longer = said.0; len_stated = stated bytes said.5.0 }
 
 pub result_whole : (bytes : List ℕ) (result : WriteResult) (unique number : ℕ) → number < 2 ^ 64 → SpellsResult bytes (error_of result) unique → IsEnvelope 2 number bytes

@@ -1,17 +1,25 @@
 -- The frame that was put last, and what an outcome tells of it.
-use Rattle.std.specs.Prelude.{◌≡◌, ℕ, ◌-◌, List, Some, length, slice_get}
+use Rattle.std.specs.Prelude.{◌≡◌, ℕ, ◌-◌, List, [], Option, Some, None, length, slice_get}
 use Rattle.fuse_spec.specs.Messages.{Request}
 use Rattle.fuse_spec.specs.Worlds.{World, Sent}
+use Rattle.fuse_spec.specs.declared.Taken.TheVariants.{Again}
 use Rattle.fk_wire.specs.declared.opcode.Opcode.{Opcode}
 use Rattle.fuse_frames.specs.RequestTies.{IsRequestFrame, asked_opcode}
-use Rattle.fuse_frames.specs.ReplyTies.{SaysReply}
+use Rattle.fuse_frames.specs.ReplyTies.{IsReplyFrame}
 use Rattle.fw_world.specs.declared.event.Outcome.{Outcome}
 use Rattle.fw_world.specs.declared.event.Outcome.TheVariants as outcome
+
+-- The bytes are the one frame in which this copy of a reply is written.
+pub record IsCopyFrame (bytes : List ℕ) (sent : Sent) : Type 0 where
+  pub opcode : Opcode
+  -- those that an answer to INIT takes up
+  pub flags : ℕ
+  pub written : IsReplyFrame opcode bytes (record { unique = sent.unique; wire = sent.wire; flags = flags })
 
 -- The bytes are the frame of the last request on the request link, or of the last copy on the reply link.
 pub data IsLastFrame (w : World) (bytes : List ℕ) : Type 0 where
   of_request : (request : Request) → slice_get w.requests (length w.requests - 1) ≡ Some request → IsRequestFrame bytes request → IsLastFrame w bytes
-  of_reply : (sent : Sent) (opcode : Opcode) → slice_get w.replies (length w.replies - 1) ≡ Some sent → SaysReply opcode bytes sent.unique sent.wire → IsLastFrame w bytes
+  of_reply : (sent : Sent) → slice_get w.replies (length w.replies - 1) ≡ Some sent → IsCopyFrame bytes sent → IsLastFrame w bytes
 
 -- The last request on its link has this unique and this opcode, and its frame is so many bytes long.
 pub record ShowsRequest (w : World) (unique : ℕ) (opcode : Opcode) (len : ℕ) : Type 0 where
@@ -28,9 +36,8 @@ pub record ShowsReply (w : World) (unique len : ℕ) : Type 0 where
   pub sent : Sent
   pub last : slice_get w.replies (length w.replies - 1) ≡ Some sent
   pub under : unique ≡ sent.unique
-  pub opcode : Opcode
   pub bytes : List ℕ
-  pub says : SaysReply opcode bytes sent.unique sent.wire
+  pub frame : IsCopyFrame bytes sent
   pub long : len ≡ length bytes
 
 -- What an outcome tells of the frame that its event put on a link is so.
@@ -39,3 +46,15 @@ IsShown w (outcome.Read unique opcode len) = ShowsRequest w unique opcode len
 IsShown w (outcome.Done unique errno len) = ShowsReply w unique len
 IsShown w (outcome.SentAgain unique len) = ShowsReply w unique len
 IsShown w other = Unit {0}
+
+-- The frame that an event with this outcome put, while it is the last on its link: the request that was read, or the copy that was sent. Other events put none.
+abbrev pub IsFrameOf : World → Outcome → Option (List ℕ) → Type 0
+IsFrameOf w (outcome.Read unique opcode len) (Some bytes) = (request : Request) × (slice_get w.requests (length w.requests - 1) ≡ Some request) × IsRequestFrame bytes request
+IsFrameOf w (outcome.Read unique opcode len) None = w.requests ≡ []
+IsFrameOf w (outcome.Taken unique Again) (Some bytes) = (sent : Sent) × (slice_get w.replies (length w.replies - 1) ≡ Some sent) × IsCopyFrame bytes sent
+IsFrameOf w (outcome.Taken unique Again) None = w.replies ≡ []
+IsFrameOf w (outcome.Done unique errno len) (Some bytes) = (sent : Sent) × (slice_get w.replies (length w.replies - 1) ≡ Some sent) × IsCopyFrame bytes sent
+IsFrameOf w (outcome.Done unique errno len) None = w.replies ≡ []
+IsFrameOf w (outcome.SentAgain unique len) (Some bytes) = (sent : Sent) × (slice_get w.replies (length w.replies - 1) ≡ Some sent) × IsCopyFrame bytes sent
+IsFrameOf w (outcome.SentAgain unique len) None = w.replies ≡ []
+IsFrameOf w other frame = frame ≡ None

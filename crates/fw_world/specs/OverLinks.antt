@@ -2,14 +2,16 @@
 use Rattle.std.specs.Prelude.{◌≡◌, ℕ, Bool, List, [], ◌∷◌, ◌++◌}
 use Rattle.fuse_spec.specs.declared.Refusal.{Refusal}
 use Rattle.fuse_spec.specs.declared.Refusal.TheVariants.{LinkLost}
+use Rattle.fuse_spec.specs.Counts.{Keeps}
 use Rattle.fuse_spec.specs.Events.{Event, Outcome, abort, aborted}
 use Rattle.fuse_spec.specs.Plain.{Plain}
 use Rattle.fuse_spec.specs.Records.{Record, outcome, refused, link_lost, answers_of, collected}
-use Rattle.fuse_spec.specs.Runs.{Refines, AnswersOnce}
+use Rattle.fuse_spec.specs.Runs.{Refines, AnswersOnce, CallsEnd}
 use Rattle.fuse_spec.specs.Sessions.{Session, SessionRun, linked, lost}
 use Rattle.fuse_spec.specs.Steps.{Happens, RefusedWith}
 use Rattle.fuse_spec.specs.Worlds.{World}
 use Rattle.fw_link.specs.Traffic.{Traffic}
+use Rattle.fw_world.specs.Runs.{StepsAs}
 use Rattle.fw_world.specs.Sends.{IsSent, IsLostOn}
 
 -- A session by its two parts.
@@ -34,8 +36,16 @@ pub data RecordedOver {L : Type 0} (carries : L → L → Traffic → Type 0) (f
       → RecordedOver carries failed (lost w) link events records after last → RecordedOver carries failed (lost w) link (event ∷ events) (refused LinkLost ∷ records) after last
 
 -- The events ran over the link with these records: from every plain world that the world before refines there is one plain run over the events with the same records, in which the link
--- is lost where it was, and at whose end the world after refines it again. Each call is answered at most once.
+-- is lost where it was, and at whose end the world after refines it again and keeps the reference protocol. Each call is answered at most once, and over with its
+-- answer, so that no later list answers it.
 pub record RunsOver {L : Type 0} (carries : L → L → Traffic → Type 0) (failed : L → ℕ) (old : Session) (link : L) (events : List Event) (added : List Record) (new : Session) (last : L) : Type 0 where
   pub recorded : RecordedOver carries failed old link events added new last
   pub plain_run : (p : Plain) → Refines old.world p → (q : Plain) × SessionRun old p events added new q × Refines new.world q
+  pub keeps : Keeps new.world
   pub once : AnswersOnce added
+  pub ended : CallsEnd old.world added new.world
+
+-- The event happened in a session whose link was not lost, with this outcome: as in a world; or the link was lost in it, and an abort happened too.
+pub data StepsOver (old : World) (event : Event) (o : Outcome) : Session → Type 0 where
+  goes_on : (new : World) → StepsAs old event o new → StepsOver old event o (linked new)
+  gives_up : (mid new : World) → StepsAs old event o mid → StepsAs mid abort aborted new → StepsOver old event o (lost new)

@@ -8,15 +8,14 @@ use Rattle.fuse_spec.specs.Worlds.{World, Sent}
 use Rattle.fuse_spec.specs.Events.{Event, Outcome, abort, aborted, is_read, taken, performed, sent_again, written}
 use Rattle.fuse_spec.specs.Steps.{Happens}
 use Rattle.fuse_spec.specs.declared.Taken.TheVariants.{Again}
-use Rattle.fk_wire.specs.declared.opcode.Opcode.{Opcode}
 use Rattle.fk_wire.specs.Results.{SpellsResult}
 use Rattle.fuse_frames.specs.RequestTies.{IsRequestFrame}
-use Rattle.fuse_frames.specs.ReplyTies.{SaysReply}
 use Rattle.fw_link.specs.declared.side.Side.{Side}
 use Rattle.fw_link.specs.declared.side.Side.TheVariants.{Kernel, Server}
 use Rattle.fw_link.specs.Carrying.{IsLost}
 use Rattle.fw_link.specs.Envelopes.{spelling}
 use Rattle.fw_link.specs.Traffic.{Traffic, no_traffic, sent}
+use Rattle.fw_world.specs.Frames.{IsCopyFrame}
 
 -- the last of a list
 abbrev pub last_of : {E : Type 0} → List E → Option E
@@ -52,8 +51,7 @@ pub record SendsRequest (w : World) (e : Sending) : Type 0 where
 pub record SendsReply (w : World) (e : Sending) : Type 0 where
   pub reply : Sent
   pub is_last : last_of w.replies ≡ Some reply
-  pub opcode : Opcode
-  pub spells : SaysReply opcode e.frame reply.unique reply.wire
+  pub frame : IsCopyFrame e.frame reply
   pub from : e.from ≡ Server
   pub kind : e.kind ≡ 1
   pub copy : e.copy ≡ reply.number

@@ -19,7 +19,8 @@ use std::alloc::Allocator;
 /// # Errors
 ///
 /// `Err(k)` where the list of records could not grow, after exactly k events; the events from the k-th on have not run. With room for
-/// the answers that wait, those of the unanswered calls, and two records an event it does not come to that.
+/// the answers that wait, those of the unanswered calls, and two records an event it does not come to that; so neither with room for 66
+/// records an event, where no answer waits.
 pub fn run<A: Allocator + Copy>(
     world: &mut WorldIn<A>,
     events: &[Event<'_>],
@@ -28,6 +29,7 @@ pub fn run<A: Allocator + Copy>(
     ensures ran { (added : List (RecordValue A)) × (records.new.items ≡ records.old.items ++ added) × RunsAs world.old (map event_of (events_run result events.now)) (map record_of added) world.new }
     ensures err { IfErr result (λ k. k < length events.now) }
     ensures full { OnErr result (vec_capacity records.old < vec_len records.old + (length world.old.kernel.vfs.answers + length world.old.kernel.vfs.calls) + 2 * length events.now) }
+    ensures room { OnErr result (world.old.kernel.vfs.answers ≡ [] → vec_capacity records.old < vec_len records.old + 66 * length events.now) }
 {
     world.keeps_protocol();
     for (k, event) in events.iter().enumerate() {
@@ -38,8 +40,9 @@ pub fn run<A: Allocator + Copy>(
     Ok(())
 }
 
-/// At most so many records the next event comes to: one of its own, and the answers of calls that wait or of one that begins.
-fn most_records<A: Allocator + Copy>(world: &WorldIn<A>) -> Option<usize>
+/// At most so many records the next event comes to: one of its own, one of a call that begins and is answered in it or of a link that is
+/// lost in it, and the answers of calls that wait.
+pub(crate) fn most_records<A: Allocator + Copy>(world: &WorldIn<A>) -> Option<usize>
     ensures some { IfSome result (λ room. room ≡ length world.now.kernel.vfs.answers + length world.now.kernel.vfs.calls + 2) }
     ensures none { IfNone result (2 ^ 64 ≤ length world.now.kernel.vfs.answers + length world.now.kernel.vfs.calls + 2) }
 {

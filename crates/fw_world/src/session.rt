@@ -3,14 +3,17 @@
 ghost use Rattle.std.specs.Prelude.{◌≡◌, ◌≤◌, [], false, true, Err, IfErr, IfOk, IfNone, IfSome, OnErr, option_map, slice_get, vec_capacity};
 ghost use Rattle.fuse_spec.specs.Events.{abort, aborted};
 ghost use Rattle.fuse_spec.specs.Maps.{remove};
-ghost use Rattle.fuse_spec.specs.Plain.{first_plain};
+ghost use Rattle.fuse_spec.specs.Counts.{Keeps};
+ghost use Rattle.fuse_spec.specs.Plain.{Plain, first_plain};
 ghost use Rattle.fuse_spec.specs.Steps.{Happens, RefusedWith};
 ghost use Rattle.fuse_spec.specs.declared.Refusal.TheVariants.{LinkLost};
-ghost use Rattle.fuse_spec.specs.Runs.{Refines};
+ghost use Rattle.fuse_spec.specs.Runs.{Refines, plain_handed_out};
 ghost use Rattle.fk_syscalls.specs.Values.{answer_of};
 ghost use Rattle.fw_link.specs.Carrying.{IsEmpty};
-ghost use Rattle.fw_world.specs.Frames.{IsLastFrame};
-ghost use Rattle.fw_world.specs.Sends.{IsSent, LosesIn};
+ghost use Rattle.fuse_theorem.specs.Reached.{IsReached};
+ghost use Rattle.fw_world.specs.Frames.{IsFrameOf, IsLastFrame, IsShown};
+ghost use Rattle.fw_world.specs.OverLinks.{StepsOver, session_of};
+ghost use Rattle.fw_world.specs.Sends.{IsLostOn, IsOut, IsSent, LosesIn};
 ghost use Rattle.fw_world.specs.Values.{counted_nodes, event_of, held_nodes, outcome_of};
 
 mod lists;
@@ -99,8 +102,13 @@ impl<L: Link + Drop, A: Allocator + Copy> Session<L, A> {
         ensures lost { IfOk result (λ outcome. self.new.is_lost ≡ true →
             LosesIn self.old.world (event_of event.now) (outcome_of outcome) self.new.world
             (L.carries self.old.link self.new.link) (L.failed self.old.link) (L.failed self.new.link)) }
+        ensures shows { IfOk result (λ outcome. self.new.is_lost ≡ false → IsShown self.new.world outcome) }
         ensures not_failed { self.new.is_lost ≡ false → L.failed self.new.link ≡ L.failed self.old.link }
+        ensures lost_before { IfErr result (λ refusal. refusal ≡ LinkLost → self.old.is_lost ≡ true) }
+        ensures refines { IfOk result (λ outcome. StepsOver self.old.world (event_of event.now) (outcome_of outcome)
+            (session_of self.new.world self.new.is_lost)) }
     {
+        self.world.keeps_protocol();
         if self.is_lost {
             return Err(Refusal::LinkLost);
         }
@@ -108,9 +116,26 @@ impl<L: Link + Drop, A: Allocator + Copy> Session<L, A> {
             Ok(outcome) => outcome,
             Err(refusal) => return Err(refusal),
         };
+        self.carry(&outcome);
+        Ok(outcome)
+    }
+
+    /// Sends the envelope of an event with this outcome. Where it is lost the mount is aborted.
+    fn carry(&mut self, outcome: &Outcome)
+        requires open { self.old.is_lost ≡ false }
+        requires out { IsOut self.old.world (outcome_of outcome.now) }
+        ensures same { self.new.is_lost ≡ false → self.new.world ≡ self.old.world }
+        ensures sent { self.new.is_lost ≡ false →
+            IsSent self.old.world (outcome_of outcome.now) (L.carries self.old.link self.new.link) }
+        ensures not_failed { self.new.is_lost ≡ false → L.failed self.new.link ≡ L.failed self.old.link }
+        ensures lost { self.new.is_lost ≡ true →
+            IsLostOn self.old.world (outcome_of outcome.now) (L.carries self.old.link self.new.link)
+            (L.failed self.old.link) (L.failed self.new.link) }
+        ensures aborts { self.new.is_lost ≡ true → Happens self.old.world abort aborted self.new.world }
+    {
         let sent = send(
             &self.world,
-            &outcome,
+            outcome,
             &mut self.frame,
             &mut self.link,
             &mut self.carrier,
@@ -119,7 +144,6 @@ impl<L: Link + Drop, A: Allocator + Copy> Session<L, A> {
             self.is_lost = true;
             give_up(&mut self.world);
         }
-        Ok(outcome)
     }
 
     /// Whether the link is lost.
@@ -142,8 +166,20 @@ impl<L: Link + Drop, A: Allocator + Copy> Session<L, A> {
           };
         }) }
         ensures link { (self.new.link ≡ self.old.link) × (self.new.is_lost ≡ self.old.is_lost) }
+        ensures refines { IfSome result (λ r. (p : Plain) → Refines self.old.world p →
+            Refines self.new.world (plain_handed_out p r.0)) }
     {
         self.world.collect()
+    }
+
+    /// A call without effect, for a caller's proof: the session's world refines some plain world, and the reference
+    /// protocol holds of it. No state that events lead to is left out: it is reached from the first world.
+    pub fn keeps_protocol(&self)
+        ensures reached { IsReached self.now.world }
+        ensures refines { (p : Plain) × Refines self.now.world p }
+        ensures keeps { Keeps self.now.world }
+    {
+        self.world.keeps_protocol();
     }
 
     /// The request or reply frame that the last step put on its link.
@@ -151,6 +187,13 @@ impl<L: Link + Drop, A: Allocator + Copy> Session<L, A> {
         ensures { IfSome result (λ bytes. IsLastFrame self.now.world bytes.now) }
     {
         self.world.last_put()
+    }
+
+    /// The frame that an event with this outcome put on its link, as that of a world.
+    pub fn frame_of(&self, outcome: &Outcome) -> Option<&[u8]>
+        ensures { IsFrameOf self.now.world outcome.now (option_map (λ bytes. bytes.now) result) }
+    {
+        self.world.frame_of(outcome)
     }
 
     /// The nodes that the kernel counts, as those of a world.

@@ -12,11 +12,9 @@ ghost use Rattle.fuse_spec.specs.Runs.{Refines, plain_handed_out};
 ghost use Rattle.fuse_spec.specs.declared.Refusal.TheVariants.{NoMemory};
 ghost use Rattle.fuse_theorem.specs.Reached.{IsReached};
 ghost use Rattle.fk_syscalls.specs.Values.{call_of, answer_of};
-ghost use Rattle.fk_wire.specs.declared.opcode.Opcode.{Opcode as OpcodeValue};
-ghost use Rattle.fuse_frames.specs.ReplyTies.{SaysReply};
 ghost use Rattle.fuse_frames.specs.RequestTies.{IsRequestFrame, asked_opcode};
 ghost use Rattle.fs_server.specs.Effects.{AnswersFrame};
-ghost use Rattle.fw_world.specs.Frames.{IsLastFrame, IsShown};
+ghost use Rattle.fw_world.specs.Frames.{IsCopyFrame, IsFrameOf, IsLastFrame, IsShown};
 ghost use Rattle.fw_world.specs.Runs.{StepsAs};
 ghost use Rattle.fw_world.specs.Values.{counted_nodes, event_of, held_nodes, outcome_of, read_of, refusal_for, with_copy};
 
@@ -27,7 +25,7 @@ use fk_kernel::{Answer, Call, Kernel};
 use fk_wire::Opcode;
 use fs_server::{Server, ServerFault};
 use fuse_frames::{ReplyCopy, RequestFrame};
-use fuse_spec::{Refusal, ReplyResult};
+use fuse_spec::{Refusal, ReplyResult, Taken};
 use std::alloc::{Allocator, Global};
 use std::marker::Model;
 
@@ -188,6 +186,25 @@ impl<A: Allocator + Copy> WorldIn<A> {
                 Some(copy) => Some(copy.bytes()),
                 None => None,
             },
+        }
+    }
+
+    /// The frame that an event with this outcome put, while nothing else was put on its link: of `Read` the request's, of `Done`, of
+    /// `SentAgain` and of `Taken` with the word `Again` the reply's. Other events put none.
+    pub fn frame_of(&self, outcome: &Outcome) -> Option<&[u8]>
+        ensures { IsFrameOf self.now outcome.now (option_map (λ bytes. bytes.now) result) }
+    {
+        match outcome {
+            Outcome::Read { .. } => self.last_request(),
+            Outcome::Taken {
+                word: Taken::Again, ..
+            }
+            | Outcome::Done { .. }
+            | Outcome::SentAgain { .. } => match self.last_copy() {
+                Some((_, frame)) => Some(frame),
+                None => None,
+            },
+            _ => None,
         }
     }
 
@@ -639,7 +656,7 @@ fn put_request<A: Allocator>(
 fn put_reply<A: Allocator>(replies: &mut Vec<ReplyCopy<A>, A>, copy: ReplyCopy<A>) -> usize
     requires { vec_len replies.old < vec_capacity replies.old }
     ensures items { replies.new.items ≡ replies.old.items ++ copy ∷ [] }
-    ensures len { (opcode : OpcodeValue) × (bytes : List ℕ) × SaysReply opcode bytes copy.unique copy.wire × (result ≡ length bytes) }
+    ensures len { (bytes : List ℕ) × IsCopyFrame bytes copy × (result ≡ length bytes) }
 {
     let len = copy.bytes().len();
     append(replies, copy);

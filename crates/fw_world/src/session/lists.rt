@@ -1,6 +1,6 @@
 //! Whole lists of events over a link.
 
-ghost use Rattle.std.specs.Prelude.{◌≡◌, ◌+◌, ◌*◌, ◌<◌, ◌≤◌, ◌^◌, ◌++◌, ◌∷◌, [], false, if◌then◌else◌, List, IsTrue, IfErr, IfNone, IfSome, OnErr, length, map};
+ghost use Rattle.std.specs.Prelude.{◌≡◌, ◌+◌, ◌*◌, ◌<◌, ◌≤◌, ◌++◌, ◌∷◌, [], false, if◌then◌else◌, List, IsTrue, IfErr, OnErr, length, map};
 ghost use Rattle.std.specs.Vec.{vec_len, vec_capacity};
 ghost use Rattle.fw_world.specs.OverLinks.{RecordedOver, RunsOver, session_of};
 ghost use Rattle.fw_world.specs.Runs.{events_run};
@@ -11,8 +11,7 @@ ghost use Rattle.fw_world.specs.declared.record.Record.TheVariants.{LinkLost};
 use super::Session;
 use crate::event::Event;
 use crate::record::Record;
-use crate::runs::{add, collect_all};
-use crate::world::WorldIn;
+use crate::runs::{add, collect_all, most_records};
 use fw_link::Link;
 use std::alloc::Allocator;
 
@@ -23,8 +22,8 @@ impl<L: Link + Drop, A: Allocator + Copy> Session<L, A> {
     /// # Errors
     ///
     /// `Err(k)` where the list of records could not grow, after exactly k events; the events from the k-th on have not
-    /// run. With room for the answers that wait, those of the unanswered calls, two records an event and one of the
-    /// link it does not come to that.
+    /// run. With room for the answers that wait, those of the unanswered calls, and two records an event it does not
+    /// come to that; so neither with room for 66 records an event, where no answer waits.
     pub fn run(
         &mut self,
         events: &[Event<'_>],
@@ -34,7 +33,9 @@ impl<L: Link + Drop, A: Allocator + Copy> Session<L, A> {
             × RunsOver L.carries L.failed (session_of self.old.world self.old.is_lost) self.old.link (map event_of (events_run result events.now)) (map record_of added) (session_of self.new.world self.new.is_lost) self.new.link }
         ensures err { IfErr result (λ k. k < length events.now) }
         ensures full { OnErr result (vec_capacity records.old < vec_len records.old
-            + (length self.old.world.kernel.vfs.answers + length self.old.world.kernel.vfs.calls) + 2 * length events.now + 1) }
+            + (length self.old.world.kernel.vfs.answers + length self.old.world.kernel.vfs.calls) + 2 * length events.now) }
+        ensures room { OnErr result (self.old.world.kernel.vfs.answers ≡ [] →
+            vec_capacity records.old < vec_len records.old + 66 * length events.now) }
     {
         self.world.keeps_protocol();
         for (k, event) in events.iter().enumerate() {
@@ -50,17 +51,16 @@ impl<L: Link + Drop, A: Allocator + Copy> Session<L, A> {
         ensures not_run { result ≡ false → (self.new.world ≡ self.old.world) × (self.new.is_lost ≡ self.old.is_lost)
             × (self.new.link ≡ self.old.link) × (records.new.items ≡ records.old.items) }
         ensures full { result ≡ false → vec_capacity records.old < vec_len records.old
-            + (length self.old.world.kernel.vfs.answers + length self.old.world.kernel.vfs.calls)
-            + (if self.old.is_lost then 0 else 1) + 2 }
+            + (length self.old.world.kernel.vfs.answers + length self.old.world.kernel.vfs.calls) + 2 }
         ensures ran { IsTrue result → (added : List (RecordValue A)) × (records.new.items ≡ records.old.items ++ added)
             × RecordedOver L.carries L.failed (session_of self.old.world self.old.is_lost) self.old.link (event_of event.now ∷ []) (map record_of added) (session_of self.new.world self.new.is_lost) self.new.link }
         ensures room { IsTrue result → vec_len records.new
-            + (length self.new.world.kernel.vfs.answers + length self.new.world.kernel.vfs.calls) + (if self.new.is_lost then 0 else 1) + vec_capacity records.old
-            ≤ vec_len records.old + (length self.old.world.kernel.vfs.answers + length self.old.world.kernel.vfs.calls)
-            + (if self.old.is_lost then 0 else 1) + 2 + vec_capacity records.new }
+            + (length self.new.world.kernel.vfs.answers + length self.new.world.kernel.vfs.calls) + vec_capacity records.old
+            ≤ vec_len records.old + (length self.old.world.kernel.vfs.answers + length self.old.world.kernel.vfs.calls) + 2
+            + vec_capacity records.new }
     {
         self.world.keeps_protocol();
-        let Some(room) = most_records(&self.world, self.is_lost) else {
+        let Some(room) = most_records(&self.world) else {
             return false;
         };
         if records.reserve(room).is_err() {
@@ -75,22 +75,6 @@ impl<L: Link + Drop, A: Allocator + Copy> Session<L, A> {
             Err(refusal) => add(records, Record::Refused(refusal)),
         }
         true
-    }
-}
-
-/// At most so many records the next event comes to: one of its own, one of a link that is lost in it, and the answers of
-/// calls that wait or of one that begins.
-fn most_records<A: Allocator + Copy>(world: &WorldIn<A>, is_lost: bool) -> Option<usize>
-    ensures some { IfSome result (λ room. room ≡ length world.now.kernel.vfs.answers
-        + length world.now.kernel.vfs.calls + (if is_lost then 0 else 1) + 2) }
-    ensures none { IfNone result (2 ^ 64 ≤ length world.now.kernel.vfs.answers
-        + length world.now.kernel.vfs.calls + (if is_lost then 0 else 1) + 2) }
-{
-    let waiting = world.answered().checked_add(world.unanswered())?;
-    if is_lost {
-        waiting.checked_add(2)
-    } else {
-        waiting.checked_add(3)
     }
 }
 

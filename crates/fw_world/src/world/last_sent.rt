@@ -1,11 +1,10 @@
 //! What stands last on each link of a world.
 
 ghost use Rattle.std.specs.Prelude.{◌≡◌, [], IfNone, IfSome, Some};
-ghost use Rattle.fk_wire.specs.declared.opcode.Opcode.{Opcode};
-ghost use Rattle.fuse_frames.specs.ReplyTies.{SaysReply};
 ghost use Rattle.fuse_frames.specs.RequestTies.{IsRequestFrame};
 ghost use Rattle.fuse_spec.specs.Messages.{Request};
 ghost use Rattle.fuse_spec.specs.Worlds.{Sent};
+ghost use Rattle.fw_world.specs.Frames.{IsCopyFrame};
 ghost use Rattle.fw_world.specs.Sends.{last_of};
 
 use super::WorldIn;
@@ -28,7 +27,7 @@ impl<A: Allocator + Copy> WorldIn<A> {
     /// The number and the frame of the last copy on its link.
     pub(crate) fn last_copy(&self) -> Option<(u64, &[u8])>
         ensures some { IfSome result (λ copy. (reply : Sent) × (last_of self.now.replies ≡ Some reply)
-            × (copy.0 ≡ reply.number) × (opcode : Opcode) × SaysReply opcode copy.1.now reply.unique reply.wire) }
+            × (copy.0 ≡ reply.number) × IsCopyFrame copy.1.now reply) }
         ensures none { IfNone result (self.now.replies ≡ []) }
     {
         match self.replies.last() {

@@ -1,6 +1,8 @@
 use Rattle.fw_world.specs.declared.event.Event.TheVariants.{Mount}
 use Rattle.fw_world.proofs.Recording.{none_ran, one_more, all_ran, comes_to, comes_as_before}
-use Rattle.std.proofs.Common.{take, arith}
+use Rattle.std.proofs.Common.{◌+◌, ◌*◌, ◌<◌, length, take, arith}
+use Rattle.std.specs.Vec.{vec_len, vec_capacity}
+use Rattle.fw_world.proofs.OverLinks.{room_for_all}
 use Rattle.fw_world.proofs.runs.run.Goals as goal
 
 pub loop-k-init : goal.loop-k-init
@@ -24,3 +26,9 @@ returns-clause-ran g c =
 
 pub returns-then-not-run_one-clause-full : goal.returns-then-not-run_one-clause-full
 returns-then-not-run_one-clause-full g c = omega (arith, c.loop-k.invariant.1, c.loop-k-test.true, c.run_one.ensures.full c.if-not-run_one.true)
+
+pub returns-then-not-run_one-clause-room : goal.returns-then-not-run_one-clause-room
+returns-then-not-run_one-clause-room g c =
+    let full : vec_capacity c.args.records.now < vec_len c.args.records.now + (length c.args.world.now.kernel.vfs.answers + length c.args.world.now.kernel.vfs.calls) + 2 * length c.args.events.now =
+    omega (arith, c.loop-k.invariant.1, c.loop-k-test.true, c.run_one.ensures.full c.if-not-run_one.true) in
+    room_for_all c.args.world.now c.keeps_protocol.ensures.reached (vec_len c.args.records.now) (vec_capacity c.args.records.now) c.loop-k.k (length c.args.events.now) c.loop-k-test.true full

@@ -1,7 +1,8 @@
-use Rattle.std.proofs.Common.{take, arith}
+use Rattle.std.proofs.Common.{◌+◌, ◌*◌, ◌<◌, length, take, arith}
+use Rattle.std.specs.Vec.{vec_len, vec_capacity}
 use Rattle.fw_world.specs.declared.event.Event.TheVariants.{Mount}
 use Rattle.fw_world.specs.OverLinks.{session_of}
-use Rattle.fw_world.proofs.OverLinks.{all_over, comes_over, none_ran, one_at_most, one_more, ran_as_before}
+use Rattle.fw_world.proofs.OverLinks.{all_over, comes_over, none_ran, one_more, ran_as_before, room_for_all}
 use Rattle.fw_world.proofs.session.Session.run.Goals as goal
 
 pub loop-k-init : goal.loop-k-init
@@ -26,6 +27,10 @@ returns-clause-ran g c =
     (all_over g.L.Link.carries g.L.Link.failed (session_of c.args.self.now.world c.args.self.now.is_lost) c.args.self.now.link c.args.events.now c.loop-k.k c.loop-k-test.false c.args.records.now.items (session_of c.loop-k.self.world c.loop-k.self.is_lost) c.loop-k.self.link c.loop-k.records.items c.loop-k.invariant.0)
 
 pub returns-then-not-run_one-clause-full : goal.returns-then-not-run_one-clause-full
-returns-then-not-run_one-clause-full g c =
-    let own = one_at_most c.args.self.now.is_lost in
-    omega (arith, own, c.loop-k.invariant.1, c.loop-k-test.true, c.run_one.ensures.full c.if-not-run_one.true)
+returns-then-not-run_one-clause-full g c = omega (arith, c.loop-k.invariant.1, c.loop-k-test.true, c.run_one.ensures.full c.if-not-run_one.true)
+
+pub returns-then-not-run_one-clause-room : goal.returns-then-not-run_one-clause-room
+returns-then-not-run_one-clause-room g c =
+    let full : vec_capacity c.args.records.now < vec_len c.args.records.now + (length c.args.self.now.world.kernel.vfs.answers + length c.args.self.now.world.kernel.vfs.calls) + 2 * length c.args.events.now =
+    omega (arith, c.loop-k.invariant.1, c.loop-k-test.true, c.run_one.ensures.full c.if-not-run_one.true) in
+    room_for_all c.args.self.now.world c.keeps_protocol.ensures.reached (vec_len c.args.records.now) (vec_capacity c.args.records.now) c.loop-k.k (length c.args.events.now) c.loop-k-test.true full

@@ -2,17 +2,15 @@ use Rattle.std.proofs.Common.{◌+◌, ◌≤◌, sym, ap, length, ◌∙◌, ar
 use Rattle.fuse_spec.specs.Worlds.{World}
 use Rattle.std.specs.Vec.{vec_len, vec_capacity}
 use Rattle.fw_world.specs.Values.{event_of, outcome_of}
-use Rattle.fw_world.proofs.OverLinks.{adds_outcome, adds_refused, one_if_not, one_more_at_most, one_or_other}
+use Rattle.fw_world.proofs.OverLinks.{adds_outcome, adds_refused, one_more_at_most}
 use Rattle.fw_world.proofs.Recording.{made_room, wanted_room}
 use Rattle.fw_world.proofs.session.Session.run_one.Goals as goal
 
 pub collect_all-requires : goal.collect_all-requires
 collect_all-requires g c =
     let room : vec_len c.reserve.new.self + c.in-Some.room ≤ vec_capacity c.reserve.new.self = made_room c.reserve.result _ _ _ c.reserve.ensures.ok (sym c.is_err.ensures.value ∙ c.if-is_err.false) in
-    let few = one_more_at_most c.args.self.now.world c.step.new.self.world c.step.new.self.is_lost (event_of c.args.event.now) (outcome_of c.in-Ok.outcome) (g.L.Link.carries c.args.self.now.link c.step.new.self.link) (g.L.Link.failed c.args.self.now.link) (g.L.Link.failed c.step.new.self.link) c.in-Ok.ensures.happens c.in-Ok.ensures.lost in
-    let before = one_if_not c.args.self.now.is_lost c.in-Ok.ensures.accepted in
-    let now = one_or_other c.step.new.self.is_lost in
-    omega (arith, room, few, before, now, c.in-Some.ensures, c.add.ensures.len, c.add.ensures.capacity, c.add_loss.ensures.len, c.add_loss.ensures.capacity)
+    let few = one_more_at_most c.args.self.now.world c.step.new.self.world c.keeps_protocol.ensures.reached c.step.new.self.is_lost (event_of c.args.event.now) (outcome_of c.in-Ok.outcome) (g.L.Link.carries c.args.self.now.link c.step.new.self.link) (g.L.Link.failed c.args.self.now.link) (g.L.Link.failed c.step.new.self.link) c.in-Ok.ensures.happens c.in-Ok.ensures.lost in
+    omega (arith, room, few, c.in-Some.ensures, c.add.ensures.len, c.add.ensures.capacity, c.add_loss.ensures.len, c.add_loss.ensures.capacity)
 
 pub returns-in-Ok-clause-ran : goal.returns-in-Ok-clause-ran
 returns-in-Ok-clause-ran g c ran =
@@ -28,12 +26,10 @@ returns-in-Err-clause-ran g c ran =
 
 pub returns-in-Ok-clause-room : goal.returns-in-Ok-clause-room
 returns-in-Ok-clause-room g c ran =
-    let few = one_more_at_most c.args.self.now.world c.step.new.self.world c.step.new.self.is_lost (event_of c.args.event.now) (outcome_of c.in-Ok.outcome) (g.L.Link.carries c.args.self.now.link c.step.new.self.link) (g.L.Link.failed c.args.self.now.link) (g.L.Link.failed c.step.new.self.link) c.in-Ok.ensures.happens c.in-Ok.ensures.lost in
-    let before = one_if_not c.args.self.now.is_lost c.in-Ok.ensures.accepted in
-    let now = one_or_other c.step.new.self.is_lost in
+    let few = one_more_at_most c.args.self.now.world c.step.new.self.world c.keeps_protocol.ensures.reached c.step.new.self.is_lost (event_of c.args.event.now) (outcome_of c.in-Ok.outcome) (g.L.Link.carries c.args.self.now.link c.step.new.self.link) (g.L.Link.failed c.args.self.now.link) (g.L.Link.failed c.step.new.self.link) c.in-Ok.ensures.happens c.in-Ok.ensures.lost in
     let none_left = ap (λ (w : World). length w.kernel.vfs.answers) c.collect_all.ensures.world in
     let calls_left = ap (λ (w : World). length w.kernel.vfs.calls) c.collect_all.ensures.world in
-    omega (arith, few, before, now, none_left, calls_left, c.reserve.ensures.len, c.reserve.ensures.capacity, c.add.ensures.len, c.add.ensures.capacity, c.add_loss.ensures.len, c.add_loss.ensures.capacity, c.collect_all.ensures.len, c.collect_all.ensures.capacity)
+    omega (arith, few, none_left, calls_left, c.reserve.ensures.len, c.reserve.ensures.capacity, c.add.ensures.len, c.add.ensures.capacity, c.add_loss.ensures.len, c.add_loss.ensures.capacity, c.collect_all.ensures.len, c.collect_all.ensures.capacity)
 
 pub returns-then-is_err-clause-full : goal.returns-then-is_err-clause-full
 returns-then-is_err-clause-full g c not_run =
