@@ -1,5 +1,5 @@
 -- The kernel takes a copy on the reply link as the machine takes what it says.
-use Rattle.std.proofs.Common.{◌≡◌, ◌≤◌, ℕ, ◌-◌, ◌%◌, Bool, true, false, true≢false, cond, List, length, Option, Some, None, nat_eq, slice_get, inl, inr, refl, ap, sym, subst, ◌∙◌, arith}
+use Rattle.std.proofs.Common.{◌≡◌, ◌≤◌, ℕ, ◌-◌, ◌%◌, Bool, true, false, true≢false, cond, List, length, Option, Some, None, nat_eq, slice_get, inl, refl, ap, sym, subst, ◌∙◌, arith}
 use Rattle.std.specs.Int.{w32, cast_signed}
 use Rattle.std.proofs.lemmas.Bool.Decides.{nat_tests}
 use Rattle.std.proofs.lemmas.Int.{to_z-of_z}

@@ -1,5 +1,5 @@
 -- Where kernel and server accept an event, and nothing is past its end, it happens so in the machine.
-use Rattle.std.proofs.Common.{◌≡◌, ℕ, ◌+◌, ◌||◌, List, Bool, true, false, not, cond, Option, Some, None, Ok, Err, nat_eq, nat_lt, nat_le, max, length, slice_get, is_some, refl, ap, sym, ◌∙◌}
+use Rattle.std.proofs.Common.{◌≡◌, ℕ, ◌+◌, ◌||◌, List, Bool, true, false, not, cond, Option, Some, None, Ok, Err, nat_eq, nat_lt, nat_le, max, length, slice_get, refl, ap, sym, ◌∙◌}
 use Rattle.fuse_spec.specs.declared.Binding.{Binding}
 use Rattle.fuse_spec.specs.declared.Counted.{Counted}
 use Rattle.fuse_spec.specs.declared.Refusal.{Refusal}
@@ -12,7 +12,7 @@ use Rattle.fuse_spec.specs.Operations.{errno_of}
 use Rattle.fuse_spec.specs.Calls.{Call}
 use Rattle.fuse_spec.specs.Messages.{Forget, Request}
 use Rattle.fuse_spec.specs.Kernel.{Kernel, is_live, is_pinned, is_bound, call_begun}
-use Rattle.fuse_spec.specs.QueueCalls.{pending_at, first_forgets, after_read_forgets}
+use Rattle.fuse_spec.specs.QueueCalls.{pending_at, first_forgets}
 use Rattle.fuse_spec.specs.Replies.{reply_written}
 use Rattle.fuse_spec.specs.Server.{HeldRequest, Kept, Copy}
 use Rattle.fuse_spec.specs.Copies.{is_current}

@@ -3,17 +3,15 @@ use Rattle.std.proofs.Common.{◌≡◌, ◌≤◌, ℕ, ◌+◌, Bool, true, fa
 use Rattle.std.specs.List.{remove as without}
 use Rattle.std.proofs.lemmas.Bool.{le-ltb}
 use Rattle.std.proofs.lemmas.Option.{none-some, same_Some}
-use Rattle.fuse_spec.specs.declared.Binding.{Binding}
 use Rattle.fuse_spec.specs.declared.Counted.{Counted}
 use Rattle.fuse_spec.specs.declared.IntrEffect.{IntrEffect}
 use Rattle.fuse_spec.specs.declared.ReplyResult.{ReplyResult}
-use Rattle.fuse_spec.specs.declared.Taken.{Taken}
 use Rattle.fuse_spec.specs.declared.WriteResult.{WriteResult}
 use Rattle.fuse_spec.specs.Calls.{Call}
-use Rattle.fuse_spec.specs.Maps.{get, get_name, remove_name}
+use Rattle.fuse_spec.specs.Maps.{get, remove_name}
 use Rattle.fuse_spec.specs.Numbers.{max_validity}
 use Rattle.fuse_spec.specs.Operations.{errno_of}
-use Rattle.fuse_spec.specs.Messages.{Forget, Request, WireReply}
+use Rattle.fuse_spec.specs.Messages.{Request, WireReply}
 use Rattle.fuse_spec.specs.Kernel.{Kernel, call_begun, kernel_aborted, kernel_mounted, evicted}
 use Rattle.fuse_spec.specs.QueueCalls as queues
 use Rattle.fuse_spec.specs.QueueCalls.{after_read_pending, first_forgets, after_read_forgets}

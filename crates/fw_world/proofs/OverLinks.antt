@@ -56,7 +56,9 @@ no_call mid e o w carries before now happens lost = by_case e o mid (happened ha
 -- An event leaves at most one call more that is unanswered or has an answer that waits, and none where the link is lost in it.
 pub one_more_at_most : (w after : World) → IsReached w → (is_lost : Bool) (e : Event) (o : Outcome) (carries : Traffic → Type 0) (before now : ℕ) → (is_lost ≡ false → Happens w e o after) → (is_lost ≡ true → LosesIn w e o after carries before now)
     → cond is_lost 1 0 + (length after.kernel.vfs.answers + length after.kernel.vfs.calls) ≤ length w.kernel.vfs.answers + length w.kernel.vfs.calls + 1
-one_more_at_most w after here false e o carries before now happens loses = one_more_waits w e o after (happens refl)
+one_more_at_most w after here false e o carries before now happens loses =
+    let first = one_more_waits w e o after (happens refl) in
+    omega (arith, first)
 one_more_at_most w after here true e o carries before now happens loses =
     let gone = loses refl in
     let first = none_more_waits w here e o gone.mid (no_call gone.mid e o w carries before now gone.happens gone.is_lost) gone.happens in

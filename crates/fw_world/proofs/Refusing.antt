@@ -1,5 +1,5 @@
 -- An event that kernel or server refused is refused so in the machine, or memory was wanting.
-use Rattle.std.proofs.Common.{◌≡◌, ◌≢◌, ℕ, ◌+◌, ◌||◌, Bool, true, false, true≢false, cond, not, List, [], ◌∷◌, Option, Some, None, Ok, Err, inl, inr, nat_eq, nat_lt, nat_le, max, length, slice_get, is_some, refl, ap, sym, subst, ◌∙◌}
+use Rattle.std.proofs.Common.{◌≡◌, ◌≢◌, ℕ, ◌+◌, ◌||◌, Bool, true, false, cond, not, List, Option, Some, None, Ok, Err, inl, nat_eq, nat_lt, nat_le, max, length, slice_get, refl, ap, sym, subst, ◌∙◌}
 use Rattle.fuse_spec.specs.declared.Binding.{Binding}
 use Rattle.fuse_spec.specs.declared.Counted.{Counted}
 use Rattle.fuse_spec.specs.declared.Refusal.{Refusal}
@@ -10,33 +10,23 @@ use Rattle.fuse_spec.specs.Maps.{get, get_name}
 use Rattle.fuse_spec.specs.Numbers.{max_validity, max_calls, counter_end, clock_end}
 use Rattle.fuse_spec.specs.Operations.{errno_of}
 use Rattle.fuse_spec.specs.Calls.{Call}
-use Rattle.fuse_spec.specs.Messages.{Forget, Request, RequestBody, WireReply, init, asks, release, forget, batch_forget, interrupt}
-use Rattle.fuse_spec.specs.Kernel.{Kernel, is_live, is_pinned, is_bound, body_of, call_begun}
-use Rattle.fuse_spec.specs.Nodes.{MayChoose, NodeTable, taken_back}
+use Rattle.fuse_spec.specs.Messages.{Forget, RequestBody, WireReply}
+use Rattle.fuse_spec.specs.Kernel.{is_live, is_pinned, is_bound, body_of, call_begun}
 use Rattle.fuse_spec.specs.QueueCalls.{pending_at, first_forgets, after_read_forgets}
 use Rattle.fuse_spec.specs.Replies.{reply_written}
-use Rattle.fuse_spec.specs.Server.{Server, HeldRequest, Kept, Copy, RequestFault, all_taken_back, fault_of}
-use Rattle.fuse_spec.specs.Copies.{is_current}
-use Rattle.std.specs.List.{remove as without}
-use Rattle.fuse_spec.specs.Taking.{TakeResult, taking}
-use Rattle.fuse_spec.specs.Performs.{served, files_given}
+use Rattle.fuse_spec.specs.Performs.{served}
 use Rattle.fuse_spec.specs.Worlds as worlds
 use Rattle.fuse_spec.specs.Worlds.{World, Sent, after_mount, after_call, after_take, after_perform, after_again, after_write, after_tick, after_drop}
 use Rattle.fuse_spec.specs.Events.{Event, Outcome}
 use Rattle.fuse_spec.specs.Events as event
 use Rattle.fuse_spec.specs.Steps.{Stepped, going, is_past, is_busy, is_ready, unless, reading_body, reading_pending, reading_forgets, taking_request, performing_held, sending_again, writing_copy, settling, dropping, evicting, MayChooseFor, IsRefused, RefusedWith}
-use Rattle.std.specs.Prelude.{◌⊎◌, Result, IfErr, IfSome}
+use Rattle.std.specs.Prelude.{Result, IfErr}
 use Rattle.std.specs.Option.{unwrap_or}
-use Rattle.fuse_frames.specs.RequestTies.{IsRequestFrame}
-use Rattle.fuse_frames.proofs.RequestLemmas.{frame_says}
-use Rattle.fuse_theorem.proofs.NoFault.{no_fault}
 use Rattle.fuse_theorem.proofs.Queuing.{All-at}
-use Rattle.fs_server.specs.declared.server.ServerFault.{ServerFault}
 use Rattle.fk_kernel.specs.Refused.{begin_refusal, mount_refusal, read_refusal, place_refusal, body_refusal, is_past_end}
 use Rattle.fk_kernel.specs.Refused as kernel
 use Rattle.fs_server.specs.Effects as server
 use Rattle.fuse_theorem.specs.Reached.{IsReached}
-use Rattle.fw_world.specs.Values.{refusal_for}
 use Rattle.fk_kernel.specs.RefusedUpkeep.{read_forgets_refusal, forgets_refusal, tick_refusal, name_refusal, drop_refusal, counted_refusal, evict_refusal}
 use Rattle.fs_server.specs.Effects.{RefusesHeld, not_held, exhausted, RefusesAgain, not_kept, not_current, no_number, RefusesFrame}
 use Rattle.fs_server.specs.Effects.{fault_or, past_or_memory}

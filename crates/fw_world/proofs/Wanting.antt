@@ -1,8 +1,7 @@
 -- Where memory was wanting, nothing else refuses the event.
-use Rattle.std.proofs.Common.{◌≡◌, ℕ, ◌<◌, ◌^◌, ◌||◌, Bool, true, false, true≢false, cond, not, List, [], ◌∷◌, Option, Some, None, Ok, Err, inl, inr, nat_eq, nat_lt, nat_le, max, length, slice_get, take, refl, ap, sym, subst, ◌∙◌, arith}
+use Rattle.std.proofs.Common.{◌≡◌, ℕ, ◌||◌, Bool, true, false, true≢false, cond, not, List, [], ◌∷◌, Option, Some, None, inl, inr, nat_eq, nat_lt, nat_le, max, length, slice_get, take, refl, ap, sym, subst, ◌∙◌}
 use Rattle.std.specs.Prelude.{◌⊎◌, IfSome, IfNone}
 use Rattle.std.specs.Option.{unwrap_or, option_map_or}
-use Rattle.fuse_spec.specs.declared.Opened.{Opened}
 use Rattle.fuse_spec.specs.declared.Purpose.{Purpose}
 use Rattle.fuse_spec.specs.declared.Refusal.{Refusal}
 use Rattle.fuse_spec.specs.declared.Refusal.TheVariants as refusal
@@ -10,7 +9,6 @@ use Rattle.fuse_spec.specs.Calls.{Call}
 use Rattle.fuse_spec.specs.Events.{Event, Outcome}
 use Rattle.fuse_spec.specs.Events as event
 use Rattle.fuse_spec.specs.Kernel.{Kernel, is_live, body_of, call_begun}
-use Rattle.fuse_spec.specs.Maps.{get}
 use Rattle.fuse_spec.specs.Messages.{Forget, Request, RequestBody, WireReply}
 use Rattle.fuse_spec.specs.Numbers.{counter_end, max_calls, max_validity}
 use Rattle.fuse_spec.specs.Operations.{errno_of}
@@ -20,7 +18,7 @@ use Rattle.fuse_spec.specs.declared.Mark.TheVariants as mark
 use Rattle.fuse_spec.specs.declared.QueuedRequest.{QueuedRequest}
 use Rattle.fuse_spec.specs.Queues.{pending}
 use Rattle.fuse_spec.specs.QueueCalls.{after_reading, pending_at, first_forgets, can_read_forgets, after_read_forgets}
-use Rattle.fuse_spec.specs.Server.{Server, HeldRequest, Kept}
+use Rattle.fuse_spec.specs.Server.{Server}
 use Rattle.fuse_spec.specs.Steps.{is_past, is_ready, takes_memory, IsRefused, MayChooseFor, RefusedWith, Happens}
 use Rattle.fuse_spec.specs.Worlds as worlds
 use Rattle.fuse_spec.specs.Taking.{taking}

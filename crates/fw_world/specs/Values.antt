@@ -1,12 +1,10 @@
 -- What contracts see of events and records.
-use Rattle.std.specs.Prelude.{true, ℕ, false, cond, nat_eq, List, [], ◌∷◌, ◌++◌, Option, Some, None, map}
+use Rattle.std.specs.Prelude.{true, ℕ, false, List, [], ◌∷◌, ◌++◌, Option, Some, None, map}
 use Rattle.fuse_spec.specs.Maps.{Map}
 use Rattle.fuse_spec.specs.Nodes.{HeldNode}
 use Rattle.fuse_spec.specs.declared.Counted.{Counted}
 use Rattle.fuse_spec.specs.declared.Refusal.{Refusal}
 use Rattle.fuse_spec.specs.declared.Refusal.TheVariants.{NoMemory, NoSuch, Exhausted}
-use Rattle.fuse_spec.specs.declared.WriteResult.{WriteResult}
-use Rattle.fuse_spec.specs.declared.WriteResult.TheVariants.{Accepted, NoEntry, Invalid}
 use Rattle.fuse_spec.specs.Events as event
 use Rattle.fuse_spec.specs.Records as record_of_run
 use Rattle.fk_syscalls.specs.Values.{call_of, answer_of}

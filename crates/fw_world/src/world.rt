@@ -197,7 +197,8 @@ impl<A: Allocator + Copy> WorldIn<A> {
         match outcome {
             Outcome::Read { .. } => self.last_request(),
             Outcome::Taken {
-                word: Taken::Again, ..
+                word: Taken::Again,
+                ..
             }
             | Outcome::Done { .. }
             | Outcome::SentAgain { .. } => match self.last_copy() {

@@ -1,4 +1,4 @@
-use Rattle.std.proofs.Common.{refl, sym, length, arith, ◌∙◌}
+use Rattle.std.proofs.Common.{refl, sym, length, arith}
 use Rattle.std.proofs.lemmas.Option.{slice_get_read, slice_get_past}
 use Rattle.fw_world.proofs.Parts.{world_of}
 use Rattle.fw_world.proofs.Made.{took}
