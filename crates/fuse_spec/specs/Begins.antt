@@ -39,6 +39,7 @@ closing handle (Some opened) = closes handle opened
 abbrev pub beginning : {F O : Type 0} → Map O → Call → Beginning F O
 beginning opens (call.stat path) = whole_path path (λ words. sets_out words (last final.stat))
 beginning opens (call.list path after) = whole_path path (λ words. sets_out words (last (final.list after)))
+beginning opens (call.listplus path after) = whole_path path (λ words. sets_out words (last (final.listplus after)))
 beginning opens (call.opening path) = whole_path path (λ words. sets_out words (last final.opening))
 beginning opens (call.mkdir path) = parent_path path (λ words name. sets_out words (last (final.mkdir name)))
 beginning opens (call.create path) = parent_path path (λ words name. sets_out words (last (final.create name)))

@@ -1,5 +1,5 @@
 -- More copies of a kept reply, what settling a copy gives back, and the server at an abort and at a mount.
-use Rattle.std.specs.Prelude.{ℕ, Bool, true, false, ◌&&◌, cond, List, [], ◌∷◌, Option, Some, None, nat_eq, is_some}
+use Rattle.std.specs.Prelude.{ℕ, Bool, true, false, ◌&&◌, cond, List, [], ◌∷◌, Option, Some, None, nat_eq, is_some, map}
 use Rattle.std.specs.List.{list_all}
 use Rattle.fuse_spec.specs.Maps.{Map, get, remove}
 use Rattle.fuse_spec.specs.Operations.{files_in_reply, opens_in_reply}
@@ -8,12 +8,16 @@ use Rattle.fuse_spec.specs.declared.Entry.{Entry}
 use Rattle.fuse_spec.specs.declared.WriteResult.{WriteResult}
 use Rattle.fuse_spec.specs.declared.WriteResult.TheVariants.{Accepted, NoEntry, Invalid}
 use Rattle.fuse_spec.specs.Messages.{WireReply}
-use Rattle.fuse_spec.specs.Nodes.{NodeTable, is_held, row_more, taken_back, HandleTable, handle_more, handle_back}
+use Rattle.fuse_spec.specs.Nodes.{NodeTable, file_of, is_held, row_more, taken_back, HandleTable, handle_more, handle_back}
 use Rattle.fuse_spec.specs.Server.{Server, Kept, Copy, without_unheld_files, sending}
 
 -- Whether each node and open number that the reply names is still held, the node under the same generation. (this project's rule)
 abbrev pub is_current : Server → WireReply → Bool
 is_current s wire = list_all (λ (g : Entry). is_held s.nodes g.nodeid g.generation) (files_in_reply wire) && list_all (λ fh. is_some (get s.handles.handles fh)) (opens_in_reply wire)
+
+-- The files of the nodes that the reply names, as often as it does. (libfuse, low-level: lookup)
+abbrev pub files_named : Server → WireReply → List ℕ
+files_named s wire = map (λ (g : Entry). file_of s.nodes g.nodeid) (files_in_reply wire)
 
 -- Each node that these entries name has one lookup more for each entry. (this project's rule)
 abbrev pub rows_counted : NodeTable → List Entry → NodeTable

@@ -1,7 +1,7 @@
 -- Which file a node denotes, and what is alike once each node is replaced by the file that it denotes.
-use Rattle.std.specs.Prelude.{◌≡◌, ℕ, true, cond, Option, Some, None, nat_eq, option_map}
+use Rattle.std.specs.Prelude.{◌≡◌, ℕ, true, cond, List, [], ◌∷◌, Option, Some, None, nat_eq, option_map}
 use Rattle.fuse_spec.specs.Maps.{Map, get}
-use Rattle.fuse_spec.specs.Operations.{Operation, lookup, getattr, mkdir, create, unlink, rmdir, rename, link, opening, readdir, read, write, Reply, found, missing, created, opened, attributes, listed, content, written, agreed, done, failed}
+use Rattle.fuse_spec.specs.Operations.{Operation, lookup, getattr, mkdir, create, unlink, rmdir, rename, link, opening, readdir, readdirplus, read, write, DirentPlus, told_by, Reply, found, missing, created, opened, attributes, listed, listed_plus, content, written, agreed, done, failed}
 use Rattle.fuse_spec.specs.Walks.{FinalOperation, WalkPlan, last}
 use Rattle.fuse_spec.specs.Walks as final
 use Rattle.fuse_spec.specs.Vfs.{CallState, walking, doing, using}
@@ -71,9 +71,20 @@ OperationAlike R S (rename d old e new) (rename f old' g new') = R d f × (old �
 OperationAlike R S (link x d name) (link y e other) = R x y × R d e × (name ≡ other)
 OperationAlike R S (opening x) (opening y) = R x y
 OperationAlike R S (readdir d after size) (readdir e after' size') = R d e × (after ≡ after') × (size ≡ size')
+OperationAlike R S (readdirplus d after size) (readdirplus e after' size') = R d e × (after ≡ after') × (size ≡ size')
 OperationAlike R S (read o offset size) (read p offset' size') = S o p × (offset ≡ offset') × (size ≡ size')
 OperationAlike R S (write o offset bytes) (write p offset' bytes') = S o p × (offset ≡ offset') × (bytes ≡ bytes')
 OperationAlike R S a b = ⊥
+
+-- The same names in a list, each with a file that R says is the same, where it tells one. (this project's rule)
+abbrev pub PairAlike : {F G : Type 0} → (F → G → Type 0) → DirentPlus F → DirentPlus G → Type 0
+PairAlike R x y = OptionAlike R (told_by x) (told_by y) × (x.valid ≡ y.valid) × (x.dirent ≡ y.dirent)
+
+abbrev pub PairsAlike : {F G : Type 0} → (F → G → Type 0) → List (DirentPlus F) → List (DirentPlus G) → Type 0
+PairsAlike R [] [] = Unit {0}
+PairsAlike R (x ∷ xs) (y ∷ ys) = PairAlike R x y × PairsAlike R xs ys
+PairsAlike R [] (y ∷ ys) = ⊥
+PairsAlike R (x ∷ xs) [] = ⊥
 
 -- The same reply, with files that R says are the same and open files that S says are. (this project's rule)
 abbrev pub ReplyAlike : {F O G P : Type 0} → (F → G → Type 0) → (O → P → Type 0) → Reply F O → Reply G P → Type 0
@@ -83,6 +94,7 @@ ReplyAlike R S (created x valid o) (created y valid' p) = R x y × (valid ≡ va
 ReplyAlike R S (opened o) (opened p) = S o p
 ReplyAlike R S (attributes a) (attributes b) = a ≡ b
 ReplyAlike R S (listed xs) (listed ys) = xs ≡ ys
+ReplyAlike R S (listed_plus xs) (listed_plus ys) = PairsAlike R xs ys
 ReplyAlike R S (content xs) (content ys) = xs ≡ ys
 ReplyAlike R S (written n) (written m) = n ≡ m
 ReplyAlike R S (agreed a b) (agreed c d) = (a ≡ c) × (b ≡ d)
@@ -94,6 +106,7 @@ ReplyAlike R S a b = ⊥
 abbrev pub FinalAlike : {F G : Type 0} → (F → G → Type 0) → FinalOperation F → FinalOperation G → Type 0
 FinalAlike R final.stat final.stat = Unit {0}
 FinalAlike R (final.list after) (final.list after') = after ≡ after'
+FinalAlike R (final.listplus after) (final.listplus after') = after ≡ after'
 FinalAlike R final.opening final.opening = Unit {0}
 FinalAlike R (final.mkdir name) (final.mkdir other) = name ≡ other
 FinalAlike R (final.create name) (final.create other) = name ≡ other

@@ -4,8 +4,8 @@ use Rattle.fuse_spec.specs.declared.Validity.{Validity}
 use Rattle.fuse_spec.specs.Maps.{get, put}
 use Rattle.fuse_spec.specs.Numbers.{eperm, enoent, eexist, enotdir, eisdir, einval, efbig, enospc, enotempty, max_names, max_file, max_transfer}
 use Rattle.fuse_spec.specs.Paths.{Name}
-use Rattle.fuse_spec.specs.Operations.{Operation, lookup, getattr, mkdir, create, unlink, rmdir, rename, link, opening, readdir, read, write, Reply, found, missing, created, opened, attributes, listed, content, written, done, failed}
-use Rattle.fuse_spec.specs.Trees.{Tree, a_directory, a_file, file_at, is_directory, is_nameless, is_empty, is_below, attributes_of, with_name, without_name, with_birth, overwritten, bytes_of, fitting, records_after}
+use Rattle.fuse_spec.specs.Operations.{Operation, lookup, getattr, mkdir, create, unlink, rmdir, rename, link, opening, readdir, readdirplus, read, write, Reply, found, missing, created, opened, attributes, listed, listed_plus, content, written, done, failed}
+use Rattle.fuse_spec.specs.Trees.{Tree, a_directory, a_file, file_at, is_directory, is_nameless, is_empty, is_below, attributes_of, with_name, without_name, with_birth, overwritten, bytes_of, fitting, records_after, fitting_pairs, pairs_after}
 
 -- An operation on files: a file and an open file are both named by the file's birth. (this project's rule)
 abbrev pub FileOperation : Type 0
@@ -74,6 +74,7 @@ checks tree (link file d name) =
     (not (is_directory tree d), enotdir) ∷ (is_nameless tree d, enoent) ∷ (is_directory tree file, eperm) ∷ (is_nameless tree file, enoent) ∷ making tree d name
 checks tree (rename d old e new) = moving tree d e (file_at tree d old) (file_at tree e new)
 checks tree (readdir d after size) = (not (is_directory tree d), enotdir) ∷ []
+checks tree (readdirplus d after size) = (not (is_directory tree d), enotdir) ∷ []
 checks tree (opening file) = (is_directory tree file, eisdir) ∷ []
 checks tree (read file offset size) = []
 checks tree (write file offset bytes) = (nat_lt max_file (offset + length bytes), efbig) ∷ []
@@ -103,6 +104,7 @@ reply_unrefused valid tree (rmdir d name) = done
 reply_unrefused valid tree (link file d name) = found file valid.found_ms
 reply_unrefused valid tree (rename d old e new) = done
 reply_unrefused valid tree (readdir d after size) = listed (fitting (min size max_transfer) (records_after tree d after))
+reply_unrefused valid tree (readdirplus d after size) = listed_plus (fitting_pairs (min size max_transfer) (pairs_after valid.found_ms tree d after))
 reply_unrefused valid tree (opening file) = opened file
 reply_unrefused valid tree (read file offset size) = content (take (min size max_transfer) (drop offset (bytes_of (get tree.files file))))
 reply_unrefused valid tree (write file offset bytes) = written (length bytes)
@@ -126,6 +128,7 @@ tree_unrefused tree (write file offset (b ∷ bytes)) =
 tree_unrefused tree (lookup d name) = tree
 tree_unrefused tree (getattr file) = tree
 tree_unrefused tree (readdir d after size) = tree
+tree_unrefused tree (readdirplus d after size) = tree
 tree_unrefused tree (opening file) = tree
 tree_unrefused tree (read file offset size) = tree
 

@@ -1,6 +1,8 @@
 -- The server's tables: nodes, each a file under a generation with its lookup count, and open files with theirs.
-use Rattle.std.specs.Prelude.{◌≡◌, ◌≢◌, ◌≤◌, ℕ, ◌+◌, ◌-◌, Bool, false, cond, List, [], ◌∷◌, Option, Some, None, nat_eq, nat_lt, MatchOption}
-use Rattle.fuse_spec.specs.Maps.{Map, get, put, remove}
+use Rattle.std.specs.Prelude.{◌≡◌, ◌≢◌, ◌≤◌, ℕ, ◌+◌, ◌-◌, Bool, false, cond, List, [], ◌∷◌, Option, Some, None, nat_eq, nat_lt, nat_le, count_by, MatchOption}
+use Rattle.std.specs.List.{list_any}
+use Rattle.fuse_spec.specs.Maps.{Map, get, put, remove, values}
+use Rattle.fuse_spec.specs.Numbers.{counter_end}
 
 -- A node that the server holds: its file, its generation and its lookup count. (libfuse, low-level: lookup)
 pub record HeldNode : Type 0 where
@@ -68,6 +70,10 @@ all_given choice t (file ∷ files) = all_given choice (given t file (choice fil
 abbrev pub MayChoose : (ℕ → ℕ) → NodeTable → List ℕ → Type 0
 MayChoose choice t [] = Unit {0}
 MayChoose choice t (file ∷ files) = MayName t file (choice file) × MayChoose choice (given t file (choice file)) files
+
+-- Whether a node's lookups would come to the end of counters, once each of these files is told once more. (this project's rule)
+abbrev pub counts_out : NodeTable → List ℕ → Bool
+counts_out t files = list_any (λ (row : HeldNode). nat_le counter_end (row.count + count_by (nat_eq row.file) files)) (values t.rows)
 
 -- The next two give so many lookups of a node back; at none left the node goes. (libfuse, low-level: forget)
 abbrev pub rows_less : Map HeldNode → ℕ → ℕ → Option HeldNode → Map HeldNode

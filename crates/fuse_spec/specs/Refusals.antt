@@ -20,8 +20,9 @@ use Rattle.fuse_spec.specs.Kernel.{Kernel, is_live, body_of, call_signalled, is_
 use Rattle.fuse_spec.specs.Replies.{reply_written}
 use Rattle.fuse_spec.specs.Server.{HeldRequest, Kept}
 use Rattle.fuse_spec.specs.Taking.{taking}
-use Rattle.fuse_spec.specs.Performs.{served}
-use Rattle.fuse_spec.specs.Copies.{is_current}
+use Rattle.fuse_spec.specs.Performs.{served, files_given}
+use Rattle.fuse_spec.specs.Copies.{is_current, files_named}
+use Rattle.fuse_spec.specs.Nodes.{counts_out}
 use Rattle.fuse_spec.specs.Worlds.{World, Sent, after_mount, after_call, after_read_interrupt, after_read_forgets, after_read_pending, after_take, after_perform, after_again, after_write, after_settle, after_tick, after_drop, after_evict, after_abort}
 use Rattle.fuse_spec.specs.Steps.{is_past, is_ready}
 use Rattle.fuse_spec.specs.Events.{Event, Outcome}
@@ -52,9 +53,10 @@ pub data Leads (choice : ℕ → ℕ) (w : World) : Event → Outcome → World 
       → Leads choice w (event.read_pending k) (event.is_read unique) (after_read_pending w k unique body)
   takes : (k : ℕ) (request : Request) → slice_get w.requests k ≡ Some request
       → Leads choice w (event.take k) (event.taken request.unique (taking w.server request.unique request.body).word) (after_take w k request.unique (taking w.server request.unique request.body))
-  performs : (unique : ℕ) (held : HeldRequest) → get w.server.held unique ≡ Some held
+  performs : (unique : ℕ) (held : HeldRequest) → get w.server.held unique ≡ Some held → counts_out w.server.nodes (files_given w.server held) ≡ false
       → Leads choice w (event.perform unique) (event.performed unique (errno_of (served choice w.server unique held).wire) w.server.aborted) (after_perform w unique (served choice w.server unique held))
-  sends_again : (unique : ℕ) (kept : Kept) → get w.server.kept unique ≡ Some kept → is_current w.server kept.wire ≡ true → Leads choice w (event.again unique) (event.sent_again unique) (after_again w unique kept)
+  sends_again : (unique : ℕ) (kept : Kept) → get w.server.kept unique ≡ Some kept → is_current w.server kept.wire ≡ true → counts_out w.server.nodes (files_named w.server kept.wire) ≡ false
+      → Leads choice w (event.again unique) (event.sent_again unique) (after_again w unique kept)
   writes : (k : ℕ) (sent : Sent) → slice_get w.replies k ≡ Some sent
       → Leads choice w (event.write k) (event.written sent.unique (reply_written w.kernel sent.unique sent.wire).0) (after_write w k sent (reply_written w.kernel sent.unique sent.wire))
   settles : (k : ℕ) (result : ReplyResult) → slice_get w.results k ≡ Some result
@@ -123,4 +125,7 @@ pub data Refuses (choice : ℕ → ℕ) (w : World) : Event → Refusal → Type
   none_kept : (unique : ℕ) → get w.server.kept unique ≡ None → Refuses choice w (event.again unique) NoCopy
   not_current : (unique : ℕ) (kept : Kept) → get w.server.kept unique ≡ Some kept → is_current w.server kept.wire ≡ false → Refuses choice w (event.again unique) NoCopy
   pinned_or_bound : (node : ℕ) (counted : Counted) → is_live w.kernel.phase ≡ true → get w.kernel.nodes node ≡ Some counted → is_pinned w.kernel node || is_bound w.kernel node ≡ true → Refuses choice w (event.evict node) Busy
+  told_too_often : (unique : ℕ) (held : HeldRequest) → get w.server.held unique ≡ Some held → counts_out w.server.nodes (files_given w.server held) ≡ true → Refuses choice w (event.perform unique) Exhausted
+  copied_too_often : (unique : ℕ) (kept : Kept) → get w.server.kept unique ≡ Some kept → is_current w.server kept.wire ≡ true → counts_out w.server.nodes (files_named w.server kept.wire) ≡ true
+      → Refuses choice w (event.again unique) Exhausted
   past_its_end : (e : Event) (o : Outcome) (after : World) → draws e ≡ true → Leads choice w e o after → is_past after ≡ true → Refuses choice w e Exhausted

@@ -1,10 +1,10 @@
 -- How the kernel takes a reply.
-use Rattle.std.specs.Prelude.{ℕ, ◌+◌, ◌-◌, ◌%◌, Bool, true, false, ◌&&◌, cond, List, [], ◌∷◌, Option, Some, None, length, nat_eq, nat_lt, nat_le, sum_by}
+use Rattle.std.specs.Prelude.{ℕ, ◌+◌, ◌-◌, ◌%◌, Bool, true, false, ◌&&◌, cond, List, [], ◌∷◌, ◌++◌, Option, Some, None, length, nat_eq, nat_lt, nat_le, sum_by, map}
 use Rattle.fuse_spec.specs.Maps.{Map, get, put}
 use Rattle.fuse_spec.specs.Numbers.{eio, eagain, enosys}
-use Rattle.fuse_spec.specs.Operations.{Operation, lookup, getattr, mkdir, create, unlink, rmdir, rename, link, opening, readdir, read, write, Reply, found, missing, created, opened, attributes, listed, content, written, agreed, done, failed, reply_with, files_in_reply}
+use Rattle.fuse_spec.specs.Operations.{Operation, lookup, getattr, mkdir, create, unlink, rmdir, rename, link, opening, readdir, readdirplus, read, write, DirentPlus, told_by, files_told, Reply, found, missing, created, opened, attributes, listed, listed_plus, content, written, agreed, done, failed, reply_with, files_in_reply}
 use Rattle.fuse_spec.specs.Answers as answer
-use Rattle.fuse_spec.specs.Trees.{record_length}
+use Rattle.fuse_spec.specs.Trees.{record_length, pair_length}
 use Rattle.fuse_spec.specs.Vfs.{CallState, asked, answered}
 use Rattle.fuse_spec.specs.CallReplies.{call_replied}
 use Rattle.fuse_spec.specs.declared.Opened.{Opened}
@@ -18,6 +18,7 @@ use Rattle.fuse_spec.specs.declared.InterruptReply.TheVariants.{Again, NotSuppor
 use Rattle.fuse_spec.specs.declared.WriteResult.{WriteResult}
 use Rattle.fuse_spec.specs.declared.WriteResult.TheVariants.{Accepted, NoEntry, Invalid}
 use Rattle.fuse_spec.specs.Messages.{WireReply}
+use Rattle.fuse_spec.specs.Queues.{QueueState}
 use Rattle.fuse_spec.specs.QueueCalls.{waiting, without, after_interrupt_reply, after_forget}
 use Rattle.fuse_spec.specs.Kernel.{Kernel, advanced, after_use, kernel_aborted}
 
@@ -38,6 +39,7 @@ goes_with (rmdir d name) done = true
 goes_with (rename d old e new) done = true
 goes_with (opening x) (opened fh) = true
 goes_with (readdir d after size) (listed records) = nat_le (sum_by record_length records) size
+goes_with (readdirplus d after size) (listed_plus pairs) = nat_le (sum_by pair_length pairs) size
 goes_with (read o offset size) (content bytes) = nat_le (length bytes) size
 goes_with (write o offset bytes) (written size) = nat_le size (length bytes)
 goes_with operation wire = false
@@ -112,10 +114,68 @@ judged k call state wire usable =
 judged k call state wire useless = record k { vfs = answered k.vfs call (answer.failed eio) }
 judged k call state wire (stale node) = record k { vfs = answered k.vfs call (answer.failed eio); queues = after_forget k.queues node 1 }
 
+-- ---- names in a list, with their files
+
+-- Whether the entry of a name in a list can be used; one that tells no file need not be. (this project's rule)
+abbrev pub use_of_told : Map Counted → Option Entry → Use
+use_of_told nodes None = usable
+use_of_told nodes (Some g) = use_of nodes g
+
+-- A name in a list as the kernel takes it: where its entry can't be used, it tells no file. (this project's rule)
+abbrev pub pair_judged : DirentPlus Entry → Use → DirentPlus Entry
+pair_judged pair usable = pair
+pair_judged pair useless = record pair { file = None }
+pair_judged pair (stale node) = record pair { file = None }
+
+-- The kernel's counts after such a name. (linux/fuse.h, struct fuse_direntplus)
+abbrev pub learnt_by : Map Counted → DirentPlus Entry → Map Counted
+learnt_by nodes pair = learnt nodes (files_told (pair_judged pair (use_of_told nodes (told_by pair)) ∷ []))
+
+-- The names of a list, each judged by the counts that those before it left. (this project's rule)
+abbrev pub pairs_judged : Map Counted → List (DirentPlus Entry) → List (DirentPlus Entry)
+pairs_judged nodes [] = []
+pairs_judged nodes (pair ∷ pairs) = pair_judged pair (use_of_told nodes (told_by pair)) ∷ pairs_judged (learnt_by nodes pair) pairs
+
+-- The next two are the nodes that names of a list tell under another generation than they are counted. (this project's rule)
+abbrev pub stale_in : Use → List ℕ
+stale_in usable = []
+stale_in useless = []
+stale_in (stale node) = node ∷ []
+
+abbrev pub stale_among : Map Counted → List (DirentPlus Entry) → List ℕ
+stale_among nodes [] = []
+stale_among nodes (pair ∷ pairs) = stale_in (use_of_told nodes (told_by pair)) ++ stale_among (learnt_by nodes pair) pairs
+
+-- One lookup of each of these nodes is forgotten. (libfuse, low-level: forget)
+abbrev pub each_forgotten : QueueState Purpose → List ℕ → QueueState Purpose
+each_forgotten q nodes = record q { forgets = q.forgets ++ map (λ node. (node, 1)) nodes }
+
+-- The next three are a reply as the kernel takes it, whether its entries can be used, and the nodes to be forgotten once. The names of a list are judged one by
+-- one, which never fails the call. (this project's rule)
+abbrev pub reply_judged : Map Counted → WireReply → WireReply
+reply_judged nodes (listed_plus pairs) = listed_plus (pairs_judged nodes pairs)
+reply_judged nodes wire = wire
+
+abbrev pub use_of_reply : Map Counted → WireReply → Use
+use_of_reply nodes (listed_plus pairs) = usable
+use_of_reply nodes wire = use_of_all nodes (files_in_reply wire)
+
+abbrev pub stale_in_reply : Map Counted → WireReply → List ℕ
+stale_in_reply nodes (listed_plus pairs) = stale_among nodes pairs
+stale_in_reply nodes wire = []
+
+-- The kernel once those are to be forgotten. (libfuse, low-level: forget)
+abbrev pub without_stale : Kernel → WireReply → Kernel
+without_stale k wire = record k { queues = each_forgotten k.queues (stale_in_reply k.nodes wire) }
+
+-- A reply that goes with what the call asked reaches the call. (this project's rule)
+abbrev pub heard : Kernel → ℕ → CallState Opened → WireReply → Kernel
+heard k call state wire = judged (without_stale k wire) call state (reply_judged k.nodes wire) (use_of_reply k.nodes wire)
+
 -- The reply to the call's request: its body goes with the request and is accepted, or is a wrong body, which is EINVAL to the writer and EIO to the call.
 -- (Linux VFS)
 abbrev pub replied : Kernel → ℕ → CallState Opened → Bool → WireReply → WriteResult × Kernel
-replied k call state true wire = (Accepted, after_use (judged k call state wire (use_of_all k.nodes (files_in_reply wire))) state)
+replied k call state true wire = (Accepted, after_use (heard k call state wire) state)
 replied k call state false wire = (Invalid, after_use (record k { vfs = answered k.vfs call (answer.failed eio) }) state)
 
 -- The reply to a call's request reaches the call, if that is still unanswered. (Linux VFS)

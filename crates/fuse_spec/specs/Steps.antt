@@ -1,6 +1,7 @@
 -- One event: exactly which refusal it gets, or what it does. The server may choose the ids that it gives; all else is determined.
 use Rattle.std.specs.Prelude.{◌≡◌, ◌⊎◌, ℕ, ◌+◌, Bool, true, false, ◌&&◌, ◌||◌, cond, not, List, [], ◌∷◌, Option, Some, None, Result, Ok, Err, length, nat_eq, nat_lt, nat_le, slice_get, max}
-use Rattle.fuse_spec.specs.Maps.{get, get_name}
+use Rattle.std.specs.List.{list_any}
+use Rattle.fuse_spec.specs.Maps.{get, get_name, values}
 use Rattle.fuse_spec.specs.Numbers.{max_calls, max_validity, clock_end, counter_end}
 use Rattle.fuse_spec.specs.Operations.{errno_of}
 use Rattle.fuse_spec.specs.Vfs.{CallState}
@@ -21,11 +22,11 @@ use Rattle.fuse_spec.specs.Uniques.{interrupt_number}
 use Rattle.fuse_spec.specs.Messages.{Forget, Request, RequestBody}
 use Rattle.fuse_spec.specs.Kernel.{Kernel, is_live, body_of, call_signalled, is_pinned, is_bound}
 use Rattle.fuse_spec.specs.Replies.{reply_written}
-use Rattle.fuse_spec.specs.Nodes.{MayChoose}
+use Rattle.fuse_spec.specs.Nodes.{MayChoose, counts_out}
 use Rattle.fuse_spec.specs.Server.{HeldRequest, Kept}
 use Rattle.fuse_spec.specs.Taking.{TakeResult, taking}
 use Rattle.fuse_spec.specs.Performs.{PerformResult, served, files_given}
-use Rattle.fuse_spec.specs.Copies.{is_current}
+use Rattle.fuse_spec.specs.Copies.{is_current, files_named}
 use Rattle.fuse_spec.specs.Worlds.{World, Sent, after_mount, after_call, after_read_interrupt, after_read_forgets, after_read_pending, after_take, after_perform, after_again, after_write, after_settle, after_tick, after_drop, after_evict, after_abort}
 use Rattle.fuse_spec.specs.Events.{Event, Outcome}
 use Rattle.fuse_spec.specs.Events as event
@@ -38,14 +39,18 @@ Stepped = Result (Outcome × World) Refusal
 abbrev pub unless : Bool → Refusal → Stepped → Stepped
 unless condition refusal stepped = cond condition (Err refusal) stepped
 
--- Whether a counter would have given a number past its end. (this project's rule)
+-- Whether a node's lookups in the kernel have come to the end of counters. (this project's rule)
+abbrev pub is_counted_out : Kernel → Bool
+is_counted_out k = list_any (λ (node : Counted). nat_le counter_end node.count) (values k.nodes)
+
+-- Whether a counter would have given a number past its end, or a node's count come to it. (this project's rule)
 abbrev pub is_past : World → Bool
 is_past w =
     nat_lt counter_end w.kernel.queues.next || (nat_lt counter_end w.kernel.vfs.next_call
     || (nat_lt counter_end w.server.tree.next_birth || (nat_lt counter_end w.server.tree.next_serial || (nat_lt counter_end w.server.nodes.next_generation
-    || (nat_lt counter_end w.server.handles.next_fh || nat_lt counter_end w.server.next_copy)))))
+    || (nat_lt counter_end w.server.handles.next_fh || (nat_lt counter_end w.server.next_copy || is_counted_out w.kernel))))))
 
--- The outcome, unless a counter would have to go past its end. (this project's rule)
+-- The outcome, unless a counter would have to go past its end or a node's count to come to it. (this project's rule)
 abbrev pub going : Outcome → World → Stepped
 going outcome w = unless (is_past w) refusal.Exhausted (Ok (outcome, w))
 
@@ -104,12 +109,15 @@ performed_as w unique did = going (event.performed unique (errno_of did.wire) w.
 -- The held request under this unique is performed, or there is none. (this project's rule)
 abbrev pub performing_held : (ℕ → ℕ) → World → ℕ → Option HeldRequest → Stepped
 performing_held choice w unique None = Err refusal.NoSuch
-performing_held choice w unique (Some taken) = performed_as w unique (served choice w.server unique taken)
+performing_held choice w unique (Some taken) =
+    unless (counts_out w.server.nodes (files_given w.server taken)) refusal.Exhausted (performed_as w unique (served choice w.server unique taken))
 
 -- One more copy of a kept reply goes out; none where no reply is kept, or what it names is gone. (this project's rule)
 abbrev pub sending_again : World → ℕ → Option Kept → Stepped
 sending_again w unique None = Err refusal.NoCopy
-sending_again w unique (Some kept) = unless (not (is_current w.server kept.wire)) refusal.NoCopy (going (event.sent_again unique) (after_again w unique kept))
+sending_again w unique (Some kept) =
+    unless (not (is_current w.server kept.wire)) refusal.NoCopy
+    (unless (counts_out w.server.nodes (files_named w.server kept.wire)) refusal.Exhausted (going (event.sent_again unique) (after_again w unique kept)))
 
 -- A copy is taken by the kernel, with the result for its writer. (this project's rule)
 abbrev pub written_as : World → ℕ → Sent → WriteResult × Kernel → Stepped

@@ -6,7 +6,7 @@ use Rattle.fuse_spec.specs.Paths.{Name}
 use Rattle.fuse_spec.specs.declared.Kind.{Kind}
 use Rattle.fuse_spec.specs.declared.Kind.TheVariants.{Directory, Regular, Other}
 use Rattle.fuse_spec.specs.declared.Attributes.{Attributes}
-use Rattle.fuse_spec.specs.Operations.{Dirent}
+use Rattle.fuse_spec.specs.Operations.{Dirent, DirentPlus}
 
 -- What a file is: a directory, or some bytes. (this project's rule)
 pub data Content : Type 0 where
@@ -136,3 +136,20 @@ fitting room (r ∷ records) = cond (nat_le (record_length r) room) (r ∷ fitti
 -- The records of the names in a directory whose serial is over `after`, which is the offset from which to read on. (libfuse, low-level: readdir)
 abbrev pub records_after : Tree → ℕ → ℕ → List Dirent
 records_after tree dir after = map (record_of tree) (filter (λ n. nat_lt after n.serial) (names_in tree dir))
+
+-- How long a name of READDIRPLUS is: an entry of 128 bytes, and the record. (linux/fuse.h, struct fuse_direntplus)
+abbrev pub pair_length : {F : Type 0} → DirentPlus F → ℕ
+pair_length pair = 128 + record_length pair.dirent
+
+-- A name as READDIRPLUS lists it: with its file, to which it leads for so many milliseconds. (linux/fuse.h, struct fuse_direntplus)
+abbrev pub pair_of : (valid : ℕ) → Tree → Named → DirentPlus ℕ
+pair_of valid tree n = record { file = Some n.file; valid = valid; dirent = record_of tree n }
+
+-- As many of these as fit so many bytes, from the first on. (libfuse, low-level: readdirplus)
+abbrev pub fitting_pairs : ℕ → List (DirentPlus ℕ) → List (DirentPlus ℕ)
+fitting_pairs room [] = []
+fitting_pairs room (r ∷ pairs) = cond (nat_le (pair_length r) room) (r ∷ fitting_pairs (room - pair_length r) pairs) []
+
+-- The same of the names in a directory as READDIRPLUS lists them. (libfuse, low-level: readdirplus)
+abbrev pub pairs_after : (valid : ℕ) → Tree → ℕ → ℕ → List (DirentPlus ℕ)
+pairs_after valid tree dir after = map (pair_of valid tree) (filter (λ n. nat_lt after n.serial) (names_in tree dir))

@@ -13,6 +13,10 @@ pub mod IdUsedAgainWhileOlderReplyIsKept
 pub mod InterruptMarkBelongsToTheRequest
 pub mod LinkCountsTheSameNode
 pub mod ListAndListFromAnOffset
+pub mod ListplusCountsAndBindsEachName
+pub mod ListplusOfThirtyNamesInTwoReplies
+pub mod ListplusOneFileUnderTwoNames
+pub mod ListplusRefusedCopyGivesEveryCountBack
 pub mod LookupInAFileOpenReleaseAndGap
 pub mod MountBusyWithAnOpenFile
 pub mod NameLengthsAndPathFaults

@@ -21,7 +21,8 @@ use Rattle.fuse_spec.specs.Kernel.{Kernel, kernel_aborted, is_aborted, advanced,
 use Rattle.fuse_spec.specs.Messages.{WireReply}
 use Rattle.fuse_spec.specs.Operations.{Operation, done, failed, files_in_reply}
 use Rattle.fuse_spec.specs.QueueCalls.{waiting, without, after_interrupt, interrupt_effect}
-use Rattle.fuse_spec.specs.Replies.{kernel_reply, learnt, Use, usable, useless, stale, use_of_all, goes_with, is_agreement, judged, replied, replied_to_call, ended_by, reply_taken, odd_taken, interrupt_replied, reply_written}
+use Rattle.fuse_spec.specs.Queues.{QueueState}
+use Rattle.fuse_spec.specs.Replies.{kernel_reply, learnt, Use, usable, useless, stale, goes_with, is_agreement, judged, replied, replied_to_call, ended_by, reply_taken, odd_taken, interrupt_replied, reply_written, heard, without_stale, reply_judged, use_of_reply}
 use Rattle.fuse_spec.specs.Vfs.{asked, CallState, walking, doing, using, Vfs, Advance, answered, begun, all_answered, given_up}
 use Rattle.fuse_spec.specs.Taking.{taking}
 use Rattle.fuse_spec.specs.Performs.{served}
@@ -183,20 +184,25 @@ module _ (k : Kernel) (sound : AnswersSound k.vfs) where
       by None = as_they_were k.vfs sound
       by (Some unique) = effect unique (interrupt_effect k.queues unique fatal)
 
-  judged_changes : (call : ℕ) (state : CallState Opened) (wire : WireReply) (u : Use) → ChangesCall k.vfs call (judged k call state wire u).vfs
-  judged_changes call state wire usable =
+  judged_changes : (q : QueueState Purpose) (call : ℕ) (state : CallState Opened) (wire : WireReply) (u : Use) → ChangesCall k.vfs call (judged (record k { queues = q }) call state wire u).vfs
+  judged_changes q call state wire usable =
       let next = call_replied k.vfs call state (kernel_reply (asked state) wire) in
-      subst (λ (d : Vfs Opened). ChangesCall k.vfs call d) (sym (advanced_vfs (record k { nodes = learnt k.nodes (files_in_reply wire) }) call next)) (replied_changes k.vfs call state (kernel_reply (asked state) wire))
-  judged_changes call state wire useless = answered_changes k.vfs call (answer.failed 5)
-  judged_changes call state wire (stale node) = answered_changes k.vfs call (answer.failed 5)
+      subst (λ (d : Vfs Opened). ChangesCall k.vfs call d) (sym (advanced_vfs (record k { queues = q; nodes = learnt k.nodes (files_in_reply wire) }) call next)) (replied_changes k.vfs call state (kernel_reply (asked state) wire))
+  judged_changes q call state wire useless = answered_changes k.vfs call (answer.failed 5)
+  judged_changes q call state wire (stale node) = answered_changes k.vfs call (answer.failed 5)
 
   -- A reply reaches a call.
   call_hears : (call : ℕ) (wire : WireReply) (o : Option (CallState Opened)) → get k.vfs.calls call ≡ o → CallsStay false k.vfs (replied_to_call k call wire o).1.vfs
   call_hears call wire None there = as_they_were k.vfs sound
   call_hears call wire (Some state) there = by (goes_with (asked state) wire)
     where
+<<<<<<< ours
       by : (b : Bool) → CallsStay false k.vfs (replied k call state b wire).1.vfs
       by true = let u = use_of_all k.nodes (files_in_reply wire) in used_after call state there (judged k call state wire u) (judged_changes call state wire u)
+=======
+      by : (b : Bool) → CallsStay k.vfs (replied k call state b wire).1.vfs
+      by true = used_after call state there (heard k call state wire) (judged_changes (without_stale k wire).queues call state (reply_judged k.nodes wire) (use_of_reply k.nodes wire))
+>>>>>>> theirs
       by false = used_after call state there (record k { vfs = answered k.vfs call (answer.failed 5) }) (answered_changes k.vfs call (answer.failed 5))
 
 -- A reply is written.

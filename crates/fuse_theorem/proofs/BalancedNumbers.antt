@@ -6,7 +6,7 @@ use Rattle.fuse_spec.specs.declared.Purpose.{Purpose}
 use Rattle.fuse_spec.specs.declared.Purpose.TheVariants as purpose
 use Rattle.fuse_spec.specs.Maps.{get}
 use Rattle.fuse_spec.specs.Messages.{RequestBody, init, asks, release, forget, batch_forget, interrupt}
-use Rattle.fuse_spec.specs.Operations.{Operation, lookup, getattr, mkdir, create, unlink, rmdir, rename, link, opening, readdir, read, write}
+use Rattle.fuse_spec.specs.Operations.{Operation, lookup, getattr, mkdir, create, unlink, rmdir, rename, link, opening, readdir, readdirplus, read, write}
 use Rattle.fuse_spec.specs.Vfs.{CallState, asked}
 use Rattle.fuse_spec.specs.Kernel.{is_live, asked_by, body_of}
 use Rattle.fuse_spec.specs.Nodes.{file_of, is_open}
@@ -47,6 +47,7 @@ module _ (w : World) (p : Plain) (same : Alike w p) (requests : RequestsAskedWhi
   of_operation (link x d name) o among is = none o among
   of_operation (opening x) o among is = none o among
   of_operation (readdir d after size) o among is = none o among
+  of_operation (readdirplus d after size) o among is = none o among
 
   module _ (unique : ℕ) (t : HeldRequest) (there : get w.server.held unique ≡ Some t) (o : Opened) where
     of_body : (body : RequestBody) → t.body ≡ body → Contains (opens_of_body body) o → IsItsNodes o

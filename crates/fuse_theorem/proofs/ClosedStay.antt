@@ -24,10 +24,10 @@ use Rattle.fuse_spec.specs.Counts.{opens_of}
 use Rattle.fuse_spec.specs.Kernel.{Kernel, is_using, is_aborted, is_used, request_of, kernel_aborted, asking_for, advanced, released, released_if_idle, after_use, closed_by, closing_of, call_begun, after_signal, signalled_at, call_signalled}
 use Rattle.fuse_spec.specs.Maps.{Map, NameMap, get, put, remove, values}
 use Rattle.fuse_spec.specs.Messages.{WireReply}
-use Rattle.fuse_spec.specs.Operations.{Operation, Reply, getattr, mkdir, create, unlink, rmdir, rename, link, opening, readdir, read, write, found, missing, created, opened, attributes, listed, content, written, done, failed, files_in_reply}
+use Rattle.fuse_spec.specs.Operations.{Operation, Reply, getattr, mkdir, create, unlink, rmdir, rename, link, opening, readdir, readdirplus, read, write, found, missing, created, opened, attributes, listed, listed_plus, content, written, done, failed, files_in_reply}
 use Rattle.fuse_spec.specs.Paths.{Name, words_of, parent_and_last}
 use Rattle.fuse_spec.specs.QueueCalls.{after_effect, interrupt_effect, waiting, without}
-use Rattle.fuse_spec.specs.Replies.{kernel_reply, learnt, Use, usable, useless, stale, use_of_all, goes_with, is_agreement, judged, replied, replied_to_call, reply_taken, odd_taken, interrupt_replied, reply_written}
+use Rattle.fuse_spec.specs.Replies.{kernel_reply, learnt, Use, usable, useless, stale, goes_with, is_agreement, judged, replied, replied_to_call, reply_taken, odd_taken, interrupt_replied, reply_written, heard, without_stale, reply_judged, use_of_reply}
 use Rattle.fuse_spec.specs.Taking.{taking}
 use Rattle.fuse_spec.specs.Performs.{served}
 use Rattle.fuse_spec.specs.Vfs.{CallState, walking, doing, using, asked, Vfs, Advance, answered, bound, look, after_walk, after_beginning, numbered, begun, given_up}
@@ -140,6 +140,7 @@ module _ (c : Vfs Opened) (closing : Map Opened) (old : ClosedFiles c closing) (
   operation_so (rename d from e new) done = ends_so _ _
   operation_so (opening file) (opened o) = opens_so o _ _
   operation_so (readdir d after size) (listed records) = ends_so _ _
+  operation_so (readdirplus d after size) (listed_plus pairs) = ends_so _ _
   operation_so (read o offset size) (content bytes) = ends_so _ _
   operation_so (write o offset bytes) (written size) = ends_so _ _
   operation_so operation reply = ends_so _ _
@@ -249,6 +250,7 @@ module _ (k : Kernel) (old : ClosedFiles k.vfs k.closing) where
   by_call_of : (x : Call) → Begun false x
   by_call_of (call.stat path) = others (call.stat path) refl (whole_on k.vfs.opens path _ (λ words. tt))
   by_call_of (call.list path after) = others (call.list path after) refl (whole_on k.vfs.opens path _ (λ words. tt))
+  by_call_of (call.listplus path after) = others (call.listplus path after) refl (whole_on k.vfs.opens path _ (λ words. tt))
   by_call_of (call.opening path) = others (call.opening path) refl (whole_on k.vfs.opens path _ (λ words. tt))
   by_call_of (call.mkdir path) = others (call.mkdir path) refl (parent_on k.vfs.opens path _ (λ words name. tt))
   by_call_of (call.create path) = others (call.create path) refl (parent_on k.vfs.opens path _ (λ words name. tt))
@@ -289,15 +291,15 @@ heard_closes : (k : Kernel) → ClosedFiles k.vfs k.closing → (call : ℕ) (wi
 heard_closes k old call wire None there = old
 heard_closes k old call wire (Some state) there = by (goes_with (asked state) wire)
   where
-    judged_so : (u : Use) → ClosedBut (λ h. is_using h state) (judged k call state wire u).vfs (judged k call state wire u).closing
-    judged_so usable =
-        let reply = kernel_reply (asked state) wire in
-        advanced_but (λ h. is_using h state) (record k { nodes = learnt k.nodes (files_in_reply wire) }) call (call_replied k.vfs call state reply) (replied_so k.vfs k.closing old call state there reply state)
-    judged_so useless = answered_so k.vfs k.closing old call state there (answer.failed 5)
-    judged_so (stale node) = answered_so k.vfs k.closing old call state there (answer.failed 5)
+    judged_so : (x : WireReply) (u : Use) → ClosedBut (λ h. is_using h state) (judged (without_stale k wire) call state x u).vfs (judged (without_stale k wire) call state x u).closing
+    judged_so x usable =
+        let reply = kernel_reply (asked state) x in
+        advanced_but (λ h. is_using h state) (record (without_stale k wire) { nodes = learnt k.nodes (files_in_reply x) }) call (call_replied k.vfs call state reply) (replied_so k.vfs k.closing old call state there reply state)
+    judged_so x useless = answered_so k.vfs k.closing old call state there (answer.failed 5)
+    judged_so x (stale node) = answered_so k.vfs k.closing old call state there (answer.failed 5)
 
     by : (b : Bool) → After (replied k call state b wire).1
-    by true = let u = use_of_all k.nodes (files_in_reply wire) in used_closes (judged k call state wire u) state (judged_so u)
+    by true = used_closes (heard k call state wire) state (judged_so (reply_judged k.nodes wire) (use_of_reply k.nodes wire))
     by false = used_closes (record k { vfs = answered k.vfs call (answer.failed 5) }) state (answered_so k.vfs k.closing old call state there (answer.failed 5))
 
 -- Everything is given up.

@@ -1,4 +1,5 @@
 -- Each event that is not refused, where its conditions hold: the plain world takes its step, and the two are alike.
+use Rattle.fuse_spec.specs.Nodes.{counts_out}
 use Rattle.std.proofs.Common.{◌≡◌, ℕ, ◌+◌, ◌-◌, ◌%◌, Bool, true, false, not, ◌||◌, cond, List, [], ◌∷◌, Option, Some, None, Ok, nat_eq, length, slice_get, option_map, refl, ap, sym, subst, ◌∙◌}
 use Rattle.std.specs.Prelude.{nat_lt, nat_le, max}
 use Rattle.std.specs.List.{remove}
@@ -24,9 +25,9 @@ use Rattle.fuse_spec.specs.Paths.{Name}
 use Rattle.fuse_spec.specs.Kernel.{Kernel, is_live, body_of, call_signalled, is_pinned, is_bound}
 use Rattle.fuse_spec.specs.Replies.{reply_written, reply_taken, odd_taken, replied_to_call}
 use Rattle.fuse_spec.specs.Server.{HeldRequest, Kept, Copy, holding}
-use Rattle.fuse_spec.specs.Copies.{is_current}
+use Rattle.fuse_spec.specs.Copies.{is_current, files_named}
 use Rattle.fuse_spec.specs.Taking.{taking}
-use Rattle.fuse_spec.specs.Performs.{served}
+use Rattle.fuse_spec.specs.Performs.{served, files_given}
 use Rattle.fuse_spec.specs.Worlds.{World, Sent, after_mount, after_call, after_read_interrupt, after_read_forgets, after_read_pending, after_take, after_perform, after_again, after_write, after_settle, after_tick, after_drop, after_evict, after_abort}
 use Rattle.fuse_spec.specs.Events.{Event, Outcome}
 use Rattle.fuse_spec.specs.Events as event
@@ -163,7 +164,8 @@ module _ (w : World) (p : Plain) (same : Alike w p) (o : Outcome) (last : World)
       by (Some t) at f =
           let did = served choice w.server unique t in
           let outcome = event.performed unique (errno_of did.wire) w.server.aborted in
-          let went = going_ok outcome (after_perform w unique did) o last f in
+          let few = unless_ok (counts_out w.server.nodes (files_given w.server t)) refusal.Exhausted (going outcome (after_perform w unique did)) o last f in
+          let went = going_ok outcome (after_perform w unique did) o last few.rest in
           led p (event.perform unique) outcome (after_perform w unique did) o last went.leads (serves t at (needs t at))
 
   sends_again : (unique : ℕ) (choice : ℕ → ℕ) → Needs choice w p (event.again unique) → step choice w (event.again unique) ≡ Ok (o, last) → Moves p (event.again unique) o last
@@ -172,8 +174,11 @@ module _ (w : World) (p : Plain) (same : Alike w p) (o : Outcome) (last : World)
       by : (x : Option Kept) → get w.server.kept unique ≡ x → sending_again w unique x ≡ Ok (o, last) → Moves p (event.again unique) o last
       by None at f = absurd (cc)
       by (Some kept) at f =
-          let current = unless_ok (not (is_current w.server kept.wire)) refusal.NoCopy (going (event.sent_again unique) (after_again w unique kept)) o last f in
-          let went = going_ok (event.sent_again unique) (after_again w unique kept) o last current.rest in
+          let out = counts_out w.server.nodes (files_named w.server kept.wire) in
+          let gone = going (event.sent_again unique) (after_again w unique kept) in
+          let current = unless_ok (not (is_current w.server kept.wire)) refusal.NoCopy (unless out refusal.Exhausted gone) o last f in
+          let few = unless_ok out refusal.Exhausted gone o last current.rest in
+          let went = going_ok (event.sent_again unique) (after_again w unique kept) o last few.rest in
           led p (event.again unique) (event.sent_again unique) (after_again w unique kept) o last went.leads
           (stays p (event.again unique) (event.sent_again unique) (after_again w unique kept) (0, refl) (again_alike w p (one_to_one w.kernel.nodes w.server.nodes needs.0) needs.1 same unique kept at))
 

@@ -1,9 +1,9 @@
 -- Each forget that is queued or sent is of a node from 2 up and of one lookup at least, and no reply is kept under the number of an INTERRUPT.
-use Rattle.std.proofs.Common.{◌≡◌, ℕ, ◌+◌, ◌-◌, ◌≤◌, Bool, true, false, true≢false, cond, List, [], ◌∷◌, take, drop, Option, Some, None, nat_eq, slice_get, refl, ap, sym, subst, ◌∙◌, arith, inl, inr, All}
+use Rattle.std.proofs.Common.{◌≡◌, ℕ, ◌+◌, ◌-◌, ◌≤◌, Bool, true, false, true≢false, cond, List, [], ◌∷◌, take, drop, map, Option, Some, None, nat_eq, slice_get, refl, ap, sym, subst, ◌∙◌, arith, inl, inr, All}
 use Rattle.std.specs.Prelude.{◌%◌, nat_lt}
 use Rattle.std.specs.List.{remove as without_at}
 use Rattle.std.proofs.lemmas.Bool.Decides.{nat_tests}
-use Rattle.std.proofs.lemmas.List.Elements.{All-nil, All-push, All-take, All-drop}
+use Rattle.std.proofs.lemmas.List.Elements.{All-nil, All-cons, All-head, All-tail, All-append, All-push, All-take, All-drop}
 use Rattle.fuse_spec.specs.declared.Counted.{Counted}
 use Rattle.fuse_spec.specs.declared.Entry.{Entry}
 use Rattle.fuse_spec.specs.declared.Phase.TheVariants.{Ready}
@@ -15,11 +15,11 @@ use Rattle.fuse_spec.specs.CallReplies.{call_replied}
 use Rattle.fuse_spec.specs.Kernel.{Kernel, is_live, kernel_aborted}
 use Rattle.fuse_spec.specs.Maps.{Map, get, put, remove}
 use Rattle.fuse_spec.specs.Messages.{Forget, Request, RequestBody, init, asks, release, forget, batch_forget, interrupt, WireReply}
-use Rattle.fuse_spec.specs.Operations.{done, failed, files_in_reply}
+use Rattle.fuse_spec.specs.Operations.{DirentPlus, told_by, listed_plus, done, failed, files_in_reply}
 use Rattle.fuse_spec.specs.Performs.{performed, served}
 use Rattle.fuse_spec.specs.QueueCalls.{can_read_forgets, waiting, without}
 use Rattle.fuse_spec.specs.Queues.{pending}
-use Rattle.fuse_spec.specs.Replies.{kernel_reply, learnt, Use, usable, useless, stale, use_counted, first_use, use_of_all, goes_with, is_agreement, judged, replied, replied_to_call, reply_taken, odd_taken, interrupt_replied, interrupt_reply_of, reply_written}
+use Rattle.fuse_spec.specs.Replies.{kernel_reply, learnt, Use, usable, useless, stale, use_counted, first_use, use_of_all, goes_with, is_agreement, judged, replied, replied_to_call, reply_taken, odd_taken, interrupt_replied, interrupt_reply_of, reply_written, heard, without_stale, reply_judged, use_of_reply, use_of, use_of_told, learnt_by, stale_in, stale_among, stale_in_reply}
 use Rattle.fuse_spec.specs.Server.{Server, HeldRequest, Kept, forgets_of}
 use Rattle.fuse_spec.specs.Taking.{taking}
 use Rattle.fuse_spec.specs.Vfs.{CallState, asked, answered}
@@ -47,6 +47,9 @@ same_forgets fs gs same h = subst (All IsForget) (sym same) h
 
 -- ---- what the kernel queues
 
+abbrev Low : ℕ → Type 0
+Low node = 2 ≤ node
+
 -- An entry that is stale names a node from 2 up.
 stale_low : (nodes : Map Counted) (gs : List Entry) (node : ℕ) → use_of_all nodes gs ≡ stale node → 2 ≤ node
 stale_low nodes [] node e = absurd (cc (e))
@@ -64,24 +67,52 @@ stale_low nodes (g ∷ gs) node e = by (nat_lt g.nodeid 2) refl (get nodes g.nod
     by true is o f rest = absurd (cc (f))
     by false is o f rest = of_counted o (grind (arith, nat_tests, is)) f rest
 
+-- .. so does one of a list
+told_low : (nodes : Map Counted) (o : Option Entry) → All Low (stale_in (use_of_told nodes o))
+told_low nodes None = All-nil Low
+told_low nodes (Some g) = by (use_of nodes g) refl
+  where
+    by : (u : Use) → use_of nodes g ≡ u → All Low (stale_in u)
+    by usable e = All-nil Low
+    by useless e = All-nil Low
+    by (stale node) e = All-cons Low node [] (stale_low nodes (g ∷ []) node (ap (λ (u : Use). first_use u usable) e)) (All-nil Low)
+
+among_low : (pairs : List (DirentPlus Entry)) (nodes : Map Counted) → All Low (stale_among nodes pairs)
+among_low [] nodes = All-nil Low
+among_low (pair ∷ pairs) nodes = All-append Low (stale_in (use_of_told nodes (told_by pair))) (stale_among (learnt_by nodes pair) pairs) (told_low nodes (told_by pair)) (among_low pairs (learnt_by nodes pair))
+
+in_reply_low : (nodes : Map Counted) (wire : WireReply) → All Low (stale_in_reply nodes wire)
+in_reply_low nodes (listed_plus pairs) = among_low pairs nodes
+in_reply_low nodes wire = All-nil Low
+
+of_reply_low : (nodes : Map Counted) (wire : WireReply) (node : ℕ) → use_of_reply nodes wire ≡ stale node → 2 ≤ node
+of_reply_low nodes (listed_plus pairs) node e = absurd (cc (e))
+of_reply_low nodes wire node e = stale_low nodes (files_in_reply wire) node e
+
+each_forget : (nodes : List ℕ) → All Low nodes → All IsForget (map (λ node. (node, 1)) nodes)
+each_forget [] h = All-nil IsForget
+each_forget (node ∷ nodes) h = All-cons IsForget (node, 1) (map (λ n. (n, 1)) nodes) (All-head Low node nodes h, omega arith) (each_forget nodes (All-tail Low node nodes h))
+
 heard_forgets : (k : Kernel) → All IsForget k.queues.forgets → (call : ℕ) (wire : WireReply) (o : Option (CallState Opened)) → All IsForget (replied_to_call k call wire o).1.queues.forgets
 heard_forgets k old call wire None = old
 heard_forgets k old call wire (Some state) = by (goes_with (asked state) wire)
   where
-    judged_forgets : (u : Use) → use_of_all k.nodes (files_in_reply wire) ≡ u → All IsForget (judged k call state wire u).queues.forgets
-    judged_forgets usable is =
-        let k1 = record k { nodes = learnt k.nodes (files_in_reply wire) } in
-        let same = advanced_same k1 call (call_replied k.vfs call state (kernel_reply (asked state) wire)) in
-        same_forgets k.queues.forgets _ same.forgets old
-    judged_forgets useless is = old
-    judged_forgets (stale node) is = All-push IsForget k.queues.forgets (node, 1) old (stale_low k.nodes (files_in_reply wire) node is, omega arith)
+    stale_old : All IsForget (without_stale k wire).queues.forgets
+    stale_old = All-append IsForget k.queues.forgets _ old (each_forget (stale_in_reply k.nodes wire) (in_reply_low k.nodes wire))
+
+    judged_forgets : (x : WireReply) (u : Use) → ((node : ℕ) → u ≡ stale node → 2 ≤ node) → All IsForget (judged (without_stale k wire) call state x u).queues.forgets
+    judged_forgets x usable low =
+        let k1 = record (without_stale k wire) { nodes = learnt k.nodes (files_in_reply x) } in
+        let same = advanced_same k1 call (call_replied k.vfs call state (kernel_reply (asked state) x)) in
+        same_forgets (without_stale k wire).queues.forgets _ same.forgets stale_old
+    judged_forgets x useless low = stale_old
+    judged_forgets x (stale node) low = All-push IsForget (without_stale k wire).queues.forgets (node, 1) stale_old (low node refl, omega arith)
 
     by : (b : Bool) → All IsForget (replied k call state b wire).1.queues.forgets
     by true =
-        let u = use_of_all k.nodes (files_in_reply wire) in
-        let l = judged k call state wire u in
+        let l = heard k call state wire in
         let same = used_same l state in
-        same_forgets l.queues.forgets _ same.forgets (judged_forgets u refl)
+        same_forgets l.queues.forgets _ same.forgets (judged_forgets (reply_judged k.nodes wire) (use_of_reply k.nodes wire) (of_reply_low k.nodes wire))
     by false = let l = record k { vfs = answered k.vfs call (answer.failed 5) } in let same = used_same l state in same_forgets k.queues.forgets _ same.forgets old
 
 written_forgets : (k : Kernel) → All IsForget k.queues.forgets → (unique : ℕ) (wire : WireReply) → All IsForget (reply_written k unique wire).1.queues.forgets

@@ -13,7 +13,7 @@ use Rattle.fuse_spec.specs.Operations.{Operation, files_in_reply}
 use Rattle.fuse_spec.specs.Vfs.{CallState, walking, doing, using, asked, Advance, answered, begun}
 use Rattle.fuse_spec.specs.QueueCalls.{after_enqueue, after_effect, interrupt_effect}
 use Rattle.fuse_spec.specs.Kernel.{Kernel, is_aborted, is_used, request_of, asking_for, advanced, released, released_if_idle, after_use, closed_by, closing_of, call_begun, after_signal, signalled_at, call_signalled}
-use Rattle.fuse_spec.specs.Replies.{kernel_reply, learnt, Use, usable, useless, stale, use_of_all, goes_with, judged, replied, replied_to_call}
+use Rattle.fuse_spec.specs.Replies.{kernel_reply, learnt, Use, usable, useless, stale, goes_with, judged, replied, replied_to_call, heard, without_stale, reply_judged, use_of_reply}
 
 pub record GoesOn (k l : Kernel) : Type 0 where
   pub phase : l.phase ≡ k.phase
@@ -79,14 +79,13 @@ pub replied_goes_on : (k : Kernel) (call : ℕ) (wire : WireReply) (o : Option (
 replied_goes_on k call wire None = record { phase = refl; rises = omega arith }
 replied_goes_on k call wire (Some state) = by (goes_with (asked state) wire)
   where
-    judged_goes_on : (u : Use) → GoesOn k (judged k call state wire u)
-    judged_goes_on usable =
-        let went = advanced_goes_on (record k { nodes = learnt k.nodes (files_in_reply wire) }) call (call_replied k.vfs call state (kernel_reply (asked state) wire)) in record { phase = went.phase; rises = went.rises }
-    judged_goes_on useless = record { phase = refl; rises = omega arith }
-    judged_goes_on (stale node) = record { phase = refl; rises = omega arith }
+    judged_goes_on : (x : WireReply) (u : Use) → GoesOn k (judged (without_stale k wire) call state x u)
+    judged_goes_on x usable =
+        let went = advanced_goes_on (record (without_stale k wire) { nodes = learnt k.nodes (files_in_reply x) }) call (call_replied k.vfs call state (kernel_reply (asked state) x)) in record { phase = went.phase; rises = went.rises }
+    judged_goes_on x useless = record { phase = refl; rises = omega arith }
+    judged_goes_on x (stale node) = record { phase = refl; rises = omega arith }
 
     by : (b : Bool) → GoesOn k (replied k call state b wire).1
     by true =
-        let u = use_of_all k.nodes (files_in_reply wire) in
-        then_goes_on k (judged k call state wire u) (after_use (judged k call state wire u) state) (judged_goes_on u) (used_goes_on (judged k call state wire u) state)
+        then_goes_on k (heard k call state wire) (after_use (heard k call state wire) state) (judged_goes_on (reply_judged k.nodes wire) (use_of_reply k.nodes wire)) (used_goes_on (heard k call state wire) state)
     by false = let went = used_goes_on (record k { vfs = answered k.vfs call (answer.failed 5) }) state in record { phase = went.phase; rises = went.rises }

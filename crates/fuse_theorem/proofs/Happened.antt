@@ -20,11 +20,12 @@ use Rattle.fuse_spec.specs.Kernel.{is_live, body_of, call_signalled, is_pinned, 
 use Rattle.fuse_spec.specs.Replies.{reply_written}
 use Rattle.fuse_spec.specs.Server.{HeldRequest, Kept}
 use Rattle.fuse_spec.specs.Taking.{taking}
-use Rattle.fuse_spec.specs.Performs.{served}
-use Rattle.fuse_spec.specs.Copies.{is_current}
+use Rattle.fuse_spec.specs.Performs.{served, files_given}
+use Rattle.fuse_spec.specs.Copies.{is_current, files_named}
 use Rattle.fuse_spec.specs.Worlds.{World, Sent, after_mount, after_call, after_read_interrupt, after_read_forgets, after_read_pending, after_take, after_perform, after_again, after_write, after_settle, after_tick, after_drop, after_evict, after_abort}
 use Rattle.fuse_spec.specs.Events.{Event, Outcome}
 use Rattle.fuse_spec.specs.Events as event
+use Rattle.fuse_spec.specs.Nodes.{counts_out}
 use Rattle.fuse_spec.specs.Steps.{is_past, unless, going, is_ready, is_busy, when_not_interrupted, reading_interrupt, reading_forgets, reading_body, reading_pending, taking_request, performing_held, sending_again, writing_copy, settling, signalling, dropping, evicting, step}
 use Rattle.fuse_theorem.proofs.Finding.{other_is}
 use Rattle.fuse_theorem.proofs.Accepted.{Leads, accepted, unless_ok, going_ok, ok_is, is_not}
@@ -127,14 +128,19 @@ module _ (choice : ℕ → ℕ) (w : World) (o : Outcome) (last : World) where
       by None there f = absurd (cc)
       by (Some t) there f =
           let did = served choice w.server unique t in
-          goes (event.perform unique) (event.performed unique (errno_of did.wire) w.server.aborted) (after_perform w unique did) f (λ within. by_perform unique t there within)
+          let outcome = event.performed unique (errno_of did.wire) w.server.aborted in
+          let few = unless_ok (counts_out w.server.nodes (files_given w.server t)) refusal.Exhausted (going outcome (after_perform w unique did)) o last f in
+          goes (event.perform unique) outcome (after_perform w unique did) few.rest (λ within. by_perform unique t there within)
   happened (event.again unique) s = by (get w.server.kept unique) refl s
     where
       by : (x : Option Kept) → get w.server.kept unique ≡ x → sending_again w unique x ≡ Ok (o, last) → Happened choice w (event.again unique) o last
       by None there f = absurd (cc)
       by (Some kept) there f =
-          let current = unless_ok (not (is_current w.server kept.wire)) refusal.NoCopy (going (event.sent_again unique) (after_again w unique kept)) o last f in
-          goes (event.again unique) (event.sent_again unique) (after_again w unique kept) current.rest (λ within. by_again unique kept there (is_not (is_current w.server kept.wire) current.passed) within)
+          let out = counts_out w.server.nodes (files_named w.server kept.wire) in
+          let gone = going (event.sent_again unique) (after_again w unique kept) in
+          let current = unless_ok (not (is_current w.server kept.wire)) refusal.NoCopy (unless out refusal.Exhausted gone) o last f in
+          let few = unless_ok out refusal.Exhausted gone o last current.rest in
+          goes (event.again unique) (event.sent_again unique) (after_again w unique kept) few.rest (λ within. by_again unique kept there (is_not (is_current w.server kept.wire) current.passed) within)
   happened (event.write k) s = by (slice_get w.replies k) refl s
     where
       by : (x : Option Sent) → slice_get w.replies k ≡ x → writing_copy w k x ≡ Ok (o, last) → Happened choice w (event.write k) o last

@@ -21,7 +21,7 @@ use Rattle.fuse_spec.specs.QueueCalls.{waiting, without}
 use Rattle.fuse_spec.specs.Vfs.{CallState, asked, answered}
 use Rattle.fuse_spec.specs.Kernel.{Kernel, is_live, is_pinned, is_bound, kernel_aborted, after_use}
 use Rattle.fuse_spec.specs.Performs.{served}
-use Rattle.fuse_spec.specs.Replies.{kernel_reply, learnt, Use, usable, useless, stale, use_of_all, goes_with, is_agreement, judged, replied, replied_to_call, reply_taken, odd_taken, interrupt_replied, reply_written}
+use Rattle.fuse_spec.specs.Replies.{kernel_reply, learnt, Use, usable, useless, stale, goes_with, is_agreement, judged, replied, replied_to_call, reply_taken, odd_taken, interrupt_replied, reply_written, heard, without_stale, reply_judged, use_of_reply}
 use Rattle.fuse_spec.specs.Server.{HeldRequest, Kept, Copy, nodes_of_body}
 use Rattle.fuse_spec.specs.Taking.{taking, interrupting}
 use Rattle.fuse_spec.specs.Denotes.{generation_known}
@@ -59,19 +59,19 @@ replied_grows : (k : Kernel) (call : ℕ) (wire : WireReply) (o : Option (CallSt
 replied_grows k call wire None = λ id generation e. e
 replied_grows k call wire (Some state) = by (goes_with (asked state) wire)
   where
-    judged_grows : (u : Use) → Grows k.nodes (judged k call state wire u).nodes
-    judged_grows usable = λ id generation e.
-        let k1 = record k { nodes = learnt k.nodes (files_in_reply wire) } in
-        let same = advanced_same k1 call (call_replied k.vfs call state (kernel_reply (asked state) wire)) in
-        same_grows k1.nodes (judged k call state wire usable).nodes same.nodes id generation (learnt_known (files_in_reply wire) k.nodes id generation e)
-    judged_grows useless = λ id generation e. e
-    judged_grows (stale node) = λ id generation e. e
+    judged_grows : (x : WireReply) (u : Use) → Grows k.nodes (judged (without_stale k wire) call state x u).nodes
+    judged_grows x usable = λ id generation e.
+        let k1 = record (without_stale k wire) { nodes = learnt k.nodes (files_in_reply x) } in
+        let same = advanced_same k1 call (call_replied k.vfs call state (kernel_reply (asked state) x)) in
+        same_grows k1.nodes (judged (without_stale k wire) call state x usable).nodes same.nodes id generation (learnt_known (files_in_reply x) k.nodes id generation e)
+    judged_grows x useless = λ id generation e. e
+    judged_grows x (stale node) = λ id generation e. e
 
     by : (b : Bool) → Grows k.nodes (replied k call state b wire).1.nodes
     by true = λ id generation e.
-        let l = judged k call state wire (use_of_all k.nodes (files_in_reply wire)) in
+        let l = heard k call state wire in
         let same = used_same l state in
-        same_grows l.nodes (after_use l state).nodes same.nodes id generation (judged_grows (use_of_all k.nodes (files_in_reply wire)) id generation e)
+        same_grows l.nodes (after_use l state).nodes same.nodes id generation (judged_grows (reply_judged k.nodes wire) (use_of_reply k.nodes wire) id generation e)
     by false =
         let l = record k { vfs = answered k.vfs call (answer.failed 5) } in
         let same = used_same l state in

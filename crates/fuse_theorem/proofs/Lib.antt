@@ -1,3 +1,5 @@
+pub mod Pairs
+pub mod Judging
 pub mod Walking
 pub mod Beginning
 pub mod Cases

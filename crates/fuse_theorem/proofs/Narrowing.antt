@@ -33,6 +33,7 @@ module _ (R R' : ℕ → ℕ → Type 0) where
   pub final_within : (a b : FinalOperation ℕ) → ((id file : ℕ) → Contains (files_of_plan (last a)) id → R id file → R' id file) → FinalAlike R a b → FinalAlike R' a b
   final_within final.stat final.stat f h = h
   final_within (final.list after) (final.list after') f h = h
+  final_within (final.listplus after) (final.listplus after') f h = h
   final_within final.opening final.opening f h = h
   final_within (final.mkdir name) (final.mkdir other) f h = h
   final_within (final.create name) (final.create other) f h = h

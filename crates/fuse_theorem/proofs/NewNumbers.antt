@@ -3,7 +3,7 @@ use Rattle.std.proofs.Common.{◌≡◌, ℕ, ◌+◌, ◌≤◌, Bool, true, fa
 use Rattle.std.proofs.lemmas.Bool.Decides.{nat_tests}
 use Rattle.fuse_spec.specs.FileOperations.{FileOperation, reply_by, tree_after}
 use Rattle.fuse_spec.specs.Messages.{RequestBody, init, asks, release, forget, batch_forget, interrupt}
-use Rattle.fuse_spec.specs.Operations.{Reply, found, missing, created, opened, attributes, listed, content, written, agreed, done, failed, files_in_reply, opens_in_reply, errno_of}
+use Rattle.fuse_spec.specs.Operations.{Reply, found, missing, created, opened, attributes, listed, listed_plus, content, written, agreed, done, failed, files_in_reply, opens_in_reply, errno_of}
 use Rattle.fuse_spec.specs.Nodes.{NodeTable, HandleTable, file_of, is_open, all_given, handle_opened, all_opened, handle_more, handle_back}
 use Rattle.fuse_spec.specs.Server.{Server, HeldRequest}
 use Rattle.fuse_spec.specs.Performs.{PerformResult, file_operation_of, is_open_for, doing, wire_of, refusing, performing, performed, is_still_held}
@@ -38,6 +38,7 @@ wire_new choice t tree h (found file v) fh some = absurd (omega (arith, some))
 wire_new choice t tree h (missing v) fh some = absurd (omega (arith, some))
 wire_new choice t tree h (attributes a) fh some = absurd (omega (arith, some))
 wire_new choice t tree h (listed xs) fh some = absurd (omega (arith, some))
+wire_new choice t tree h (listed_plus xs) fh some = absurd (omega (arith, some))
 wire_new choice t tree h (content xs) fh some = absurd (omega (arith, some))
 wire_new choice t tree h (written n) fh some = absurd (omega (arith, some))
 wire_new choice t tree h (agreed a b) fh some = absurd (omega (arith, some))

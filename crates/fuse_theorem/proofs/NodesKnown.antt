@@ -21,7 +21,7 @@ use Rattle.fuse_spec.specs.Operations.{Operation, done, failed, files_in_reply}
 use Rattle.fuse_spec.specs.QueueCalls.{after_effect, interrupt_effect, waiting, without}
 use Rattle.fuse_spec.specs.Vfs.{CallState, walking, doing, using, asked, Vfs, Advance, answered, begun, given_up}
 use Rattle.fuse_spec.specs.Kernel.{Kernel, is_aborted, request_of, nodes_of_state, is_released_by, is_pinned, is_bound, kernel_aborted, asking_for, advanced, released, released_if_idle, after_use, closed_by, closing_of, call_begun, after_signal, signalled_at, call_signalled}
-use Rattle.fuse_spec.specs.Replies.{kernel_reply, learnt, counted_more, Use, usable, useless, stale, use_of_all, goes_with, is_agreement, judged, replied, replied_to_call, reply_taken, odd_taken, interrupt_replied, reply_written}
+use Rattle.fuse_spec.specs.Replies.{kernel_reply, learnt, counted_more, Use, usable, useless, stale, goes_with, is_agreement, judged, replied, replied_to_call, reply_taken, odd_taken, interrupt_replied, reply_written, heard, without_stale, reply_judged, use_of_reply}
 use Rattle.fuse_spec.specs.Denotes.{generation_known}
 use Rattle.fuse_spec.proofs.Tables.{get_put_here}
 use Rattle.fuse_spec.specs.Taking.{taking}
@@ -132,17 +132,17 @@ heard_known : (k : Kernel) → NodesKnown k → (call : ℕ) (wire : WireReply) 
 heard_known k old call wire None there = old
 heard_known k old call wire (Some state) there = by (goes_with (asked state) wire)
   where
-    judged_known : (u : Use) → NodesKnown (judged k call state wire u)
-    judged_known usable =
-        let gs = files_in_reply wire in
+    judged_known : (x : WireReply) (u : Use) → NodesKnown (judged (without_stale k wire) call state x u)
+    judged_known x usable =
+        let gs = files_in_reply x in
         let more = known_more k.nodes (learnt k.nodes gs) (learnt_more gs k.nodes) k.vfs old in
-        advanced_known (record k { nodes = learnt k.nodes gs }) call (call_replied k.vfs call state (kernel_reply (asked state) wire))
-        (replied_known (learnt k.nodes gs) k.vfs more call state wire (All-get (StateKnown (learnt k.nodes gs)) k.vfs.calls call state more.calls there) (entries_known gs k.nodes))
-    judged_known useless = answered_known k.nodes k.vfs old call (answer.failed 5)
-    judged_known (stale node) = answered_known k.nodes k.vfs old call (answer.failed 5)
+        advanced_known (record (without_stale k wire) { nodes = learnt k.nodes gs }) call (call_replied k.vfs call state (kernel_reply (asked state) x))
+        (replied_known (learnt k.nodes gs) k.vfs more call state x (All-get (StateKnown (learnt k.nodes gs)) k.vfs.calls call state more.calls there) (entries_known gs k.nodes))
+    judged_known x useless = answered_known k.nodes k.vfs old call (answer.failed 5)
+    judged_known x (stale node) = answered_known k.nodes k.vfs old call (answer.failed 5)
 
     by : (b : Bool) → NodesKnown (replied k call state b wire).1
-    by true = used_known (judged k call state wire (use_of_all k.nodes (files_in_reply wire))) state (judged_known (use_of_all k.nodes (files_in_reply wire)))
+    by true = used_known (heard k call state wire) state (judged_known (reply_judged k.nodes wire) (use_of_reply k.nodes wire))
     by false = used_known (record k { vfs = answered k.vfs call (answer.failed 5) }) state (answered_known k.nodes k.vfs old call (answer.failed 5))
 
 -- Everything is given up, and the root is known still.

@@ -1,4 +1,6 @@
 -- As the kernel takes a reply, what the copy carries is opened or refused.
+use Rattle.fuse_theorem.proofs.Judging.{heard_is}
+use Rattle.fuse_theorem.specs.Conditions.{IsUsable}
 use Rattle.std.proofs.Common.{◌≡◌, ℕ, ◌+◌, ◌-◌, ◌≤◌, Bool, true, false, true≢false, cond, List, Option, Some, None, nat_eq, is_some, slice_get, option_map, refl, ap, sym, subst, ◌∙◌, arith}
 use Rattle.std.specs.Prelude.{◌%◌, sum_by}
 use Rattle.std.specs.List.{list_any}
@@ -26,7 +28,7 @@ use Rattle.fuse_spec.specs.Queues.{QueueState, IsSound, is_unread, pending, requ
 use Rattle.fuse_spec.specs.QueueCalls.{after_reading, after_read_pending, after_reply_effect, after_interrupt_reply, pending_at, waiting, with_mark, with_interrupt, without}
 use Rattle.fuse_spec.specs.Signals.{reply_effect}
 use Rattle.fuse_spec.specs.Kernel.{Kernel, is_live, asked_by, body_of, kernel_aborted, after_use}
-use Rattle.fuse_spec.specs.Replies.{kernel_reply, learnt, Use, usable, use_of_all, goes_with, is_empty_reply, is_init_reply, is_agreement, write_result_of, judged, replied, replied_to_call, ended_by, reply_taken, odd_taken, interrupt_replied, interrupt_reply_of, reply_written}
+use Rattle.fuse_spec.specs.Replies.{kernel_reply, learnt, usable, goes_with, is_empty_reply, is_init_reply, is_agreement, write_result_of, judged, replied, replied_to_call, ended_by, reply_taken, odd_taken, interrupt_replied, interrupt_reply_of, reply_written}
 use Rattle.fuse_spec.proofs.QueueCounts.{lookup-found}
 use Rattle.fuse_spec.proofs.QueueReadings.{key_count-le-one}
 use Rattle.fuse_theorem.specs.OpenNumbers.{OpensApart, released_for, released_by}
@@ -135,8 +137,8 @@ module _ (P : Opened → Type 0) where
         by (doing operation) all e = all o e
         by (using handle operation) all e = all o e
 
-    goes_heard : use_of_all k.nodes (files_in_reply wire) ≡ usable → goes_with (asked state) wire ≡ true → ((o : Opened) → gained_by (asked state) (kernel_reply (asked state) wire) ≡ Some o → P o) → HearsOpens P k wire (replied k call state true wire)
-    goes_heard used goes each = subst (λ (u : Use). HearsOpens P k wire (Accepted, after_use (judged k call state wire u) state)) (sym used) learns
+    goes_heard : IsUsable k.nodes wire → goes_with (asked state) wire ≡ true → ((o : Opened) → gained_by (asked state) (kernel_reply (asked state) wire) ≡ Some o → P o) → HearsOpens P k wire (replied k call state true wire)
+    goes_heard used goes each = subst (λ (l : Kernel). HearsOpens P k wire (Accepted, after_use l state)) (sym (heard_is k call state wire used)) learns
       where
         learns : HearsOpens P k wire (Accepted, after_use (judged k call state wire usable) state)
         learns =
@@ -154,7 +156,7 @@ module _ (P : Opened → Type 0) where
               fits = state_fits each;
             }
 
-    replied_heard : use_of_all k.nodes (files_in_reply wire) ≡ usable → (goes_with (asked state) wire ≡ true → (o : Opened) → gained_by (asked state) (kernel_reply (asked state) wire) ≡ Some o → P o)
+    replied_heard : IsUsable k.nodes wire → (goes_with (asked state) wire ≡ true → (o : Opened) → gained_by (asked state) (kernel_reply (asked state) wire) ≡ Some o → P o)
         → HearsOpens P k wire (replied k call state (goes_with (asked state) wire) wire)
     replied_heard used each = by (goes_with (asked state) wire) refl
       where
@@ -164,7 +166,7 @@ module _ (P : Opened → Type 0) where
 
   -- ---- any reply
 
-  module _ (k : Kernel) (old : OpensApart k.vfs k.closing) (one_request : (call : ℕ) → requests_for call k.queues ≤ cond (is_some (get k.vfs.calls call)) 1 0) (unique : ℕ) (wire : WireReply) (used : use_of_all k.nodes (files_in_reply wire) ≡ usable)
+  module _ (k : Kernel) (old : OpensApart k.vfs k.closing) (one_request : (call : ℕ) → requests_for call k.queues ≤ cond (is_some (get k.vfs.calls call)) 1 0) (unique : ℕ) (wire : WireReply) (used : IsUsable k.nodes wire)
       (each : nat_eq (unique % 2) 1 ≡ false → (call : ℕ) (state : CallState Opened) → waiting k.queues unique ≡ Some (purpose.Call call) → get k.vfs.calls call ≡ Some state → goes_with (asked state) wire ≡ true → (o : Opened) → gained_by (asked state) (kernel_reply (asked state) wire) ≡ Some o → P o) where
     abbrev ended : Kernel
     ended = record k { queues = without k.queues unique }

@@ -13,8 +13,8 @@ use Rattle.fuse_spec.specs.Events.{Event, Outcome}
 use Rattle.fuse_spec.specs.Events as event
 use Rattle.fuse_spec.specs.FileOperations.{FileOperation, refusal, reply_unrefused, reply_or, looked_up, reply_by}
 use Rattle.fuse_spec.specs.Maps.{Map, get, put, remove}
-use Rattle.fuse_spec.specs.Operations.{lookup, getattr, mkdir, create, unlink, rmdir, rename, link, opening, readdir, read, write, Dirent, failed}
-use Rattle.fuse_spec.specs.Trees.{Tree, record_length, fitting, records_after, file_at}
+use Rattle.fuse_spec.specs.Operations.{lookup, getattr, mkdir, create, unlink, rmdir, rename, link, opening, readdir, readdirplus, read, write, Dirent, DirentPlus, failed}
+use Rattle.fuse_spec.specs.Trees.{Tree, record_length, fitting, records_after, pair_length, fitting_pairs, pairs_after, file_at}
 use Rattle.fuse_spec.specs.CallReplies.{call_replied}
 use Rattle.fuse_spec.specs.Vfs.{CallState, begun}
 use Rattle.fuse_spec.specs.Plain.{Plain, Ask, Stage, waiting, performed, declined, asking, call_begun, ask_performed, ask_declined, ask_told, ask_interrupted, ask_noted, ask_marked, plain_later, name_dropped, plain_aborted, plain_mounted, first_plain}
@@ -36,6 +36,18 @@ fits room (r ∷ records) = by (nat_le (record_length r) room) refl (fits (room 
         omega (arith, enough, rest, total)
     by false fit rest = omega arith
 
+-- as many names of a list as fit
+fits_pairs : (room : ℕ) (pairs : List (DirentPlus ℕ)) → sum_by pair_length (fitting_pairs room pairs) ≤ room
+fits_pairs room [] = omega arith
+fits_pairs room (r ∷ pairs) = by (nat_le (pair_length r) room) refl (fits_pairs (room - pair_length r) pairs)
+  where
+    by : (b : Bool) → nat_le (pair_length r) room ≡ b → sum_by pair_length (fitting_pairs (room - pair_length r) pairs) ≤ room - pair_length r → sum_by pair_length (cond b (r ∷ fitting_pairs (room - pair_length r) pairs) []) ≤ room
+    by true fit rest =
+        let enough : pair_length r ≤ room = grind (arith, nat_tests, fit) in
+        let total = sum_by-cons pair_length r (fitting_pairs (room - pair_length r) pairs) in
+        omega (arith, enough, rest, total)
+    by false fit rest = omega arith
+
 refused_so : (operation : FileOperation) (errno : ℕ) → RepliesTo operation (failed errno)
 refused_so (lookup d name) errno = tt
 refused_so (getattr x) errno = tt
@@ -47,6 +59,7 @@ refused_so (rename d old e new) errno = tt
 refused_so (link x d name) errno = tt
 refused_so (opening x) errno = tt
 refused_so (readdir d after size) errno = tt
+refused_so (readdirplus d after size) errno = tt
 refused_so (read o offset size) errno = tt
 refused_so (write o offset bytes) errno = tt
 
@@ -65,6 +78,7 @@ unrefused_so valid tree (rename d old e new) = tt
 unrefused_so valid tree (link x d name) = tt
 unrefused_so valid tree (opening x) = refl
 unrefused_so valid tree (readdir d after size) = let few = fits (min size 4096) (records_after tree d after) in omega (arith, few)
+unrefused_so valid tree (readdirplus d after size) = let few = fits_pairs (min size 4096) (pairs_after valid.found_ms tree d after) in omega (arith, few)
 unrefused_so valid tree (read o offset size) = simp length-take (omega arith)
 unrefused_so valid tree (write o offset bytes) = omega arith
 

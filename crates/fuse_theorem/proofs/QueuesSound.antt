@@ -16,7 +16,7 @@ use Rattle.fuse_spec.specs.Kernel.{Kernel, kernel_aborted, is_aborted, advanced,
 use Rattle.fuse_spec.specs.Messages.{WireReply}
 use Rattle.fuse_spec.specs.Operations.{Operation, done, failed, files_in_reply}
 use Rattle.fuse_spec.specs.QueueCalls.{waiting, without, after_interrupt, interrupt_effect}
-use Rattle.fuse_spec.specs.Replies.{kernel_reply, learnt, Use, usable, useless, stale, use_of_all, goes_with, is_agreement, judged, replied, replied_to_call, ended_by, reply_taken, odd_taken, interrupt_replied, reply_written}
+use Rattle.fuse_spec.specs.Replies.{kernel_reply, learnt, Use, usable, useless, stale, goes_with, is_agreement, judged, replied, replied_to_call, ended_by, reply_taken, odd_taken, interrupt_replied, reply_written, heard, without_stale, reply_judged, use_of_reply}
 use Rattle.fuse_spec.specs.Vfs.{asked, CallState, walking, doing, using, Advance, answered, begun}
 use Rattle.std.specs.List.{remove as without_at}
 use Rattle.fuse_spec.specs.QueueCalls.{pending_at, first_forgets}
@@ -168,15 +168,17 @@ replied_grows : (k : Kernel) (call : ℕ) (wire : WireReply) (o : Option (CallSt
 replied_grows k call wire None = same_grows k.queues
 replied_grows k call wire (Some state) = by (goes_with (asked state) wire)
   where
-    judged_grows : (u : Use) → Grows k.queues (judged k call state wire u).queues
-    judged_grows usable = advanced_grows (record k { nodes = learnt k.nodes (files_in_reply wire) }) call (call_replied k.vfs call state (kernel_reply (asked state) wire))
-    judged_grows useless = same_grows k.queues
-    judged_grows (stale node) = forget_grows k.queues node 1
+    stale_grows : Grows k.queues (without_stale k wire).queues
+    stale_grows = record { rises = omega arith; sound = λ high s. record { next = s.next; requests = s.requests; interrupts = s.interrupts } }
+
+    judged_grows : (x : WireReply) (u : Use) → Grows k.queues (judged (without_stale k wire) call state x u).queues
+    judged_grows x usable = then_grows k.queues (without_stale k wire).queues _ stale_grows (advanced_grows (record (without_stale k wire) { nodes = learnt k.nodes (files_in_reply x) }) call (call_replied k.vfs call state (kernel_reply (asked state) x)))
+    judged_grows x useless = stale_grows
+    judged_grows x (stale node) = then_grows k.queues (without_stale k wire).queues _ stale_grows (forget_grows (without_stale k wire).queues node 1)
 
     by : (b : Bool) → Grows k.queues (replied k call state b wire).1.queues
     by true =
-        let u = use_of_all k.nodes (files_in_reply wire) in
-        then_grows k.queues (judged k call state wire u).queues (after_use (judged k call state wire u) state).queues (judged_grows u) (used_grows (judged k call state wire u) state)
+        then_grows k.queues (heard k call state wire).queues (after_use (heard k call state wire) state).queues (judged_grows (reply_judged k.nodes wire) (use_of_reply k.nodes wire)) (used_grows (heard k call state wire) state)
     by false = used_grows (record k { vfs = answered k.vfs call (answer.failed 5) }) state
 
 written_sound : (k : Kernel) (unique : ℕ) (wire : WireReply) → IsSound k.queues → (reply_written k unique wire).1.queues.next ≤ 2 ^ 62 → IsSound (reply_written k unique wire).1.queues

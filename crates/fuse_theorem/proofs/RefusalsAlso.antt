@@ -1,4 +1,5 @@
 -- Each case of the definition is what the step function gives.
+use Rattle.fuse_spec.specs.Performs.{files_given}
 use Rattle.std.proofs.Common.{◌≡◌, ◌≢◌, ℕ, ◌+◌, Bool, true, false, not, cond, ◌&&◌, ◌||◌, List, [], ◌∷◌, Ok, Err, length, nat_eq, nat_lt, nat_le, max, inl, inr, ◌⊎◌, refl, ap, ◌∙◌, arith}
 use Rattle.std.proofs.lemmas.Bool.{lt-ltb, le-ltb, le-leb, lt-leb}
 use Rattle.fuse_spec.specs.Maps.{get, get_name}
@@ -7,12 +8,13 @@ use Rattle.fuse_spec.specs.declared.Refusal.{Refusal}
 use Rattle.fuse_spec.specs.declared.Refusal.TheVariants.{BadTime, Busy, NotReady, Full, NoSuch, NoCopy, InterruptFirst, Exhausted}
 use Rattle.fuse_spec.specs.QueueCalls.{pending_at, first_forgets}
 use Rattle.fuse_spec.specs.Kernel.{is_live, is_pinned, is_bound}
-use Rattle.fuse_spec.specs.Copies.{is_current}
+use Rattle.fuse_spec.specs.Copies.{is_current, files_named}
 use Rattle.fuse_spec.specs.Worlds.{World, after_mount, after_drop}
 use Rattle.fuse_spec.specs.Events.{Event, Outcome}
 use Rattle.fuse_spec.specs.Events as event
+use Rattle.fuse_spec.specs.Nodes.{counts_out}
 use Rattle.fuse_spec.specs.Steps.{Stepped, unless, is_past, going, is_ready, is_busy, when_live, when_not_interrupted, reading_interrupt, reading_forgets, reading_body, reading_pending, taking_request, performing_held, sending_again, writing_copy, settling, signalling, dropping, evicting, step}
-use Rattle.fuse_spec.specs.Refusals.{MayRead, Leads, mounts, calls, reads_interrupt, reads_forgets, reads_pending, takes, performs, sends_again, writes, settles, signals, passes, drops, evicts, aborts, draws, needs_live, reads_other, NamesNothing, no_interrupt, no_forgets, no_pending, no_body, no_request, none_held, no_copy, no_result, no_call, no_name, no_node, Refuses, too_long, in_use, clock_ends, not_ready, too_many, not_live, interrupt_first, names_nothing, none_kept, not_current, pinned_or_bound, past_its_end}
+use Rattle.fuse_spec.specs.Refusals.{MayRead, Leads, mounts, calls, reads_interrupt, reads_forgets, reads_pending, takes, performs, sends_again, writes, settles, signals, passes, drops, evicts, aborts, draws, needs_live, reads_other, NamesNothing, no_interrupt, no_forgets, no_pending, no_body, no_request, none_held, no_copy, no_result, no_call, no_name, no_node, Refuses, too_long, in_use, clock_ends, not_ready, too_many, not_live, interrupt_first, names_nothing, none_kept, not_current, pinned_or_bound, told_too_often, copied_too_often, past_its_end}
 use Rattle.fuse_theorem.proofs.Finding.{other_is}
 
 -- ---- a test that refuses, and one that does not
@@ -71,8 +73,10 @@ module _ (choice : ℕ → ℕ) (w : World) where
   comes_to e o after (reads_pending k unique purpose body may there says) =
       read_passes w (reading_pending w k (pending_at w.kernel.queues k)) may ∙ ap (reading_pending w k) there ∙ ap (reading_body w k unique) says
   comes_to e o after (takes k request there) = ap (taking_request w k) there
-  comes_to e o after (performs unique held there) = ap (performing_held choice w unique) there
-  comes_to e o after (sends_again unique kept there current) = ap (sending_again w unique) there ∙ passed (not (is_current w.server kept.wire)) NoCopy (going o after) (ap not current)
+  comes_to e o after (performs unique held there few) = ap (performing_held choice w unique) there ∙ passed (counts_out w.server.nodes (files_given w.server held)) Exhausted (going o after) few
+  comes_to e o after (sends_again unique kept there current few) =
+      ap (sending_again w unique) there ∙ passed (not (is_current w.server kept.wire)) NoCopy (unless (counts_out w.server.nodes (files_named w.server kept.wire)) Exhausted (going o after)) (ap not current)
+      ∙ passed (counts_out w.server.nodes (files_named w.server kept.wire)) Exhausted (going o after) few
   comes_to e o after (writes k sent there) = ap (writing_copy w k) there
   comes_to e o after (settles k result there) = ap (settling w k) there
   comes_to e o after (signals call fatal state live there) = live_passes w (signalling w call fatal (get w.kernel.vfs.calls call)) live ∙ ap (signalling w call fatal) there
@@ -141,4 +145,7 @@ module _ (choice : ℕ → ℕ) (w : World) where
   refused e r (none_kept unique none) = ap (sending_again w unique) none
   refused e r (not_current unique kept there stale) = ap (sending_again w unique) there ∙ refused_by (not (is_current w.server kept.wire)) NoCopy _ (ap not stale)
   refused e r (pinned_or_bound node counted live there used) = live_passes w _ live ∙ ap (evicting w node) there ∙ refused_by (is_pinned w.kernel node || is_bound w.kernel node) Busy _ used
+  refused e r (told_too_often unique held there many) = ap (performing_held choice w unique) there ∙ refused_by (counts_out w.server.nodes (files_given w.server held)) Exhausted _ many
+  refused e r (copied_too_often unique kept there current many) =
+      ap (sending_again w unique) there ∙ passed (not (is_current w.server kept.wire)) NoCopy _ (ap not current) ∙ refused_by (counts_out w.server.nodes (files_named w.server kept.wire)) Exhausted _ many
   refused e r (past_its_end same o after drawn there past) = exhausted e o after drawn there past

@@ -21,13 +21,14 @@ use Rattle.fuse_spec.specs.Kernel.{is_live, body_of, call_signalled, is_pinned, 
 use Rattle.fuse_spec.specs.Replies.{reply_written}
 use Rattle.fuse_spec.specs.Server.{HeldRequest, Kept}
 use Rattle.fuse_spec.specs.Taking.{taking}
-use Rattle.fuse_spec.specs.Performs.{served}
-use Rattle.fuse_spec.specs.Copies.{is_current}
+use Rattle.fuse_spec.specs.Performs.{served, files_given}
+use Rattle.fuse_spec.specs.Copies.{is_current, files_named}
 use Rattle.fuse_spec.specs.Worlds.{World, Sent, after_mount, after_call, after_read_interrupt, after_read_forgets, after_read_pending, after_take, after_perform, after_again, after_write, after_settle, after_tick, after_drop, after_evict, after_abort}
 use Rattle.fuse_spec.specs.Events.{Event, Outcome}
 use Rattle.fuse_spec.specs.Events as event
+use Rattle.fuse_spec.specs.Nodes.{counts_out}
 use Rattle.fuse_spec.specs.Steps.{Stepped, unless, is_past, going, is_ready, is_busy, when_live, when_not_interrupted, reading_interrupt, reading_forgets, reading_body, reading_pending, taking_request, performing_held, sending_again, writing_copy, settling, signalling, dropping, evicting, step}
-use Rattle.fuse_spec.specs.Refusals.{Leads, mounts, calls, reads_interrupt, reads_forgets, reads_pending, takes, performs, sends_again, writes, settles, signals, passes, drops, evicts, aborts, draws, needs_live, reads_other, NamesNothing, no_interrupt, no_forgets, no_pending, no_body, no_request, none_held, no_copy, no_result, no_call, no_name, no_node, Refuses, too_long, in_use, clock_ends, not_ready, too_many, not_live, interrupt_first, names_nothing, none_kept, not_current, pinned_or_bound, past_its_end}
+use Rattle.fuse_spec.specs.Refusals.{Leads, mounts, calls, reads_interrupt, reads_forgets, reads_pending, takes, performs, sends_again, writes, settles, signals, passes, drops, evicts, aborts, draws, needs_live, reads_other, NamesNothing, no_interrupt, no_forgets, no_pending, no_body, no_request, none_held, no_copy, no_result, no_call, no_name, no_node, Refuses, too_long, in_use, clock_ends, not_ready, too_many, not_live, interrupt_first, names_nothing, none_kept, not_current, pinned_or_bound, told_too_often, copied_too_often, past_its_end}
 use Rattle.fuse_theorem.proofs.Evicting.{or_false}
 use Rattle.fuse_theorem.proofs.Happened.{none_queued}
 
@@ -159,15 +160,21 @@ module _ (choice : ℕ → ℕ) (w : World) where
   by_perform unique None there = nothing_there choice w (event.perform unique) refl refl (none_held unique there)
   by_perform unique (Some held) there =
       let did = served choice w.server unique held in
-      goes choice w (event.perform unique) (event.performed unique (errno_of did.wire) w.server.aborted) (after_perform w unique did) refl (performs unique held there)
+      let outcome = event.performed unique (errno_of did.wire) w.server.aborted in
+      let out = counts_out w.server.nodes (files_given w.server held) in
+      tested choice w (event.perform unique) out Exhausted (going outcome (after_perform w unique did)) (λ t. told_too_often unique held there t)
+      (λ f. goes choice w (event.perform unique) outcome (after_perform w unique did) refl (performs unique held there f))
 
   by_again : (unique : ℕ) (x : Option Kept) → get w.server.kept unique ≡ x → Comes (event.again unique) (sending_again w unique x)
   by_again unique None there = is_refused NoCopy (none_kept unique there)
   by_again unique (Some kept) there =
       let e = event.again unique in
       let current = is_current w.server kept.wire in
-      tested choice w e (not current) NoCopy (going (event.sent_again unique) (after_again w unique kept)) (λ t. not_current unique kept there (not-true current t))
-      (λ f. goes choice w e (event.sent_again unique) (after_again w unique kept) refl (sends_again unique kept there (not-false current f)))
+      let out = counts_out w.server.nodes (files_named w.server kept.wire) in
+      let gone = going (event.sent_again unique) (after_again w unique kept) in
+      tested choice w e (not current) NoCopy (unless out Exhausted gone) (λ t. not_current unique kept there (not-true current t))
+      (λ f. tested choice w e out Exhausted gone (λ t. copied_too_often unique kept there (not-false current f) t)
+      (λ g. goes choice w e (event.sent_again unique) (after_again w unique kept) refl (sends_again unique kept there (not-false current f) g)))
 
   by_write : (k : ℕ) (x : Option Sent) → slice_get w.replies k ≡ x → Comes (event.write k) (writing_copy w k x)
   by_write k None there = nothing_there choice w (event.write k) refl refl (no_copy k there)

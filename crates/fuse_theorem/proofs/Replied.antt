@@ -14,7 +14,7 @@ use Rattle.fuse_spec.specs.declared.ReplyResult.{ReplyResult}
 use Rattle.fuse_spec.specs.declared.WriteResult.{WriteResult}
 use Rattle.fuse_spec.specs.declared.WriteResult.TheVariants.{Accepted, NoEntry, Invalid}
 use Rattle.fuse_spec.specs.Maps.{get}
-use Rattle.fuse_spec.specs.Operations.{found, missing, created, opened, attributes, listed, content, written, agreed, done, failed}
+use Rattle.fuse_spec.specs.Operations.{found, missing, created, opened, attributes, listed, listed_plus, content, written, agreed, done, failed}
 use Rattle.fuse_spec.specs.Queues.{QueueState, mark_under}
 use Rattle.fuse_spec.specs.QueueCalls.{waiting, without, after_reply_effect, after_interrupt_reply}
 use Rattle.fuse_spec.specs.Messages.{WireReply}
@@ -118,6 +118,7 @@ module _ (w : World) (p : Plain) (same : Alike w p) (k : ℕ) (sent : Sent) wher
           by (opened fh) = same_kernel Invalid
           by (attributes a) = same_kernel Invalid
           by (listed xs) = same_kernel Invalid
+          by (listed_plus xs) = same_kernel Invalid
           by (content xs) = same_kernel Invalid
           by (written n) = same_kernel Invalid
           by (agreed a b) = same_kernel Invalid

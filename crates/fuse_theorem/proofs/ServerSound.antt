@@ -9,7 +9,7 @@ use Rattle.fuse_spec.specs.declared.WriteResult.{WriteResult}
 use Rattle.fuse_spec.specs.declared.WriteResult.TheVariants.{Accepted, NoEntry, Invalid}
 use Rattle.fuse_spec.specs.Maps.{Map, get, put, remove}
 use Rattle.fuse_spec.specs.Messages.{Forget, RequestBody, init, asks, release, forget, batch_forget, interrupt, WireReply}
-use Rattle.fuse_spec.specs.Operations.{Operation, lookup, getattr, mkdir, create, unlink, rmdir, rename, link, opening, readdir, read, write, files_in_reply, opens_in_reply, done, failed}
+use Rattle.fuse_spec.specs.Operations.{Operation, lookup, getattr, mkdir, create, unlink, rmdir, rename, link, opening, readdir, readdirplus, read, write, files_in_reply, opens_in_reply, done, failed}
 use Rattle.fuse_spec.specs.Trees.{Named, is_nameless}
 use Rattle.fuse_spec.specs.FileOperations.{FileOperation, reply_by}
 use Rattle.fuse_spec.specs.Nodes.{HeldNode, NodeTable, root_row, HandleTable, OpenNumber, MayChoose, file_of, is_file_of, is_open, all_given, all_opened, handle_back}
@@ -96,6 +96,7 @@ opens_no_root s sound (rename d old n new) e = tt
 opens_no_root s sound (link x d name) e = tt
 opens_no_root s sound (opening x) e = tt
 opens_no_root s sound (readdir d after size) e = tt
+opens_no_root s sound (readdirplus d after size) e = tt
 
 module _ (choice : ℕ → ℕ) (s : Server) (sound : ServerSound s) where
   doing_sound : (operation : FileOperation) → OpensNoRoot operation → MayChoose choice s.nodes (cond s.aborted [] (files_in_reply (reply_by s.validity s.tree operation))) → ServerSound (doing choice s operation).server
