@@ -1,9 +1,11 @@
-//! Each growth of each row, refused in turn: those of its events, and those of the list of records of a whole run.
+//! Each growth of each row, refused in turn, of a world and of a session: those of its events, and those of the list of records of
+//! a whole run.
 
 use super::rows::{Row, lists};
 use fail_at::FailAt;
+use fw_link::MemoryLink;
 use fw_script::{Line, read_hex, read_line, write_hex, write_record};
-use fw_world::{Call, Event, Outcome, Record, Refusal, WorldIn, run};
+use fw_world::{Answer, Call, Event, Outcome, Record, Refusal, Session, WorldIn, run};
 use std::alloc::{AllocError, Allocator, Global};
 use std::io;
 use std::io::Write;
@@ -12,6 +14,87 @@ use std::test::Fail;
 
 /// More growths than a row has.
 const MOST: u64 = 1_000_000;
+
+/// The most answers that an event may give: as many calls may be unanswered.
+const MOST_ANSWERS: u64 = 64;
+
+/// What takes the events of a row.
+trait Stepped<A: Allocator + Copy>: Sized {
+    fn made(alloc: A) -> Option<Self>;
+
+    fn step(&mut self, event: &Event<'_>) -> Result<Outcome, Refusal>;
+
+    fn run(&mut self, events: &[Event<'_>], records: &mut Vec<Record<A>, A>) -> Result<(), usize>;
+
+    fn collect(&mut self) -> Option<(u64, Answer<A>)>;
+
+    fn last_put(&self) -> Option<&[u8]>;
+
+    fn kernel_nodes(&self) -> Result<Vec<(u64, u64, u64), A>, Refusal>;
+
+    fn server_nodes(&self) -> Result<Vec<(u64, u64, u64), A>, Refusal>;
+}
+
+impl<A: Allocator + Copy> Stepped<A> for WorldIn<A> {
+    fn made(alloc: A) -> Option<WorldIn<A>> {
+        WorldIn::new(alloc).ok()
+    }
+
+    fn step(&mut self, event: &Event<'_>) -> Result<Outcome, Refusal> {
+        WorldIn::step(self, event)
+    }
+
+    fn run(&mut self, events: &[Event<'_>], records: &mut Vec<Record<A>, A>) -> Result<(), usize> {
+        run(self, events, records)
+    }
+
+    fn collect(&mut self) -> Option<(u64, Answer<A>)> {
+        WorldIn::collect(self)
+    }
+
+    fn last_put(&self) -> Option<&[u8]> {
+        WorldIn::last_put(self)
+    }
+
+    fn kernel_nodes(&self) -> Result<Vec<(u64, u64, u64), A>, Refusal> {
+        WorldIn::kernel_nodes(self)
+    }
+
+    fn server_nodes(&self) -> Result<Vec<(u64, u64, u64), A>, Refusal> {
+        WorldIn::server_nodes(self)
+    }
+}
+
+impl<A: Allocator + Copy> Stepped<A> for Session<MemoryLink<A>, A> {
+    fn made(alloc: A) -> Option<Session<MemoryLink<A>, A>> {
+        let link = MemoryLink::new(alloc).ok()?;
+        Session::new(alloc, link).ok()
+    }
+
+    fn step(&mut self, event: &Event<'_>) -> Result<Outcome, Refusal> {
+        Session::step(self, event)
+    }
+
+    fn run(&mut self, events: &[Event<'_>], records: &mut Vec<Record<A>, A>) -> Result<(), usize> {
+        Session::run(self, events, records)
+    }
+
+    fn collect(&mut self) -> Option<(u64, Answer<A>)> {
+        Session::collect(self)
+    }
+
+    fn last_put(&self) -> Option<&[u8]> {
+        Session::last_put(self)
+    }
+
+    fn kernel_nodes(&self) -> Result<Vec<(u64, u64, u64), A>, Refusal> {
+        Session::kernel_nodes(self)
+    }
+
+    fn server_nodes(&self) -> Result<Vec<(u64, u64, u64), A>, Refusal> {
+        Session::server_nodes(self)
+    }
+}
 
 /// The bytes that the calls of a script put into files, one after another.
 fn bytes_of_writes(alloc: Global, script: &str) -> Result<Vec<u8>, AllocError> {
@@ -75,9 +158,9 @@ fn takes_no_memory(event: &Event<'_>) -> bool {
 
 /// Steps. Where a growth was refused, the step must be refused, and for want of memory it is tried again; where none was, memory is not
 /// wanting. Else it is `NoMemory`, which no row has.
-fn step<A: Allocator + Copy>(
+fn step<A: Allocator + Copy, W: Stepped<A> + Drop>(
     heap: &FailAt<Global>,
-    world: &mut WorldIn<A>,
+    world: &mut W,
     event: &Event<'_>,
 ) -> Result<Outcome, Refusal> {
     let before = heap.left();
@@ -103,9 +186,9 @@ fn write_nodes(out: &mut Vec<u8>, side: &str, nodes: &[(u64, u64, u64)]) -> io::
 }
 
 /// Prints the nodes of both sides. No growth is refused meanwhile.
-fn write_both<A: Allocator + Copy>(
+fn write_both<A: Allocator + Copy, W: Stepped<A> + Drop>(
     heap: &FailAt<Global>,
-    world: &WorldIn<A>,
+    world: &W,
     out: &mut Vec<u8>,
 ) -> io::Result<()> {
     let left = heap.left();
@@ -131,9 +214,9 @@ fn write_frame(out: &mut Vec<u8>, frame: Option<&[u8]>) -> io::Result<()> {
 }
 
 /// Runs an event, and prints what it came to and what it answered.
-fn write_event<A: Allocator + Copy>(
+fn write_event<A: Allocator + Copy, W: Stepped<A> + Drop>(
     heap: &FailAt<Global>,
-    world: &mut WorldIn<A>,
+    world: &mut W,
     event: &Event<'_>,
     hex: bool,
     out: &mut Vec<u8>,
@@ -146,18 +229,20 @@ fn write_event<A: Allocator + Copy>(
     if hex {
         write_frame(out, world.last_put())?;
     }
-    for _ in 0..world.answered() {
-        if let Some((call, answer)) = world.collect() {
-            write_record(out, &Record::Answered { call, answer })?;
-        }
+    for _ in 0..MOST_ANSWERS {
+        let Some((call, answer)) = world.collect() else {
+            break;
+        };
+        let record = Record::Answered { call, answer };
+        write_record(out, &record)?;
     }
     Ok(())
 }
 
 /// Runs the steps of a row, and prints what they come to.
-fn write_steps<A: Allocator + Copy>(
+fn write_steps<A: Allocator + Copy, W: Stepped<A> + Drop>(
     heap: &FailAt<Global>,
-    world: &mut WorldIn<A>,
+    world: &mut W,
     steps: &[Option<Event<'_>>],
     hex: bool,
     out: &mut Vec<u8>,
@@ -171,16 +256,16 @@ fn write_steps<A: Allocator + Copy>(
     Ok(())
 }
 
-/// A world, which is made again where a growth of it was refused.
-fn made<A: Allocator + Copy>(alloc: A) -> Result<WorldIn<A>, Refusal> {
-    match WorldIn::new(alloc) {
-        Ok(world) => Ok(world),
-        Err(_) => WorldIn::new(alloc),
+/// What takes events, which is made again where a growth of it was refused.
+fn made_at_last<A: Allocator + Copy, W: Stepped<A> + Drop>(alloc: A) -> Option<W> {
+    match W::made(alloc) {
+        Some(world) => Some(world),
+        None => W::made(alloc),
     }
 }
 
 /// Whether the steps of a row print on a new world what they must.
-fn prints_the_row<A: Allocator + Copy>(
+fn prints_the_row<A: Allocator + Copy, W: Stepped<A> + Drop>(
     alloc: A,
     heap: &FailAt<Global>,
     row: &Row,
@@ -188,7 +273,7 @@ fn prints_the_row<A: Allocator + Copy>(
     out: &mut Vec<u8>,
 ) -> bool {
     out.clear();
-    let Ok(mut world) = made(alloc) else {
+    let Some(mut world) = made_at_last::<A, W>(alloc) else {
         return false;
     };
     let is_printed = write_steps(heap, &mut world, steps, row.name.ends_with("-in-hex"), out);
@@ -197,7 +282,7 @@ fn prints_the_row<A: Allocator + Copy>(
 }
 
 /// Runs the steps of a row with each growth refused in turn.
-fn check_steps<A: Allocator + Copy>(
+fn check_steps<A: Allocator + Copy, W: Stepped<A> + Drop>(
     rt: &impl Abort,
     alloc: A,
     heap: &FailAt<Global>,
@@ -208,7 +293,7 @@ fn check_steps<A: Allocator + Copy>(
     let mut turns = 0;
     for turn in heap.each_growth(MOST) {
         assert!(rt;
-            prints_the_row(alloc, heap, row, steps, out),
+            prints_the_row::<A, W>(alloc, heap, row, steps, out),
             "{} {turn}",
             row.name
         );
@@ -230,18 +315,18 @@ fn events_of<A: Allocator>(records: &[Record<A>]) -> usize {
 
 /// Runs a list of events. Where a growth of the records was refused, and nowhere else, it ends before an event, with the records of
 /// those before; then it goes on from there.
-fn runs_all<A: Allocator + Copy>(
+fn runs_all<A: Allocator + Copy, W: Stepped<A> + Drop>(
     heap: &FailAt<Global>,
-    world: &mut WorldIn<A>,
+    world: &mut W,
     events: &[Event<'_>],
     records: &mut Vec<Record<A>, A>,
 ) -> bool {
-    let Err(k) = run(world, events, records) else {
+    let Err(k) = world.run(events, records) else {
         return heap.left() != 0;
     };
     heap.left() == 0
         && events_of(records.as_slice()) == k
-        && run(world, events.get(k..).unwrap_or(&[]), records).is_ok()
+        && world.run(events.get(k..).unwrap_or(&[]), records).is_ok()
 }
 
 /// Prints records.
@@ -253,7 +338,7 @@ fn write_records<A: Allocator>(records: &[Record<A>], out: &mut Vec<u8>) -> io::
 }
 
 /// Whether a run of all events on a new world gives the records that it must. The list of records has a heap of its own.
-fn gives_the_records<A: Allocator + Copy>(
+fn gives_the_records<A: Allocator + Copy, W: Stepped<A> + Drop>(
     alloc: A,
     of_records: A,
     heap: &FailAt<Global>,
@@ -263,7 +348,7 @@ fn gives_the_records<A: Allocator + Copy>(
 ) -> bool {
     out.clear();
     let mut records = Vec::new(of_records);
-    let Ok(mut world) = WorldIn::new(alloc) else {
+    let Some(mut world) = W::made(alloc) else {
         return false;
     };
     let is_run = runs_all(heap, &mut world, events, &mut records);
@@ -272,7 +357,7 @@ fn gives_the_records<A: Allocator + Copy>(
 }
 
 /// Runs all events of a row with each growth of the list of records refused in turn.
-fn check_run<A: Allocator + Copy>(
+fn check_run<A: Allocator + Copy, W: Stepped<A> + Drop>(
     rt: &impl Abort,
     alloc: A,
     of_records: A,
@@ -285,7 +370,7 @@ fn check_run<A: Allocator + Copy>(
     let mut turns = 0;
     for turn in heap.each_growth(MOST) {
         assert!(rt;
-            gives_the_records(alloc, of_records, heap, events, wanted, out),
+            gives_the_records::<A, W>(alloc, of_records, heap, events, wanted, out),
             "{name} {turn}"
         );
         turns = turn;
@@ -324,7 +409,7 @@ fn lines_of_records(alloc: Global, output: &str) -> Result<Vec<u8>, AllocError> 
 }
 
 /// Each growth of the events of a row, refused in turn.
-fn check_row<A: Allocator + Copy>(
+fn check_row<A: Allocator + Copy, W: Stepped<A> + Drop>(
     rt: &impl Abort,
     alloc: A,
     heap: &FailAt<Global>,
@@ -333,12 +418,12 @@ fn check_row<A: Allocator + Copy>(
 ) -> Result<(), AllocError> {
     let bytes = bytes_of_writes(outer, row.script)?;
     let steps = steps_of(outer, row.script, &bytes)?;
-    check_steps(rt, alloc, heap, row, &steps, &mut Vec::new(outer));
+    check_steps::<A, W>(rt, alloc, heap, row, &steps, &mut Vec::new(outer));
     Ok(())
 }
 
 /// Each growth of the records of a row, refused in turn.
-fn check_records<A: Allocator + Copy>(
+fn check_records<A: Allocator + Copy, W: Stepped<A> + Drop>(
     rt: &impl Abort,
     alloc: A,
     of_records: A,
@@ -351,14 +436,14 @@ fn check_records<A: Allocator + Copy>(
     let events = events_among(outer, &steps)?;
     let wanted = lines_of_records(outer, row.output)?;
     let mut out = Vec::new(outer);
-    check_run(
+    check_run::<A, W>(
         rt, alloc, of_records, heap, row.name, &events, &wanted, &mut out,
     );
     Ok(())
 }
 
 /// Both of each row. What runs and the list of records have a heap each.
-fn check_rows<A: Allocator + Copy>(
+fn check_rows<A: Allocator + Copy, W: Stepped<A> + Drop>(
     rt: &impl Abort,
     alloc: A,
     of_records: A,
@@ -368,8 +453,8 @@ fn check_rows<A: Allocator + Copy>(
     rows: &[Row],
 ) -> Result<(), AllocError> {
     for row in rows {
-        check_row(rt, alloc, heap, outer, row)?;
-        check_records(rt, alloc, of_records, of_refused_records, outer, row)?;
+        check_row::<A, W>(rt, alloc, heap, outer, row)?;
+        check_records::<A, W>(rt, alloc, of_records, of_refused_records, outer, row)?;
     }
     Ok(())
 }
@@ -379,7 +464,25 @@ fn each_growth_of_each_row_refused(rt: HostRuntime) -> Result<(), Fail> {
     let heap = FailAt::new(rt.alloc());
     let of_records = FailAt::new(rt.alloc());
     for rows in lists() {
-        check_rows(
+        check_rows::<_, WorldIn<_>>(
+            &rt,
+            &heap,
+            &of_records,
+            &heap,
+            &of_records,
+            rt.alloc(),
+            rows,
+        )?;
+    }
+    Ok(())
+}
+
+#[test]
+fn each_growth_of_each_row_over_a_link_refused(rt: HostRuntime) -> Result<(), Fail> {
+    let heap = FailAt::new(rt.alloc());
+    let of_records = FailAt::new(rt.alloc());
+    for rows in lists() {
+        check_rows::<_, Session<MemoryLink<_>, _>>(
             &rt,
             &heap,
             &of_records,
