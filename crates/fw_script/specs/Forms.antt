@@ -28,6 +28,7 @@ word_name word.Show = codes "show"
 abbrev pub call_name : CallForm → List ℕ
 call_name call.Stat = codes "stat"
 call_name call.List = codes "list"
+call_name call.ListPlus = codes "listplus"
 call_name call.Open = codes "open"
 call_name call.Mkdir = codes "mkdir"
 call_name call.Create = codes "create"
@@ -70,6 +71,7 @@ after_word _ = number ∷ []
 -- what follows a call's name
 abbrev pub after_call : CallForm → List Argument
 after_call call.List = text ∷ number ∷ []
+after_call call.ListPlus = text ∷ number ∷ []
 after_call call.Rename = text ∷ text ∷ []
 after_call call.Link = text ∷ text ∷ []
 after_call call.Read = number ∷ number ∷ number ∷ []

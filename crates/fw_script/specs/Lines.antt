@@ -57,6 +57,7 @@ IsShaped arguments words = HasWords (length arguments) words × AllAre IsSignalA
 abbrev pub spelled_call : Call → List (List ℕ)
 spelled_call (call.Stat path) = codes "stat" ∷ path.now ∷ []
 spelled_call (call.List path after) = codes "list" ∷ path.now ∷ decimal after ∷ []
+spelled_call (call.ListPlus path after) = codes "listplus" ∷ path.now ∷ decimal after ∷ []
 spelled_call (call.Open path) = codes "open" ∷ path.now ∷ []
 spelled_call (call.Mkdir path) = codes "mkdir" ∷ path.now ∷ []
 spelled_call (call.Create path) = codes "create" ∷ path.now ∷ []
@@ -101,6 +102,7 @@ spelled line.Show = codes "show" ∷ []
 abbrev pub HasTexts : Call → Type 0
 HasTexts (call.Stat path) = IsText path.now
 HasTexts (call.List path after) = IsText path.now
+HasTexts (call.ListPlus path after) = IsText path.now
 HasTexts (call.Open path) = IsText path.now
 HasTexts (call.Mkdir path) = IsText path.now
 HasTexts (call.Create path) = IsText path.now

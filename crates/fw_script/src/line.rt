@@ -95,6 +95,10 @@ fn line_of_call(form: CallForm, rest: Option<&[u8]>) -> Result<Line<'_>, LineFau
             let (path, after) = text_and_number(rest)?;
             Call::List { path, after }
         }
+        CallForm::ListPlus => {
+            let (path, after) = text_and_number(rest)?;
+            Call::ListPlus { path, after }
+        }
         CallForm::Open => Call::Open {
             path: one_text(rest)?,
         },
