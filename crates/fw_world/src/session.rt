@@ -62,13 +62,14 @@ impl<L: Link + Drop, A: Allocator + Copy> Session<L, A> {
         ensures link { IfOk result (λ session. (session.link ≡ link) × (session.is_lost ≡ false)) }
         ensures back { IfErr result (λ back. back ≡ link) }
     {
-        let Ok(world) = WorldIn::new(alloc) else {
-            return Err(link);
-        };
         let Ok(carrier) = Carrier::new(alloc) else {
             return Err(link);
         };
         let Ok(frame) = Vec::with_capacity(alloc, RESULT_LEN) else {
+            return Err(link);
+        };
+        // Last, so that no world is dropped here.
+        let Ok(world) = WorldIn::new(alloc) else {
             return Err(link);
         };
         Ok(Session {
