@@ -1,5 +1,5 @@
 -- How the kernel takes a reply.
-use Rattle.std.specs.Prelude.{ℕ, ◌+◌, ◌-◌, ◌%◌, Bool, true, false, ◌&&◌, cond, List, [], ◌∷◌, ◌++◌, Option, Some, None, length, nat_eq, nat_lt, nat_le, sum_by, map}
+use Rattle.std.specs.Prelude.{ℕ, ◌+◌, ◌-◌, ◌%◌, Bool, true, false, ◌&&◌, cond, List, [], ◌∷◌, ◌++◌, Option, Some, None, length, nat_eq, nat_lt, nat_le, sum_by}
 use Rattle.fuse_spec.specs.Maps.{Map, get, put}
 use Rattle.fuse_spec.specs.Numbers.{eio, eagain, enosys}
 use Rattle.fuse_spec.specs.Operations.{Operation, lookup, getattr, mkdir, create, unlink, rmdir, rename, link, opening, readdir, readdirplus, read, write, DirentPlus, told_by, files_told, Reply, found, missing, created, opened, attributes, listed, listed_plus, content, written, agreed, done, failed, reply_with, files_in_reply}
@@ -17,7 +17,7 @@ use Rattle.fuse_spec.specs.declared.InterruptReply.{InterruptReply}
 use Rattle.fuse_spec.specs.declared.InterruptReply.TheVariants.{Again, NotSupported, Other}
 use Rattle.fuse_spec.specs.declared.WriteResult.{WriteResult}
 use Rattle.fuse_spec.specs.declared.WriteResult.TheVariants.{Accepted, NoEntry, Invalid}
-use Rattle.fuse_spec.specs.Messages.{WireReply}
+use Rattle.fuse_spec.specs.Messages.{Forget, WireReply}
 use Rattle.fuse_spec.specs.Queues.{QueueState}
 use Rattle.fuse_spec.specs.QueueCalls.{waiting, without, after_interrupt_reply, after_forget}
 use Rattle.fuse_spec.specs.Kernel.{Kernel, advanced, after_use, kernel_aborted}
@@ -146,9 +146,13 @@ abbrev pub stale_among : Map Counted → List (DirentPlus Entry) → List ℕ
 stale_among nodes [] = []
 stale_among nodes (pair ∷ pairs) = stale_in (use_of_told nodes (told_by pair)) ++ stale_among (learnt_by nodes pair) pairs
 
--- One lookup of each of these nodes is forgotten. (libfuse, low-level: forget)
+-- The next two forget one lookup of each of these nodes, in turn. (libfuse, low-level: forget)
+abbrev pub forgets_with : List Forget → List ℕ → List Forget
+forgets_with forgets [] = forgets
+forgets_with forgets (node ∷ nodes) = forgets_with (forgets ++ (node, 1) ∷ []) nodes
+
 abbrev pub each_forgotten : QueueState Purpose → List ℕ → QueueState Purpose
-each_forgotten q nodes = record q { forgets = q.forgets ++ map (λ node. (node, 1)) nodes }
+each_forgotten q nodes = record q { forgets = forgets_with q.forgets nodes }
 
 -- The next three are a reply as the kernel takes it, whether its entries can be used, and the nodes to be forgotten once. The names of a list are judged one by
 -- one, which never fails the call. (this project's rule)

@@ -1,5 +1,5 @@
 -- The headline over a link of bytes that may fail: a session is the world and whether its link is lost.
-use Rattle.std.specs.Prelude.{◌≡◌, ◌⊎◌, ℕ, Bool, true, false, List, [], ◌∷◌, ◌++◌}
+use Rattle.std.specs.Prelude.{◌≡◌, Bool, true, false, List, [], ◌∷◌, ◌++◌}
 use Rattle.fuse_spec.specs.declared.Refusal.TheVariants.{LinkLost}
 use Rattle.fuse_spec.specs.Worlds.{World}
 use Rattle.fuse_spec.specs.Events.{Event, Outcome, abort, aborted}

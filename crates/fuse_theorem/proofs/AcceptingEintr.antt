@@ -1,12 +1,8 @@
 -- The kernel accepts EINTR for a request that was marked: its call is answered EINTR, and the plain world's ask ends so.
-<<<<<<< ours
-use Rattle.std.proofs.Common.{◌≡◌, ℕ, Bool, true, ◌&&◌, is_some, List, [], ◌∷◌, ◌++◌, Option, Some, None, refl, ap, sym, subst, ◌∙◌}
-=======
 use Rattle.std.proofs.lemmas.List.Elements.{All-nil}
 use Rattle.fuse_spec.specs.declared.Entry.{Entry}
 use Rattle.fuse_theorem.proofs.Judging.{heard_is}
-use Rattle.std.proofs.Common.{◌≡◌, ℕ, Bool, true, List, [], ◌∷◌, ◌++◌, Option, Some, None, refl, ap, sym, subst, ◌∙◌}
->>>>>>> theirs
+use Rattle.std.proofs.Common.{◌≡◌, ℕ, Bool, true, ◌&&◌, is_some, List, [], ◌∷◌, ◌++◌, Option, Some, None, refl, ap, sym, subst, ◌∙◌}
 use Rattle.fuse_spec.specs.declared.Opened.{Opened}
 use Rattle.fuse_spec.specs.declared.ReplyResult.{ReplyResult}
 use Rattle.fuse_spec.specs.declared.WriteResult.{WriteResult}

@@ -196,13 +196,8 @@ module _ (k : Kernel) (sound : AnswersSound k.vfs) where
   call_hears call wire None there = as_they_were k.vfs sound
   call_hears call wire (Some state) there = by (goes_with (asked state) wire)
     where
-<<<<<<< ours
       by : (b : Bool) → CallsStay false k.vfs (replied k call state b wire).1.vfs
-      by true = let u = use_of_all k.nodes (files_in_reply wire) in used_after call state there (judged k call state wire u) (judged_changes call state wire u)
-=======
-      by : (b : Bool) → CallsStay k.vfs (replied k call state b wire).1.vfs
       by true = used_after call state there (heard k call state wire) (judged_changes (without_stale k wire).queues call state (reply_judged k.nodes wire) (use_of_reply k.nodes wire))
->>>>>>> theirs
       by false = used_after call state there (record k { vfs = answered k.vfs call (answer.failed 5) }) (answered_changes k.vfs call (answer.failed 5))
 
 -- A reply is written.

@@ -1,5 +1,5 @@
 -- Each forget that is queued or sent is of a node from 2 up and of one lookup at least, and no reply is kept under the number of an INTERRUPT.
-use Rattle.std.proofs.Common.{◌≡◌, ℕ, ◌+◌, ◌-◌, ◌≤◌, Bool, true, false, true≢false, cond, List, [], ◌∷◌, take, drop, map, Option, Some, None, nat_eq, slice_get, refl, ap, sym, subst, ◌∙◌, arith, inl, inr, All}
+use Rattle.std.proofs.Common.{◌≡◌, ℕ, ◌+◌, ◌-◌, ◌≤◌, Bool, true, false, true≢false, cond, List, [], ◌∷◌, ◌++◌, take, drop, Option, Some, None, nat_eq, slice_get, refl, ap, sym, subst, ◌∙◌, arith, inl, inr, All}
 use Rattle.std.specs.Prelude.{◌%◌, nat_lt}
 use Rattle.std.specs.List.{remove as without_at}
 use Rattle.std.proofs.lemmas.Bool.Decides.{nat_tests}
@@ -19,7 +19,7 @@ use Rattle.fuse_spec.specs.Operations.{DirentPlus, told_by, listed_plus, done, f
 use Rattle.fuse_spec.specs.Performs.{performed, served}
 use Rattle.fuse_spec.specs.QueueCalls.{can_read_forgets, waiting, without}
 use Rattle.fuse_spec.specs.Queues.{pending}
-use Rattle.fuse_spec.specs.Replies.{kernel_reply, learnt, Use, usable, useless, stale, use_counted, first_use, use_of_all, goes_with, is_agreement, judged, replied, replied_to_call, reply_taken, odd_taken, interrupt_replied, interrupt_reply_of, reply_written, heard, without_stale, reply_judged, use_of_reply, use_of, use_of_told, learnt_by, stale_in, stale_among, stale_in_reply}
+use Rattle.fuse_spec.specs.Replies.{kernel_reply, learnt, Use, usable, useless, stale, use_counted, first_use, use_of_all, goes_with, is_agreement, judged, replied, replied_to_call, reply_taken, odd_taken, interrupt_replied, interrupt_reply_of, reply_written, heard, without_stale, reply_judged, use_of_reply, use_of, use_of_told, learnt_by, stale_in, stale_among, forgets_with, stale_in_reply}
 use Rattle.fuse_spec.specs.Server.{Server, HeldRequest, Kept, forgets_of}
 use Rattle.fuse_spec.specs.Taking.{taking}
 use Rattle.fuse_spec.specs.Vfs.{CallState, asked, answered}
@@ -89,16 +89,17 @@ of_reply_low : (nodes : Map Counted) (wire : WireReply) (node : ℕ) → use_of_
 of_reply_low nodes (listed_plus pairs) node e = absurd (cc (e))
 of_reply_low nodes wire node e = stale_low nodes (files_in_reply wire) node e
 
-each_forget : (nodes : List ℕ) → All Low nodes → All IsForget (map (λ node. (node, 1)) nodes)
-each_forget [] h = All-nil IsForget
-each_forget (node ∷ nodes) h = All-cons IsForget (node, 1) (map (λ n. (n, 1)) nodes) (All-head Low node nodes h, omega arith) (each_forget nodes (All-tail Low node nodes h))
+each_forget : (nodes : List ℕ) (forgets : List Forget) → All IsForget forgets → All Low nodes → All IsForget (forgets_with forgets nodes)
+each_forget [] forgets old h = old
+each_forget (node ∷ nodes) forgets old h =
+    each_forget nodes (forgets ++ (node, 1) ∷ []) (All-push IsForget forgets (node, 1) old (All-head Low node nodes h, omega arith)) (All-tail Low node nodes h)
 
 heard_forgets : (k : Kernel) → All IsForget k.queues.forgets → (call : ℕ) (wire : WireReply) (o : Option (CallState Opened)) → All IsForget (replied_to_call k call wire o).1.queues.forgets
 heard_forgets k old call wire None = old
 heard_forgets k old call wire (Some state) = by (goes_with (asked state) wire)
   where
     stale_old : All IsForget (without_stale k wire).queues.forgets
-    stale_old = All-append IsForget k.queues.forgets _ old (each_forget (stale_in_reply k.nodes wire) (in_reply_low k.nodes wire))
+    stale_old = each_forget (stale_in_reply k.nodes wire) k.queues.forgets old (in_reply_low k.nodes wire)
 
     judged_forgets : (x : WireReply) (u : Use) → ((node : ℕ) → u ≡ stale node → 2 ≤ node) → All IsForget (judged (without_stale k wire) call state x u).queues.forgets
     judged_forgets x usable low =

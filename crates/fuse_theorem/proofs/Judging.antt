@@ -1,5 +1,5 @@
 -- Where the server holds what the kernel counts and what a reply names, the kernel takes the reply as it is.
-use Rattle.std.proofs.Common.{◌≡◌, ℕ, ◌≤◌, List, [], ◌∷◌, ◌++◌, Option, Some, None, map, refl, ap, sym, subst, ◌∙◌, inl, inr, append-nil, All}
+use Rattle.std.proofs.Common.{◌≡◌, ℕ, ◌≤◌, List, [], ◌∷◌, ◌++◌, Option, Some, None, refl, ap, sym, subst, ◌∙◌, inl, inr, All}
 use Rattle.std.proofs.lemmas.List.Elements.{All-nil, All-cons, All-head, All-tail}
 use Rattle.fuse_spec.specs.declared.Counted.{Counted}
 use Rattle.fuse_spec.specs.declared.Entry.{Entry}
@@ -10,7 +10,7 @@ use Rattle.fuse_spec.specs.Maps.{Map, get, put}
 use Rattle.fuse_spec.specs.Messages.{WireReply}
 use Rattle.fuse_spec.specs.Nodes.{NodeTable}
 use Rattle.fuse_spec.specs.Operations.{DirentPlus, told_by, first_told, files_told, listed_plus, files_in_reply}
-use Rattle.fuse_spec.specs.Replies.{Use, usable, first_use, counted_more, learnt, use_of_told, pair_judged, pairs_judged, stale_in, stale_among, reply_judged, use_of_reply, stale_in_reply, judged, heard}
+use Rattle.fuse_spec.specs.Replies.{Use, usable, first_use, counted_more, learnt, use_of_told, pair_judged, pairs_judged, stale_in, stale_among, each_forgotten, reply_judged, use_of_reply, stale_in_reply, judged, heard}
 use Rattle.fuse_spec.specs.Vfs.{CallState}
 use Rattle.fuse_theorem.specs.Conditions.{IsUsable}
 use Rattle.fuse_theorem.specs.Lookups.{IsHeldAs, EntriesHeld}
@@ -21,8 +21,7 @@ use Rattle.fuse_theorem.proofs.RepliesGo.{use_one, all_usable}
 -- The kernel hears such a reply as one whose entries can all be used.
 pub heard_is : (k : Kernel) (call : ℕ) (state : CallState Opened) (wire : WireReply) → IsUsable k.nodes wire → heard k call state wire ≡ judged k call state wire usable
 heard_is k call state wire is =
-    (λ i. judged (record k { queues = record k.queues { forgets = k.queues.forgets ++ map (λ node. (node, 1)) (is.none_stale i) } }) call state (is.judged i) (is.is_usable i))
-    ∙ (λ i. judged (record k { queues = record k.queues { forgets = append-nil k.queues.forgets i } }) call state wire usable)
+    λ i. judged (record k { queues = each_forgotten k.queues (is.none_stale i) }) call state (is.judged i) (is.is_usable i)
 
 module _ (t : NodeTable) where
   abbrev pub HeldCounted : Map Counted → Type 0
