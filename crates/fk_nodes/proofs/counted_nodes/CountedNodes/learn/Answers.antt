@@ -5,8 +5,8 @@ use Rattle.fuse_spec.specs.declared.Counted.{Counted}
 use Rattle.fuse_spec.specs.Replies as replies
 use Rattle.fk_lookup_count.specs.Slots.{nodes_in}
 use Rattle.fk_lookup_count.specs.CountedNodes.{generation_at, learnt}
-use Rattle.fk_kernel.proofs.Counts.{sorted_nodes, learnt_is, one_more, as_many, not_unlike}
-use Rattle.fk_kernel.proofs.counted_nodes.CountedNodes.learn.Goals as goal
+use Rattle.fk_nodes.proofs.Counts.{sorted_nodes, learnt_is, one_more, as_many, not_unlike}
+use Rattle.fk_nodes.proofs.counted_nodes.CountedNodes.learn.Goals as goal
 
 pub learn-requires-clause-fits : goal.learn-requires-clause-fits
 learn-requires-clause-fits g c = λ x at.

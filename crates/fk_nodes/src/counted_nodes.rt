@@ -1,18 +1,26 @@
 //! The nodes that the kernel counts.
 
-ghost use Rattle.std.specs.Prelude.{◌≡◌, ◌≤◌, ◌<◌, ◌+◌, ◌^◌, [], ◌∷◌, length, map, option_map, OnOk, OnErr, IfOk};
+ghost use Rattle.std.specs.Prelude.{◌≡◌, ◌≤◌, ◌<◌, ◌+◌, ◌^◌, [], ◌∷◌, length, map, nat_le, option_map, OnOk, OnErr, IfOk, T};
 ghost use Rattle.std.specs.Option.{ForSome};
 ghost use Rattle.fuse_spec.specs.Maps.{get, remove};
-ghost use Rattle.fuse_spec.specs.Replies.{learnt};
+ghost use Rattle.fuse_spec.specs.Numbers.{counter_end};
+ghost use Rattle.fuse_spec.specs.Replies.{counted_more, learnt, use_of};
+ghost use Rattle.std.specs.FinMap.{is_sorted};
+ghost use Rattle.std.specs.Ordering.{nat_cmp};
+ghost use Rattle.fk_nodes.specs.Uses.{use_meant};
 
+use crate::entry_use::EntryUse;
 use fk_lookup_count::{CountTable, KernelNodes};
 use fuse_spec::Entry;
 use std::alloc::{AllocError, Allocator, Global};
 use std::marker::Model;
 
+/// The end of counters (this project's rule): a node's lookups are fewer.
+const COUNTER_END: u64 = 0x4000_0000_0000_0000;
+
 /// The counted nodes: each node id with its generation and its lookup count.
 #[derive(Drop)]
-pub(crate) struct CountedNodes<A: Allocator + Copy = Global> {
+pub struct CountedNodes<A: Allocator + Copy = Global> {
     table: KernelNodes<A>,
     /// At least as many as are counted.
     most: usize,
@@ -58,6 +66,35 @@ impl<A: Allocator + Copy> CountedNodes<A> {
     {
         let _ = &self.most;
         self.table.generation_of(id)
+    }
+
+    /// Nodes stand in rising id. A call without effect, made where a proof rests on that.
+    pub fn are_sorted(&self)
+        ensures { T (is_sorted nat_cmp self.now) }
+    {
+        // A field is touched so that the type's invariant is at hand.
+        let _ = &self.most;
+    }
+
+    /// Whether an entry can be used.
+    pub fn use_of(&self, entry: &Entry) -> EntryUse
+        ensures { use_meant entry.now.nodeid result ≡ use_of self.now entry.now }
+    {
+        if entry.nodeid < 2 {
+            return EntryUse::Useless;
+        }
+        match self.generation_of(entry.nodeid) {
+            Some(generation) if generation != entry.generation => EntryUse::Stale,
+            _ => EntryUse::Usable,
+        }
+    }
+
+    /// Whether one lookup more brings the count of the entry's node to the end of counters.
+    pub fn counts_out(&self, entry: &Entry) -> bool
+        ensures { result ≡ nat_le counter_end (counted_more entry.now (get self.now entry.now.nodeid)).count }
+    {
+        let _ = &self.most;
+        self.table.count_of(entry.nodeid) >= COUNTER_END - 1
     }
 
     /// Counts one lookup more of the node that an entry names.

@@ -13,7 +13,7 @@ use Rattle.fk_lookup_count.specs.declared.forget.Forget.{Forget}
 use Rattle.fk_lookup_count.specs.CountedNodes.{IsUnlike, learnt, forget_of, generation_at}
 use Rattle.fk_lookup_count.specs.Slots.{nodes_in, is_node}
 use Rattle.fk_lookup_count.proofs.NumberMaps.{sorted-filter}
-use Rattle.fk_kernel.proofs.Sound.{length_put, length_gone}
+use Rattle.fk_nodes.proofs.Lengths.{length_put, length_gone}
 
 pub sorted_nodes : (slots : FinMap nat_cmp Counted) → T (is_sorted nat_cmp (nodes_in slots))
 sorted_nodes slots = sorted-filter is_node (entries slots) (entries_sorted slots)

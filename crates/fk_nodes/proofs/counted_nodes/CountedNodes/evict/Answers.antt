@@ -4,9 +4,9 @@ use Rattle.fuse_spec.specs.Maps.{Map, get, remove}
 use Rattle.fuse_spec.specs.declared.Counted.{Counted}
 use Rattle.fk_lookup_count.specs.declared.forget.Forget.{Forget}
 use Rattle.fk_lookup_count.specs.Slots.{nodes_in}
-use Rattle.fk_kernel.proofs.Sound.{length_kept}
-use Rattle.fk_kernel.proofs.Counts.{count_of_forget, fewer}
-use Rattle.fk_kernel.proofs.counted_nodes.CountedNodes.evict.Goals as goal
+use Rattle.fk_nodes.proofs.Lengths.{length_kept}
+use Rattle.fk_nodes.proofs.Counts.{count_of_forget, fewer}
+use Rattle.fk_nodes.proofs.counted_nodes.CountedNodes.evict.Goals as goal
 
 pub invariant_of-self : goal.invariant_of-self
 invariant_of-self g c =

@@ -1,0 +1,5 @@
+pub mod Judged
+pub mod Counting
+pub mod Lengths
+pub mod Counts
+pub mod Outs

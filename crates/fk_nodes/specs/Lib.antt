@@ -1,0 +1,2 @@
+pub mod Learning
+pub mod Uses
