@@ -23,6 +23,6 @@ heard_together k call state (attributes a) other = refl
 heard_together k call state (listed records) other = refl
 heard_together k call state (content bytes) other = refl
 heard_together k call state (written size) other = refl
-heard_together k call state (agreed major minor) other = refl
+heard_together k call state (agreed major minor flags) other = refl
 heard_together k call state done other = refl
 heard_together k call state (failed errno) other = refl

@@ -5,6 +5,8 @@ use Rattle.fuse_spec.specs.declared.Purpose.{Purpose}
 use Rattle.fuse_spec.specs.declared.QueuedRequest.{QueuedRequest}
 use Rattle.fuse_spec.specs.Maps.{Map, get, get_name}
 use Rattle.fuse_spec.specs.Numbers.{eintr}
+use Rattle.fuse_spec.specs.Calls.{lists_files_at}
+use Rattle.fuse_spec.specs.declared.Phase.TheVariants.{Ready}
 use Rattle.fuse_spec.specs.Operations.{Operation, failed}
 use Rattle.fuse_spec.specs.Trees.{Tree, is_nameless}
 use Rattle.fuse_spec.specs.Vfs.{CallState, Vfs, asked}
@@ -55,7 +57,7 @@ pub record AskedBy (asks : Map Ask) (unique : ℕ) (signalled marked : Bool) (Sa
 -- (this project's rule)
 abbrev pub RequestBodyAsked : Map Ask → (unique : ℕ) → (signalled marked : Bool) → (ℕ → ℕ → Type 0) → (Opened → ℕ → Type 0) → RequestBody → Type 0
 RequestBodyAsked all unique signalled marked R S (asks operation) = AskedBy all unique signalled marked (OperationAlike R S operation)
-RequestBodyAsked all unique signalled marked R S init = get all unique ≡ None
+RequestBodyAsked all unique signalled marked R S (init flags) = get all unique ≡ None
 RequestBodyAsked all unique signalled marked R S (release o) = get all unique ≡ None
 RequestBodyAsked all unique signalled marked R S (forget f) = get all unique ≡ None
 RequestBodyAsked all unique signalled marked R S (batch_forget fs) = get all unique ≡ None
@@ -106,12 +108,14 @@ pub record AsksAlike (w : World) (p : Plain) : Type 0 where
   pub kept : (unique : ℕ) (kept : Kept) (ask : Ask) → get w.server.kept unique ≡ Some kept → get p.asks unique ≡ Some ask → StageTold w.server.nodes w.server.handles ask.stage kept.wire
   pub copies : All (λ (sent : Sent). (ask : Ask) → get p.asks sent.unique ≡ Some ask → StageTold w.server.nodes w.server.handles ask.stage sent.wire) w.replies
 
--- The world and the plain world are alike: with each node replaced by the file that it denotes, tree, calls, names in force, open files, asks and validities
--- are the same. (this project's rule)
+-- The world and the plain world are alike: with each node replaced by the file that it denotes, tree, calls, names in force, open files, asks, validities and the
+-- minor are the same. (this project's rule)
 pub record Alike (w : World) (p : Plain) : Type 0 where
   pub tree : TreeAlike w.server p.tree
   pub vfs : VfsAlike (MeansIn w) (MeansOpenIn w) w.kernel.vfs p.vfs
   pub requests : RequestsAlike w p
   pub asks : is_live w.kernel.phase ≡ true → AsksAlike w p
   pub validity : w.server.validity ≡ p.validity
+  pub minor : w.server.minor ≡ p.minor
+  pub agreed : w.kernel.phase ≡ Ready → (w.kernel.minor ≡ p.minor) × (w.kernel.lists_files ≡ lists_files_at p.minor)
   pub aborted : is_aborted w.kernel.phase ≡ p.aborted

@@ -4,6 +4,7 @@ use Rattle.std.specs.List.{list_all}
 use Rattle.fuse_spec.specs.Maps.{Map, get, remove}
 use Rattle.fuse_spec.specs.Operations.{files_in_reply, opens_in_reply}
 use Rattle.fuse_spec.specs.declared.Validity.{Validity}
+use Rattle.fuse_spec.specs.declared.Minor.{Minor}
 use Rattle.fuse_spec.specs.declared.Entry.{Entry}
 use Rattle.fuse_spec.specs.declared.WriteResult.{WriteResult}
 use Rattle.fuse_spec.specs.declared.WriteResult.TheVariants.{Accepted, NoEntry, Invalid}
@@ -74,8 +75,8 @@ connection_lost s = record s { kept = []; copies = []; aborted = true }
 
 -- A mount empties the tables, the held requests, the kept replies and the copies; the tree, the generations, the open numbers and the copy numbers go on.
 -- (this project's rule)
-abbrev pub remounted : Server → Validity → Server
-remounted s validity =
+abbrev pub remounted : Server → Validity → Minor → Server
+remounted s validity minor =
     without_unheld_files (record s {
       nodes = record s.nodes { rows = [] };
       handles = record s.handles { handles = [] };
@@ -83,5 +84,6 @@ remounted s validity =
       kept = [];
       copies = [];
       validity = validity;
+      minor = minor;
       aborted = false;
     })

@@ -61,7 +61,7 @@ Balance w = (id : ℕ) → 2 ≤ id → count_in (get w.server.nodes.rows id) �
 -- The next two are how often a request releases an open number, by what it asks and by what the kernel keeps of it. (this project's rule)
 abbrev pub releases_in : ℕ → RequestBody → ℕ
 releases_in fh (release o) = cond (nat_eq o.fh fh) 1 0
-releases_in fh init = 0
+releases_in fh (init flags) = 0
 releases_in fh (asks operation) = 0
 releases_in fh (forget f) = 0
 releases_in fh (batch_forget fs) = 0
@@ -132,7 +132,7 @@ opens_of operation = []
 abbrev pub opens_of_body : RequestBody → List Opened
 opens_of_body (asks operation) = opens_of operation
 opens_of_body (release o) = o ∷ []
-opens_of_body init = []
+opens_of_body (init flags) = []
 opens_of_body (forget f) = []
 opens_of_body (batch_forget fs) = []
 opens_of_body (interrupt original) = []

@@ -27,7 +27,8 @@ pub record Dirent : Type 0 where
   pub kind : Kind
   pub name : Name
 
--- A name that a directory lists together with its file, or with none: the name leads there for so many milliseconds. (linux/fuse.h, struct fuse_direntplus)
+-- A name that a directory lists together with its file, to which it leads for so many milliseconds, or with none, as an entry of nodeid 0 says.
+-- (linux/fuse.h, struct fuse_direntplus)
 pub record DirentPlus (F : Type 0) : Type 0 where
   pub file : Option F
   pub valid : ℕ
@@ -45,7 +46,7 @@ pub data Reply (F O : Type 0) : Type 0 where
   listed_plus : (pairs : List (DirentPlus F)) → Reply F O
   content : (bytes : List ℕ) → Reply F O
   written : (size : ℕ) → Reply F O
-  agreed : (major minor : ℕ) → Reply F O  -- to INIT
+  agreed : (major minor flags : ℕ) → Reply F O  -- to INIT, with the flags that the server takes up
   done : Reply F O
   failed : (errno : ℕ) → Reply F O
 
@@ -80,7 +81,7 @@ reply_with f g (listed records) = listed records
 reply_with f g (listed_plus pairs) = listed_plus (map (pair_with f) pairs)
 reply_with f g (content bytes) = content bytes
 reply_with f g (written size) = written size
-reply_with f g (agreed major minor) = agreed major minor
+reply_with f g (agreed major minor flags) = agreed major minor flags
 reply_with f g done = done
 reply_with f g (failed errno) = failed errno
 
@@ -123,7 +124,7 @@ files_in_reply (listed records) = []
 files_in_reply (listed_plus pairs) = files_told pairs
 files_in_reply (content bytes) = []
 files_in_reply (written size) = []
-files_in_reply (agreed major minor) = []
+files_in_reply (agreed major minor flags) = []
 files_in_reply done = []
 files_in_reply (failed errno) = []
 
@@ -138,7 +139,7 @@ opens_in_reply (listed records) = []
 opens_in_reply (listed_plus pairs) = []
 opens_in_reply (content bytes) = []
 opens_in_reply (written size) = []
-opens_in_reply (agreed major minor) = []
+opens_in_reply (agreed major minor flags) = []
 opens_in_reply done = []
 opens_in_reply (failed errno) = []
 
@@ -154,5 +155,5 @@ errno_of (listed records) = 0
 errno_of (listed_plus pairs) = 0
 errno_of (content bytes) = 0
 errno_of (written size) = 0
-errno_of (agreed major minor) = 0
+errno_of (agreed major minor flags) = 0
 errno_of done = 0

@@ -1,10 +1,13 @@
 -- How the server performs a held request.
 use Rattle.std.specs.Prelude.{ℕ, ◌+◌, Bool, true, ◌||◌, cond, not, List, []}
 use Rattle.std.specs.List.{list_all}
+use Rattle.std.specs.Int.RustNames.{bit_and}
+use Rattle.fuse_spec.specs.declared.Minor.{Minor}
+use Rattle.fuse_spec.specs.declared.Minor.TheVariants.{M15, M31}
 use Rattle.fuse_spec.specs.declared.Opened.{Opened}
 use Rattle.fuse_spec.specs.declared.Entry.{Entry}
 use Rattle.fuse_spec.specs.Maps.{put, remove}
-use Rattle.fuse_spec.specs.Numbers.{eintr, eio, ebadf}
+use Rattle.fuse_spec.specs.Numbers.{eintr, eio, ebadf, async_read, init_flags}
 use Rattle.fuse_spec.specs.Operations.{Operation, read, write, Reply, agreed, done, failed, operation_with, reply_with, files_in_reply, opens_in_reply, errno_of}
 use Rattle.fuse_spec.specs.Trees.{Tree, attributes_of}
 use Rattle.fuse_spec.specs.FileOperations.{FileOperation, reply_by, tree_after}
@@ -56,10 +59,23 @@ doing choice s operation =
 abbrev pub refusing : Server → ℕ → PerformResult
 refusing s errno = record { server = s; wire = failed errno }
 
--- What a held request asks is done: INIT is answered 7.31, a read, write or RELEASE without its open number EBADF, and forgets and INTERRUPTs are never
+-- The next two are a minor's number and the flags of INIT that it knows. (linux/fuse.h, struct fuse_init_out)
+abbrev pub minor_number : Minor → ℕ
+minor_number M15 = 15
+minor_number M31 = 31
+
+abbrev pub flags_known : Minor → ℕ
+flags_known M15 = async_read
+flags_known M31 = init_flags
+
+-- The reply to an INIT that offers these flags: the minor that the server speaks, and those of the flags that it knows. (linux/fuse.h, struct fuse_init_out)
+abbrev pub init_reply : Minor → (flags : ℕ) → WireReply
+init_reply minor flags = agreed 7 (minor_number minor) (bit_and flags (flags_known minor))
+
+-- What a held request asks is done: INIT is answered the minor, a read, write or RELEASE without its open number EBADF, and forgets and INTERRUPTs are never
 -- held. (this project's rule)
 abbrev pub performing : (ℕ → ℕ) → Server → RequestBody → PerformResult
-performing choice s init = record { server = s; wire = agreed 7 31 }
+performing choice s (init flags) = record { server = s; wire = init_reply s.minor flags }
 performing choice s (asks operation) = cond (is_open_for s operation) (doing choice s (file_operation_of s.nodes operation)) (refusing s ebadf)
 performing choice s (release o) =
     cond (is_open s.handles o.fh (file_of s.nodes o.nodeid)) (record { server = record s { handles = handle_back s.handles o.fh }; wire = done }) (refusing s ebadf)
@@ -94,7 +110,7 @@ served choice s unique taken =
 -- The files to which an operation gives nodes. (this project's rule)
 abbrev pub files_by : Server → RequestBody → List ℕ
 files_by s (asks operation) = cond (is_open_for s operation) (files_in_reply (reply_by s.validity s.tree (file_operation_of s.nodes operation))) []
-files_by s init = []
+files_by s (init flags) = []
 files_by s (release o) = []
 files_by s (forget f) = []
 files_by s (batch_forget fs) = []

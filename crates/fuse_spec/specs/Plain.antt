@@ -8,7 +8,9 @@ use Rattle.fuse_spec.specs.Paths.{Name}
 use Rattle.fuse_spec.specs.Operations.{Reply}
 use Rattle.fuse_spec.specs.Trees.{Tree, a_directory}
 use Rattle.fuse_spec.specs.FileOperations.{FileOperation, reply_by, tree_after}
-use Rattle.fuse_spec.specs.Calls.{Call}
+use Rattle.fuse_spec.specs.Calls.{Call, spoken, lists_files_at}
+use Rattle.fuse_spec.specs.declared.Minor.{Minor}
+use Rattle.fuse_spec.specs.declared.Minor.TheVariants.{M31}
 use Rattle.fuse_spec.specs.Answers.{failed}
 use Rattle.fuse_spec.specs.Vfs.{CallState, Vfs, Advance, answered, begun, given_up, later}
 use Rattle.fuse_spec.specs.CallReplies.{call_replied}
@@ -27,13 +29,14 @@ pub record Ask : Type 0 where
   pub noted : Bool
   pub marked : Bool
 
--- The plain world: its tree, the system calls' side, the asks under labels by which later events of a run mean them, the validities, and whether the mount
--- is aborted. (this project's rule)
+-- The plain world: its tree, the system calls' side, the asks under labels by which later events of a run mean them, the validities and the minor of the
+-- mount, and whether it is aborted. (this project's rule)
 pub record Plain : Type 0 where
   pub tree : Tree
   pub vfs : Vfs ℕ
   pub asks : Map Ask
   pub validity : Validity
+  pub minor : Minor
   pub aborted : Bool
 
 -- The call's ask is put under this label, where it asks an operation. (this project's rule)
@@ -48,6 +51,10 @@ going_on p label call went = asking (record p { vfs = went.vfs }) label call wen
 -- A call begins. What it asks bears this label. (this project's rule)
 abbrev pub call_begun : Plain → (label : ℕ) → Call → Plain
 call_begun p label call = going_on p label p.vfs.next_call (begun p.aborted p.vfs call)
+
+-- A call begins as it may be put at the mount's minor. (linux/fuse.h, FUSE_READDIRPLUS)
+abbrev pub call_put : Plain → (label : ℕ) → Call → Plain
+call_put p label call = call_begun p label (spoken (lists_files_at p.minor) call)
 
 -- An ask is performed: the tree changes as the operation says. (this project's rule)
 abbrev pub ask_performed : Plain → (label : ℕ) → Ask → Plain
@@ -90,8 +97,8 @@ abbrev pub plain_aborted : Plain → Plain
 plain_aborted p = record p { vfs = given_up p.vfs; aborted = true }
 
 -- A mount: the asks go, no name and no open file is left, and the validities are set. (this project's rule)
-abbrev pub plain_mounted : Plain → Validity → Plain
-plain_mounted p validity = record p { vfs = given_up p.vfs; asks = []; validity = validity; aborted = false }
+abbrev pub plain_mounted : Plain → Validity → Minor → Plain
+plain_mounted p validity minor = record p { vfs = given_up p.vfs; asks = []; validity = validity; minor = minor; aborted = false }
 
 -- The plain world before the first mount: its tree is the root alone. (this project's rule)
 abbrev pub first_plain : Plain
@@ -101,5 +108,6 @@ first_plain =
       vfs = record { calls = []; names = []; opens = []; answers = []; next_call = 1; clock = 0; root = 0 };
       asks = [];
       validity = record { found_ms = 0; missing_ms = 0 };
+      minor = M31;
       aborted = false;
     }

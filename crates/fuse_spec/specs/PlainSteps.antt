@@ -10,7 +10,7 @@ use Rattle.fuse_spec.specs.declared.WriteResult.TheVariants.{Accepted, NoEntry, 
 use Rattle.fuse_spec.specs.declared.Taken.TheVariants as word
 use Rattle.fuse_spec.specs.Events.{Event, Outcome}
 use Rattle.fuse_spec.specs.Events as event
-use Rattle.fuse_spec.specs.Plain.{Plain, Ask, Stage, waiting, performed, declined, call_begun, ask_performed, ask_declined, ask_told, ask_interrupted, ask_noted, ask_marked, plain_later, name_dropped, plain_aborted, plain_mounted}
+use Rattle.fuse_spec.specs.Plain.{Plain, Ask, Stage, waiting, performed, declined, call_put, ask_performed, ask_declined, ask_told, ask_interrupted, ask_noted, ask_marked, plain_later, name_dropped, plain_aborted, plain_mounted}
 
 -- A step, where the condition holds. (this project's rule)
 abbrev pub where_so : Bool → Plain → Option Plain
@@ -71,7 +71,7 @@ marking p label (Some ask) = Some (ask_marked p label ask)
 
 -- The plain world after an event with this outcome. With any other outcome than the event can have there is no step. (this project's rule)
 abbrev pub takes : ℕ → Plain → Event → Outcome → Option Plain
-takes chosen p (event.call call) (event.begun number) = where_so (nat_eq number p.vfs.next_call && not (is_some (get p.asks chosen))) (call_begun p chosen call)
+takes chosen p (event.call call) (event.begun number) = where_so (nat_eq number p.vfs.next_call && not (is_some (get p.asks chosen))) (call_put p chosen call)
 takes chosen p (event.perform unique) (event.performed u errno lost) = serving p unique (get p.asks unique)
 takes chosen p (event.write k) (event.written unique Accepted) = telling p unique chosen (get p.asks unique)
 takes chosen p (event.write k) (event.written unique NoEntry) = Some p
@@ -82,7 +82,7 @@ takes chosen p (event.take k) (event.taken unique other) = Some p
 takes chosen p (event.tick ms) (event.now clock) = where_so (nat_eq clock (p.vfs.clock + ms)) (plain_later p ms)
 takes chosen p (event.drop_name node name) event.dropped = Some (name_dropped p chosen name)
 takes chosen p event.abort event.aborted = Some (plain_aborted p)
-takes chosen p (event.mount found_ms missing_ms) event.mounted = Some (plain_mounted p (record { found_ms = found_ms; missing_ms = missing_ms }))
+takes chosen p (event.mount found_ms missing_ms minor) event.mounted = Some (plain_mounted p (record { found_ms = found_ms; missing_ms = missing_ms }) minor)
 -- these are no steps of the plain world
 takes chosen p event.read_interrupt (event.is_read unique) = Some p
 takes chosen p (event.read_forgets n) (event.is_read unique) = Some p

@@ -7,16 +7,17 @@ use Rattle.fuse_spec.specs.Paths.{Name}
 use Rattle.fuse_spec.specs.Calls.{Call}
 use Rattle.fuse_spec.specs.Vfs.{CallState}
 use Rattle.fuse_spec.specs.declared.Counted.{Counted}
+use Rattle.fuse_spec.specs.declared.Minor.{Minor}
 use Rattle.fuse_spec.specs.declared.Binding.{Binding}
 use Rattle.fuse_spec.specs.declared.Opened.{Opened}
 use Rattle.fuse_spec.specs.declared.Purpose.{Purpose}
 use Rattle.fuse_spec.specs.declared.ReplyResult.{ReplyResult}
 use Rattle.fuse_spec.specs.declared.Refusal.{Refusal}
 use Rattle.fuse_spec.specs.declared.Refusal.TheVariants.{BadTime, Busy, NotReady, Full, NoSuch, NoCopy, InterruptFirst, Exhausted}
-use Rattle.fuse_spec.specs.QueueCalls.{pending_at, first_forgets}
+use Rattle.fuse_spec.specs.QueueCalls.{pending_at}
 use Rattle.fuse_spec.specs.Uniques.{interrupt_number}
 use Rattle.fuse_spec.specs.Messages.{Forget, Request, RequestBody}
-use Rattle.fuse_spec.specs.Kernel.{Kernel, is_live, body_of, call_signalled, is_pinned, is_bound}
+use Rattle.fuse_spec.specs.Kernel.{Kernel, forgets_read, is_live, body_of, call_signalled, is_pinned, is_bound}
 use Rattle.fuse_spec.specs.Replies.{reply_written}
 use Rattle.fuse_spec.specs.Server.{HeldRequest, Kept}
 use Rattle.fuse_spec.specs.Taking.{taking}
@@ -44,11 +45,11 @@ pub record MayRead (w : World) : Type 0 where
 
 -- Where an event is not refused, its outcome and where it leads, counters aside. The server chooses the ids that it gives. (this project's rule)
 pub data Leads (choice : ℕ → ℕ) (w : World) : Event → Outcome → World → Type 0 where
-  mounts : (found_ms missing_ms : ℕ) → max found_ms missing_ms ≤ max_validity → IsFree w.kernel → Leads choice w (event.mount found_ms missing_ms) event.mounted (after_mount w found_ms missing_ms)
+  mounts : (found_ms missing_ms : ℕ) (minor : Minor) → max found_ms missing_ms ≤ max_validity → IsFree w.kernel → Leads choice w (event.mount found_ms missing_ms minor) event.mounted (after_mount w found_ms missing_ms minor)
   calls : (call : Call) → is_ready w.kernel.phase ≡ true → length w.kernel.vfs.calls < max_calls → Leads choice w (event.call call) (event.begun w.kernel.vfs.next_call) (after_call w call)
   reads_interrupt : (original : ℕ) (rest : List ℕ) → is_live w.kernel.phase ≡ true → w.kernel.queues.interrupts ≡ original ∷ rest
       → Leads choice w event.read_interrupt (event.is_read (interrupt_number original)) (after_read_interrupt w original)
-  reads_forgets : (n unique : ℕ) (forgets : List Forget) → MayRead w → first_forgets w.kernel.queues n ≡ Some (unique, forgets) → Leads choice w (event.read_forgets n) (event.is_read unique) (after_read_forgets w n forgets)
+  reads_forgets : (n unique : ℕ) (forgets : List Forget) → MayRead w → forgets_read w.kernel n ≡ Some (unique, forgets) → Leads choice w (event.read_forgets n) (event.is_read unique) (after_read_forgets w n forgets)
   reads_pending : (k unique : ℕ) (purpose : Purpose) (body : RequestBody) → MayRead w → pending_at w.kernel.queues k ≡ Some (unique, purpose) → body_of w.kernel purpose ≡ Some body
       → Leads choice w (event.read_pending k) (event.is_read unique) (after_read_pending w k unique body)
   takes : (k : ℕ) (request : Request) → slice_get w.requests k ≡ Some request
@@ -71,7 +72,7 @@ pub data Leads (choice : ℕ → ℕ) (w : World) : Event → Outcome → World 
 
 -- The events that are refused where a counter would go past its end. (this project's rule)
 abbrev pub draws : Event → Bool
-draws (event.mount found_ms missing_ms) = false
+draws (event.mount found_ms missing_ms minor) = false
 draws (event.settle k) = false
 draws (event.tick ms) = false
 draws (event.drop_name directory name) = false
@@ -100,7 +101,7 @@ reads_other other = false
 -- name in force, or node counted. (this project's rule)
 pub data NamesNothing (w : World) : Event → Type 0 where
   no_interrupt : w.kernel.queues.interrupts ≡ [] → NamesNothing w event.read_interrupt
-  no_forgets : (n : ℕ) → first_forgets w.kernel.queues n ≡ None → NamesNothing w (event.read_forgets n)
+  no_forgets : (n : ℕ) → forgets_read w.kernel n ≡ None → NamesNothing w (event.read_forgets n)
   no_pending : (k : ℕ) → pending_at w.kernel.queues k ≡ None → NamesNothing w (event.read_pending k)
   no_body : (k unique : ℕ) (purpose : Purpose) → pending_at w.kernel.queues k ≡ Some (unique, purpose) → body_of w.kernel purpose ≡ None → NamesNothing w (event.read_pending k)
   no_request : (k : ℕ) → slice_get w.requests k ≡ None → NamesNothing w (event.take k)
@@ -114,8 +115,8 @@ pub data NamesNothing (w : World) : Event → Type 0 where
 -- Which refusal the event has. The cases are judged in this order: each says that those before it do not apply. Want of memory, which comes last, is no
 -- matter of the state. (this project's rule)
 pub data Refuses (choice : ℕ → ℕ) (w : World) : Event → Refusal → Type 0 where
-  too_long : (found_ms missing_ms : ℕ) → max_validity < max found_ms missing_ms → Refuses choice w (event.mount found_ms missing_ms) BadTime
-  in_use : (found_ms missing_ms : ℕ) → max found_ms missing_ms ≤ max_validity → IsInUse w.kernel → Refuses choice w (event.mount found_ms missing_ms) Busy
+  too_long : (found_ms missing_ms : ℕ) (minor : Minor) → max_validity < max found_ms missing_ms → Refuses choice w (event.mount found_ms missing_ms minor) BadTime
+  in_use : (found_ms missing_ms : ℕ) (minor : Minor) → max found_ms missing_ms ≤ max_validity → IsInUse w.kernel → Refuses choice w (event.mount found_ms missing_ms minor) Busy
   clock_ends : (ms : ℕ) → clock_end ≤ w.kernel.vfs.clock + ms → Refuses choice w (event.tick ms) BadTime
   not_ready : (call : Call) → is_ready w.kernel.phase ≡ false → Refuses choice w (event.call call) NotReady
   too_many : (call : Call) → is_ready w.kernel.phase ≡ true → max_calls ≤ length w.kernel.vfs.calls → Refuses choice w (event.call call) Full

@@ -1,7 +1,8 @@
 -- How the kernel takes a reply.
-use Rattle.std.specs.Prelude.{ℕ, ◌+◌, ◌-◌, ◌%◌, Bool, true, false, ◌&&◌, cond, List, [], ◌∷◌, ◌++◌, Option, Some, None, length, nat_eq, nat_lt, nat_le, sum_by}
+use Rattle.std.specs.Prelude.{ℕ, ◌+◌, ◌-◌, ◌%◌, Bool, true, false, not, ◌&&◌, ◌||◌, cond, List, [], ◌∷◌, ◌++◌, Option, Some, None, length, nat_eq, nat_lt, nat_le, sum_by}
+use Rattle.std.specs.Int.RustNames.{bit_and}
 use Rattle.fuse_spec.specs.Maps.{Map, get, put}
-use Rattle.fuse_spec.specs.Numbers.{eio, eagain, enosys}
+use Rattle.fuse_spec.specs.Numbers.{eio, eagain, enosys, do_readdirplus}
 use Rattle.fuse_spec.specs.Operations.{Operation, lookup, getattr, mkdir, create, unlink, rmdir, rename, link, opening, readdir, readdirplus, read, write, DirentPlus, told_by, files_told, Reply, found, missing, created, opened, attributes, listed, listed_plus, content, written, agreed, done, failed, reply_with, files_in_reply}
 use Rattle.fuse_spec.specs.Answers as answer
 use Rattle.fuse_spec.specs.Trees.{record_length, pair_length}
@@ -10,6 +11,8 @@ use Rattle.fuse_spec.specs.CallReplies.{call_replied}
 use Rattle.fuse_spec.specs.declared.Opened.{Opened}
 use Rattle.fuse_spec.specs.declared.Entry.{Entry}
 use Rattle.fuse_spec.specs.declared.Counted.{Counted}
+use Rattle.fuse_spec.specs.declared.Minor.{Minor}
+use Rattle.fuse_spec.specs.declared.Minor.TheVariants.{M15, M31}
 use Rattle.fuse_spec.specs.declared.Phase.TheVariants.{Ready}
 use Rattle.fuse_spec.specs.declared.Purpose.{Purpose}
 use Rattle.fuse_spec.specs.declared.Purpose.TheVariants as purpose
@@ -50,14 +53,27 @@ is_empty_reply done = true
 is_empty_reply (failed errno) = true
 is_empty_reply wire = false
 
--- Whether the reply to INIT agrees on major 7 and a minor from 31 up. (this project's rule)
+-- Whether the reply to INIT agrees on major 7, and on minor 15 or one from 31 up. (this project's rule)
 abbrev pub is_agreement : WireReply → Bool
-is_agreement (agreed major minor) = nat_eq major 7 && nat_le 31 minor
+is_agreement (agreed major minor flags) = nat_eq major 7 && (nat_eq minor 15 || nat_le 31 minor)
 is_agreement wire = false
+
+-- The minor that the reply to INIT agrees on, and whether READDIRPLUS may be asked, which minor 15 doesn't know. (linux/fuse.h, struct fuse_init_out)
+abbrev pub minor_agreed : WireReply → Minor
+minor_agreed (agreed major minor flags) = cond (nat_eq minor 15) M15 M31
+minor_agreed wire = M31
+
+abbrev pub files_agreed : WireReply → Bool
+files_agreed (agreed major minor flags) = not (nat_eq (bit_and flags do_readdirplus) 0) && not (nat_eq minor 15)
+files_agreed wire = false
+
+-- The kernel is ready once INIT is agreed on. (this project's rule)
+abbrev pub made_ready : Kernel → WireReply → Kernel
+made_ready k wire = record k { phase = Ready; minor = minor_agreed wire; lists_files = files_agreed wire }
 
 -- Whether this is a reply to INIT, well-formed or an error. (linux/fuse.h, struct fuse_init_out)
 abbrev pub is_init_reply : WireReply → Bool
-is_init_reply (agreed major minor) = true
+is_init_reply (agreed major minor flags) = true
 is_init_reply (failed errno) = true
 is_init_reply wire = false
 
@@ -194,7 +210,7 @@ write_result_of false = Invalid
 
 -- A reply to a request, which ends with it: INIT makes the kernel ready, or aborts the mount; a RELEASE just ends. (this project's rule)
 abbrev pub ended_by : Kernel → Purpose → WireReply → WriteResult × Kernel
-ended_by k purpose.Init wire = (write_result_of (is_init_reply wire), cond (is_agreement wire) (record k { phase = Ready }) (kernel_aborted k))
+ended_by k purpose.Init wire = (write_result_of (is_init_reply wire), cond (is_agreement wire) (made_ready k wire) (kernel_aborted k))
 ended_by k (purpose.Release o) wire = (write_result_of (is_empty_reply wire), k)
 ended_by k (purpose.Call call) wire = replied_to_call k call wire (get k.vfs.calls call)
 

@@ -17,10 +17,10 @@ use Rattle.fuse_spec.specs.declared.ReplyResult.{ReplyResult}
 use Rattle.fuse_spec.specs.declared.Refusal.{Refusal}
 use Rattle.fuse_spec.specs.declared.Refusal.TheVariants as refusal
 use Rattle.fuse_spec.specs.declared.Refusal.TheVariants.{NoMemory}
-use Rattle.fuse_spec.specs.QueueCalls.{pending_at, first_forgets}
+use Rattle.fuse_spec.specs.QueueCalls.{pending_at}
 use Rattle.fuse_spec.specs.Uniques.{interrupt_number}
 use Rattle.fuse_spec.specs.Messages.{Forget, Request, RequestBody}
-use Rattle.fuse_spec.specs.Kernel.{Kernel, is_live, body_of, call_signalled, is_pinned, is_bound}
+use Rattle.fuse_spec.specs.Kernel.{Kernel, forgets_read, is_live, body_of, call_signalled, is_pinned, is_bound}
 use Rattle.fuse_spec.specs.Replies.{reply_written}
 use Rattle.fuse_spec.specs.Nodes.{MayChoose, counts_out}
 use Rattle.fuse_spec.specs.Server.{HeldRequest, Kept}
@@ -156,13 +156,13 @@ evicting w node (Some counted) =
 -- The event in this world, with these ids for the files that get a node. The refusals stand in the order in which they are judged. Want of memory, which
 -- comes last, isn't a matter of the state. (this project's rule)
 abbrev pub step : (ℕ → ℕ) → World → Event → Stepped
-step choice w (event.mount found_ms missing_ms) =
-    unless (nat_lt max_validity (max found_ms missing_ms)) refusal.BadTime (unless (is_busy w.kernel) refusal.Busy (Ok (event.mounted, after_mount w found_ms missing_ms)))
+step choice w (event.mount found_ms missing_ms minor) =
+    unless (nat_lt max_validity (max found_ms missing_ms)) refusal.BadTime (unless (is_busy w.kernel) refusal.Busy (Ok (event.mounted, after_mount w found_ms missing_ms minor)))
 step choice w (event.call call) =
     unless (not (is_ready w.kernel.phase)) refusal.NotReady (unless (nat_le max_calls (length w.kernel.vfs.calls)) refusal.Full
     (going (event.begun w.kernel.vfs.next_call) (after_call w call)))
 step choice w event.read_interrupt = when_live w (reading_interrupt w w.kernel.queues.interrupts)
-step choice w (event.read_forgets n) = when_live w (when_not_interrupted w (reading_forgets w n (first_forgets w.kernel.queues n)))
+step choice w (event.read_forgets n) = when_live w (when_not_interrupted w (reading_forgets w n (forgets_read w.kernel n)))
 step choice w (event.read_pending k) = when_live w (when_not_interrupted w (reading_pending w k (pending_at w.kernel.queues k)))
 step choice w (event.take k) = taking_request w k (slice_get w.requests k)
 step choice w (event.perform unique) = performing_held choice w unique (get w.server.held unique)

@@ -18,6 +18,8 @@ pub mod ListplusOfThirtyNamesInTwoReplies
 pub mod ListplusOneFileUnderTwoNames
 pub mod ListplusRefusedCopyGivesEveryCountBack
 pub mod LookupInAFileOpenReleaseAndGap
+pub mod Minor15ForgetsOneByOne
+pub mod Minor15ListplusSendsReaddirThenMinor31
 pub mod MountBusyWithAnOpenFile
 pub mod NameLengthsAndPathFaults
 pub mod NoCopyAfterSettle

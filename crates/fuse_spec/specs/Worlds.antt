@@ -8,13 +8,15 @@ use Rattle.fuse_spec.specs.Vfs.{later}
 use Rattle.fuse_spec.specs.Trees.{a_directory}
 use Rattle.fuse_spec.specs.declared.Phase.TheVariants.{Down}
 use Rattle.fuse_spec.specs.declared.Counted.{Counted}
+use Rattle.fuse_spec.specs.declared.Minor.{Minor}
+use Rattle.fuse_spec.specs.declared.Minor.TheVariants.{M15, M31}
 use Rattle.fuse_spec.specs.declared.WriteResult.{WriteResult}
 use Rattle.fuse_spec.specs.declared.ReplyResult.{ReplyResult}
 use Rattle.fuse_spec.specs.Queues.{empty_queues}
 use Rattle.fuse_spec.specs.QueueCalls as queues
 use Rattle.fuse_spec.specs.Uniques.{interrupt_number}
 use Rattle.fuse_spec.specs.Messages.{Forget, RequestBody, forget, batch_forget, interrupt, Request, WireReply}
-use Rattle.fuse_spec.specs.Kernel.{Kernel, call_begun, kernel_aborted, kernel_mounted, evicted}
+use Rattle.fuse_spec.specs.Kernel.{Kernel, call_put, kernel_aborted, kernel_mounted, evicted}
 use Rattle.fuse_spec.specs.Server.{Server, Kept, Copy}
 use Rattle.fuse_spec.specs.Taking.{TakeResult}
 use Rattle.fuse_spec.specs.Performs.{PerformResult}
@@ -38,11 +40,11 @@ pub record World : Type 0 where
 -- What each event does once nothing refuses it.
 
 -- A mount with these validities: both sides begin anew, and the links are empty. (this project's rule)
-abbrev pub after_mount : World → (found_ms missing_ms : ℕ) → World
-after_mount w found_ms missing_ms =
+abbrev pub after_mount : World → (found_ms missing_ms : ℕ) → Minor → World
+after_mount w found_ms missing_ms minor =
     record {
       kernel = kernel_mounted w.kernel;
-      server = remounted w.server (record { found_ms = found_ms; missing_ms = missing_ms });
+      server = remounted w.server (record { found_ms = found_ms; missing_ms = missing_ms }) minor;
       requests = [];
       replies = [];
       results = [];
@@ -50,7 +52,7 @@ after_mount w found_ms missing_ms =
 
 -- A system call begins. (Linux VFS)
 abbrev pub after_call : World → Call → World
-after_call w call = record w { kernel = call_begun w.kernel call }
+after_call w call = record w { kernel = call_put w.kernel call }
 
 -- A request of the kernel goes onto its link. (fuse.rst)
 abbrev pub requesting : World → ℕ → RequestBody → World
@@ -137,6 +139,8 @@ first_kernel =
       queues = empty_queues;
       nodes = [];
       closing = [];
+      minor = M15;
+      lists_files = false;
     }
 
 -- The server before the first mount: its tree is the root alone. (this project's rule)
@@ -151,6 +155,7 @@ first_server =
       copies = [];
       next_copy = 1;
       validity = record { found_ms = 0; missing_ms = 0 };
+      minor = M31;
       aborted = false;
     }
 

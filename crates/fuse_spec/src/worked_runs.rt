@@ -36,6 +36,8 @@ ghost use Rattle.fuse_spec.specs.Worked.ListplusCountsAndBindsEachName.{IsComput
 ghost use Rattle.fuse_spec.specs.Worked.ListplusRefusedCopyGivesEveryCountBack.{IsComputed as ListplusRefusedCopyGivesEveryCountBackIsComputed};
 ghost use Rattle.fuse_spec.specs.Worked.ListplusOneFileUnderTwoNames.{IsComputed as ListplusOneFileUnderTwoNamesIsComputed};
 ghost use Rattle.fuse_spec.specs.Worked.ListplusOfThirtyNamesInTwoReplies.{IsComputed as ListplusOfThirtyNamesInTwoRepliesIsComputed};
+ghost use Rattle.fuse_spec.specs.Worked.Minor15ForgetsOneByOne.{IsComputed as Minor15ForgetsOneByOneIsComputed};
+ghost use Rattle.fuse_spec.specs.Worked.Minor15ListplusSendsReaddirThenMinor31.{IsComputed as Minor15ListplusSendsReaddirThenMinor31IsComputed};
 
 /// Id used again while older reply is kept.
 pub fn id_used_again_while_older_reply_is_kept()
@@ -215,4 +217,14 @@ pub fn listplus_one_file_under_two_names()
 /// Listplus of thirty names in two replies.
 pub fn listplus_of_thirty_names_in_two_replies()
     ensures { ListplusOfThirtyNamesInTwoRepliesIsComputed }
+{}
+
+/// Minor15 forgets one by one.
+pub fn minor15_forgets_one_by_one()
+    ensures { Minor15ForgetsOneByOneIsComputed }
+{}
+
+/// Minor15 listplus sends readdir then minor31.
+pub fn minor15_listplus_sends_readdir_then_minor31()
+    ensures { Minor15ListplusSendsReaddirThenMinor31IsComputed }
 {}

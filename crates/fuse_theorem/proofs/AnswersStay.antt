@@ -8,21 +8,20 @@ use Rattle.std.proofs.lemmas.Bool.Decides.{nat_tests}
 use Rattle.fuse_spec.specs.declared.IntrEffect.{IntrEffect}
 use Rattle.fuse_spec.specs.declared.IntrEffect.TheVariants.{Dequeued, Flagged, Queued, None as NoEffect}
 use Rattle.fuse_spec.specs.declared.Opened.{Opened}
-use Rattle.fuse_spec.specs.declared.Phase.TheVariants.{Ready}
 use Rattle.fuse_spec.specs.declared.Purpose.{Purpose}
 use Rattle.fuse_spec.specs.declared.Purpose.TheVariants as purpose
 use Rattle.fuse_spec.specs.Maps.{Map, get, put}
 use Rattle.fuse_spec.specs.Numbers.{max_calls}
 use Rattle.fuse_spec.specs.Answers.{Answer}
 use Rattle.fuse_spec.specs.Answers as answer
-use Rattle.fuse_spec.specs.Calls.{Call}
+use Rattle.fuse_spec.specs.Calls.{Call, spoken}
 use Rattle.fuse_spec.specs.CallReplies.{call_replied}
 use Rattle.fuse_spec.specs.Kernel.{Kernel, kernel_aborted, is_aborted, advanced, asking_for, released, released_if_idle, after_use, closed_by, closing_of, call_begun, after_signal, signalled_at, call_signalled, request_of}
 use Rattle.fuse_spec.specs.Messages.{WireReply}
 use Rattle.fuse_spec.specs.Operations.{Operation, done, failed, files_in_reply}
 use Rattle.fuse_spec.specs.QueueCalls.{waiting, without, after_interrupt, interrupt_effect}
 use Rattle.fuse_spec.specs.Queues.{QueueState}
-use Rattle.fuse_spec.specs.Replies.{kernel_reply, learnt, Use, usable, useless, stale, goes_with, is_agreement, judged, replied, replied_to_call, ended_by, reply_taken, odd_taken, interrupt_replied, reply_written, heard, without_stale, reply_judged, use_of_reply}
+use Rattle.fuse_spec.specs.Replies.{kernel_reply, learnt, Use, usable, useless, stale, goes_with, is_agreement, judged, replied, replied_to_call, ended_by, reply_taken, odd_taken, interrupt_replied, reply_written, heard, without_stale, reply_judged, use_of_reply, made_ready}
 use Rattle.fuse_spec.specs.Vfs.{asked, CallState, walking, doing, using, Vfs, Advance, answered, begun, all_answered, given_up}
 use Rattle.fuse_spec.specs.Taking.{taking}
 use Rattle.fuse_spec.specs.Performs.{served}
@@ -207,7 +206,7 @@ reply_hears k sound unique wire = by (nat_eq (unique % 2) 1)
     ended : (q : Kernel) (kept : Purpose) → AnswersSound q.vfs → CallsStay false q.vfs (ended_by q kept wire).1.vfs
     ended q purpose.Init s = agreed_or (is_agreement wire)
       where
-        agreed_or : (b : Bool) → CallsStay false q.vfs (cond b (record q { phase = Ready }) (kernel_aborted q)).vfs
+        agreed_or : (b : Bool) → CallsStay false q.vfs (cond b (made_ready q wire) (kernel_aborted q)).vfs
         agreed_or true = as_they_were q.vfs s
         agreed_or false = gives_up q.vfs s
     ended q (purpose.Release o) s = as_they_were q.vfs s
@@ -254,10 +253,10 @@ as_before c d sound calls answers coming = record {
 }
 
 by_event : (choice : ℕ → ℕ) (w : World) → AnswersSound w.kernel.vfs → (e : Event) (o : Outcome) (after : World) → Happened choice w e o after → CallsStay (begins_call e) w.kernel.vfs after.kernel.vfs
-by_event choice w s e o after (by_mount f m idle) = gives_up w.kernel.vfs s
-by_event choice w s e o after (by_call call ready room within) = call_begins w.kernel s call (grind (arith, nat_tests, room))
+by_event choice w s e o after (by_mount f m v idle) = gives_up w.kernel.vfs s
+by_event choice w s e o after (by_call call ready room within) = call_begins w.kernel s (spoken w.kernel.lists_files call) (grind (arith, nat_tests, room))
 by_event choice w s e o after (by_read_interrupt original rest live there within) = as_they_were w.kernel.vfs s
-by_event choice w s e o after (by_read_forgets n live free can within) = as_they_were w.kernel.vfs s
+by_event choice w s e o after (by_read_forgets n live free can within few) = as_they_were w.kernel.vfs s
 by_event choice w s e o after (by_read_pending k unique kept body live free there says within) = as_they_were w.kernel.vfs s
 by_event choice w s e o after (by_take k q there within) =
     let took = taking w.server q.unique q.body in sent_off (record w { requests = without_at w.requests k; server = took.server }) s w.server.next_copy q.unique took.reply

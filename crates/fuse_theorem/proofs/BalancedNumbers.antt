@@ -51,7 +51,7 @@ module _ (w : World) (p : Plain) (same : Alike w p) (requests : RequestsAskedWhi
 
   module _ (unique : ℕ) (t : HeldRequest) (there : get w.server.held unique ≡ Some t) (o : Opened) where
     of_body : (body : RequestBody) → t.body ≡ body → Contains (opens_of_body body) o → IsItsNodes o
-    of_body init is among = none o among
+    of_body (init flags) is among = none o among
     of_body (asks operation) is among =
         let asked_is = subst (RequestBodyAsked p.asks unique false t.marked (Meant w.server.nodes t.generations) (MeantOpen w.server.nodes w.server.handles t.generations)) is (same.requests.held unique t there) in
         of_operation operation o among (open_for w p same t.generations operation asked_is.ask.operation asked_is.same)

@@ -113,7 +113,7 @@ reply_more R R' S S' (listed xs) (listed ys) f k h = h
 reply_more R R' S S' (listed_plus xs) (listed_plus ys) f k h = pairs_more R R' xs ys f h
 reply_more R R' S S' (content xs) (content ys) f k h = h
 reply_more R R' S S' (written n) (written m) f k h = h
-reply_more R R' S S' (agreed x y) (agreed z u) f k h = h
+reply_more R R' S S' (agreed x y c) (agreed z u d) f k h = h
 reply_more R R' S S' done done f k h = h
 reply_more R R' S S' (failed x) (failed y) f k h = h
 reply_more R R' S S' a b f k h = absurd h
@@ -134,7 +134,7 @@ body_more R R' S S' all unique signalled marked (asks operation) f k h = record 
   is_waiting = h.is_waiting;
   same = operation_more R R' S S' operation h.ask.operation f (λ o file among named s. k o file named s) h.same;
 }
-body_more R R' S S' all unique signalled marked init f k h = h
+body_more R R' S S' all unique signalled marked (init flags) f k h = h
 body_more R R' S S' all unique signalled marked (release o) f k h = h
 body_more R R' S S' all unique signalled marked (forget x) f k h = h
 body_more R R' S S' all unique signalled marked (batch_forget fs) f k h = h
@@ -190,6 +190,8 @@ carried_alike w p same nodes t h tree tree' carries trees = record {
         copies = λ i s lt ask there. carries.copies live i s lt ask there (old.copies i s lt ask there);
       };
   validity = same.validity;
+  minor = same.minor;
+  agreed = same.agreed;
   aborted = same.aborted;
 }
 

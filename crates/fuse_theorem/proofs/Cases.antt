@@ -46,7 +46,7 @@ pub data SameReply {F O G P : Type 0} (R : F → G → Type 0) (S : O → P → 
   same_listed_plus : (x0 : List (DirentPlus F)) (y0 : List (DirentPlus G)) → PairsAlike R x0 y0 → SameReply R S (listed_plus x0) (listed_plus y0)
   same_content : (x0 : List ℕ) (y0 : List ℕ) → x0 ≡ y0 → SameReply R S (content x0) (content y0)
   same_written : (x0 : ℕ) (y0 : ℕ) → x0 ≡ y0 → SameReply R S (written x0) (written y0)
-  same_agreed : (x0 : ℕ) (y0 : ℕ) (x1 : ℕ) (y1 : ℕ) → x0 ≡ y0 → x1 ≡ y1 → SameReply R S (agreed x0 x1) (agreed y0 y1)
+  same_agreed : (x0 : ℕ) (y0 : ℕ) (x1 : ℕ) (y1 : ℕ) (x2 : ℕ) (y2 : ℕ) → x0 ≡ y0 → x1 ≡ y1 → x2 ≡ y2 → SameReply R S (agreed x0 x1 x2) (agreed y0 y1 y2)
   same_done : SameReply R S done done
   same_failed : (x0 : ℕ) (y0 : ℕ) → x0 ≡ y0 → SameReply R S (failed x0) (failed y0)
 
@@ -60,7 +60,7 @@ same_reply R S (listed x0) (listed y0) h = same_listed x0 y0 h
 same_reply R S (listed_plus x0) (listed_plus y0) h = same_listed_plus x0 y0 h
 same_reply R S (content x0) (content y0) h = same_content x0 y0 h
 same_reply R S (written x0) (written y0) h = same_written x0 y0 h
-same_reply R S (agreed x0 x1) (agreed y0 y1) h = same_agreed x0 y0 x1 y1 h.0 h.1
+same_reply R S (agreed x0 x1 x2) (agreed y0 y1 y2) h = same_agreed x0 y0 x1 y1 x2 y2 h.0 h.1 h.2
 same_reply R S done done h = same_done
 same_reply R S (failed x0) (failed y0) h = same_failed x0 y0 h
 same_reply R S a b h = absurd h

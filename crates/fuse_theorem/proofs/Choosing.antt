@@ -157,7 +157,7 @@ for_reply t (listed records) = for_none t
 for_reply t (listed_plus pairs) = for_all (files_told pairs) t
 for_reply t (content bytes) = for_none t
 for_reply t (written size) = for_none t
-for_reply t (agreed major minor) = for_none t
+for_reply t (agreed major minor flags) = for_none t
 for_reply t done = for_none t
 for_reply t (failed errno) = for_none t
 
@@ -169,7 +169,7 @@ for_body : (s : Server) (body : RequestBody) → CanChoose s.nodes (files_by s b
 for_body s (asks operation) =
     let reply = reply_by s.validity s.tree (file_operation_of s.nodes operation) in
     either s.nodes (is_open_for s operation) (files_in_reply reply) [] (for_reply s.nodes reply) (for_none s.nodes)
-for_body s init = for_none s.nodes
+for_body s (init flags) = for_none s.nodes
 for_body s (release o) = for_none s.nodes
 for_body s (forget f) = for_none s.nodes
 for_body s (batch_forget fs) = for_none s.nodes
@@ -182,7 +182,7 @@ for_held w (Some t) = either w.server.nodes _ [] (files_by w.server t.body) (for
 -- Whatever the event, the server has ids to choose.
 pub some_choice : (w : World) (e : Event) → (choice : ℕ → ℕ) × MayStep choice w e
 some_choice w (event.perform unique) = for_held w _
-some_choice w (event.mount f m) = (λ x. 0, tt)
+some_choice w (event.mount f m v) = (λ x. 0, tt)
 some_choice w (event.call c) = (λ x. 0, tt)
 some_choice w event.read_interrupt = (λ x. 0, tt)
 some_choice w (event.read_forgets n) = (λ x. 0, tt)

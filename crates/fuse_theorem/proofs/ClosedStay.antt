@@ -11,13 +11,12 @@ use Rattle.fuse_spec.specs.declared.Binding.{Binding}
 use Rattle.fuse_spec.specs.declared.IntrEffect.{IntrEffect}
 use Rattle.fuse_spec.specs.declared.IntrEffect.TheVariants.{Dequeued, Flagged, Queued, None as NoEffect}
 use Rattle.fuse_spec.specs.declared.Opened.{Opened}
-use Rattle.fuse_spec.specs.declared.Phase.TheVariants.{Ready}
 use Rattle.fuse_spec.specs.declared.Purpose.{Purpose}
 use Rattle.fuse_spec.specs.declared.Purpose.TheVariants as purpose
 use Rattle.fuse_spec.specs.Answers as answer
 use Rattle.fuse_spec.specs.Begins.{Beginning, faulty, sets_out, uses, closes, whole_path, parent_path, beginning}
 use Rattle.fuse_spec.specs.Begins as begins
-use Rattle.fuse_spec.specs.Calls.{Call}
+use Rattle.fuse_spec.specs.Calls.{Call, spoken}
 use Rattle.fuse_spec.specs.Calls as call
 use Rattle.fuse_spec.specs.CallReplies.{operation_replied, call_replied}
 use Rattle.fuse_spec.specs.Counts.{opens_of}
@@ -27,7 +26,7 @@ use Rattle.fuse_spec.specs.Messages.{WireReply}
 use Rattle.fuse_spec.specs.Operations.{Operation, Reply, getattr, mkdir, create, unlink, rmdir, rename, link, opening, readdir, readdirplus, read, write, found, missing, created, opened, attributes, listed, listed_plus, content, written, done, failed, files_in_reply}
 use Rattle.fuse_spec.specs.Paths.{Name, words_of, parent_and_last}
 use Rattle.fuse_spec.specs.QueueCalls.{after_effect, interrupt_effect, waiting, without}
-use Rattle.fuse_spec.specs.Replies.{kernel_reply, learnt, Use, usable, useless, stale, goes_with, is_agreement, judged, replied, replied_to_call, reply_taken, odd_taken, interrupt_replied, reply_written, heard, without_stale, reply_judged, use_of_reply}
+use Rattle.fuse_spec.specs.Replies.{kernel_reply, learnt, Use, usable, useless, stale, goes_with, is_agreement, judged, replied, replied_to_call, reply_taken, odd_taken, interrupt_replied, reply_written, heard, without_stale, reply_judged, use_of_reply, made_ready}
 use Rattle.fuse_spec.specs.Taking.{taking}
 use Rattle.fuse_spec.specs.Performs.{served}
 use Rattle.fuse_spec.specs.Vfs.{CallState, walking, doing, using, asked, Vfs, Advance, answered, bound, look, after_walk, after_beginning, numbered, begun, given_up}
@@ -326,7 +325,7 @@ written_closes k old unique wire = by (nat_eq (unique % 2) 1)
     odd None = old
     odd (Some kept) = interrupts wire
 
-    agrees : (b : Bool) → After (cond b (record k { phase = Ready; queues = without k.queues unique }) (kernel_aborted (record k { queues = without k.queues unique })))
+    agrees : (b : Bool) → After (cond b (made_ready (record k { queues = without k.queues unique }) wire) (kernel_aborted (record k { queues = without k.queues unique })))
     agrees true = old
     agrees false = none_open k.vfs
 
@@ -364,10 +363,10 @@ module _ (choice : ℕ → ℕ) (w : World) (old : ClosedFiles w.kernel.vfs w.ke
   sent_off v number unique o same = subst After (sym (replying_kernel v number unique o ∙ same)) old
 
   closes_by_event : (e : Event) (o : Outcome) (after : World) → Happened choice w e o after → After after.kernel
-  closes_by_event e o after (by_mount f m idle) = none_open w.kernel.vfs
-  closes_by_event e o after (by_call call ready room within) = call_closes w.kernel old call
+  closes_by_event e o after (by_mount f m v idle) = none_open w.kernel.vfs
+  closes_by_event e o after (by_call call ready room within) = call_closes w.kernel old (spoken w.kernel.lists_files call)
   closes_by_event e o after (by_read_interrupt original rest live there within) = old
-  closes_by_event e o after (by_read_forgets n live free can within) = old
+  closes_by_event e o after (by_read_forgets n live free can within few) = old
   closes_by_event e o after (by_read_pending k unique kept body live free there says within) = old
   closes_by_event e o after (by_take k r there within) = let took = taking w.server r.unique r.body in sent_off (record w { requests = without_at w.requests k; server = took.server }) w.server.next_copy r.unique took.reply refl
   closes_by_event e o after (by_perform unique t there within) =

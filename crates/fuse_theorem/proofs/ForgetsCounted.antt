@@ -1,4 +1,6 @@
 -- Each forget that is queued or sent is of a node from 2 up and of one lookup at least, and no reply is kept under the number of an INTERRUPT.
+use Rattle.fuse_theorem.proofs.SpokenStay.{spoken_after}
+use Rattle.fuse_spec.specs.Calls.{spoken}
 use Rattle.std.proofs.Common.{◌≡◌, ℕ, ◌+◌, ◌-◌, ◌≤◌, Bool, true, false, true≢false, cond, List, [], ◌∷◌, ◌++◌, take, drop, Option, Some, None, nat_eq, slice_get, refl, ap, sym, subst, ◌∙◌, arith, inl, inr, All}
 use Rattle.std.specs.Prelude.{◌%◌, nat_lt}
 use Rattle.std.specs.List.{remove as without_at}
@@ -6,7 +8,6 @@ use Rattle.std.proofs.lemmas.Bool.Decides.{nat_tests}
 use Rattle.std.proofs.lemmas.List.Elements.{All-nil, All-cons, All-head, All-tail, All-append, All-push, All-take, All-drop}
 use Rattle.fuse_spec.specs.declared.Counted.{Counted}
 use Rattle.fuse_spec.specs.declared.Entry.{Entry}
-use Rattle.fuse_spec.specs.declared.Phase.TheVariants.{Ready}
 use Rattle.fuse_spec.specs.declared.Purpose.{Purpose}
 use Rattle.fuse_spec.specs.declared.Purpose.TheVariants as purpose
 use Rattle.fuse_spec.specs.declared.Opened.{Opened}
@@ -19,7 +20,7 @@ use Rattle.fuse_spec.specs.Operations.{DirentPlus, told_by, listed_plus, done, f
 use Rattle.fuse_spec.specs.Performs.{performed, served}
 use Rattle.fuse_spec.specs.QueueCalls.{can_read_forgets, waiting, without}
 use Rattle.fuse_spec.specs.Queues.{pending}
-use Rattle.fuse_spec.specs.Replies.{kernel_reply, learnt, Use, usable, useless, stale, use_counted, first_use, use_of_all, goes_with, is_agreement, judged, replied, replied_to_call, reply_taken, odd_taken, interrupt_replied, interrupt_reply_of, reply_written, heard, without_stale, reply_judged, use_of_reply, use_of, use_of_told, learnt_by, stale_in, stale_among, forgets_with, stale_in_reply}
+use Rattle.fuse_spec.specs.Replies.{kernel_reply, learnt, Use, usable, useless, stale, use_counted, first_use, use_of_all, goes_with, is_agreement, judged, replied, replied_to_call, reply_taken, odd_taken, interrupt_replied, interrupt_reply_of, reply_written, heard, without_stale, reply_judged, use_of_reply, use_of, use_of_told, learnt_by, stale_in, stale_among, forgets_with, stale_in_reply, made_ready}
 use Rattle.fuse_spec.specs.Server.{Server, HeldRequest, Kept, forgets_of}
 use Rattle.fuse_spec.specs.Taking.{taking}
 use Rattle.fuse_spec.specs.Vfs.{CallState, asked, answered}
@@ -128,7 +129,7 @@ written_forgets k old unique wire = by (nat_eq (unique % 2) 1)
     odd None = old
     odd (Some kept) = interrupts wire
 
-    agrees : (b : Bool) → All IsForget (cond b (record k { phase = Ready; queues = without k.queues unique }) (kernel_aborted (record k { queues = without k.queues unique }))).queues.forgets
+    agrees : (b : Bool) → All IsForget (cond b (made_ready (record k { queues = without k.queues unique }) wire) (kernel_aborted (record k { queues = without k.queues unique }))).queues.forgets
     agrees true = old
     agrees false = All-nil IsForget
 
@@ -145,7 +146,7 @@ written_forgets k old unique wire = by (nat_eq (unique % 2) 1)
 -- ---- what goes onto the request link
 
 gives_nothing_back : (body : RequestBody) → AwaitsReply body → All IsForget (forgets_of body)
-gives_nothing_back init of_init = All-nil IsForget
+gives_nothing_back (init flags) (of_init _) = All-nil IsForget
 gives_nothing_back (asks operation) (of_call x) = All-nil IsForget
 gives_nothing_back (release o) (of_release x) = All-nil IsForget
 gives_nothing_back (forget f) awaits = elim awaits [ ]
@@ -161,10 +162,10 @@ forgets_spelled (f ∷ g ∷ fs) = refl
 
 module _ (choice : ℕ → ℕ) (w : World) (sound : WorldSound w) (requests : RequestsAskedWhileLive w) (links : LinksSound w) (old : Faultless w) where
   queued_after : (e : Event) (o : Outcome) (after : World) → Happened choice w e o after → All IsForget after.kernel.queues.forgets
-  queued_after e o after (by_mount f m idle) = All-nil IsForget
-  queued_after e o after (by_call call ready room within) = let same = begun_same w.kernel call in same_forgets w.kernel.queues.forgets _ same.forgets old.queued
+  queued_after e o after (by_mount f m v idle) = All-nil IsForget
+  queued_after e o after (by_call call ready room within) = let same = begun_same w.kernel (spoken w.kernel.lists_files call) in same_forgets w.kernel.queues.forgets _ same.forgets old.queued
   queued_after e o after (by_read_interrupt original rest live there within) = old.queued
-  queued_after e o after (by_read_forgets n live free can within) = by (can_read_forgets w.kernel.queues n)
+  queued_after e o after (by_read_forgets n live free can within few) = by (can_read_forgets w.kernel.queues n)
     where
       by : (b : Bool) → All IsForget (cond b (record w.kernel.queues { forgets = drop n w.kernel.queues.forgets; next = w.kernel.queues.next + 2 }) w.kernel.queues).forgets
       by true = All-drop IsForget n w.kernel.queues.forgets old.queued
@@ -199,10 +200,10 @@ module _ (choice : ℕ → ℕ) (w : World) (sound : WorldSound w) (requests : R
   replying_requests v number unique (Some wire) = refl
 
   sent_after : (e : Event) (o : Outcome) (after : World) → Happened choice w e o after → All (λ (r : Request). All IsForget (forgets_of r.body)) after.requests
-  sent_after e o after (by_mount f m idle) = All-nil SentFine
+  sent_after e o after (by_mount f m v idle) = All-nil SentFine
   sent_after e o after (by_call call ready room within) = old.sent
   sent_after e o after (by_read_interrupt original rest live there within) = All-push SentFine w.requests (record { unique = interrupt_number original; body = interrupt original }) old.sent (All-nil IsForget)
-  sent_after e o after (by_read_forgets n live free can within) =
+  sent_after e o after (by_read_forgets n live free can within few) =
       let fs = take n w.kernel.queues.forgets in
       All-push SentFine w.requests (record { unique = w.kernel.queues.next; body = forget_body fs }) old.sent (same_forgets fs (forgets_of (forget_body fs)) (forgets_spelled fs) (All-take IsForget n w.kernel.queues.forgets old.queued))
   sent_after e o after (by_read_pending k unique kept body live free there says within) = All-push SentFine w.requests (record { unique = unique; body = body }) old.sent (gives_nothing_back body (asks_reply w.kernel kept body says))
@@ -260,10 +261,10 @@ module _ (choice : ℕ → ℕ) (w : World) (sound : WorldSound w) (requests : R
   sent_off v number unique (Some wire) h = h
 
   kept_even : (e : Event) (o : Outcome) (after : World) → Happened choice w e o after → KeptEven after.server.kept
-  kept_even e o after (by_mount f m idle) = λ u k at. absurd (cc)
+  kept_even e o after (by_mount f m v idle) = λ u k at. absurd (cc)
   kept_even e o after (by_call call ready room within) = old.kept
   kept_even e o after (by_read_interrupt original rest live there within) = old.kept
-  kept_even e o after (by_read_forgets n live free can within) = old.kept
+  kept_even e o after (by_read_forgets n live free can within few) = old.kept
   kept_even e o after (by_read_pending k unique kept body live free there says within) = old.kept
   kept_even e o after (by_take k r there within) =
       let took = taking w.server r.unique r.body in
@@ -283,7 +284,12 @@ module _ (choice : ℕ → ℕ) (w : World) (sound : WorldSound w) (requests : R
 pub faultless_stay : (w : World) → WorldSound w → RequestsAskedWhileLive w → LinksSound w → Faultless w → (e : Event) (o : Outcome) (after : World) → Happens w e o after → Faultless after
 faultless_stay w sound requests links old e o after h =
     let did = happened h.0 w o after e h.2 in
-    record { queued = queued_after h.0 w sound requests links old e o after did; sent = sent_after h.0 w sound requests links old e o after did; kept = kept_even h.0 w sound requests links old e o after did }
+    record { queued = queued_after h.0 w sound requests links old e o after did; sent = sent_after h.0 w sound requests links old e o after did; kept = kept_even h.0 w sound requests links old e o after did; spoken = spoken_after h.0 w requests links old.spoken e o after did }
 
 pub first_faultless : Faultless first_world
-first_faultless = record { queued = All-nil IsForget; sent = All-nil (λ (r : Request). All IsForget (forgets_of r.body)); kept = λ u k at. absurd (cc) }
+first_faultless = record {
+  queued = All-nil IsForget;
+  sent = All-nil (λ (r : Request). All IsForget (forgets_of r.body));
+  kept = λ u k at. absurd (cc);
+  spoken = λ live. absurd (true≢false (sym live));
+}

@@ -128,7 +128,7 @@ heard_fits nodes t h operation asked (listed xs) (listed ys) goes used its same 
 heard_fits nodes t h operation asked (listed_plus xs) (listed_plus ys) goes used its same told = heard_pairs (learnt nodes (files_told xs)) t xs ys used.known told
 heard_fits nodes t h operation asked (content xs) (content ys) goes used its same told = told
 heard_fits nodes t h operation asked (written n) (written m) goes used its same told = told
-heard_fits nodes t h operation asked (agreed a b) (agreed c d) goes used its same told = told
+heard_fits nodes t h operation asked (agreed a b x) (agreed c d y) goes used its same told = told
 heard_fits nodes t h operation asked done done goes used its same told = told
 heard_fits nodes t h operation asked (failed a) (failed b) goes used its same told = told
 heard_fits nodes t h operation asked (created g v fh) (created file v' o) goes used its same told = absurd (cc)

@@ -8,7 +8,6 @@ use Rattle.std.proofs.lemmas.List.Sums.{sum_by_push}
 use Rattle.fuse_spec.specs.declared.Counted.{Counted}
 use Rattle.fuse_spec.specs.declared.Entry.{Entry}
 use Rattle.fuse_spec.specs.declared.Opened.{Opened}
-use Rattle.fuse_spec.specs.declared.Phase.TheVariants.{Ready}
 use Rattle.fuse_spec.specs.declared.Purpose.{Purpose}
 use Rattle.fuse_spec.specs.declared.Purpose.TheVariants as purpose
 use Rattle.fuse_spec.specs.declared.QueuedRequest.{QueuedRequest}
@@ -25,7 +24,7 @@ use Rattle.fuse_spec.specs.QueueCalls.{waiting, without}
 use Rattle.fuse_spec.specs.Kernel.{Kernel, is_live, is_for, kernel_aborted, after_use}
 use Rattle.fuse_spec.specs.Nodes.{NodeTable}
 use Rattle.fuse_spec.specs.Server.{Copy, forgotten}
-use Rattle.fuse_spec.specs.Replies.{kernel_reply, counted_more, learnt, usable, goes_with, is_empty_reply, is_init_reply, is_agreement, write_result_of, judged, replied, replied_to_call, ended_by, reply_taken, odd_taken, interrupt_replied, interrupt_reply_of, reply_written}
+use Rattle.fuse_spec.specs.Replies.{kernel_reply, counted_more, learnt, usable, goes_with, is_empty_reply, is_init_reply, is_agreement, write_result_of, judged, replied, replied_to_call, ended_by, reply_taken, odd_taken, interrupt_replied, interrupt_reply_of, reply_written, made_ready}
 use Rattle.fuse_spec.specs.Counts.{counted, names_in, carried, refused}
 use Rattle.fuse_spec.specs.Worlds.{World, Sent, after_write}
 use Rattle.fuse_spec.proofs.QueueCounts.{count_by-cons}
@@ -171,14 +170,14 @@ module _ (t : NodeTable) (k : Kernel) (known : KnownIn t k.nodes) (one_request :
   ended = record k { queues = without k.queues unique }
 
   -- a reply that is no entry of a file names nothing
-  init_balanced : Balances t k wire (write_result_of (is_init_reply wire), record ended { phase = Ready })
+  init_balanced : Balances t k wire (write_result_of (is_init_reply wire), made_ready ended wire)
   init_balanced = by wire
     where
-      same : SameCounts k (record ended { phase = Ready })
+      same : SameCounts k (made_ready ended wire)
       same = record { nodes = refl; forgets = refl }
 
-      by : (x : WireReply) → Balances t k x (write_result_of (is_init_reply x), record ended { phase = Ready })
-      by (agreed major minor) = names_nothing t k _ (agreed major minor) Accepted known same (λ id. refl)
+      by : (x : WireReply) → Balances t k x (write_result_of (is_init_reply x), made_ready ended wire)
+      by (agreed major minor flags) = names_nothing t k _ (agreed major minor flags) Accepted known same (λ id. refl)
       by (failed errno) = names_nothing t k _ (failed errno) Accepted known same (λ id. refl)
       by x = refuses t k _ x Invalid known same (λ n. refl)
 
@@ -196,7 +195,7 @@ module _ (t : NodeTable) (k : Kernel) (known : KnownIn t k.nodes) (one_request :
   ended_balanced : (kept : Purpose) → waiting k.queues unique ≡ Some kept → is_live (ended_by ended kept wire).1.phase ≡ true → Balances t k wire (ended_by ended kept wire)
   ended_balanced purpose.Init waits live = by (is_agreement wire) live
     where
-      by : (b : Bool) → is_live (cond b (record ended { phase = Ready }) (kernel_aborted ended)).phase ≡ true → Balances t k wire (write_result_of (is_init_reply wire), cond b (record ended { phase = Ready }) (kernel_aborted ended))
+      by : (b : Bool) → is_live (cond b (made_ready ended wire) (kernel_aborted ended)).phase ≡ true → Balances t k wire (write_result_of (is_init_reply wire), cond b (made_ready ended wire) (kernel_aborted ended))
       by true still = init_balanced
       by false still = absurd (true≢false (sym still))
   ended_balanced (purpose.Release o) waits live = release_balanced

@@ -79,7 +79,7 @@ named_alike choice t h tree (listed_plus pairs) no_root may =
     pairs_named (Names last) (entry_for choice last tree) pairs (all_given_nodes choice (files_told pairs) t no_root may)
 named_alike choice t h tree (content xs) no_root may = refl
 named_alike choice t h tree (written n) no_root may = refl
-named_alike choice t h tree (agreed a b) no_root may = (refl, refl)
+named_alike choice t h tree (agreed a b flags) no_root may = (refl, refl, refl)
 named_alike choice t h tree done no_root may = tt
 named_alike choice t h tree (failed e) no_root may = refl
 

@@ -15,8 +15,8 @@ record IsJudged (r : Refusal) : Type 0 where
   not_link : r ≢ LinkLost
 
 by_case : (choice : ℕ → ℕ) (w : World) (e : Event) (r : Refusal) → Refuses choice w e r → IsJudged r
-by_case choice w e r (too_long f m far) = record { not_memory = λ is. absurd (cc is); not_link = λ is. absurd (cc is) }
-by_case choice w e r (in_use f m near used) = record { not_memory = λ is. absurd (cc is); not_link = λ is. absurd (cc is) }
+by_case choice w e r (too_long f m v far) = record { not_memory = λ is. absurd (cc is); not_link = λ is. absurd (cc is) }
+by_case choice w e r (in_use f m v near used) = record { not_memory = λ is. absurd (cc is); not_link = λ is. absurd (cc is) }
 by_case choice w e r (clock_ends ms end) = record { not_memory = λ is. absurd (cc is); not_link = λ is. absurd (cc is) }
 by_case choice w e r (not_ready call down) = record { not_memory = λ is. absurd (cc is); not_link = λ is. absurd (cc is) }
 by_case choice w e r (too_many call ready full) = record { not_memory = λ is. absurd (cc is); not_link = λ is. absurd (cc is) }

@@ -115,7 +115,7 @@ opens_one (listed xs) = nothing
 opens_one (listed_plus xs) = nothing
 opens_one (content xs) = nothing
 opens_one (written n) = nothing
-opens_one (agreed a b) = nothing
+opens_one (agreed a b flags) = nothing
 opens_one done = nothing
 opens_one (failed e) = nothing
 
@@ -170,7 +170,7 @@ wire_opened choice t tree h none (listed xs) fh = omega arith
 wire_opened choice t tree h none (listed_plus xs) fh = omega arith
 wire_opened choice t tree h none (content xs) fh = omega arith
 wire_opened choice t tree h none (written n) fh = omega arith
-wire_opened choice t tree h none (agreed a b) fh = omega arith
+wire_opened choice t tree h none (agreed a b flags) fh = omega arith
 wire_opened choice t tree h none done fh = omega arith
 wire_opened choice t tree h none (failed e) fh = omega arith
 

@@ -1,4 +1,5 @@
 -- As the kernel takes a reply, what the copy carries is opened or refused.
+use Rattle.fuse_spec.specs.Numbers.{init_flags}
 use Rattle.fuse_theorem.proofs.Judging.{heard_is}
 use Rattle.fuse_theorem.specs.Conditions.{IsUsable}
 use Rattle.std.proofs.Common.{◌≡◌, ℕ, ◌+◌, ◌-◌, ◌≤◌, Bool, true, false, true≢false, cond, List, Option, Some, None, nat_eq, is_some, slice_get, option_map, refl, ap, sym, subst, ◌∙◌, arith}
@@ -11,7 +12,6 @@ use Rattle.fuse_spec.specs.declared.InterruptReplyEffect.TheVariants.{QueuedAgai
 use Rattle.fuse_spec.specs.declared.Mark.{Mark}
 use Rattle.fuse_spec.specs.declared.Mark.TheVariants as mark
 use Rattle.fuse_spec.specs.declared.Opened.{Opened}
-use Rattle.fuse_spec.specs.declared.Phase.TheVariants.{Ready}
 use Rattle.fuse_spec.specs.declared.Purpose.{Purpose}
 use Rattle.fuse_spec.specs.declared.Purpose.TheVariants as purpose
 use Rattle.fuse_spec.specs.declared.QueuedRequest.{QueuedRequest}
@@ -28,7 +28,7 @@ use Rattle.fuse_spec.specs.Queues.{QueueState, IsSound, is_unread, pending, requ
 use Rattle.fuse_spec.specs.QueueCalls.{after_reading, after_read_pending, after_reply_effect, after_interrupt_reply, pending_at, waiting, with_mark, with_interrupt, without}
 use Rattle.fuse_spec.specs.Signals.{reply_effect}
 use Rattle.fuse_spec.specs.Kernel.{Kernel, is_live, asked_by, body_of, kernel_aborted, after_use}
-use Rattle.fuse_spec.specs.Replies.{kernel_reply, learnt, usable, goes_with, is_empty_reply, is_init_reply, is_agreement, write_result_of, judged, replied, replied_to_call, ended_by, reply_taken, odd_taken, interrupt_replied, interrupt_reply_of, reply_written}
+use Rattle.fuse_spec.specs.Replies.{kernel_reply, learnt, usable, goes_with, is_empty_reply, is_init_reply, is_agreement, write_result_of, judged, replied, replied_to_call, ended_by, reply_taken, odd_taken, interrupt_replied, interrupt_reply_of, reply_written, made_ready}
 use Rattle.fuse_spec.proofs.QueueCounts.{lookup-found}
 use Rattle.fuse_spec.proofs.QueueReadings.{key_count-le-one}
 use Rattle.fuse_theorem.specs.OpenNumbers.{OpensApart, released_for, released_by}
@@ -54,7 +54,7 @@ read_sum k sound place unique kept body there says f =
   where
     -- the request asks what it is for
     same_release : (x : Purpose) → body_of k x ≡ Some body → sum_by f (released_by body) ≡ sum_by f (released_for x)
-    same_release purpose.Init e = let is : init ≡ body = cc (e) in ap (λ (b : RequestBody). sum_by f (released_by b)) (sym is)
+    same_release purpose.Init e = let is : init init_flags ≡ body = cc (e) in ap (λ (b : RequestBody). sum_by f (released_by b)) (sym is)
     same_release (purpose.Release o) e = let is : release o ≡ body = cc (e) in ap (λ (b : RequestBody). sum_by f (released_by b)) (sym is)
     same_release (purpose.Call call) e = of_call (get k.vfs.calls call) e
       where
@@ -189,11 +189,11 @@ module _ (P : Opened → Type 0) where
         by None under e = absurd (cc (e))
         by (Some r) under e = read_one r under (is_unread r.mark) refl e
 
-    init_heard : KeepsOpen k (record ended { phase = Ready }) None → HearsOpens P k wire (write_result_of (is_init_reply wire), record ended { phase = Ready })
+    init_heard : KeepsOpen k (made_ready ended wire) None → HearsOpens P k wire (write_result_of (is_init_reply wire), made_ready ended wire)
     init_heard keeps = by wire
       where
-        by : (x : WireReply) → HearsOpens P k x (write_result_of (is_init_reply x), record ended { phase = Ready })
-        by (agreed major minor) = carries_nothing k _ (agreed major minor) Accepted keeps (λ fh. refl)
+        by : (x : WireReply) → HearsOpens P k x (write_result_of (is_init_reply x), made_ready ended wire)
+        by (agreed major minor flags) = carries_nothing k _ (agreed major minor flags) Accepted keeps (λ fh. refl)
         by (failed errno) = carries_nothing k _ (failed errno) Accepted keeps (λ fh. refl)
         by x = refuses k _ x Invalid keeps (λ n. refl)
 
@@ -208,7 +208,7 @@ module _ (P : Opened → Type 0) where
     ended_heard : nat_eq (unique % 2) 1 ≡ false → (kept : Purpose) → waiting k.queues unique ≡ Some kept → is_live (ended_by ended kept wire).1.phase ≡ true → HearsOpens P k wire (ended_by ended kept wire)
     ended_heard is_even purpose.Init waits live = by (is_agreement wire) live
       where
-        by : (b : Bool) → is_live (cond b (record ended { phase = Ready }) (kernel_aborted ended)).phase ≡ true → HearsOpens P k wire (write_result_of (is_init_reply wire), cond b (record ended { phase = Ready }) (kernel_aborted ended))
+        by : (b : Bool) → is_live (cond b (made_ready ended wire) (kernel_aborted ended)).phase ≡ true → HearsOpens P k wire (write_result_of (is_init_reply wire), cond b (made_ready ended wire) (kernel_aborted ended))
         by true still = let keeps = ended_keeps purpose.Init waits in init_heard (record { sums = keeps.sums; apart = keeps.apart })
         by false still = absurd (true≢false (sym still))
     ended_heard is_even (purpose.Release o) waits live = release_heard (ended_keeps (purpose.Release o) waits)

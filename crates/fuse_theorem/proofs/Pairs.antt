@@ -38,7 +38,7 @@ module _ {F G : Type 0} (f : F → G) where
   files_with g (listed_plus pairs) = told_files_with pairs
   files_with g (content xs) = refl
   files_with g (written n) = refl
-  files_with g (agreed a b) = refl
+  files_with g (agreed a b flags) = refl
   files_with g done = refl
   files_with g (failed e) = refl
 

@@ -1,4 +1,6 @@
 -- What a performed request's reply names is counted, where the reply goes out.
+use Rattle.fuse_spec.specs.declared.Minor.TheVariants.{M15, M31}
+use Rattle.fuse_spec.specs.declared.Minor.{Minor}
 use Rattle.fuse_spec.proofs.QueueCounts.{count_by-cons}
 use Rattle.std.proofs.Common.{◌≡◌, ℕ, ◌+◌, ◌≤◌, Bool, true, false, not, ◌||◌, cond, [], Option, Some, None, refl, ap, sym, subst, arith, List, ◌∷◌, map, count_by, nat_eq, get_or, ◌∙◌, inl, inr, All}
 use Rattle.std.specs.Prelude.{MatchOption}
@@ -11,7 +13,7 @@ use Rattle.fuse_spec.specs.FileOperations.{FileOperation, reply_by, tree_after}
 use Rattle.fuse_spec.specs.Trees.{Tree}
 use Rattle.fuse_spec.specs.Nodes.{HeldNode, NodeTable, file_of, is_open, MayName, IsUnheld, MayChoose, given, all_given, handle_back, given_row}
 use Rattle.fuse_spec.specs.Server.{Server, HeldRequest}
-use Rattle.fuse_spec.specs.Performs.{PerformResult, file_operation_of, is_open_for, doing, wire_of, refusing, performing, performed, is_still_held, files_by, files_given, entry_for}
+use Rattle.fuse_spec.specs.Performs.{PerformResult, file_operation_of, is_open_for, doing, wire_of, refusing, performing, performed, is_still_held, files_by, files_given, entry_for, init_reply}
 use Rattle.fuse_spec.specs.Counts.{names_in}
 use Rattle.fuse_spec.specs.Denotes.{Denotes}
 use Rattle.fuse_theorem.specs.Lookups.{IsHeldAs, EntriesHeld}
@@ -126,7 +128,11 @@ module _ (choice : ℕ → ℕ) (s : Server) (sound : NodesSound s.nodes) where
         by_held false m = wire_held choice s.nodes sound (tree_after s.tree operation) s.handles.next_fh reply m
 
   performing_counts : (body : RequestBody) → MayChoose choice s.nodes (cond s.aborted [] (files_by s body)) → Counts s (performing choice s body)
-  performing_counts init may = record { more = λ i generation file d. d; counts = λ live id. omega arith; same = λ dead. refl; held = All-nil (Named s.nodes) }
+  performing_counts (init flags) may = by s.minor
+    where
+      by : (m : Minor) → Counts s (record { server = s; wire = init_reply m flags })
+      by M15 = record { more = λ i generation file d. d; counts = λ live id. omega arith; same = λ dead. refl; held = All-nil (Named s.nodes) }
+      by M31 = record { more = λ i generation file d. d; counts = λ live id. omega arith; same = λ dead. refl; held = All-nil (Named s.nodes) }
   performing_counts (asks operation) may = by (is_open_for s operation) may
     where
       by : (b : Bool) → MayChoose choice s.nodes (cond s.aborted [] (cond b (files_in_reply (reply_by s.validity s.tree (file_operation_of s.nodes operation))) []))

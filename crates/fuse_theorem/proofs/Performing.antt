@@ -279,7 +279,7 @@ module _ (w : World) (p : Plain) (same : Alike w p) (choice : ℕ → ℕ) (uniq
     opens_still (listed_plus xs) fh file h = h
     opens_still (content xs) fh file h = h
     opens_still (written n) fh file h = h
-    opens_still (agreed a b) fh file h = h
+    opens_still (agreed a b flags) fh file h = h
     opens_still done fh file h = h
     opens_still (failed e) fh file h = h
 

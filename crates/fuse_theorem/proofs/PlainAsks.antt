@@ -1,4 +1,5 @@
 -- What the plain world performs is replied to as its operation asks, whatever step it takes.
+use Rattle.fuse_spec.specs.Calls.{spoken, lists_files_at}
 use Rattle.std.proofs.Common.{◌≡◌, ℕ, ◌-◌, ◌≤◌, Bool, true, false, cond, List, [], ◌∷◌, Option, Some, None, refl, ap, sym, subst, ◌∙◌, arith, inl, inr}
 use Rattle.std.specs.Prelude.{nat_le, min, sum_by}
 use Rattle.std.proofs.lemmas.List.{length-take}
@@ -17,7 +18,7 @@ use Rattle.fuse_spec.specs.Operations.{lookup, getattr, mkdir, create, unlink, r
 use Rattle.fuse_spec.specs.Trees.{Tree, record_length, fitting, records_after, pair_length, fitting_pairs, pairs_after, file_at}
 use Rattle.fuse_spec.specs.CallReplies.{call_replied}
 use Rattle.fuse_spec.specs.Vfs.{CallState, begun}
-use Rattle.fuse_spec.specs.Plain.{Plain, Ask, Stage, waiting, performed, declined, asking, call_begun, ask_performed, ask_declined, ask_told, ask_interrupted, ask_noted, ask_marked, plain_later, name_dropped, plain_aborted, plain_mounted, first_plain}
+use Rattle.fuse_spec.specs.Plain.{Plain, Ask, Stage, waiting, performed, declined, asking, call_put, ask_performed, ask_declined, ask_told, ask_interrupted, ask_noted, ask_marked, plain_later, name_dropped, plain_aborted, plain_mounted, first_plain}
 use Rattle.fuse_spec.specs.PlainSteps.{where_so, serving_ask, serving, telling_call, telling_ask, telling, signalled_ask, signalling, marking, takes, Takes}
 use Rattle.fuse_spec.specs.PlainReplies.{RepliesTo, AskServed, AsksServed}
 use Rattle.fuse_theorem.proofs.NodesSound.{put_found, left_found}
@@ -157,9 +158,9 @@ module _ (p : Plain) (old : AsksServed p) where
 
   step_served : (chosen : ℕ) (e : Event) (o : Outcome) (q : Plain) → takes chosen p e o ≡ Some q → AsksServed q
   step_served chosen (event.call call) (event.begun number) q f =
-      let went = begun p.aborted p.vfs call in
+      let went = begun p.aborted p.vfs (spoken (lists_files_at p.minor) call) in
       let p1 = record p { vfs = went.vfs } in
-      where_served _ (call_begun p chosen call) q (asking_served p1 (same_asks p p1 old refl) chosen p.vfs.next_call went.operation) f
+      where_served _ (call_put p chosen call) q (asking_served p1 (same_asks p p1 old refl) chosen p.vfs.next_call went.operation) f
   step_served chosen (event.perform unique) (event.performed u errno lost) q f = by (get p.asks unique) refl f
     where
       by : (x : Option Ask) → get p.asks unique ≡ x → serving p unique x ≡ Some q → AsksServed q
@@ -188,7 +189,7 @@ module _ (p : Plain) (old : AsksServed p) where
   step_served chosen (event.tick ms) (event.now clock) q f = where_served _ (plain_later p ms) q (same_asks p (plain_later p ms) old refl) f
   step_served chosen (event.drop_name node name) event.dropped q f = some_served (name_dropped p chosen name) q (same_asks p (name_dropped p chosen name) old refl) f
   step_served chosen event.abort event.aborted q f = some_served (plain_aborted p) q (same_asks p (plain_aborted p) old refl) f
-  step_served chosen (event.mount f m) event.mounted q g = some_served (plain_mounted p (record { found_ms = f; missing_ms = m })) q (λ label ask at. absurd (cc)) g
+  step_served chosen (event.mount f m v) event.mounted q g = some_served (plain_mounted p (record { found_ms = f; missing_ms = m }) v) q (λ label ask at. absurd (cc)) g
   step_served chosen event.read_interrupt (event.is_read unique) q f = some_served p q old f
   step_served chosen (event.read_forgets n) (event.is_read unique) q f = some_served p q old f
   step_served chosen (event.read_pending k) (event.is_read unique) q f = some_served p q old f

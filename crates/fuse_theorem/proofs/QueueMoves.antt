@@ -12,7 +12,6 @@ use Rattle.fuse_spec.specs.declared.InterruptReplyEffect.TheVariants.{QueuedAgai
 use Rattle.fuse_spec.specs.declared.Mark.{Mark}
 use Rattle.fuse_spec.specs.declared.Mark.TheVariants as mark
 use Rattle.fuse_spec.specs.declared.Opened.{Opened}
-use Rattle.fuse_spec.specs.declared.Phase.TheVariants.{Ready}
 use Rattle.fuse_spec.specs.declared.Purpose.{Purpose}
 use Rattle.fuse_spec.specs.declared.Purpose.TheVariants as purpose
 use Rattle.fuse_spec.specs.declared.QueuedRequest.{QueuedRequest}
@@ -27,7 +26,7 @@ use Rattle.fuse_spec.specs.Queues.{QueueState, IsSound, is_unread, pending, requ
 use Rattle.fuse_spec.specs.QueueCalls.{after_enqueue, after_forget, after_effect, after_reading, after_reply_effect, after_read_pending, set_mark, waiting, without}
 use Rattle.fuse_spec.specs.Signals.{signal_effect, reply_effect}
 use Rattle.fuse_spec.specs.Kernel.{Kernel, is_live, is_aborted, is_used, request_of, kernel_aborted, asking_for, advanced, released, released_if_idle, after_use, closed_by, closing_of, call_begun, after_signal, signalled_at, call_signalled}
-use Rattle.fuse_spec.specs.Replies.{kernel_reply, learnt, Use, usable, useless, stale, goes_with, is_agreement, judged, replied, replied_to_call, reply_taken, odd_taken, interrupt_replied, interrupt_reply_of, reply_written, heard, without_stale, reply_judged, use_of_reply}
+use Rattle.fuse_spec.specs.Replies.{kernel_reply, learnt, Use, usable, useless, stale, goes_with, is_agreement, judged, replied, replied_to_call, reply_taken, odd_taken, interrupt_replied, interrupt_reply_of, reply_written, heard, without_stale, reply_judged, use_of_reply, made_ready}
 use Rattle.fuse_spec.proofs.QueueSoundness.{mark_under-pending}
 
 -- `May` says which mark a request may get in place of which.
@@ -183,8 +182,8 @@ written_reads_none k unique wire = by (nat_eq (unique % 2) 1)
     odd None = stays k.queues k.queues refl refl
     odd (Some kept) = interrupts wire
 
-    init_moves : (b : Bool) → is_live (cond b (record k { phase = Ready; queues = without k.queues unique }) (kernel_aborted (record k { queues = without k.queues unique }))).phase ≡ true
-        → ReadsNone k.queues (cond b (record k { phase = Ready; queues = without k.queues unique }) (kernel_aborted (record k { queues = without k.queues unique }))).queues
+    init_moves : (b : Bool) → is_live (cond b (made_ready (record k { queues = without k.queues unique }) wire) (kernel_aborted (record k { queues = without k.queues unique }))).phase ≡ true
+        → ReadsNone k.queues (cond b (made_ready (record k { queues = without k.queues unique }) wire) (kernel_aborted (record k { queues = without k.queues unique }))).queues
     init_moves true live = ends k.queues (without k.queues unique) unique refl refl
     init_moves false live = absurd (true≢false (sym live))
 

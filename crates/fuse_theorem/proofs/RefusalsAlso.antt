@@ -6,8 +6,8 @@ use Rattle.fuse_spec.specs.Maps.{get, get_name}
 use Rattle.fuse_spec.specs.Numbers.{max_calls, max_validity, clock_end}
 use Rattle.fuse_spec.specs.declared.Refusal.{Refusal}
 use Rattle.fuse_spec.specs.declared.Refusal.TheVariants.{BadTime, Busy, NotReady, Full, NoSuch, NoCopy, InterruptFirst, Exhausted}
-use Rattle.fuse_spec.specs.QueueCalls.{pending_at, first_forgets}
-use Rattle.fuse_spec.specs.Kernel.{is_live, is_pinned, is_bound}
+use Rattle.fuse_spec.specs.QueueCalls.{pending_at}
+use Rattle.fuse_spec.specs.Kernel.{is_live, is_pinned, is_bound, forgets_read}
 use Rattle.fuse_spec.specs.Copies.{is_current, files_named}
 use Rattle.fuse_spec.specs.Worlds.{World, after_mount, after_drop}
 use Rattle.fuse_spec.specs.Events.{Event, Outcome}
@@ -60,8 +60,8 @@ module _ (choice : ℕ → ℕ) (w : World) where
   Comes e o after = step choice w e ≡ cond (draws e) (going o after) (Ok (o, after))
 
   pub comes_to : (e : Event) (o : Outcome) (after : World) → Leads choice w e o after → Comes e o after
-  comes_to e o after (mounts f m day free) =
-      let mounted = Ok (event.mounted, after_mount w f m) in
+  comes_to e o after (mounts f m v day free) =
+      let mounted = Ok (event.mounted, after_mount w f m v) in
       passed (nat_lt max_validity (max f m)) BadTime (unless (is_busy w.kernel) Busy mounted) (le-ltb max_validity (max f m) day)
       ∙ passed (is_busy w.kernel) Busy mounted (free_is (is_live w.kernel.phase) (length w.kernel.vfs.calls + length w.kernel.vfs.opens) free)
   comes_to e o after (calls call ready room) =
@@ -69,7 +69,7 @@ module _ (choice : ℕ → ℕ) (w : World) where
       let gone = going o after in
       passed (not (is_ready w.kernel.phase)) NotReady (unless (nat_le max_calls there) Full gone) (ap not ready) ∙ passed (nat_le max_calls there) Full gone (lt-leb max_calls there room)
   comes_to e o after (reads_interrupt original rest live there) = live_passes w (reading_interrupt w w.kernel.queues.interrupts) live ∙ ap (reading_interrupt w) there
-  comes_to e o after (reads_forgets n unique forgets may there) = read_passes w (reading_forgets w n (first_forgets w.kernel.queues n)) may ∙ ap (reading_forgets w n) there
+  comes_to e o after (reads_forgets n unique forgets may there) = read_passes w (reading_forgets w n (forgets_read w.kernel n)) may ∙ ap (reading_forgets w n) there
   comes_to e o after (reads_pending k unique purpose body may there says) =
       read_passes w (reading_pending w k (pending_at w.kernel.queues k)) may ∙ ap (reading_pending w k) there ∙ ap (reading_body w k unique) says
   comes_to e o after (takes k request there) = ap (taking_request w k) there
@@ -131,8 +131,8 @@ module _ (choice : ℕ → ℕ) (w : World) where
   nothing e live first (no_node node none) = live_passes w _ (live refl) ∙ ap (evicting w node) none
 
   pub refused : (e : Event) (r : Refusal) → Refuses choice w e r → step choice w e ≡ Err r
-  refused e r (too_long f m long) = refused_by (nat_lt max_validity (max f m)) BadTime _ (lt-ltb max_validity (max f m) long)
-  refused e r (in_use f m day used) =
+  refused e r (too_long f m v long) = refused_by (nat_lt max_validity (max f m)) BadTime _ (lt-ltb max_validity (max f m) long)
+  refused e r (in_use f m v day used) =
       passed (nat_lt max_validity (max f m)) BadTime _ (le-ltb max_validity (max f m) day)
       ∙ refused_by (is_busy w.kernel) Busy _ (busy_is (is_live w.kernel.phase) (length w.kernel.vfs.calls + length w.kernel.vfs.opens) used.live used.used)
   refused e r (clock_ends ms late) = refused_by (nat_le clock_end (w.kernel.vfs.clock + ms)) BadTime _ (le-leb clock_end (w.kernel.vfs.clock + ms) late)

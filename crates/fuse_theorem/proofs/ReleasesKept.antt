@@ -13,7 +13,6 @@ use Rattle.fuse_spec.specs.declared.InterruptReplyEffect.TheVariants.{QueuedAgai
 use Rattle.fuse_spec.specs.declared.Mark.{Mark}
 use Rattle.fuse_spec.specs.declared.Mark.TheVariants as mark
 use Rattle.fuse_spec.specs.declared.Opened.{Opened}
-use Rattle.fuse_spec.specs.declared.Phase.TheVariants.{Ready}
 use Rattle.fuse_spec.specs.declared.Purpose.{Purpose}
 use Rattle.fuse_spec.specs.declared.Purpose.TheVariants as purpose
 use Rattle.fuse_spec.specs.declared.QueuedRequest.{QueuedRequest}
@@ -27,7 +26,7 @@ use Rattle.fuse_spec.specs.Messages.{WireReply}
 use Rattle.fuse_spec.specs.Operations.{Operation, done, failed, files_in_reply}
 use Rattle.fuse_spec.specs.QueueCalls.{after_enqueue, set_mark, after_reading, after_effect, interrupt_effect, after_reply_effect, waiting, without}
 use Rattle.fuse_spec.specs.Queues.{QueueState, mark_under}
-use Rattle.fuse_spec.specs.Replies.{kernel_reply, learnt, Use, usable, useless, stale, goes_with, is_agreement, judged, replied, replied_to_call, reply_taken, odd_taken, interrupt_replied, interrupt_reply_of, reply_written, heard, without_stale, reply_judged, use_of_reply}
+use Rattle.fuse_spec.specs.Replies.{kernel_reply, learnt, Use, usable, useless, stale, goes_with, is_agreement, judged, replied, replied_to_call, reply_taken, odd_taken, interrupt_replied, interrupt_reply_of, reply_written, heard, without_stale, reply_judged, use_of_reply, made_ready}
 use Rattle.fuse_spec.specs.Signals.{reply_effect}
 use Rattle.fuse_spec.specs.Vfs.{CallState, walking, doing, using, asked, Advance, answered, begun}
 use Rattle.fuse_theorem.specs.KnownNodes.{IsKnown, NodesKnown}
@@ -193,7 +192,7 @@ written_kept k old unique wire = by (nat_eq (unique % 2) 1)
     ended : KeptReleases (record k { queues = without k.queues unique })
     ended = record { closing = old.closing; requests = All-removed (Fine k.nodes) unique k.queues.requests old.requests }
 
-    agrees : (b : Bool) → KeptReleases (cond b (record k { phase = Ready; queues = without k.queues unique }) (kernel_aborted (record k { queues = without k.queues unique })))
+    agrees : (b : Bool) → KeptReleases (cond b (made_ready (record k { queues = without k.queues unique }) wire) (kernel_aborted (record k { queues = without k.queues unique })))
     agrees true = record { closing = ended.closing; requests = ended.requests }
     agrees false = none_kept (kernel_aborted (record k { queues = without k.queues unique })) refl refl
 

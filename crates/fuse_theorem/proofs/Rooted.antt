@@ -6,20 +6,19 @@ use Rattle.std.specs.FinMap.Entries.{is_sorted-put}
 use Rattle.fuse_spec.specs.declared.IntrEffect.{IntrEffect}
 use Rattle.fuse_spec.specs.declared.IntrEffect.TheVariants.{Dequeued, Flagged, Queued, None as NoEffect}
 use Rattle.fuse_spec.specs.declared.Opened.{Opened}
-use Rattle.fuse_spec.specs.declared.Phase.TheVariants.{Ready}
 use Rattle.fuse_spec.specs.declared.Purpose.{Purpose}
 use Rattle.fuse_spec.specs.declared.Purpose.TheVariants as purpose
 use Rattle.fuse_spec.specs.Maps.{get, put, remove}
 use Rattle.fuse_spec.specs.Answers.{Answer}
 use Rattle.fuse_spec.specs.Answers as answer
 use Rattle.fuse_spec.specs.Begins.{Beginning, faulty, sets_out, uses, closes, beginning}
-use Rattle.fuse_spec.specs.Calls.{Call}
+use Rattle.fuse_spec.specs.Calls.{Call, spoken}
 use Rattle.fuse_spec.specs.CallReplies.{all_bound, operation_replied, call_replied}
 use Rattle.fuse_spec.specs.Kernel.{Kernel, kernel_aborted, is_aborted, advanced, asking_for, released, released_if_idle, after_use, closed_by, closing_of, call_begun, after_signal, signalled_at, call_signalled, request_of}
 use Rattle.fuse_spec.specs.Messages.{WireReply}
 use Rattle.fuse_spec.specs.Operations.{Operation, getattr, mkdir, create, unlink, rmdir, rename, link, opening, readdir, readdirplus, read, write, Reply, found, missing, created, opened, attributes, listed, listed_plus, content, written, done, failed, files_in_reply}
 use Rattle.fuse_spec.specs.QueueCalls.{waiting, without, after_interrupt, interrupt_effect}
-use Rattle.fuse_spec.specs.Replies.{kernel_reply, learnt, Use, usable, useless, stale, goes_with, is_agreement, judged, replied, replied_to_call, ended_by, reply_taken, odd_taken, interrupt_replied, reply_written, heard, without_stale, reply_judged, use_of_reply}
+use Rattle.fuse_spec.specs.Replies.{kernel_reply, learnt, Use, usable, useless, stale, goes_with, is_agreement, judged, replied, replied_to_call, ended_by, reply_taken, odd_taken, interrupt_replied, reply_written, heard, without_stale, reply_judged, use_of_reply, made_ready}
 use Rattle.fuse_spec.specs.Vfs.{look, no_more, asked, CallState, walking, doing, using, Vfs, Advance, answered, bound, unbound, opened_by, after_walk, after_beginning, numbered, begun, given_up}
 use Rattle.fuse_spec.specs.Walks.{Walked, looks_up, finds_none, walk}
 use Rattle.fuse_spec.specs.Walks as walked
@@ -159,7 +158,7 @@ written_rooted k unique wire r = by (nat_eq (unique % 2) 1)
     ended : (q : Kernel) (kept : Purpose) → IsRooted q.vfs → IsRooted (ended_by q kept wire).1.vfs
     ended q purpose.Init s = agreed_or (is_agreement wire)
       where
-        agreed_or : (b : Bool) → IsRooted (cond b (record q { phase = Ready }) (kernel_aborted q)).vfs
+        agreed_or : (b : Bool) → IsRooted (cond b (made_ready q wire) (kernel_aborted q)).vfs
         agreed_or true = s
         agreed_or false = given_up_rooted q.vfs s
     ended q (purpose.Release o) s = s
@@ -190,10 +189,10 @@ sent_off w number unique None rooted = rooted
 sent_off w number unique (Some wire) rooted = rooted
 
 by_event : (choice : ℕ → ℕ) (w : World) → IsRooted w.kernel.vfs → (e : Event) (o : Outcome) (after : World) → Happened choice w e o after → IsRooted after.kernel.vfs
-by_event choice w r e o after (by_mount f m idle) = given_up_rooted w.kernel.vfs r
-by_event choice w r e o after (by_call call ready room within) = begins_rooted w.kernel call r
+by_event choice w r e o after (by_mount f m v idle) = given_up_rooted w.kernel.vfs r
+by_event choice w r e o after (by_call call ready room within) = begins_rooted w.kernel (spoken w.kernel.lists_files call) r
 by_event choice w r e o after (by_read_interrupt original rest live there within) = r
-by_event choice w r e o after (by_read_forgets n live free can within) = r
+by_event choice w r e o after (by_read_forgets n live free can within few) = r
 by_event choice w r e o after (by_read_pending k unique kept body live free there says within) = r
 by_event choice w r e o after (by_take k q there within) =
     let took = taking w.server q.unique q.body in sent_off (record w { requests = without_at w.requests k; server = took.server }) w.server.next_copy q.unique took.reply r

@@ -93,7 +93,7 @@ module _ (c d : ℕ → ℕ) where
         by false may = given_generation (files_in_reply (reply_by s.validity s.tree operation)) s.nodes s.nodes (record { held = λ file held. held; back = λ file held. held; generation = refl }) may.0 may.1
 
     performing_counters : (body : RequestBody) → BothMay (cond s.aborted [] (files_by s body)) → SameCounters (performing c s body).server (performing d s body).server
-    performing_counters init both = same_counters s
+    performing_counters (init flags) both = same_counters s
     performing_counters (asks operation) both = by (is_open_for s operation) both
       where
         by : (b : Bool) → BothMay (cond s.aborted [] (cond b (files_in_reply (reply_by s.validity s.tree (file_operation_of s.nodes operation))) []))

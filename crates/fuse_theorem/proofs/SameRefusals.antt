@@ -60,7 +60,7 @@ module _ (w : World) (c d : ℕ → ℕ) where
   -- What one choice of ids is refused, any other is refused.
   pub same_refusal : (e : Event) → MayStep c w e → MayStep d w e → (r : Refusal) → step c w e ≡ Err r → step d w e ≡ Err r
   same_refusal (event.perform unique) m n r refused = performing_refused unique (get w.server.held unique) m n r refused
-  same_refusal (event.mount f g) m n r refused = refused
+  same_refusal (event.mount f g v) m n r refused = refused
   same_refusal (event.call call) m n r refused = refused
   same_refusal event.read_interrupt m n r refused = refused
   same_refusal (event.read_forgets k) m n r refused = refused

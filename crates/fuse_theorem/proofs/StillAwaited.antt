@@ -9,7 +9,6 @@ use Rattle.fuse_spec.specs.declared.InterruptReplyEffect.{InterruptReplyEffect}
 use Rattle.fuse_spec.specs.declared.InterruptReplyEffect.TheVariants.{QueuedAgain, TurnedOff, None as NoReplyEffect}
 use Rattle.fuse_spec.specs.declared.Mark.{Mark}
 use Rattle.fuse_spec.specs.declared.Opened.{Opened}
-use Rattle.fuse_spec.specs.declared.Phase.TheVariants.{Ready}
 use Rattle.fuse_spec.specs.declared.Purpose.{Purpose}
 use Rattle.fuse_spec.specs.declared.Purpose.TheVariants as purpose
 use Rattle.fuse_spec.specs.declared.QueuedRequest.{QueuedRequest}
@@ -23,7 +22,7 @@ use Rattle.fuse_spec.specs.Queues.{IsSound, is_unread, request_under, mark_under
 use Rattle.fuse_spec.specs.QueueCalls.{after_reply_effect, waiting, without}
 use Rattle.fuse_spec.specs.Signals.{reply_effect}
 use Rattle.fuse_spec.specs.Kernel.{Kernel, is_live, is_for, kernel_aborted, after_use}
-use Rattle.fuse_spec.specs.Replies.{kernel_reply, learnt, Use, usable, useless, stale, goes_with, is_agreement, judged, replied, replied_to_call, ended_by, reply_taken, odd_taken, interrupt_replied, interrupt_reply_of, reply_written, heard, without_stale, reply_judged, use_of_reply}
+use Rattle.fuse_spec.specs.Replies.{kernel_reply, learnt, Use, usable, useless, stale, goes_with, is_agreement, judged, replied, replied_to_call, ended_by, reply_taken, odd_taken, interrupt_replied, interrupt_reply_of, reply_written, heard, without_stale, reply_judged, use_of_reply, made_ready}
 use Rattle.fuse_spec.proofs.QueueReadings.{request_under-without, request_under-without_other}
 use Rattle.fuse_theorem.specs.Numbering.{requests_for}
 use Rattle.fuse_theorem.specs.AskedRequests.{SignalsReachCalls, InitIsFirst}
@@ -94,8 +93,8 @@ module _ (k : Kernel) (sound : IsSound k.queues) (numbered : CallsNumbered k) (u
   ended_answers : (kept : Purpose) → Waits k.queues unique kept → is_live (ended_by left kept wire).1.phase ≡ true → Answers k (ended_by left kept wire).1 unique
   ended_answers purpose.Init waits live = by (is_agreement wire) live
     where
-      by : (b : Bool) → is_live (cond b (record left { phase = Ready }) (kernel_aborted left)).phase ≡ true → Answers k (cond b (record left { phase = Ready }) (kernel_aborted left)) unique
-      by true alive = ends (record left { phase = Ready }) (unmoved left (record left { phase = Ready }) refl refl (omega arith)) (request_under-without k.queues unique sound)
+      by : (b : Bool) → is_live (cond b (made_ready left wire) (kernel_aborted left)).phase ≡ true → Answers k (cond b (made_ready left wire) (kernel_aborted left)) unique
+      by true alive = ends (made_ready left wire) (unmoved left (made_ready left wire) refl refl (omega arith)) (request_under-without k.queues unique sound)
       by false alive = absurd (true≢false (sym alive))
   ended_answers (purpose.Release o) waits live = ends left (unmoved left left refl refl (omega arith)) (request_under-without k.queues unique sound)
   ended_answers (purpose.Call call) waits live =

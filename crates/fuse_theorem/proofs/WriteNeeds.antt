@@ -143,7 +143,7 @@ module _ (w : World) (p : Plain) (sound : WorldSound w) (asked_so : RequestsAske
   even_hears even (Some purpose.Init) waits =
       let request = waiting_is w.kernel.queues sent.unique purpose.Init waits in
       let first = init_is_first w.kernel (asked_so live).first sent.unique request.request request.under request.serves in
-      each.of_init numbered live even waits (All-at AgreesToInit w.replies k sent (links.agreed live).copies there first)
+      each.of_init numbered live even waits (All-at (AgreesToInit w.server.minor) w.replies k sent (links.agreed live).copies there first)
   even_hears even (Some (purpose.Release o)) waits = each.of_release o numbered live even waits
   even_hears even (Some (purpose.Call call)) waits = call_hears call waits even
 
