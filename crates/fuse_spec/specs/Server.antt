@@ -89,7 +89,8 @@ abbrev pub count_in : Option HeldNode → ℕ
 count_in None = 0
 count_in (Some row) = row.count
 
--- The fault of a request: an opcode that the minor doesn't know, an unknown node, more forgets than lookups, or a unique that is held or whose reply is kept. (this project's rule)
+-- The fault of a request: an opcode that the minor doesn't know, an unknown node, more forgets than lookups, or a unique that is held or whose reply is kept.
+-- (this project's rule)
 abbrev pub fault_of : Server → Request → Option RequestFault
 fault_of s request =
     cond (knows s.minor request.body)
