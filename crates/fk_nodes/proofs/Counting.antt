@@ -16,7 +16,7 @@ use Rattle.fuse_spec.specs.Operations.{DirentPlus, told_by}
 use Rattle.fuse_spec.specs.Replies.{Use, usable, useless, stale, use_counted, use_of, counted_more}
 use Rattle.fuse_spec.proofs.Tables.{cmp_same, tie_no, get_put_here, get_put_there}
 use Rattle.fk_dentry.proofs.SortedEntries.{both_first, both_second, none_below}
-use Rattle.fk_nodes.specs.Learning.{learnt_by_use, learnt_told, learnt_from, tells, times_told, AreBelow, SomeOut}
+use Rattle.fk_nodes.specs.Learning.{learnt_by_use, learnt_told, learnt_from, tells, times_told, LeavesBelow, AreBelow, SomeOut}
 
 itself : (n : ℕ) → nat_eq n n ≡ true
 itself n = elim (eqb_tells n n) [ inl h ↦ h.0 | inr h ↦ absurd (h.1 refl) ]
@@ -150,11 +150,6 @@ new_few (pair ∷ pairs) nodes id c file none at = by (get (learnt_told nodes (t
 
 -- ---- the end of counters
 
--- Where this name tells a counted node under its generation, all that tell it leave its count below the end.
-abbrev pub LeavesBelow : Map Counted → List (DirentPlus Entry) → Option Entry → Type 0
-LeavesBelow nodes pairs None = Unit {0}
-LeavesBelow nodes pairs (Some g) = (c : Counted) → nat_lt g.nodeid 2 ≡ false → get nodes g.nodeid ≡ Some c → c.generation ≡ g.generation → c.count + times_told g.nodeid g.generation pairs < counter_end
-
 module _ (nodes : Map Counted) (pairs : List (DirentPlus Entry)) (id : ℕ) (c : Counted) (file : nat_lt id 2 ≡ false) (at : get nodes id ≡ Some c) where
   abbrev times : ℕ
   times = times_told id c.generation pairs
@@ -217,3 +212,13 @@ stay_below nodes pairs old few leaves = record { below = λ id d at. by (nat_lt 
 -- Where one does not, a count comes to the end.
 pub one_out : (nodes : Map Counted) (pairs : List (DirentPlus Entry)) (id : ℕ) (c : Counted) → nat_lt id 2 ≡ false → get nodes id ≡ Some c → counter_end ≤ c.count + times_told id c.generation pairs → SomeOut (learnt_from nodes pairs)
 one_out nodes pairs id c file at out = record { id = id; counted = record c { count = c.count + times_told id c.generation pairs }; at = counted_times pairs nodes id c file at; out = out }
+
+-- Counts never fall.
+pub below_before : (nodes : Map Counted) (pairs : List (DirentPlus Entry)) → AreBelow (learnt_from nodes pairs) → AreBelow nodes
+below_before nodes pairs after = record { below = λ id c at. by (nat_lt id 2) id c refl at }
+  where
+    by : (b : Bool) (id : ℕ) (c : Counted) → nat_lt id 2 ≡ b → get nodes id ≡ Some c → c.count < counter_end
+    by true id c low at = after.below id c (low_stays pairs nodes id low ∙ at)
+    by false id c file at =
+        let later = after.below id (record c { count = c.count + times_told id c.generation pairs }) (counted_times pairs nodes id c file at) in
+        omega (arith, later)

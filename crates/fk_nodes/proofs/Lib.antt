@@ -3,3 +3,5 @@ pub mod Counting
 pub mod Lengths
 pub mod Counts
 pub mod Outs
+pub mod Rooms
+pub mod NodeRooms

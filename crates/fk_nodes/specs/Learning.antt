@@ -1,5 +1,5 @@
 -- How the names of a list with their files are judged and learnt.
-use Rattle.std.specs.Prelude.{◌≡◌, ◌<◌, ◌≤◌, ℕ, suc, Bool, false, ◌&&◌, cond, List, [], ◌∷◌, ◌++◌, Option, Some, None, nat_eq, nat_le}
+use Rattle.std.specs.Prelude.{◌≡◌, ◌<◌, ◌≤◌, ℕ, suc, Bool, false, ◌&&◌, cond, List, [], ◌∷◌, ◌++◌, Option, Some, None, nat_eq, nat_le, nat_lt, ◌+◌}
 use Rattle.std.specs.List.{list_any}
 use Rattle.fuse_spec.specs.declared.Counted.{Counted}
 use Rattle.fuse_spec.specs.declared.Entry.{Entry}
@@ -57,3 +57,8 @@ pub record SomeOut (nodes : Map Counted) : Type 0 where
 -- Whether some node's count has come to the end of counters.
 abbrev pub is_out : Map Counted → Bool
 is_out nodes = list_any (λ (node : Counted). nat_le counter_end node.count) (values nodes)
+
+-- Where this name tells a counted node under its generation, all of these names that tell it so leave its count below the end.
+abbrev pub LeavesBelow : Map Counted → List (DirentPlus Entry) → Option Entry → Type 0
+LeavesBelow nodes pairs None = Unit {0}
+LeavesBelow nodes pairs (Some g) = (c : Counted) → nat_lt g.nodeid 2 ≡ false → get nodes g.nodeid ≡ Some c → c.generation ≡ g.generation → c.count + times_told g.nodeid g.generation pairs < counter_end

@@ -1,22 +1,33 @@
 //! The nodes that the kernel counts.
 
-ghost use Rattle.std.specs.Prelude.{◌≡◌, ◌≤◌, ◌<◌, ◌+◌, ◌^◌, [], ◌∷◌, length, map, nat_le, option_map, OnOk, OnErr, IfOk, T};
+ghost use Rattle.std.specs.Prelude.{◌≡◌, ◌≤◌, ◌<◌, ◌+◌, ◌^◌, [], ◌∷◌, length, map, nat_le, option_map, OnOk, OnErr, IfOk, T, true, false};
 ghost use Rattle.std.specs.Option.{ForSome};
 ghost use Rattle.fuse_spec.specs.Maps.{get, remove};
 ghost use Rattle.fuse_spec.specs.Numbers.{counter_end};
 ghost use Rattle.fuse_spec.specs.Replies.{counted_more, learnt, use_of};
 ghost use Rattle.std.specs.FinMap.{is_sorted};
 ghost use Rattle.std.specs.Ordering.{nat_cmp};
+ghost use Rattle.fk_wire.specs.Records.{direntplus_content};
+ghost use Rattle.fuse_frames.specs.ReplyTies.{pair_in};
+ghost use Rattle.fuse_spec.specs.Operations.{told_by};
+ghost use Rattle.fk_nodes.specs.Learning.{learnt_from, LeavesBelow, AreBelow, SomeOut};
+ghost use Rattle.fk_nodes.specs.Told.{pairs_in};
 ghost use Rattle.fk_nodes.specs.Uses.{use_meant};
 
 use crate::entry_use::EntryUse;
+use crate::learning::{count_all, reserve_nodes, tell_more};
+use crate::told::told;
 use fk_lookup_count::{CountTable, KernelNodes};
-use fuse_spec::Entry;
+use fk_wire::{DirentPlus, RecordsPlus};
+use fuse_spec::{Counted, Entry};
 use std::alloc::{AllocError, Allocator, Global};
 use std::marker::Model;
 
 /// The end of counters (this project's rule): a node's lookups are fewer.
 const COUNTER_END: u64 = 0x4000_0000_0000_0000;
+
+/// Nodes stay fewer than this, so that those of a list can be counted beside them.
+const MOST: usize = 0x4000_0000_0000_0000;
 
 /// The counted nodes: each node id with its generation and its lookup count.
 #[derive(Drop)]
@@ -123,6 +134,79 @@ impl<A: Allocator + Copy> CountedNodes<A> {
             // Ruled out: it is counted under this generation.
             Err(_) => Ok(()),
         }
+    }
+
+    /// How a node is counted.
+    fn counted(&self, id: u64) -> Option<Counted>
+        ensures { result ≡ get self.now id }
+    {
+        let _ = &self.most;
+        match self.table.generation_of(id) {
+            Some(generation) => Some(Counted {
+                generation,
+                count: self.table.count_of(id),
+            }),
+            None => None,
+        }
+    }
+
+    /// Whether the names of a list that tell the node that this one tells, under the same generation, bring its count to the end of
+    /// counters, where it is counted under that generation.
+    fn brings_out(&self, pair: &DirentPlus<'_>, pairs: RecordsPlus<'_>) -> bool
+        requires { AreBelow self.now }
+        ensures out { result ≡ true → SomeOut (learnt_from self.now (pairs_in pairs.entry)) }
+        ensures within { result ≡ false → LeavesBelow self.now (pairs_in pairs.entry) (told_by (pair_in (direntplus_content pair.now))) }
+    {
+        let Some(entry) = told(pair) else {
+            return false;
+        };
+        if entry.nodeid < 2 {
+            return false;
+        }
+        let Some(counted) = self.counted(entry.nodeid) else {
+            return false;
+        };
+        if counted.generation != entry.generation {
+            return false;
+        }
+        let left = COUNTER_END - 1 - counted.count;
+        tell_more(pairs, entry.nodeid, entry.generation, left)
+    }
+
+    /// Whether a node's count comes to the end of counters once the names of a list are counted, each judged by the counts that
+    /// those before it left. Takes no memory.
+    pub fn listed_count_out(&self, pairs: RecordsPlus<'_>) -> bool
+        requires below { AreBelow self.now }
+        requires few { length (pairs_in pairs) < counter_end }
+        ensures out { result ≡ true → SomeOut (learnt_from self.now (pairs_in pairs.entry)) }
+        ensures within { result ≡ false → AreBelow (learnt_from self.now (pairs_in pairs.entry)) }
+    {
+        for pair in pairs {
+            if self.brings_out(&pair, pairs) {
+                return true;
+            }
+        }
+        false
+    }
+
+    /// Counts the names of a list that tell files, each judged by the counts that those before it left.
+    ///
+    /// # Errors
+    ///
+    /// Memory was wanting. Nothing changed.
+    pub fn learn_listed(&mut self, pairs: RecordsPlus<'_>) -> Result<(), AllocError>
+        requires few { length (pairs_in pairs) < counter_end }
+        requires below { AreBelow (learnt_from self.old (pairs_in pairs)) }
+        ensures ok { OnOk result (self.new ≡ learnt_from self.old (pairs_in pairs.entry)) }
+        ensures err { OnErr result (self.new ≡ self.old) }
+    {
+        if self.most >= MOST {
+            // no memory holds so many nodes
+            return Err(AllocError);
+        }
+        reserve_nodes(&mut self.table, pairs)?;
+        self.most = count_all(&mut self.table, self.most, pairs);
+        Ok(())
     }
 
     /// Gives a node up, and gives its whole count, if it is counted.

@@ -3,6 +3,10 @@
 
 mod counted_nodes;
 mod entry_use;
+mod learning;
+mod listed;
+mod told;
 
 pub use counted_nodes::CountedNodes;
 pub use entry_use::EntryUse;
+pub use listed::{bind_listed, forget_stale, names_listed, reserve_listed};
