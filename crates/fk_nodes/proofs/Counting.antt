@@ -158,13 +158,13 @@ module _ (nodes : Map Counted) (pairs : List (DirentPlus Entry)) (id : ℕ) (c :
   one_leaves None told leaves = absurd (true≢false (sym told))
   one_leaves (Some g) told leaves = elim (eqb_tells g.nodeid id) [
     | inl here ↦ elim (eqb_tells g.generation c.generation) [
-        | inl same ↦
-            let high : nat_lt g.nodeid 2 ≡ false = subst (λ (n : ℕ). nat_lt n 2 ≡ false) (sym here.1) file in
-            let there : get nodes g.nodeid ≡ Some c = subst (λ (n : ℕ). get nodes n ≡ Some c) (sym here.1) at in
-            let below = leaves c high there (sym same.1) in
-            subst (λ (n : ℕ). c.count + times_told n c.generation pairs < counter_end) here.1 (subst (λ (n : ℕ). c.count + times_told g.nodeid n pairs < counter_end) same.1 below)
-        | inr apart ↦ absurd (true≢false (sym told ∙ ap (λ (b : Bool). nat_eq g.nodeid id && b) apart.0 ∙ never (nat_eq g.nodeid id)))
-      ]
+      | inl same ↦
+          let high : nat_lt g.nodeid 2 ≡ false = subst (λ (n : ℕ). nat_lt n 2 ≡ false) (sym here.1) file in
+          let there : get nodes g.nodeid ≡ Some c = subst (λ (n : ℕ). get nodes n ≡ Some c) (sym here.1) at in
+          let below = leaves c high there (sym same.1) in
+          subst (λ (n : ℕ). c.count + times_told n c.generation pairs < counter_end) here.1 (subst (λ (n : ℕ). c.count + times_told g.nodeid n pairs < counter_end) same.1 below)
+      | inr apart ↦ absurd (true≢false (sym told ∙ ap (λ (b : Bool). nat_eq g.nodeid id && b) apart.0 ∙ never (nat_eq g.nodeid id)))
+    ]
     | inr apart ↦ absurd (true≢false (sym told ∙ ap (λ (b : Bool). b && nat_eq g.generation c.generation) apart.0))
   ]
     where

@@ -6,7 +6,7 @@ use Rattle.std.proofs.lemmas.Bool.Decides.{eqb_tells}
 use Rattle.fuse_spec.specs.declared.Counted.{Counted}
 use Rattle.fuse_spec.specs.declared.Entry.{Entry}
 use Rattle.fuse_spec.specs.Maps.{Map, get, put}
-use Rattle.fuse_spec.specs.Operations.{DirentPlus, told_by, first_told, files_told}
+use Rattle.fuse_spec.specs.Operations.{DirentPlus, told_by, first_told, files_told, pair_with}
 use Rattle.fuse_spec.specs.Paths.{is_dots}
 use Rattle.fuse_spec.specs.Replies.{Use, usable, useless, stale, use_counted, use_of, use_of_told, counted_more, learnt, pair_judged, learnt_by, pairs_judged, stale_in, stale_among}
 use Rattle.fuse_spec.proofs.Tables.{get_put_here, get_put_there}
@@ -129,3 +129,13 @@ stale_settled nodes (pair ∷ pairs) =
     let rest : stale_among (learnt_by nodes pair) pairs ≡ stale_by (learnt_from next pairs) pairs = ap (λ (m : Map Counted). stale_among m pairs) (learnt_by_is nodes pair) ∙ stale_settled next pairs in
     ap (λ (u : Use). stale_in u ++ stale_among (learnt_by nodes pair) pairs) (alike nodes (told_by pair) pairs)
     ∙ ap (λ (ns : List ℕ). stale_in (use_of_told (learnt_from next pairs) (told_by pair)) ++ ns) rest
+
+-- The names are listed as they were told.
+dirent_kept : (pair : DirentPlus Entry) (u : Use) → (pair_judged pair u).dirent ≡ pair.dirent
+dirent_kept pair usable = refl
+dirent_kept pair useless = refl
+dirent_kept pair (stale node) = refl
+
+pub dirents_kept : (nodes : Map Counted) (pairs : List (DirentPlus Entry)) → map (λ (p : DirentPlus ℕ). p.dirent) (map (pair_with (λ (g : Entry). g.nodeid)) (pairs_judged nodes pairs)) ≡ map (λ (p : DirentPlus Entry). p.dirent) pairs
+dirents_kept nodes [] = refl
+dirents_kept nodes (pair ∷ pairs) = λ i. dirent_kept pair (use_of_told nodes (told_by pair)) i ∷ dirents_kept (learnt_by nodes pair) pairs i

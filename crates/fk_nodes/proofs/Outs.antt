@@ -1,5 +1,5 @@
 -- Whether a node's count has come to the end of counters.
-use Rattle.std.proofs.Common.{◌≡◌, ◌≢◌, ℕ, ◌+◌, ◌≤◌, ◌<◌, Bool, true, false, true≢false, cond, List, [], ◌∷◌, Option, Some, None, T, refl, ap, sym, subst, ◌∙◌, inl, inr, arith}
+use Rattle.std.proofs.Common.{◌≡◌, ◌≢◌, ℕ, ◌+◌, ◌≤◌, ◌<◌, Bool, true, false, true≢false, cond, List, [], ◌∷◌, length, Option, Some, None, T, refl, ap, sym, subst, ◌∙◌, inl, inr, arith}
 use Rattle.std.specs.Prelude.{nat_le, ◌||◌}
 use Rattle.std.specs.Cmp.{nat_cmp_total}
 use Rattle.std.specs.FinMap.{is_sorted, nat_cmp-IsAntisymmetric}
@@ -17,6 +17,7 @@ use Rattle.fuse_spec.specs.Operations.{DirentPlus, told_by}
 use Rattle.fuse_spec.specs.Replies.{Use, usable, useless, stale, use_of, counted_more}
 use Rattle.fuse_spec.proofs.Tables.{cmp_same, tie_no, get_put_here, get_put_there}
 use Rattle.fk_dentry.proofs.SortedEntries.{both_first, both_second, none_below}
+use Rattle.fk_nodes.proofs.Lengths.{length_put}
 use Rattle.fk_nodes.specs.Learning.{learnt_by_use, learnt_told, learnt_from, AreBelow, SomeOut, is_out}
 
 is_le : (m n : ℕ) → m ≤ n → nat_le m n ≡ true
@@ -28,15 +29,15 @@ is_more m n lt = grind (arith, nat_tests)
 is_less : (m n : ℕ) → nat_le m n ≡ false → n < m
 is_less m n no_more = grind (arith, nat_tests)
 
-or_true : (b : Bool) → (b || true) ≡ true
+pub or_true : (b : Bool) → (b || true) ≡ true
 or_true true = refl
 or_true false = refl
 
-or_first : (a b : Bool) → (a || b) ≡ false → a ≡ false
+pub or_first : (a b : Bool) → (a || b) ≡ false → a ≡ false
 or_first true b none = none
 or_first false b none = refl
 
-or_second : (a b : Bool) → (a || b) ≡ false → b ≡ false
+pub or_second : (a b : Bool) → (a || b) ≡ false → b ≡ false
 or_second true b none = absurd (true≢false none)
 or_second false b none = none
 
@@ -109,3 +110,23 @@ sorted_told m (Some g) sorted = sorted_by m g (use_of m g) sorted
 pub sorted_from : (pairs : List (DirentPlus Entry)) (m : Map Counted) → T (is_sorted nat_cmp m) → T (is_sorted nat_cmp (learnt_from m pairs))
 sorted_from [] m sorted = sorted
 sorted_from (pair ∷ pairs) m sorted = sorted_from pairs (learnt_told m (told_by pair)) (sorted_told m (told_by pair) sorted)
+
+-- how many nodes there are then
+long_by : (m : Map Counted) (g : Entry) (u : Use) → length (learnt_by_use m g u) ≤ length m + 1
+long_by m g usable = length_put m g.nodeid (counted_more g (get m g.nodeid))
+long_by m g useless = omega arith
+long_by m g (stale node) = omega arith
+
+long_told : (m : Map Counted) (o : Option Entry) → length (learnt_told m o) ≤ length m + 1
+long_told m None = omega arith
+long_told m (Some g) = long_by m g (use_of m g)
+
+pub long_from : (pairs : List (DirentPlus Entry)) (m : Map Counted) → length (learnt_from m pairs) ≤ length m + length pairs
+long_from [] m = omega arith
+long_from (pair ∷ pairs) m =
+    let rest = long_from pairs (learnt_told m (told_by pair)) in
+    let one = long_told m (told_by pair) in
+    omega (arith, rest, one)
+
+pub or_none : (a b : Bool) → a ≡ false → b ≡ false → (a || b) ≡ false
+or_none a b first second = ap (λ (x : Bool). x || b) first ∙ second

@@ -5,13 +5,13 @@ ghost use Rattle.fuse_frames.specs.ReplyTies.{pair_in};
 ghost use Rattle.fk_wire.specs.Records.{direntplus_content};
 ghost use Rattle.fuse_spec.specs.CallReplies.{name_told};
 ghost use Rattle.fuse_spec.specs.Maps.{Place};
-ghost use Rattle.fuse_spec.specs.Numbers.{max_validity};
+ghost use Rattle.fuse_spec.specs.Numbers.{counter_end, max_validity};
 ghost use Rattle.fuse_spec.specs.Operations.{told_by, pair_with};
 ghost use Rattle.fuse_spec.specs.Replies.{each_forgotten, stale_in, use_of_told};
 ghost use Rattle.fuse_spec.specs.declared.Entry.{Entry as NodeEntry};
 ghost use Rattle.fk_dentry.specs.NamesInForce.{HasRoom};
 ghost use Rattle.fk_syscalls.specs.Values.{dirent_of};
-ghost use Rattle.fk_nodes.specs.Learning.{judged_in, stale_by};
+ghost use Rattle.fk_nodes.specs.Learning.{judged_in, learnt_from, stale_by, AreBelow};
 ghost use Rattle.fk_nodes.specs.Told.{pairs_in, HasToldRoom, HaveToldRoom, names_judged};
 
 use crate::counted_nodes::CountedNodes;
@@ -46,7 +46,7 @@ fn reserve_name<A: Allocator + Copy>(
 /// # Errors
 ///
 /// Memory was wanting. The names are as before.
-pub fn reserve_listed<A: Allocator + Copy>(
+fn reserve_listed<A: Allocator + Copy>(
     names: &mut Bindings<A>,
     directory: u64,
     pairs: RecordsPlus<'_>,
@@ -87,7 +87,7 @@ fn bind_name<A: Allocator + Copy>(
 }
 
 /// Puts the names of a list in force that tell a file of which the entry can be used. Takes no memory.
-pub fn bind_listed<A: Allocator + Copy>(
+fn bind_listed<A: Allocator + Copy>(
     names: &mut Bindings<A>,
     nodes: &CountedNodes<A>,
     directory: u64,
@@ -164,4 +164,43 @@ pub fn names_listed<A: Allocator + Copy>(
         })?;
     }
     Ok(names)
+}
+
+/// How many names a list has.
+pub fn pair_count(pairs: RecordsPlus<'_>) -> usize
+    requires { length (pairs_in pairs) < counter_end }
+    ensures { result ≡ length (pairs_in pairs.entry) }
+{
+    let mut count = 0;
+    for _pair in pairs {
+        count += 1;
+    }
+    count
+}
+
+/// Counts the names of a list that tell files, and puts those in force of which the entry can be used, from this time in
+/// milliseconds on.
+///
+/// # Errors
+///
+/// Memory was wanting. Nothing changed.
+pub fn learn_and_bind<A: Allocator + Copy>(
+    names: &mut Bindings<A>,
+    nodes: &mut CountedNodes<A>,
+    directory: u64,
+    clock: u64,
+    pairs: RecordsPlus<'_>,
+) -> Result<(), AllocError>
+    requires clock { clock + max_validity < 2 ^ 64 }
+    requires few { length (pairs_in pairs) < counter_end }
+    requires below { AreBelow (learnt_from nodes.old (pairs_in pairs)) }
+    ensures err_names { OnErr result (names.new.names ≡ names.old.names) }
+    ensures err_nodes { OnErr result (nodes.new ≡ nodes.old) }
+    ensures nodes { OnOk result (nodes.new ≡ learnt_from nodes.old (pairs_in pairs.entry)) }
+    ensures names { OnOk result (names.new.names ≡ names_judged clock directory (learnt_from nodes.old (pairs_in pairs.entry)) names.old.names (pairs_in pairs.entry)) }
+{
+    reserve_listed(names, directory, pairs)?;
+    nodes.learn_listed(pairs)?;
+    bind_listed(names, nodes, directory, clock, pairs);
+    Ok(())
 }

@@ -25,9 +25,9 @@ loop-pair-preserved g c =
     let low = c.loop-pair.invariant.low in
     record {
       counted =
-        ap (λ (m : Map Counted). learnt_from m rest) c.count_told-most.ensures.counted
-        ∙ sym (ap (λ (ps : List (DirentPlus Entry)). learnt_from (nodes_in c.loop-pair.table.slots) ps) left)
-        ∙ c.loop-pair.invariant.counted;
+          ap (λ (m : Map Counted). learnt_from m rest) c.count_told-most.ensures.counted
+          ∙ sym (ap (λ (ps : List (DirentPlus Entry)). learnt_from (nodes_in c.loop-pair.table.slots) ps) left)
+          ∙ c.loop-pair.invariant.counted;
       room = kept_rooms c.loop-pair.table.slots c.count_told-most.new.table.slots rest c.count_told-most.ensures.kept rooms.1;
       within = c.count_told-most.ensures.within;
       low = omega (arith, c.count_told-most.ensures.more, shorter, low);

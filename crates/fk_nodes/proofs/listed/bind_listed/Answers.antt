@@ -18,8 +18,8 @@ loop-pair-preserved g c =
     let rooms = subst (HaveToldRoom c.loop-pair.names directory) left c.loop-pair.invariant.room in
     record {
       bound =
-        ap (λ (n : NameMap Binding). names_judged clock directory nodes n rest) c.bind_name.ensures.names
-        ∙ sym (ap (λ (ps : List (DirentPlus Entry)). names_judged clock directory nodes c.loop-pair.names.names ps) left)
-        ∙ c.loop-pair.invariant.bound;
+          ap (λ (n : NameMap Binding). names_judged clock directory nodes n rest) c.bind_name.ensures.names
+          ∙ sym (ap (λ (ps : List (DirentPlus Entry)). names_judged clock directory nodes c.loop-pair.names.names ps) left)
+          ∙ c.loop-pair.invariant.bound;
       room = kept_rooms c.loop-pair.names c.bind_name.new.names directory rest c.bind_name.ensures.kept rooms.1;
     }
