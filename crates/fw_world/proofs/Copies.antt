@@ -18,7 +18,7 @@ use Rattle.fuse_spec.specs.declared.WriteResult.{WriteResult}
 use Rattle.fuse_spec.specs.declared.WriteResult.TheVariants.{NoEntry}
 use Rattle.fuse_spec.specs.Maps.{get}
 use Rattle.fuse_spec.specs.Operations as op
-use Rattle.fuse_spec.specs.Operations.{Operation, lookup, getattr, mkdir, create, unlink, rmdir, rename, link, opening, readdir, read, write}
+use Rattle.fuse_spec.specs.Operations.{Operation, lookup, getattr, mkdir, create, unlink, rmdir, rename, link, opening, readdir, readdirplus, read, write}
 use Rattle.fuse_spec.specs.Messages.{WireReply, asks}
 use Rattle.fuse_spec.specs.QueueCalls.{waiting}
 use Rattle.fuse_spec.specs.Kernel.{Kernel, is_live}
@@ -44,10 +44,12 @@ use Rattle.fk_kernel.specs.Said as said
 use Rattle.std.specs.Option.{unwrap_or}
 use Rattle.std.specs.Prelude.{IfSome, IfNone}
 use Rattle.fuse_spec.specs.declared.Refusal.TheVariants.{NoMemory, Exhausted}
-use Rattle.fk_kernel.specs.Refused.{is_past_end, PassesEnd, WriteRefused, WritePasses, no_memory, exhausted}
+use Rattle.fk_kernel.specs.Refused.{PassesEnd, WriteRefused, WritePasses, no_memory, exhausted}
+use Rattle.fk_kernel.specs.Refused as kernel
 use Rattle.fk_kernel.proofs.PastEnds.{passes}
 use Rattle.fw_world.proofs.Happening.{writes}
-use Rattle.fw_world.proofs.Wanting.{wanting, kernel_low, kernel_past}
+use Rattle.fw_world.proofs.Counters.{kernel_all_low, kernel_past, server_low}
+use Rattle.fw_world.proofs.Wanting.{wanting}
 use Rattle.fw_world.proofs.Refusing.{past_written}
 
 -- What says a reply has its head.
@@ -220,11 +222,12 @@ module _ (w : World) (here : IsReached w) (place : ℕ) (sent : Sent) (found : s
   judged_of (link x d name) = tt
   judged_of (opening x) = tt
   judged_of (readdir d after size) = tt
+  judged_of (readdirplus d after size) = tt
   judged_of (read o offset size) = tt
   judged_of (write o offset bytes) = tt
 
   -- A number is wanting for what the copy says, where the machine's counter goes past its end.
-  passes_end : is_past_end w.kernel ≡ false → is_past_end (reply_written w.kernel sent.unique sent.wire).1 ≡ true → WritePasses w.kernel bytes
+  passes_end : kernel.is_past w.kernel ≡ false → kernel.is_past (reply_written w.kernel sent.unique sent.wire).1 ≡ true → WritePasses w.kernel bytes
   passes_end low past = (head.0, subst (λ (u : ℕ). PassesEnd w.kernel u bytes (awaited w.kernel u)) (sym head.1) (by can_hear))
     where
       said_past : (o : Opcode) → IsJudged o → (awaited w.kernel sent.unique ≡ reply_to o) × Says o bytes sent.wire → PassesEnd w.kernel sent.unique bytes (awaited w.kernel sent.unique)
@@ -233,7 +236,7 @@ module _ (w : World) (here : IsReached w) (place : ℕ) (sent : Sent) (found : s
       by : CanHear w here.plain sent → PassesEnd w.kernel sent.unique bytes (awaited w.kernel sent.unique)
       by (each.nothing e) =
           let none = awaits_none w.kernel sent.unique sent.wire e in
-          absurd (true≢false (sym past ∙ ap (λ (took : WriteResult × Kernel). is_past_end took.1) none.1 ∙ low))
+          absurd (true≢false (sym past ∙ ap (λ (took : WriteResult × Kernel). kernel.is_past took.1) none.1 ∙ low))
       by (each.of_interrupt kept numbered live odd waits) = said_past opcode.Interrupt tt (to_interrupt kept live odd waits)
       by (each.of_release o numbered live even waits) = said_past opcode.Release tt (to_release o live even waits)
       by (each.of_init numbered live even waits wire_is) = said_past opcode.Init tt (to_init even waits wire_is)
@@ -252,7 +255,7 @@ module _ (w : World) (here : IsReached w) (place : ℕ) (sent : Sent) (found : s
       after = after_write w place sent took
 
       by : (past : Bool) → is_past after ≡ past → RefusedWith w (event.write place) given
-      by true past = absurd (none (passes_end (kernel_low w low) (kernel_past w took.1 low past)))
+      by true past = absurd (none (passes_end (kernel_all_low w low) (kernel_past after past (server_low w low))))
       by false ends = wanting w (event.write place) (event.written sent.unique took.0) after refl (writes w place sent took found refl ends) given is
 
   -- The kernel refused its bytes.
@@ -260,7 +263,7 @@ module _ (w : World) (here : IsReached w) (place : ℕ) (sent : Sent) (found : s
   write_refused within r (exhausted it) last =
       let awaits : awaited w.kernel sent.unique ≡ reply_to it.opcode = ap (awaited w.kernel) (sym head.1) ∙ it.awaits in
       let means : Means it.opcode bytes sent.wire = means_said sent.wire (heard_by can_hear it.opcode it.judged awaits) in
-      let past : is_past_end (reply_written w.kernel sent.unique sent.wire).1 ≡ true = ap (λ (u : ℕ). is_past_end (reply_written w.kernel u sent.wire).1) (sym head.1) ∙ it.past sent.wire means in
+      let past : kernel.is_past (reply_written w.kernel sent.unique sent.wire).1 ≡ true = ap (λ (u : ℕ). kernel.is_past (reply_written w.kernel u sent.wire).1) (sym head.1) ∙ it.past sent.wire means in
       inl (past_written w place sent found past)
   write_refused within r (no_memory none) last = write_wanting within (last refl) NoMemory refl
 

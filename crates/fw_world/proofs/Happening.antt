@@ -15,13 +15,14 @@ use Rattle.fuse_spec.specs.Kernel.{Kernel, is_live, is_pinned, is_bound, call_be
 use Rattle.fuse_spec.specs.QueueCalls.{pending_at, first_forgets}
 use Rattle.fuse_spec.specs.Replies.{reply_written}
 use Rattle.fuse_spec.specs.Server.{HeldRequest, Kept, Copy}
-use Rattle.fuse_spec.specs.Copies.{is_current}
+use Rattle.fuse_spec.specs.Copies.{is_current, files_named}
+use Rattle.fuse_spec.specs.Nodes.{counts_out}
 use Rattle.fuse_spec.specs.Taking.{taking}
-use Rattle.fuse_spec.specs.Performs.{PerformResult, served}
+use Rattle.fuse_spec.specs.Performs.{PerformResult, served, files_given}
 use Rattle.fuse_spec.specs.Worlds.{World, Sent, after_mount, after_call, after_read_pending, after_read_forgets as after_forgets, after_take, after_perform, after_again, after_write, after_settle, after_tick, after_drop, after_evict}
 use Rattle.fuse_spec.specs.Events.{Event, Outcome}
 use Rattle.fuse_spec.specs.Events as event
-use Rattle.fuse_spec.specs.Steps.{Stepped, going, is_past, is_busy, is_ready, unless, reading_pending, reading_forgets, taking_request, performing_held, sending_again, writing_copy, settling, dropping, evicting, MayStep, Happens}
+use Rattle.fuse_spec.specs.Steps.{Stepped, going, is_past, is_busy, is_ready, unless, reading_pending, reading_forgets, taking_request, performed_as, performing_held, sending_again, writing_copy, settling, dropping, evicting, MayStep, Happens}
 use Rattle.fk_kernel.specs.Refused.{begin_refusal, mount_refusal, read_refusal, place_refusal, is_past_end, IsPendingRequest}
 use Rattle.fk_kernel.specs.RefusedUpkeep.{read_forgets_refusal, forgets_refusal, tick_refusal, name_refusal, drop_refusal, counted_refusal, evict_refusal}
 
@@ -74,18 +75,19 @@ takes w place request there within =
     let took = taking w.server request.unique request.body in
     (any_id, tt, ap (taking_request w place) there ∙ accepted (event.taken request.unique took.word) (after_take w place request.unique took) within)
 
-pub performs : (choice : ℕ → ℕ) (w : World) (unique : ℕ) (held : HeldRequest) → get w.server.held unique ≡ Some held → MayStep choice w (event.perform unique) → (did : PerformResult) → served choice w.server unique held ≡ did
+pub performs : (choice : ℕ → ℕ) (w : World) (unique : ℕ) (held : HeldRequest) → get w.server.held unique ≡ Some held → counts_out w.server.nodes (files_given w.server held) ≡ false → MayStep choice w (event.perform unique) → (did : PerformResult) → served choice w.server unique held ≡ did
     → is_past (after_perform w unique did) ≡ false → Happens w (event.perform unique) (event.performed unique (errno_of did.wire) w.server.aborted) (after_perform w unique did)
-performs choice w unique held there may did is within =
+performs choice w unique held there counts may did is within =
     let outcome = event.performed unique (errno_of did.wire) w.server.aborted in
-    (choice, may, ap (performing_held choice w unique) there ∙ ap (λ (d : PerformResult). going (event.performed unique (errno_of d.wire) w.server.aborted) (after_perform w unique d)) is ∙ accepted outcome (after_perform w unique did) within)
+    (choice, may, ap (performing_held choice w unique) there ∙ ap (λ (b : Bool). unless b refusal.Exhausted (performed_as w unique (served choice w.server unique held))) counts ∙ ap (λ (d : PerformResult). going (event.performed unique (errno_of d.wire) w.server.aborted) (after_perform w unique d)) is ∙ accepted outcome (after_perform w unique did) within)
 
-pub sends_again : (w : World) (unique : ℕ) (kept : Kept) → get w.server.kept unique ≡ Some kept → is_current w.server kept.wire ≡ true → is_past (after_again w unique kept) ≡ false
+pub sends_again : (w : World) (unique : ℕ) (kept : Kept) → get w.server.kept unique ≡ Some kept → is_current w.server kept.wire ≡ true → counts_out w.server.nodes (files_named w.server kept.wire) ≡ false → is_past (after_again w unique kept) ≡ false
     → Happens w (event.again unique) (event.sent_again unique) (after_again w unique kept)
-sends_again w unique kept there current within =
+sends_again w unique kept there current counts within =
     let outcome = event.sent_again unique in
     let after = after_again w unique kept in
-    (any_id, tt, ap (sending_again w unique) there ∙ ap (λ (b : Bool). unless (not b) refusal.NoCopy (going outcome after)) current ∙ accepted outcome after within)
+    (any_id, tt, ap (sending_again w unique) there ∙ ap (λ (b : Bool). unless (not b) refusal.NoCopy (unless (counts_out w.server.nodes (files_named w.server kept.wire)) refusal.Exhausted (going outcome after))) current
+    ∙ ap (λ (b : Bool). unless b refusal.Exhausted (going outcome after)) counts ∙ accepted outcome after within)
 
 pub writes : (w : World) (place : ℕ) (sent : Sent) (took : WriteResult × Kernel) → slice_get w.replies place ≡ Some sent → reply_written w.kernel sent.unique sent.wire ≡ took → is_past (after_write w place sent took) ≡ false
     → Happens w (event.write place) (event.written sent.unique took.0) (after_write w place sent took)

@@ -126,7 +126,7 @@ module _ (w : World) (sound : IsReached w) (kernel : Kernel) (server : Server) (
       let outcome_is : event.performed unique (errno_of did.wire) w.server.aborted ≡ event.performed unique errno false = (λ i. event.performed unique (sym does.errno_is i) (serving i)) in
       let may = subst (MayChooseFor does.choice w) (sym does.there) does.may in
       subst (Made (event.perform unique)) outcome_is
-      (made_by (event.perform unique) (event.performed unique (errno_of did.wire) w.server.aborted) (after_perform w unique did) is (performs does.choice w unique does.held does.there may did refl past))
+      (made_by (event.perform unique) (event.performed unique (errno_of did.wire) w.server.aborted) (after_perform w unique did) is (performs does.choice w unique does.held does.there does.counts may did refl past))
 
   -- The same after an abort, where no copy is sent.
   pub lost : (unique errno : ℕ) → PerformsHeld w.server unique errno None server → kernel ≡ w.kernel → requests ≡ w.requests → replies ≡ w.replies → results ≡ w.results → Within → Made (event.perform unique) (event.performed unique errno true)
@@ -140,13 +140,13 @@ module _ (w : World) (sound : IsReached w) (kernel : Kernel) (server : Server) (
       let outcome_is : event.performed unique (errno_of did.wire) w.server.aborted ≡ event.performed unique errno true = (λ i. event.performed unique (sym does.errno_is i) (gone i)) in
       let may = subst (MayChooseFor does.choice w) (sym does.there) does.may in
       subst (Made (event.perform unique)) outcome_is
-      (made_by (event.perform unique) (event.performed unique (errno_of did.wire) w.server.aborted) (after_perform w unique did) is (performs does.choice w unique does.held does.there may did refl past))
+      (made_by (event.perform unique) (event.performed unique (errno_of did.wire) w.server.aborted) (after_perform w unique did) is (performs does.choice w unique does.held does.there does.counts may did refl past))
 
   pub copied : (unique : ℕ) (copy : Sent) → SendsAgain w.server unique copy server → kernel ≡ w.kernel → requests ≡ w.requests → replies ≡ w.replies ++ copy ∷ [] → results ≡ w.results → Within → Made (event.again unique) (event.sent_again unique)
   copied unique copy does k a b c within =
       let after = after_again w unique does.kept in
       made_by (event.again unique) (event.sent_again unique) after (is_made after kernel server requests replies results k does.after a (b ∙ ap (λ (x : Sent). w.replies ++ x ∷ []) does.copy_is) c)
-      (sends_again w unique does.kept does.there does.current (within after (sym k) (sym does.after)))
+      (sends_again w unique does.kept does.there does.current does.counts (within after (sym k) (sym does.after)))
 
   pub wrote : (place : ℕ) (sent : Sent) (result : WriteResult) → slice_get w.replies place ≡ Some sent → reply_written w.kernel sent.unique sent.wire ≡ (result, kernel) → server ≡ w.server → requests ≡ w.requests → replies ≡ without w.replies place
       → results ≡ w.results ++ record { number = sent.number; unique = sent.unique; result = result } ∷ [] → Within → Made (event.write place) (event.written sent.unique result)

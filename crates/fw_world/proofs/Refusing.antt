@@ -30,7 +30,7 @@ use Rattle.fuse_theorem.specs.Reached.{IsReached}
 use Rattle.fk_kernel.specs.RefusedUpkeep.{read_forgets_refusal, forgets_refusal, tick_refusal, name_refusal, drop_refusal, counted_refusal, evict_refusal}
 use Rattle.fs_server.specs.Effects.{RefusesHeld, not_held, exhausted, RefusesAgain, not_kept, not_current, no_number, RefusesFrame}
 use Rattle.fs_server.specs.Effects.{fault_or, past_or_memory}
-use Rattle.fw_world.proofs.Counters.{server_past, as_judged, some_past}
+use Rattle.fw_world.proofs.Counters.{past_by_kernel, past_by_server, past_by_all}
 
 pub is_exhausted : (o : Outcome) (after : World) → is_past after ≡ true → going o after ≡ Err refusal.Exhausted
 is_exhausted o after past = ap (λ (b : Bool). cond b (Err refusal.Exhausted) (Ok (o, after))) past
@@ -57,7 +57,7 @@ pub call_refused : (w : World) (call : Call) (r : Refusal) → begin_refusal w.k
 call_refused w call r judged choice may =
     let after = after_call w call in
     call_as (not (is_ready w.kernel.phase)) (nat_le max_calls (length w.kernel.vfs.calls)) (is_past_end (call_begun w.kernel call)) (going (event.begun w.kernel.vfs.next_call) after) r judged
-    (λ past. is_exhausted (event.begun w.kernel.vfs.next_call) after (some_past (nat_lt counter_end after.kernel.queues.next) (nat_lt counter_end after.kernel.vfs.next_call) (server_past w.server) past))
+    (λ past. is_exhausted (event.begun w.kernel.vfs.next_call) after (past_by_kernel after past))
 
 -- ---- a read
 
@@ -100,7 +100,7 @@ forgets_refused w n r judged choice may =
     forgets_as w n (not (is_live w.kernel.phase)) (not (nat_eq (length w.kernel.queues.interrupts) 0)) (first_forgets w.kernel.queues n) r judged
     (λ x past.
     let after = worlds.after_read_forgets w n x.1 in
-    is_exhausted (event.is_read x.0) after (some_past (nat_lt counter_end after.kernel.queues.next) (nat_lt counter_end after.kernel.vfs.next_call) (server_past w.server) past))
+    is_exhausted (event.is_read x.0) after (past_by_kernel after past))
 
 -- ---- the time, names and nodes
 
@@ -133,11 +133,6 @@ evict_refused w node r judged choice may = evict_as w node (not (is_live w.kerne
 
 -- ---- a request performed
 
-past_by_server : (a b c : Bool) → c ≡ true → (a || (b || c)) ≡ true
-past_by_server true b c e = refl
-past_by_server false true c e = refl
-past_by_server false false c e = e
-
 sent_server : (w : World) (number unique : ℕ) (wire : Option WireReply) → (worlds.replying w number unique wire).server ≡ w.server
 sent_server w number unique None = refl
 sent_server w number unique (Some wire) = refl
@@ -148,9 +143,9 @@ perform_refused w unique r (exhausted held there past) choice may =
     let did = served choice w.server unique held in
     let after = after_perform w unique did in
     let same : after.server ≡ did.server = sent_server (record w { server = did.server }) w.server.next_copy unique (cond w.server.aborted None (Some did.wire)) in
-    let over : server_past after.server ≡ true = sym (as_judged after.server) ∙ ap server.is_past_end same ∙ past choice (subst (MayChooseFor choice w) there may) in
+    let over : server.is_past_end after.server ≡ true = ap server.is_past_end same ∙ past choice (subst (MayChooseFor choice w) there may) in
     ap (performing_held choice w unique) there
-    ∙ is_exhausted (event.performed unique (errno_of did.wire) w.server.aborted) after (past_by_server (nat_lt counter_end after.kernel.queues.next) (nat_lt counter_end after.kernel.vfs.next_call) (server_past after.server) over)
+    ∙ is_exhausted (event.performed unique (errno_of did.wire) w.server.aborted) after (past_by_server after over)
 
 -- Where memory is not wanting.
 pub refused_with : {X : Type 0} (w : World) (e : Event) (r : Result X Refusal) → IfErr r (IsRefused w e) → IfErr r (RefusedWith w e)
@@ -166,18 +161,17 @@ again_refused w unique r (not_current kept there stale) choice may =
 again_refused w unique r (no_number kept there current past) choice may =
     let outcome = event.sent_again unique in
     let after = after_again w unique kept in
-    let over : server_past after.server ≡ true = sym (as_judged after.server) ∙ past in
     ap (sending_again w unique) there ∙ ap (λ (b : Bool). unless (not b) refusal.NoCopy (going outcome after)) current
-    ∙ is_exhausted outcome after (past_by_server (nat_lt counter_end after.kernel.queues.next) (nat_lt counter_end after.kernel.vfs.next_call) (server_past after.server) over)
+    ∙ is_exhausted outcome after (past_by_server after past)
 
 -- ---- a copy written
 
-pub past_written : (w : World) (place : ℕ) (sent : Sent) → slice_get w.replies place ≡ Some sent → is_past_end (reply_written w.kernel sent.unique sent.wire).1 ≡ true → IsRefused w (event.write place) refusal.Exhausted
+pub past_written : (w : World) (place : ℕ) (sent : Sent) → slice_get w.replies place ≡ Some sent → kernel.is_past (reply_written w.kernel sent.unique sent.wire).1 ≡ true → IsRefused w (event.write place) refusal.Exhausted
 past_written w place sent there past choice may =
     let took = reply_written w.kernel sent.unique sent.wire in
     let after = after_write w place sent took in
     ap (writing_copy w place) there
-    ∙ is_exhausted (event.written sent.unique took.0) after (some_past (nat_lt counter_end after.kernel.queues.next) (nat_lt counter_end after.kernel.vfs.next_call) (server_past w.server) past)
+    ∙ is_exhausted (event.written sent.unique took.0) after (past_by_all after past)
 
 -- ---- nothing stands at a place
 

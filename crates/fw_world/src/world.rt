@@ -669,6 +669,7 @@ fn within<A: Allocator + Copy>(kernel: &Kernel<A>, server: &Server<A>)
     ensures { (world : WorldState) → world.kernel ≡ kernel.now → world.server ≡ server.now → is_past world ≡ false }
 {
     kernel.within();
+    kernel.counts_within();
     server.within();
 }
 
