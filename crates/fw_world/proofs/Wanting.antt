@@ -10,8 +10,7 @@ use Rattle.fuse_spec.specs.Events.{Event, Outcome}
 use Rattle.fuse_spec.specs.Events as event
 use Rattle.fuse_spec.specs.Kernel.{Kernel, is_live, is_aborted, body_of, call_begun, advanced, asking_for, released, closed_by, closing_of}
 use Rattle.fuse_spec.specs.Maps.{get, put}
-use Rattle.fuse_spec.specs.Begins.{begun}
-use Rattle.fuse_spec.specs.Vfs.{Advance}
+use Rattle.fuse_spec.specs.Vfs.{Advance, begun}
 use Rattle.fuse_spec.specs.Operations.{Operation}
 use Rattle.fuse_spec.specs.declared.Opened.{Opened}
 use Rattle.fuse_spec.specs.Messages.{Forget, Request, RequestBody, WireReply}
