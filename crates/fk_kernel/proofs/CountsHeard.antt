@@ -27,7 +27,7 @@ use Rattle.fk_syscalls.specs.declared.call.Asked.{Asked}
 use Rattle.fk_syscalls.specs.declared.call.Asked.TheVariants as asks
 use Rattle.fk_nodes.specs.Learning.{learnt_from, is_out, AreBelow, SomeOut}
 use Rattle.fk_nodes.proofs.Judged.{learnt_is}
-use Rattle.fk_nodes.proofs.Outs.{out_below, some_out, none_out, one_below}
+use Rattle.fk_nodes.proofs.Outs.{out_below, some_out, none_out, one_below, sorted_from}
 use Rattle.fk_kernel.specs.Entries.{Awaits, IsFew, learnt_by_all, nodes_heard}
 use Rattle.fk_kernel.proofs.Replied.{goes_is, wrong_is, ended}
 
@@ -93,6 +93,14 @@ entry_fits nodes g is none = fits_at nodes g (subst (λ (u : Use). is_out (learn
 -- The names of a list.
 pub pairs_below : (nodes : Map Counted) (pairs : List (DirentPlus Entry)) → is_out (nodes_heard nodes (reply.listed_plus pairs)) ≡ false → AreBelow (learnt_from nodes pairs)
 pairs_below nodes pairs none = out_below (learnt_from nodes pairs) (subst (λ (m : Map Counted). is_out m ≡ false) (learnt_is nodes pairs) none)
+
+-- whether one of them brings a count to its end
+pub pairs_out : (nodes : Map Counted) (pairs : List (DirentPlus Entry)) → T (is_sorted nat_cmp nodes) → (b : Bool) → (b ≡ true → SomeOut (learnt_from nodes pairs)) → (b ≡ false → AreBelow (learnt_from nodes pairs))
+    → b ≡ is_out (nodes_heard nodes (reply.listed_plus pairs))
+pairs_out nodes pairs sorted true out within =
+    let past = out refl in
+    sym (ap is_out (learnt_is nodes pairs) ∙ some_out (learnt_from nodes pairs) past.id past.counted past.at past.out)
+pairs_out nodes pairs sorted false out within = sym (ap is_out (learnt_is nodes pairs) ∙ none_out (learnt_from nodes pairs) (sorted_from pairs nodes sorted) (within refl))
 
 -- ---- a list with files has few names
 

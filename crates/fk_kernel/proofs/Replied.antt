@@ -231,9 +231,9 @@ module _ (k : Kernel) (unique call : ℕ) (even : nat_eq (unique % 2) 1 ≡ fals
   -- the kernel once these names are listed with their files
   module _ (directory : ℕ) (pairs : List (DirentPlus Entry)) where
     abbrev listing_of : Map Counted → List (DirentPlus Entry) → List ℕ → List Dirent → Kernel
-    listing_of nodes judged stale dirents = record k {
-      vfs = answered (record k.vfs { names = names_told k.vfs.clock directory k.vfs.names (map (pair_with (λ (g : Entry). g.nodeid)) judged) }) call (answer.listing dirents);
-      queues = each_forgotten (without k.queues unique) stale;
+    listing_of nodes names back dirents = record k {
+      vfs = answered (record k.vfs { names = names_told k.vfs.clock directory k.vfs.names (map (pair_with (λ (g : Entry). g.nodeid)) names) }) call (answer.listing dirents);
+      queues = each_forgotten (without k.queues unique) back;
       nodes = nodes;
     }
 
