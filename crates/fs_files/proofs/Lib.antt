@@ -6,6 +6,7 @@ pub mod BornFiles
 pub mod Told
 pub mod Counted
 pub mod Drawn
+pub mod Giving
 pub mod StaysKnown
 pub mod Sweeping
 pub mod StaysNamed

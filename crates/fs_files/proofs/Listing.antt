@@ -24,7 +24,7 @@ use Rattle.fuse_spec.specs.declared.Kind.TheVariants.{Directory, Regular, Other}
 use Rattle.fs_tree.specs.declared.listing.Record.{Record}
 use Rattle.fs_tree.specs.Views.{dirent_of}
 use Rattle.fs_files.specs.Listing.{record_of}
-use Rattle.fs_files.specs.Replies.{AreRecordBytes, dirents_in}
+use Rattle.fs_files.specs.Listed.{AreRecordBytes, dirents_in}
 
 records_read : (ds : List DirentContent) (bytes : List ℕ) → InRange (dirents ds) → bytes ≡ spellings (dirents ds) → ReadsAs 0 (dirents ds) bytes
 records_read ds bytes fits is = subst (λ (b : List ℕ). ReadsAs 0 (dirents ds) b) (sym is) (reads_back (dirents ds) [] fits (dirents_are_named ds))

@@ -58,12 +58,12 @@ impl<A: Allocator + Copy> Files<A> {
         })
     }
 
-    /// Makes room for telling one more file.
+    /// Makes room for telling the files of one more reply.
     pub fn reserve(&mut self) -> Result<(), AllocError>
         ensures tree { self.new.tree ≡ self.old.tree }
         ensures nodes { self.new.nodes ≡ self.old.nodes }
         ensures handles { self.new.handles ≡ self.old.handles }
-        ensures node_room { OnOk result (0 < self.new.node_room) }
+        ensures node_room { OnOk result (32 ≤ self.new.node_room) }
         ensures open_room { OnOk result (0 < self.new.open_room) }
     {
         self.known.reserve()
@@ -126,7 +126,7 @@ impl<A: Allocator + Copy> Files<A> {
 
     /// Counts one lookup more of a node, if it is held.
     pub fn count_again(&mut self, id: u64)
-        requires { AreCounted (2 ^ 62) self.old.nodes }
+        requires { AreCounted (2 ^ 63) self.old.nodes }
         ensures tree { self.new.tree ≡ self.old.tree }
         ensures nodes { self.new.nodes ≡ row_more self.old.nodes id }
         ensures handles { self.new.handles ≡ self.old.handles }
