@@ -5,7 +5,7 @@ use Rattle.fk_wire.specs.declared.opcode.Opcode.TheVariants as op
 use Rattle.fk_wire.specs.Fields.{number_at}
 use Rattle.fk_wire.specs.ReplyFaults.{HasReplyLength, HasError}
 use Rattle.fuse_spec.specs.declared.Opened.{Opened}
-use Rattle.fuse_spec.specs.Operations.{Operation, lookup, getattr, mkdir, create, unlink, rmdir, rename, link, opening, readdir, read, write}
+use Rattle.fuse_spec.specs.Operations.{Operation, lookup, getattr, mkdir, create, unlink, rmdir, rename, link, opening, readdir, readdirplus, read, write}
 use Rattle.fuse_spec.specs.Operations as reply
 use Rattle.fuse_spec.specs.Messages.{WireReply}
 use Rattle.fuse_frames.specs.ReplyTies.{SaysReply}
@@ -56,5 +56,6 @@ opcode_of (rename d old e new) = op.Rename
 opcode_of (link x d name) = op.Link
 opcode_of (opening x) = op.Open
 opcode_of (readdir d after size) = op.Readdir
+opcode_of (readdirplus d after size) = op.Readdirplus
 opcode_of (read o offset size) = op.Read
 opcode_of (write o offset bytes) = op.Write

@@ -33,7 +33,7 @@ mod walk;
 mod writing;
 mod writing_reply;
 
-pub use directory::{put_record, put_record_plus};
+pub use directory::{put_listed, put_listing_head, put_record, put_record_plus};
 pub use entry::{Attr, Entry};
 pub use fault::WireFault;
 pub use flags::InitFlags;

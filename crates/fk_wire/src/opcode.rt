@@ -30,14 +30,12 @@ pub enum Opcode {
 
 /// The minor version of protocol 7 that the two sides speak.
 ///
-/// The calls that take no minor version speak `M31WithoutReaddirplus`, until READDIRPLUS is served.
+/// The calls that take no minor version speak `M31`.
 #[derive(Clone, Copy, Debug, PartialEq, Eq)]
 pub enum Minor {
     /// 7.15, which has no BATCH_FORGET and no READDIRPLUS.
     M15,
-    /// 7.31 as far as it is served: READDIRPLUS is not known.
-    M31WithoutReaddirplus,
-    /// 7.31 whole.
+    /// 7.31.
     M31,
 }
 
@@ -45,7 +43,7 @@ pub enum Minor {
 pub(crate) fn served_minor() -> Minor
     ensures { result ≡ served }
 {
-    Minor::M31WithoutReaddirplus
+    Minor::M31
 }
 
 /// Whether an opcode came after 7.15.
@@ -61,7 +59,6 @@ pub(crate) fn is_known(minor: Minor, opcode: Opcode) -> bool
 {
     match minor {
         Minor::M31 => true,
-        Minor::M31WithoutReaddirplus => opcode != Opcode::Readdirplus,
         Minor::M15 => !came_later(opcode),
     }
 }

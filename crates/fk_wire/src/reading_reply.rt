@@ -186,7 +186,7 @@ fn reply_of(minor: Minor, opcode: Opcode, bytes: &[u8]) -> Result<Reply<'_>, Wir
     }
 }
 
-/// Reads the frame of a reply to a request of this opcode, of 7.31 without READDIRPLUS.
+/// Reads the frame of a reply to a request of this opcode, of 7.31.
 ///
 /// A frame has up to 4,176 bytes. The fault is the first of `Short`, `Length`, `ErrorRange`, `Opcode`,
 /// `Body` and `Name` that applies. `Opcode` stands for an opcode that is not known or has no replies.

@@ -207,8 +207,7 @@ pub fn put_pair<A: Allocator>(
     Ok(())
 }
 
-/// Appends the frame of a request, of 7.31 without READDIRPLUS. A refused one leaves the vector as it
-/// was.
+/// Appends the frame of a request, of 7.31. A refused one leaves the vector as it was.
 ///
 /// The fault is the first of `Opcode`, `Body`, `Name` and `Memory` that applies.
 pub fn write_request<A: Allocator>(

@@ -1,3 +1,4 @@
 pub mod RequestLemmas
 pub mod ReplyLemmas
 pub mod PairLemmas
+pub mod ListedPairs

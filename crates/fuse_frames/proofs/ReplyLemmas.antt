@@ -54,6 +54,7 @@ body_saying (reply.created entry valid fh) = create_reply (missing 0 0) 0
 body_saying (reply.opened fh) = open_reply 0
 body_saying (reply.attributes attributes) = attr_reply (record { ino = 0; size = 0; mode = 0; nlink = 0 })
 body_saying (reply.listed records) = records_reply []
+body_saying (reply.listed_plus pairs) = plus_reply []
 body_saying (reply.content bytes) = bytes_reply []
 body_saying (reply.written size) = write_reply 0
 body_saying (reply.agreed major minor) = init_reply 0 0 0
@@ -70,7 +71,6 @@ said_kind (entry_reply (missing seconds nanoseconds)) known = refl
 said_kind (entry_reply (found nodeid generation seconds nanoseconds a)) known = refl
 said_kind (create_reply (missing seconds nanoseconds) fh) known = refl
 said_kind (create_reply (found nodeid generation seconds nanoseconds a) fh) known = refl
-said_kind (plus_reply ps) known = absurd (true≢false (sym known))
 said_kind c known = refl
 
 no_failure : (c : ReplyContent) → is_failure (wire_body c) ≡ false
@@ -95,6 +95,7 @@ kind_going (reply.rmdir d name) reply.done e good = refl
 kind_going (reply.rename d old f new) reply.done e good = refl
 kind_going (reply.opening x) (reply.opened fh) e good = refl
 kind_going (reply.readdir d after size) (reply.listed records) e good = refl
+kind_going (reply.readdirplus d after size) (reply.listed_plus pairs) e good = refl
 kind_going (reply.read o offset size) (reply.content bytes) e good = refl
 kind_going (reply.write o offset bytes) (reply.written size) e good = refl
 kind_going operation (reply.failed errno) e good = absurd (true≢false good)
@@ -112,6 +113,7 @@ replied_by (reply.rename d old e new) = (empty_reply, refl)
 replied_by (reply.link x d name) = (entry_reply (missing 0 0), refl)
 replied_by (reply.opening x) = (open_reply 0, refl)
 replied_by (reply.readdir d after size) = (records_reply [], refl)
+replied_by (reply.readdirplus d after size) = (plus_reply [], refl)
 replied_by (reply.read o offset size) = (bytes_reply [], refl)
 replied_by (reply.write o offset bytes) = (write_reply 0, refl)
 
@@ -208,6 +210,7 @@ has_kind op.Write h = (write_reply 0, refl)
 has_kind op.Release h = (empty_reply, refl)
 has_kind op.Init h = (init_reply 0 0 0, refl)
 has_kind op.Readdir h = (records_reply [], refl)
+has_kind op.Readdirplus h = (plus_reply [], refl)
 has_kind op.Create h = (create_reply (missing 0 0) 0, refl)
 has_kind op.Interrupt h = (empty_reply, refl)
 has_kind o h = absurd (true≢false (sym h))

@@ -24,7 +24,7 @@ body_in nodeid (wire.write fh offset bytes) = Some (asks (operation.write (recor
 body_in nodeid (wire.release fh) = Some (release (record { nodeid = nodeid; fh = fh }))
 body_in nodeid (wire.init major minor flags) = Some init
 body_in nodeid (wire.readdir offset size) = Some (asks (operation.readdir nodeid offset size))
-body_in nodeid (wire.readdirplus offset size) = None
+body_in nodeid (wire.readdirplus offset size) = Some (asks (operation.readdirplus nodeid offset size))
 body_in nodeid (wire.create name) = Some (asks (operation.create nodeid name))
 body_in nodeid (wire.interrupt unique) = Some (interrupt unique)
 body_in nodeid (wire.batch_forget forgets) = Some (batch_forget forgets)
@@ -42,6 +42,7 @@ asked_opcode (asks (operation.rename d old e new)) = op.Rename
 asked_opcode (asks (operation.link x d name)) = op.Link
 asked_opcode (asks (operation.opening x)) = op.Open
 asked_opcode (asks (operation.readdir d after size)) = op.Readdir
+asked_opcode (asks (operation.readdirplus d after size)) = op.Readdirplus
 asked_opcode (asks (operation.read o offset size)) = op.Read
 asked_opcode (asks (operation.write o offset bytes)) = op.Write
 asked_opcode (release o) = op.Release
@@ -49,9 +50,9 @@ asked_opcode (forget f) = op.Forget
 asked_opcode (batch_forget fs) = op.BatchForget
 asked_opcode (interrupt original) = op.Interrupt
 
--- How a request is written. INIT is of version 7.31, with the flags ASYNC_READ (bit 0) and PARALLEL_DIROPS (bit 18).
+-- How a request is written. INIT is of version 7.31, with the flags ASYNC_READ (bit 0), DO_READDIRPLUS (bit 13) and PARALLEL_DIROPS (bit 18).
 abbrev pub content_of : RequestBody → RequestContent
-content_of init = wire.init 7 31 262145
+content_of init = wire.init 7 31 270337
 content_of (asks (operation.lookup d name)) = wire.lookup name
 content_of (asks (operation.getattr x)) = wire.getattr
 content_of (asks (operation.mkdir d name)) = wire.mkdir name
@@ -62,6 +63,7 @@ content_of (asks (operation.rename d old e new)) = wire.rename e old new
 content_of (asks (operation.link x d name)) = wire.link x name
 content_of (asks (operation.opening x)) = wire.opening
 content_of (asks (operation.readdir d after size)) = wire.readdir after size
+content_of (asks (operation.readdirplus d after size)) = wire.readdirplus after size
 content_of (asks (operation.read o offset size)) = wire.read o.fh offset size
 content_of (asks (operation.write o offset bytes)) = wire.write o.fh offset bytes
 content_of (release o) = wire.release o.fh

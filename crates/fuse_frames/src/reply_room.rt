@@ -10,11 +10,12 @@ ghost use Rattle.fk_wire.specs.Replies.{init_reply, reply_body, reply_content, k
 ghost use Rattle.fk_wire.specs.Requests.{known_flags};
 ghost use Rattle.fuse_spec.specs.Numbers.{max_transfer, max_validity};
 ghost use Rattle.fuse_spec.specs.Operations as reply;
-ghost use Rattle.fuse_frames.specs.ReplyTies.{FitsRoom, content_of, dirent_in, dirent_of, flags_said, wire_body};
+ghost use Rattle.fuse_frames.specs.ReplyTies.{FitsRoom, content_of, dirent_in, dirent_of, flags_said, pairs_told, wire_body};
 ghost use Rattle.fuse_frames.specs.ReplyTies.{attr_of as attr_written};
 
+use crate::listing::put_listing;
 use crate::reply_frame::ReplyFrame;
-use fk_wire::{Attr, InitFlags, Opcode, Records, Reply, ReplyBody};
+use fk_wire::{Attr, InitFlags, Opcode, Records, Reply, ReplyBody, put_listing_head};
 use fuse_spec::{Attributes, Entry, Kind};
 use std::alloc::{AllocError, Allocator, Global};
 use std::marker::Model;
@@ -129,6 +130,29 @@ impl<A: Allocator> ReplyRoom<A> {
         self.said(unique, Opcode::Readdir, ReplyBody::Records { records })
     }
 
+    /// The answer to READDIRPLUS: the records, for which there is room, each with the entry of its name's file, or with one of node 0.
+    /// Each name leads to its file for so many milliseconds, at most a day. The types are those of kinds (`type_of`).
+    pub fn listed_plus(
+        self,
+        unique: u64,
+        entries: &[Entry],
+        records: Records<'_>,
+        found_ms: u64,
+    ) -> ReplyFrame<A>
+        requires together { length entries.now ≡ length (records_in records) }
+        requires types { map dirent_of (map dirent_in (records_in records)) ≡ records_in records }
+        requires valid { found_ms ≤ max_validity }
+        requires room { 16 + (128 * length entries.now + sizes (dirents (records_in records))) ≤ self }
+        requires most { 128 * length entries.now + sizes (dirents (records_in records)) ≤ max_transfer }
+        ensures { result ≡ record { unique = unique; wire = reply.listed_plus (pairs_told found_ms entries.now (map dirent_in (records_in records.entry))); flags = 0 } }
+    {
+        let mut bytes = self.bytes;
+        let size = 128 * entries.len() + records.byte_len();
+        put_listing_head(&mut bytes, unique, size);
+        put_listing(&mut bytes, entries, records, found_ms);
+        ReplyFrame::listing(bytes)
+    }
+
     /// The answer to WRITE: how many bytes were written.
     pub fn written(self, unique: u64, size: u32) -> ReplyFrame<A>
         ensures { result ≡ record { unique = unique; wire = reply.written size; flags = 0 } }
@@ -178,7 +202,7 @@ fn agreement(flags: InitFlags) -> ReplyBody<'static>
 }
 
 /// The entry of a name that leads to a node: its validity in whole seconds, and the rest in nanoseconds.
-fn entry_of(entry: &Entry, found_ms: u64) -> fk_wire::Entry
+pub(crate) fn entry_of(entry: &Entry, found_ms: u64) -> fk_wire::Entry
     ensures { result ≡ record { nodeid = entry.now.nodeid; generation = entry.now.generation; entry_valid = found_ms / 1000; entry_valid_nsec = found_ms % 1000 * 1000000; attr = attr_written entry.now.attributes } }
 {
     fk_wire::Entry {

@@ -68,12 +68,14 @@ impl<A: Allocator> RequestFrame<A> {
         &self.bytes
     }
 
-    /// INIT of the version that the kernel speaks, 7.31, with the flags that it offers, FUSE_ASYNC_READ and
-    /// FUSE_PARALLEL_DIROPS (uapi fuse.h). That its frame says so is in the invariant: `content_of` has what is written.
+    /// INIT of the version that the kernel speaks, 7.31, with the flags that it offers, FUSE_ASYNC_READ,
+    /// FUSE_DO_READDIRPLUS and FUSE_PARALLEL_DIROPS (uapi fuse.h). That its frame says so is in the invariant: `content_of` has what is written.
     pub fn init(alloc: A, unique: u64) -> Result<RequestFrame<A>, AllocError>
         ensures { IfOk result (λ frame. frame ≡ record { unique = unique; body = init }) }
     {
-        let flags = InitFlags::ASYNC_READ.union(InitFlags::PARALLEL_DIROPS);
+        let flags = InitFlags::ASYNC_READ
+            .union(InitFlags::DO_READDIRPLUS)
+            .union(InitFlags::PARALLEL_DIROPS);
         let body = RequestBody::Init {
             major: 7,
             minor: 31,
