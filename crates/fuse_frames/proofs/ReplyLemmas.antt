@@ -57,7 +57,7 @@ body_saying (reply.listed records) = records_reply []
 body_saying (reply.listed_plus pairs) = plus_reply []
 body_saying (reply.content bytes) = bytes_reply []
 body_saying (reply.written size) = write_reply 0
-body_saying (reply.agreed major minor) = init_reply 0 0 0
+body_saying (reply.agreed major minor flags) = init_reply 0 0 0
 body_saying reply.done = empty_reply
 body_saying (reply.failed errno) = empty_reply
 
@@ -138,7 +138,7 @@ goes_saying o p d unique (negsuc n) c goes ok known has same =
     (kind_of_content d, has, alone ∙ elim (eqb_tells (cast_unsigned w32 (negsuc n)) 0) [ inl h ↦ absurd (shows h.1) | inr h ↦ sym (ap (λ (b : Bool). if b then kind_of_content d else kind_of_content empty_reply) h.0) ])
 
 init_kind : (wire : WireReply) → is_init_reply wire ≡ true → is_failure wire ≡ false → kind_of_content (body_saying wire) ≡ kind_of_content (init_reply 0 0 0)
-init_kind (reply.agreed major minor) e good = refl
+init_kind (reply.agreed major minor flags) e good = refl
 init_kind (reply.failed errno) e good = absurd (true≢false good)
 init_kind wire e good = absurd (true≢false (sym e))
 
@@ -225,4 +225,4 @@ error_goes o unique errno z has some most is =
 pub error_exact : (unique errno : ℕ) (z : ℤ) → 1 ≤ errno → z ≡ negsuc (errno - 1) → ◌≡◌ {A = ReplyMessage} (record { unique = unique; error = z; content = empty_reply }) (message_of (framed_by (record { unique = unique; error = z; content = empty_reply })))
 error_exact unique errno z some is =
     let said = error_said errno z empty_reply some is in
-    λ i. record { unique = unique; error = (is ∙ ap error_of (sym said)) i; content = (ap (content_of 0) (sym said)) i }
+    λ i. record { unique = unique; error = (is ∙ ap error_of (sym said)) i; content = (ap content_of (sym said)) i }

@@ -66,7 +66,7 @@ wire_body (attr_reply a) = reply.attributes (attributes_in a)
 wire_body (open_reply fh) = reply.opened fh
 wire_body (bytes_reply bytes) = reply.content bytes
 wire_body (write_reply size) = reply.written size
-wire_body (init_reply major minor flags) = reply.agreed major minor
+wire_body (init_reply major minor flags) = reply.agreed major minor flags
 wire_body (create_reply (missing seconds nanoseconds) fh) = reply.created no_entry (milliseconds seconds nanoseconds) fh
 wire_body (create_reply (found nodeid generation seconds nanoseconds a) fh) = reply.created (entry_in nodeid generation a) (milliseconds seconds nanoseconds) fh
 wire_body (records_reply ds) = reply.listed (map dirent_in ds)
@@ -84,18 +84,13 @@ pub record SaysReply (o : Opcode) (bytes : List ℕ) (unique : ℕ) (wire : Wire
   pub unique_is : message.unique ≡ unique
   pub says : wire_said message.error message.content ≡ wire
 
--- A reply as its frame has it. The flags are those that an answer to INIT takes up; another reply has none, which is 0.
+-- A reply as its frame has it.
 pub record Framed : Type 0 where
   pub unique : ℕ
   pub wire : WireReply
-  pub flags : ℕ
-
-abbrev pub flags_said : ReplyContent → ℕ
-flags_said (init_reply major minor flags) = flags
-flags_said content = 0
 
 abbrev pub framed_by : ReplyMessage → Framed
-framed_by m = record { unique = m.unique; wire = wire_said m.error m.content; flags = flags_said m.content }
+framed_by m = record { unique = m.unique; wire = wire_said m.error m.content }
 
 -- ---- how replies are written
 
@@ -147,32 +142,32 @@ pairs_listed valid [] ds = []
 pairs_listed valid (e ∷ entries) [] = []
 
 -- the body of a reply; an error has none
-abbrev pub content_of : (flags : ℕ) → WireReply → ReplyContent
-content_of flags (reply.found entry valid) = entry_reply (found_of entry valid)
-content_of flags (reply.missing valid) = entry_reply (missing_of valid)
-content_of flags (reply.created entry valid fh) = create_reply (found_of entry valid) fh
-content_of flags (reply.opened fh) = open_reply fh
-content_of flags (reply.attributes attributes) = attr_reply (attr_of attributes)
-content_of flags (reply.listed records) = records_reply (map dirent_of records)
-content_of flags (reply.listed_plus pairs) = plus_reply (map pair_of pairs)
-content_of flags (reply.content bytes) = bytes_reply bytes
-content_of flags (reply.written size) = write_reply size
-content_of flags (reply.agreed major minor) = init_reply major minor flags
-content_of flags reply.done = empty_reply
-content_of flags (reply.failed errno) = empty_reply
+abbrev pub content_of : WireReply → ReplyContent
+content_of (reply.found entry valid) = entry_reply (found_of entry valid)
+content_of (reply.missing valid) = entry_reply (missing_of valid)
+content_of (reply.created entry valid fh) = create_reply (found_of entry valid) fh
+content_of (reply.opened fh) = open_reply fh
+content_of (reply.attributes attributes) = attr_reply (attr_of attributes)
+content_of (reply.listed records) = records_reply (map dirent_of records)
+content_of (reply.listed_plus pairs) = plus_reply (map pair_of pairs)
+content_of (reply.content bytes) = bytes_reply bytes
+content_of (reply.written size) = write_reply size
+content_of (reply.agreed major minor flags) = init_reply major minor flags
+content_of reply.done = empty_reply
+content_of (reply.failed errno) = empty_reply
 
 abbrev pub error_of : WireReply → ℤ
 error_of (reply.failed errno) = negsuc (errno - 1)
 error_of wire = pos 0
 
 abbrev pub message_of : Framed → ReplyMessage
-message_of f = record { unique = f.unique; error = error_of f.wire; content = content_of f.flags f.wire }
+message_of f = record { unique = f.unique; error = error_of f.wire; content = content_of f.wire }
 
 -- The bytes are the one frame in which this reply to a request of this opcode is written, and they say it.
 pub record IsReplyFrame (o : Opcode) (bytes : List ℕ) (framed : Framed) : Type 0 where
   pub written : WrittenReply (message_of framed) bytes
   pub goes : GoesWith served o (message_of framed)
-  pub says : wire_said (error_of framed.wire) (content_of framed.flags framed.wire) ≡ framed.wire
+  pub says : wire_said (error_of framed.wire) (content_of framed.wire) ≡ framed.wire
 
 -- What the bytes of a reply are, where they spell anything.
 unfoldable pub framed_in : Opcode → List ℕ → Framed

@@ -2,6 +2,7 @@
 #![tactic(auto)]
 
 mod listing;
+mod minor;
 mod pair_bytes;
 mod reply_body;
 mod reply_copy;
@@ -10,6 +11,7 @@ mod reply_room;
 mod request_frame;
 mod request_operations;
 
+pub use minor::{codec_minor, said_where_known};
 pub use reply_body::{attributes_of, kind_of_type, milliseconds, told_by};
 pub use reply_copy::ReplyCopy;
 pub use reply_frame::ReplyFrame;

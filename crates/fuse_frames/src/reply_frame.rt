@@ -15,7 +15,7 @@ use fuse_spec::Opened;
 use std::alloc::{Allocator, Global};
 use std::marker::Model;
 
-/// A frame of the reply link, seen as the reply that it says: its unique, its words, and the flags that an answer to INIT takes up.
+/// A frame of the reply link, seen as the reply that it says: its unique and its words.
 #[derive(Drop)]
 pub struct ReplyFrame<A: Allocator = Global> {
     opcode: Opcode,

@@ -40,4 +40,4 @@ returns g c =
     listing_written unique size ps c.put_listing_head.new.out.items c.put_listing.new.out.items total (omega (arith, c.byte_len.ensures, c.requires.most)) (omega (arith, c.ranges.unique.fits))
     (listed_entries c.args.found_ms es ds) (listed_names c.args.found_ms es ds (records_are_named c.args.records)) c.put_listing.ensures.fits first c.put_listing.ensures.items in
     c.listing.ensures (listing unique ps) (listing_goes unique ps) written
-    ∙ ap (λ (pairs : List (DirentPlus Entry)). record { unique = unique; wire = reply.listed_plus pairs; flags = 0 }) (pairs_say c.args.found_ms es ds c.requires.valid)
+    ∙ ap (λ (pairs : List (DirentPlus Entry)). record { unique = unique; wire = reply.listed_plus pairs }) (pairs_say c.args.found_ms es ds c.requires.valid)
