@@ -1,0 +1,9 @@
+use Rattle.std.proofs.Common.{refl}
+use Rattle.fk_wire.specs.Requests.{opcode_of, request_content}
+use Rattle.callers.proofs.Answering.{kind_there}
+use Rattle.callers.proofs.server.reply_to.Goals as goal
+
+pub returns-in_default : goal.returns-in_default
+returns-in_default c =
+    let there = kind_there (opcode_of (request_content c.args.request.now.body)) c.requires.known c.requires.replies in
+    record { unique = refl; goes = (there.0, there.1, refl) }
