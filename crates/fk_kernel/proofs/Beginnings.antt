@@ -9,7 +9,7 @@ use Rattle.fuse_spec.specs.Vfs.{CallState, Advance, numbered, begun, asking, ans
 use Rattle.fuse_spec.specs.Answers.{Answer}
 use Rattle.fk_syscalls.specs.Values.{call_of, ClosesNone}
 use Rattle.fk_syscalls.specs.declared.call.Call.{Call}
-use Rattle.fk_syscalls.specs.declared.call.Call.TheVariants.{Stat, List as Lists, Open, Mkdir, Create, Unlink, Rmdir, Rename, Link, Read, Write, Close}
+use Rattle.fk_syscalls.specs.declared.call.Call.TheVariants.{Stat, List as Lists, ListPlus, Open, Mkdir, Create, Unlink, Rmdir, Rename, Link, Read, Write, Close}
 use Rattle.fk_kernel.proofs.Standing.{closes_none}
 use Rattle.fk_kernel.proofs.Phases.{none_past_end}
 use Rattle.fuse_spec.specs.declared.Opened.{Opened}
@@ -84,6 +84,7 @@ pub no_close : (made : Call) → ((handle : ℕ) → made ≡ Close handle → �
 no_close (Close handle) other = other handle refl
 no_close (Stat path) other = tt
 no_close (Lists path after) other = tt
+no_close (ListPlus path after) other = tt
 no_close (Open path) other = tt
 no_close (Mkdir path) other = tt
 no_close (Create path) other = tt

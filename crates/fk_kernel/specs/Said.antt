@@ -57,7 +57,6 @@ pub data Means (o : Opcode) (bytes : List ℕ) : WireReply → Type 0 where
 abbrev pub IsJudged : Opcode → Type 0
 IsJudged op.Forget = ⊥
 IsJudged op.BatchForget = ⊥
-IsJudged op.Readdirplus = ⊥
 IsJudged o = Unit {0}
 
 -- The kinds that await a reply.

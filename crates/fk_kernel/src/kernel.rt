@@ -1,14 +1,17 @@
 //! The kernel.
 
-ghost use Rattle.std.specs.Prelude.{◌≡◌, ◌<◌, ◌+◌, [], None, Ok, OnOk, OnErr, IfErr, false};
+ghost use Rattle.std.specs.Prelude.{◌≡◌, ◌<◌, ◌+◌, [], None, Ok, OnOk, OnErr, IfErr, T, false};
 ghost use Rattle.fuse_spec.specs.Kernel.{is_live, is_aborted, kernel_mounted};
-ghost use Rattle.fuse_spec.specs.Steps.{is_ready, is_busy};
+ghost use Rattle.fuse_spec.specs.Steps.{is_ready, is_busy, is_counted_out};
+ghost use Rattle.fk_nodes.specs.Learning.{AreBelow};
+ghost use Rattle.std.specs.FinMap.{is_sorted};
+ghost use Rattle.std.specs.Ordering.{nat_cmp};
 ghost use Rattle.fuse_spec.specs.Worlds.{first_kernel};
 ghost use Rattle.fk_kernel.specs.Refused.{is_past_end, or_no_memory, mount_refusal};
 
-use crate::counted_nodes::CountedNodes;
 use fk_calls::StoredAnswer;
 use fk_dentry::Bindings;
+use fk_nodes::CountedNodes;
 use fk_queues::{QueueTable, Queues};
 use fk_syscalls::CallState;
 use fuse_spec::{Opened, Phase, Purpose, Refusal};
@@ -78,6 +81,16 @@ impl<Q: QueueTable<Purpose> + Drop> KernelOf<Q> {
     {
         // A field is touched so that the type's invariant is at hand.
         let _ = &self.next_call;
+    }
+
+    /// No node's count has come to the end of counters, and nodes stand in rising id. A call without effect, made where a proof
+    /// rests on that.
+    pub fn counts_within(&self)
+        ensures sorted { T (is_sorted nat_cmp self.now.nodes) }
+        ensures below { AreBelow self.now.nodes }
+        ensures none_out { is_counted_out self.now ≡ false }
+    {
+        self.nodes.are_sorted();
     }
 
     pub(crate) fn is_live(&self) -> bool

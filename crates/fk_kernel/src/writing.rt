@@ -22,8 +22,8 @@ impl<Q: QueueTable<Purpose> + Drop> KernelOf<Q> {
     ///
     /// # Errors
     ///
-    /// `Exhausted` where no number is left for the request that would be queued, as `write_refusal` says; then `NoMemory`. The
-    /// kernel is as before.
+    /// `Exhausted` where no number is left for the request that would be queued, or a node's count would come to the end of
+    /// counters, as `write_refusal` says; then `NoMemory`. The kernel is as before.
     pub fn write(&mut self, bytes: &[u8]) -> Result<WriteResult, Refusal>
         ensures err { OnErr result (self.new ≡ self.old) }
         ensures refusal { HasReplyHead bytes.now → IfErr result (WriteRefused self.old bytes.now) }

@@ -15,6 +15,11 @@ pub enum Call<'a> {
         path: &'a [u8],
         after: u64,
     },
+    /// The same, with each name's file.
+    ListPlus {
+        path: &'a [u8],
+        after: u64,
+    },
     /// Opens the file at a path.
     Open {
         path: &'a [u8],
@@ -95,6 +100,11 @@ pub enum Asked<'a> {
     },
     /// It lists the names behind an offset, in at most 4,096 bytes.
     Readdir {
+        directory: u64,
+        after: u64,
+    },
+    /// The same, with each name's file.
+    Readdirplus {
         directory: u64,
         after: u64,
     },

@@ -14,6 +14,7 @@ mod aborts;
 mod beginnings;
 mod bytes;
 mod init_replies;
+mod listplus;
 mod open_files;
 mod operations;
 mod paths;
