@@ -20,7 +20,7 @@ use Rattle.fs_tree.proofs.Shaping.{same_number, other_number}
 use Rattle.fs_files.specs.Bounds.{AreHeldBelow}
 use Rattle.fs_files.specs.Giving.{AreCountable, GivenEach, IsCountable, generations_after, has_node, new_among, node_in}
 
-is_true : (b : Bool) → b ≡ true → T b
+pub is_true : (b : Bool) → b ≡ true → T b
 is_true true e = tt
 is_true false e = absurd (true≢false (sym e))
 
@@ -62,7 +62,7 @@ same_new known more same (x ∷ files) = rw (same x) (ap (λ n. cond (known x ||
 -- ---- one file more
 
 -- the node that is given is of the file
-given_file : (t : NodeTable) (file id : ℕ) → MayName t file id → (given_row t file (get t.rows id)).file ≡ file
+pub given_file : (t : NodeTable) (file id : ℕ) → MayName t file id → (given_row t file (get t.rows id)).file ≡ file
 given_file t file id may = by (get t.rows id) may
   where
     by : (o : Option HeldNode) → MatchOption o ((2 ≤ id) × IsUnheld t file) (λ row. row.file ≡ file) → (given_row t file o).file ≡ file
@@ -70,7 +70,7 @@ given_file t file id may = by (get t.rows id) may
     by (Some row) m = m
 
 -- a node that there was is of the same file still
-stays : (t : NodeTable) (file id q : ℕ) (row : HeldNode) → get t.rows q ≡ Some row → (r : HeldNode) × (get (given t file id).rows q ≡ Some r) × (r.file ≡ row.file)
+pub stays : (t : NodeTable) (file id q : ℕ) (row : HeldNode) → get t.rows q ≡ Some row → (r : HeldNode) × (get (given t file id).rows q ≡ Some r) × (r.file ≡ row.file)
 stays t file id q row there = elim (cases_eq q id) [
   | inl e ↦
       let here : get t.rows id ≡ Some row = ap (get t.rows) (sym e) ∙ there in
@@ -125,17 +125,17 @@ given_has t file id sorted may x = sym (any_is (has_node t x || nat_eq x file) (
       | inr ne ↦ or_left (has_node t x) (nat_eq x file) (any_there t.rows test has.key has.value (sym (get_put_there t.rows id (given_row t file (get t.rows id)) has.key ne) ∙ has.there) has.passes)
     ]
 
-sorted_given : (t : NodeTable) (file id : ℕ) → T (is_sorted nat_cmp t.rows) → T (is_sorted nat_cmp (given t file id).rows)
+pub sorted_given : (t : NodeTable) (file id : ℕ) → T (is_sorted nat_cmp t.rows) → T (is_sorted nat_cmp (given t file id).rows)
 sorted_given t file id sorted = sorted_put t.rows id (given_row t file (get t.rows id)) sorted
 
-unheld_not : (t : NodeTable) (file : ℕ) → T (is_sorted nat_cmp t.rows) → IsUnheld t file → has_node t file ≡ false
+pub unheld_not : (t : NodeTable) (file : ℕ) → T (is_sorted nat_cmp t.rows) → IsUnheld t file → has_node t file ≡ false
 unheld_not t file sorted unheld = by (has_node t file) refl
   where
     by : (b : Bool) → has_node t file ≡ b → b ≡ false
     by false e = refl
     by true e = let has = there_any t.rows (λ (row : HeldNode). nat_eq row.file file) sorted e in absurd (unheld has.key has.value has.there (same_number has.value.file file has.passes))
 
-held_has : (t : NodeTable) (file id : ℕ) (row : HeldNode) → get t.rows id ≡ Some row → row.file ≡ file → has_node t file ≡ true
+pub held_has : (t : NodeTable) (file id : ℕ) (row : HeldNode) → get t.rows id ≡ Some row → row.file ≡ file → has_node t file ≡ true
 held_has t file id row there same = any_there t.rows (λ (r : HeldNode). nat_eq r.file file) id row there (ap (λ n. nat_eq n file) same ∙ is_itself file)
   where
     is_itself : (n : ℕ) → nat_eq n n ≡ true
@@ -270,7 +270,7 @@ count_low t id count below is = by (get t.rows id) refl is
     by None e is = omega (arith, is)
     by (Some row) e is = let low = below id row e in omega (arith, is, low)
 
-node_found : (rows : Map HeldNode) (file : ℕ) → T (is_sorted nat_cmp rows) → list_any (λ (row : HeldNode). nat_eq row.file file) (values rows) ≡ true → IsOf (get rows (node_in rows file)) file
+pub node_found : (rows : Map HeldNode) (file : ℕ) → T (is_sorted nat_cmp rows) → list_any (λ (row : HeldNode). nat_eq row.file file) (values rows) ≡ true → IsOf (get rows (node_in rows file)) file
 node_found [] file sorted any = absurd (true≢false (sym any))
 node_found (e ∷ rows) file sorted any = by (nat_eq e.1.file file) refl any (node_found rows file (sorted_later e rows sorted))
   where

@@ -7,6 +7,8 @@ pub mod Told
 pub mod Counted
 pub mod Drawn
 pub mod Giving
+pub mod GivenEach
+pub mod ToldList
 pub mod StaysKnown
 pub mod Sweeping
 pub mod StaysNamed

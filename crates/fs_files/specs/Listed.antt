@@ -4,7 +4,8 @@ use Rattle.fuse_spec.specs.Operations.{Dirent, DirentPlus}
 use Rattle.fuse_spec.specs.declared.Entry.{Entry}
 use Rattle.fk_wire.specs.Decoded.{count_from}
 use Rattle.fk_wire.specs.Dirents.{DirentContent, dirents_from}
-use Rattle.fk_wire.specs.Records.{AreRecords}
+use Rattle.fk_wire.specs.Records.{AreRecords, records_in}
+use Rattle.fk_wire.specs.declared.records.Records.{Records}
 use Rattle.fuse_frames.specs.ReplyTies.{dirent_in, dirent_of, pairs_told}
 
 -- the records that these bytes are, if they are any
@@ -26,3 +27,7 @@ names_in bytes = map dirent_in (dirents_in bytes)
 -- the names that these bytes list, each with the file of an entry
 abbrev pub listed_pairs : (valid : ℕ) → List Entry → List ℕ → List (DirentPlus Entry)
 listed_pairs valid entries bytes = pairs_told valid entries (names_in bytes)
+
+-- the names of the records that are left
+abbrev pub listed_in : Records → List Dirent
+listed_in records = map dirent_in (records_in records)

@@ -7,6 +7,7 @@ ghost use Rattle.fuse_spec.specs.Nodes.{HeldNode, counts_out, row_of, file_of, i
 ghost use Rattle.fuse_spec.specs.Server.{count_in, generation_in, is_known};
 ghost use Rattle.fuse_spec.specs.Copies.{row_back};
 ghost use Rattle.fs_nodes.specs.Rows.{listed};
+ghost use Rattle.fs_nodes.specs.Sound.{IsSound};
 ghost use Rattle.fs_files.specs.Bounds.{AreCounted, AreHeldBelow};
 ghost use Rattle.fs_files.specs.Giving.{IsCountable, has_node, new_among, node_in};
 ghost use Rattle.fs_files.specs.Values.{no_nodes};
@@ -140,6 +141,13 @@ impl<S: NodeStore> Nodes<S> {
     {
         self.store.keeps_sound();
         self.store.id_of(file).unwrap_or(ROOT)
+    }
+
+    /// Nodeids rise from 2, no two have one file, each has a lookup, and its generation was given before the coming one.
+    pub fn keeps_sound(&self)
+        ensures { IsSound self.now.table }
+    {
+        self.store.keeps_sound();
     }
 
     /// How many nodes are new once these files have nodes.

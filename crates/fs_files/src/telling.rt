@@ -1,15 +1,16 @@
 //! Files are told by nodes and open numbers.
 
-ghost use Rattle.std.specs.Prelude.{◌≡◌, ◌≢◌, ◌<◌, ◌≤◌, ◌+◌, ◌*◌, ◌^◌, ◌++◌, [], ℕ, All, IsTrue, None, Some, cond, length, map, vec_capacity};
+ghost use Rattle.std.specs.Prelude.{◌≡◌, ◌≢◌, ◌<◌, ◌≤◌, ◌+◌, ◌*◌, ◌^◌, ◌++◌, [], ℕ, All, IsTrue, List, None, Some, cond, length, map, vec_capacity};
 ghost use Rattle.fuse_spec.specs.Nodes.{IsUnheld, handle_opened};
 ghost use Rattle.fuse_spec.specs.Numbers.{max_transfer, max_validity};
 ghost use Rattle.fuse_spec.specs.Operations.{files_in_reply, files_told, first_told, opens_in_reply};
 ghost use Rattle.fuse_spec.specs.Paths.{is_dots};
 ghost use Rattle.fuse_spec.specs.Performs.{entry_for};
+ghost use Rattle.fs_nodes.specs.Sound.{IsSound};
 ghost use Rattle.fs_tree.specs.Outcomes.{is_regular};
 ghost use Rattle.fs_files.specs.Bounds.{AreCounted, AreHeldBelow, IsThere};
 ghost use Rattle.fs_files.specs.Giving.{GivenEach, generations_after, node_in};
-ghost use Rattle.fs_files.specs.Listed.{AreRecordBytes, listed_pairs, names_in, pair_listed};
+ghost use Rattle.fs_files.specs.Listed.{AreRecordBytes, listed_in, listed_pairs, names_in, pair_listed};
 ghost use Rattle.fs_files.specs.Replies.{HasSpare, IsListable, IsSendable, IsTellable, outcome_flags, outcome_len, outcome_names, outcome_reply, sent_flags, sent_len, sent_names};
 ghost use Rattle.fs_files.specs.Telling.{GivesEntry, Tells, entries_named, entry_named};
 
@@ -100,8 +101,24 @@ impl<A: Allocator + Copy> Files<A> {
         ensures given { GivenEach self.old.nodes (files_told (map (pair_listed 0) (names_in records.now))) self.new.nodes }
         ensures tree { self.new.tree ≡ self.old.tree }
         ensures handles { self.new.handles ≡ self.old.handles }
+        ensures sound { IsSound self.new.nodes }
     {
-        'records: for record in Records::over(records).unwrap() {
+        self.give_records(Records::over(records).unwrap());
+        self.keeps_sound();
+    }
+
+    /// Counts a lookup of each file that the names of these records tell.
+    fn give_records(&mut self, records: Records<'_>)
+        requires listable { All (IsListable self.old.tree) (listed_in records) }
+        requires few { length (listed_in records) ≤ 32 }
+        requires room { length (listed_in records) ≤ self.old.node_room }
+        requires generations { generations_after self.old.nodes (files_told (map (pair_listed 0) (listed_in records))) ≤ 2 ^ 62 }
+        requires counted { AreHeldBelow self.old.nodes }
+        ensures given { GivenEach self.old.nodes (files_told (map (pair_listed 0) (listed_in records.entry))) self.new.nodes }
+        ensures tree { self.new.tree ≡ self.old.tree }
+        ensures handles { self.new.handles ≡ self.old.handles }
+    {
+        'records: for record in records {
             self.give_named(record.name, record.ino - 1);
         }
     }
@@ -117,7 +134,9 @@ impl<A: Allocator + Copy> Files<A> {
         ensures tree { self.new.tree ≡ self.old.tree }
         ensures handles { self.new.handles ≡ self.old.handles }
         ensures room { self.old.node_room ≤ self.new.node_room + 1 }
+        ensures generations { (files : List ℕ) → generations_after self.new.nodes files ≡ generations_after self.old.nodes (first_told (cond (is_dots name.now) None (Some file)) files) }
     {
+        self.keeps_sound();
         if !is_dots(name) {
             self.give(file);
         }
