@@ -2,6 +2,8 @@
 use Rattle.std.specs.Prelude.{ℕ, List}
 use Rattle.fk_wire.specs.declared.opcode.Opcode.{Opcode}
 use Rattle.fk_wire.specs.declared.opcode.Opcode.TheVariants as op
+use Rattle.std.specs.Int.RustNames.{bit_and}
+use Rattle.fk_wire.specs.Requests.{known_flags}
 use Rattle.fk_wire.specs.Fields.{number_at}
 use Rattle.fk_wire.specs.ReplyFaults.{HasReplyLength, HasError}
 use Rattle.fuse_spec.specs.declared.Opened.{Opened}
@@ -34,7 +36,7 @@ SaysNothing o bytes = (wire : WireReply) → Says o bytes wire → ⊥
 -- What was made out of a reply to INIT, as it was said.
 abbrev pub init_wire : InitSaid → WireReply
 init_wire (init_said.Failed errno) = reply.failed errno
-init_wire (init_said.Agreed major minor) = reply.agreed major minor
+init_wire (init_said.Agreed major minor flags) = reply.agreed major minor (bit_and flags.0 known_flags)
 
 -- They say what was made out of them.
 abbrev pub SaysToInit : List ℕ → InitSaid → Type 0
