@@ -1,12 +1,17 @@
 # `make run` runs a script through the program, proving and building it first.
-# `make test` is the gate, and then the rows over the built program.
+# `make try` runs it without any proof, and says so. `make test` is the gate, and then the rows over the built program.
 
 SCRIPT ?= tests/rows/stat-of-root.script
 
-.PHONY: run test build
+.PHONY: run try test build
 
 run: build
 	@crates/fuseworld/out/fuseworld run "$(SCRIPT)"
+
+# `rt try` builds the program anew each time, and ends with the program's own status.
+try:
+	@script=$$(realpath -- "$(SCRIPT)") && cd crates/fuseworld && rt try -- run "$$script"; status=$$?; \
+		echo "Built without proofs: nothing was proved in this run." >&2; exit $$status
 
 # `rt run` builds only to run: here an empty script.
 build:
