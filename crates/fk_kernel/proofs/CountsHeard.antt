@@ -1,6 +1,6 @@
 -- The counted nodes after a reply to the request of a call.
-use Rattle.std.proofs.Common.{◌≡◌, ℕ, ◌+◌, ◌≤◌, ◌<◌, ◌%◌, Bool, true, false, true≢false, cond, List, [], ◌∷◌, length, Option, Some, None, T, nat_eq, refl, ap, sym, subst, ◌∙◌, arith}
-use Rattle.std.specs.Prelude.{nat_le, sum_by, ◌||◌}
+use Rattle.std.proofs.Common.{◌≡◌, ℕ, ◌≤◌, ◌<◌, ◌%◌, Bool, true, false, true≢false, List, [], ◌∷◌, length, Option, Some, None, T, nat_eq, refl, ap, sym, subst, ◌∙◌, arith}
+use Rattle.std.specs.Prelude.{nat_le, sum_by}
 use Rattle.std.specs.FinMap.{is_sorted}
 use Rattle.std.specs.Ordering.{nat_cmp}
 use Rattle.std.proofs.lemmas.Bool.Decides.{nat_tests}
@@ -11,16 +11,16 @@ use Rattle.fuse_spec.specs.declared.Opened.{Opened}
 use Rattle.fuse_spec.specs.declared.Purpose.TheVariants.{Call}
 use Rattle.fuse_spec.specs.declared.WriteResult.{WriteResult}
 use Rattle.fuse_spec.specs.Answers as answer
-use Rattle.fuse_spec.specs.Kernel.{Kernel, advanced, asking_for, after_use, released}
-use Rattle.fuse_spec.specs.Maps.{Map, get, put}
+use Rattle.fuse_spec.specs.Kernel.{Kernel, asking_for, after_use, released}
+use Rattle.fuse_spec.specs.Maps.{Map, get}
 use Rattle.fuse_spec.specs.Messages.{WireReply}
 use Rattle.fuse_spec.specs.Numbers.{counter_end}
 use Rattle.fuse_spec.specs.Operations as reply
 use Rattle.fuse_spec.specs.Operations.{Operation, DirentPlus, files_in_reply, files_told}
 use Rattle.fuse_spec.specs.QueueCalls.{waiting, without}
-use Rattle.fuse_spec.specs.Replies.{Use, usable, useless, stale, first_use, use_of, counted_more, learnt, judged, heard, goes_with, pairs_judged, reply_judged, use_of_reply, without_stale, reply_written}
+use Rattle.fuse_spec.specs.Replies.{Use, usable, useless, stale, first_use, use_of, counted_more, learnt, judged, heard, goes_with, reply_judged, use_of_reply, without_stale, reply_written}
 use Rattle.fuse_spec.specs.Trees.{pair_length}
-use Rattle.fuse_spec.specs.Vfs.{CallState, walking, doing, using, asked, answered}
+use Rattle.fuse_spec.specs.Vfs.{CallState, walking, doing, using, asked}
 use Rattle.fuse_spec.proofs.Tables.{get_put_here}
 use Rattle.fk_syscalls.specs.Values.{operation_of}
 use Rattle.fk_syscalls.specs.declared.call.Asked.{Asked}

@@ -26,14 +26,12 @@ use Rattle.fk_kernel.specs.Refused.{is_past, is_past_end}
 use Rattle.fk_kernel.proofs.Closes.{released_some}
 use Rattle.fk_kernel.proofs.Walking.{asks_past}
 use Rattle.fuse_spec.specs.declared.WriteResult.{WriteResult}
-use Rattle.std.specs.Prelude.{is_some, nat_le, sum_by, ◌||◌}
-use Rattle.fuse_spec.specs.Trees.{pair_length}
-use Rattle.fuse_spec.specs.Replies.{pairs_judged, stale_among, each_forgotten}
+use Rattle.std.specs.Prelude.{is_some, ◌||◌}
+use Rattle.fuse_spec.specs.Replies.{each_forgotten}
 use Rattle.fuse_spec.specs.CallReplies.{names_told}
 use Rattle.fuse_spec.specs.Operations.{pair_with}
 use Rattle.fuse_spec.specs.declared.Counted.{Counted}
 use Rattle.fk_nodes.specs.Learning.{is_out, learnt_from, stale_by, judged_in}
-use Rattle.fk_nodes.specs.Told.{names_judged}
 use Rattle.fk_nodes.proofs.Judged.{learnt_is, settled, stale_settled, dirents_kept}
 use Rattle.fk_kernel.proofs.Standing.{asked_is, stays, found_unused, done_unused}
 

@@ -1,13 +1,10 @@
 -- The kernel's calls stay sound as calls begin, are answered and collected.
-use Rattle.std.proofs.Common.{◌≡◌, ◌≢◌, ℕ, ◌+◌, ◌≤◌, ◌<◌, ◌^◌, Bool, true, false, not, cond, [], ◌∷◌, length, Option, Some, None, refl, sym, ap, subst, ◌∙◌, arith, inl, inr, true≢false, if◌then◌else◌}
-use Rattle.std.specs.Prelude.{nat_eq, is_some, option_map, slice_get}
-use Rattle.std.specs.declared.cmp.Ordering.TheVariants.{Less, Equal, Greater}
+use Rattle.std.proofs.Common.{◌≡◌, ◌≢◌, ℕ, ◌+◌, ◌≤◌, ◌<◌, ◌^◌, Bool, true, false, cond, [], ◌∷◌, length, Option, Some, None, refl, sym, ap, subst, ◌∙◌, arith, inl, inr, true≢false, if◌then◌else◌}
+use Rattle.std.specs.Prelude.{is_some, option_map, slice_get}
 use Rattle.std.specs.Ordering.{nat_cmp, is_eq}
-use Rattle.std.specs.FinMap.Entries.{by_order}
 use Rattle.std.proofs.lemmas.Bool.{cases_eq}
-use Rattle.std.proofs.lemmas.Bool.Decides.{eqb_tells}
 use Rattle.fuse_spec.specs.Maps.{Map, get, put, remove}
-use Rattle.fuse_spec.proofs.Tables.{cmp_same, tie_no, get_put_there, get_gone_here, get_gone_there}
+use Rattle.fuse_spec.proofs.Tables.{cmp_same, get_put_there, get_gone_here}
 use Rattle.fk_kernel.specs.Soundness.{IsSound}
 pub use Rattle.fk_nodes.proofs.Lengths.{length_put, length_kept, gone_none, length_gone, gone_absent}
 

@@ -1,21 +1,16 @@
 -- How far the names of a list raise the counts of nodes.
-use Rattle.std.proofs.Common.{◌≡◌, ◌≢◌, ◌⊎◌, ℕ, suc, ◌+◌, ◌≤◌, ◌<◌, Bool, true, false, true≢false, cond, List, [], ◌∷◌, length, Option, Some, None, T, nat_eq, refl, ap, sym, subst, ◌∙◌, inl, inr, arith, All}
-use Rattle.std.specs.Prelude.{nat_lt, nat_le, ◌&&◌, ◌||◌}
-use Rattle.std.specs.List.{list_any}
-use Rattle.std.specs.Cmp.{nat_cmp_total}
-use Rattle.std.specs.FinMap.{is_sorted}
-use Rattle.std.specs.Ordering.{nat_cmp, is_eq}
-use Rattle.std.proofs.lemmas.Bool.{cases_eq, ltb-true}
-use Rattle.std.proofs.lemmas.Bool.Decides.{eqb_tells, nat_tests}
+use Rattle.std.proofs.Common.{◌≡◌, ◌≢◌, ◌⊎◌, ℕ, suc, ◌+◌, ◌≤◌, ◌<◌, Bool, true, false, true≢false, cond, List, [], ◌∷◌, length, Option, Some, None, nat_eq, refl, ap, sym, subst, ◌∙◌, inl, inr, arith, All}
+use Rattle.std.specs.Prelude.{nat_lt, ◌&&◌}
+use Rattle.std.proofs.lemmas.Bool.{cases_eq}
+use Rattle.std.proofs.lemmas.Bool.Decides.{eqb_tells}
 use Rattle.std.proofs.lemmas.List.Elements.{All-head, All-tail}
 use Rattle.fuse_spec.specs.declared.Counted.{Counted}
 use Rattle.fuse_spec.specs.declared.Entry.{Entry}
-use Rattle.fuse_spec.specs.Maps.{Map, get, put, values}
+use Rattle.fuse_spec.specs.Maps.{Map, get, put}
 use Rattle.fuse_spec.specs.Numbers.{counter_end}
 use Rattle.fuse_spec.specs.Operations.{DirentPlus, told_by}
 use Rattle.fuse_spec.specs.Replies.{Use, usable, useless, stale, use_counted, use_of, counted_more}
-use Rattle.fuse_spec.proofs.Tables.{cmp_same, tie_no, get_put_here, get_put_there}
-use Rattle.fk_dentry.proofs.SortedEntries.{both_first, both_second, none_below}
+use Rattle.fuse_spec.proofs.Tables.{get_put_here, get_put_there}
 use Rattle.fk_nodes.specs.Learning.{learnt_by_use, learnt_told, learnt_from, tells, times_told, LeavesBelow, AreBelow, SomeOut}
 
 itself : (n : ℕ) → nat_eq n n ≡ true

@@ -1,12 +1,10 @@
 -- Whether a node's count has come to the end of counters.
-use Rattle.std.proofs.Common.{◌≡◌, ◌≢◌, ℕ, ◌+◌, ◌≤◌, ◌<◌, Bool, true, false, true≢false, cond, List, [], ◌∷◌, length, Option, Some, None, T, refl, ap, sym, subst, ◌∙◌, inl, inr, arith}
+use Rattle.std.proofs.Common.{◌≡◌, ℕ, ◌+◌, ◌≤◌, ◌<◌, Bool, true, false, true≢false, cond, List, [], ◌∷◌, length, Option, Some, None, T, refl, ap, sym, subst, ◌∙◌, inl, inr, arith}
 use Rattle.std.specs.Prelude.{nat_le, ◌||◌}
 use Rattle.std.specs.Cmp.{nat_cmp_total}
-use Rattle.std.specs.FinMap.{is_sorted, nat_cmp-IsAntisymmetric}
+use Rattle.std.specs.FinMap.{is_sorted}
 use Rattle.std.specs.FinMap.Entries.{is_sorted-put}
 use Rattle.std.specs.Ordering.{nat_cmp, is_eq}
-use Rattle.std.specs.declared.cmp.Ordering.{Ordering}
-use Rattle.std.specs.declared.cmp.Ordering.TheVariants.{Less, Equal, Greater}
 use Rattle.std.proofs.lemmas.Bool.{cases_eq}
 use Rattle.std.proofs.lemmas.Bool.Decides.{nat_tests}
 use Rattle.fuse_spec.specs.declared.Counted.{Counted}
@@ -18,7 +16,7 @@ use Rattle.fuse_spec.specs.Replies.{Use, usable, useless, stale, use_of, counted
 use Rattle.fuse_spec.proofs.Tables.{cmp_same, tie_no, get_put_here, get_put_there}
 use Rattle.fk_dentry.proofs.SortedEntries.{both_first, both_second, none_below}
 use Rattle.fk_nodes.proofs.Lengths.{length_put}
-use Rattle.fk_nodes.specs.Learning.{learnt_by_use, learnt_told, learnt_from, AreBelow, SomeOut, is_out}
+use Rattle.fk_nodes.specs.Learning.{learnt_by_use, learnt_told, learnt_from, AreBelow, is_out}
 
 is_le : (m n : ℕ) → m ≤ n → nat_le m n ≡ true
 is_le m n le = grind (arith, nat_tests)

@@ -1,15 +1,14 @@
 -- The names of a list with their files, as a frame has them, and what they make of the kernel's tables.
-use Rattle.std.specs.Prelude.{◌<◌, ℕ, List, [], ◌∷◌, Option, Some, None, map}
+use Rattle.std.specs.Prelude.{ℕ, List, [], ◌∷◌, Option, Some, None, map}
 use Rattle.fuse_frames.specs.ReplyTies.{pair_in}
 use Rattle.fuse_spec.specs.declared.Binding.{Binding}
 use Rattle.fuse_spec.specs.declared.Entry.{Entry}
-use Rattle.fuse_spec.specs.Maps.{Place, NameMap, Map}
+use Rattle.fuse_spec.specs.Maps.{NameMap, Map}
 use Rattle.fuse_spec.specs.declared.Counted.{Counted}
 use Rattle.fuse_spec.specs.CallReplies.{names_told}
 use Rattle.fuse_spec.specs.Operations.{DirentPlus, told_by, pair_with}
 use Rattle.fk_dentry.specs.NamesInForce.{NamesInForce, HasRoom}
 use Rattle.fk_nodes.specs.Learning.{judged_in}
-use Rattle.fk_wire.specs.Dirents.{DirentPlusContent}
 use Rattle.fk_wire.specs.declared.records_plus.RecordsPlus.{RecordsPlus}
 use Rattle.fk_wire.specs.Records.{pluses_in}
 

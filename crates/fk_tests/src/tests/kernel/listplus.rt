@@ -97,10 +97,7 @@ static LONGEST: [Row; 8] = [
 ];
 
 /// The call is answered that the reply was wrong, and nothing is counted.
-static TOO_LONG: [Row; 2] = [
-    Row::Answered(6, Told::Errno(5)),
-    Row::Nodes(&[(2, 7, 27)]),
-];
+static TOO_LONG: [Row; 2] = [Row::Answered(6, Told::Errno(5)), Row::Nodes(&[(2, 7, 27)])];
 
 /// The lists once on a new kernel.
 fn run_lists<A: Allocator + Copy>(

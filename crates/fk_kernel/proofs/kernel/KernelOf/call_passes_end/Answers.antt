@@ -70,8 +70,8 @@ returns-in-None-clause-within g c = λ within.
     let awaits : awaited_by_call (get now.vfs.calls c.args.call) ≡ reply_to (opcode_of operation) = ap awaited_by_call here ∙ ap (λ (o : Operation ℕ Opened). reply_to (opcode_of o)) (sym same) in
     let ends = c.ends_past.ensures.within c.if-ends_past.false in
     let stays = λ (wire : WireReply) (other : goes_with (asked state) wire ≡ false). or_none (is_past_end (reply_written now c.args.unique wire).1) (is_out (reply_written now c.args.unique wire).1.nodes)
-        (wrong_within now c.args.unique c.args.call c.requires.even c.requires.waits c.within.ensures ends state here wire other)
-        (ap is_out (wrong_nodes now c.args.unique c.args.call c.requires.even c.requires.waits state here wire other) ∙ c.counts_within.ensures.none_out) in
+    (wrong_within now c.args.unique c.args.call c.requires.even c.requires.waits c.within.ensures ends state here wire other)
+    (ap is_out (wrong_nodes now c.args.unique c.args.call c.requires.even c.requires.waits state here wire other) ∙ c.counts_within.ensures.none_out) in
     rw awaits
     (none_passes now c.args.unique c.args.bytes.now (opcode_of operation) (λ wire says. stays wire (subst (λ (o : Operation ℕ Opened). goes_with o wire ≡ false) same (c.in-None.ensures.none wire says)))
     (stays (wrong_body_to (opcode_of operation)) (subst (λ (o : Operation ℕ Opened). goes_with o (wrong_body_to (opcode_of operation)) ≡ false) same (wrong_to_call operation))))

@@ -1,7 +1,7 @@
 use Rattle.std.proofs.Common.{◌≡◌, ◌≤◌, ◌+◌, [], ◌∷◌, length, true, false, Some, refl, ap, sym, subst, ◌∙◌, arith}
 use Rattle.std.specs.Prelude.{is_some}
 use Rattle.fuse_spec.specs.Maps.{get}
-use Rattle.fuse_spec.specs.QueueCalls.{waiting, without, after_answer}
+use Rattle.fuse_spec.specs.QueueCalls.{waiting, without}
 use Rattle.fuse_spec.specs.Kernel.{Kernel, advanced}
 use Rattle.fuse_spec.specs.Replies.{learnt}
 use Rattle.fuse_spec.specs.Answers.{failed}
