@@ -182,7 +182,7 @@ new_later known file unknown (x ∷ xs) e = go (nat_eq file x) refl (known x) re
     go true same false k false there any rest = omega arith
     go false same k kk t there any rest = let more = rest any in omega (arith, more)
 
-first_new : (known : ℕ → Bool) (file : ℕ) (files : List ℕ) → known file ≡ false → 1 ≤ new_among known (file ∷ files)
+pub first_new : (known : ℕ → Bool) (file : ℕ) (files : List ℕ) → known file ≡ false → 1 ≤ new_among known (file ∷ files)
 first_new known file files unknown = rw unknown (by (list_any (nat_eq file) files) refl)
   where
     by : (b : Bool) → list_any (nat_eq file) files ≡ b → 1 ≤ cond b 0 1 + new_among known files

@@ -9,6 +9,7 @@ pub mod Drawn
 pub mod Giving
 pub mod GivenEach
 pub mod ToldList
+pub mod ToldNames
 pub mod StaysKnown
 pub mod Sweeping
 pub mod StaysNamed
