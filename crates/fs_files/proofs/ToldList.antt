@@ -6,10 +6,11 @@ use Rattle.fuse_spec.specs.Operations.{Dirent, files_told, first_told, pair_with
 use Rattle.fuse_spec.specs.Paths.{is_dots}
 use Rattle.fuse_spec.specs.Performs.{entry_for}
 use Rattle.fuse_spec.specs.Trees.{Tree}
+use Rattle.fuse_spec.specs.declared.Entry.{Entry}
 use Rattle.fs_nodes.specs.Sound.{IsSound}
-use Rattle.fuse_frames.specs.ReplyTies.{entry_told, pairs_told}
+use Rattle.fuse_frames.specs.ReplyTies.{dirent_in, entry_told, pairs_told}
 use Rattle.fs_files.specs.Giving.{GivenEach, node_in}
-use Rattle.fs_files.specs.Listed.{names_in, pair_listed}
+use Rattle.fs_files.specs.Listed.{dirents_in, listed_pairs, names_in, pair_listed}
 use Rattle.fs_files.specs.Telling.{Tells, entries_named, entry_named}
 use Rattle.fs_files.specs.Values.{FilesState}
 use Rattle.fs_files.specs.declared.listed_names.ListedNames.{ListedNames}
@@ -53,3 +54,19 @@ tells_listed one two ms bytes listing given sound entries records valid tree han
           ∙ ap (λ pairs. operation.listed_plus pairs) (pairs_are two.tree two.nodes sound ms names)
           ∙ ap (λ (t : Tree). operation.listed_plus (map (pair_with (entry_for (node_in two.nodes.rows) two.nodes t)) (map (pair_listed ms) names))) tree;
     }
+
+-- ---- what a list keeps
+
+mapped_length : {X Y : Type 0} (f : X → Y) (xs : List X) → length (map f xs) ≡ length xs
+mapped_length f [] = refl
+mapped_length f (x ∷ xs) = let rest = mapped_length f xs in omega (arith, rest)
+
+module _ (tree : Tree) (nodes : NodeTable) (bytes view : List ℕ) (same : view ≡ bytes) (entries : List Entry) (is_entries : entries ≡ map (entry_named tree nodes) (names_in view)) where
+  pub one_each : length entries ≡ length (names_in bytes)
+  one_each = ap (λ (es : List Entry). length es) is_entries ∙ mapped_length (entry_named tree nodes) (names_in view) ∙ ap (λ (b : List ℕ). length (names_in b)) same
+
+  pub one_a_record : length entries ≡ length (dirents_in bytes)
+  one_a_record = one_each ∙ mapped_length dirent_in (dirents_in bytes)
+
+  pub told_so : IsSound nodes → (ms : ℕ) (told : List Entry) → told ≡ files_told (entries_named tree nodes (names_in view)) → told ≡ files_told (listed_pairs ms entries bytes)
+  told_so sound ms told is_told = is_told ∙ sym (told_are tree nodes sound ms (names_in view)) ∙ (λ i. files_told (pairs_told ms (sym is_entries i) (names_in (same i))))

@@ -77,6 +77,7 @@ impl<A: Allocator + Copy> Files<A> {
         ensures valid { result.found_ms ≡ found_ms }
         ensures tree { self.new.tree ≡ self.old.tree }
         ensures handles { self.new.handles ≡ self.old.handles }
+        ensures sound { IsSound self.new.nodes }
     {
         self.give_listed(&records);
         let mut entries = spare.entries;

@@ -1,4 +1,5 @@
 use Rattle.fs_files.proofs.Told.{tells_found, tells_created, tells_opened, tells_plain}
+use Rattle.fs_files.proofs.ToldList.{tells_listed}
 use Rattle.fs_files.proofs.files.Files.tell.Goals as goal
 
 pub returns-in-Found-clause-tells : goal.returns-in-Found-clause-tells
@@ -15,3 +16,9 @@ returns-in-Opened-clause-tells g c = rw c.in-Opened.is (tells_opened c.args.self
 
 pub returns-in-Plain-clause-tells : goal.returns-in-Plain-clause-tells
 returns-in-Plain-clause-tells g c = rw c.in-Plain.is (tells_plain c.args.self.now c.in-Plain.reply)
+
+pub returns-in-ListedPlus-clause-tells : goal.returns-in-ListedPlus-clause-tells
+returns-in-ListedPlus-clause-tells g c =
+    rw c.in-ListedPlus.is
+    (tells_listed c.args.self.now c.list.new.self c.args.found_ms c.in-ListedPlus.records.items c.list.result c.list.ensures.given c.list.ensures.sound c.list.ensures.entries c.list.ensures.records c.list.ensures.valid c.list.ensures.tree
+    c.list.ensures.handles)
