@@ -1,6 +1,8 @@
 pub mod Bounds
 pub mod Performed
 pub mod Listing
+pub mod PairListing
+pub mod PairsTold
 pub mod NodeLemmas
 pub mod BornFiles
 pub mod Told

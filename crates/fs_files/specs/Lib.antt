@@ -1,6 +1,7 @@
 pub mod Values
 pub mod Bounds
 pub mod Listed
+pub mod Props
 pub mod Replies
 pub mod Listing
 pub mod Performing

@@ -1,10 +1,9 @@
 -- What replies say.
-use Rattle.std.specs.Prelude.{◌≡◌, ◌≢◌, ◌≤◌, ◌<◌, ◌+◌, ◌-◌, ◌*◌, ◌^◌, ℕ, List, [], Option, Some, None, All, IsTrue, length, map, false, vec_capacity}
+use Rattle.std.specs.Prelude.{◌≡◌, ◌≢◌, ◌≤◌, ◌<◌, ◌+◌, ◌-◌, ◌*◌, ◌^◌, ℕ, [], Option, Some, None, All, IsTrue, length, map, vec_capacity}
 use Rattle.std.specs.Int.RustNames.{bit_and}
 use Rattle.fuse_spec.specs.Numbers.{max_transfer, max_validity}
 use Rattle.fuse_spec.specs.Operations as operation
 use Rattle.fuse_spec.specs.Operations.{Dirent, DirentPlus, Reply}
-use Rattle.fuse_spec.specs.declared.Entry.{Entry}
 use Rattle.fuse_spec.specs.Messages.{WireReply}
 use Rattle.fuse_spec.specs.Trees.{Tree}
 use Rattle.fs_tree.specs.Outcomes.{is_regular}
@@ -14,7 +13,6 @@ use Rattle.fuse_frames.specs.ReplyTies.{dirent_in}
 use Rattle.fs_files.specs.Listed.{AreRecordBytes, dirents_in, listed_pairs, names_in, pair_listed}
 use Rattle.fs_files.specs.declared.replies.PlainReply.{PlainReply}
 use Rattle.fs_files.specs.declared.replies.PlainReply.TheVariants.{Missing, Attributes, Listed, Content, Written, Agreed, Done, Failed}
-use Rattle.fs_files.specs.declared.listed_names.ListedNames.{ListedNames}
 use Rattle.fs_files.specs.declared.spare.ReplySpare.{ReplySpare}
 use Rattle.fs_files.specs.declared.replies.Outcome.{Outcome}
 use Rattle.fs_files.specs.declared.replies.Outcome.TheVariants as outcome

@@ -4,6 +4,7 @@ ghost use Rattle.std.specs.Prelude.{◌≡◌, ◌≤◌, ◌+◌, ◌*◌, leng
 ghost use Rattle.fuse_spec.specs.Numbers.{max_transfer, max_validity};
 ghost use Rattle.fuse_spec.specs.Operations.{files_told};
 ghost use Rattle.fs_files.specs.Listed.{AreRecordBytes, dirents_in, listed_pairs};
+ghost use Rattle.fs_files.specs.Props.{AreRecordBytes-prop};
 
 use fuse_spec::Entry;
 use std::alloc::Allocator;
@@ -18,7 +19,7 @@ pub struct ListedNames<A: Allocator> {
     pub(crate) told: Vec<Entry, A>,
     /// How long each name leads to its file, in milliseconds.
     pub(crate) found_ms: u64,
-    ghost are_records: { AreRecordBytes records.items },
+    ghost are_records: { AreRecordBytes records.items } by { AreRecordBytes-prop records.items },
     ghost together: { length entries.items ≡ length (dirents_in records.items) },
     ghost most: { 128 * length entries.items + length records.items ≤ max_transfer },
     ghost are_told: { told.items ≡ files_told (listed_pairs found_ms entries.items records.items) },
