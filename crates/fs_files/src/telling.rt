@@ -40,6 +40,7 @@ impl<A: Allocator + Copy> Files<A> {
         ensures len { sent_len result ≡ outcome_len outcome }
         ensures names { sent_names result ≡ outcome_names outcome }
     {
+        self.keeps_sound();
         match outcome {
             Outcome::Found { file } => SentReply::Found {
                 entry: self.give(file),
