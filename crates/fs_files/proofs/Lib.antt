@@ -12,6 +12,7 @@ pub mod Giving
 pub mod GivenEach
 pub mod ToldList
 pub mod ToldNames
+pub mod HeldBelow
 pub mod StaysKnown
 pub mod Sweeping
 pub mod StaysNamed
