@@ -3,6 +3,7 @@ pub mod Performed
 pub mod Listing
 pub mod PairListing
 pub mod PairsTold
+pub mod EntriesPut
 pub mod NodeLemmas
 pub mod BornFiles
 pub mod Told
