@@ -14,7 +14,7 @@ use Rattle.fuse_spec.specs.Trees.{Tree}
 use Rattle.fuse_spec.specs.FileOperations.{FileOperation, refusal, reply_by, reply_or, reply_unrefused, tree_after, tree_or, tree_unrefused}
 use Rattle.fs_tree.specs.Outcomes.{Refuses}
 use Rattle.fs_tree.specs.declared.error.TreeError.{TreeError}
-use Rattle.fs_files.specs.Plans.{Draws, LacksNumber, listed}
+use Rattle.fs_files.specs.Plans.{Draws}
 use Rattle.fs_files.specs.declared.plan.Plan.{Plan}
 
 pub not_refused : (first : Option ℕ) (o : Option TreeError) → Refuses first o → is_some o ≡ false → first ≡ None
@@ -44,8 +44,3 @@ module _ (s : Server) (h : HeldRequest) (unmarked : h.marked ≡ false) (still :
 
     pub asks_draws : (plan : Plan) → Draws s.tree (tree_after s.tree on_tree) (reply_by s.validity s.tree on_tree) plan → Draws s.tree (tree_said s h) (said s h) plan
     asks_draws plan draws = subst (λ (t : Tree). Draws s.tree t (said s h) plan) tree_asks (subst (λ (r : Reply ℕ ℕ). Draws s.tree (tree_after s.tree on_tree) r plan) said_asks draws)
-
--- no generation is left for the file that is told
-pub lacks_generation : (tree new : Tree) (nodes : NodeTable) (handles : HandleTable) (lost : Bool) (reply : Reply ℕ ℕ) (plan : Plan) → Draws tree new reply plan → lost ≡ false
-    → (file : ℕ) × (plan.told ≡ Some file) × IsUnheld nodes file × (2 ^ 62 ≤ nodes.next_generation) → LacksNumber new nodes handles lost reply
-lacks_generation tree new nodes handles lost reply plan draws live w = inr (inr (live, inl (w.0, draws.told ∙ ap listed w.1, w.2, w.3)))

@@ -145,6 +145,7 @@ module _ (s : Server) (held : Map HeldRequest) (kept : Map Kept) (copies : Map C
   same_open (operation.link x d name) = refl
   same_open (operation.opening x) = refl
   same_open (operation.readdir d after size) = refl
+  same_open (operation.readdirplus d after size) = refl
   same_open (operation.read o offset size) = refl
   same_open (operation.write o offset bytes) = refl
 

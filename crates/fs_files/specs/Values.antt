@@ -70,6 +70,7 @@ module _ {A : Type 0} where
   operation_of (held.Link node directory name) = operation.link node directory name.items
   operation_of (held.Open node) = operation.opening node
   operation_of (held.Readdir directory after size) = operation.readdir directory after size
+  operation_of (held.Readdirplus directory after size) = operation.readdirplus directory after size
   operation_of (held.Read opened offset size) = operation.read opened offset size
   operation_of (held.Write opened offset bytes) = operation.write opened offset bytes.items
 
@@ -85,6 +86,7 @@ module _ {A : Type 0} where
   node_in (held.Link node directory name) = node
   node_in (held.Open node) = node
   node_in (held.Readdir directory after size) = directory
+  node_in (held.Readdirplus directory after size) = directory
   node_in (held.Read opened offset size) = opened.nodeid
   node_in (held.Write opened offset bytes) = opened.nodeid
 
@@ -107,9 +109,19 @@ module _ {A : Type 0} where
 -- how long the reply to an operation is at most that has no fixed length
 abbrev pub room_of : {F O : Type 0} → Operation F O → ℕ
 room_of (operation.readdir d after size) = max_transfer
+room_of (operation.readdirplus d after size) = max_transfer
 room_of (operation.read o offset size) = max_transfer
 room_of o = 0
 
 abbrev pub room_for : RequestBody → ℕ
 room_for (asks o) = room_of o
 room_for body = 0
+
+-- how many names the reply to an operation lists at most together with their files, each with an entry of 128 bytes
+abbrev pub names_of : {F O : Type 0} → Operation F O → ℕ
+names_of (operation.readdirplus d after size) = 32
+names_of o = 0
+
+abbrev pub names_for : RequestBody → ℕ
+names_for (asks o) = names_of o
+names_for body = 0

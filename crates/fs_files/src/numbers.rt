@@ -1,8 +1,10 @@
 //! Whether the counters have the numbers that a held request draws.
 
-ghost use Rattle.std.specs.Prelude.{◌≡◌, ◌≤◌, ◌<◌, ◌+◌, ◌^◌, ℕ, true, false, nat_le, IfSome, Some};
-ghost use Rattle.fuse_spec.specs.Nodes.{IsUnheld};
+ghost use Rattle.std.specs.Prelude.{◌≡◌, ◌≤◌, ◌<◌, ◌+◌, ◌^◌, ◌⊎◌, true, false, nat_le};
+ghost use Rattle.fuse_spec.specs.Nodes.{counts_out};
 ghost use Rattle.fuse_spec.specs.declared.Validity.{Validity as ValidityValue};
+ghost use Rattle.fs_files.specs.Bounds.{AreHeldBelow};
+ghost use Rattle.fs_files.specs.Giving.{generations_after};
 ghost use Rattle.fs_files.specs.Performing.{said, tree_said};
 ghost use Rattle.fs_files.specs.Plans.{Draws, HasNumbers, LacksNumber};
 ghost use Rattle.fs_files.specs.Values.{server_of};
@@ -17,13 +19,14 @@ impl<A: Allocator + Copy> Files<A> {
     /// Whether the counters have the numbers that performing a held request draws. Where its reply is lost it draws only those of
     /// the tree.
     pub fn has_numbers(&self, held: &HeldRequest<A>, is_lost: bool) -> bool
+        requires { AreHeldBelow self.now.nodes }
         ensures has { (v : ValidityValue) → result ≡ true → HasNumbers (tree_said (server_of self.now v) held.now) self.now.nodes self.now.handles is_lost (said (server_of self.now v) held.now) }
         ensures lacks { (v : ValidityValue) → result ≡ false → LacksNumber (tree_said (server_of self.now v) held.now) self.now.nodes self.now.handles is_lost (said (server_of self.now v) held.now) }
     {
         let plan = self.plan_for(held);
         plan.births <= self.tree.births_left()
             && plan.serials <= self.tree.serials_left()
-            && (is_lost || (self.can_tell(plan.told) && self.can_open(plan.opens)))
+            && (is_lost || (self.can_tell(&plan.told) && self.can_open(plan.opens)))
     }
 
     /// What performing a held request draws.
@@ -41,15 +44,14 @@ impl<A: Allocator + Copy> Files<A> {
         }
     }
 
-    /// Whether a file can be told by a node: it has one, or a generation is left.
-    fn can_tell(&self, told: Option<u64>) -> bool
-        ensures can { result ≡ true → IfSome told (λ file. IsUnheld self.now.nodes file → self.now.nodes.next_generation < 2 ^ 62) }
-        ensures cannot { result ≡ false → (file : ℕ) × (told ≡ Some file) × IsUnheld self.now.nodes file × (2 ^ 62 ≤ self.now.nodes.next_generation) }
+    /// Whether these files can be told by nodes, one after another: the generations are enough, and no node's count comes to its end.
+    fn can_tell(&self, told: &[u64]) -> bool
+        requires { AreHeldBelow self.now.nodes }
+        ensures can { result ≡ true → (generations_after self.now.nodes told.now ≤ 2 ^ 62) × (counts_out self.now.nodes told.now ≡ false) }
+        ensures cannot { result ≡ false → (2 ^ 62 < generations_after self.now.nodes told.now) ⊎ (counts_out self.now.nodes told.now ≡ true) }
     {
-        match told {
-            Some(file) => self.known.nodes.has(file) || self.known.nodes.generations_left() > 0,
-            None => true,
-        }
+        let nodes = &self.known.nodes;
+        nodes.new_among(told) as u64 <= nodes.generations_left() && !nodes.counts_out(told)
     }
 
     /// Whether so many open numbers are left.

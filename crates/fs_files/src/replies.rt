@@ -4,12 +4,15 @@ ghost use Rattle.std.specs.Prelude.{◌≡◌, ◌≤◌, ◌+◌, [], length, m
 ghost use Rattle.fuse_spec.specs.Numbers.{max_transfer};
 ghost use Rattle.fuse_spec.specs.Operations as reply;
 ghost use Rattle.fuse_frames.specs.ReplyTies.{dirent_in};
-ghost use Rattle.fs_files.specs.Replies.{AreRecordBytes, dirents_in};
+ghost use Rattle.fs_files.specs.Listed.{AreRecordBytes, dirents_in};
 
+use crate::listed_names::ListedNames;
+use crate::spare::ReplySpare;
 use fk_wire::{InitFlags, Records};
 use fuse_frames::{ReplyFrame, ReplyRoom};
 use fuse_spec::{Attributes, Entry};
 use std::alloc::Allocator;
+use std::slice::from_ref;
 
 /// A reply that names no file and no open number.
 #[derive(Drop)]
@@ -32,6 +35,8 @@ pub enum Outcome<A: Allocator> {
     Found { file: u64 },
     Created { file: u64 },
     Opened { file: u64 },
+    /// Records, as their frame has them: each tells the file of its inode number.
+    ListedPlus { records: Vec<u8, A> },
     Plain { reply: PlainReply<A> },
 }
 
@@ -49,6 +54,9 @@ pub enum SentReply<A: Allocator> {
     },
     Opened {
         fh: u64,
+    },
+    ListedPlus {
+        listing: ListedNames<A>,
     },
     Plain {
         reply: PlainReply<A>,
@@ -154,8 +162,8 @@ impl<A: Allocator> Outcome<A> {
 
 impl<A: Allocator> SentReply<A> {
     ghost use Rattle.std.specs.Prelude.{◌≡◌, ◌≤◌, ◌+◌, [], vec_capacity};
-    ghost use Rattle.fuse_spec.specs.Operations.{errno_of};
-    ghost use Rattle.fs_files.specs.Replies.{sent_flags, sent_len, sent_wire, entry_of, opened_in, IsSendable};
+    ghost use Rattle.fuse_spec.specs.Operations.{errno_of, files_in_reply};
+    ghost use Rattle.fs_files.specs.Replies.{sent_flags, sent_len, sent_names, sent_wire, opened_in, HasSpare, IsSendable};
 
     /// Its error as a positive number, or 0.
     pub fn errno(&self) -> u32
@@ -167,13 +175,24 @@ impl<A: Allocator> SentReply<A> {
         }
     }
 
-    /// The entry that it carries.
-    pub fn entry(&self) -> Option<Entry>
-        ensures { result ≡ entry_of self.now }
+    /// The entries of the files that it tells, in order.
+    pub fn told(&self) -> &[Entry]
+        ensures { result.now ≡ files_in_reply (sent_wire self.now) }
     {
         match self {
-            SentReply::Found { entry, .. } | SentReply::Created { entry, .. } => Some(*entry),
-            _ => None,
+            SentReply::Found { entry, .. } | SentReply::Created { entry, .. } => from_ref(entry),
+            SentReply::ListedPlus { listing } => listing.told(),
+            _ => &[],
+        }
+    }
+
+    /// How many names it lists together with their files.
+    pub fn names(&self) -> usize
+        ensures { result ≡ sent_names self.now }
+    {
+        match self {
+            SentReply::ListedPlus { listing } => listing.names(),
+            _ => 0,
         }
     }
 
@@ -195,14 +214,14 @@ impl<A: Allocator> SentReply<A> {
             SentReply::Plain {
                 reply: PlainReply::Listed { records: bytes } | PlainReply::Content { bytes },
             } => bytes.len(),
+            SentReply::ListedPlus { listing } => listing.len(),
             _ => 0,
         }
     }
 
-    /// The same reply once more. Its bytes go into an empty vector that has room for them.
-    pub fn copied(&self, spare: Vec<u8, A>) -> SentReply<A>
-        requires empty { spare.items ≡ [] }
-        requires room { sent_len self.now ≤ vec_capacity spare }
+    /// The same reply once more, in room that is there.
+    pub fn copied(&self, spare: ReplySpare<A>) -> SentReply<A>
+        requires { HasSpare spare (sent_len self.now) (sent_names self.now) }
         ensures wire { sent_wire result ≡ sent_wire self.now }
         ensures flags { sent_flags result ≡ sent_flags self.now }
         ensures sendable { IsSendable self.now → IsSendable result }
@@ -222,8 +241,11 @@ impl<A: Allocator> SentReply<A> {
                 fh: *fh,
             },
             SentReply::Opened { fh } => SentReply::Opened { fh: *fh },
+            SentReply::ListedPlus { listing } => SentReply::ListedPlus {
+                listing: listing.copied(spare),
+            },
             SentReply::Plain { reply } => SentReply::Plain {
-                reply: reply.copied(spare),
+                reply: reply.copied(spare.bytes),
             },
         }
     }
@@ -242,6 +264,7 @@ impl<A: Allocator> SentReply<A> {
                 fh,
             } => room.created(unique, entry, *found_ms, *fh),
             SentReply::Opened { fh } => room.opened(unique, *fh),
+            SentReply::ListedPlus { listing } => listing.framed(room, unique),
             SentReply::Plain { reply } => reply.framed(room, unique),
         }
     }
