@@ -14,12 +14,14 @@ use Rattle.fuse_spec.specs.Messages.{Forget, RequestBody, WireReply}
 use Rattle.fuse_spec.specs.Kernel.{is_live, is_pinned, is_bound, body_of, call_begun}
 use Rattle.fuse_spec.specs.QueueCalls.{pending_at, first_forgets, after_read_forgets}
 use Rattle.fuse_spec.specs.Replies.{reply_written}
-use Rattle.fuse_spec.specs.Performs.{served}
+use Rattle.fuse_spec.specs.Copies.{files_named}
+use Rattle.fuse_spec.specs.Nodes.{counts_out}
+use Rattle.fuse_spec.specs.Performs.{served, files_given}
 use Rattle.fuse_spec.specs.Worlds as worlds
 use Rattle.fuse_spec.specs.Worlds.{World, Sent, after_mount, after_call, after_take, after_perform, after_again, after_write, after_tick, after_drop}
 use Rattle.fuse_spec.specs.Events.{Event, Outcome}
 use Rattle.fuse_spec.specs.Events as event
-use Rattle.fuse_spec.specs.Steps.{Stepped, going, is_past, is_busy, is_ready, unless, reading_body, reading_pending, reading_forgets, taking_request, performing_held, sending_again, writing_copy, settling, dropping, evicting, MayChooseFor, IsRefused, RefusedWith}
+use Rattle.fuse_spec.specs.Steps.{Stepped, going, is_past, is_busy, is_ready, unless, reading_body, reading_pending, reading_forgets, taking_request, performed_as, performing_held, sending_again, writing_copy, settling, dropping, evicting, MayChooseFor, IsRefused, RefusedWith}
 use Rattle.std.specs.Prelude.{Result, IfErr}
 use Rattle.std.specs.Option.{unwrap_or}
 use Rattle.fuse_theorem.proofs.Queuing.{All-at}
@@ -28,7 +30,7 @@ use Rattle.fk_kernel.specs.Refused as kernel
 use Rattle.fs_server.specs.Effects as server
 use Rattle.fuse_theorem.specs.Reached.{IsReached}
 use Rattle.fk_kernel.specs.RefusedUpkeep.{read_forgets_refusal, forgets_refusal, tick_refusal, name_refusal, drop_refusal, counted_refusal, evict_refusal}
-use Rattle.fs_server.specs.Effects.{RefusesHeld, not_held, exhausted, RefusesAgain, not_kept, not_current, no_number, RefusesFrame}
+use Rattle.fs_server.specs.Effects.{RefusesHeld, not_held, told_too_often, exhausted, RefusesAgain, not_kept, not_current, copied_too_often, no_number, RefusesFrame}
 use Rattle.fs_server.specs.Effects.{fault_or, past_or_memory}
 use Rattle.fw_world.proofs.Counters.{past_by_kernel, past_by_server, past_by_all}
 
@@ -137,15 +139,23 @@ sent_server : (w : World) (number unique : ℕ) (wire : Option WireReply) → (w
 sent_server w number unique None = refl
 sent_server w number unique (Some wire) = refl
 
+-- Refused for a count or for a number, it is refused alike.
+either_way : (b : Bool) → unless b refusal.Exhausted (Err refusal.Exhausted) ≡ Err refusal.Exhausted
+either_way true = refl
+either_way false = refl
+
 pub perform_refused : (w : World) (unique : ℕ) (r : Refusal) → RefusesHeld w.server unique r → IsRefused w (event.perform unique) r
 perform_refused w unique r (not_held none) choice may = ap (performing_held choice w unique) none
+perform_refused w unique r (told_too_often held there out) choice may =
+    ap (performing_held choice w unique) there ∙ ap (λ (b : Bool). unless b refusal.Exhausted (performed_as w unique (served choice w.server unique held))) out
 perform_refused w unique r (exhausted held there past) choice may =
     let did = served choice w.server unique held in
     let after = after_perform w unique did in
     let same : after.server ≡ did.server = sent_server (record w { server = did.server }) w.server.next_copy unique (cond w.server.aborted None (Some did.wire)) in
     let over : server.is_past_end after.server ≡ true = ap server.is_past_end same ∙ past choice (subst (MayChooseFor choice w) there may) in
     ap (performing_held choice w unique) there
-    ∙ is_exhausted (event.performed unique (errno_of did.wire) w.server.aborted) after (past_by_server after over)
+    ∙ ap (unless (counts_out w.server.nodes (files_given w.server held)) refusal.Exhausted) (is_exhausted (event.performed unique (errno_of did.wire) w.server.aborted) after (past_by_server after over))
+    ∙ either_way (counts_out w.server.nodes (files_given w.server held))
 
 -- Where memory is not wanting.
 pub refused_with : {X : Type 0} (w : World) (e : Event) (r : Result X Refusal) → IfErr r (IsRefused w e) → IfErr r (RefusedWith w e)
@@ -157,12 +167,18 @@ refused_with w e (Err refusal) h = inl h
 pub again_refused : (w : World) (unique : ℕ) (r : Refusal) → RefusesAgain w.server unique r → IsRefused w (event.again unique) r
 again_refused w unique r (not_kept none) choice may = ap (sending_again w unique) none
 again_refused w unique r (not_current kept there stale) choice may =
-    ap (sending_again w unique) there ∙ ap (λ (b : Bool). unless (not b) refusal.NoCopy (going (event.sent_again unique) (after_again w unique kept))) stale
+    ap (sending_again w unique) there
+    ∙ ap (λ (b : Bool). unless (not b) refusal.NoCopy (unless (counts_out w.server.nodes (files_named w.server kept.wire)) refusal.Exhausted (going (event.sent_again unique) (after_again w unique kept)))) stale
+again_refused w unique r (copied_too_often kept there current out) choice may =
+    ap (sending_again w unique) there
+    ∙ ap (λ (b : Bool). unless (not b) refusal.NoCopy (unless (counts_out w.server.nodes (files_named w.server kept.wire)) refusal.Exhausted (going (event.sent_again unique) (after_again w unique kept)))) current
+    ∙ ap (λ (b : Bool). unless b refusal.Exhausted (going (event.sent_again unique) (after_again w unique kept))) out
 again_refused w unique r (no_number kept there current past) choice may =
     let outcome = event.sent_again unique in
     let after = after_again w unique kept in
-    ap (sending_again w unique) there ∙ ap (λ (b : Bool). unless (not b) refusal.NoCopy (going outcome after)) current
-    ∙ is_exhausted outcome after (past_by_server after past)
+    ap (sending_again w unique) there ∙ ap (λ (b : Bool). unless (not b) refusal.NoCopy (unless (counts_out w.server.nodes (files_named w.server kept.wire)) refusal.Exhausted (going outcome after))) current
+    ∙ ap (unless (counts_out w.server.nodes (files_named w.server kept.wire)) refusal.Exhausted) (is_exhausted outcome after (past_by_server after past))
+    ∙ either_way (counts_out w.server.nodes (files_named w.server kept.wire))
 
 -- ---- a copy written
 
