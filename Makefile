@@ -1,12 +1,18 @@
 # `make run` runs a script through the program, proving and building it first.
-# `make test` is the gate, and then the rows over the built program.
+# `make try` runs it without any proof, and says so. `make test` is the gate: first whether what the documents name is
+# there, then the proofs, and then the rows over the built program.
 
 SCRIPT ?= tests/rows/stat-of-root.script
 
-.PHONY: run test build
+.PHONY: run try test build
 
 run: build
 	@crates/fuseworld/out/fuseworld run "$(SCRIPT)"
+
+# `rt try` builds the program anew each time, and ends with the program's own status.
+try:
+	@script=$$(realpath -- "$(SCRIPT)") && cd crates/fuseworld && rt try -- run "$$script"; status=$$?; \
+		echo "Built without proofs: nothing was proved in this run." >&2; exit $$status
 
 # `rt run` builds only to run: here an empty script.
 build:
@@ -15,6 +21,7 @@ build:
 
 # The gate's count is the last line again.
 test:
+	@python3 tests/check_docs.py
 	@log=$$(mktemp); RT_JOBS=$$(nproc) rt ci > "$$log" 2>&1; status=$$?; cat "$$log"; \
 		if [ $$status = 0 ]; then sh tests/run_rows.sh; status=$$?; fi; \
 		tail -n 1 "$$log"; rm -f "$$log"; exit $$status

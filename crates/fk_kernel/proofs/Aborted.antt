@@ -31,6 +31,6 @@ sound_aborted phase calls answers free more coming opens closing s space left kn
   sorted = tt;
   files = no_files [] coming;
   releases = omega arith;
-  nodes = none_counted empty_queues left.forgets (omega arith);
+  nodes = none_counted left.forgets;
   clock_low = old.clock_low;
 }

@@ -9,13 +9,13 @@ use Rattle.fuse_spec.specs.Vfs.{CallState, Advance, numbered, begun, asking, ans
 use Rattle.fuse_spec.specs.Answers.{Answer}
 use Rattle.fk_syscalls.specs.Values.{call_of, ClosesNone}
 use Rattle.fk_syscalls.specs.declared.call.Call.{Call}
-use Rattle.fk_syscalls.specs.declared.call.Call.TheVariants.{Stat, List as Lists, Open, Mkdir, Create, Unlink, Rmdir, Rename, Link, Read, Write, Close}
+use Rattle.fk_syscalls.specs.declared.call.Call.TheVariants.{Stat, List as Lists, ListPlus, Open, Mkdir, Create, Unlink, Rmdir, Rename, Link, Read, Write, Close}
 use Rattle.fk_kernel.proofs.Standing.{closes_none}
 use Rattle.fk_kernel.proofs.Phases.{none_past_end}
 use Rattle.fuse_spec.specs.declared.Opened.{Opened}
 use Rattle.fuse_spec.specs.declared.Refusal.{Refusal}
 use Rattle.fuse_spec.specs.declared.Refusal.TheVariants.{NoMemory, NotReady, Full, Exhausted}
-use Rattle.fk_kernel.specs.Refused.{is_past_end, or_no_memory, begin_refusal}
+use Rattle.fk_kernel.specs.Refused.{is_past_end, or_no_memory, begin_refusal, begun_refusal}
 
 -- one number more is past the end where none is left
 pub past_end : (unique call : ℕ) → call < 2 ^ 62 → (nat_lt (2 ^ 62) (unique + 2) || nat_lt (2 ^ 62) (call + 1)) ≡ nat_eq ((2 ^ 62 - unique) / 2) 0
@@ -48,14 +48,14 @@ aborted_begun k made aborted = ap (λ (b : Bool). closing_of (advanced k k.vfs.n
 
 module _ (k : Kernel) (made : Call) (begun_is : IsBegun k made) where
   pub asks_refusal : (state : CallState Opened) → is_ready k.phase ≡ true → length k.vfs.calls < 64 → k.vfs.next_call < 2 ^ 62 → begun (is_aborted k.phase) k.vfs (call_of made) ≡ asking (numbered k.vfs) k.vfs.next_call state
-      → or_no_memory (begin_refusal k (call_of made)) ≡ cond (nat_eq (numbers_left_from k.queues.next) 0) Exhausted NoMemory
+      → or_no_memory (begun_refusal k (call_of made)) ≡ cond (nat_eq (numbers_left_from k.queues.next) 0) Exhausted NoMemory
   asks_refusal state ready few low asks =
       let full : nat_le 64 (length k.vfs.calls) ≡ false = grind (arith, nat_tests, few) in
       let past = ap is_past_end begun_is ∙ ap (λ (a : Advance Opened). is_past_end (advanced k k.vfs.next_call a)) asks ∙ past_end k.queues.next k.vfs.next_call low in
       by_tests _ _ _ _ ready full past
 
   pub answered_unrefused : (a : Answer) → is_ready k.phase ≡ true → length k.vfs.calls < 64 → k.vfs.next_call < 2 ^ 62 → k.queues.next ≤ 2 ^ 62
-      → begun (is_aborted k.phase) k.vfs (call_of made) ≡ no_more (answered (numbered k.vfs) k.vfs.next_call a) → begin_refusal k (call_of made) ≡ None
+      → begun (is_aborted k.phase) k.vfs (call_of made) ≡ no_more (answered (numbered k.vfs) k.vfs.next_call a) → begun_refusal k (call_of made) ≡ None
   answered_unrefused a ready few low high ends =
       let full : nat_le 64 (length k.vfs.calls) ≡ false = grind (arith, nat_tests, few) in
       let past = ap is_past_end begun_is ∙ ap (λ (b : Advance Opened). is_past_end (advanced k k.vfs.next_call b)) ends ∙ none_past_end k.queues.next (k.vfs.next_call + 1) high (omega arith) in
@@ -84,6 +84,7 @@ pub no_close : (made : Call) → ((handle : ℕ) → made ≡ Close handle → �
 no_close (Close handle) other = other handle refl
 no_close (Stat path) other = tt
 no_close (Lists path after) other = tt
+no_close (ListPlus path after) other = tt
 no_close (Open path) other = tt
 no_close (Mkdir path) other = tt
 no_close (Create path) other = tt

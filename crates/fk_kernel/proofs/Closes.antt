@@ -20,7 +20,7 @@ use Rattle.fuse_spec.specs.Steps.{is_ready}
 use Rattle.fuse_spec.specs.Uniques.{numbers_left_from}
 use Rattle.fuse_spec.specs.declared.Refusal.TheVariants.{NoMemory, Exhausted}
 use Rattle.std.proofs.lemmas.Bool.Decides.{nat_tests}
-use Rattle.fk_kernel.specs.Refused.{is_past_end, or_no_memory, begin_refusal}
+use Rattle.fk_kernel.specs.Refused.{is_past_end, or_no_memory, begun_refusal}
 use Rattle.fk_kernel.proofs.Beginnings.{by_tests, unrefused, past_end}
 use Rattle.fk_kernel.proofs.Phases.{none_past_end}
 use Rattle.fk_kernel.proofs.Sound.{gone_absent}
@@ -76,10 +76,10 @@ module _ (k : Kernel) (handle : ℕ) (file : Opened) (going : is_aborted k.phase
     full : nat_le 64 (length k.vfs.calls) ≡ false
     full = grind (arith, nat_tests, few)
 
-    pub idle_refusal : is_used k handle ≡ false → or_no_memory (begin_refusal k (call.close handle)) ≡ cond (nat_eq (numbers_left_from k.queues.next) 0) Exhausted NoMemory
+    pub idle_refusal : is_used k handle ≡ false → or_no_memory (begun_refusal k (call.close handle)) ≡ cond (nat_eq (numbers_left_from k.queues.next) 0) Exhausted NoMemory
     idle_refusal idle = by_tests _ _ _ _ ready full (ap is_past_end (closes_idle idle) ∙ past_end k.queues.next k.vfs.next_call low)
 
-    pub used_unrefused : is_used k handle ≡ true → k.queues.next ≤ 2 ^ 62 → begin_refusal k (call.close handle) ≡ None
+    pub used_unrefused : is_used k handle ≡ true → k.queues.next ≤ 2 ^ 62 → begun_refusal k (call.close handle) ≡ None
     used_unrefused used high = unrefused _ _ _ ready full (ap is_past_end (closes_in_use used) ∙ none_past_end k.queues.next (k.vfs.next_call + 1) high (omega arith))
 
 -- a closed file that is used waits, and one that is not is let go

@@ -1,5 +1,5 @@
 -- Nodes in use, and nodes that are given up.
-use Rattle.std.proofs.Common.{◌≡◌, ◌≢◌, ℕ, zero, suc, ◌+◌, ◌≤◌, Bool, true, false, ◌||◌, if◌then◌else◌, List, [], ◌∷◌, Option, Some, None, Bor, refl, sym, ap, ◌∙◌, arith, inl, inr}
+use Rattle.std.proofs.Common.{◌≡◌, ◌≢◌, ℕ, zero, suc, ◌+◌, ◌≤◌, Bool, true, false, ◌||◌, List, [], ◌∷◌, Option, Some, None, Bor, refl, sym, ap, ◌∙◌, arith, inl, inr}
 use Rattle.std.specs.Prelude.{drop, option_map, slice_get, ◌&&◌, not, cond, nat_eq}
 use Rattle.std.specs.Option.{option_copied}
 use Rattle.std.specs.Prelude.{is_some}
@@ -10,26 +10,24 @@ use Rattle.fuse_spec.specs.declared.Counted.{Counted}
 use Rattle.fuse_spec.specs.declared.Purpose.{Purpose}
 use Rattle.fuse_spec.specs.declared.QueuedRequest.{QueuedRequest}
 use Rattle.fuse_spec.specs.Maps.{Map, get, remove, values}
-use Rattle.fuse_spec.specs.Queues.{QueueState}
-use Rattle.fuse_spec.specs.QueueCalls.{after_forget, can_read_forgets, after_read_forgets}
 use Rattle.fuse_spec.specs.QueueLaws.{kept_entries}
-use Rattle.fk_kernel.proofs.Nodes.{still_counted}
 use Rattle.fk_kernel.specs.Soundness.{AreCounted}
 use Rattle.fk_kernel.proofs.Sound.{length_gone}
 
--- One node fewer is counted, and one forget more is queued.
-pub evicted_counted : (nodes : Map Counted) (node count : ℕ) (s : QueueState Purpose) (forgets more : ℕ) → AreCounted nodes s forgets → get nodes node ≢ None → forgets ≤ more + 1 → AreCounted (remove nodes node) (after_forget s node count) more
-evicted_counted nodes node count s forgets more old there room =
+-- One node fewer is counted, and there is room for one forget fewer.
+pub evicted_counted : (nodes : Map Counted) (node forgets more : ℕ) → AreCounted nodes forgets → get nodes node ≢ None → forgets ≤ more + 1 → AreCounted (remove nodes node) more
+evicted_counted nodes node forgets more old there room =
     let fewer = length_gone nodes node there in
     record {
-      few = λ id counted at.
-          elim (cases_eq id node) [
-            | inl e ↦
-                let no : ◌≡◌ {A = Option Counted} None (Some counted) = sym (get_gone_here nodes node) ∙ ap (λ (k : ℕ). get (remove nodes node) k) (sym e) ∙ at in
-                cc
-            | inr ne ↦ old.few id counted (sym (get_gone_there nodes node id ne) ∙ at)
-          ];
-      drawn = old.drawn;
+      below = record {
+        below = λ id counted at.
+            elim (cases_eq id node) [
+              | inl e ↦
+                  let no : ◌≡◌ {A = Option Counted} None (Some counted) = sym (get_gone_here nodes node) ∙ ap (λ (k : ℕ). get (remove nodes node) k) (sym e) ∙ at in
+                  cc
+              | inr ne ↦ old.below.below id counted (sym (get_gone_there nodes node id ne) ∙ at)
+            ];
+      };
       room = omega (arith, fewer, old.room);
     }
 
@@ -37,17 +35,6 @@ pub is_there : (nodes : Map Counted) (node count : ℕ) → Some count ≡ optio
 is_there nodes node count is none =
     let no : ◌≡◌ {A = Option ℕ} (Some count) None = is ∙ ap (option_map (λ (counted : Counted). counted.count)) none in
     cc
-
--- To read forgets draws a number and leaves the requests.
-abbrev read_by : Bool → QueueState Purpose → ℕ → QueueState Purpose
-read_by b s count = if b then record s { forgets = drop count s.forgets; next = s.next + 2 } else s
-
-pub read_counted : (nodes : Map Counted) (s : QueueState Purpose) (count forgets more : ℕ) → AreCounted nodes s forgets → forgets ≤ more → AreCounted nodes (after_read_forgets s count) more
-read_counted nodes s count forgets more old room =
-    elim (can_read_forgets s count) as (λ b. AreCounted nodes (read_by b s count) more) [
-      | true ↦ still_counted nodes s (read_by true s count) forgets more old (omega arith) room
-      | false ↦ still_counted nodes s s forgets more old (omega arith) room
-    ]
 
 -- What a test of the entries but one finds is what a test finds once that is gone.
 pub any_gone : {V : Type 0} (test : V → Bool) (m : Map V) (k : ℕ) → list_any (λ (e : ℕ × V). not (nat_eq e.0 k) && test e.1) m ≡ list_any test (values (remove m k))

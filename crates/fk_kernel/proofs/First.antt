@@ -14,6 +14,6 @@ sound_first free space = record {
   sorted = tt;
   files = no_files [] 1;
   releases = omega arith;
-  nodes = none_counted empty_queues space.forgets (omega arith);
+  nodes = none_counted space.forgets;
   clock_low = omega arith;
 }

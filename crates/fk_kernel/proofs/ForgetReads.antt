@@ -1,10 +1,10 @@
 -- Which refusal a read of forgets gets.
 use Rattle.std.proofs.Common.{◌≡◌, ℕ, ◌+◌, ◌-◌, ◌/◌, ◌<◌, ◌≤◌, ◌^◌, Bool, true, false, List, [], ◌∷◌, Option, Some, None, length, slice_get, nat_eq, refl, arith}
-use Rattle.std.specs.Prelude.{if◌then◌else◌, nat_lt, is_some}
+use Rattle.std.specs.Prelude.{if◌then◌else◌, cond, nat_lt, is_some}
 use Rattle.std.proofs.lemmas.Bool.Decides.{nat_tests}
-use Rattle.fuse_spec.specs.Kernel.{Kernel, is_live}
+use Rattle.fuse_spec.specs.Kernel.{Kernel, is_live, forgets_read}
 use Rattle.fuse_spec.specs.Uniques.{numbers_left_from}
-use Rattle.fuse_spec.specs.QueueCalls.{first_forgets, can_read_forgets}
+use Rattle.fuse_spec.specs.QueueCalls.{can_read_forgets}
 use Rattle.fuse_spec.specs.declared.Refusal.TheVariants.{InterruptFirst, NoSuch, Exhausted}
 use Rattle.fk_kernel.specs.RefusedUpkeep.{read_forgets_refusal}
 use Rattle.fk_kernel.proofs.Phases.{none_past_end}
@@ -23,6 +23,13 @@ chosen {X = X} false x y is =
     let no : ◌≡◌ {A = Option X} None (Some y) = is in
     cc
 
+-- what is chosen last, where nothing else may be chosen
+chosen_last : {X : Type 0} (b : Bool) (x : Option X) (y : X) → cond b None x ≡ Some y → x ≡ Some y
+chosen_last false x y is = is
+chosen_last {X = X} true x y is =
+    let no : ◌≡◌ {A = Option X} None (Some y) = is in
+    cc
+
 past : (next : ℕ) → (2 ^ 62 - next) / 2 ≡ 0 → nat_lt (2 ^ 62) (next + 2) ≡ true
 past next none = grind (arith, nat_tests)
 
@@ -34,12 +41,12 @@ module _ (k : Kernel) (count : ℕ) (live : is_live k.phase ≡ true) where
   interrupts_first some = rw (live, has_some k.queues.interrupts some) refl
 
   module _ (none : is_some (slice_get k.queues.interrupts 0) ≡ false) where
-    pub no_forgets : first_forgets k.queues count ≡ None → read_forgets_refusal k count ≡ Some NoSuch
+    pub no_forgets : forgets_read k count ≡ None → read_forgets_refusal k count ≡ Some NoSuch
     no_forgets nothing = rw (live, has_none k.queues.interrupts none, nothing) refl
 
-    module _ (read : ℕ × List (ℕ × ℕ)) (first : first_forgets k.queues count ≡ Some read) where
+    module _ (read : ℕ × List (ℕ × ℕ)) (first : forgets_read k count ≡ Some read) where
       can_read : can_read_forgets k.queues count ≡ true
-      can_read = chosen (can_read_forgets k.queues count) _ read first
+      can_read = chosen (can_read_forgets k.queues count) _ read (chosen_last _ _ read first)
 
       pub no_number_left : numbers_left_from k.queues.next ≡ 0 → read_forgets_refusal k count ≡ Some Exhausted
       no_number_left left = rw (live, has_none k.queues.interrupts none, first, can_read, past k.queues.next left) refl

@@ -7,7 +7,6 @@ pub mod Closes
 pub mod Replied
 pub mod Heads
 pub mod Taken
-pub mod Counts
 pub mod Nodes
 pub mod First
 pub mod Dropped
@@ -15,6 +14,8 @@ pub mod Evicted
 pub mod ForgetReads
 pub mod Within
 pub mod PastEnds
+pub mod CountsHeard
 pub mod Walking
 pub mod Signalled
 pub mod Aborted
+pub mod Numbered

@@ -1,32 +1,37 @@
 -- The kernel takes a reply to the request of a call.
-use Rattle.std.proofs.Common.{◌≡◌, ℕ, ◌-◌, ◌%◌, Bool, true, false, true≢false, cond, List, [], ◌∷◌, Option, Some, None, nat_eq, refl, ap, sym, subst, ◌∙◌}
+use Rattle.std.proofs.Common.{◌≡◌, ℕ, ◌-◌, ◌%◌, Bool, true, false, true≢false, cond, List, [], ◌∷◌, Option, Some, None, map, nat_eq, refl, ap, sym, subst, ◌∙◌}
 use Rattle.fuse_spec.specs.declared.Attributes.{Attributes}
 use Rattle.fuse_spec.specs.declared.Entry.{Entry}
 use Rattle.fuse_spec.specs.declared.Opened.{Opened}
-use Rattle.fuse_spec.specs.declared.Phase.TheVariants.{Ready}
 use Rattle.fuse_spec.specs.declared.Purpose.TheVariants.{Call, Init, Release}
 use Rattle.fuse_spec.specs.declared.WriteResult.TheVariants.{Accepted, Invalid}
 use Rattle.fuse_spec.specs.Answers as answer
 use Rattle.fuse_spec.specs.CallReplies.{call_replied}
 use Rattle.fuse_spec.specs.Kernel.{Kernel, advanced, after_use, released_if_idle, kernel_aborted}
-use Rattle.fuse_spec.specs.Maps.{Place, get}
+use Rattle.fuse_spec.specs.Maps.{Map, Place, get}
 use Rattle.fuse_spec.specs.Messages.{WireReply}
 use Rattle.fuse_spec.specs.Operations as reply
-use Rattle.fuse_spec.specs.Operations.{Operation, lookup, getattr, mkdir, create, unlink, rmdir, rename, link, opening, readdir, read, write, Dirent, files_in_reply}
+use Rattle.fuse_spec.specs.Operations.{Operation, lookup, getattr, mkdir, create, unlink, rmdir, rename, link, opening, readdir, readdirplus, read, write, Dirent, DirentPlus}
 use Rattle.fuse_spec.specs.Paths.{Name}
 use Rattle.fuse_spec.specs.QueueCalls.{waiting, without, after_forget}
-use Rattle.fuse_spec.specs.Replies.{Use, usable, useless, stale, first_use, use_of, use_of_all, learnt, judged, goes_with, kernel_reply, reply_written, reply_taken, replied_to_call, replied, odd_taken, write_result_of, is_empty_reply, is_init_reply, is_agreement}
+use Rattle.fuse_spec.specs.Replies.{Use, usable, useless, stale, first_use, use_of, learnt, judged, heard, goes_with, kernel_reply, reply_written, reply_taken, replied_to_call, replied, odd_taken, write_result_of, is_empty_reply, is_init_reply, is_agreement, made_ready}
 use Rattle.fuse_spec.specs.Vfs.{Vfs, Advance, CallState, walking, doing, using, asked, answered, bound, opened_by, walks_on, no_more}
 use Rattle.fuse_spec.specs.Walks.{WalkPlan}
 use Rattle.fk_syscalls.specs.States.{StandsAt}
 use Rattle.fk_calls.specs.Names.{names_left}
 use Rattle.fk_kernel.specs.Entries.{Awaits, EndsPast, MakesName, mkdirs, links}
 use Rattle.fk_kernel.specs.Said.{IsJudged, opcode_of}
-use Rattle.fk_kernel.specs.Refused.{is_past_end}
+use Rattle.fk_kernel.specs.Refused.{is_past, is_past_end}
 use Rattle.fk_kernel.proofs.Closes.{released_some}
 use Rattle.fk_kernel.proofs.Walking.{asks_past}
 use Rattle.fuse_spec.specs.declared.WriteResult.{WriteResult}
-use Rattle.std.specs.Prelude.{is_some}
+use Rattle.std.specs.Prelude.{is_some, ◌||◌}
+use Rattle.fuse_spec.specs.Replies.{each_forgotten}
+use Rattle.fuse_spec.specs.CallReplies.{names_told}
+use Rattle.fuse_spec.specs.Operations.{pair_with}
+use Rattle.fuse_spec.specs.declared.Counted.{Counted}
+use Rattle.fk_nodes.specs.Learning.{is_out, learnt_from, stale_by, judged_in}
+use Rattle.fk_nodes.proofs.Judged.{learnt_is, settled, stale_settled, dirents_kept}
 use Rattle.fk_kernel.proofs.Standing.{asked_is, stays, found_unused, done_unused}
 
 -- the call is answered, and its request ends
@@ -66,6 +71,7 @@ module _ (c : Vfs Opened) (call : ℕ) where
   listed_answers : (records : List Dirent) (operation : Operation ℕ Opened) (state : CallState Opened) → StandsAt operation state → goes_with operation (reply.listed records) ≡ true → Answers (reply.listed records) state
   listed_answers records (readdir d a z) state s goes = subst (Answers (reply.listed records)) (sym s) refl
   listed_answers records (lookup d w) state s goes = absurd (true≢false (sym goes))
+  listed_answers records (readdirplus d a z) state s goes = absurd (true≢false (sym goes))
   listed_answers records (getattr x) state s goes = absurd (true≢false (sym goes))
   listed_answers records (mkdir d n) state s goes = absurd (true≢false (sym goes))
   listed_answers records (create d n) state s goes = absurd (true≢false (sym goes))
@@ -80,6 +86,7 @@ module _ (c : Vfs Opened) (call : ℕ) where
   content_answers : (bytes : List ℕ) (operation : Operation ℕ Opened) (state : CallState Opened) → StandsAt operation state → goes_with operation (reply.content bytes) ≡ true → Answers (reply.content bytes) state
   content_answers bytes (read o f z) state s goes = subst (Answers (reply.content bytes)) (sym s.is) refl
   content_answers bytes (lookup d w) state s goes = absurd (true≢false (sym goes))
+  content_answers bytes (readdirplus d a z) state s goes = absurd (true≢false (sym goes))
   content_answers bytes (getattr x) state s goes = absurd (true≢false (sym goes))
   content_answers bytes (mkdir d n) state s goes = absurd (true≢false (sym goes))
   content_answers bytes (create d n) state s goes = absurd (true≢false (sym goes))
@@ -94,6 +101,7 @@ module _ (c : Vfs Opened) (call : ℕ) where
   written_answers : (size : ℕ) (operation : Operation ℕ Opened) (state : CallState Opened) → StandsAt operation state → goes_with operation (reply.written size) ≡ true → Answers (reply.written size) state
   written_answers size (write o f b) state s goes = subst (Answers (reply.written size)) (sym s.is) refl
   written_answers size (lookup d w) state s goes = absurd (true≢false (sym goes))
+  written_answers size (readdirplus d a z) state s goes = absurd (true≢false (sym goes))
   written_answers size (getattr x) state s goes = absurd (true≢false (sym goes))
   written_answers size (mkdir d n) state s goes = absurd (true≢false (sym goes))
   written_answers size (create d n) state s goes = absurd (true≢false (sym goes))
@@ -106,11 +114,8 @@ module _ (c : Vfs Opened) (call : ℕ) where
   written_answers size (read o f z) state s goes = absurd (true≢false (sym goes))
 
 -- a plain reply does nothing but answer
-abbrev using_all : Kernel → WireReply → Use
-using_all k wire = use_of_all k.nodes (files_in_reply wire)
-
 module _ (k : Kernel) (call : ℕ) (operation : Operation ℕ Opened) (state : CallState Opened) (s : StandsAt operation state) where
-  pub plain_judged : (wire : WireReply) → IsPlain wire → goes_with operation wire ≡ true → judged k call state wire (using_all k wire) ≡ record k { vfs = answered k.vfs call (answer_by wire) }
+  pub plain_judged : (wire : WireReply) → IsPlain wire → goes_with operation wire ≡ true → heard k call state wire ≡ record k { vfs = answered k.vfs call (answer_by wire) }
   plain_judged (reply.failed errno) plain goes = ap (λ (a : Advance Opened). advanced k call a) (failed_answers k.vfs call errno state)
   plain_judged (reply.attributes x) plain goes = ap (λ (a : Advance Opened). advanced k call a) (attributes_answers k.vfs call x operation state s goes)
   plain_judged (reply.listed records) plain goes = ap (λ (a : Advance Opened). advanced k call a) (listed_answers k.vfs call records operation state s goes)
@@ -120,7 +125,8 @@ module _ (k : Kernel) (call : ℕ) (operation : Operation ℕ Opened) (state : C
   plain_judged (reply.missing valid) plain goes = absurd plain
   plain_judged (reply.created g valid fh) plain goes = absurd plain
   plain_judged (reply.opened fh) plain goes = absurd plain
-  plain_judged (reply.agreed major minor) plain goes = absurd plain
+  plain_judged (reply.listed_plus pairs) plain goes = absurd plain
+  plain_judged (reply.agreed major minor flags) plain goes = absurd plain
   plain_judged reply.done plain goes = absurd plain
 
 -- names go once it is done
@@ -150,7 +156,7 @@ module _ (k : Kernel) (unique call : ℕ) (even : nat_eq (unique % 2) 1 ≡ fals
   wrong_is state at wire other = stands state at wire ∙ ap (λ (b : Bool). replied (record k { queues = without k.queues unique }) call state b wire) other
 
   pub goes_is : (wire : WireReply) (aw : Awaits (get k.vfs.calls call) wire)
-      → reply_written k unique wire ≡ (Accepted, after_use (judged (record k { queues = without k.queues unique }) call aw.state wire (use_of_all k.nodes (files_in_reply wire))) aw.state)
+      → reply_written k unique wire ≡ (Accepted, after_use (heard (record k { queues = without k.queues unique }) call aw.state wire) aw.state)
   goes_is wire aw =
       stands aw.state aw.at wire
       ∙ ap (λ (b : Bool). replied (record k { queues = without k.queues unique }) call aw.state b wire) (ap (λ (o : Operation ℕ Opened). goes_with o wire) (asked_is aw.operation aw.state aw.stands) ∙ aw.goes)
@@ -219,6 +225,25 @@ module _ (k : Kernel) (unique call : ℕ) (even : nat_eq (unique % 2) 1 ≡ fals
   pub open_done : (node : ℕ) → get k.vfs.calls call ≡ Some (doing (opening node)) → (fh : ℕ) → reply_written k unique (reply.opened fh) ≡ (Accepted, ended k unique (opened_by k.vfs call (record { nodeid = node; fh = fh })) call answer.done)
   open_done node at fh = stands (doing (opening node)) at (reply.opened fh)
 
+  -- the kernel once these names are listed with their files
+  module _ (directory : ℕ) (pairs : List (DirentPlus Entry)) where
+    abbrev listing_of : Map Counted → List (DirentPlus Entry) → List ℕ → List Dirent → Kernel
+    listing_of nodes names back dirents = record k {
+      vfs = answered (record k.vfs { names = names_told k.vfs.clock directory k.vfs.names (map (pair_with (λ (g : Entry). g.nodeid)) names) }) call (answer.listing dirents);
+      queues = each_forgotten (without k.queues unique) back;
+      nodes = nodes;
+    }
+
+    abbrev pub listed_so : Kernel
+    listed_so = listing_of (learnt_from k.nodes pairs) (map (judged_in (learnt_from k.nodes pairs)) pairs) (stale_by (learnt_from k.nodes pairs) pairs) (map (λ (pair : DirentPlus Entry). pair.dirent) pairs)
+
+    pub list_done : (after size : ℕ) → get k.vfs.calls call ≡ Some (doing (readdirplus directory after size)) → goes_with (readdirplus directory after size) (reply.listed_plus pairs) ≡ true
+        → reply_written k unique (reply.listed_plus pairs) ≡ (Accepted, listed_so)
+    list_done after size at goes =
+        stands (doing (readdirplus directory after size)) at (reply.listed_plus pairs)
+        ∙ ap (λ (b : Bool). replied (record k { queues = without k.queues unique }) call (doing (readdirplus directory after size)) b (reply.listed_plus pairs)) goes
+        ∙ (λ i. (Accepted, listing_of (learnt_is k.nodes pairs i) (settled k.nodes pairs i) (stale_settled k.nodes pairs i) (dirents_kept k.nodes pairs i)))
+
 -- a RELEASE ends, whatever its reply says
 pub release_is : (k : Kernel) (unique : ℕ) (opened : Opened) → nat_eq (unique % 2) 1 ≡ false → waiting k.queues unique ≡ Some (Release opened) → (wire : WireReply)
     → reply_written k unique wire ≡ (write_result_of (is_empty_reply wire), record k { queues = without k.queues unique })
@@ -228,19 +253,19 @@ release_is k unique opened even waits wire =
 
 -- INIT's reply makes the mount ready or aborts it
 module _ (k : Kernel) (unique : ℕ) (even : nat_eq (unique % 2) 1 ≡ false) (waits : waiting k.queues unique ≡ Some Init) where
-  abbrev pub by_agreement : Bool → Kernel
-  by_agreement b = cond b (record k { phase = Ready; queues = without k.queues unique }) (kernel_aborted k)
+  abbrev pub by_agreement : WireReply → Bool → Kernel
+  by_agreement wire b = cond b (made_ready (record k { queues = without k.queues unique }) wire) (kernel_aborted k)
 
-  pub init_is : (wire : WireReply) → reply_written k unique wire ≡ (write_result_of (is_init_reply wire), by_agreement (is_agreement wire))
+  pub init_is : (wire : WireReply) → reply_written k unique wire ≡ (write_result_of (is_init_reply wire), by_agreement wire (is_agreement wire))
   init_is wire =
       ap (λ (b : Bool). cond b (odd_taken k unique wire (waiting k.queues (unique - 1))) (reply_taken k unique wire (waiting k.queues unique))) even
       ∙ ap (reply_taken k unique wire) waits
 
-  pub init_agreed : (wire : WireReply) → is_init_reply wire ≡ true → is_agreement wire ≡ true → reply_written k unique wire ≡ (Accepted, record k { phase = Ready; queues = without k.queues unique })
-  init_agreed wire reply is = init_is wire ∙ ap (λ (b : Bool). (write_result_of b, by_agreement (is_agreement wire))) reply ∙ ap (λ (b : Bool). (Accepted, by_agreement b)) is
+  pub init_agreed : (wire : WireReply) → is_init_reply wire ≡ true → is_agreement wire ≡ true → reply_written k unique wire ≡ (Accepted, made_ready (record k { queues = without k.queues unique }) wire)
+  init_agreed wire reply is = init_is wire ∙ ap (λ (b : Bool). (write_result_of b, by_agreement wire (is_agreement wire))) reply ∙ ap (λ (b : Bool). (Accepted, by_agreement wire b)) is
 
   pub init_aborts : (wire : WireReply) → is_init_reply wire ≡ true → is_agreement wire ≡ false → reply_written k unique wire ≡ (Accepted, kernel_aborted k)
-  init_aborts wire reply is = init_is wire ∙ ap (λ (b : Bool). (write_result_of b, by_agreement (is_agreement wire))) reply ∙ ap (λ (b : Bool). (Accepted, by_agreement b)) is
+  init_aborts wire reply is = init_is wire ∙ ap (λ (b : Bool). (write_result_of b, by_agreement wire (is_agreement wire))) reply ∙ ap (λ (b : Bool). (Accepted, by_agreement wire b)) is
 
   pub init_unsaid : reply_written k unique reply.done ≡ (Invalid, kernel_aborted k)
   init_unsaid = init_is reply.done
@@ -254,9 +279,10 @@ uses_read o f z (reply.listed records) goes = tt
 uses_read o f z (reply.written size) goes = tt
 uses_read o f z (reply.found g valid) goes = absurd (true≢false (sym goes))
 uses_read o f z (reply.missing valid) goes = absurd (true≢false (sym goes))
+uses_read o f z (reply.listed_plus pairs) goes = absurd (true≢false (sym goes))
 uses_read o f z (reply.created g valid fh) goes = absurd (true≢false (sym goes))
 uses_read o f z (reply.opened fh) goes = absurd (true≢false (sym goes))
-uses_read o f z (reply.agreed major minor) goes = absurd (true≢false (sym goes))
+uses_read o f z (reply.agreed major minor flags) goes = absurd (true≢false (sym goes))
 uses_read o f z reply.done goes = absurd (true≢false (sym goes))
 
 uses_write : (o : Opened) (f : ℕ) (b : List ℕ) (wire : WireReply) → goes_with (write o f b) wire ≡ true → IsPlain wire
@@ -267,9 +293,10 @@ uses_write o f b (reply.listed records) goes = tt
 uses_write o f b (reply.written size) goes = tt
 uses_write o f b (reply.found g valid) goes = absurd (true≢false (sym goes))
 uses_write o f b (reply.missing valid) goes = absurd (true≢false (sym goes))
+uses_write o f b (reply.listed_plus pairs) goes = absurd (true≢false (sym goes))
 uses_write o f b (reply.created g valid fh) goes = absurd (true≢false (sym goes))
 uses_write o f b (reply.opened fh) goes = absurd (true≢false (sym goes))
-uses_write o f b (reply.agreed major minor) goes = absurd (true≢false (sym goes))
+uses_write o f b (reply.agreed major minor flags) goes = absurd (true≢false (sym goes))
 uses_write o f b reply.done goes = absurd (true≢false (sym goes))
 
 apart : {T : Type 0} (h : ℕ) (operation other : Operation ℕ Opened) → using h operation ≡ doing other → T
@@ -291,6 +318,7 @@ uses_plain (rename d o e n) h s wire goes = apart h (rename d o e n) (rename d o
 uses_plain (link x d n) h s wire goes = apart h (link x d n) (link x d n) s
 uses_plain (opening x) h s wire goes = apart h (opening x) (opening x) s
 uses_plain (readdir d a z) h s wire goes = apart h (readdir d a z) (readdir d a z) s
+uses_plain (readdirplus d a z) h s wire goes = apart h (readdirplus d a z) (readdirplus d a z) s
 
 -- a call's request is judged
 pub judged_op : (operation : Operation ℕ Opened) → IsJudged (opcode_of operation)
@@ -304,6 +332,7 @@ judged_op (rename d o e n) = tt
 judged_op (link x d n) = tt
 judged_op (opening x) = tt
 judged_op (readdir d a z) = tt
+judged_op (readdirplus d a z) = tt
 judged_op (read o f z) = tt
 judged_op (write o f b) = tt
 
@@ -319,11 +348,14 @@ module _ (k : Kernel) (unique call : ℕ) (even : nat_eq (unique % 2) 1 ≡ fals
       closed_some None at is = absurd (true≢false (sym is))
       closed_some (Some file) at is = ap is_past_end (released_some (over a) p.handle file at p.idle) ∙ asks_past (over a) call (Some p.operation) refl p.none_left
 
-  pub ends_over : (wire : WireReply) → is_past_end (reply_written k unique wire).1 ≡ true
-  ends_over wire = by (goes_with p.operation wire) refl
+  ends_past_end : (wire : WireReply) → is_past_end (reply_written k unique wire).1 ≡ true
+  ends_past_end wire = by (goes_with p.operation wire) refl
     where
       by : (b : Bool) → goes_with p.operation wire ≡ b → is_past_end (reply_written k unique wire).1 ≡ true
       by true goes =
           ap (λ (r : WriteResult × Kernel). is_past_end r.1) (plain_is k unique call even waits wire (uses_plain p.operation p.handle s wire goes) (record { operation = p.operation; state = using p.handle p.operation; at = p.is; stands = s; goes = goes }))
           ∙ let_go (answer_by wire)
       by false goes = ap (λ (r : WriteResult × Kernel). is_past_end r.1) (wrong_is k unique call even waits (using p.handle p.operation) p.is wire goes) ∙ let_go (answer.failed 5)
+
+  pub ends_over : (wire : WireReply) → is_past (reply_written k unique wire).1 ≡ true
+  ends_over wire = ap (λ (b : Bool). b || is_out (reply_written k unique wire).1.nodes) (ends_past_end wire)

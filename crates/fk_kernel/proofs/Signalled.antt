@@ -29,7 +29,7 @@ use Rattle.fk_kernel.specs.Refused.{is_past_end}
 use Rattle.fk_kernel.specs.RefusedSignals.{standing_refusal, signal_refusal, IsSignalled}
 use Rattle.fk_kernel.specs.Soundness.{IsSoundKernel}
 use Rattle.fk_kernel.proofs.Closes.{released_some}
-use Rattle.fk_kernel.proofs.Nodes.{signal_counted}
+use Rattle.fk_kernel.proofs.Nodes.{still_counted}
 use Rattle.fk_kernel.proofs.Walking.{asks_past}
 
 abbrev pub Entry : Type 0
@@ -175,7 +175,7 @@ sound_signalled phase calls answers free coming opens closing s space more known
   sorted = old.sorted;
   files = old.files;
   releases = omega (arith, old.releases, room.requests);
-  nodes = signal_counted known s space.forgets more.forgets old.nodes room.forgets unique fatal;
+  nodes = still_counted known space.forgets more.forgets old.nodes room.forgets;
   clock_low = old.clock_low;
 }
 

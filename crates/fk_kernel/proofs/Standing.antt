@@ -5,8 +5,9 @@ use Rattle.fuse_spec.specs.declared.Entry.{Entry}
 use Rattle.fuse_spec.specs.declared.Opened.{Opened}
 use Rattle.fuse_spec.specs.Kernel.{Kernel, closed_by, after_use}
 use Rattle.fuse_spec.specs.Maps.{Map, Place}
-use Rattle.fuse_spec.specs.Operations.{Operation, lookup, getattr, mkdir, create, unlink, rmdir, rename, link, opening, readdir, read, write}
+use Rattle.fuse_spec.specs.Operations.{Operation, lookup, getattr, mkdir, create, unlink, rmdir, rename, link, opening, readdir, readdirplus, read, write}
 use Rattle.fuse_spec.specs.Operations as reply
+use Rattle.fuse_spec.specs.Operations.{DirentPlus}
 use Rattle.fuse_spec.specs.Paths.{Name}
 use Rattle.fuse_spec.specs.Replies.{goes_with}
 use Rattle.fuse_spec.specs.Vfs.{CallState, walking, doing, using, asked}
@@ -14,8 +15,8 @@ use Rattle.fuse_spec.specs.Walks.{WalkPlan}
 use Rattle.fk_syscalls.specs.States.{StandsAt, used_by}
 use Rattle.fk_syscalls.specs.Values.{call_of, ClosesNone}
 use Rattle.fk_syscalls.specs.declared.call.Call.{Call}
-use Rattle.fk_syscalls.specs.declared.call.Call.TheVariants.{Stat, List as Lists, Open, Mkdir, Create, Unlink, Rmdir, Rename, Link, Read, Write, Close}
-use Rattle.fk_kernel.specs.Entries.{MakesName, place_of, Makes, mkdirs, links, Creates, Opens}
+use Rattle.fk_syscalls.specs.declared.call.Call.TheVariants.{Stat, List as Lists, ListPlus, Open, Mkdir, Create, Unlink, Rmdir, Rename, Link, Read, Write, Close}
+use Rattle.fk_kernel.specs.Entries.{MakesName, place_of, Makes, mkdirs, links, Creates, Opens, ListsPlus}
 
 pub asked_is : (operation : Operation ℕ Opened) (state : CallState Opened) → StandsAt operation state → asked state ≡ operation
 asked_is (lookup d w) state s = ap asked s.is
@@ -28,6 +29,7 @@ asked_is (rename d o e n) state s = ap asked s
 asked_is (link x d n) state s = ap asked s
 asked_is (opening x) state s = ap asked s
 asked_is (readdir d a z) state s = ap asked s
+asked_is (readdirplus d a z) state s = ap asked s
 asked_is (read o f z) state s = ap asked s.is
 asked_is (write o f b) state s = ap asked s.is
 
@@ -54,6 +56,11 @@ creates_from operation state g valid fh s goes = absurd (true≢false (sym goes)
 pub opens_from : (operation : Operation ℕ Opened) (state : CallState Opened) (fh : ℕ) → StandsAt operation state → goes_with operation (reply.opened fh) ≡ true → Opens (Some state)
 opens_from (opening x) state fh s goes = record { node = x; is = ap Some s }
 opens_from operation state fh s goes = absurd (true≢false (sym goes))
+
+pub lists_from : (operation : Operation ℕ Opened) (state : CallState Opened) (pairs : List (DirentPlus Entry)) → StandsAt operation state → goes_with operation (reply.listed_plus pairs) ≡ true → ListsPlus (Some state)
+lists_from (readdirplus d a z) state pairs s goes = record { directory = d; after = a; size = z; is = ap Some s }
+lists_from (lookup d w) state pairs s goes = absurd (true≢false (sym goes))
+lists_from operation state pairs s goes = absurd (true≢false (sym goes))
 
 -- A call that stands on no open file lets none go.
 pub stays : (k : Kernel) (state : CallState Opened) → used_by state ≡ None → after_use k state ≡ k
@@ -82,6 +89,7 @@ done_unused operation state s goes = absurd (true≢false (sym goes))
 pub closes_none : (opens : Map Opened) (made : Call) → ClosesNone made → closed_by opens (call_of made) ≡ None
 closes_none opens (Stat path) is = refl
 closes_none opens (Lists path after) is = refl
+closes_none opens (ListPlus path after) is = refl
 closes_none opens (Open path) is = refl
 closes_none opens (Mkdir path) is = refl
 closes_none opens (Create path) is = refl

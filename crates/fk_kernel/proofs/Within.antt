@@ -10,7 +10,7 @@ use Rattle.fuse_spec.specs.Kernel.{Kernel, advanced, after_use, released, is_use
 use Rattle.fuse_spec.specs.Maps.{get, remove}
 use Rattle.fuse_spec.specs.Messages.{WireReply}
 use Rattle.fuse_spec.specs.Operations as reply
-use Rattle.fuse_spec.specs.Operations.{Operation, lookup, getattr, mkdir, create, unlink, rmdir, rename, link, opening, readdir, read, write}
+use Rattle.fuse_spec.specs.Operations.{Operation, lookup, getattr, mkdir, create, unlink, rmdir, rename, link, opening, readdir, readdirplus, read, write, DirentPlus}
 use Rattle.fuse_spec.specs.QueueCalls.{waiting, without, after_enqueue}
 use Rattle.fuse_spec.specs.Replies.{Use, usable, useless, stale, use_of, goes_with, learnt, reply_written}
 use Rattle.fuse_spec.specs.Uniques.{numbers_left_from}
@@ -26,7 +26,7 @@ use Rattle.fk_said.specs.declared.reply_said.ReplySaid.TheVariants as said
 use Rattle.fk_kernel.proofs.Phases.{none_past_end, within_ends}
 use Rattle.fk_kernel.proofs.Standing.{LooksNone, makes_found}
 use Rattle.fk_kernel.proofs.Walking.{asks_within, walk_numbers}
-use Rattle.fk_kernel.proofs.Replied.{ended, answer_by, IsPlain, plain_is, done_is, wrong_is, found_useless, found_stale, made_found, lookup_missing, made_missing, create_useless, create_stale, create_made, open_done}
+use Rattle.fk_kernel.proofs.Replied.{ended, answer_by, IsPlain, plain_is, done_is, wrong_is, found_useless, found_stale, made_found, lookup_missing, made_missing, create_useless, create_stale, create_made, open_done, list_done}
 
 -- Whether what is said brings no entry of a LOOKUP, MKDIR or LINK.
 abbrev pub IsNoEntry : WireReply → Type 0
@@ -80,9 +80,14 @@ module _ (k : Kernel) (unique call : ℕ) (even : nat_eq (unique % 2) 1 ≡ fals
     opened_within fh (opening x) state at s goes = ap (λ (r : WriteResult × Kernel). is_past_end r.1) (open_done k unique call even waits x (at ∙ ap Some s) fh) ∙ same
     opened_within fh operation state at s goes = absurd (true≢false (sym goes))
 
-    agreed_never : {T : Type 0} (major minor : ℕ) (operation : Operation ℕ Opened) → goes_with operation (reply.agreed major minor) ≡ true → T
-    agreed_never major minor (lookup d w) goes = absurd (true≢false (sym goes))
-    agreed_never major minor operation goes = absurd (true≢false (sym goes))
+    pairs_within : (pairs : List (DirentPlus Entry)) (operation : Operation ℕ Opened) (state : CallState Opened) → get k.vfs.calls call ≡ Some state → StandsAt operation state → goes_with operation (reply.listed_plus pairs) ≡ true → Keeps (reply_written k unique (reply.listed_plus pairs))
+    pairs_within pairs (readdirplus d a z) state at s goes = ap (λ (r : WriteResult × Kernel). is_past_end r.1) (list_done k unique call even waits d pairs a z (at ∙ ap Some s) goes) ∙ same
+    pairs_within pairs (lookup d w) state at s goes = absurd (true≢false (sym goes))
+    pairs_within pairs operation state at s goes = absurd (true≢false (sym goes))
+
+    agreed_never : {T : Type 0} (major minor flags : ℕ) (operation : Operation ℕ Opened) → goes_with operation (reply.agreed major minor flags) ≡ true → T
+    agreed_never major minor flags (lookup d w) goes = absurd (true≢false (sym goes))
+    agreed_never major minor flags operation goes = absurd (true≢false (sym goes))
 
     pub stays_within : (wire : WireReply) → (aw : Awaits (get k.vfs.calls call) wire) → IsNoEntry wire → is_past_end (reply_written k unique wire).1 ≡ false
     stays_within (reply.failed errno) aw plain = plain_within (reply.failed errno) tt aw
@@ -93,7 +98,8 @@ module _ (k : Kernel) (unique call : ℕ) (even : nat_eq (unique % 2) 1 ≡ fals
     stays_within (reply.missing valid) aw plain = missing_within valid aw.operation aw.state aw.at aw.stands aw.goes
     stays_within (reply.created g valid fh) aw plain = created_within g valid fh aw.operation aw.state aw.at aw.stands aw.goes (use_of k.nodes g) refl
     stays_within (reply.opened fh) aw plain = opened_within fh aw.operation aw.state aw.at aw.stands aw.goes
-    stays_within (reply.agreed major minor) aw plain = agreed_never major minor aw.operation aw.goes
+    stays_within (reply.agreed major minor flags) aw plain = agreed_never major minor flags aw.operation aw.goes
+    stays_within (reply.listed_plus pairs) aw plain = pairs_within pairs aw.operation aw.state aw.at aw.stands aw.goes
     stays_within reply.done aw plain = ap (λ (r : WriteResult × Kernel). is_past_end r.1) (done_is k unique call even waits aw) ∙ same
     stays_within (reply.found g valid) aw plain = absurd plain
 
@@ -119,6 +125,7 @@ no_entry_said (said.Created g valid fh) other = tt
 no_entry_said (said.Opened fh) other = tt
 no_entry_said (said.Attributes a) other = tt
 no_entry_said (said.Listed records) other = tt
+no_entry_said (said.ListedPlus records) other = tt
 no_entry_said (said.Content bytes) other = tt
 no_entry_said (said.Written size) other = tt
 no_entry_said said.Done other = tt

@@ -1,19 +1,21 @@
 -- What replies are to the calls that asked for them.
-use Rattle.std.specs.Prelude.{◌≡◌, ◌<◌, ℕ, List, Option, Some, None, true, false, is_some}
+use Rattle.std.specs.Prelude.{◌≡◌, ◌<◌, ℕ, List, length, Option, Some, None, true, false, is_some}
 use Rattle.std.specs.List.{list_any}
 use Rattle.fuse_spec.specs.declared.Opened.{Opened}
 use Rattle.fuse_spec.specs.Kernel.{Kernel, is_using}
-use Rattle.fuse_spec.specs.Maps.{Place, get, remove, values}
+use Rattle.fuse_spec.specs.Maps.{Map, Place, get, remove, values}
 use Rattle.fuse_spec.specs.Messages.{WireReply}
-use Rattle.fuse_spec.specs.Operations.{Operation, lookup, mkdir, create, link, opening}
+use Rattle.fuse_spec.specs.Operations.{Operation, lookup, mkdir, create, link, opening, readdirplus, files_in_reply}
+use Rattle.fuse_spec.specs.Operations as reply
 use Rattle.fuse_spec.specs.Paths.{Name}
-use Rattle.fuse_spec.specs.Replies.{Use, usable, useless, stale, goes_with}
+use Rattle.fuse_spec.specs.Replies.{Use, usable, useless, stale, goes_with, learnt, reply_judged, use_of_reply}
+use Rattle.fuse_spec.specs.declared.Counted.{Counted}
+use Rattle.fuse_spec.specs.declared.Entry.{Entry}
+use Rattle.fuse_spec.specs.Numbers.{counter_end}
 use Rattle.fuse_spec.specs.Uniques.{numbers_left_from}
 use Rattle.fuse_spec.specs.Vfs.{CallState, walking, doing, using}
 use Rattle.fuse_spec.specs.Walks.{WalkPlan}
 use Rattle.fk_syscalls.specs.States.{StandsAt}
-use Rattle.fk_kernel.specs.declared.entries.EntryUse.{EntryUse}
-use Rattle.fk_kernel.specs.declared.entries.EntryUse.TheVariants as entry
 
 -- The call that stands here waits for a reply that says this, and it goes with what the call asked.
 pub record Awaits (standing : Option (CallState Opened)) (wire : WireReply) : Type 0 where
@@ -61,12 +63,6 @@ place_of (create directory name) = Some (directory, name)
 place_of (link file directory name) = Some (directory, name)
 place_of operation = None
 
--- whether an entry of this node can be used
-abbrev pub use_meant : ℕ → EntryUse → Use
-use_meant node entry.Usable = usable
-use_meant node entry.Useless = useless
-use_meant node entry.Stale = stale node
-
 -- Where the end of this call lets a closed file go, a number is left for its RELEASE.
 abbrev pub EndsWithin : Kernel → ℕ → Type 0
 EndsWithin k call =
@@ -81,3 +77,25 @@ pub record EndsPast (k : Kernel) (call : ℕ) : Type 0 where
   pub closed : is_some (get k.closing handle) ≡ true
   pub idle : list_any (is_using handle) (values (remove k.vfs.calls call)) ≡ false
   pub none_left : numbers_left_from k.queues.next ≡ 0
+
+-- The call lists the names of a directory with their files.
+pub record ListsPlus (standing : Option (CallState Opened)) : Type 0 where
+  pub directory : ℕ
+  pub after : ℕ
+  pub size : ℕ
+  pub is : standing ≡ Some (doing (readdirplus directory after size))
+
+-- A list with files has few names.
+abbrev pub IsFew : WireReply → Type 0
+IsFew (reply.listed_plus pairs) = length pairs < counter_end
+IsFew wire = Unit {0}
+
+-- The counts after the entries of a reply that are judged so.
+abbrev pub learnt_by_all : Map Counted → List Entry → Use → Map Counted
+learnt_by_all nodes entries usable = learnt nodes entries
+learnt_by_all nodes entries useless = nodes
+learnt_by_all nodes entries (stale node) = nodes
+
+-- The counts after a reply that goes with what a call asked.
+abbrev pub nodes_heard : Map Counted → WireReply → Map Counted
+nodes_heard nodes wire = learnt_by_all nodes (files_in_reply (reply_judged nodes wire)) (use_of_reply nodes wire)

@@ -1,11 +1,11 @@
 -- Which refusal a tick, a drop of a name, an evict and a read of forgets get. The refusals stand in the order in which they are judged.
 use Rattle.std.specs.Prelude.{◌≡◌, ℕ, ◌+◌, ◌||◌, cond, not, List, Option, Some, None, length, nat_eq, nat_le}
-use Rattle.fuse_spec.specs.Kernel.{Kernel, is_live, is_pinned, is_bound}
+use Rattle.fuse_spec.specs.Kernel.{Kernel, forgets_read, is_live, is_pinned, is_bound}
 use Rattle.fuse_spec.specs.Maps.{get, get_name}
 use Rattle.fuse_spec.specs.Messages.{Forget, Request}
 use Rattle.fuse_spec.specs.Numbers.{clock_end}
 use Rattle.fuse_spec.specs.Paths.{Name}
-use Rattle.fuse_spec.specs.QueueCalls.{first_forgets, after_read_forgets}
+use Rattle.fuse_spec.specs.QueueCalls.{after_read_forgets}
 use Rattle.fuse_spec.specs.Worlds.{forget_body}
 use Rattle.fuse_spec.specs.declared.Binding.{Binding}
 use Rattle.fuse_spec.specs.declared.Counted.{Counted}
@@ -44,10 +44,10 @@ forgets_refusal k count (Some read) = cond (is_past_end (record k { queues = aft
 abbrev pub read_forgets_refusal : Kernel → ℕ → Option Refusal
 read_forgets_refusal k count =
     cond (not (is_live k.phase)) (Some NotReady)
-    (cond (not (nat_eq (length k.queues.interrupts) 0)) (Some InterruptFirst) (forgets_refusal k count (first_forgets k.queues count)))
+    (cond (not (nat_eq (length k.queues.interrupts) 0)) (Some InterruptFirst) (forgets_refusal k count (forgets_read k count)))
 
 -- The frame of the first so many forgets, under the coming number.
 pub record IsForgetFrame (k : Kernel) (count : ℕ) (frame : Request) : Type 0 where
   pub forgets : List Forget
-  pub first : first_forgets k.queues count ≡ Some (frame.unique, forgets)
+  pub first : forgets_read k count ≡ Some (frame.unique, forgets)
   pub is : frame ≡ record { unique = k.queues.next; body = forget_body forgets }

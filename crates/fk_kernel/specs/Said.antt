@@ -41,7 +41,7 @@ awaited k unique = cond (nat_eq (unique % 2) 1) (awaited_by_interrupt (waiting k
 
 -- a body that goes with no operation of a call
 abbrev pub wrong_body : WireReply
-wrong_body = reply.agreed 0 0
+wrong_body = reply.agreed 0 0 0
 
 -- A body that is no reply to a request of this opcode.
 abbrev pub wrong_body_to : Opcode → WireReply
@@ -57,7 +57,6 @@ pub data Means (o : Opcode) (bytes : List ℕ) : WireReply → Type 0 where
 abbrev pub IsJudged : Opcode → Type 0
 IsJudged op.Forget = ⊥
 IsJudged op.BatchForget = ⊥
-IsJudged op.Readdirplus = ⊥
 IsJudged o = Unit {0}
 
 -- The kinds that await a reply.

@@ -1,5 +1,5 @@
 -- What is true of the kernel after each event.
-use Rattle.std.specs.Prelude.{◌≡◌, ◌≢◌, ◌≤◌, ◌<◌, ◌^◌, ◌+◌, ℕ, false, [], None, Some, length, T}
+use Rattle.std.specs.Prelude.{◌≡◌, ◌≢◌, ◌≤◌, ◌<◌, ◌^◌, ℕ, false, [], None, length, T}
 use Rattle.std.specs.Ordering.{nat_cmp}
 use Rattle.std.specs.FinMap.{is_sorted}
 use Rattle.fuse_spec.specs.Maps.{Map, get}
@@ -11,6 +11,7 @@ use Rattle.fuse_spec.specs.declared.Opened.{Opened}
 use Rattle.fuse_spec.specs.declared.Phase.{Phase}
 use Rattle.fuse_spec.specs.Kernel.{is_live}
 use Rattle.fuse_spec.specs.declared.Purpose.{Purpose}
+use Rattle.fk_nodes.specs.Learning.{AreBelow}
 use Rattle.fk_queues.specs.Room.{Room}
 
 -- No call of the next number or a later one is there, none is both unanswered and answered, and there is room to answer all.
@@ -29,10 +30,9 @@ pub record AreFiles {V : Type 0} (calls : Map V) (opens closing : Map Opened) (c
   pub closing_apart : (n : ℕ) → get calls n ≢ None → get closing n ≡ None
   pub closed_once : (n : ℕ) → get opens n ≢ None → get closing n ≡ None
 
--- Each lookup that is counted came with a request, so that one more fits a counter; and there is room to queue a forget of each counted node.
-pub record AreCounted (nodes : Map Counted) (queues : QueueState Purpose) (forgets : ℕ) : Type 0 where
-  pub few : (id : ℕ) (counted : Counted) → get nodes id ≡ Some counted → counted.count + length queues.requests ≤ queues.next
-  pub drawn : length queues.requests ≤ queues.next
+-- No node's count has come to the end of counters, and there is room to queue a forget of each counted node.
+pub record AreCounted (nodes : Map Counted) (forgets : ℕ) : Type 0 where
+  pub below : AreBelow nodes
   pub room : length nodes ≤ forgets
 
 -- All that is true of the kernel.
@@ -44,5 +44,5 @@ pub record IsSoundKernel {W : Type 0} (phase : Phase) (calls : Map (CallState Op
   pub files : AreFiles calls opens closing coming
   -- there is room to queue the RELEASE of each closed file
   pub releases : length closing ≤ space.requests
-  pub nodes : AreCounted known queues space.forgets
+  pub nodes : AreCounted known space.forgets
   pub clock_low : clock < clock_end

@@ -3,11 +3,11 @@
 ghost use Rattle.std.specs.Prelude.{length, ◌≡◌, ◌<◌, ◌^◌, ◌+◌, None, Ok, OnOk, OnErr, IfOk, IfErr, true, false, cond, nat_eq};
 ghost use Rattle.fuse_spec.specs.Uniques.{numbers_left_from};
 ghost use Rattle.fuse_spec.specs.declared.Opened.{Opened};
-ghost use Rattle.fuse_spec.specs.Kernel.{is_aborted, call_begun};
+ghost use Rattle.fuse_spec.specs.Kernel.{is_aborted, call_begun, call_put};
 ghost use Rattle.fuse_spec.specs.Steps.{is_ready};
 ghost use Rattle.fuse_spec.specs.Vfs.{CallState as State, begun, asking, answered, numbered};
 ghost use Rattle.fk_syscalls.specs.Values.{comes_to, call_of, answer_of, ClosesNone};
-ghost use Rattle.fk_kernel.specs.Refused.{or_no_memory, begin_refusal};
+ghost use Rattle.fk_kernel.specs.Refused.{or_no_memory, begin_refusal, begun_refusal};
 ghost use Rattle.fuse_spec.specs.QueueCalls.{after_enqueue};
 
 use crate::kernel::KernelOf;
@@ -22,7 +22,8 @@ const COUNTER_END: u64 = 0x4000_0000_0000_0000;
 const ENOTCONN: u32 = 107;
 
 impl<Q: QueueTable<Purpose> + Drop> KernelOf<Q> {
-    /// Begins a call and gives its number. It is answered at once, or its first request is queued.
+    /// Begins a call and gives its number. It is answered at once, or its first request is queued. Where files may not be listed
+    /// with their names, the names are listed alone.
     ///
     /// # Errors
     ///
@@ -33,7 +34,7 @@ impl<Q: QueueTable<Purpose> + Drop> KernelOf<Q> {
         ensures refusal { IfErr result (λ refusal. refusal ≡ or_no_memory (begin_refusal self.old (call_of call.now))) }
         ensures judged { OnOk result (begin_refusal self.old (call_of call.now) ≡ None) }
         ensures number { IfOk result (λ n. n ≡ self.old.vfs.next_call) }
-        ensures begun { OnOk result (self.new ≡ call_begun self.old (call_of call.now)) }
+        ensures begun { OnOk result (self.new ≡ call_put self.old (call_of call.now)) }
     {
         if !self.is_ready() {
             return Err(Refusal::NotReady);
@@ -44,7 +45,8 @@ impl<Q: QueueTable<Purpose> + Drop> KernelOf<Q> {
         if self.next_call >= COUNTER_END {
             return Err(Refusal::Exhausted);
         }
-        self.begin_next(call)
+        let put = call.spoken(self.lists_files);
+        self.begin_next(&put)
     }
 
     /// A call of the next number begins: it is answered at once, or it asks its first request.
@@ -53,8 +55,8 @@ impl<Q: QueueTable<Purpose> + Drop> KernelOf<Q> {
         requires few { length self.old.vfs.calls < 64 }
         requires ready { is_ready self.old.phase ≡ true }
         ensures err { OnErr result (self.new ≡ self.old) }
-        ensures refusal { IfErr result (λ refusal. refusal ≡ or_no_memory (begin_refusal self.old (call_of call.now))) }
-        ensures judged { OnOk result (begin_refusal self.old (call_of call.now) ≡ None) }
+        ensures refusal { IfErr result (λ refusal. refusal ≡ or_no_memory (begun_refusal self.old (call_of call.now))) }
+        ensures judged { OnOk result (begun_refusal self.old (call_of call.now) ≡ None) }
         ensures number { IfOk result (λ n. n ≡ self.old.vfs.next_call) }
         ensures begun { OnOk result (self.new ≡ call_begun self.old (call_of call.now)) }
     {

@@ -5,22 +5,24 @@ ghost use Rattle.fuse_spec.specs.Answers.{failed};
 ghost use Rattle.fuse_spec.specs.Maps.{get, remove};
 ghost use Rattle.fuse_spec.specs.Vfs.{CallState as State, walking, doing, asked, answered, bound};
 ghost use Rattle.fuse_spec.specs.Walks.{WalkPlan};
-ghost use Rattle.fuse_spec.specs.Numbers.{max_validity};
+ghost use Rattle.fuse_spec.specs.Numbers.{counter_end, max_validity};
 ghost use Rattle.fuse_spec.specs.Operations as reply;
 ghost use Rattle.fuse_spec.specs.Operations.{opening};
 ghost use Rattle.fuse_spec.specs.Paths.{Name};
-ghost use Rattle.fuse_spec.specs.Replies.{usable, use_of, learnt, reply_written};
+ghost use Rattle.fuse_spec.specs.Replies.{usable, use_of, counted_more, learnt, reply_written};
 ghost use Rattle.fuse_spec.specs.declared.Opened.{Opened as OpenedFile};
 ghost use Rattle.fk_kernel.specs.Refused.{is_past_end};
 ghost use Rattle.fuse_spec.specs.QueueCalls.{after_forget, waiting, without};
 ghost use Rattle.std.specs.Option.{ForSome};
 ghost use Rattle.fuse_spec.specs.Maps.{Place, put_name};
-ghost use Rattle.fk_kernel.specs.Entries.{place_of, Awaits, LooksUp, Makes, Creates, Opens, use_meant};
+ghost use Rattle.fk_kernel.specs.Entries.{place_of, Awaits, LooksUp, Makes, Creates, Opens, nodes_heard};
+ghost use Rattle.fk_nodes.specs.Learning.{is_out};
+ghost use Rattle.fk_nodes.specs.Uses.{use_meant};
 
-use crate::counted_nodes::CountedNodes;
 use crate::kernel::KernelOf;
 use fk_calls::{StoredAnswer, bind_missing};
 use fk_dentry::Bindings;
+use fk_nodes::{CountedNodes, EntryUse};
 use fk_queues::QueueTable;
 use fk_syscalls::{Answer, Asked, CallState, Next};
 use fuse_spec::{Entry, Opened, Purpose, Refusal, WriteResult};
@@ -30,16 +32,6 @@ use std::alloc::{AllocError, Allocator};
 const ENOENT: u32 = 2;
 
 const EIO: u32 = 5;
-
-/// Whether an entry can be used.
-#[derive(Clone, Copy)]
-pub(crate) enum EntryUse {
-    Usable,
-    /// It names the root or no node.
-    Useless,
-    /// Its node is counted under another generation.
-    Stale,
-}
 
 /// The word or name that a call asks for leads to the node of an entry until a time, and one lookup more of the node is counted.
 fn bind_entry<A: Allocator + Copy>(
@@ -92,6 +84,7 @@ impl<Q: QueueTable<Purpose> + Drop> KernelOf<Q> {
         requires awaits { Awaits (get self.old.vfs.calls call) (reply.found entry.now valid_ms) }
         requires day { valid_ms ≤ max_validity }
         requires within { is_past_end (reply_written self.old unique (reply.found entry.now valid_ms)).1 ≡ false }
+        requires counts { is_out (nodes_heard self.old.nodes (reply.found entry.now valid_ms)) ≡ false }
         ensures err { OnErr result (self.new ≡ self.old) }
         ensures refusal { IfErr result (λ refusal. refusal ≡ Refusal.NoMemory) }
         ensures ok { OnOk result (reply_written self.old unique (reply.found entry.now valid_ms) ≡ (WriteResult.Accepted, self.new)) }
@@ -125,6 +118,7 @@ impl<Q: QueueTable<Purpose> + Drop> KernelOf<Q> {
         requires waits { waiting self.old.queues unique ≡ Some (Purpose.Call call) }
         requires creates { Creates (get self.old.vfs.calls call) }
         requires day { valid_ms ≤ max_validity }
+        requires counts { is_out (nodes_heard self.old.nodes (reply.created entry.now valid_ms fh)) ≡ false }
         ensures err { OnErr result (self.new ≡ self.old) }
         ensures refusal { IfErr result (λ refusal. refusal ≡ Refusal.NoMemory) }
         ensures ok { OnOk result (reply_written self.old unique (reply.created entry.now valid_ms fh) ≡ (WriteResult.Accepted, self.new)) }
@@ -154,13 +148,7 @@ impl<Q: QueueTable<Purpose> + Drop> KernelOf<Q> {
     pub(crate) fn use_of(&self, entry: &Entry) -> EntryUse
         ensures { use_meant entry.now.nodeid result ≡ use_of self.now.nodes entry.now }
     {
-        if entry.nodeid < 2 {
-            return EntryUse::Useless;
-        }
-        match self.nodes.generation_of(entry.nodeid) {
-            Some(generation) if generation != entry.generation => EntryUse::Stale,
-            _ => EntryUse::Usable,
-        }
+        self.nodes.use_of(entry)
     }
 
     /// The one lookup of an entry that cannot be used is forgotten at once, and the call is answered EIO.
@@ -204,6 +192,7 @@ impl<Q: QueueTable<Purpose> + Drop> KernelOf<Q> {
         requires waits { waiting self.old.queues unique ≡ Some (Purpose.Call call) }
         requires looks_up { LooksUp (get self.old.vfs.calls call) }
         requires usable { use_of self.old.nodes entry.now ≡ usable }
+        requires fits { (counted_more entry.now (get self.old.nodes entry.now.nodeid)).count < counter_end }
         requires day { valid_ms ≤ max_validity }
         requires within { is_past_end (reply_written self.old unique (reply.found entry.now valid_ms)).1 ≡ false }
         ensures err { OnErr result (self.new ≡ self.old) }
@@ -254,6 +243,7 @@ impl<Q: QueueTable<Purpose> + Drop> KernelOf<Q> {
         requires waits { waiting self.old.queues unique ≡ Some (Purpose.Call call) }
         requires makes { Makes (get self.old.vfs.calls call) }
         requires usable { use_of self.old.nodes entry.now ≡ usable }
+        requires fits { (counted_more entry.now (get self.old.nodes entry.now.nodeid)).count < counter_end }
         requires day { valid_ms ≤ max_validity }
         ensures err { OnErr result (self.new ≡ self.old) }
         ensures refusal { IfErr result (λ refusal. refusal ≡ Refusal.NoMemory) }
@@ -289,6 +279,7 @@ impl<Q: QueueTable<Purpose> + Drop> KernelOf<Q> {
         requires waits { waiting self.old.queues unique ≡ Some (Purpose.Call call) }
         requires creates { Creates (get self.old.vfs.calls call) }
         requires usable { use_of self.old.nodes entry.now ≡ usable }
+        requires fits { (counted_more entry.now (get self.old.nodes entry.now.nodeid)).count < counter_end }
         requires day { valid_ms ≤ max_validity }
         ensures err { OnErr result (self.new ≡ self.old) }
         ensures refusal { IfErr result (λ refusal. refusal ≡ Refusal.NoMemory) }

@@ -1,9 +1,9 @@
 //! How nodes are given up, and forgets are read.
 
 ghost use Rattle.std.specs.Prelude.{◌≡◌, Some, None, OnOk, OnErr, IfOk, IfErr, map};
-ghost use Rattle.fuse_spec.specs.Kernel.{evicted};
+ghost use Rattle.fuse_spec.specs.Kernel.{evicted, forgets_read};
 ghost use Rattle.fuse_spec.specs.Maps.{get};
-ghost use Rattle.fuse_spec.specs.QueueCalls.{first_forgets, after_read_forgets};
+ghost use Rattle.fuse_spec.specs.QueueCalls.{after_read_forgets};
 ghost use Rattle.fuse_spec.specs.declared.Counted.{Counted};
 ghost use Rattle.fk_kernel.specs.Refused.{or_no_memory};
 ghost use Rattle.fk_kernel.specs.RefusedUpkeep.{evict_refusal, read_forgets_refusal, IsForgetFrame};
@@ -13,7 +13,7 @@ use crate::open_files::is_releasing;
 use fk_calls::is_node_in_use;
 use fk_queues::{Forgets, QueueTable};
 use fuse_frames::RequestFrame;
-use fuse_spec::{Purpose, Refusal};
+use fuse_spec::{Minor, Purpose, Refusal};
 use std::alloc::AllocError;
 
 impl<Q: QueueTable<Purpose> + Drop> KernelOf<Q> {
@@ -59,11 +59,22 @@ impl<Q: QueueTable<Purpose> + Drop> KernelOf<Q> {
         }
     }
 
+    /// The first forgets that may be read as one frame, with its number.
+    fn first_forgets(&self, count: u64) -> Option<(u64, Forgets)>
+        ensures { result ≡ forgets_read self.now count }
+    {
+        match self.minor {
+            // It has no BATCH_FORGET (linux/fuse.h).
+            Minor::M15 if count > 1 => None,
+            Minor::M15 | Minor::M31 => self.queues.first_forgets(count as usize),
+        }
+    }
+
     /// The first forgets, with the number of their frame, or why they cannot be read.
     fn forgets_to_read(&self, count: u64) -> Result<(u64, Forgets), Refusal>
         ensures refusal { IfErr result (λ refusal. read_forgets_refusal self.now count ≡ Some refusal) }
         ensures judged { OnOk result (read_forgets_refusal self.now count ≡ None) }
-        ensures read { IfOk result (λ read. first_forgets self.now.queues count ≡ Some read) }
+        ensures read { IfOk result (λ read. forgets_read self.now count ≡ Some read) }
     {
         if !self.is_live() {
             return Err(Refusal::NotReady);
@@ -71,7 +82,7 @@ impl<Q: QueueTable<Purpose> + Drop> KernelOf<Q> {
         if self.queues.first_interrupt().is_some() {
             return Err(Refusal::InterruptFirst);
         }
-        let Some(read) = self.queues.first_forgets(count as usize) else {
+        let Some(read) = self.first_forgets(count) else {
             return Err(Refusal::NoSuch);
         };
         if self.queues.numbers_left() == 0 {
@@ -81,8 +92,8 @@ impl<Q: QueueTable<Purpose> + Drop> KernelOf<Q> {
     }
 
     /// Why so many forgets cannot be read as one frame, want of memory aside: `NotReady` where the mount is not live,
-    /// `InterruptFirst` while an INTERRUPT is queued, `NoSuch` for 0, for more than 64 and for more than are queued,
-    /// `Exhausted` where no number is left.
+    /// `InterruptFirst` while an INTERRUPT is queued, `NoSuch` for 0, for more than 64 and for more than are queued, and for
+    /// more than 1 after 7.15, `Exhausted` where no number is left.
     pub fn read_forgets_refusal(&self, count: u64) -> Option<Refusal>
         ensures { result ≡ read_forgets_refusal self.now count }
     {

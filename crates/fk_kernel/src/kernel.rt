@@ -1,17 +1,20 @@
 //! The kernel.
 
-ghost use Rattle.std.specs.Prelude.{◌≡◌, ◌<◌, ◌+◌, [], None, Ok, OnOk, OnErr, IfErr, false};
+ghost use Rattle.std.specs.Prelude.{◌≡◌, ◌<◌, ◌+◌, [], None, Ok, OnOk, OnErr, IfErr, T, false};
 ghost use Rattle.fuse_spec.specs.Kernel.{is_live, is_aborted, kernel_mounted};
-ghost use Rattle.fuse_spec.specs.Steps.{is_ready, is_busy};
+ghost use Rattle.fuse_spec.specs.Steps.{is_ready, is_busy, is_counted_out};
+ghost use Rattle.fk_nodes.specs.Learning.{AreBelow};
+ghost use Rattle.std.specs.FinMap.{is_sorted};
+ghost use Rattle.std.specs.Ordering.{nat_cmp};
 ghost use Rattle.fuse_spec.specs.Worlds.{first_kernel};
 ghost use Rattle.fk_kernel.specs.Refused.{is_past_end, or_no_memory, mount_refusal};
 
-use crate::counted_nodes::CountedNodes;
 use fk_calls::StoredAnswer;
 use fk_dentry::Bindings;
+use fk_nodes::CountedNodes;
 use fk_queues::{QueueTable, Queues};
 use fk_syscalls::CallState;
-use fuse_spec::{Opened, Phase, Purpose, Refusal};
+use fuse_spec::{Minor, Opened, Phase, Purpose, Refusal};
 use fuse_tables::Table;
 use std::alloc::Global;
 use std::marker::Model;
@@ -33,6 +36,10 @@ pub struct KernelOf<Q: QueueTable<Purpose>> {
     pub(crate) nodes: CountedNodes<Q::Heap>,
     pub(crate) next_call: u64,
     pub(crate) clock: u64,
+    /// The minor that INIT agreed on.
+    pub(crate) minor: Minor,
+    /// Whether files may be listed with their names.
+    pub(crate) lists_files: bool,
 }
 
 /// The kernel of the program.
@@ -47,7 +54,7 @@ impl<Q: QueueTable<Purpose>> Model for KernelOf<Q> {
 
     ghost coded = { Prim.hlevel (codes) };
 
-    ghost view = { λ k. record { phase = k.phase; vfs = record { calls = k.calls.entries; names = k.names.names; opens = k.opens.entries; answers = k.answers.entries; next_call = k.next_call; clock = k.clock; root = 1 }; queues = Q.state k.queues; nodes = k.nodes; closing = k.closing.entries } };
+    ghost view = { λ k. record { phase = k.phase; vfs = record { calls = k.calls.entries; names = k.names.names; opens = k.opens.entries; answers = k.answers.entries; next_call = k.next_call; clock = k.clock; root = 1 }; queues = Q.state k.queues; nodes = k.nodes; closing = k.closing.entries; minor = k.minor; lists_files = k.lists_files } };
 
     ghost invariant = { λ k. IsSoundKernel k.phase k.calls.entries k.answers.entries k.answers.room k.next_call k.opens.entries k.closing.entries (Q.state k.queues) (Q.room k.queues) k.nodes k.clock };
 }
@@ -69,6 +76,8 @@ impl<Q: QueueTable<Purpose> + Drop> KernelOf<Q> {
             nodes: CountedNodes::new(alloc),
             next_call: 1,
             clock: 0,
+            minor: Minor::M15,
+            lists_files: false,
         }
     }
 
@@ -78,6 +87,16 @@ impl<Q: QueueTable<Purpose> + Drop> KernelOf<Q> {
     {
         // A field is touched so that the type's invariant is at hand.
         let _ = &self.next_call;
+    }
+
+    /// No node's count has come to the end of counters, and nodes stand in rising id. A call without effect, made where a proof
+    /// rests on that.
+    pub fn counts_within(&self)
+        ensures sorted { T (is_sorted nat_cmp self.now.nodes) }
+        ensures below { AreBelow self.now.nodes }
+        ensures none_out { is_counted_out self.now ≡ false }
+    {
+        self.nodes.are_sorted();
     }
 
     pub(crate) fn is_live(&self) -> bool
@@ -105,7 +124,8 @@ impl<Q: QueueTable<Purpose> + Drop> KernelOf<Q> {
         matches!(self.phase, Phase::Aborted)
     }
 
-    /// Mounts anew: everything of the old mount is given up, without forgets, and INIT is queued (this project's rule).
+    /// Mounts anew: everything of the old mount is given up, without forgets, and INIT is queued. Until it is answered no more is
+    /// spoken than 7.15 has (this project's rule).
     ///
     /// # Errors
     ///
@@ -132,6 +152,8 @@ impl<Q: QueueTable<Purpose> + Drop> KernelOf<Q> {
         self.names.clear();
         self.nodes.clear();
         self.phase = Phase::Starting;
+        self.minor = Minor::M15;
+        self.lists_files = false;
         Ok(())
     }
 }

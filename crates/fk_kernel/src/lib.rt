@@ -5,10 +5,10 @@
 mod aborting;
 mod answers;
 mod beginning;
-mod counted_nodes;
 mod entries;
 mod forgetting;
 mod kernel;
+mod listing;
 mod open_files;
 mod passing;
 mod reading;

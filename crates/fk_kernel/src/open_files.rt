@@ -13,7 +13,7 @@ ghost use Rattle.fuse_spec.specs.Vfs.{CallState as State, answered};
 ghost use Rattle.fk_syscalls.specs.States.{used_by};
 ghost use Rattle.fk_syscalls.specs.Values.{answer_of};
 ghost use Rattle.fk_kernel.specs.Entries.{EndsWithin, EndsPast};
-ghost use Rattle.fk_kernel.specs.Refused.{begin_refusal, or_no_memory};
+ghost use Rattle.fk_kernel.specs.Refused.{begun_refusal, or_no_memory};
 
 use crate::kernel::KernelOf;
 use fk_calls::{MAX_CALLS, StoredAnswer, is_in_other_use, is_in_use};
@@ -64,8 +64,8 @@ impl<Q: QueueTable<Purpose> + Drop> KernelOf<Q> {
         requires ready { is_ready self.old.phase ≡ true }
         requires not_aborted { is_aborted self.old.phase ≡ false }
         ensures err { OnErr result (self.new ≡ self.old) }
-        ensures refusal { IfErr result (λ refusal. refusal ≡ or_no_memory (begin_refusal self.old (call.close handle))) }
-        ensures judged { OnOk result (begin_refusal self.old (call.close handle) ≡ None) }
+        ensures refusal { IfErr result (λ refusal. refusal ≡ or_no_memory (begun_refusal self.old (call.close handle))) }
+        ensures judged { OnOk result (begun_refusal self.old (call.close handle) ≡ None) }
         ensures number { IfOk result (λ n. n ≡ self.old.vfs.next_call) }
         ensures begun { OnOk result (self.new ≡ call_begun self.old (call.close handle)) }
     {
@@ -89,8 +89,8 @@ impl<Q: QueueTable<Purpose> + Drop> KernelOf<Q> {
         requires open { get self.old.vfs.opens handle ≡ Some opened }
         requires idle { is_used self.old handle ≡ false }
         ensures err { OnErr result (self.new ≡ self.old) }
-        ensures refusal { IfErr result (λ refusal. refusal ≡ or_no_memory (begin_refusal self.old (call.close handle))) }
-        ensures judged { OnOk result (begin_refusal self.old (call.close handle) ≡ None) }
+        ensures refusal { IfErr result (λ refusal. refusal ≡ or_no_memory (begun_refusal self.old (call.close handle))) }
+        ensures judged { OnOk result (begun_refusal self.old (call.close handle) ≡ None) }
         ensures number { IfOk result (λ n. n ≡ self.old.vfs.next_call) }
         ensures begun { OnOk result (self.new ≡ call_begun self.old (call.close handle)) }
     {
@@ -123,8 +123,8 @@ impl<Q: QueueTable<Purpose> + Drop> KernelOf<Q> {
         requires open { get self.old.vfs.opens handle ≡ Some opened }
         requires used { is_used self.old handle ≡ true }
         ensures err { OnErr result (self.new ≡ self.old) }
-        ensures refusal { IfErr result (λ refusal. refusal ≡ or_no_memory (begin_refusal self.old (call.close handle))) }
-        ensures judged { OnOk result (begin_refusal self.old (call.close handle) ≡ None) }
+        ensures refusal { IfErr result (λ refusal. refusal ≡ or_no_memory (begun_refusal self.old (call.close handle))) }
+        ensures judged { OnOk result (begun_refusal self.old (call.close handle) ≡ None) }
         ensures number { IfOk result (λ n. n ≡ self.old.vfs.next_call) }
         ensures begun { OnOk result (self.new ≡ call_begun self.old (call.close handle)) }
     {

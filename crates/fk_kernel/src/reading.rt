@@ -112,6 +112,9 @@ fn asked_frame<A: Allocator + Copy>(
         Asked::Readdir { directory, after } => {
             RequestFrame::readdir(alloc, unique, *directory, *after, MAX_TRANSFER)
         }
+        Asked::Readdirplus { directory, after } => {
+            RequestFrame::readdirplus(alloc, unique, *directory, *after, MAX_TRANSFER)
+        }
         Asked::Open { node } => RequestFrame::open(alloc, unique, *node),
         Asked::Read {
             opened,

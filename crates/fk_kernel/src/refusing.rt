@@ -1,18 +1,19 @@
-//! Whether a reply would have a request queued for which no number is left.
+//! Whether a reply would have a request queued for which no number is left, or bring a node's count to the end of counters.
 
-ghost use Rattle.std.specs.Prelude.{◌≡◌, ◌≤◌, ◌%◌, Some, IfSome, IfNone, true, false, nat_eq};
+ghost use Rattle.std.specs.Prelude.{◌≡◌, ◌≤◌, ◌%◌, [], ◌∷◌, Some, IfSome, IfNone, true, false, nat_eq};
 ghost use Rattle.fuse_spec.specs.Maps.{get};
 ghost use Rattle.fuse_spec.specs.Numbers.{max_validity};
 ghost use Rattle.fuse_spec.specs.Operations as reply;
 ghost use Rattle.fuse_spec.specs.QueueCalls.{waiting};
-ghost use Rattle.fuse_spec.specs.Replies.{usable, use_of, reply_written};
-ghost use Rattle.fk_kernel.specs.Entries.{Awaits, EndsWithin, LooksUp};
-ghost use Rattle.fk_kernel.specs.Refused.{is_past_end, PassesEnd, WritePasses};
+ghost use Rattle.fuse_spec.specs.Replies.{usable, first_use, use_of, reply_written};
+ghost use Rattle.fk_kernel.specs.Entries.{Awaits, EndsWithin, LooksUp, IsFew, learnt_by_all, nodes_heard};
+ghost use Rattle.fk_nodes.specs.Learning.{is_out};
+ghost use Rattle.fk_kernel.specs.Refused.{is_past, is_past_end, PassesEnd, WritePasses};
 ghost use Rattle.fk_said.specs.ReplySaid.{wire_of, LastsADay};
 ghost use Rattle.fk_kernel.specs.Said.{awaited_by_call};
 
-use crate::entries::EntryUse;
 use crate::kernel::KernelOf;
+use fk_nodes::EntryUse;
 use fk_queues::QueueTable;
 use fk_said::{ReplySaid, said_to};
 use fk_syscalls::{Asked, NewName};
@@ -21,12 +22,13 @@ use fuse_spec::{Entry, Purpose, Refusal};
 
 impl<Q: QueueTable<Purpose> + Drop> KernelOf<Q> {
     /// Why `write` would refuse these bytes, want of memory aside: `Exhausted` where no number is left for the request that
-    /// they would have queued. Takes no memory.
+    /// they would have queued, or a node's count would come to the end of counters. Takes no memory.
     pub fn write_refusal(&self, bytes: &[u8]) -> Option<Refusal>
         ensures refused { IfSome result (λ refusal. (refusal ≡ Refusal.Exhausted) × WritePasses self.now bytes.now) }
         ensures none { IfNone result (WritePasses self.now bytes.now → ⊥) }
     {
         self.within();
+        self.counts_within();
         let Ok((_, unique)) = read_reply_head(bytes) else {
             return None;
         };
@@ -49,7 +51,8 @@ impl<Q: QueueTable<Purpose> + Drop> KernelOf<Q> {
         }
     }
 
-    /// Whether what the bytes say to the request of a call would have one queued for which no number is left.
+    /// Whether what the bytes say to the request of a call would have one queued for which no number is left, or bring a node's
+    /// count to the end of counters.
     fn call_passes_end(&self, unique: u64, call: u64, bytes: &[u8]) -> bool
         requires even { nat_eq (unique % 2) 1 ≡ false }
         requires waits { waiting self.now.queues unique ≡ Some (Purpose.Call call) }
@@ -57,6 +60,7 @@ impl<Q: QueueTable<Purpose> + Drop> KernelOf<Q> {
         ensures within { result ≡ false → PassesEnd self.now unique bytes.now (awaited_by_call (get self.now.vfs.calls call)) → ⊥ }
     {
         self.within();
+        self.counts_within();
         let Some(waiting) = self.calls.get(call) else {
             return false;
         };
@@ -65,13 +69,59 @@ impl<Q: QueueTable<Purpose> + Drop> KernelOf<Q> {
             return true;
         }
         match said {
-            Some(said) => self.walks_past(unique, call, &said),
+            Some(said) => self.said_past(unique, call, &said),
             None => false,
         }
     }
 
+    /// Whether what is said to a call would bring a node's count to the end of counters, or have a request queued for which no
+    /// number is left.
+    pub(crate) fn said_past(&self, unique: u64, call: u64, said: &ReplySaid<'_>) -> bool
+        requires even { nat_eq (unique % 2) 1 ≡ false }
+        requires waits { waiting self.now.queues unique ≡ Some (Purpose.Call call) }
+        requires awaits { Awaits (get self.now.vfs.calls call) (wire_of said.now) }
+        requires few { IsFew (wire_of said.now) }
+        requires day { LastsADay said.now }
+        requires ends { EndsWithin self.now call }
+        ensures past { result ≡ true → is_past (reply_written self.now unique (wire_of said.now)).1 ≡ true }
+        ensures stays { result ≡ false → is_past (reply_written self.now unique (wire_of said.now)).1 ≡ false }
+        ensures within { result ≡ false → is_past_end (reply_written self.now unique (wire_of said.now)).1 ≡ false }
+        ensures counts { result ≡ false → is_out (nodes_heard self.now.nodes (wire_of said.now)) ≡ false }
+    {
+        if self.counts_past(said) {
+            return true;
+        }
+        self.walks_past(unique, call, said)
+    }
+
+    /// Whether what is said to a call would bring a node's count to the end of counters.
+    fn counts_past(&self, said: &ReplySaid<'_>) -> bool
+        requires { IsFew (wire_of said.now) }
+        ensures { result ≡ is_out (nodes_heard self.now.nodes (wire_of said.now)) }
+    {
+        self.counts_within();
+        match said {
+            ReplySaid::Found { entry, .. } => self.entry_past(entry),
+            ReplySaid::Created { entry, .. } => self.entry_past(entry),
+            ReplySaid::ListedPlus(pairs) => self.nodes.listed_count_out(*pairs),
+            _ => false,
+        }
+    }
+
+    /// Whether an entry would bring its node's count to the end of counters.
+    fn entry_past(&self, entry: &Entry) -> bool
+        ensures { result ≡ is_out (learnt_by_all self.now.nodes (entry.now ∷ []) (first_use (use_of self.now.nodes entry.now) usable)) }
+    {
+        self.counts_within();
+        match self.use_of(entry) {
+            EntryUse::Usable => self.nodes.counts_out(entry),
+            EntryUse::Useless => false,
+            EntryUse::Stale => false,
+        }
+    }
+
     /// Whether a call to which this is said would walk on to a request for which no number is left.
-    pub(crate) fn walks_past(&self, unique: u64, call: u64, said: &ReplySaid<'_>) -> bool
+    fn walks_past(&self, unique: u64, call: u64, said: &ReplySaid<'_>) -> bool
         requires even { nat_eq (unique % 2) 1 ≡ false }
         requires waits { waiting self.now.queues unique ≡ Some (Purpose.Call call) }
         requires awaits { Awaits (get self.now.vfs.calls call) (wire_of said.now) }

@@ -6,7 +6,8 @@ ghost use Rattle.fuse_spec.specs.Operations as reply;
 ghost use Rattle.fuse_spec.specs.QueueCalls.{waiting};
 ghost use Rattle.fuse_spec.specs.Replies.{reply_written};
 ghost use Rattle.fuse_spec.specs.declared.Opened.{Opened as OpenedFile};
-ghost use Rattle.fk_kernel.specs.Entries.{Awaits, EndsWithin};
+ghost use Rattle.fk_kernel.specs.Entries.{Awaits, EndsWithin, IsFew, nodes_heard};
+ghost use Rattle.fk_nodes.specs.Learning.{is_out};
 ghost use Rattle.fk_kernel.specs.Refused.{IsWriteRefusal, PassesEnd, is_past_end};
 ghost use Rattle.fk_said.specs.ReplySaid.{wire_of, LastsADay};
 ghost use Rattle.fk_kernel.specs.Said.{Says, SaysNothing, awaited_by_call, wrong_body, IsTaken};
@@ -54,7 +55,7 @@ impl<Q: QueueTable<Purpose> + Drop> KernelOf<Q> {
             self.end_call(unique, call, Answer::Failed { errno: EIO });
             return Ok(told);
         };
-        if self.walks_past(unique, call, &said) {
+        if self.said_past(unique, call, &said) {
             return Err(Refusal::Exhausted);
         }
         match self.replied(unique, call, said) {
@@ -70,7 +71,9 @@ impl<Q: QueueTable<Purpose> + Drop> KernelOf<Q> {
         requires awaits { Awaits (get self.old.vfs.calls call) (wire_of said) }
         requires day { LastsADay said }
         requires ends { EndsWithin self.old call }
+        requires few { IsFew (wire_of said) }
         requires within { is_past_end (reply_written self.old unique (wire_of said)).1 ≡ false }
+        requires counts { is_out (nodes_heard self.old.nodes (wire_of said)) ≡ false }
         ensures err { OnErr result (self.new ≡ self.old) }
         ensures refusal { IfErr result (λ refusal. refusal ≡ Refusal.NoMemory) }
         ensures ok { OnOk result (reply_written self.old unique (wire_of said.entry) ≡ (WriteResult.Accepted, self.new)) }
@@ -89,6 +92,7 @@ impl<Q: QueueTable<Purpose> + Drop> KernelOf<Q> {
                 Ok(())
             }
             ReplySaid::Listed(records) => self.listed(unique, call, records),
+            ReplySaid::ListedPlus(pairs) => self.pairs_listed(unique, call, pairs),
             ReplySaid::Content(bytes) => self.content_read(unique, call, bytes),
             ReplySaid::Done => {
                 self.names_go(unique, call);

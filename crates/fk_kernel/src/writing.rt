@@ -9,7 +9,7 @@ ghost use Rattle.fuse_spec.specs.QueueCalls.{after_interrupt_reply, waiting};
 
 use crate::kernel::KernelOf;
 use fk_queues::QueueTable;
-use fk_said::{InterruptSaid, agrees, said_to_init, said_to_interrupt};
+use fk_said::{InterruptSaid, agrees, files_agreed, minor_agreed, said_to_init, said_to_interrupt};
 use fk_wire::{Opcode, read_reply_head};
 use fuse_spec::{Phase, Purpose, Refusal, WriteResult};
 
@@ -22,8 +22,8 @@ impl<Q: QueueTable<Purpose> + Drop> KernelOf<Q> {
     ///
     /// # Errors
     ///
-    /// `Exhausted` where no number is left for the request that would be queued, as `write_refusal` says; then `NoMemory`. The
-    /// kernel is as before.
+    /// `Exhausted` where no number is left for the request that would be queued, or a node's count would come to the end of
+    /// counters, as `write_refusal` says; then `NoMemory`. The kernel is as before.
     pub fn write(&mut self, bytes: &[u8]) -> Result<WriteResult, Refusal>
         ensures err { OnErr result (self.new ≡ self.old) }
         ensures refusal { HasReplyHead bytes.now → IfErr result (WriteRefused self.old bytes.now) }
@@ -79,8 +79,8 @@ impl<Q: QueueTable<Purpose> + Drop> KernelOf<Q> {
         }
     }
 
-    /// A reply to INIT: an agreement on 7.31 or later makes the mount ready. Any other reply, and bytes that are none, abort it
-    /// (this project's rule).
+    /// A reply to INIT: an agreement on 7.15, or on 7.31 or later, makes the mount ready. Any other reply, and bytes that are none,
+    /// abort it (this project's rule).
     fn write_to_init(&mut self, unique: u64, bytes: &[u8]) -> WriteResult
         requires even { nat_eq (unique % 2) 1 ≡ false }
         requires waits { waiting self.old.queues unique ≡ Some Purpose.Init }
@@ -93,6 +93,8 @@ impl<Q: QueueTable<Purpose> + Drop> KernelOf<Q> {
         };
         if agrees(&said) {
             let _kept = self.queues.answer(unique);
+            self.minor = minor_agreed(&said);
+            self.lists_files = files_agreed(&said);
             self.phase = Phase::Ready;
         } else {
             self.give_up();

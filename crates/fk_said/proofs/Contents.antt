@@ -4,18 +4,18 @@ use Rattle.std.specs.Prelude.{nat_le, sum_by, ℤ, pos, IfSome, IfNone}
 use Rattle.std.specs.Option.{MatchOption}
 use Rattle.fuse_spec.specs.Messages.{WireReply}
 use Rattle.fuse_spec.specs.Operations as reply
-use Rattle.fk_wire.specs.Dirents.{DirentContent, DirentPlusContent, dirents}
+use Rattle.fk_wire.specs.Dirents.{DirentContent, DirentPlusContent, dirent_fields, dirents, direntpluses}
 use Rattle.fk_wire.specs.RecordEnds.{padding}
-use Rattle.fk_wire.specs.Entries.{missing, found}
-use Rattle.fk_wire.specs.Fields.{ReadsAs}
+use Rattle.fk_wire.specs.Entries.{EntryContent, missing, found, entry_fields}
+use Rattle.fk_wire.specs.Fields.{Field, ReadsAs}
 use Rattle.std.proofs.lemmas.List.Sums.{sum_by-cons}
 use Rattle.fk_wire.specs.Opcodes.{served}
 use Rattle.fk_wire.specs.Replies.{ReplyContent, empty_reply, entry_reply, attr_reply, open_reply, bytes_reply, write_reply, init_reply, create_reply, records_reply, plus_reply, reply_kind, kind_of_content, reply_body, SpellsReply}
 use Rattle.fuse_spec.specs.declared.Opened.{Opened}
-use Rattle.fuse_spec.specs.Operations.{Operation, lookup, getattr, mkdir, create, unlink, rmdir, rename, link, opening, readdir, read, write}
+use Rattle.fuse_spec.specs.Operations.{Operation, lookup, getattr, mkdir, create, unlink, rmdir, rename, link, opening, readdir, readdirplus, read, write}
 use Rattle.fuse_spec.specs.Replies.{goes_with}
-use Rattle.fuse_spec.specs.Trees.{record_length}
-use Rattle.fuse_frames.specs.ReplyTies.{wire_body, dirent_in}
+use Rattle.fuse_spec.specs.Trees.{record_length, pair_length}
+use Rattle.fuse_frames.specs.ReplyTies.{wire_body, dirent_in, pair_in}
 use Rattle.fk_said.specs.Said.{opcode_of, Says}
 use Rattle.fk_said.specs.ReplySaid.{is_within, IsSaidBody, wire_of, LastsADay, SaysTo}
 use Rattle.fk_said.specs.declared.reply_said.ReplySaid.{ReplySaid}
@@ -31,6 +31,26 @@ records_end (d ∷ ds) place bytes reads =
     let rest = records_end ds (place + 8 + 8 + 4 + 4 + length d.name + padding (length d.name)) bytes reads.1.1.1.1.1 in
     let pad = pad_is (length d.name) in
     let sum : sum_by record_length (map dirent_in (d ∷ ds)) ≡ (31 + length d.name) / 8 * 8 + sum_by record_length (map dirent_in ds) = sum_by-cons record_length (dirent_in d) (map dirent_in ds) in
+    omega (arith, rest, pad, sum)
+
+-- an entry has 128 bytes
+entry_end : (e : EntryContent) (after : List Field) (place : ℕ) (bytes : List ℕ) → ReadsAs place (entry_fields e after) bytes → ReadsAs (place + 128) after bytes
+entry_end (missing valid nsec) after place bytes reads =
+    let end : place + 8 + 8 + 8 + 8 + 4 + 4 + 88 ≡ place + 128 = omega arith in
+    subst (λ (p : ℕ). ReadsAs p after bytes) end reads.1.1.1
+entry_end (found nodeid generation valid nsec a) after place bytes reads =
+    let end : place + 8 + 8 + 8 + 8 + 4 + 4 + 8 + 8 + 8 + 8 + 8 + 8 + 4 + 4 + 4 + 4 + 4 + 4 + 4 + 4 + 4 + 4 ≡ place + 128 = omega arith in
+    subst (λ (p : ℕ). ReadsAs p after bytes) end reads.1.1.1.1.1.1.1.1
+
+-- and so are pairs
+pairs_end : (ps : List DirentPlusContent) (place : ℕ) (bytes : List ℕ) → ReadsAs place (direntpluses ps) bytes → length bytes ≡ place + sum_by pair_length (map pair_in ps)
+pairs_end [] place bytes reads = omega (arith, reads)
+pairs_end (p ∷ ps) place bytes reads =
+    let name = p.dirent.name in
+    let behind = entry_end p.entry_out (dirent_fields p.dirent (direntpluses ps)) place bytes reads in
+    let rest = pairs_end ps (place + 128 + 8 + 8 + 4 + 4 + length name + padding (length name)) bytes behind.1.1.1.1.1 in
+    let pad = pad_is (length name) in
+    let sum : sum_by pair_length (map pair_in (p ∷ ps)) ≡ 128 + (31 + length name) / 8 * 8 + sum_by pair_length (map pair_in ps) = sum_by-cons pair_length (pair_in p) (map pair_in ps) in
     omega (arith, rest, pad, sum)
 
 pub fits : (operation : Operation ℕ Opened) (content : ReplyContent) (bytes : List ℕ) → reply_kind served (opcode_of operation) ≡ Some (kind_of_content content) → ReadsAs 16 (reply_body content) bytes
@@ -62,6 +82,11 @@ fits (readdir d a size) (records_reply ds) bytes is reads =
     let same : sum_by record_length (map dirent_in ds) ≡ length bytes - 16 = omega (arith, end) in
     ap (λ (n : ℕ). nat_le n size) same
 fits (readdir d a size) content bytes is reads = cc
+fits (readdirplus d a size) (plus_reply ps) bytes is reads =
+    let end = pairs_end ps 16 bytes reads in
+    let same : sum_by pair_length (map pair_in ps) ≡ length bytes - 16 = omega (arith, end) in
+    ap (λ (n : ℕ). nat_le n size) same
+fits (readdirplus d a size) content bytes is reads = cc
 fits (read o f size) (bytes_reply b) bytes is reads =
     let same : length b ≡ length bytes - 16 = omega (arith, reads.1) in
     ap (λ (n : ℕ). nat_le n size) same
@@ -69,7 +94,7 @@ fits (read o f size) content bytes is reads = cc
 fits (write o f b) (write_reply n) bytes is reads = refl
 fits (write o f b) content bytes is reads = cc
 
--- neither INIT nor READDIRPLUS is asked by a call
+-- INIT is asked by no call
 no_init : (operation : Operation ℕ Opened) (major minor flags : ℕ) {T : Type 0} → reply_kind served (opcode_of operation) ≡ Some (kind_of_content (init_reply major minor flags)) → T
 no_init (lookup d w) major minor flags is = cc
 no_init (getattr x) major minor flags is = cc
@@ -81,26 +106,12 @@ no_init (rename d o e n) major minor flags is = cc
 no_init (link x d n) major minor flags is = cc
 no_init (opening x) major minor flags is = cc
 no_init (readdir d a z) major minor flags is = cc
+no_init (readdirplus d a z) major minor flags is = cc
 no_init (read o f z) major minor flags is = cc
 no_init (write o f b) major minor flags is = cc
 
-no_plus : (operation : Operation ℕ Opened) (ps : List DirentPlusContent) {T : Type 0} → reply_kind served (opcode_of operation) ≡ Some (kind_of_content (plus_reply ps)) → T
-no_plus (lookup d w) ps is = cc
-no_plus (getattr x) ps is = cc
-no_plus (mkdir d n) ps is = cc
-no_plus (create d n) ps is = cc
-no_plus (unlink d n) ps is = cc
-no_plus (rmdir d n) ps is = cc
-no_plus (rename d o e n) ps is = cc
-no_plus (link x d n) ps is = cc
-no_plus (opening x) ps is = cc
-no_plus (readdir d a z) ps is = cc
-no_plus (read o f z) ps is = cc
-no_plus (write o f b) ps is = cc
-
 pub said_body : (operation : Operation ℕ Opened) (content : ReplyContent) → reply_kind served (opcode_of operation) ≡ Some (kind_of_content content) → IsSaidBody content
 said_body operation (init_reply major minor flags) is = no_init operation major minor flags is
-said_body operation (plus_reply ps) is = no_plus operation ps is
 said_body operation content is = tt
 
 -- a body without an error
@@ -125,6 +136,7 @@ failed_goes (rename d o e n) errno = refl
 failed_goes (link x d n) errno = refl
 failed_goes (opening x) errno = refl
 failed_goes (readdir d a z) errno = refl
+failed_goes (readdirplus d a z) errno = refl
 failed_goes (read o f z) errno = refl
 failed_goes (write o f b) errno = refl
 

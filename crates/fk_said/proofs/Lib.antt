@@ -1,3 +1,4 @@
 pub mod Sayings
 pub mod ReplyCases
 pub mod Contents
+pub mod Agreements

@@ -38,4 +38,4 @@ says_one o bytes wire other a b =
 -- What was made of a reply to INIT is a reply to INIT.
 pub init_reply_said : (said : InitSaid) → is_init_reply (init_wire said) ≡ true
 init_reply_said (init_said.Failed errno) = refl
-init_reply_said (init_said.Agreed major minor) = refl
+init_reply_said (init_said.Agreed major minor flags) = refl

@@ -1,11 +1,13 @@
 -- What the bytes of a reply say.
 use Rattle.std.specs.Prelude.{ℕ, List}
+use Rattle.std.specs.Int.RustNames.{bit_and}
 use Rattle.fk_wire.specs.declared.opcode.Opcode.{Opcode}
 use Rattle.fk_wire.specs.declared.opcode.Opcode.TheVariants as op
 use Rattle.fk_wire.specs.Fields.{number_at}
+use Rattle.fk_wire.specs.Requests.{known_flags}
 use Rattle.fk_wire.specs.ReplyFaults.{HasReplyLength, HasError}
 use Rattle.fuse_spec.specs.declared.Opened.{Opened}
-use Rattle.fuse_spec.specs.Operations.{Operation, lookup, getattr, mkdir, create, unlink, rmdir, rename, link, opening, readdir, read, write}
+use Rattle.fuse_spec.specs.Operations.{Operation, lookup, getattr, mkdir, create, unlink, rmdir, rename, link, opening, readdir, readdirplus, read, write}
 use Rattle.fuse_spec.specs.Operations as reply
 use Rattle.fuse_spec.specs.Messages.{WireReply}
 use Rattle.fuse_frames.specs.ReplyTies.{SaysReply}
@@ -34,7 +36,7 @@ SaysNothing o bytes = (wire : WireReply) → Says o bytes wire → ⊥
 -- What was made out of a reply to INIT, as it was said.
 abbrev pub init_wire : InitSaid → WireReply
 init_wire (init_said.Failed errno) = reply.failed errno
-init_wire (init_said.Agreed major minor) = reply.agreed major minor
+init_wire (init_said.Agreed major minor flags) = reply.agreed major minor (bit_and flags.0 known_flags)
 
 -- They say what was made out of them.
 abbrev pub SaysToInit : List ℕ → InitSaid → Type 0
@@ -56,5 +58,6 @@ opcode_of (rename d old e new) = op.Rename
 opcode_of (link x d name) = op.Link
 opcode_of (opening x) = op.Open
 opcode_of (readdir d after size) = op.Readdir
+opcode_of (readdirplus d after size) = op.Readdirplus
 opcode_of (read o offset size) = op.Read
 opcode_of (write o offset bytes) = op.Write

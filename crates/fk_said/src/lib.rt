@@ -5,4 +5,6 @@ mod reply_said;
 mod said;
 
 pub use reply_said::{ReplySaid, names_listed, said_to};
-pub use said::{InitSaid, InterruptSaid, agrees, said_to_init, said_to_interrupt};
+pub use said::{
+    InitSaid, InterruptSaid, agrees, files_agreed, minor_agreed, said_to_init, said_to_interrupt,
+};

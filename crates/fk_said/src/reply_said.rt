@@ -15,7 +15,7 @@ ghost use Rattle.fk_said.specs.ReplySaid.{IsSaidBody};
 
 use crate::said::failure;
 use fk_syscalls::{Asked, ListedName};
-use fk_wire::{Opcode, Records, ReplyBody, read_reply};
+use fk_wire::{Opcode, Records, RecordsPlus, ReplyBody, read_reply};
 use fuse_frames::{attributes_of, kind_of_type, milliseconds};
 use fuse_spec::{Attributes, Entry, Kind};
 use std::alloc::{AllocError, Allocator};
@@ -46,6 +46,8 @@ pub enum ReplySaid<'a> {
     },
     Attributes(Attributes),
     Listed(Records<'a>),
+    /// Names in a list with their files.
+    ListedPlus(RecordsPlus<'a>),
     Content(&'a [u8]),
     Written {
         size: u32,
@@ -61,6 +63,7 @@ fn opcode_asked(asked: &Asked<'_>) -> Opcode
         Asked::Lookup { .. } => Opcode::Lookup,
         Asked::Getattr { .. } => Opcode::Getattr,
         Asked::Readdir { .. } => Opcode::Readdir,
+        Asked::Readdirplus { .. } => Opcode::Readdirplus,
         Asked::Open { .. } => Opcode::Open,
         Asked::Mkdir { .. } => Opcode::Mkdir,
         Asked::Create { .. } => Opcode::Create,
@@ -78,7 +81,7 @@ fn is_within_asked(asked: &Asked<'_>, len: usize, body: &ReplyBody<'_>) -> bool
     ensures { result ≡ is_within (operation_of asked.now) len (reply_content body.now) }
 {
     match asked {
-        Asked::Readdir { .. } => len.saturating_sub(16) <= 4_096,
+        Asked::Readdir { .. } | Asked::Readdirplus { .. } => len.saturating_sub(16) <= 4_096,
         Asked::Read { size, .. } => len.saturating_sub(16) <= *size as usize,
         Asked::Write { bytes, .. } => match body {
             ReplyBody::Write { size } => *size as usize <= bytes.len(),
@@ -148,7 +151,7 @@ fn said_by_create(entry: &fk_wire::Entry, fh: u64) -> ReplySaid<'static>
     }
 }
 
-/// What a body says. One of INIT or READDIRPLUS says nothing to a call.
+/// What a body says. One of INIT says nothing to a call.
 fn said_by(body: ReplyBody<'_>) -> Option<ReplySaid<'_>>
     ensures { MatchOption result (IsSaidBody (reply_content body.entry) → ⊥) (λ said. (wire_body (reply_content body.entry) ≡ wire_of said) × LastsADay said) }
 {
@@ -161,7 +164,8 @@ fn said_by(body: ReplyBody<'_>) -> Option<ReplySaid<'_>>
         ReplyBody::Write { size } => Some(ReplySaid::Written { size }),
         ReplyBody::Create { entry, fh } => Some(said_by_create(&entry, fh)),
         ReplyBody::Records { records } => Some(ReplySaid::Listed(records)),
-        ReplyBody::Init { .. } | ReplyBody::RecordsPlus { .. } => None,
+        ReplyBody::RecordsPlus { records } => Some(ReplySaid::ListedPlus(records)),
+        ReplyBody::Init { .. } => None,
     }
 }
 

@@ -6,17 +6,25 @@ ghost use Rattle.fk_wire.specs.Replies.{ReplyContent, IsErrorNumber};
 ghost use Rattle.fuse_spec.specs.Messages.{WireReply};
 ghost use Rattle.fuse_spec.specs.Operations as reply;
 ghost use Rattle.fuse_frames.specs.ReplyTies.{wire_said};
-ghost use Rattle.fuse_spec.specs.Replies.{is_agreement};
+ghost use Rattle.fuse_spec.specs.Replies.{is_agreement, minor_agreed, files_agreed};
 ghost use Rattle.fk_said.specs.Said.{Says, SaysNothing, SaysToInit, SaysToInterrupt, init_wire};
 
-use fk_wire::{Opcode, ReplyBody, read_reply};
+use bitflags::Flags;
+use fk_wire::{InitFlags, Opcode, ReplyBody, read_reply};
+use fuse_spec::Minor;
 
 /// What a reply to INIT says.
 #[derive(Drop)]
 pub enum InitSaid {
-    Failed { errno: u32 },
-    /// The version that the server states.
-    Agreed { major: u32, minor: u32 },
+    Failed {
+        errno: u32,
+    },
+    /// The version that the server states, and the flags that it takes up.
+    Agreed {
+        major: u32,
+        minor: u32,
+        flags: InitFlags,
+    },
 }
 
 /// What a reply to an INTERRUPT says.
@@ -36,13 +44,37 @@ pub(crate) fn failure(error: i32) -> Option<u32>
     Some(error.unsigned_abs())
 }
 
-/// Whether a reply to INIT agrees on major 7 and a minor from 31 up, which is taken as 31 (this project's rule).
+/// Whether a reply to INIT agrees on major 7, and on minor 15 or one from 31 up (this project's rule).
 pub fn agrees(said: &InitSaid) -> bool
     ensures { result ≡ is_agreement (init_wire said.now) }
 {
     match said {
         InitSaid::Failed { .. } => false,
-        InitSaid::Agreed { major, minor } => *major == 7 && *minor >= 31,
+        InitSaid::Agreed { major, minor, .. } => *major == 7 && (*minor == 15 || *minor >= 31),
+    }
+}
+
+/// The minor that is agreed on: one from 31 up is taken as 31 (this project's rule).
+pub fn minor_agreed(said: &InitSaid) -> Minor
+    ensures { result ≡ minor_agreed (init_wire said.now) }
+{
+    match said {
+        InitSaid::Agreed { minor: 15, .. } => Minor::M15,
+        InitSaid::Agreed { .. } | InitSaid::Failed { .. } => Minor::M31,
+    }
+}
+
+/// Whether files may be listed with their names: the server takes up FUSE_DO_READDIRPLUS, and the minor is not 15, which has no
+/// READDIRPLUS (linux/fuse.h).
+#[tactic(auto, using(crate::proofs::Agreements::readdirplus_known))]
+pub fn files_agreed(said: &InitSaid) -> bool
+    ensures { result ≡ files_agreed (init_wire said.now) }
+{
+    match said {
+        InitSaid::Failed { .. } => false,
+        InitSaid::Agreed { minor, flags, .. } => {
+            flags.intersects(InitFlags::DO_READDIRPLUS) && *minor != 15
+        }
     }
 }
 
@@ -56,10 +88,19 @@ pub fn said_to_init(bytes: &[u8]) -> Option<InitSaid>
     if let Some(errno) = failure(reply.error) {
         return Some(InitSaid::Failed { errno });
     }
-    let ReplyBody::Init { major, minor, .. } = reply.body else {
+    let ReplyBody::Init {
+        major,
+        minor,
+        flags,
+    } = reply.body
+    else {
         return None;
     };
-    Some(InitSaid::Agreed { major, minor })
+    Some(InitSaid::Agreed {
+        major,
+        minor,
+        flags,
+    })
 }
 
 /// What the bytes say to an INTERRUPT, if they are a reply to it.

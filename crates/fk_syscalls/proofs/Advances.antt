@@ -173,6 +173,7 @@ names_walked node at [] (rename old words new) = refl
 names_walked node at [] (link words name) = refl
 names_walked node at [] (last final.stat) = refl
 names_walked node at [] (last (final.list after)) = refl
+names_walked node at [] (last (final.listplus after)) = refl
 names_walked node at [] (last final.opening) = refl
 names_walked node at [] (last (final.mkdir name)) = refl
 names_walked node at [] (last (final.create name)) = refl

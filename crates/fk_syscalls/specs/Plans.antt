@@ -7,7 +7,7 @@ use Rattle.fk_syscalls.specs.Words.{words_from, IsWord, AreWords}
 use Rattle.fk_syscalls.specs.declared.plan.Change.{Change}
 use Rattle.fk_syscalls.specs.declared.plan.Change.TheVariants.{Mkdir, Create, Unlink, Rmdir}
 use Rattle.fk_syscalls.specs.declared.plan.FinalOperation.{FinalOperation}
-use Rattle.fk_syscalls.specs.declared.plan.FinalOperation.TheVariants.{Stat, List, Open, Change as Changes, RenameFrom, LinkTo}
+use Rattle.fk_syscalls.specs.declared.plan.FinalOperation.TheVariants.{Stat, List, ListPlus, Open, Change as Changes, RenameFrom, LinkTo}
 use Rattle.fk_syscalls.specs.declared.plan.LentOperation.{LentOperation}
 use Rattle.fk_syscalls.specs.declared.plan.LentOperation.TheVariants as lent
 use Rattle.fk_syscalls.specs.declared.plan.Plan.{Plan}
@@ -25,6 +25,7 @@ final_change Rmdir name = final.rmdir name
 abbrev pub final_of : {A : Type 0} → FinalOperation A → final.FinalOperation ℕ
 final_of Stat = final.stat
 final_of (List after) = final.list after
+final_of (ListPlus after) = final.listplus after
 final_of Open = final.opening
 final_of (Changes change name) = final_change change name.items
 final_of (RenameFrom directory old new) = final.rename_from directory old.items new.items
@@ -34,6 +35,7 @@ final_of (LinkTo file name) = final.link_to file name.items
 abbrev pub final_lent : LentOperation → final.FinalOperation ℕ
 final_lent lent.Stat = final.stat
 final_lent (lent.List after) = final.list after
+final_lent (lent.ListPlus after) = final.listplus after
 final_lent lent.Open = final.opening
 final_lent (lent.Change change name) = final_change change name.now
 final_lent (lent.RenameFrom directory old new) = final.rename_from directory old.now new.now

@@ -18,7 +18,7 @@ use Rattle.fk_syscalls.specs.declared.call.ListedName.{ListedName}
 use Rattle.fk_syscalls.specs.declared.call.Asked.{Asked}
 use Rattle.fk_syscalls.specs.declared.call.Asked.TheVariants as asks
 use Rattle.fk_syscalls.specs.declared.call.Call.{Call}
-use Rattle.fk_syscalls.specs.declared.call.Call.TheVariants.{Stat, List as Lists, Open, Mkdir, Create, Unlink, Rmdir, Rename, Link, Read, Write, Close}
+use Rattle.fk_syscalls.specs.declared.call.Call.TheVariants.{Stat, List as Lists, ListPlus, Open, Mkdir, Create, Unlink, Rmdir, Rename, Link, Read, Write, Close}
 use Rattle.fk_syscalls.specs.declared.state.Next.{Next}
 use Rattle.fk_syscalls.specs.declared.state.Next.TheVariants.{Waits, Answered}
 
@@ -26,6 +26,7 @@ use Rattle.fk_syscalls.specs.declared.state.Next.TheVariants.{Waits, Answered}
 abbrev pub call_of : Call → call.Call
 call_of (Stat path) = call.stat path.now
 call_of (Lists path after) = call.list path.now after
+call_of (ListPlus path after) = call.listplus path.now after
 call_of (Open path) = call.opening path.now
 call_of (Mkdir path) = call.mkdir path.now
 call_of (Create path) = call.create path.now
@@ -60,6 +61,7 @@ abbrev pub operation_of : Asked → op.Operation ℕ Opened
 operation_of (asks.Lookup directory name) = op.lookup directory name.now
 operation_of (asks.Getattr node) = op.getattr node
 operation_of (asks.Readdir directory after) = op.readdir directory after max_transfer
+operation_of (asks.Readdirplus directory after) = op.readdirplus directory after max_transfer
 operation_of (asks.Open node) = op.opening node
 operation_of (asks.Mkdir directory name) = op.mkdir directory name.now
 operation_of (asks.Create directory name) = op.create directory name.now

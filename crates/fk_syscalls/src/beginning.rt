@@ -55,6 +55,10 @@ pub fn begin<A: Allocator + Copy>(
             let operation = LentOperation::List { after: *after };
             begin_whole(alloc, names, clock, path, operation)
         }
+        Call::ListPlus { path, after } => {
+            let operation = LentOperation::ListPlus { after: *after };
+            begin_whole(alloc, names, clock, path, operation)
+        }
         Call::Open { path } => begin_whole(alloc, names, clock, path, LentOperation::Open),
         Call::Mkdir { path } => begin_change(alloc, names, clock, path, Change::Mkdir),
         Call::Create { path } => begin_change(alloc, names, clock, path, Change::Create),

@@ -1,5 +1,9 @@
 //! System calls, what they ask and what they are answered.
 
+ghost use Rattle.std.specs.Prelude.{◌≡◌};
+ghost use Rattle.fuse_spec.specs.Calls.{spoken};
+ghost use Rattle.fk_syscalls.specs.Values.{call_of};
+
 use fuse_spec::{Attributes, Kind, Opened};
 use std::alloc::{Allocator, Global};
 
@@ -12,6 +16,11 @@ pub enum Call<'a> {
     },
     /// The names of the directory at a path, behind an offset.
     List {
+        path: &'a [u8],
+        after: u64,
+    },
+    /// The same, with each name's file.
+    ListPlus {
         path: &'a [u8],
         after: u64,
     },
@@ -63,6 +72,19 @@ pub enum Call<'a> {
     },
 }
 
+impl<'a> Call<'a> {
+    /// The call as it is put: where files may not be listed with their names, the names are listed alone (linux/fuse.h,
+    /// FUSE_READDIRPLUS).
+    pub fn spoken(self, lists_files: bool) -> Call<'a>
+        ensures { call_of result ≡ spoken lists_files (call_of self.entry) }
+    {
+        match self {
+            Call::ListPlus { path, after } if !lists_files => Call::List { path, after },
+            call => call,
+        }
+    }
+}
+
 /// A name that a directory lists, with the offset from which to read on.
 #[derive(Drop)]
 pub struct ListedName<A: Allocator = Global> {
@@ -95,6 +117,11 @@ pub enum Asked<'a> {
     },
     /// It lists the names behind an offset, in at most 4,096 bytes.
     Readdir {
+        directory: u64,
+        after: u64,
+    },
+    /// The same, with each name's file.
+    Readdirplus {
         directory: u64,
         after: u64,
     },

@@ -26,6 +26,9 @@ pub(crate) enum FinalOperation<A: Allocator> {
     List {
         after: u64,
     },
+    ListPlus {
+        after: u64,
+    },
     Open,
     Change {
         change: Change,
@@ -49,6 +52,9 @@ pub(crate) enum FinalOperation<A: Allocator> {
 pub(crate) enum LentOperation<'a> {
     Stat,
     List {
+        after: u64,
+    },
+    ListPlus {
         after: u64,
     },
     Open,
@@ -113,6 +119,7 @@ impl LentOperation<'_> {
         Ok(match self {
             LentOperation::Stat => FinalOperation::Stat,
             LentOperation::List { after } => FinalOperation::List { after },
+            LentOperation::ListPlus { after } => FinalOperation::ListPlus { after },
             LentOperation::Open => FinalOperation::Open,
             LentOperation::Change { change, name } => FinalOperation::Change {
                 change,
@@ -173,6 +180,7 @@ impl<A: Allocator> FinalOperation<A> {
             FinalOperation::LinkTo { file, .. } => *file == node,
             FinalOperation::Stat
             | FinalOperation::List { .. }
+            | FinalOperation::ListPlus { .. }
             | FinalOperation::Open
             | FinalOperation::Change { .. } => false,
         }
@@ -200,6 +208,10 @@ pub(crate) fn asked_at<A: Allocator>(operation: &FinalOperation<A>, node: u64) -
     match operation {
         FinalOperation::Stat => Asked::Getattr { node },
         FinalOperation::List { after } => Asked::Readdir {
+            directory: node,
+            after: *after,
+        },
+        FinalOperation::ListPlus { after } => Asked::Readdirplus {
             directory: node,
             after: *after,
         },

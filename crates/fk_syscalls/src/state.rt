@@ -6,11 +6,12 @@ ghost use Rattle.fuse_spec.specs.Kernel.{nodes_of_state};
 ghost use Rattle.fuse_spec.specs.Operations as op;
 ghost use Rattle.fuse_spec.specs.Paths.{Name};
 ghost use Rattle.fuse_spec.specs.Vfs.{Vfs, walking, using, asked, walks_on};
-ghost use Rattle.fuse_spec.specs.Walks.{WalkPlan, last};
+ghost use Rattle.fuse_spec.specs.Walks.{WalkPlan, last, go, arrived};
 ghost use Rattle.fk_syscalls.specs.Words.{words_from, AreWords};
-ghost use Rattle.fk_syscalls.specs.Plans.{final_of, plan_lent, IsSoundFinal};
+ghost use Rattle.fk_syscalls.specs.Plans.{final_of, plan_lent, plan_of, IsSoundFinal, IsSoundPlan};
 ghost use Rattle.fk_syscalls.specs.States.{walking_at, IsSoundLentCall, IsWalking, StandsAt, used_by, HasNames};
 ghost use Rattle.fk_syscalls.specs.NewNames.{with_name};
+ghost use Rattle.fk_syscalls.specs.Walks.{known};
 ghost use Rattle.fk_syscalls.specs.Values.{operation_of, AsksWord, comes_to};
 
 use crate::call::Asked;
@@ -103,6 +104,51 @@ fn second_walk<A: Allocator + Copy>(
         }),
         None => Next::Answered { errno: ENOENT },
     }
+}
+
+/// The first walk has come to a node: the call asks its operation there, or sets out on its second walk.
+fn arrived_at<A: Allocator + Copy>(
+    names: &Bindings<A>,
+    clock: u64,
+    node: u64,
+    words: Vec<u8, A>,
+    plan: Plan<A>,
+) -> Next<A>
+    requires { IsSoundPlan plan }
+    ensures { (c : Vfs Opened) (call from : ℕ) (walked : List Name) → HasNames c names.now.names clock → go (known names.now.names clock) from walked ≡ arrived node → walks_on c call from walked (plan_of plan) ≡ comes_to c call result }
+{
+    match plan {
+        Plan::Last(operation) => Next::Waits(CallState {
+            node,
+            words,
+            at: None,
+            aim: Aim::Walks(Plan::Last(operation)),
+        }),
+        Plan::Rename {
+            old,
+            words,
+            at,
+            new,
+        } => {
+            let operation = FinalOperation::RenameFrom {
+                directory: node,
+                old,
+                new,
+            };
+            second_walk(names, clock, words, at, operation)
+        }
+        Plan::Link { words, at, name } => {
+            let operation = FinalOperation::LinkTo { file: node, name };
+            second_walk(names, clock, words, at, operation)
+        }
+    }
+}
+
+/// The open file of a node and an open number.
+fn opened(nodeid: u64, fh: u64) -> Opened
+    ensures { result ≡ record { nodeid = nodeid; fh = fh } }
+{
+    Opened { nodeid, fh }
 }
 
 impl<A: Allocator + Copy> CallState<A> {
@@ -205,34 +251,7 @@ impl<A: Allocator + Copy> CallState<A> {
                 aim: Aim::Walks(plan),
             });
         }
-        match plan {
-            Plan::Last(operation) => Next::Waits(CallState {
-                node: stop.node,
-                words,
-                at: None,
-                aim: Aim::Walks(Plan::Last(operation)),
-            }),
-            Plan::Rename {
-                old,
-                words,
-                at,
-                new,
-            } => {
-                let operation = FinalOperation::RenameFrom {
-                    directory: stop.node,
-                    old,
-                    new,
-                };
-                second_walk(names, clock, words, at, operation)
-            }
-            Plan::Link { words, at, name } => {
-                let operation = FinalOperation::LinkTo {
-                    file: stop.node,
-                    name,
-                };
-                second_walk(names, clock, words, at, operation)
-            }
-        }
+        arrived_at(names, clock, stop.node, words, plan)
     }
 
     /// Whether it would ask anew, were the word that it asked for bound so and found.
@@ -288,10 +307,7 @@ impl<A: Allocator + Copy> CallState<A> {
                 size,
                 ..
             } => Asked::Read {
-                opened: Opened {
-                    nodeid: self.node,
-                    fh: *fh,
-                },
+                opened: opened(self.node, *fh),
                 offset: *offset,
                 size: *size,
             },
@@ -301,10 +317,7 @@ impl<A: Allocator + Copy> CallState<A> {
                 bytes,
                 ..
             } => Asked::Write {
-                opened: Opened {
-                    nodeid: self.node,
-                    fh: *fh,
-                },
+                opened: opened(self.node, *fh),
                 offset: *offset,
                 bytes,
             },

@@ -56,13 +56,11 @@ is_later _ = false
 -- whether a minor version knows an opcode
 abbrev pub knows : Minor → Opcode → Bool
 knows minors.M31 o = true
-knows minors.M31WithoutReaddirplus op.Readdirplus = false
-knows minors.M31WithoutReaddirplus _ = true
 knows minors.M15 o = if is_later o then false else true
 
--- The minor version of the calls that take none. READDIRPLUS is not served yet: once it is, this is M31.
+-- the minor version of the calls that take none
 abbrev pub served : Minor
-served = minors.M31WithoutReaddirplus
+served = minors.M31
 
 -- whether a request of this opcode is about a node
 abbrev pub has_node : Opcode → Bool

@@ -96,8 +96,6 @@ kind_of_content (plus_reply ps) = kind.RecordsPlus
 -- whether a minor version knows an opcode whose replies have such a body
 abbrev pub knows_kind : Minor → ReplyKind → Bool
 knows_kind minors.M31 k = true
-knows_kind minors.M31WithoutReaddirplus kind.RecordsPlus = false
-knows_kind minors.M31WithoutReaddirplus _ = true
 knows_kind minors.M15 kind.RecordsPlus = false
 knows_kind minors.M15 _ = true
 

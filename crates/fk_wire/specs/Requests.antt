@@ -11,9 +11,9 @@ use Rattle.fk_wire.specs.Opcodes.{code_of, knows, served, has_node}
 use Rattle.fk_wire.specs.Pairs.{pairs_in, forget_ones}
 use Rattle.fk_wire.specs.Fields.{Field, named, raw, u32, u64, free32, free64, bits, ReadsAs, InRange, AreNamed, spellings}
 
--- ASYNC_READ and PARALLEL_DIROPS
+-- ASYNC_READ, DO_READDIRPLUS and PARALLEL_DIROPS
 abbrev pub known_flags : ℕ
-known_flags = 0x40001
+known_flags = 0x42001
 
 -- what a request asks
 pub data RequestContent : Type 0 where

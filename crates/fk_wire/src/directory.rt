@@ -1,14 +1,15 @@
 //! Records and pairs, written one by one.
 
 ghost use Rattle.std.specs.Prelude.{◌≡◌, ◌≢◌, ◌≤◌, ◌+◌, ◌<◌, ◌^◌, length, OnOk, OnErr, IfErr, ◌++◌, ◌∷◌, [], vec_len, vec_capacity};
-ghost use Rattle.fk_wire.specs.Fields.{InRange, sizes, spellings, IsRecordName};
-ghost use Rattle.fk_wire.specs.Entries.{IsEntry};
+ghost use Rattle.fk_wire.specs.Fields.{InRange, sizes, spellings, u32, u64, IsRecordName};
+ghost use Rattle.fk_wire.specs.Entries.{IsEntry, entry_content, entry_fields};
 ghost use Rattle.fk_wire.specs.Dirents.{dirents, dirent_fields, direntpluses};
 ghost use Rattle.fk_wire.specs.Records.{records_in, pluses_in, dirent_content, direntplus_content};
 ghost use Rattle.fk_wire.specs.declared.fault.WireFault.TheVariants.{Memory as MemoryFault};
+ghost use Rattle.fk_wire.specs.Requests.{max_frame};
 ghost use Rattle.fk_wire.specs.Puts.{RecordRefusalIs, PlusRefusalIs};
 
-use crate::entry::{is_timed, put_entry};
+use crate::entry::{Entry, is_timed, put_entry};
 use crate::fault::WireFault;
 use crate::records::{Dirent, Records};
 use crate::records_plus::{DirentPlus, RecordsPlus};
@@ -55,6 +56,36 @@ pub(crate) fn put_direntpluses<A: Allocator>(out: &mut Vec<u8, A>, records: Reco
         put_entry(out, &pair.entry_out);
         put_dirent(out, &pair.dirent);
     }
+}
+
+/// Appends the head of a reply without error whose body has so many bytes, at most `MAX_FRAME` less the head's 16, into room that is
+/// there: `struct fuse_out_header`.
+#[tactic(auto, using(std::proofs::Common::append_assoc))]
+pub fn put_listing_head<A: Allocator>(out: &mut Vec<u8, A>, unique: u64, size: usize)
+    requires room { vec_len out.old + 16 ≤ vec_capacity out.old }
+    requires short { 16 + size ≤ max_frame }
+    ensures items { out.new.items ≡ out.old.items ++ spellings (u32 (16 + size) ∷ u32 0 ∷ u64 unique ∷ []) }
+    ensures len { vec_len out.new ≡ vec_len out.old + 16 }
+    ensures capacity { vec_capacity out.old ≤ vec_capacity out.new }
+{
+    put_u32(out, 16 + size as u32);
+    put_u32(out, 0);
+    put_u64(out, unique);
+}
+
+/// Appends one pair of an entry and a record, into room that is there: `struct fuse_direntplus`. The entry's nanoseconds are less
+/// than a second, and the record's name has at most 255 bytes.
+#[tactic(auto, using(std::proofs::Common::append_assoc, crate::proofs::Spelled::entry_and, crate::proofs::Spelled::entry_in_range, crate::proofs::Spelled::sizes_of_entry))]
+pub fn put_listed<A: Allocator>(out: &mut Vec<u8, A>, entry: &Entry, dirent: &Dirent<'_>)
+    requires room { vec_len out.old + (128 + sizes (dirent_fields (dirent_content dirent.now) [])) ≤ vec_capacity out.old }
+    requires short { length dirent.now.name.now ≤ 255 }
+    ensures items { out.new.items ≡ out.old.items ++ spellings (entry_fields (entry_content entry.now) (dirent_fields (dirent_content dirent.now) [])) }
+    ensures len { vec_len out.new ≡ vec_len out.old + (128 + sizes (dirent_fields (dirent_content dirent.now) [])) }
+    ensures capacity { vec_capacity out.old ≤ vec_capacity out.new }
+    ensures fits { InRange (entry_fields (entry_content entry.now) (dirent_fields (dirent_content dirent.now) [])) }
+{
+    put_entry(out, entry);
+    put_dirent(out, dirent);
 }
 
 /// Appends one record. A refused one leaves the vector as it was.

@@ -30,14 +30,12 @@ pub enum Opcode {
 
 /// The minor version of protocol 7 that the two sides speak.
 ///
-/// The calls that take no minor version speak `M31WithoutReaddirplus`, until READDIRPLUS is served.
+/// The calls that take no minor version speak `M31`.
 #[derive(Clone, Copy, Debug, PartialEq, Eq)]
 pub enum Minor {
     /// 7.15, which has no BATCH_FORGET and no READDIRPLUS.
     M15,
-    /// 7.31 as far as it is served: READDIRPLUS is not known.
-    M31WithoutReaddirplus,
-    /// 7.31 whole.
+    /// 7.31.
     M31,
 }
 
@@ -45,7 +43,7 @@ pub enum Minor {
 pub(crate) fn served_minor() -> Minor
     ensures { result ≡ served }
 {
-    Minor::M31WithoutReaddirplus
+    Minor::M31
 }
 
 /// Whether an opcode came after 7.15.
@@ -61,7 +59,6 @@ pub(crate) fn is_known(minor: Minor, opcode: Opcode) -> bool
 {
     match minor {
         Minor::M31 => true,
-        Minor::M31WithoutReaddirplus => opcode != Opcode::Readdirplus,
         Minor::M15 => !came_later(opcode),
     }
 }
@@ -93,12 +90,20 @@ fn opcode_of_code(code: u32) -> Option<Opcode>
     }
 }
 
-/// Whether a number is that of an opcode that is served.
+/// Whether a number is that of an opcode of 7.31.
 pub fn is_served_opcode(code: u32) -> bool
     ensures yes { result ≡ true → (o : Opcode) × IsTrue (knows served o) × (code_of o ≡ code) }
     ensures no { result ≡ false → (o : Opcode) → IsTrue (knows served o) → code_of o ≢ code }
 {
-    opcode_at(served_minor(), code).is_some()
+    is_served_opcode_at(served_minor(), code)
+}
+
+/// Whether a number is that of an opcode which the minor version knows.
+pub fn is_served_opcode_at(minor: Minor, code: u32) -> bool
+    ensures yes { result ≡ true → (o : Opcode) × IsTrue (knows minor o) × (code_of o ≡ code) }
+    ensures no { result ≡ false → (o : Opcode) → IsTrue (knows minor o) → code_of o ≢ code }
+{
+    opcode_at(minor, code).is_some()
 }
 
 /// The opcode of a number, if the minor version knows it.

@@ -73,7 +73,7 @@ fn request_of(minor: Minor, bytes: &[u8]) -> Result<Request<'_>, WireFault>
     }
 }
 
-/// Reads a request frame, of 7.31 without READDIRPLUS.
+/// Reads a request frame, of 7.31.
 ///
 /// A frame has up to 4,176 bytes. The fault is the first of `Short`, `Length`, `Opcode`, `Body` and
 /// `Name` that applies. Reading copies no name and no data, and takes no memory.

@@ -91,6 +91,35 @@ fn init_of(bytes: &[u8]) -> Result<ReplyBody<'_>, WireFault>
     })
 }
 
+/// The body of an entry's reply.
+fn entry_of(bytes: &[u8]) -> Result<ReplyBody<'_>, WireFault>
+    ensures ok { IfOk result (λ b. (kind_of_content (reply_content b) ≡ ReplyKind.Entry) × IsReplyContent (reply_content b) × HasReplyNames (reply_content b) × ReadsAs 16 (reply_body (reply_content b)) bytes.now) }
+    ensures err { IfErr result (ReplyBodyFaultIs ReplyKind.Entry bytes.now) }
+{
+    reply_of_size(bytes, 144)?;
+    let entry = entry_at(bytes, 16);
+    if is_timed(&entry) {
+        Ok(ReplyBody::Entry { entry })
+    } else {
+        Err(WireFault::Body)
+    }
+}
+
+/// The body of a CREATE's reply.
+fn create_of(bytes: &[u8]) -> Result<ReplyBody<'_>, WireFault>
+    ensures ok { IfOk result (λ b. (kind_of_content (reply_content b) ≡ ReplyKind.Create) × IsReplyContent (reply_content b) × HasReplyNames (reply_content b) × ReadsAs 16 (reply_body (reply_content b)) bytes.now) }
+    ensures err { IfErr result (ReplyBodyFaultIs ReplyKind.Create bytes.now) }
+{
+    reply_of_size(bytes, 160)?;
+    let entry = entry_at(bytes, 16);
+    if is_timed(&entry) {
+        let fh = u64_at(bytes, 144);
+        Ok(ReplyBody::Create { entry, fh })
+    } else {
+        Err(WireFault::Body)
+    }
+}
+
 /// The body of this kind.
 fn body_of(kind: ReplyKind, bytes: &[u8]) -> Result<ReplyBody<'_>, WireFault>
     requires { 16 ≤ length bytes.now }
@@ -102,14 +131,7 @@ fn body_of(kind: ReplyKind, bytes: &[u8]) -> Result<ReplyBody<'_>, WireFault>
             reply_of_size(bytes, 16)?;
             Ok(ReplyBody::Empty)
         }
-        ReplyKind::Entry => {
-            reply_of_size(bytes, 144)?;
-            let entry = entry_at(bytes, 16);
-            if !is_timed(&entry) {
-                return Err(WireFault::Body);
-            }
-            Ok(ReplyBody::Entry { entry })
-        }
+        ReplyKind::Entry => entry_of(bytes),
         ReplyKind::Attr => {
             reply_of_size(bytes, 120)?;
             let attr = attr_at(bytes, 32);
@@ -129,15 +151,7 @@ fn body_of(kind: ReplyKind, bytes: &[u8]) -> Result<ReplyBody<'_>, WireFault>
             Ok(ReplyBody::Write { size })
         }
         ReplyKind::Init => init_of(bytes),
-        ReplyKind::Create => {
-            reply_of_size(bytes, 160)?;
-            let entry = entry_at(bytes, 16);
-            if !is_timed(&entry) {
-                return Err(WireFault::Body);
-            }
-            let fh = u64_at(bytes, 144);
-            Ok(ReplyBody::Create { entry, fh })
-        }
+        ReplyKind::Create => create_of(bytes),
         ReplyKind::Records => match Records::from_place(bytes, 16) {
             Ok(records) => Ok(ReplyBody::Records { records }),
             Err(fault) => Err(fault),
@@ -186,7 +200,7 @@ fn reply_of(minor: Minor, opcode: Opcode, bytes: &[u8]) -> Result<Reply<'_>, Wir
     }
 }
 
-/// Reads the frame of a reply to a request of this opcode, of 7.31 without READDIRPLUS.
+/// Reads the frame of a reply to a request of this opcode, of 7.31.
 ///
 /// A frame has up to 4,176 bytes. The fault is the first of `Short`, `Length`, `ErrorRange`, `Opcode`,
 /// `Body` and `Name` that applies. `Opcode` stands for an opcode that is not known or has no replies.

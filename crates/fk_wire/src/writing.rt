@@ -1,15 +1,17 @@
 //! Requests as frames.
 
-ghost use Rattle.std.specs.Prelude.{◌≡◌, ◌≢◌, ◌≤◌, ◌<◌, ◌+◌, ◌*◌, ◌++◌, ◌↔◌, List, ℕ, length, IsTrue, OnOk, OnErr, IfErr, vec_len, vec_capacity};
+ghost use Rattle.std.specs.Prelude.{◌≡◌, ◌≢◌, ◌≤◌, ◌<◌, ◌+◌, ◌*◌, ◌^◌, ◌++◌, ◌↔◌, List, ℕ, length, IsTrue, OnOk, OnErr, IfErr, vec_len, vec_capacity};
 ghost use Rattle.fk_wire.specs.Fields.{u64, InRange, AreNamed, sizes, spellings};
 ghost use Rattle.fk_wire.specs.Faults.{RefusalIs, RefusalIsAt};
 ghost use Rattle.fk_wire.specs.Pairs.{pairs_in, forget_ones};
 ghost use Rattle.std.specs.Prelude.{◌∷◌, []};
 ghost use Rattle.fk_wire.specs.declared.fault.WireFault.TheVariants.{Memory as MemoryFault};
-ghost use Rattle.fk_wire.specs.Requests.{RequestMessage, Written, WrittenAt, SpellsAt, request_content, request_message, request_body, header, range};
+ghost use Rattle.std.specs.Int.RustNames.{bit_and};
+ghost use Rattle.fk_wire.specs.Requests.{RequestMessage, Written, WrittenAt, SpellsAt, request_content, request_message, request_body, header, range, known_flags, getattr, mkdir, release, init, create, batch_forget};
 ghost use Rattle.fk_wire.specs.declared.opcode.Minor.{Minor};
 
 use crate::fault::WireFault;
+use crate::flags::InitFlags;
 use crate::limits::MAX_FRAME;
 use crate::opcode::{Minor, code, is_known, is_node_of, served_minor};
 use crate::pairs::Pairs;
@@ -112,6 +114,79 @@ fn put_pairs<A: Allocator>(out: &mut Vec<u8, A>, pairs: Pairs<'_>)
     }
 }
 
+/// A `struct fuse_getattr_in`.
+#[tactic(auto, using(std::proofs::Common::append_assoc))]
+fn put_getattr<A: Allocator>(out: &mut Vec<u8, A>)
+    requires { vec_len out.old + 16 ≤ vec_capacity out.old }
+    ensures { out.new.items ≡ out.old.items ++ spellings (request_body getattr) }
+{
+    put_u32(out, 0);
+    put_u32(out, 0);
+    put_u64(out, 0);
+}
+
+/// A `struct fuse_mkdir_in`, and the name.
+#[tactic(auto, using(std::proofs::Common::append_assoc))]
+fn put_mkdir<A: Allocator>(out: &mut Vec<u8, A>, name: &[u8])
+    requires { vec_len out.old + (8 + (length name.now + 1)) ≤ vec_capacity out.old }
+    ensures { out.new.items ≡ out.old.items ++ spellings (request_body (mkdir name.now)) }
+{
+    put_u32(out, 493);
+    put_u32(out, 0);
+    put_name(out, name);
+}
+
+/// A `struct fuse_release_in`.
+#[tactic(auto, using(std::proofs::Common::append_assoc))]
+fn put_release<A: Allocator>(out: &mut Vec<u8, A>, fh: u64)
+    requires { vec_len out.old + 24 ≤ vec_capacity out.old }
+    ensures { out.new.items ≡ out.old.items ++ spellings (request_body (release fh)) }
+{
+    put_u64(out, fh);
+    put_u32(out, 0);
+    put_u32(out, 0);
+    put_u64(out, 0);
+}
+
+/// A `struct fuse_init_in`.
+#[tactic(auto, using(std::proofs::Common::append_assoc))]
+fn put_init<A: Allocator>(out: &mut Vec<u8, A>, major: u32, minor: u32, flags: InitFlags)
+    requires { vec_len out.old + 16 ≤ vec_capacity out.old }
+    ensures items { out.new.items ≡ out.old.items ++ spellings (request_body (init major minor (bit_and flags.0 known_flags))) }
+    ensures fits { InRange (request_body (init major minor (bit_and flags.0 known_flags))) }
+{
+    put_u32(out, major);
+    put_u32(out, minor);
+    put_u32(out, 0);
+    put_u32(out, flags.known());
+}
+
+/// A `struct fuse_create_in`, and the name.
+#[tactic(auto, using(std::proofs::Common::append_assoc))]
+fn put_create<A: Allocator>(out: &mut Vec<u8, A>, name: &[u8])
+    requires { vec_len out.old + (16 + (length name.now + 1)) ≤ vec_capacity out.old }
+    ensures { out.new.items ≡ out.old.items ++ spellings (request_body (create name.now)) }
+{
+    put_u32(out, 0);
+    put_u32(out, 33188);
+    put_u32(out, 0);
+    put_u32(out, 0);
+    put_name(out, name);
+}
+
+/// A `struct fuse_batch_forget_in`, and the pairs.
+#[tactic(auto, using(std::proofs::Common::append_assoc))]
+fn put_batch_forget<A: Allocator>(out: &mut Vec<u8, A>, pairs: Pairs<'_>)
+    requires few { length (pairs_in pairs) < 2 ^ 32 }
+    requires room { vec_len out.old + (8 + 16 * length (pairs_in pairs)) ≤ vec_capacity out.old }
+    ensures items { out.new.items ≡ out.old.items ++ spellings (request_body (batch_forget (pairs_in pairs.entry))) }
+    ensures fits { InRange (request_body (batch_forget (pairs_in pairs.entry))) }
+{
+    put_u32(out, pairs.count_left() as u32);
+    put_u32(out, 0);
+    put_pairs(out, pairs);
+}
+
 #[tactic(auto, using(std::proofs::Common::append_assoc, crate::proofs::Frames::sizes_of_forgets))]
 fn put_body<A: Allocator>(out: &mut Vec<u8, A>, body: &RequestBody<'_>)
     requires room { vec_len out.old + sizes (request_body (request_content body.now)) ≤ vec_capacity out.old }
@@ -123,16 +198,8 @@ fn put_body<A: Allocator>(out: &mut Vec<u8, A>, body: &RequestBody<'_>)
         RequestBody::Lookup { name } | RequestBody::Unlink { name } | RequestBody::Rmdir { name } =>
             put_name(out, name),
         RequestBody::Forget { nlookup } => put_u64(out, *nlookup),
-        RequestBody::Getattr => {
-            put_u32(out, 0);
-            put_u32(out, 0);
-            put_u64(out, 0);
-        }
-        RequestBody::Mkdir { name } => {
-            put_u32(out, 493);
-            put_u32(out, 0);
-            put_name(out, name);
-        }
+        RequestBody::Getattr => put_getattr(out),
+        RequestBody::Mkdir { name } => put_mkdir(out, name),
         RequestBody::Rename { newdir, old, new } => {
             put_u64(out, *newdir);
             put_name(out, old);
@@ -151,38 +218,18 @@ fn put_body<A: Allocator>(out: &mut Vec<u8, A>, body: &RequestBody<'_>)
             put_range(out, *fh, *offset, bytes.len() as u32);
             put_bytes(out, bytes);
         }
-        RequestBody::Release { fh } => {
-            put_u64(out, *fh);
-            put_u32(out, 0);
-            put_u32(out, 0);
-            put_u64(out, 0);
-        }
+        RequestBody::Release { fh } => put_release(out, *fh),
         RequestBody::Init {
             major,
             minor,
             flags,
-        } => {
-            put_u32(out, *major);
-            put_u32(out, *minor);
-            put_u32(out, 0);
-            put_u32(out, flags.known());
-        }
+        } => put_init(out, *major, *minor, *flags),
         RequestBody::Readdir { offset, size } | RequestBody::Readdirplus { offset, size } => {
             put_range(out, 0, *offset, *size)
         }
-        RequestBody::Create { name } => {
-            put_u32(out, 0);
-            put_u32(out, 33188);
-            put_u32(out, 0);
-            put_u32(out, 0);
-            put_name(out, name);
-        }
+        RequestBody::Create { name } => put_create(out, name),
         RequestBody::Interrupt { unique } => put_u64(out, *unique),
-        RequestBody::BatchForget { pairs } => {
-            put_u32(out, pairs.count_left() as u32);
-            put_u32(out, 0);
-            put_pairs(out, *pairs);
-        }
+        RequestBody::BatchForget { pairs } => put_batch_forget(out, *pairs),
     }
 }
 
@@ -207,8 +254,7 @@ pub fn put_pair<A: Allocator>(
     Ok(())
 }
 
-/// Appends the frame of a request, of 7.31 without READDIRPLUS. A refused one leaves the vector as it
-/// was.
+/// Appends the frame of a request, of 7.31. A refused one leaves the vector as it was.
 ///
 /// The fault is the first of `Opcode`, `Body`, `Name` and `Memory` that applies.
 pub fn write_request<A: Allocator>(

@@ -42,7 +42,7 @@ fn is_known_body(minor: Minor, body: &ReplyBody<'_>) -> bool
 {
     match minor {
         Minor::M31 => true,
-        Minor::M15 | Minor::M31WithoutReaddirplus => !matches!(body, ReplyBody::RecordsPlus { .. }),
+        Minor::M15 => !matches!(body, ReplyBody::RecordsPlus { .. }),
     }
 }
 
@@ -159,8 +159,7 @@ fn put_reply_body<A: Allocator>(out: &mut Vec<u8, A>, body: &ReplyBody<'_>)
     }
 }
 
-/// Appends the frame of a reply, of 7.31 without READDIRPLUS. A refused one leaves the vector as it
-/// was.
+/// Appends the frame of a reply, of 7.31. A refused one leaves the vector as it was.
 ///
 /// The fault is the first of `ErrorRange`, `Opcode`, `Body` and `Memory` that applies.
 pub fn write_reply<A: Allocator>(out: &mut Vec<u8, A>, reply: &Reply<'_>) -> Result<(), WireFault>

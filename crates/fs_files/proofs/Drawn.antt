@@ -1,10 +1,9 @@
 -- What an operation draws, refused or not.
-use Rattle.std.proofs.Common.{◌≡◌, ◌≤◌, ◌^◌, ℕ, Bool, true, false, true≢false, cond, Option, Some, None, sym, ap, subst, ◌∙◌, inl, inr}
+use Rattle.std.proofs.Common.{◌≡◌, ℕ, Bool, true, false, true≢false, cond, List, [], length, Option, Some, None, sym, ap, subst, ◌∙◌, arith, refl}
 use Rattle.std.specs.Prelude.{is_some}
 use Rattle.fuse_spec.specs.Numbers.{ebadf, eintr, eio}
-use Rattle.fuse_spec.specs.Messages.{asks, release}
-use Rattle.fuse_spec.specs.Nodes.{NodeTable, HandleTable, IsUnheld}
-use Rattle.fuse_spec.specs.Operations.{Operation, Reply, failed}
+use Rattle.fuse_spec.specs.Messages.{RequestBody, asks, release}
+use Rattle.fuse_spec.specs.Operations.{Operation, Reply, failed, files_in_reply, opens_in_reply}
 use Rattle.fuse_spec.specs.declared.Opened.{Opened}
 use Rattle.fuse_spec.specs.Performs.{file_operation_of, is_open_for, is_still_held}
 use Rattle.fuse_spec.specs.Server.{Server, HeldRequest}
@@ -14,7 +13,7 @@ use Rattle.fuse_spec.specs.Trees.{Tree}
 use Rattle.fuse_spec.specs.FileOperations.{FileOperation, refusal, reply_by, reply_or, reply_unrefused, tree_after, tree_or, tree_unrefused}
 use Rattle.fs_tree.specs.Outcomes.{Refuses}
 use Rattle.fs_tree.specs.declared.error.TreeError.{TreeError}
-use Rattle.fs_files.specs.Plans.{Draws, LacksNumber, listed}
+use Rattle.fs_files.specs.Plans.{Draws}
 use Rattle.fs_files.specs.declared.plan.Plan.{Plan}
 
 pub not_refused : (first : Option ℕ) (o : Option TreeError) → Refuses first o → is_some o ≡ false → first ≡ None
@@ -32,20 +31,29 @@ module _ (s : Server) (h : HeldRequest) (unmarked : h.marked ≡ false) (still :
   pub handles_release : (o : Opened) → h.body ≡ release o → handles_by s (release o) ≡ handles_said s h
   handles_release o is = sym (λ i. cond (unmarked i) s.handles (cond (still i) (handles_by s (is i)) s.handles))
 
-  module _ (o : Operation ℕ Opened) (is : h.body ≡ asks o) (open' : is_open_for s o ≡ true) where
-    abbrev on_tree : FileOperation
-    on_tree = file_operation_of s.nodes o
+  pub body_draws : (body : RequestBody) → h.body ≡ body → (plan : Plan) → Draws s.tree (tree_by s body) (said_by s body) plan → Draws s.tree (tree_said s h) (said s h) plan
+  body_draws body is plan draws =
+      subst (λ (t : Tree). Draws s.tree t (said s h) plan) (sym (λ i. cond (unmarked i) s.tree (cond (still i) (tree_by s (is i)) s.tree)))
+      (subst (λ (r : Reply ℕ ℕ). Draws s.tree (tree_by s body) r plan) (sym (λ i. cond (unmarked i) (failed eintr) (cond (still i) (said_by s (is i)) (failed eio)))) draws)
 
-    tree_asks : tree_after s.tree on_tree ≡ tree_said s h
-    tree_asks = sym ((λ i. cond (unmarked i) s.tree (cond (still i) (tree_by s (is i)) s.tree)) ∙ ap (λ b. cond b (tree_after s.tree on_tree) s.tree) open')
+-- nothing is drawn
+abbrev pub nothing : Plan
+nothing = record { births = 0; serials = 0; opens = 0; told = record { items = [] } }
 
-    said_asks : reply_by s.validity s.tree on_tree ≡ said s h
-    said_asks = sym ((λ i. cond (unmarked i) (failed eintr) (cond (still i) (said_by s (is i)) (failed eio))) ∙ ap (λ b. cond b (reply_by s.validity s.tree on_tree) (failed ebadf)) open')
+pub none_drawn : (tree : Tree) (reply : Reply ℕ ℕ) (plan : Plan) → files_in_reply reply ≡ [] → opens_in_reply reply ≡ [] → plan ≡ nothing → Draws tree tree reply plan
+none_drawn tree reply plan files opens is = subst (Draws tree tree reply) (sym is) (record { births = omega arith; serials = omega arith; told = files; opens = ap (λ (os : List ℕ). length os) opens })
 
-    pub asks_draws : (plan : Plan) → Draws s.tree (tree_after s.tree on_tree) (reply_by s.validity s.tree on_tree) plan → Draws s.tree (tree_said s h) (said s h) plan
-    asks_draws plan draws = subst (λ (t : Tree). Draws s.tree t (said s h) plan) tree_asks (subst (λ (r : Reply ℕ ℕ). Draws s.tree (tree_after s.tree on_tree) r plan) said_asks draws)
+-- ---- operations, under an open number of their file or not
 
--- no generation is left for the file that is told
-pub lacks_generation : (tree new : Tree) (nodes : NodeTable) (handles : HandleTable) (lost : Bool) (reply : Reply ℕ ℕ) (plan : Plan) → Draws tree new reply plan → lost ≡ false
-    → (file : ℕ) × (plan.told ≡ Some file) × IsUnheld nodes file × (2 ^ 62 ≤ nodes.next_generation) → LacksNumber new nodes handles lost reply
-lacks_generation tree new nodes handles lost reply plan draws live w = inr (inr (live, inl (w.0, draws.told ∙ ap listed w.1, w.2, w.3)))
+module _ (s : Server) (o : Operation ℕ Opened) where
+  abbrev on_tree : FileOperation
+  on_tree = file_operation_of s.nodes o
+
+  asked_draws : (b : Bool) (plan : Plan) → is_open_for s o ≡ b → Draws s.tree (cond b (tree_after s.tree on_tree) s.tree) (cond b (reply_by s.validity s.tree on_tree) (failed ebadf)) plan → Draws s.tree (tree_by s (asks o)) (said_by s (asks o)) plan
+  asked_draws b plan open' = subst (λ (c : Bool). Draws s.tree (cond c (tree_after s.tree on_tree) s.tree) (cond c (reply_by s.validity s.tree on_tree) (failed ebadf)) plan) (sym open')
+
+  pub open_draws : (plan : Plan) → is_open_for s o ≡ true → Draws s.tree (tree_after s.tree on_tree) (reply_by s.validity s.tree on_tree) plan → Draws s.tree (tree_by s (asks o)) (said_by s (asks o)) plan
+  open_draws plan open' = asked_draws true plan open'
+
+  pub closed_draws : (plan : Plan) → is_open_for s o ≡ false → plan ≡ nothing → Draws s.tree (tree_by s (asks o)) (said_by s (asks o)) plan
+  closed_draws plan closed is = asked_draws false plan closed (none_drawn s.tree (failed ebadf) plan refl refl is)

@@ -24,9 +24,9 @@ use Rattle.fuse_spec.specs.declared.Kind.TheVariants.{Directory, Regular, Other}
 use Rattle.fs_tree.specs.declared.listing.Record.{Record}
 use Rattle.fs_tree.specs.Views.{dirent_of}
 use Rattle.fs_files.specs.Listing.{record_of}
-use Rattle.fs_files.specs.Replies.{AreRecordBytes, dirents_in}
+use Rattle.fs_files.specs.Listed.{AreRecordBytes, dirents_in}
 
-records_read : (ds : List DirentContent) (bytes : List ℕ) → InRange (dirents ds) → bytes ≡ spellings (dirents ds) → ReadsAs 0 (dirents ds) bytes
+pub records_read : (ds : List DirentContent) (bytes : List ℕ) → InRange (dirents ds) → bytes ≡ spellings (dirents ds) → ReadsAs 0 (dirents ds) bytes
 records_read ds bytes fits is = subst (λ (b : List ℕ). ReadsAs 0 (dirents ds) b) (sym is) (reads_back (dirents ds) [] fits (dirents_are_named ds))
 
 -- bytes have one list of records
@@ -58,7 +58,7 @@ kind_back Directory = refl
 kind_back Regular = refl
 kind_back Other = refl
 
-records_back : (rs : List Record) → map dirent_in (map record_of rs) ≡ map dirent_of rs
+pub records_back : (rs : List Record) → map dirent_in (map record_of rs) ≡ map dirent_of rs
 records_back [] = refl
 records_back (r ∷ rs) = λ i. record { ino = (dirent_of r).ino; offset = (dirent_of r).offset; kind = kind_back r.kind i; name = (dirent_of r).name } ∷ records_back rs i
 
@@ -91,7 +91,7 @@ pad_is : (n : ℕ) → 24 + n + padding n ≡ (31 + n) / 8 * 8
 pad_is n = omega arith
 
 -- as long as their names say
-records_end : (ds : List DirentContent) (place : ℕ) (bytes : List ℕ) → ReadsAs place (dirents ds) bytes → length bytes ≡ place + sum_by record_length (map dirent_in ds)
+pub records_end : (ds : List DirentContent) (place : ℕ) (bytes : List ℕ) → ReadsAs place (dirents ds) bytes → length bytes ≡ place + sum_by record_length (map dirent_in ds)
 records_end [] place bytes reads = omega (arith, reads)
 records_end (d ∷ ds) place bytes reads =
     let rest = records_end ds (place + 8 + 8 + 4 + 4 + length d.name + padding (length d.name)) bytes reads.1.1.1.1.1 in
@@ -128,7 +128,7 @@ listed_same ds es e = ap records_said e
 
 -- ---- which files are listed
 
-low_born : (tree : Tree) → IsShaped tree → tree.next_birth ≤ 2 ^ 62 → (file : ℕ) → IsSome (get tree.files file) → file < 2 ^ 62
+pub low_born : (tree : Tree) → IsShaped tree → tree.next_birth ≤ 2 ^ 62 → (file : ℕ) → IsSome (get tree.files file) → file < 2 ^ 62
 low_born tree shaped births file there = by (nat_lt file tree.next_birth) refl
   where
     by : (b : Bool) → nat_lt file tree.next_birth ≡ b → file < 2 ^ 62

@@ -39,7 +39,7 @@ module _ (choice : ℕ → ℕ) (s : Server) (up : s.aborted ≡ false) where
   released_so o false = refl
 
   of_body : (body : RequestBody) → performing choice s body ≡ telling choice (record s { tree = tree_by s body; handles = handles_by s body }) (said_by s body)
-  of_body init = refl
+  of_body (init flags) = refl
   of_body (asks operation) = asked_so operation (is_open_for s operation)
   of_body (release o) = released_so o (is_open s.handles o.fh (file_of s.nodes o.nodeid))
   of_body (forget f) = refl
@@ -83,7 +83,7 @@ module _ (choice : ℕ → ℕ) (s : Server) (gone : s.aborted ≡ true) where
   released_lost o false = (refl, refl)
 
   body_lost : (body : RequestBody) → IsLost (record s { tree = tree_by s body; handles = handles_by s body }) (said_by s body) (performing choice s body)
-  body_lost init = (refl, refl)
+  body_lost (init flags) = (refl, refl)
   body_lost (asks operation) = asked_lost operation (is_open_for s operation)
   body_lost (release o) = released_lost o (is_open s.handles o.fh (file_of s.nodes o.nodeid))
   body_lost (forget f) = (refl, refl)
@@ -102,7 +102,7 @@ module _ (choice : ℕ → ℕ) (s : Server) (gone : s.aborted ≡ true) where
 -- ---- the files that get nodes
 
 files_said : (s : Server) (body : RequestBody) → files_by s body ≡ files_in_reply (said_by s body)
-files_said s init = refl
+files_said s (init flags) = refl
 files_said s (asks operation) = by (is_open_for s operation)
   where
     by : (b : Bool) → cond b (files_in_reply (reply_by s.validity s.tree (file_operation_of s.nodes operation))) [] ≡ files_in_reply (cond b (reply_by s.validity s.tree (file_operation_of s.nodes operation)) (failed ebadf))
@@ -145,11 +145,12 @@ module _ (s : Server) (held : Map HeldRequest) (kept : Map Kept) (copies : Map C
   same_open (operation.link x d name) = refl
   same_open (operation.opening x) = refl
   same_open (operation.readdir d after size) = refl
+  same_open (operation.readdirplus d after size) = refl
   same_open (operation.read o offset size) = refl
   same_open (operation.write o offset bytes) = refl
 
   same_by : (body : RequestBody) → said_by other body ≡ said_by s body
-  same_by init = refl
+  same_by (init flags) = refl
   same_by (asks operation) = ap (λ (b : Bool). cond b (reply_by s.validity s.tree (file_operation_of s.nodes operation)) (failed ebadf)) (same_open operation)
   same_by (release o) = refl
   same_by (forget f) = refl
@@ -157,7 +158,7 @@ module _ (s : Server) (held : Map HeldRequest) (kept : Map Kept) (copies : Map C
   same_by (interrupt original) = refl
 
   same_tree_by : (body : RequestBody) → tree_by other body ≡ tree_by s body
-  same_tree_by init = refl
+  same_tree_by (init flags) = refl
   same_tree_by (asks operation) = ap (λ (b : Bool). cond b (tree_after s.tree (file_operation_of s.nodes operation)) s.tree) (same_open operation)
   same_tree_by (release o) = refl
   same_tree_by (forget f) = refl
@@ -165,7 +166,7 @@ module _ (s : Server) (held : Map HeldRequest) (kept : Map Kept) (copies : Map C
   same_tree_by (interrupt original) = refl
 
   same_handles_by : (body : RequestBody) → handles_by other body ≡ handles_by s body
-  same_handles_by init = refl
+  same_handles_by (init flags) = refl
   same_handles_by (asks operation) = refl
   same_handles_by (release o) = refl
   same_handles_by (forget f) = refl

@@ -136,6 +136,7 @@ writes_regular files v known (operation.rmdir d name) is = tt
 writes_regular files v known (operation.link node d name) is = tt
 writes_regular files v known (operation.rename d old e new) is = tt
 writes_regular files v known (operation.readdir d after size) is = tt
+writes_regular files v known (operation.readdirplus d after size) is = tt
 writes_regular files v known (operation.opening node) is = tt
 writes_regular files v known (operation.read o offset size) is = tt
 writes_regular files v known (operation.write o offset bytes) is = same_kind (file_of files.nodes o.nodeid) files.tree files.handles known o.fh is
@@ -194,6 +195,7 @@ module _ (tree : Tree) (shaped : IsShaped tree) where
       by false None = same_files tree tree refl
       by false (Some file) = same_files tree (renamed tree d old e new (Some file)) refl
   keeps_files (operation.readdir d after size) regular = same_files tree tree refl
+  keeps_files (operation.readdirplus d after size) regular = same_files tree tree refl
   keeps_files (operation.opening file) regular = same_files tree tree refl
   keeps_files (operation.read file offset size) regular = same_files tree tree refl
   keeps_files (operation.write file offset []) regular = same_files tree tree refl

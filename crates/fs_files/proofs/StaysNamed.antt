@@ -8,6 +8,7 @@ use Rattle.std.proofs.lemmas.Option.{none-some, same_Some}
 use Rattle.fuse_spec.specs.Maps.{Map, get, put, remove}
 use Rattle.fuse_spec.specs.declared.Entry.{Entry}
 use Rattle.fuse_spec.specs.declared.Opened.{Opened}
+use Rattle.fuse_spec.specs.declared.Minor.{Minor}
 use Rattle.fuse_spec.specs.declared.Validity.{Validity}
 use Rattle.fuse_spec.specs.Copies.{row_back, rows_counted, handles_counted}
 use Rattle.fuse_spec.specs.FileOperations.{FileOperation, refusal, tree_or, tree_unrefused}
@@ -24,7 +25,7 @@ use Rattle.fs_tree.specs.Outcomes.{only_root, unnamed_by}
 use Rattle.fs_tree.proofs.KeepsNames.{keeps_name}
 use Rattle.fs_files.specs.Bounds.{AreKnown, AreNamed, AreNamedBut, IsThere, IsUnopened}
 use Rattle.fs_files.specs.Performing.{handles_by, handles_said, loosened, tree_by, tree_said}
-use Rattle.fs_files.specs.Values.{FilesState, no_handles, no_nodes, server_of}
+use Rattle.fs_files.specs.Values.{FilesState, no_handles, no_nodes, server_at}
 use Rattle.fs_files.proofs.StaysKnown.{writes_regular}
 
 -- ---- values of a map that are of a file
@@ -261,11 +262,11 @@ module _ (tree : Tree) (nodes : NodeTable) (handles : HandleTable) (old : AreNam
 
 -- ---- requests that are performed
 
-module _ (files : FilesState) (v : Validity) (known : AreKnown files.tree files.nodes files.handles) (shaped : IsShaped files.tree) (old : AreNamed files.tree files.nodes files.handles) where
+module _ (files : FilesState) (v : Validity) (m : Minor) (known : AreKnown files.tree files.nodes files.handles) (shaped : IsShaped files.tree) (old : AreNamed files.tree files.nodes files.handles) where
   unchanged : (loose : Option ℕ) → AreNamedBut loose files.tree files.nodes files.handles
   unchanged = named_but files.tree files.nodes files.handles old
 
-  of_operation : (o : Operation ℕ Opened) → is_open_for (server_of files v) o ≡ true → (r : Option ℕ) → AreNamedBut (unnamed_by files.tree (file_operation_of files.nodes o)) (tree_or files.tree (tree_unrefused files.tree (file_operation_of files.nodes o)) r) files.nodes files.handles
+  of_operation : (o : Operation ℕ Opened) → is_open_for (server_at m files v) o ≡ true → (r : Option ℕ) → AreNamedBut (unnamed_by files.tree (file_operation_of files.nodes o)) (tree_or files.tree (tree_unrefused files.tree (file_operation_of files.nodes o)) r) files.nodes files.handles
   of_operation o opened (Some errno) = unchanged (unnamed_by files.tree (file_operation_of files.nodes o))
   of_operation o opened None = record { rows = old.rows; opens = old.opens; coming = old.coming; named = named }
     where
@@ -278,7 +279,7 @@ module _ (files : FilesState) (v : Validity) (known : AreKnown files.tree files.
         | inr was ↦ was.1 (old.named x (λ e. none-some x e) was.0 no_node no_number)
       ]
 
-  of_asked : (o : Operation ℕ Opened) (b : Bool) → is_open_for (server_of files v) o ≡ b
+  of_asked : (o : Operation ℕ Opened) (b : Bool) → is_open_for (server_at m files v) o ≡ b
       → AreNamedBut (unnamed_by files.tree (file_operation_of files.nodes o)) (cond b (tree_or files.tree (tree_unrefused files.tree (file_operation_of files.nodes o)) (refusal files.tree (file_operation_of files.nodes o))) files.tree) files.nodes files.handles
   of_asked o true opened = of_operation o opened (refusal files.tree (file_operation_of files.nodes o))
   of_asked o false opened = unchanged (unnamed_by files.tree (file_operation_of files.nodes o))
@@ -287,22 +288,22 @@ module _ (files : FilesState) (v : Validity) (known : AreKnown files.tree files.
   of_release o true = named_number_back files.tree files.nodes files.handles old o.fh
   of_release o false = unchanged (option_map number_file (get files.handles.handles o.fh))
 
-  of_body : (body : RequestBody) → AreNamedBut (loosened (server_of files v) body) (tree_by (server_of files v) body) files.nodes (handles_by (server_of files v) body)
-  of_body (asks o) = of_asked o (is_open_for (server_of files v) o) refl
+  of_body : (body : RequestBody) → AreNamedBut (loosened (server_at m files v) body) (tree_by (server_at m files v) body) files.nodes (handles_by (server_at m files v) body)
+  of_body (asks o) = of_asked o (is_open_for (server_at m files v) o) refl
   of_body (release o) = of_release o (is_open files.handles o.fh (file_of files.nodes o.nodeid))
-  of_body init = unchanged None
+  of_body (init flags) = unchanged None
   of_body (forget f) = unchanged None
   of_body (batch_forget fs) = unchanged None
   of_body (interrupt original) = unchanged None
 
-  pub named_said : (h : HeldRequest) → AreNamedBut (loosened (server_of files v) h.body) (tree_said (server_of files v) h) files.nodes (handles_said (server_of files v) h)
+  pub named_said : (h : HeldRequest) → AreNamedBut (loosened (server_at m files v) h.body) (tree_said (server_at m files v) h) files.nodes (handles_said (server_at m files v) h)
   named_said h = by h.marked (is_still_held files.nodes h.generations)
     where
-      by : (m b : Bool) → AreNamedBut (loosened (server_of files v) h.body) (cond m files.tree (cond b (tree_by (server_of files v) h.body) files.tree)) files.nodes
-          (cond m files.handles (cond b (handles_by (server_of files v) h.body) files.handles))
-      by true b = unchanged (loosened (server_of files v) h.body)
+      by : (marked b : Bool) → AreNamedBut (loosened (server_at m files v) h.body) (cond marked files.tree (cond b (tree_by (server_at m files v) h.body) files.tree)) files.nodes
+          (cond marked files.handles (cond b (handles_by (server_at m files v) h.body) files.handles))
+      by true b = unchanged (loosened (server_at m files v) h.body)
       by false true = of_body h.body
-      by false false = unchanged (loosened (server_of files v) h.body)
+      by false false = unchanged (loosened (server_at m files v) h.body)
 
 -- ---- the root alone
 

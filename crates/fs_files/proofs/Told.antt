@@ -50,6 +50,6 @@ tells_plain one (Attributes attributes) = record { choice = λ n. n; may = tt; t
 tells_plain one (Listed records) = record { choice = λ n. n; may = tt; tree_is = refl; nodes_is = refl; handles_is = refl; wire_is = refl }
 tells_plain one (Content bytes) = record { choice = λ n. n; may = tt; tree_is = refl; nodes_is = refl; handles_is = refl; wire_is = refl }
 tells_plain one (Written size) = record { choice = λ n. n; may = tt; tree_is = refl; nodes_is = refl; handles_is = refl; wire_is = refl }
-tells_plain one (Agreed flags) = record { choice = λ n. n; may = tt; tree_is = refl; nodes_is = refl; handles_is = refl; wire_is = refl }
+tells_plain one (Agreed minor flags) = record { choice = λ n. n; may = tt; tree_is = refl; nodes_is = refl; handles_is = refl; wire_is = refl }
 tells_plain one Done = record { choice = λ n. n; may = tt; tree_is = refl; nodes_is = refl; handles_is = refl; wire_is = refl }
 tells_plain one (Failed errno) = record { choice = λ n. n; may = tt; tree_is = refl; nodes_is = refl; handles_is = refl; wire_is = refl }

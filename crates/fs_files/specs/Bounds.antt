@@ -11,6 +11,10 @@ use Rattle.fs_tree.specs.Outcomes.{is_regular}
 abbrev pub AreCounted : ℕ → NodeTable → Type 0
 AreCounted most nodes = (id : ℕ) (row : HeldNode) → get nodes.rows id ≡ Some row → row.count ≤ most
 
+-- every node has fewer lookups than the end of counters
+abbrev pub AreHeldBelow : NodeTable → Type 0
+AreHeldBelow nodes = (id : ℕ) (row : HeldNode) → get nodes.rows id ≡ Some row → row.count < 2 ^ 62
+
 -- no open number has more uses than this
 abbrev pub AreUsed : ℕ → HandleTable → Type 0
 AreUsed most handles = (fh : ℕ) (handle : OpenNumber) → get handles.handles fh ≡ Some handle → handle.count ≤ most

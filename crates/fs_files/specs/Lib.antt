@@ -1,7 +1,10 @@
 pub mod Values
 pub mod Bounds
+pub mod Listed
+pub mod Props
 pub mod Replies
 pub mod Listing
 pub mod Performing
 pub mod Plans
+pub mod Giving
 pub mod Telling

@@ -1,5 +1,6 @@
 -- What performing a held request comes to, before nodes and open numbers are given.
 use Rattle.std.specs.Prelude.{◌≡◌, ◌≤◌, ℕ, Option, None, cond, option_map}
+use Rattle.std.specs.Int.RustNames.{bit_and}
 use Rattle.fuse_spec.specs.declared.Validity.{Validity}
 use Rattle.fuse_spec.specs.Maps.{get}
 use Rattle.fuse_spec.specs.Numbers.{eintr, eio, ebadf}
@@ -9,7 +10,7 @@ use Rattle.fuse_spec.specs.FileOperations.{FileOperation, reply_by, reply_unrefu
 use Rattle.fuse_spec.specs.Messages.{RequestBody, init, asks, release, forget, batch_forget, interrupt}
 use Rattle.fuse_spec.specs.Nodes.{HandleTable, OpenNumber, file_of, is_open, handle_back, all_given, all_opened}
 use Rattle.fuse_spec.specs.Server.{Server, HeldRequest}
-use Rattle.fuse_spec.specs.Performs.{PerformResult, file_operation_of, is_open_for, is_still_held, wire_of}
+use Rattle.fuse_spec.specs.Performs.{PerformResult, flags_known, minor_number, file_operation_of, is_open_for, is_still_held, wire_of}
 use Rattle.fs_tree.specs.Outcomes.{unnamed_by}
 use Rattle.fs_files.specs.declared.replies.Outcome.{Outcome}
 use Rattle.fs_files.specs.Replies.{IsTellable, outcome_len, outcome_reply}
@@ -17,7 +18,7 @@ use Rattle.fs_files.specs.Values.{room_of, room_for}
 
 -- What a request is answered whose nodes are still held, with files named by their births.
 abbrev pub said_by : Server → RequestBody → Reply ℕ ℕ
-said_by s init = agreed 7 31
+said_by s (init flags) = agreed 7 (minor_number s.minor) (bit_and flags (flags_known s.minor))
 said_by s (asks operation) = cond (is_open_for s operation) (reply_by s.validity s.tree (file_operation_of s.nodes operation)) (failed ebadf)
 said_by s (release o) = cond (is_open s.handles o.fh (file_of s.nodes o.nodeid)) done (failed ebadf)
 said_by s (forget f) = failed eio
@@ -27,7 +28,7 @@ said_by s (interrupt original) = failed eio
 -- the tree after it
 abbrev pub tree_by : Server → RequestBody → Tree
 tree_by s (asks operation) = cond (is_open_for s operation) (tree_after s.tree (file_operation_of s.nodes operation)) s.tree
-tree_by s init = s.tree
+tree_by s (init flags) = s.tree
 tree_by s (release o) = s.tree
 tree_by s (forget f) = s.tree
 tree_by s (batch_forget fs) = s.tree
@@ -36,7 +37,7 @@ tree_by s (interrupt original) = s.tree
 -- the open numbers after it, before one is given
 abbrev pub handles_by : Server → RequestBody → HandleTable
 handles_by s (release o) = cond (is_open s.handles o.fh (file_of s.nodes o.nodeid)) (handle_back s.handles o.fh) s.handles
-handles_by s init = s.handles
+handles_by s (init flags) = s.handles
 handles_by s (asks operation) = s.handles
 handles_by s (forget f) = s.handles
 handles_by s (batch_forget fs) = s.handles
@@ -56,7 +57,7 @@ handles_said s held = cond held.marked s.handles (cond (is_still_held s.nodes he
 abbrev pub loosened : Server → RequestBody → Option ℕ
 loosened s (asks operation) = unnamed_by s.tree (file_operation_of s.nodes operation)
 loosened s (release o) = option_map (λ (h : OpenNumber). h.file) (get s.handles.handles o.fh)
-loosened s init = None
+loosened s (init flags) = None
 loosened s (forget f) = None
 loosened s (batch_forget fs) = None
 loosened s (interrupt original) = None

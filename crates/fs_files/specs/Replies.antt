@@ -1,35 +1,39 @@
 -- What replies say.
-use Rattle.std.specs.Prelude.{◌≡◌, ◌≢◌, ◌≤◌, ◌<◌, ◌^◌, ℕ, List, Option, Some, None, IsTrue, length, map, false}
+use Rattle.std.specs.Prelude.{◌≡◌, ◌≢◌, ◌≤◌, ◌<◌, ◌+◌, ◌-◌, ◌*◌, ◌^◌, ℕ, [], Option, Some, None, All, IsTrue, length, map, vec_capacity}
 use Rattle.std.specs.Int.RustNames.{bit_and}
 use Rattle.fuse_spec.specs.Numbers.{max_transfer, max_validity}
 use Rattle.fuse_spec.specs.Operations as operation
-use Rattle.fuse_spec.specs.Operations.{Reply}
-use Rattle.fuse_spec.specs.declared.Entry.{Entry}
+use Rattle.fuse_spec.specs.Operations.{Dirent, DirentPlus, Reply}
 use Rattle.fuse_spec.specs.Messages.{WireReply}
+use Rattle.fuse_spec.specs.Performs.{flags_known, minor_number}
 use Rattle.fuse_spec.specs.Trees.{Tree}
 use Rattle.fs_tree.specs.Outcomes.{is_regular}
 use Rattle.fs_files.specs.Bounds.{IsThere}
-use Rattle.fk_wire.specs.Decoded.{count_from}
-use Rattle.fk_wire.specs.Dirents.{DirentContent, dirents_from}
-use Rattle.fk_wire.specs.Records.{AreRecords}
 use Rattle.fk_wire.specs.Requests.{known_flags}
-use Rattle.fuse_frames.specs.ReplyTies.{dirent_in, dirent_of}
+use Rattle.fuse_frames.specs.ReplyTies.{dirent_in}
+use Rattle.fs_files.specs.Listed.{AreRecordBytes, dirents_in, listed_pairs, names_in, pair_listed}
 use Rattle.fs_files.specs.declared.replies.PlainReply.{PlainReply}
 use Rattle.fs_files.specs.declared.replies.PlainReply.TheVariants.{Missing, Attributes, Listed, Content, Written, Agreed, Done, Failed}
+use Rattle.fs_files.specs.declared.spare.ReplySpare.{ReplySpare}
 use Rattle.fs_files.specs.declared.replies.Outcome.{Outcome}
 use Rattle.fs_files.specs.declared.replies.Outcome.TheVariants as outcome
 use Rattle.fs_files.specs.declared.replies.SentReply.{SentReply}
 use Rattle.fs_files.specs.declared.replies.SentReply.TheVariants as sent
 
--- the records that these bytes are, if they are any
-abbrev pub dirents_in : List ℕ → List DirentContent
-dirents_in bytes = dirents_from (count_from (length bytes) false 0 bytes) 0 bytes
-
--- These bytes are records, whose types are those of kinds.
-abbrev pub AreRecordBytes : List ℕ → Type 0
-AreRecordBytes bytes = AreRecords 0 bytes (dirents_in bytes) × (map dirent_of (map dirent_in (dirents_in bytes)) ≡ dirents_in bytes)
+-- A name in a list tells a file of the tree that was born before the end of births.
+abbrev pub IsListable : Tree → Dirent → Type 0
+IsListable tree d = (1 ≤ d.ino) × (d.ino - 1 < 2 ^ 62) × IsThere tree (d.ino - 1)
 
 module _ {A : Type 0} where
+  -- Room for so many bytes, and so many names' entries.
+  pub record HasSpare (spare : ReplySpare A) (len names : ℕ) : Type 0 where
+    pub no_bytes : spare.bytes.items ≡ []
+    pub no_entries : spare.entries.items ≡ []
+    pub none_told : spare.told.items ≡ []
+    pub bytes : len ≤ vec_capacity spare.bytes
+    pub entries : names ≤ vec_capacity spare.entries
+    pub told : names ≤ vec_capacity spare.told
+
   -- what a reply says that names no file, whatever files are named by
   abbrev pub plain_reply : {F O : Type 0} → PlainReply A → Reply F O
   plain_reply (Missing missing_ms) = operation.missing missing_ms
@@ -37,7 +41,7 @@ module _ {A : Type 0} where
   plain_reply (Listed records) = operation.listed (map dirent_in (dirents_in records.items))
   plain_reply (Content bytes) = operation.content bytes.items
   plain_reply (Written size) = operation.written size
-  plain_reply (Agreed flags) = operation.agreed 7 31
+  plain_reply (Agreed minor flags) = operation.agreed 7 (minor_number minor) (bit_and (bit_and flags.0 known_flags) (flags_known minor))
   plain_reply Done = operation.done
   plain_reply (Failed errno) = operation.failed errno
 
@@ -53,24 +57,12 @@ module _ {A : Type 0} where
   content_len (Content bytes) = length bytes.items
   content_len reply = 0
 
-  -- the flags that the answer to INIT takes up, of those that are known; another reply has none, which is 0
-  abbrev pub flags_in : PlainReply A → ℕ
-  flags_in (Agreed flags) = bit_and flags.0 known_flags
-  flags_in reply = 0
-
-  abbrev pub outcome_flags : Outcome A → ℕ
-  outcome_flags (outcome.Plain reply) = flags_in reply
-  outcome_flags o = 0
-
-  abbrev pub sent_flags : SentReply A → ℕ
-  sent_flags (sent.Plain reply) = flags_in reply
-  sent_flags reply = 0
-
   -- what an outcome says, with files named by their births
   abbrev pub outcome_reply : (found_ms : ℕ) → Outcome A → Reply ℕ ℕ
   outcome_reply found_ms (outcome.Found file) = operation.found file found_ms
   outcome_reply found_ms (outcome.Created file) = operation.created file found_ms file
   outcome_reply found_ms (outcome.Opened file) = operation.opened file
+  outcome_reply found_ms (outcome.ListedPlus records) = operation.listed_plus (map (pair_listed found_ms) (names_in records.items))
   outcome_reply found_ms (outcome.Plain reply) = plain_reply reply
 
   abbrev pub outcome_errno : Outcome A → ℕ
@@ -78,32 +70,39 @@ module _ {A : Type 0} where
   outcome_errno o = 0
 
   abbrev pub outcome_len : Outcome A → ℕ
+  outcome_len (outcome.ListedPlus records) = 128 * length (names_in records.items) + length records.items
   outcome_len (outcome.Plain reply) = content_len reply
   outcome_len o = 0
+
+  -- how many names an outcome lists together with their files
+  abbrev pub outcome_names : Outcome A → ℕ
+  outcome_names (outcome.ListedPlus records) = length (names_in records.items)
+  outcome_names o = 0
 
   -- what is sent
   abbrev pub sent_wire : SentReply A → WireReply
   sent_wire (sent.Found entry found_ms) = operation.found entry found_ms
   sent_wire (sent.Created entry found_ms fh) = operation.created entry found_ms fh
   sent_wire (sent.Opened fh) = operation.opened fh
+  sent_wire (sent.ListedPlus listing) = operation.listed_plus (listed_pairs listing.found_ms listing.entries.items listing.records.items)
   sent_wire (sent.Plain reply) = plain_wire reply
 
   abbrev pub sent_len : SentReply A → ℕ
+  sent_len (sent.ListedPlus listing) = 128 * length listing.entries.items + length listing.records.items
   sent_len (sent.Plain reply) = content_len reply
   sent_len reply = 0
 
-  -- the entry that a reply carries
-  abbrev pub entry_of : SentReply A → Option Entry
-  entry_of (sent.Found entry found_ms) = Some entry
-  entry_of (sent.Created entry found_ms fh) = Some entry
-  entry_of (sent.Opened fh) = None
-  entry_of (sent.Plain reply) = None
+  -- how many names it lists together with their files
+  abbrev pub sent_names : SentReply A → ℕ
+  sent_names (sent.ListedPlus listing) = length listing.entries.items
+  sent_names reply = 0
 
   -- the open number that it carries
   abbrev pub opened_in : SentReply A → Option ℕ
   opened_in (sent.Found entry found_ms) = None
   opened_in (sent.Created entry found_ms fh) = Some fh
   opened_in (sent.Opened fh) = Some fh
+  opened_in (sent.ListedPlus listing) = None
   opened_in (sent.Plain reply) = None
 
   -- A reply that can be written as a frame.
@@ -118,6 +117,7 @@ module _ {A : Type 0} where
   IsSendable (sent.Found entry found_ms) = (entry.nodeid ≢ 0) × (found_ms ≤ max_validity)
   IsSendable (sent.Created entry found_ms fh) = (entry.nodeid ≢ 0) × (found_ms ≤ max_validity)
   IsSendable (sent.Opened fh) = Unit {0}
+  IsSendable (sent.ListedPlus listing) = Unit {0}
   IsSendable (sent.Plain reply) = IsPlainSendable reply
 
   -- An outcome whose file is in this tree, below the end of births, and regular if it is opened; or whose reply can be written.
@@ -125,4 +125,5 @@ module _ {A : Type 0} where
   IsTellable tree (outcome.Found file) = (file < 2 ^ 62) × IsThere tree file
   IsTellable tree (outcome.Created file) = (file < 2 ^ 62) × IsThere tree file × IsTrue (is_regular tree file)
   IsTellable tree (outcome.Opened file) = IsTrue (is_regular tree file)
+  IsTellable tree (outcome.ListedPlus records) = AreRecordBytes records.items × (128 * length (names_in records.items) + length records.items ≤ max_transfer) × All (IsListable tree) (names_in records.items)
   IsTellable tree (outcome.Plain reply) = IsPlainSendable reply

@@ -1,10 +1,11 @@
 -- How files are told by nodes and open numbers.
-use Rattle.std.specs.Prelude.{◌≡◌, ℕ}
-use Rattle.fuse_spec.specs.Operations.{Reply, files_in_reply, opens_in_reply}
+use Rattle.std.specs.Prelude.{◌≡◌, ℕ, ◌-◌, List, Some, map}
+use Rattle.fuse_spec.specs.Operations.{Dirent, DirentPlus, Reply, files_in_reply, opens_in_reply}
 use Rattle.fuse_spec.specs.Nodes.{NodeTable, MayName, MayChoose, all_given, all_opened, given}
 use Rattle.fuse_spec.specs.Performs.{entry_for, wire_of}
 use Rattle.fuse_spec.specs.Trees.{Tree}
 use Rattle.fuse_spec.specs.declared.Entry.{Entry}
+use Rattle.fs_files.specs.Giving.{node_in}
 use Rattle.fs_files.specs.Values.{FilesState}
 use Rattle.fs_files.specs.Replies.{sent_wire}
 use Rattle.fs_files.specs.declared.replies.SentReply.{SentReply}
@@ -15,6 +16,14 @@ pub record GivesEntry (tree : Tree) (nodes : NodeTable) (file : ℕ) (new : Node
   pub may : MayName nodes file id
   pub nodes_is : new ≡ given nodes file id
   pub entry_is : entry ≡ entry_for (λ _. id) new tree file
+
+-- the entry of a name in a list: by the node of its file, or by the root's where that has none
+abbrev pub entry_named : Tree → NodeTable → Dirent → Entry
+entry_named tree nodes d = entry_for (node_in nodes.rows) nodes tree (d.ino - 1)
+
+-- the names of a list with those entries
+abbrev pub entries_named : Tree → NodeTable → List Dirent → List (DirentPlus Entry)
+entries_named tree nodes ds = map (λ d. record { file = Some (entry_named tree nodes d); valid = 0; dirent = d }) ds
 
 -- The files of this reply are told: nodes and open numbers are given, and this is sent.
 pub record Tells {A : Type 0} (old : FilesState) (reply : Reply ℕ ℕ) (sent : SentReply A) (new : FilesState) : Type 0 where

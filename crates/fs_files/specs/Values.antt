@@ -1,5 +1,8 @@
 -- What contracts see of held requests and of the files that are served.
 use Rattle.std.specs.Prelude.{ℕ, false, List, [], ◌∷◌}
+use Rattle.std.specs.Int.RustNames.{bit_and}
+use Rattle.fuse_spec.specs.declared.Minor.{Minor}
+use Rattle.fuse_spec.specs.declared.Minor.TheVariants.{M31}
 use Rattle.fuse_spec.specs.declared.Opened.{Opened}
 use Rattle.fuse_spec.specs.declared.Validity.{Validity}
 use Rattle.fuse_spec.specs.Numbers.{max_transfer}
@@ -11,6 +14,7 @@ use Rattle.fuse_spec.specs.Performs.{file_operation_of}
 use Rattle.fuse_spec.specs.FileOperations.{FileOperation}
 use Rattle.fuse_spec.specs.Server.{Server}
 use Rattle.fuse_spec.specs.Trees.{Tree}
+use Rattle.fk_wire.specs.Requests.{known_flags}
 use Rattle.fs_files.specs.declared.held.Named.{Named}
 use Rattle.fs_files.specs.declared.held.Named.TheVariants.{Nothing, One, Two}
 use Rattle.fs_files.specs.declared.held.HeldOperation.{HeldOperation}
@@ -49,7 +53,11 @@ pub record FilesState : Type 0 where
 -- A server with these files, which holds no request and keeps no reply.
 abbrev pub server_of : FilesState → Validity → Server
 server_of files validity =
-    record { tree = files.tree; nodes = files.nodes; handles = files.handles; held = []; kept = []; copies = []; next_copy = 1; validity = validity; aborted = false }
+    record { tree = files.tree; nodes = files.nodes; handles = files.handles; held = []; kept = []; copies = []; next_copy = 1; validity = validity; minor = M31; aborted = false }
+
+-- the same at a minor
+abbrev pub server_at : Minor → FilesState → Validity → Server
+server_at minor files validity = record (server_of files validity) { minor = minor }
 
 -- the nodes that a request names, with their generations
 abbrev pub named_in : Named → List (ℕ × ℕ)
@@ -70,6 +78,7 @@ module _ {A : Type 0} where
   operation_of (held.Link node directory name) = operation.link node directory name.items
   operation_of (held.Open node) = operation.opening node
   operation_of (held.Readdir directory after size) = operation.readdir directory after size
+  operation_of (held.Readdirplus directory after size) = operation.readdirplus directory after size
   operation_of (held.Read opened offset size) = operation.read opened offset size
   operation_of (held.Write opened offset bytes) = operation.write opened offset bytes.items
 
@@ -85,6 +94,7 @@ module _ {A : Type 0} where
   node_in (held.Link node directory name) = node
   node_in (held.Open node) = node
   node_in (held.Readdir directory after size) = directory
+  node_in (held.Readdirplus directory after size) = directory
   node_in (held.Read opened offset size) = opened.nodeid
   node_in (held.Write opened offset bytes) = opened.nodeid
 
@@ -96,7 +106,7 @@ module _ {A : Type 0} where
 
   -- what a held request asks
   abbrev pub asked_of : HeldBody A → RequestBody
-  asked_of (Init flags) = init
+  asked_of (Init flags) = init (bit_and flags.0 known_flags)
   asked_of (Asks operation) = asks (operation_of operation)
   asked_of (Release opened) = release opened
 
@@ -107,9 +117,19 @@ module _ {A : Type 0} where
 -- how long the reply to an operation is at most that has no fixed length
 abbrev pub room_of : {F O : Type 0} → Operation F O → ℕ
 room_of (operation.readdir d after size) = max_transfer
+room_of (operation.readdirplus d after size) = max_transfer
 room_of (operation.read o offset size) = max_transfer
 room_of o = 0
 
 abbrev pub room_for : RequestBody → ℕ
 room_for (asks o) = room_of o
 room_for body = 0
+
+-- how many names the reply to an operation lists at most together with their files, each with an entry of 128 bytes
+abbrev pub names_of : {F O : Type 0} → Operation F O → ℕ
+names_of (operation.readdirplus d after size) = 32
+names_of o = 0
+
+abbrev pub names_for : RequestBody → ℕ
+names_for (asks o) = names_of o
+names_for body = 0

@@ -8,7 +8,7 @@ ghost use Rattle.fuse_spec.specs.Performs.{is_open_for, is_still_held};
 ghost use Rattle.fuse_spec.specs.declared.Validity.{Validity as ValidityValue};
 ghost use Rattle.fs_files.specs.Performing.{ComesTo, handles_by, handles_said, said, said_by, tree_said, tree_by};
 ghost use Rattle.fs_files.specs.Replies.{IsTellable, outcome_len, outcome_reply};
-ghost use Rattle.fs_files.specs.Values.{operation_of, room_for, server_of, named_in};
+ghost use Rattle.fs_files.specs.Values.{operation_of, room_for, server_at, server_of, named_in};
 
 use crate::files::Files;
 use crate::held::{HeldBody, HeldOperation, HeldRequest, Named};
@@ -17,7 +17,7 @@ use crate::operating::operate;
 use crate::refusing::refusal_of;
 use crate::replies::{Outcome, PlainReply};
 use fs_nodes::NodeStore;
-use fuse_spec::{Opened, Validity};
+use fuse_spec::{Minor, Opened, Validity};
 use std::alloc::{AllocError, Allocator};
 
 /// EINTR, of a request that an INTERRUPT marked.
@@ -30,21 +30,22 @@ const EIO: u32 = 5;
 const EBADF: u32 = 9;
 
 impl<A: Allocator + Copy> Files<A> {
-    /// What a held request comes to, on the tree as it is now. Where memory is wanting nothing changes.
+    /// What a held request comes to, on the tree as it is now; an INIT is answered this minor. Where memory is wanting nothing changes.
     pub fn answer(
         &mut self,
         held: &HeldRequest<A>,
         validity: Validity,
+        minor: Minor,
     ) -> Result<Outcome<A>, AllocError>
-        requires births { (tree_said (server_of self.old validity) held.now).next_birth ≤ 2 ^ 62 }
-        requires serials { (tree_said (server_of self.old validity) held.now).next_serial ≤ 2 ^ 62 }
+        requires births { (tree_said (server_at minor self.old validity) held.now).next_birth ≤ 2 ^ 62 }
+        requires serials { (tree_said (server_at minor self.old validity) held.now).next_serial ≤ 2 ^ 62 }
         requires day { validity.missing_ms ≤ max_validity }
         ensures err { OnErr result (self.new ≡ self.old) }
-        ensures says { IfOk result (λ outcome. outcome_reply validity.found_ms outcome ≡ said (server_of self.old validity) held.now) }
+        ensures says { IfOk result (λ outcome. outcome_reply validity.found_ms outcome ≡ said (server_at minor self.old validity) held.now) }
         ensures tellable { IfOk result (λ outcome. IsTellable self.new.tree outcome) }
         ensures short { IfOk result (λ outcome. outcome_len outcome ≤ room_for held.now.body) }
-        ensures tree { OnOk result (self.new.tree ≡ tree_said (server_of self.old validity) held.now) }
-        ensures handles { OnOk result (self.new.handles ≡ handles_said (server_of self.old validity) held.now) }
+        ensures tree { OnOk result (self.new.tree ≡ tree_said (server_at minor self.old validity) held.now) }
+        ensures handles { OnOk result (self.new.handles ≡ handles_said (server_at minor self.old validity) held.now) }
         ensures nodes { self.new.nodes ≡ self.old.nodes }
         ensures node_room { self.new.node_room ≡ self.old.node_room }
         ensures open_room { self.old.open_room ≤ self.new.open_room }
@@ -57,7 +58,10 @@ impl<A: Allocator + Copy> Files<A> {
         }
         match held.body() {
             HeldBody::Init { flags } => Ok(Outcome::Plain {
-                reply: PlainReply::Agreed { flags: *flags },
+                reply: PlainReply::Agreed {
+                    minor,
+                    flags: *flags,
+                },
             }),
             HeldBody::Asks { operation } => self.ask(operation, validity),
             HeldBody::Release { opened } => Ok(self.release(*opened)),

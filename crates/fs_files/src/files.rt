@@ -7,6 +7,7 @@ ghost use Rattle.fuse_spec.specs.Nodes.{handle_back, handle_more, is_held, row_m
 ghost use Rattle.fuse_spec.specs.Copies.{row_back};
 ghost use Rattle.fuse_spec.specs.Server.{count_in, is_file_held};
 ghost use Rattle.fs_nodes.specs.Rows.{listed};
+ghost use Rattle.fs_nodes.specs.Sound.{IsSound};
 ghost use Rattle.fs_tree.specs.Outcomes.{only_root, without_unheld};
 ghost use Rattle.fs_files.specs.Bounds.{AreCounted, AreNamed, AreNamedBut, AreUsed};
 ghost use Rattle.fs_files.specs.Values.{no_nodes, no_handles, server_of};
@@ -58,12 +59,12 @@ impl<A: Allocator + Copy> Files<A> {
         })
     }
 
-    /// Makes room for telling one more file.
+    /// Makes room for telling the files of one more reply.
     pub fn reserve(&mut self) -> Result<(), AllocError>
         ensures tree { self.new.tree ≡ self.old.tree }
         ensures nodes { self.new.nodes ≡ self.old.nodes }
         ensures handles { self.new.handles ≡ self.old.handles }
-        ensures node_room { OnOk result (0 < self.new.node_room) }
+        ensures node_room { OnOk result (32 ≤ self.new.node_room) }
         ensures open_room { OnOk result (0 < self.new.open_room) }
     {
         self.known.reserve()
@@ -80,6 +81,13 @@ impl<A: Allocator + Copy> Files<A> {
         let _serials = self.tree.serials_left();
         let _generations = self.known.nodes.generations_left();
         let _numbers = self.known.handles.numbers_left();
+    }
+
+    /// Nodeids rise from 2, no two have one file, each has a lookup, and its generation was given before the coming one.
+    pub fn keeps_sound(&self)
+        ensures { IsSound self.now.nodes }
+    {
+        self.known.nodes.keeps_sound();
     }
 
     /// The nodes that are held.
@@ -126,7 +134,7 @@ impl<A: Allocator + Copy> Files<A> {
 
     /// Counts one lookup more of a node, if it is held.
     pub fn count_again(&mut self, id: u64)
-        requires { AreCounted (2 ^ 62) self.old.nodes }
+        requires { AreCounted (2 ^ 63) self.old.nodes }
         ensures tree { self.new.tree ≡ self.old.tree }
         ensures nodes { self.new.nodes ≡ row_more self.old.nodes id }
         ensures handles { self.new.handles ≡ self.old.handles }

@@ -1,15 +1,18 @@
 //! Requests that are held until they are performed.
 
 ghost use Rattle.std.specs.Prelude.{◌≡◌, true, false};
-ghost use Rattle.fs_files.specs.Values.{asked_of, named_in, room_for};
+ghost use Rattle.fs_files.specs.Values.{asked_of, named_in, names_for, room_for};
 
 use fk_wire::InitFlags;
 use fuse_spec::Opened;
 use std::alloc::Allocator;
 use std::marker::Model;
 
-/// The longest body of a reply to READ or READDIR.
+/// The longest body of a reply to READ, READDIR or READDIRPLUS.
 pub(crate) const MOST_CONTENT: usize = 4096;
+
+/// The most names in a reply to READDIRPLUS, each with an entry of 128 bytes.
+pub(crate) const MOST_NAMES: usize = MOST_CONTENT / 128;
 
 /// A node that a request names, with the generation that it had when the request was taken.
 #[derive(Clone, Copy, Debug, PartialEq, Eq)]
@@ -71,6 +74,11 @@ pub enum HeldOperation<A: Allocator> {
         after: u64,
         size: u32,
     },
+    Readdirplus {
+        directory: u64,
+        after: u64,
+        size: u32,
+    },
     Read {
         opened: Opened,
         offset: u64,
@@ -98,7 +106,8 @@ impl<A: Allocator> HeldOperation<A> {
                 *directory,
             HeldOperation::Rmdir { directory, .. } | HeldOperation::Rename { directory, .. } =>
                 *directory,
-            HeldOperation::Readdir { directory, .. } => *directory,
+            HeldOperation::Readdir { directory, .. }
+            | HeldOperation::Readdirplus { directory, .. } => *directory,
             HeldOperation::Getattr { node } | HeldOperation::Open { node } => *node,
             HeldOperation::Link { node, .. } => *node,
             HeldOperation::Read { opened, .. } | HeldOperation::Write { opened, .. } =>
@@ -194,6 +203,21 @@ impl<A: Allocator> HeldRequest<A> {
             HeldBody::Asks {
                 operation: HeldOperation::Read { .. } | HeldOperation::Readdir { .. },
             } => MOST_CONTENT,
+            HeldBody::Asks {
+                operation: HeldOperation::Readdirplus { .. },
+            } => MOST_CONTENT,
+            _ => 0,
+        }
+    }
+
+    /// How many names its reply lists at most together with their files.
+    pub fn reply_names(&self) -> usize
+        ensures { result ≡ names_for self.now.body }
+    {
+        match &self.body {
+            HeldBody::Asks {
+                operation: HeldOperation::Readdirplus { .. },
+            } => MOST_NAMES,
             _ => 0,
         }
     }

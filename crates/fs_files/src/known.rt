@@ -41,11 +41,11 @@ impl<A: Allocator + Copy> KnownFiles<A> {
         }
     }
 
-    /// Makes room for one more node and one more open number.
+    /// Makes room for as many more nodes as a reply tells at most, and for one more open number.
     pub(crate) fn reserve(&mut self) -> Result<(), AllocError>
         ensures nodes { self.new.nodes ≡ self.old.nodes }
         ensures handles { self.new.handles ≡ self.old.handles }
-        ensures node_room { OnOk result (0 < self.new.node_room) }
+        ensures node_room { OnOk result (32 ≤ self.new.node_room) }
         ensures open_room { OnOk result (0 < self.new.open_room) }
     {
         self.nodes.reserve()?;

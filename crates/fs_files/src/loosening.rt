@@ -1,11 +1,12 @@
 //! Which file a request may leave without a name and without a holder.
 
 ghost use Rattle.std.specs.Prelude.{◌≡◌, None};
+ghost use Rattle.fuse_spec.specs.declared.Minor.{Minor as MinorValue};
 ghost use Rattle.fuse_spec.specs.declared.Validity.{Validity as ValidityValue};
 ghost use Rattle.fs_tree.specs.Outcomes.{unnamed_by};
 ghost use Rattle.fs_files.specs.Bounds.{AreNamed, AreNamedBut};
 ghost use Rattle.fs_files.specs.Performing.{handles_said, loosened, tree_said};
-ghost use Rattle.fs_files.specs.Values.{asked_of, on_files, server_of};
+ghost use Rattle.fs_files.specs.Values.{asked_of, on_files, server_at};
 
 use crate::files::Files;
 use crate::held::{HeldBody, HeldOperation, HeldRequest};
@@ -18,8 +19,8 @@ impl<A: Allocator + Copy> Files<A> {
     /// The file that a held request takes a name for good or an open number from, if it is performed. Every other file that nothing
     /// holds keeps a name.
     pub fn loosened_by(&self, held: &HeldRequest<A>) -> Option<u64>
-        ensures file { (v : ValidityValue) → result ≡ loosened (server_of self.now v) held.now.body }
-        ensures others { (v : ValidityValue) → AreNamed self.now.tree self.now.nodes self.now.handles → AreNamedBut result (tree_said (server_of self.now v) held.now) self.now.nodes (handles_said (server_of self.now v) held.now) }
+        ensures file { (v : ValidityValue) (m : MinorValue) → result ≡ loosened (server_at m self.now v) held.now.body }
+        ensures others { (v : ValidityValue) (m : MinorValue) → AreNamed self.now.tree self.now.nodes self.now.handles → AreNamedBut result (tree_said (server_at m self.now v) held.now) self.now.nodes (handles_said (server_at m self.now v) held.now) }
     {
         self.tree.keeps_shape();
         self.loosened(held.body())
@@ -27,7 +28,7 @@ impl<A: Allocator + Copy> Files<A> {
 
     /// The same of what a request asks.
     fn loosened(&self, body: &HeldBody<A>) -> Option<u64>
-        ensures { (v : ValidityValue) → result ≡ loosened (server_of self.now v) (asked_of body.now) }
+        ensures { (v : ValidityValue) (m : MinorValue) → result ≡ loosened (server_at m self.now v) (asked_of body.now) }
     {
         match body {
             HeldBody::Asks { operation } => unnamed_by(&self.tree, &self.known.nodes, operation),

@@ -1,17 +1,19 @@
 //! The nodes that the server holds, the root among them.
 
-ghost use Rattle.std.specs.Prelude.{◌≡◌, ◌+◌, ◌^◌, ◌<◌, ◌≤◌, ℕ, [], true, false, Some, OnOk, IfOk, is_some, nat_eq, option_map};
+ghost use Rattle.std.specs.Prelude.{◌≡◌, ◌+◌, ◌^◌, ◌<◌, ◌≤◌, ◌||◌, ℕ, List, [], true, false, not, Some, OnOk, IfOk, count_by, is_some, length, nat_eq, option_map};
 ghost use Rattle.std.specs.List.{list_any};
 ghost use Rattle.fuse_spec.specs.Maps.{get, values};
-ghost use Rattle.fuse_spec.specs.Nodes.{HeldNode, row_of, file_of, is_held, given, row_more, taken_back, MayName, IsUnheld};
+ghost use Rattle.fuse_spec.specs.Nodes.{HeldNode, counts_out, row_of, file_of, is_held, given, row_more, taken_back, MayName, IsUnheld};
 ghost use Rattle.fuse_spec.specs.Server.{count_in, generation_in, is_known};
 ghost use Rattle.fuse_spec.specs.Copies.{row_back};
 ghost use Rattle.fs_nodes.specs.Rows.{listed};
-ghost use Rattle.fs_files.specs.Bounds.{AreCounted};
+ghost use Rattle.fs_nodes.specs.Sound.{IsSound};
+ghost use Rattle.fs_files.specs.Bounds.{AreCounted, AreHeldBelow};
+ghost use Rattle.fs_files.specs.Giving.{IsCountable, files_of, has_node, new_among, node_in};
 ghost use Rattle.fs_files.specs.Values.{no_nodes};
 
-use crate::held::NamedNode;
-use fs_nodes::NodeStore;
+use crate::held::{MOST_NAMES, NamedNode};
+use fs_nodes::{LIMIT, NodeStore};
 use fuse_spec::Entry;
 use std::alloc::AllocError;
 use std::marker::Model;
@@ -48,12 +50,12 @@ impl<S: NodeStore> Nodes<S> {
         }
     }
 
-    /// Makes room for one more node.
+    /// Makes room for as many more nodes as a reply tells at most.
     pub fn reserve(&mut self) -> Result<(), AllocError>
         ensures table { self.new.table ≡ self.old.table }
-        ensures room { OnOk result (0 < self.new.room) }
+        ensures room { OnOk result (32 ≤ self.new.room) }
     {
-        self.store.reserve([ROOT_FILE].as_slice())
+        self.store.reserve([ROOT_FILE; MOST_NAMES].as_slice())
     }
 
     /// How many generations are left below 2^62.
@@ -133,6 +135,108 @@ impl<S: NodeStore> Nodes<S> {
         self.store.has(file)
     }
 
+    /// The node of a file, or the root's where it has none.
+    pub fn node_of(&self, file: u64) -> u64
+        ensures { result ≡ node_in self.now.table.rows file }
+    {
+        self.store.keeps_sound();
+        self.store.id_of(file).unwrap_or(ROOT)
+    }
+
+    /// Nodeids rise from 2, no two have one file, each has a lookup, and its generation was given before the coming one.
+    pub fn keeps_sound(&self)
+        ensures { IsSound self.now.table }
+    {
+        self.store.keeps_sound();
+    }
+
+    /// How many nodes are new once these files have nodes.
+    pub fn new_among(&self, files: &[u64]) -> usize
+        ensures new { result ≡ new_among (has_node self.now.table) files.now }
+        ensures few { result ≤ length files.now }
+    {
+        let mut count = 0;
+        let mut left = files;
+        for _ in 0..files.len() {
+            let Some((file, rest)) = left.split_first() else {
+                return count;
+            };
+            count += self.is_new(*file, rest) as usize;
+            left = rest;
+        }
+        count
+    }
+
+    /// Whether a file has no node and is none of the others.
+    fn is_new(&self, file: u64, others: &[u64]) -> bool
+        ensures { result ≡ not (has_node self.now.table file || list_any (nat_eq file) others.now) }
+    {
+        !self.has(file) && !others.contains(&file)
+    }
+
+    /// Whether some node's lookups come to the end of counters once each of these files is told once more. Only the nodes of these
+    /// files are looked at.
+    pub fn counts_out(&self, files: &[u64]) -> bool
+        requires { AreHeldBelow self.now.table }
+        ensures { result ≡ counts_out self.now.table files.now }
+    {
+        self.store.keeps_sound();
+        let mut left = files;
+        for _ in 0..files.len() {
+            let Some((file, rest)) = left.split_first() else {
+                return false;
+            };
+            if self.is_counted_out(*file, times(*file, files)) {
+                return true;
+            }
+            left = rest;
+        }
+        false
+    }
+
+    /// Whether some node's lookups come to the end of counters once each of these entries counts its node once more. Only the nodes
+    /// of these entries are looked at.
+    pub fn counts_out_again(&self, told: &[Entry]) -> bool
+        requires { AreHeldBelow self.now.table }
+        ensures { result ≡ counts_out self.now.table (files_of self.now.table told.now) }
+    {
+        self.store.keeps_sound();
+        let mut left = told;
+        for _ in 0..told.len() {
+            let Some((entry, rest)) = left.split_first() else {
+                return false;
+            };
+            let file = self.file_of(entry.nodeid);
+            if self.is_counted_out(file, self.times_told(file, told)) {
+                return true;
+            }
+            left = rest;
+        }
+        false
+    }
+
+    /// Whether the lookups of a file's node come to the end of counters once it is told so many times more.
+    fn is_counted_out(&self, file: u64, more: usize) -> bool
+        requires { AreHeldBelow self.now.table }
+        ensures out { result ≡ true → (files : List ℕ) → more ≡ count_by (nat_eq file) files → counts_out self.now.table files ≡ true }
+        ensures within { result ≡ false → (files : List ℕ) → more ≡ count_by (nat_eq file) files → IsCountable self.now.table files file }
+    {
+        self.store.keeps_sound();
+        match self.store.id_of(file) {
+            Some(id) => more as u64 >= LIMIT - self.store.count_of(id),
+            None => false,
+        }
+    }
+
+    /// How many of these entries are of nodes of a file.
+    fn times_told(&self, file: u64, told: &[Entry]) -> usize
+        ensures { result ≡ count_by (nat_eq file) (files_of self.now.table told.now) }
+    {
+        told.iter()
+            .filter(|entry| self.file_of(entry.nodeid) == file)
+            .count()
+    }
+
     /// Counts one lookup of a file, and gives its nodeid and generation.
     pub fn give(&mut self, file: u64) -> (u64, u64)
         requires room { 0 < self.old.room }
@@ -140,6 +244,7 @@ impl<S: NodeStore> Nodes<S> {
         requires count { (id : ℕ) (row : HeldNode) → get self.old.table.rows id ≡ Some row → row.count + 1 < 2 ^ 64 }
         ensures id { MayName self.old.table file result.0 }
         ensures two { 2 ≤ result.0 }
+        ensures room { self.old.room ≤ self.new.room + 1 }
         ensures generation { result.1 ≡ generation_in (row_of self.new.table result.0) }
         ensures table { self.new.table ≡ given self.old.table file result.0 }
     {
@@ -149,7 +254,7 @@ impl<S: NodeStore> Nodes<S> {
 
     /// Counts one lookup more of a node, if it is held. The root has no count.
     pub fn count_again(&mut self, id: u64)
-        requires { AreCounted (2 ^ 62) self.old.table }
+        requires { AreCounted (2 ^ 63) self.old.table }
         ensures { self.new.table ≡ row_more self.old.table id }
     {
         self.store.keeps_sound();
@@ -194,4 +299,11 @@ impl<S: NodeStore> Nodes<S> {
     {
         self.store.nodes(alloc)
     }
+}
+
+/// How many times a file is among these.
+fn times(file: u64, files: &[u64]) -> usize
+    ensures { result ≡ count_by (nat_eq file) files.now }
+{
+    files.iter().filter(|other| **other == file).count()
 }

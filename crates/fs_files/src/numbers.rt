@@ -1,15 +1,19 @@
 //! Whether the counters have the numbers that a held request draws.
 
-ghost use Rattle.std.specs.Prelude.{◌≡◌, ◌≤◌, ◌<◌, ◌+◌, ◌^◌, ℕ, true, false, nat_le, IfSome, Some};
-ghost use Rattle.fuse_spec.specs.Nodes.{IsUnheld};
+ghost use Rattle.std.specs.Prelude.{◌≡◌, ◌≤◌, ◌<◌, ◌+◌, ◌^◌, ◌⊎◌, true, false, nat_le};
+ghost use Rattle.fuse_spec.specs.Messages.{asks};
+ghost use Rattle.fuse_spec.specs.Nodes.{counts_out};
+ghost use Rattle.fuse_spec.specs.declared.Minor.{Minor as MinorValue};
 ghost use Rattle.fuse_spec.specs.declared.Validity.{Validity as ValidityValue};
-ghost use Rattle.fs_files.specs.Performing.{said, tree_said};
+ghost use Rattle.fs_files.specs.Bounds.{AreHeldBelow};
+ghost use Rattle.fs_files.specs.Giving.{generations_after};
+ghost use Rattle.fs_files.specs.Performing.{said, said_by, tree_by, tree_said};
 ghost use Rattle.fs_files.specs.Plans.{Draws, HasNumbers, LacksNumber};
-ghost use Rattle.fs_files.specs.Values.{server_of};
+ghost use Rattle.fs_files.specs.Values.{operation_of, server_at};
 
 use crate::answering::are_held;
 use crate::files::Files;
-use crate::held::{HeldBody, HeldRequest};
+use crate::held::{HeldBody, HeldOperation, HeldRequest};
 use crate::plan::{Plan, no_numbers, plan_of};
 use std::alloc::Allocator;
 
@@ -17,39 +21,48 @@ impl<A: Allocator + Copy> Files<A> {
     /// Whether the counters have the numbers that performing a held request draws. Where its reply is lost it draws only those of
     /// the tree.
     pub fn has_numbers(&self, held: &HeldRequest<A>, is_lost: bool) -> bool
-        ensures has { (v : ValidityValue) → result ≡ true → HasNumbers (tree_said (server_of self.now v) held.now) self.now.nodes self.now.handles is_lost (said (server_of self.now v) held.now) }
-        ensures lacks { (v : ValidityValue) → result ≡ false → LacksNumber (tree_said (server_of self.now v) held.now) self.now.nodes self.now.handles is_lost (said (server_of self.now v) held.now) }
+        requires { AreHeldBelow self.now.nodes }
+        ensures has { (v : ValidityValue) (m : MinorValue) → result ≡ true → HasNumbers (tree_said (server_at m self.now v) held.now) self.now.nodes self.now.handles is_lost (said (server_at m self.now v) held.now) }
+        ensures lacks { (v : ValidityValue) (m : MinorValue) → result ≡ false → LacksNumber (tree_said (server_at m self.now v) held.now) self.now.nodes self.now.handles is_lost (said (server_at m self.now v) held.now) }
     {
         let plan = self.plan_for(held);
         plan.births <= self.tree.births_left()
             && plan.serials <= self.tree.serials_left()
-            && (is_lost || (self.can_tell(plan.told) && self.can_open(plan.opens)))
+            && (is_lost || (self.can_tell(&plan.told) && self.can_open(plan.opens)))
     }
 
     /// What performing a held request draws.
     fn plan_for(&self, held: &HeldRequest<A>) -> Plan
-        ensures { (v : ValidityValue) → Draws self.now.tree (tree_said (server_of self.now v) held.now) (said (server_of self.now v) held.now) result }
+        ensures { (v : ValidityValue) (m : MinorValue) → Draws self.now.tree (tree_said (server_at m self.now v) held.now) (said (server_at m self.now v) held.now) result }
     {
         if held.is_marked() || !are_held(&self.known.nodes, held.named()) {
             return no_numbers();
         }
         match held.body() {
-            HeldBody::Asks { operation } if self.is_open_for(operation) => {
-                plan_of(&self.tree, &self.known.nodes, operation)
-            }
-            _ => no_numbers(),
+            HeldBody::Asks { operation } => self.plan_asked(operation),
+            HeldBody::Init { .. } => no_numbers(),
+            HeldBody::Release { .. } => no_numbers(),
         }
     }
 
-    /// Whether a file can be told by a node: it has one, or a generation is left.
-    fn can_tell(&self, told: Option<u64>) -> bool
-        ensures can { result ≡ true → IfSome told (λ file. IsUnheld self.now.nodes file → self.now.nodes.next_generation < 2 ^ 62) }
-        ensures cannot { result ≡ false → (file : ℕ) × (told ≡ Some file) × IsUnheld self.now.nodes file × (2 ^ 62 ≤ self.now.nodes.next_generation) }
+    /// What an operation draws: nothing under an open number that is none of its node's file.
+    fn plan_asked(&self, operation: &HeldOperation<A>) -> Plan
+        ensures { (v : ValidityValue) (m : MinorValue) → Draws self.now.tree (tree_by (server_at m self.now v) (asks (operation_of operation.now))) (said_by (server_at m self.now v) (asks (operation_of operation.now))) result }
     {
-        match told {
-            Some(file) => self.known.nodes.has(file) || self.known.nodes.generations_left() > 0,
-            None => true,
+        if !self.is_open_for(operation) {
+            return no_numbers();
         }
+        plan_of(&self.tree, &self.known.nodes, operation)
+    }
+
+    /// Whether these files can be told by nodes, one after another: the generations are enough, and no node's count comes to its end.
+    fn can_tell(&self, told: &[u64]) -> bool
+        requires { AreHeldBelow self.now.nodes }
+        ensures can { result ≡ true → (generations_after self.now.nodes told.now ≤ 2 ^ 62) × (counts_out self.now.nodes told.now ≡ false) }
+        ensures cannot { result ≡ false → (2 ^ 62 < generations_after self.now.nodes told.now) ⊎ (counts_out self.now.nodes told.now ≡ true) }
+    {
+        let nodes = &self.known.nodes;
+        nodes.new_among(told) as u64 <= nodes.generations_left() && !nodes.counts_out(told)
     }
 
     /// Whether so many open numbers are left.

@@ -4,7 +4,7 @@ ghost use Rattle.std.specs.Prelude.{◌≡◌, ◌≤◌, ◌<◌, ◌^◌, true
 ghost use Rattle.fuse_spec.specs.declared.Validity.{Validity as ValidityValue};
 ghost use Rattle.fuse_spec.specs.FileOperations.{refusal, tree_unrefused};
 ghost use Rattle.fuse_spec.specs.Numbers.{max_transfer, max_validity};
-ghost use Rattle.fuse_spec.specs.Operations.{create, getattr, link, listed, lookup, mkdir, opening, read, readdir, rename, rmdir, unlink, write};
+ghost use Rattle.fuse_spec.specs.Operations.{create, getattr, link, listed, lookup, mkdir, opening, read, readdir, readdirplus, rename, rmdir, unlink, write};
 ghost use Rattle.fuse_spec.specs.TreeShape.{WritesRegular};
 ghost use Rattle.fs_tree.specs.Outcomes.{IsReply};
 ghost use Rattle.fs_files.specs.Bounds.{AreLow, AreThere, IsThere};
@@ -52,6 +52,9 @@ pub(crate) fn operate<A: Allocator + Copy, S: NodeStore>(
         HeldOperation::Link { name, .. } => link_file(tree, file, other, name),
         HeldOperation::Open { .. } => Ok(Outcome::Opened { file }),
         HeldOperation::Readdir { after, size, .. } => list_names(tree, file, *after, *size, alloc),
+        HeldOperation::Readdirplus { after, size, .. } => {
+            list_files(tree, file, *after, *size, alloc)
+        }
         HeldOperation::Read { offset, size, .. } => read_bytes(tree, file, *offset, *size, alloc),
         HeldOperation::Write { offset, bytes, .. } => write_bytes(tree, file, *offset, bytes),
     }
@@ -214,6 +217,25 @@ fn list_names<A: Allocator + Copy>(
     Ok(Outcome::Plain {
         reply: PlainReply::Listed { records },
     })
+}
+
+/// A READDIRPLUS.
+fn list_files<A: Allocator + Copy>(
+    tree: &Tree<A>,
+    directory: u64,
+    after: u64,
+    size: u32,
+    alloc: A,
+) -> Result<Outcome<A>, AllocError>
+    ensures { IfOk result (λ outcome. (v : ValidityValue) → Operates v tree.now (readdirplus directory after size) outcome tree.now) }
+{
+    tree.keeps_shape();
+    let _births = tree.births_left();
+    let Ok(records) = tree.readdirplus(directory, after, size) else {
+        return Err(AllocError);
+    };
+    let records = record_bytes(alloc, &records)?;
+    Ok(Outcome::ListedPlus { records })
 }
 
 /// A READ.

@@ -1,6 +1,6 @@
 //! Which numbers an operation draws.
 
-ghost use Rattle.std.specs.Prelude.{◌≡◌, None, Some};
+ghost use Rattle.std.specs.Prelude.{◌≡◌, ◌∷◌, [], None, option_to_list};
 ghost use Rattle.fuse_spec.specs.declared.Validity.{Validity as ValidityValue};
 ghost use Rattle.fuse_spec.specs.FileOperations.{refusal, reply_by, reply_unrefused, tree_after, tree_unrefused};
 ghost use Rattle.fuse_spec.specs.Operations.{lookup, rename};
@@ -11,29 +11,39 @@ ghost use Rattle.fs_files.specs.Values.{on_files};
 use crate::held::HeldOperation;
 use crate::nodes::Nodes;
 use crate::refusing::refusal_of;
+use arrayvec::ArrayVec;
 use fs_nodes::NodeStore;
-use fs_tree::Tree;
+use fs_tree::{MOST_LISTED, Tree};
 use std::alloc::Allocator;
 
-/// How many births, serials and open numbers an operation draws, and the file that it tells by a node.
-#[derive(Clone, Copy, Debug, PartialEq, Eq)]
+/// How many births, serials and open numbers an operation draws, and the files that it tells by nodes, in order.
+#[derive(Drop)]
 pub(crate) struct Plan {
     pub(crate) births: u64,
     pub(crate) serials: u64,
     pub(crate) opens: u64,
-    pub(crate) told: Option<u64>,
+    pub(crate) told: ArrayVec<u64, MOST_LISTED>,
 }
 
 /// No number.
 pub(crate) fn no_numbers() -> Plan
-    ensures { result ≡ record { births = 0; serials = 0; opens = 0; told = None } }
+    ensures { result ≡ record { births = 0; serials = 0; opens = 0; told = record { items = [] } } }
 {
     Plan {
         births: 0,
         serials: 0,
         opens: 0,
-        told: None,
+        told: ArrayVec::new(),
     }
+}
+
+/// One file.
+fn one_file(file: u64) -> ArrayVec<u64, MOST_LISTED>
+    ensures { result.items ≡ file ∷ [] }
+{
+    let mut files = ArrayVec::new();
+    files.push(file);
+    files
 }
 
 /// What an operation draws.
@@ -79,43 +89,55 @@ fn unrefused_plan<A: Allocator + Copy, S: NodeStore>(
             opens: 1,
             ..no_numbers()
         },
-        _ => no_numbers(),
+        HeldOperation::Readdirplus {
+            directory,
+            after,
+            size,
+        } => Plan {
+            told: tree.files_listed(nodes.file_of(*directory), *after, *size),
+            ..no_numbers()
+        },
+        HeldOperation::Getattr { .. }
+        | HeldOperation::Unlink { .. }
+        | HeldOperation::Rmdir { .. }
+        | HeldOperation::Readdir { .. } => no_numbers(),
+        HeldOperation::Read { .. } | HeldOperation::Write { .. } => no_numbers(),
     }
 }
 
 /// What a LOOKUP draws.
 fn plan_of_lookup<A: Allocator + Copy>(tree: &Tree<A>, directory: u64, name: &[u8]) -> Plan
     requires { refusal tree.now (lookup directory name.now) ≡ None }
-    ensures { result ≡ record { births = 0; serials = 0; opens = 0; told = file_at tree.now directory name.now } }
+    ensures { result ≡ record { births = 0; serials = 0; opens = 0; told = record { items = option_to_list (file_at tree.now directory name.now) } } }
 {
     match tree.lookup(directory, name) {
-        Ok(told) => Plan {
-            told,
+        Ok(Some(file)) => Plan {
+            told: one_file(file),
             ..no_numbers()
         },
-        Err(_) => no_numbers(),
+        _ => no_numbers(),
     }
 }
 
 /// What a MKDIR or a CREATE draws.
 fn plan_of_birth(birth: u64, opens: u64) -> Plan
-    ensures { result ≡ record { births = 1; serials = 1; opens = opens; told = Some birth } }
+    ensures { result ≡ record { births = 1; serials = 1; opens = opens; told = record { items = birth ∷ [] } } }
 {
     Plan {
         births: 1,
         serials: 1,
         opens,
-        told: Some(birth),
+        told: one_file(birth),
     }
 }
 
 /// What a LINK draws.
 fn plan_of_link(file: u64) -> Plan
-    ensures { result ≡ record { births = 0; serials = 1; opens = 0; told = Some file } }
+    ensures { result ≡ record { births = 0; serials = 1; opens = 0; told = record { items = file ∷ [] } } }
 {
     Plan {
         serials: 1,
-        told: Some(file),
+        told: one_file(file),
         ..no_numbers()
     }
 }

@@ -26,6 +26,7 @@ pub(crate) fn refusal_of<A: Allocator + Copy, S: NodeStore>(
         HeldOperation::Lookup { .. } | HeldOperation::Readdir { .. } => {
             refusal_of_directory(tree, file)
         }
+        HeldOperation::Readdirplus { .. } => refusal_of_directory(tree, file),
         HeldOperation::Getattr { .. } | HeldOperation::Read { .. } => None,
         HeldOperation::Mkdir { name, .. } => tree.refusal_of_make(file, name),
         HeldOperation::Create { name, .. } => tree.refusal_of_make(file, name),

@@ -4,12 +4,15 @@ ghost use Rattle.std.specs.Prelude.{◌≡◌, ◌≤◌, ◌+◌, [], length, m
 ghost use Rattle.fuse_spec.specs.Numbers.{max_transfer};
 ghost use Rattle.fuse_spec.specs.Operations as reply;
 ghost use Rattle.fuse_frames.specs.ReplyTies.{dirent_in};
-ghost use Rattle.fs_files.specs.Replies.{AreRecordBytes, dirents_in};
+ghost use Rattle.fs_files.specs.Listed.{AreRecordBytes, dirents_in};
 
+use crate::listed_names::ListedNames;
+use crate::spare::ReplySpare;
 use fk_wire::{InitFlags, Records};
 use fuse_frames::{ReplyFrame, ReplyRoom};
-use fuse_spec::{Attributes, Entry};
+use fuse_spec::{Attributes, Entry, Minor};
 use std::alloc::Allocator;
+use std::slice::from_ref;
 
 /// A reply that names no file and no open number.
 #[derive(Drop)]
@@ -20,8 +23,8 @@ pub enum PlainReply<A: Allocator> {
     Listed { records: Vec<u8, A> },
     Content { bytes: Vec<u8, A> },
     Written { size: u32 },
-    /// To INIT: the version that the kernel speaks, and which of the flags that were offered are taken up.
-    Agreed { flags: InitFlags },
+    /// To INIT: the minor that is spoken, and the flags that were offered; those that it knows are taken up.
+    Agreed { minor: Minor, flags: InitFlags },
     Done,
     Failed { errno: u32 },
 }
@@ -32,6 +35,8 @@ pub enum Outcome<A: Allocator> {
     Found { file: u64 },
     Created { file: u64 },
     Opened { file: u64 },
+    /// Records, as their frame has them: each tells the file of its inode number.
+    ListedPlus { records: Vec<u8, A> },
     Plain { reply: PlainReply<A> },
 }
 
@@ -50,6 +55,9 @@ pub enum SentReply<A: Allocator> {
     Opened {
         fh: u64,
     },
+    ListedPlus {
+        listing: ListedNames<A>,
+    },
     Plain {
         reply: PlainReply<A>,
     },
@@ -57,7 +65,7 @@ pub enum SentReply<A: Allocator> {
 
 impl<A: Allocator> PlainReply<A> {
     ghost use Rattle.std.specs.Prelude.{◌≡◌, ◌≤◌, ◌+◌, [], vec_capacity};
-    ghost use Rattle.fs_files.specs.Replies.{content_len, flags_in, plain_errno, plain_wire, IsPlainSendable};
+    ghost use Rattle.fs_files.specs.Replies.{content_len, plain_errno, plain_wire, IsPlainSendable};
 
     /// Its error as a positive number, or 0.
     fn errno(&self) -> u32
@@ -74,7 +82,6 @@ impl<A: Allocator> PlainReply<A> {
         requires empty { spare.items ≡ [] }
         requires room { content_len self.now ≤ vec_capacity spare }
         ensures wire { plain_wire result ≡ plain_wire self.now }
-        ensures flags { flags_in result ≡ flags_in self.now }
         ensures sendable { IsPlainSendable self.now → IsPlainSendable result }
     {
         match self {
@@ -91,7 +98,10 @@ impl<A: Allocator> PlainReply<A> {
                 bytes: with_bytes(spare, bytes),
             },
             PlainReply::Written { size } => PlainReply::Written { size: *size },
-            PlainReply::Agreed { flags } => PlainReply::Agreed { flags: *flags },
+            PlainReply::Agreed { minor, flags } => PlainReply::Agreed {
+                minor: *minor,
+                flags: *flags,
+            },
             PlainReply::Done => PlainReply::Done,
             PlainReply::Failed { errno } => PlainReply::Failed { errno: *errno },
         }
@@ -101,7 +111,7 @@ impl<A: Allocator> PlainReply<A> {
     fn framed(&self, room: ReplyRoom<A>, unique: u64) -> ReplyFrame<A>
         requires sendable { IsPlainSendable self.now }
         requires room { 16 + content_len self.now ≤ room }
-        ensures { result ≡ record { unique = unique; wire = plain_wire self.now; flags = flags_in self.now } }
+        ensures { result ≡ record { unique = unique; wire = plain_wire self.now } }
     {
         match self {
             PlainReply::Missing { missing_ms } => room.missing(unique, *missing_ms),
@@ -109,7 +119,7 @@ impl<A: Allocator> PlainReply<A> {
             PlainReply::Listed { records } => listed(records, room, unique),
             PlainReply::Content { bytes } => room.content(unique, bytes),
             PlainReply::Written { size } => room.written(unique, *size),
-            PlainReply::Agreed { flags } => room.agreed(unique, *flags),
+            PlainReply::Agreed { minor, flags } => room.agreed(unique, *minor, *flags),
             PlainReply::Done => room.done(unique),
             PlainReply::Failed { errno } => room.failed(unique, *errno),
         }
@@ -132,7 +142,7 @@ fn listed<A: Allocator>(records: &[u8], room: ReplyRoom<A>, unique: u64) -> Repl
     requires some { AreRecordBytes records.now }
     requires most { length records.now ≤ max_transfer }
     requires room { 16 + length records.now ≤ room }
-    ensures { result ≡ record { unique = unique; wire = reply.listed (map dirent_in (dirents_in records.now)); flags = 0 } }
+    ensures { result ≡ record { unique = unique; wire = reply.listed (map dirent_in (dirents_in records.now)) } }
 {
     room.listed(unique, Records::over(records).unwrap())
 }
@@ -154,8 +164,8 @@ impl<A: Allocator> Outcome<A> {
 
 impl<A: Allocator> SentReply<A> {
     ghost use Rattle.std.specs.Prelude.{◌≡◌, ◌≤◌, ◌+◌, [], vec_capacity};
-    ghost use Rattle.fuse_spec.specs.Operations.{errno_of};
-    ghost use Rattle.fs_files.specs.Replies.{sent_flags, sent_len, sent_wire, entry_of, opened_in, IsSendable};
+    ghost use Rattle.fuse_spec.specs.Operations.{errno_of, files_in_reply};
+    ghost use Rattle.fs_files.specs.Replies.{sent_len, sent_names, sent_wire, opened_in, HasSpare, IsSendable};
 
     /// Its error as a positive number, or 0.
     pub fn errno(&self) -> u32
@@ -167,13 +177,24 @@ impl<A: Allocator> SentReply<A> {
         }
     }
 
-    /// The entry that it carries.
-    pub fn entry(&self) -> Option<Entry>
-        ensures { result ≡ entry_of self.now }
+    /// The entries of the files that it tells, in order.
+    pub fn told(&self) -> &[Entry]
+        ensures { result.now ≡ files_in_reply (sent_wire self.now) }
     {
         match self {
-            SentReply::Found { entry, .. } | SentReply::Created { entry, .. } => Some(*entry),
-            _ => None,
+            SentReply::Found { entry, .. } | SentReply::Created { entry, .. } => from_ref(entry),
+            SentReply::ListedPlus { listing } => listing.told(),
+            _ => &[],
+        }
+    }
+
+    /// How many names it lists together with their files.
+    pub fn names(&self) -> usize
+        ensures { result ≡ sent_names self.now }
+    {
+        match self {
+            SentReply::ListedPlus { listing } => listing.names(),
+            _ => 0,
         }
     }
 
@@ -195,16 +216,15 @@ impl<A: Allocator> SentReply<A> {
             SentReply::Plain {
                 reply: PlainReply::Listed { records: bytes } | PlainReply::Content { bytes },
             } => bytes.len(),
+            SentReply::ListedPlus { listing } => listing.len(),
             _ => 0,
         }
     }
 
-    /// The same reply once more. Its bytes go into an empty vector that has room for them.
-    pub fn copied(&self, spare: Vec<u8, A>) -> SentReply<A>
-        requires empty { spare.items ≡ [] }
-        requires room { sent_len self.now ≤ vec_capacity spare }
+    /// The same reply once more, in room that is there.
+    pub fn copied(&self, spare: ReplySpare<A>) -> SentReply<A>
+        requires { HasSpare spare (sent_len self.now) (sent_names self.now) }
         ensures wire { sent_wire result ≡ sent_wire self.now }
-        ensures flags { sent_flags result ≡ sent_flags self.now }
         ensures sendable { IsSendable self.now → IsSendable result }
     {
         match self {
@@ -222,8 +242,11 @@ impl<A: Allocator> SentReply<A> {
                 fh: *fh,
             },
             SentReply::Opened { fh } => SentReply::Opened { fh: *fh },
+            SentReply::ListedPlus { listing } => SentReply::ListedPlus {
+                listing: listing.copied(spare),
+            },
             SentReply::Plain { reply } => SentReply::Plain {
-                reply: reply.copied(spare),
+                reply: reply.copied(spare.bytes),
             },
         }
     }
@@ -232,7 +255,7 @@ impl<A: Allocator> SentReply<A> {
     pub fn framed(&self, room: ReplyRoom<A>, unique: u64) -> ReplyFrame<A>
         requires sendable { IsSendable self.now }
         requires room { 16 + sent_len self.now ≤ room }
-        ensures { result ≡ record { unique = unique; wire = sent_wire self.now; flags = sent_flags self.now } }
+        ensures { result ≡ record { unique = unique; wire = sent_wire self.now } }
     {
         match self {
             SentReply::Found { entry, found_ms } => room.found(unique, entry, *found_ms),
@@ -242,6 +265,7 @@ impl<A: Allocator> SentReply<A> {
                 fh,
             } => room.created(unique, entry, *found_ms, *fh),
             SentReply::Opened { fh } => room.opened(unique, *fh),
+            SentReply::ListedPlus { listing } => listing.framed(room, unique),
             SentReply::Plain { reply } => reply.framed(room, unique),
         }
     }

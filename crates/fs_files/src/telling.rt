@@ -1,34 +1,45 @@
 //! Files are told by nodes and open numbers.
 
-ghost use Rattle.std.specs.Prelude.{◌≡◌, ◌≢◌, ◌<◌, ◌≤◌, ◌+◌, ◌^◌, ◌∷◌, [], ℕ, length, IsTrue};
+ghost use Rattle.std.specs.Prelude.{◌≡◌, ◌≢◌, ◌<◌, ◌≤◌, ◌+◌, ◌*◌, ◌^◌, ◌++◌, [], ℕ, All, IsTrue, List, None, Some, cond, length, map, vec_capacity};
 ghost use Rattle.fuse_spec.specs.Nodes.{IsUnheld, handle_opened};
-ghost use Rattle.fuse_spec.specs.Numbers.{max_validity};
-ghost use Rattle.fuse_spec.specs.Operations.{files_in_reply, opens_in_reply};
+ghost use Rattle.fuse_spec.specs.Numbers.{max_transfer, max_validity};
+ghost use Rattle.fuse_spec.specs.Operations.{files_in_reply, files_told, first_told, opens_in_reply};
+ghost use Rattle.fuse_spec.specs.Paths.{is_dots};
+ghost use Rattle.fuse_spec.specs.Performs.{entry_for};
+ghost use Rattle.fs_nodes.specs.Sound.{IsSound};
 ghost use Rattle.fs_tree.specs.Outcomes.{is_regular};
-ghost use Rattle.fs_files.specs.Bounds.{AreCounted, IsThere};
-ghost use Rattle.fs_files.specs.Replies.{IsSendable, IsTellable, outcome_flags, outcome_len, outcome_reply, sent_flags, sent_len};
-ghost use Rattle.fs_files.specs.Telling.{GivesEntry, Tells};
+ghost use Rattle.fs_files.specs.Bounds.{AreCounted, AreHeldBelow, IsThere};
+ghost use Rattle.fs_files.specs.Giving.{GivenEach, generations_after, node_in};
+ghost use Rattle.fs_files.specs.Listed.{AreRecordBytes, listed_in, listed_pairs, names_in, pair_listed};
+ghost use Rattle.fs_files.specs.Replies.{HasSpare, IsListable, IsSendable, IsTellable, outcome_len, outcome_names, outcome_reply, sent_len, sent_names};
+ghost use Rattle.fs_files.specs.Telling.{GivesEntry, Tells, entries_named, entry_named};
 
 use crate::files::Files;
+use crate::listed_names::ListedNames;
 use crate::replies::{Outcome, SentReply};
+use crate::spare::ReplySpare;
+use fk_wire::Records;
+use fs_tree::is_dots;
 use fuse_spec::Entry;
 use std::alloc::Allocator;
 
 impl<A: Allocator + Copy> Files<A> {
-    /// Tells the file of an outcome by its node, by a new open number, or by both: each is counted once. No memory is taken.
-    pub fn tell(&mut self, outcome: Outcome<A>, found_ms: u64) -> SentReply<A>
-        requires node_room { 0 < self.old.node_room }
+    /// Tells the files of an outcome by their nodes, by a new open number, or by both: each is counted once. No memory is taken.
+    pub fn tell(&mut self, outcome: Outcome<A>, found_ms: u64, spare: ReplySpare<A>) -> SentReply<A>
+        requires node_room { 32 ≤ self.old.node_room }
         requires open_room { 0 < self.old.open_room }
+        requires spare { HasSpare spare 0 (outcome_names outcome) }
         requires tellable { IsTellable self.old.tree outcome }
-        requires generation { (file : ℕ) → files_in_reply (outcome_reply found_ms outcome) ≡ file ∷ [] → IsUnheld self.old.nodes file → self.old.nodes.next_generation < 2 ^ 62 }
+        requires generations { generations_after self.old.nodes (files_in_reply (outcome_reply found_ms outcome)) ≤ 2 ^ 62 }
         requires numbers { self.old.handles.next_fh + length (opens_in_reply (outcome_reply found_ms outcome)) ≤ 2 ^ 62 }
-        requires counted { AreCounted (2 ^ 62) self.old.nodes }
+        requires counted { AreHeldBelow self.old.nodes }
         requires day { found_ms ≤ max_validity }
         ensures tells { Tells self.old (outcome_reply found_ms outcome) result self.new }
         ensures sendable { IsSendable result }
-        ensures flags { sent_flags result ≡ outcome_flags outcome }
         ensures len { sent_len result ≡ outcome_len outcome }
+        ensures names { sent_names result ≡ outcome_names outcome }
     {
+        self.keeps_sound();
         match outcome {
             Outcome::Found { file } => SentReply::Found {
                 entry: self.give(file),
@@ -45,7 +56,122 @@ impl<A: Allocator + Copy> Files<A> {
             Outcome::Opened { file } => SentReply::Opened {
                 fh: self.open(file),
             },
+            Outcome::ListedPlus { records } => SentReply::ListedPlus {
+                listing: self.list(records, found_ms, spare),
+            },
             Outcome::Plain { reply } => SentReply::Plain { reply },
+        }
+    }
+
+    /// Counts a lookup of each file that the names tell, and gives the names with the entries of their files.
+    fn list(&mut self, records: Vec<u8, A>, found_ms: u64, spare: ReplySpare<A>) -> ListedNames<A>
+        requires listable { AreRecordBytes records.items × (128 * length (names_in records.items) + length records.items ≤ max_transfer) × All (IsListable self.old.tree) (names_in records.items) }
+        requires room { length (names_in records.items) ≤ self.old.node_room }
+        requires spare { HasSpare spare 0 (length (names_in records.items)) }
+        requires generations { generations_after self.old.nodes (files_told (map (pair_listed 0) (names_in records.items))) ≤ 2 ^ 62 }
+        requires counted { AreHeldBelow self.old.nodes }
+        requires day { found_ms ≤ max_validity }
+        ensures given { GivenEach self.old.nodes (files_told (map (pair_listed 0) (names_in records.items))) self.new.nodes }
+        ensures entries { result.entries.items ≡ map (entry_named self.new.tree self.new.nodes) (names_in records.items) }
+        ensures records { result.records.items ≡ records.items }
+        ensures valid { result.found_ms ≡ found_ms }
+        ensures tree { self.new.tree ≡ self.old.tree }
+        ensures handles { self.new.handles ≡ self.old.handles }
+        ensures sound { IsSound self.new.nodes }
+    {
+        self.give_listed(&records);
+        let mut entries = spare.entries;
+        let mut told = spare.told;
+        self.put_entries(&records, &mut entries, &mut told);
+        ListedNames {
+            records,
+            entries,
+            told,
+            found_ms,
+        }
+    }
+
+    /// Counts a lookup of each file that the names of these records tell.
+    fn give_listed(&mut self, records: &[u8])
+        requires records { AreRecordBytes records.now }
+        requires listable { All (IsListable self.old.tree) (names_in records.now) }
+        requires few { length (names_in records.now) ≤ 32 }
+        requires room { length (names_in records.now) ≤ self.old.node_room }
+        requires generations { generations_after self.old.nodes (files_told (map (pair_listed 0) (names_in records.now))) ≤ 2 ^ 62 }
+        requires counted { AreHeldBelow self.old.nodes }
+        ensures given { GivenEach self.old.nodes (files_told (map (pair_listed 0) (names_in records.now))) self.new.nodes }
+        ensures tree { self.new.tree ≡ self.old.tree }
+        ensures handles { self.new.handles ≡ self.old.handles }
+        ensures sound { IsSound self.new.nodes }
+    {
+        self.give_records(Records::over(records).unwrap());
+        self.keeps_sound();
+    }
+
+    /// Counts a lookup of each file that the names of these records tell.
+    fn give_records(&mut self, records: Records<'_>)
+        requires listable { All (IsListable self.old.tree) (listed_in records) }
+        requires few { length (listed_in records) ≤ 32 }
+        requires room { length (listed_in records) ≤ self.old.node_room }
+        requires generations { generations_after self.old.nodes (files_told (map (pair_listed 0) (listed_in records))) ≤ 2 ^ 62 }
+        requires counted { AreHeldBelow self.old.nodes }
+        ensures given { GivenEach self.old.nodes (files_told (map (pair_listed 0) (listed_in records.entry))) self.new.nodes }
+        ensures tree { self.new.tree ≡ self.old.tree }
+        ensures handles { self.new.handles ≡ self.old.handles }
+    {
+        'records: for record in records {
+            self.give_named(record.name, record.ino - 1);
+        }
+    }
+
+    /// Counts a lookup of the file of a name, unless that is `.` or `..`.
+    fn give_named(&mut self, name: &[u8], file: u64)
+        requires file { file < 2 ^ 62 }
+        requires there { IsThere self.old.tree file }
+        requires room { 0 < self.old.node_room }
+        requires generations { generations_after self.old.nodes (first_told (cond (is_dots name.now) None (Some file)) []) ≤ 2 ^ 62 }
+        requires counted { AreCounted (2 ^ 63) self.old.nodes }
+        ensures given { GivenEach self.old.nodes (first_told (cond (is_dots name.now) None (Some file)) []) self.new.nodes }
+        ensures tree { self.new.tree ≡ self.old.tree }
+        ensures handles { self.new.handles ≡ self.old.handles }
+        ensures room { self.old.node_room ≤ self.new.node_room + 1 }
+        ensures generations { (files : List ℕ) → generations_after self.new.nodes files ≡ generations_after self.old.nodes (first_told (cond (is_dots name.now) None (Some file)) files) }
+    {
+        self.keeps_sound();
+        if !is_dots(name) {
+            self.give(file);
+        }
+    }
+
+    /// Puts the entry of each name last, and among those that tell a file too, unless the name is `.` or `..`.
+    fn put_entries(&self, records: &[u8], entries: &mut Vec<Entry, A>, told: &mut Vec<Entry, A>)
+        requires records { AreRecordBytes records.now }
+        requires listable { All (IsListable self.now.tree) (names_in records.now) }
+        requires none { entries.old.items ≡ [] }
+        requires none_told { told.old.items ≡ [] }
+        requires room { length (names_in records.now) ≤ vec_capacity entries.old }
+        requires room_told { length (names_in records.now) ≤ vec_capacity told.old }
+        ensures entries { entries.new.items ≡ map (entry_named self.now.tree self.now.nodes) (names_in records.now) }
+        ensures told { told.new.items ≡ files_told (entries_named self.now.tree self.now.nodes (names_in records.now)) }
+    {
+        'records: for record in Records::over(records).unwrap() {
+            let entry = self.entry_of(record.ino - 1);
+            entries.push_reserved(entry);
+            put_told(told, record.name, entry);
+        }
+    }
+
+    /// The entry of a file: by its node, or by the root's where it has none.
+    fn entry_of(&self, file: u64) -> Entry
+        requires { file < 2 ^ 62 }
+        ensures { result ≡ entry_for (node_in self.now.nodes.rows) self.now.nodes self.now.tree file }
+    {
+        let nodes = &self.known.nodes;
+        let node = nodes.named(nodes.node_of(file));
+        Entry {
+            nodeid: node.nodeid,
+            generation: node.generation,
+            attributes: self.tree.getattr(file),
         }
     }
 
@@ -55,11 +181,12 @@ impl<A: Allocator + Copy> Files<A> {
         requires there { IsThere self.old.tree file }
         requires room { 0 < self.old.node_room }
         requires generation { IsUnheld self.old.nodes file → self.old.nodes.next_generation < 2 ^ 62 }
-        requires counted { AreCounted (2 ^ 62) self.old.nodes }
+        requires counted { AreCounted (2 ^ 63) self.old.nodes }
         ensures gives { GivesEntry self.old.tree self.old.nodes file self.new.nodes result }
         ensures node { result.nodeid ≢ 0 }
         ensures tree { self.new.tree ≡ self.old.tree }
         ensures handles { self.new.handles ≡ self.old.handles }
+        ensures node_room { self.old.node_room ≤ self.new.node_room + 1 }
         ensures room { self.new.open_room ≡ self.old.open_room }
     {
         let (nodeid, generation) = self.known.nodes.give(file);
@@ -82,5 +209,16 @@ impl<A: Allocator + Copy> Files<A> {
         ensures nodes { self.new.nodes ≡ self.old.nodes }
     {
         self.known.handles.open(file)
+    }
+}
+
+/// Puts the entry of a name last, unless the name is `.` or `..`.
+fn put_told<A: Allocator>(told: &mut Vec<Entry, A>, name: &[u8], entry: Entry)
+    requires { length told.old.items < vec_capacity told.old }
+    ensures items { told.new.items ≡ told.old.items ++ first_told (cond (is_dots name.now) None (Some entry)) [] }
+    ensures capacity { vec_capacity told.new ≡ vec_capacity told.old }
+{
+    if !is_dots(name) {
+        told.push_reserved(entry);
     }
 }

@@ -75,6 +75,19 @@ module _ {X : Type 0} where
       lower_is Equal p = absurd p
       lower_is Greater p = absurd p
 
+  -- what stands behind the first entry is found
+  pub there_later : (e : ℕ × X) (es : Map X) → T (is_sorted nat_cmp (e ∷ es)) → (k : ℕ) (x : X) → get es k ≡ Some x → get (e ∷ es) k ≡ Some x
+  there_later e es h k x found = elim (cases_eq k e.0) [
+    | inl at ↦ absurd (none-some x (sym (none_below k e.0 es (omega (arith, at)) (first _ _ h)) ∙ found))
+    | inr ne ↦ ap (λ b. cond b (Some e.1) (get es k)) (tie_no k e.0 ne) ∙ found
+  ]
+
+  pub sorted_later : (e : ℕ × X) (es : Map X) → T (is_sorted nat_cmp (e ∷ es)) → T (is_sorted nat_cmp es)
+  sorted_later e es h = second _ _ h
+
+  pub first_there : (e : ℕ × X) (es : Map X) → get (e ∷ es) e.0 ≡ Some e.1
+  first_there e es = ap (λ r. cond (is_eq r) (Some e.1) (get es e.0)) (cmp_same e.0)
+
   -- some value passes the test
   pub record HasValue (m : Map X) (test : X → Bool) : Type 0 where
     pub key : ℕ
@@ -91,7 +104,7 @@ module _ {X : Type 0} where
       by true false same found rest = absurd (true≢false (sym passes ∙ sym (ap test (same_Some e.1 x found)) ∙ same))
       by false false same found rest = rest found
 
-  there_any : (m : Map X) (test : X → Bool) → T (is_sorted nat_cmp m) → list_any test (values m) ≡ true → HasValue m test
+  pub there_any : (m : Map X) (test : X → Bool) → T (is_sorted nat_cmp m) → list_any test (values m) ≡ true → HasValue m test
   there_any [] test h any = absurd (true≢false (sym any))
   there_any (e ∷ es) test h any = by (test e.1) refl any (there_any es test (second _ _ h))
     where

@@ -1,10 +1,10 @@
 //! The contract of the held nodes, for any representation.
-ghost use Rattle.std.specs.Prelude.{◌≡◌, ℕ, [], ◌+◌, ◌^◌, ◌<◌, ◌≤◌, ◌↔◌, Some, IsOk, OnOk, OnErr, IfOk, length, nat_eq, option_map};
+ghost use Rattle.std.specs.Prelude.{◌≡◌, ℕ, [], ◌+◌, ◌^◌, ◌<◌, ◌≤◌, ◌↔◌, Some, IsOk, OnOk, OnErr, IfOk, IfSome, IfNone, length, nat_eq, option_map};
 ghost use Rattle.std.specs.List.{list_any};
 ghost use Rattle.fuse_spec.specs.Maps.{get, values};
 ghost use Rattle.fuse_spec.specs.Nodes.{HeldNode, NodeTable, MayName, IsUnheld, given, taken_back, is_row_of};
 ghost use Rattle.fuse_spec.specs.Server.{count_in};
-ghost use Rattle.fs_nodes.specs.Rows.{generation_given, room_for, HasCount, listed};
+ghost use Rattle.fs_nodes.specs.Rows.{generation_given, room_for, HasCount, listed, IsOf};
 ghost use Rattle.fs_nodes.specs.Sound.{IsSound};
 
 use crate::too_many::TooMany;
@@ -82,6 +82,11 @@ pub trait NodeStore {
     /// The lookup count of a node.
     fn count_of(&self, id: u64) -> u64
         ensures { result ≡ count_in (get (table self.now).rows id) };
+
+    /// The nodeid of a file.
+    fn id_of(&self, file: u64) -> Option<u64>
+        ensures some { IfSome result (λ id. IsOf (get (table self.now).rows id) file) }
+        ensures none { IfNone result (IsUnheld (table self.now) file) };
 
     /// Whether the file has a nodeid.
     fn has(&self, file: u64) -> bool

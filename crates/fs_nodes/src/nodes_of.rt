@@ -108,6 +108,10 @@ impl<R: NodeRows> NodeStore for NodesOf<R> {
         }
     }
 
+    fn id_of(&self, file: u64) -> Option<u64> {
+        self.rows.id_of(file)
+    }
+
     fn has(&self, file: u64) -> bool {
         self.rows.id_of(file).is_some()
     }

@@ -19,34 +19,34 @@ use Rattle.fs_server.specs.declared.server.ServerFault.TheVariants as fault
 use Rattle.fs_server.specs.declared.server.Took.{Took}
 use Rattle.fs_server.specs.Effects.{CanTake, TakesFrame, RefusesFrame, is_past_end, past_or_memory, request_fault}
 use Rattle.fs_server.specs.Interrupts.{Interrupts}
-use Rattle.fs_server.specs.Taking.{IsFaultless, IsTakeable, answers, body_of, is_held, serves}
+use Rattle.fs_server.specs.Taking.{IsFaultless, IsTakeable, answers, body_of, is_held}
 use Rattle.fs_server.proofs.Served.{past}
 use Rattle.fs_server.proofs.Frames.{fault_in, holds, interrupts, judged_so, refuses_for}
 
--- what is served asks something
-pub asked_so : (nodeid : ℕ) (content : RequestContent) → serves content ≡ true → body_in nodeid content ≡ Some (body_of nodeid content)
-asked_so nodeid (wire.init major minor flags) is = refl
-asked_so nodeid (wire.lookup name) is = refl
-asked_so nodeid wire.getattr is = refl
-asked_so nodeid (wire.mkdir name) is = refl
-asked_so nodeid (wire.create name) is = refl
-asked_so nodeid (wire.unlink name) is = refl
-asked_so nodeid (wire.rmdir name) is = refl
-asked_so nodeid (wire.rename newdir old new) is = refl
-asked_so nodeid (wire.link oldnodeid name) is = refl
-asked_so nodeid wire.opening is = refl
-asked_so nodeid (wire.readdir offset size) is = refl
-asked_so nodeid (wire.read fh offset size) is = refl
-asked_so nodeid (wire.write fh offset bytes) is = refl
-asked_so nodeid (wire.release fh) is = refl
-asked_so nodeid (wire.forget n) is = refl
-asked_so nodeid (wire.batch_forget fs) is = refl
-asked_so nodeid (wire.interrupt original) is = refl
-asked_so nodeid (wire.readdirplus offset size) is = absurd (true≢false (sym is))
+-- every request asks something
+pub asked_so : (nodeid : ℕ) (content : RequestContent) → body_in nodeid content ≡ Some (body_of nodeid content)
+asked_so nodeid (wire.init major minor flags) = refl
+asked_so nodeid (wire.lookup name) = refl
+asked_so nodeid wire.getattr = refl
+asked_so nodeid (wire.mkdir name) = refl
+asked_so nodeid (wire.create name) = refl
+asked_so nodeid (wire.unlink name) = refl
+asked_so nodeid (wire.rmdir name) = refl
+asked_so nodeid (wire.rename newdir old new) = refl
+asked_so nodeid (wire.link oldnodeid name) = refl
+asked_so nodeid wire.opening = refl
+asked_so nodeid (wire.readdir offset size) = refl
+asked_so nodeid (wire.read fh offset size) = refl
+asked_so nodeid (wire.write fh offset bytes) = refl
+asked_so nodeid (wire.release fh) = refl
+asked_so nodeid (wire.forget n) = refl
+asked_so nodeid (wire.batch_forget fs) = refl
+asked_so nodeid (wire.interrupt original) = refl
+asked_so nodeid (wire.readdirplus offset size) = refl
 
 -- a request with nothing wrong has no fault
 no_fault : (s : Server) (unique nodeid : ℕ) (content : RequestContent) → IsFaultless s unique nodeid content → request_fault s unique (body_in nodeid content) ≡ None
-no_fault s unique nodeid content right = sym (judged_so s unique nodeid content right.served_so right.known right.few false (λ i. is_some (right.unheld i) || is_some (right.unkept i)))
+no_fault s unique nodeid content right = sym (judged_so s unique nodeid content right.spoken right.known right.few false (λ i. is_some (right.unheld i) || is_some (right.unkept i)))
 
 -- forgets draw no generation
 same_generations : (t : NodeTable) (fs : List Forget) → (all_taken_back t fs).next_generation ≡ t.next_generation
@@ -71,25 +71,25 @@ module _ (s : Server) (unique : ℕ) (inside : is_past_end s ≡ false) where
       (nat_lt counter_end (s.next_copy + 1)) inside (le-ltb counter_end (s.next_copy + 1) (let low = number refl in omega (arith, low)))
 
   -- what is taken draws no number but that of a copy
-  past_taken : (nodeid : ℕ) (content : RequestContent) → serves content ≡ true → (answers s content ≡ true → s.next_copy < 2 ^ 62) → is_past_end (taking s unique (body_of nodeid content)).server ≡ false
-  past_taken nodeid (wire.init major minor flags) is number = inside
-  past_taken nodeid (wire.lookup name) is number = inside
-  past_taken nodeid wire.getattr is number = inside
-  past_taken nodeid (wire.mkdir name) is number = inside
-  past_taken nodeid (wire.create name) is number = inside
-  past_taken nodeid (wire.unlink name) is number = inside
-  past_taken nodeid (wire.rmdir name) is number = inside
-  past_taken nodeid (wire.rename newdir old new) is number = inside
-  past_taken nodeid (wire.link oldnodeid name) is number = inside
-  past_taken nodeid wire.opening is number = inside
-  past_taken nodeid (wire.readdir offset size) is number = inside
-  past_taken nodeid (wire.read fh offset size) is number = inside
-  past_taken nodeid (wire.write fh offset bytes) is number = inside
-  past_taken nodeid (wire.release fh) is number = inside
-  past_taken nodeid (wire.forget n) is number = past_forgotten ((nodeid, n) ∷ [])
-  past_taken nodeid (wire.batch_forget fs) is number = past_forgotten fs
-  past_taken nodeid (wire.interrupt original) is number = past_interrupting original (get s.held original) (get s.kept original) number
-  past_taken nodeid (wire.readdirplus offset size) is number = absurd (true≢false (sym is))
+  past_taken : (nodeid : ℕ) (content : RequestContent) → (answers s content ≡ true → s.next_copy < 2 ^ 62) → is_past_end (taking s unique (body_of nodeid content)).server ≡ false
+  past_taken nodeid (wire.init major minor flags) number = inside
+  past_taken nodeid (wire.lookup name) number = inside
+  past_taken nodeid wire.getattr number = inside
+  past_taken nodeid (wire.mkdir name) number = inside
+  past_taken nodeid (wire.create name) number = inside
+  past_taken nodeid (wire.unlink name) number = inside
+  past_taken nodeid (wire.rmdir name) number = inside
+  past_taken nodeid (wire.rename newdir old new) number = inside
+  past_taken nodeid (wire.link oldnodeid name) number = inside
+  past_taken nodeid wire.opening number = inside
+  past_taken nodeid (wire.readdir offset size) number = inside
+  past_taken nodeid (wire.read fh offset size) number = inside
+  past_taken nodeid (wire.write fh offset bytes) number = inside
+  past_taken nodeid (wire.release fh) number = inside
+  past_taken nodeid (wire.forget n) number = past_forgotten ((nodeid, n) ∷ [])
+  past_taken nodeid (wire.batch_forget fs) number = past_forgotten fs
+  past_taken nodeid (wire.interrupt original) number = past_interrupting original (get s.held original) (get s.kept original) number
+  past_taken nodeid (wire.readdirplus offset size) number = inside
 
 -- what is answered at once draws a copy number
 past_answered : (s : Server) (unique nodeid : ℕ) (content : RequestContent) → answers s content ≡ true → 2 ^ 62 ≤ s.next_copy → is_past_end (taking s unique (body_of nodeid content)).server ≡ true
@@ -105,18 +105,18 @@ past_answered s unique nodeid content answered over = absurd (true≢false (sym 
 pub exhausts : (s : Server) (bytes : List ℕ) (m : RequestMessage) → Spells bytes m → ((n : RequestMessage) → Spells bytes n → m ≡ n) → IsFaultless s m.unique m.nodeid m.content → answers s m.content ≡ true → 2 ^ 62 ≤ s.next_copy
     → RefusesFrame s bytes fault.Exhausted
 exhausts s bytes m spells only right answered over =
-    refuses_for s bytes m spells only (body_of m.nodeid m.content) fault.Exhausted (asked_so m.nodeid m.content right.served_so) (no_fault s m.unique m.nodeid m.content right)
+    refuses_for s bytes m spells only (body_of m.nodeid m.content) fault.Exhausted (asked_so m.nodeid m.content) (no_fault s m.unique m.nodeid m.content right)
     (sym (ap past_or_memory (past_answered s m.unique m.nodeid m.content answered over)))
 
 module _ (s : Server) (bytes : List ℕ) (m : RequestMessage) (right : IsTakeable s bytes m) where
   pub asks : body_in m.nodeid m.content ≡ Some (body_of m.nodeid m.content)
-  asks = asked_so m.nodeid m.content right.faultless.served_so
+  asks = asked_so m.nodeid m.content
 
   pub faultless : fault_in s m ≡ None
   faultless = no_fault s m.unique m.nodeid m.content right.faultless
 
   pub within : is_past_end (taking s m.unique (body_of m.nodeid m.content)).server ≡ false
-  within = past_taken s m.unique right.within m.nodeid m.content right.faultless.served_so right.number
+  within = past_taken s m.unique right.within m.nodeid m.content right.number
 
   abbrev pub can_take : CanTake s bytes
   can_take = record {

@@ -1,5 +1,7 @@
 -- Nameless files that nothing holds go, once lookups and open numbers are given back.
 use Rattle.std.proofs.Common.{◌≡◌, ℕ, Bool, false, List, [], ap, ◌∙◌}
+use Rattle.fuse_spec.specs.declared.Minor.{Minor}
+use Rattle.fuse_spec.specs.declared.Minor.TheVariants.{M31}
 use Rattle.fuse_spec.specs.Copies.{handles_back, rows_back, remounted}
 use Rattle.fuse_spec.specs.Maps.{Map}
 use Rattle.fuse_spec.specs.Messages.{Forget, WireReply}
@@ -20,7 +22,7 @@ pub record AreSwept (mid new : FilesState) : Type 0 where
   pub handles : new.handles ≡ mid.handles
 
 abbrev bare : Tree → NodeTable → HandleTable → Validity → Server
-bare t n h v = record { tree = t; nodes = n; handles = h; held = []; kept = []; copies = []; next_copy = 1; validity = v; aborted = false }
+bare t n h v = record { tree = t; nodes = n; handles = h; held = []; kept = []; copies = []; next_copy = 1; validity = v; minor = M31; aborted = false }
 
 swept : (mid new : FilesState) → AreSwept mid new → (v : Validity) → server_of new v ≡ without_unheld_files (server_of mid v)
 swept mid new s v = λ i. bare (s.tree v i) (s.nodes i) (s.handles i) v
@@ -33,11 +35,11 @@ pub gives_back : (old mid new : FilesState) (wire : WireReply) → mid.tree ≡ 
 gives_back old mid new wire tree nodes handles s v = swept mid new s v ∙ (λ i. without_unheld_files (bare (tree i) (nodes i) (handles i) v))
 
 -- the same of the whole server
-module _ (old new : FilesState) (held : Map HeldRequest) (kept : Map Kept) (copies : Map Copy) (next : ℕ) (v : Validity) (a : Bool) where
-  pub forgets_so : (fs : List Forget) → Forgets old fs new → server_with new held kept copies next v a ≡ forgetting (server_with old held kept copies next v a) fs
-  forgets_so fs f = ap (λ (b : Server). record b { held = held; kept = kept; copies = copies; next_copy = next; aborted = a }) (f v)
+module _ (old new : FilesState) (held : Map HeldRequest) (kept : Map Kept) (copies : Map Copy) (next : ℕ) (v : Validity) (m : Minor) (a : Bool) where
+  pub forgets_so : (fs : List Forget) → Forgets old fs new → server_with new held kept copies next v m a ≡ forgetting (server_with old held kept copies next v m a) fs
+  forgets_so fs f = ap (λ (b : Server). record b { held = held; kept = kept; copies = copies; next_copy = next; minor = m; aborted = a }) (f v)
 
-  pub remounts : (mid : FilesState) (w : Validity) → mid.tree ≡ old.tree → mid.nodes ≡ record old.nodes { rows = [] } → mid.handles ≡ record old.handles { handles = [] } → AreSwept mid new
-      → server_with new [] [] [] next w false ≡ remounted (server_with old held kept copies next v a) w
-  remounts mid w tree nodes handles s =
-      ap (λ (b : Server). record b { next_copy = next }) (swept mid new s w ∙ (λ i. without_unheld_files (bare (tree i) (nodes i) (handles i) w)))
+  pub remounts : (mid : FilesState) (w : Validity) (n : Minor) → mid.tree ≡ old.tree → mid.nodes ≡ record old.nodes { rows = [] } → mid.handles ≡ record old.handles { handles = [] } → AreSwept mid new
+      → server_with new [] [] [] next w n false ≡ remounted (server_with old held kept copies next v m a) w n
+  remounts mid w n tree nodes handles s =
+      ap (λ (b : Server). record b { next_copy = next; minor = n }) (swept mid new s w ∙ (λ i. without_unheld_files (bare (tree i) (nodes i) (handles i) w)))

@@ -13,3 +13,4 @@ pub mod Wanting
 pub mod Performable
 pub mod Judged
 pub mod Sweeps
+pub mod Entries

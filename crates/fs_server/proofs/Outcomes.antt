@@ -1,20 +1,133 @@
--- The error of an outcome.
-use Rattle.std.proofs.Common.{◌≡◌, ℕ, refl}
-use Rattle.fuse_spec.specs.Operations.{errno_of}
-use Rattle.fs_files.specs.Replies.{outcome_errno, outcome_reply}
+-- The error of an outcome, and how many names it lists together with their files.
+use Rattle.std.proofs.Common.{◌≡◌, ◌≤◌, ℕ, Bool, true, false, cond, Option, Some, None, length, refl, ap, ◌∙◌, sym, arith, inl, inr}
+use Rattle.std.specs.Prelude.{◌⊎◌}
+use Rattle.std.proofs.lemmas.List.{length-map}
+use Rattle.fuse_spec.specs.FileOperations.{looked_up, refusal, reply_or, reply_unrefused}
+use Rattle.fuse_spec.specs.Messages.{RequestBody, init, asks, release, forget, batch_forget, interrupt}
+use Rattle.fuse_spec.specs.Nodes.{file_of, is_open}
+use Rattle.fuse_spec.specs.Numbers.{ebadf, eintr, eio}
+use Rattle.fuse_spec.specs.Operations as operation
+use Rattle.fuse_spec.specs.Operations.{Operation, Reply, errno_of}
+use Rattle.fuse_spec.specs.Performs.{file_operation_of, is_open_for, is_still_held}
+use Rattle.fuse_spec.specs.Server.{Server, HeldRequest}
+use Rattle.fuse_spec.specs.Trees.{Tree, file_at}
+use Rattle.fuse_spec.specs.declared.Opened.{Opened}
+use Rattle.fs_files.specs.Listed.{names_in, pair_listed}
+use Rattle.fs_files.specs.Performing.{said, said_by}
+use Rattle.fs_files.specs.Replies.{HasSpare, IsTellable, outcome_errno, outcome_names, outcome_reply}
+use Rattle.fs_files.specs.Values.{names_for, names_of}
 use Rattle.fs_files.specs.declared.replies.Outcome.{Outcome}
 use Rattle.fs_files.specs.declared.replies.Outcome.TheVariants as outcome
 use Rattle.fs_files.specs.declared.replies.PlainReply.TheVariants.{Missing, Attributes, Listed, Content, Written, Agreed, Done, Failed}
+use Rattle.fs_files.specs.declared.spare.ReplySpare.{ReplySpare}
 
 pub errno_said : {A : Type 0} (ms : ℕ) (o : Outcome A) → outcome_errno o ≡ errno_of (outcome_reply ms o)
 errno_said ms (outcome.Found file) = refl
 errno_said ms (outcome.Created file) = refl
 errno_said ms (outcome.Opened file) = refl
+errno_said ms (outcome.ListedPlus records) = refl
 errno_said ms (outcome.Plain (Missing missing_ms)) = refl
 errno_said ms (outcome.Plain (Attributes attributes)) = refl
 errno_said ms (outcome.Plain (Listed records)) = refl
 errno_said ms (outcome.Plain (Content bytes)) = refl
 errno_said ms (outcome.Plain (Written size)) = refl
-errno_said ms (outcome.Plain (Agreed flags)) = refl
+errno_said ms (outcome.Plain (Agreed minor flags)) = refl
 errno_said ms (outcome.Plain Done) = refl
 errno_said ms (outcome.Plain (Failed errno)) = refl
+
+-- ---- names together with their files
+
+abbrev names_told : Reply ℕ ℕ → ℕ
+names_told (operation.listed_plus pairs) = length pairs
+names_told reply = 0
+
+names_are : {A : Type 0} (ms : ℕ) (o : Outcome A) → outcome_names o ≡ names_told (outcome_reply ms o)
+names_are ms (outcome.Found file) = refl
+names_are ms (outcome.Created file) = refl
+names_are ms (outcome.Opened file) = refl
+names_are ms (outcome.ListedPlus records) = sym (length-map (names_in records.items) (pair_listed ms))
+names_are ms (outcome.Plain (Missing missing_ms)) = refl
+names_are ms (outcome.Plain (Attributes attributes)) = refl
+names_are ms (outcome.Plain (Listed records)) = refl
+names_are ms (outcome.Plain (Content bytes)) = refl
+names_are ms (outcome.Plain (Written size)) = refl
+names_are ms (outcome.Plain (Agreed minor flags)) = refl
+names_are ms (outcome.Plain Done) = refl
+names_are ms (outcome.Plain (Failed errno)) = refl
+
+most_names : {A : Type 0} (tree : Tree) (o : Outcome A) → IsTellable tree o → outcome_names o ≤ 32
+most_names tree (outcome.Found file) tellable = omega arith
+most_names tree (outcome.Created file) tellable = omega arith
+most_names tree (outcome.Opened file) tellable = omega arith
+most_names tree (outcome.ListedPlus records) tellable = let most = tellable.1 in omega (arith, most)
+most_names tree (outcome.Plain reply) tellable = omega arith
+
+module _ (s : Server) where
+  refused : (b : Bool) (r : Option ℕ) (reply : Reply ℕ ℕ) → names_told reply ≡ 0 → names_told (cond b (reply_or reply r) (operation.failed ebadf)) ≡ 0
+  refused true None reply none = none
+  refused true (Some errno) reply none = refl
+  refused false r reply none = refl
+
+  found_none : (o : Option ℕ) → names_told (looked_up s.validity o) ≡ 0
+  found_none None = refl
+  found_none (Some file) = refl
+
+  said_none : (o : Operation ℕ Opened) → names_told (reply_unrefused s.validity s.tree (file_operation_of s.nodes o)) ≡ 0 → (names_of o ≡ 32) ⊎ (names_told (said_by s (asks o)) ≡ 0)
+  said_none o none = inr (refused (is_open_for s o) (refusal s.tree (file_operation_of s.nodes o)) (reply_unrefused s.validity s.tree (file_operation_of s.nodes o)) none)
+
+  asked_names : (o : Operation ℕ Opened) → (names_of o ≡ 32) ⊎ (names_told (said_by s (asks o)) ≡ 0)
+  asked_names (operation.lookup d name) = said_none (operation.lookup d name) (found_none (file_at s.tree (file_of s.nodes d) name))
+  asked_names (operation.getattr x) = said_none (operation.getattr x) refl
+  asked_names (operation.mkdir d name) = said_none (operation.mkdir d name) refl
+  asked_names (operation.create d name) = said_none (operation.create d name) refl
+  asked_names (operation.unlink d name) = said_none (operation.unlink d name) refl
+  asked_names (operation.rmdir d name) = said_none (operation.rmdir d name) refl
+  asked_names (operation.rename d old e new) = said_none (operation.rename d old e new) refl
+  asked_names (operation.link x d name) = said_none (operation.link x d name) refl
+  asked_names (operation.opening x) = said_none (operation.opening x) refl
+  asked_names (operation.readdir d after size) = said_none (operation.readdir d after size) refl
+  asked_names (operation.readdirplus d after size) = inl refl
+  asked_names (operation.read o offset size) = said_none (operation.read o offset size) refl
+  asked_names (operation.write o offset bytes) = said_none (operation.write o offset bytes) refl
+
+  body_names : (body : RequestBody) → (names_for body ≡ 32) ⊎ (names_told (said_by s body) ≡ 0)
+  body_names (init flags) = inr refl
+  body_names (asks o) = asked_names o
+  body_names (release o) = inr (by (is_open s.handles o.fh (file_of s.nodes o.nodeid)))
+    where
+      by : (b : Bool) → names_told (cond b operation.done (operation.failed ebadf)) ≡ 0
+      by true = refl
+      by false = refl
+  body_names (forget f) = inr refl
+  body_names (batch_forget fs) = inr refl
+  body_names (interrupt original) = inr refl
+
+  held_names : (h : HeldRequest) → (names_for h.body ≡ 32) ⊎ (names_told (said s h) ≡ 0)
+  held_names h = by h.marked (is_still_held s.nodes h.generations) (body_names h.body)
+    where
+      by : (m b : Bool) → (names_for h.body ≡ 32) ⊎ (names_told (said_by s h.body) ≡ 0) → (names_for h.body ≡ 32) ⊎ (names_told (cond m (operation.failed eintr) (cond b (said_by s h.body) (operation.failed eio))) ≡ 0)
+      by true b each = inr refl
+      by false true each = each
+      by false false each = inr refl
+
+  -- An outcome lists no more names than its request has room for.
+  pub names_fit : {A : Type 0} (h : HeldRequest) (tree : Tree) (ms : ℕ) (o : Outcome A) → outcome_reply ms o ≡ said s h → IsTellable tree o → outcome_names o ≤ names_for h.body
+  names_fit h tree ms o says tellable = elim (held_names h) [
+    | inl room ↦ (let most = most_names tree o tellable in omega (arith, most, room))
+    | inr none ↦ (let are : outcome_names o ≡ 0 = names_are ms o ∙ ap names_told says ∙ none in omega (arith, are))
+  ]
+
+-- room for more is room for less
+pub less_spare : {A : Type 0} (spare : ReplySpare A) (len names l n : ℕ) → HasSpare spare len names → l ≤ len → n ≤ names → HasSpare spare l n
+less_spare spare len names l n has fewer less =
+    let bytes = has.bytes in
+    let entries = has.entries in
+    let told = has.told in
+    record {
+      no_bytes = has.no_bytes;
+      no_entries = has.no_entries;
+      none_told = has.none_told;
+      bytes = omega (arith, bytes, fewer);
+      entries = omega (arith, entries, less);
+      told = omega (arith, told, less);
+    }

@@ -1,25 +1,24 @@
 -- Where a held request can be performed, no counter goes past its end, whatever free nodeids are given.
-use Rattle.std.proofs.Common.{◌≡◌, ℕ, ◌+◌, ◌≤◌, ◌<◌, ◌^◌, Bool, true, false, ◌||◌, List, [], ◌∷◌, Option, Some, None, length, refl, sym, ap, subst, ◌∙◌, arith, inl, inr}
-use Rattle.std.specs.Prelude.{nat_lt, ◌⊎◌, MatchOption}
+use Rattle.std.proofs.Common.{◌≡◌, ℕ, ◌≤◌, ◌<◌, ◌^◌, Bool, true, false, ◌||◌, List, [], ◌∷◌, Some, refl, ap, subst, ◌∙◌, arith}
+use Rattle.std.specs.Prelude.{nat_lt}
 use Rattle.std.proofs.lemmas.Bool.{le-ltb, ltb-false}
-use Rattle.std.proofs.lemmas.Option.{same_Some}
+use Rattle.fuse_spec.specs.declared.Minor.{Minor}
 use Rattle.fuse_spec.specs.Maps.{Map, get, remove}
 use Rattle.fuse_spec.specs.Numbers.{counter_end}
-use Rattle.fuse_spec.specs.Operations.{Reply, found, missing, created, opened, attributes, listed, content, written, agreed, done, failed, files_in_reply, opens_in_reply}
+use Rattle.fuse_spec.specs.Operations.{Reply, files_in_reply, opens_in_reply}
 use Rattle.fuse_spec.specs.declared.Validity.{Validity}
 use Rattle.fuse_spec.specs.declared.Entry.{Entry}
 use Rattle.fuse_spec.specs.Copies.{rows_counted, handles_counted, sent_again}
-use Rattle.fuse_spec.specs.Nodes.{NodeTable, HandleTable, HeldNode, row_more, handle_more, all_given, given, generation_after, MayChoose, IsUnheld}
+use Rattle.fuse_spec.specs.Nodes.{NodeTable, HandleTable, row_more, handle_more, MayChoose}
 use Rattle.fuse_spec.specs.Performs.{performed, served, files_given, replying}
 use Rattle.fuse_spec.specs.Server.{Server, HeldRequest, Kept, Copy, without_unheld_files}
 use Rattle.fs_files.specs.Performing.{said, tree_said, handles_said}
 use Rattle.fs_files.specs.Plans.{HasNumbers}
 use Rattle.fs_files.specs.Values.{FilesState}
-use Rattle.fs_files.proofs.Performed.{files_are, same_said}
 use Rattle.fs_server.specs.Values.{server_with}
 use Rattle.fs_server.specs.Steps.{CanPerform}
 use Rattle.fs_server.specs.Effects.{is_past_end}
-use Rattle.fs_server.proofs.Served.{bare, ends_live, end_live, end_lost, lost_is, numbers_of, all_numbers, numbers_said}
+use Rattle.fs_server.proofs.Served.{all_generations, bare, ends_live, files_told, end_live, end_lost, lost_is, numbers_of, all_numbers, numbers_said}
 
 none_past : (a b c d e : Bool) → a ≡ false → b ≡ false → c ≡ false → d ≡ false → e ≡ false → (a || b || c || d || e) ≡ false
 none_past a b c d e fa fb fc fd fe = λ i. fa i || fb i || fc i || fd i || fe i
@@ -69,56 +68,28 @@ all_within s each =
     none_past (nat_lt counter_end s.tree.next_birth) (nat_lt counter_end s.tree.next_serial) (nat_lt counter_end s.nodes.next_generation) (nat_lt counter_end s.handles.next_fh) (nat_lt counter_end s.next_copy)
     (within s.tree.next_birth each.births) (within s.tree.next_serial each.serials) (within s.nodes.next_generation each.generations) (within s.handles.next_fh each.numbers) (within s.next_copy each.copies)
 
--- a reply names one file at most
-few : (reply : Reply ℕ ℕ) → (files_in_reply reply ≡ []) ⊎ ((file : ℕ) × (files_in_reply reply ≡ file ∷ []))
-few (found x valid) = inr (x, refl)
-few (missing valid) = inl refl
-few (created x valid o) = inr (x, refl)
-few (opened o) = inl refl
-few (attributes a) = inl refl
-few (listed records) = inl refl
-few (content bytes) = inl refl
-few (written size) = inl refl
-few (agreed major minor) = inl refl
-few done = inl refl
-few (failed errno) = inl refl
-
--- the generations go up by one where a file without a node gets one
-generation_given : (nodes : NodeTable) (choice : ℕ → ℕ) (file : ℕ) → MayChoose choice nodes (file ∷ []) → nodes.next_generation ≤ 2 ^ 62 → (IsUnheld nodes file → nodes.next_generation < 2 ^ 62) → (given nodes file (choice file)).next_generation ≤ 2 ^ 62
-generation_given nodes choice file may le one = by (get nodes.rows (choice file)) may.0
-  where
-    by : (o : Option HeldNode) → MatchOption o ((2 ≤ choice file) × IsUnheld nodes file) (λ row. row.file ≡ file) → generation_after nodes o ≤ 2 ^ 62
-    by None free = let more = one free.1 in omega (arith, more)
-    by (Some row) has = le
-
-module _ (files : FilesState) (held : Map HeldRequest) (kept : Map Kept) (copies : Map Copy) (next : ℕ) (v : Validity) (unique : ℕ) (h : HeldRequest) (there : get held unique ≡ Some h) where
+module _ (files : FilesState) (held : Map HeldRequest) (kept : Map Kept) (copies : Map Copy) (next : ℕ) (v : Validity) (m : Minor) (unique : ℕ) (h : HeldRequest) (there : get held unique ≡ Some h) where
   abbrev old : Bool → Server
-  old a = server_with files held kept copies next v a
+  old a = server_with files held kept copies next v m a
 
   abbrev reply : Reply ℕ ℕ
-  reply = said (bare files held kept copies next v unique h there) h
-
-  generations_within : (choice : ℕ → ℕ) (xs : List ℕ) → files_in_reply reply ≡ xs → (xs ≡ []) ⊎ ((file : ℕ) × (xs ≡ file ∷ [])) → MayChoose choice files.nodes xs → files.nodes.next_generation ≤ 2 ^ 62
-      → ((file : ℕ) → files_in_reply reply ≡ file ∷ [] → IsUnheld files.nodes file → files.nodes.next_generation < 2 ^ 62) → (all_given choice files.nodes xs).next_generation ≤ 2 ^ 62
-  generations_within choice xs is (inl none) may le has = subst (λ (ys : List ℕ). (all_given choice files.nodes ys).next_generation ≤ 2 ^ 62) (sym none) le
-  generations_within choice xs is (inr one) may le has =
-      subst (λ (ys : List ℕ). (all_given choice files.nodes ys).next_generation ≤ 2 ^ 62) (sym one.1)
-      (generation_given files.nodes choice one.0 (subst (MayChoose choice files.nodes) one.1 may) le (has one.0 (is ∙ one.1)))
+  reply = said (bare files held kept copies next v m unique h there) h
 
   live_within : CanPerform (old false) unique → is_past_end (old false) ≡ false → (choice : ℕ → ℕ) → MayChoose choice files.nodes (files_given (old false) h) → is_past_end (served choice (old false) unique h).server ≡ false
   live_within can before choice may =
       let each = each_within (old false) before in
-      let has : HasNumbers (tree_said (bare files held kept copies next v unique h there) h) files.nodes files.handles false reply = numbers_of files held kept copies next v unique h there false can in
+      let has : HasNumbers (tree_said (bare files held kept copies next v m unique h there) h) files.nodes files.handles false reply = numbers_of files held kept copies next v m unique h there false can in
       let next_low = can.copy refl in
-      let told = subst (MayChoose choice files.nodes) (files_are (old false) h refl ∙ ap files_in_reply (same_said (bare files held kept copies next v unique h there) held kept copies next false h)) may in
-      let opens = all_numbers (handles_said (bare files held kept copies next v unique h there) h) (opens_in_reply reply) in
-      let start = numbers_said (bare files held kept copies next v unique h there) h in
+      let generations = all_generations choice files.nodes (files_in_reply reply) can.rising (subst (MayChoose choice files.nodes) (files_told files held kept copies next v m unique h there) may) in
+      let most = has.generations refl in
+      let opens = all_numbers (handles_said (bare files held kept copies next v m unique h there) h) (opens_in_reply reply) in
+      let start = numbers_said (bare files held kept copies next v m unique h there) h in
       let numbers = has.numbers refl in
-      ap is_past_end (ends_live files held kept copies next v unique h there choice)
-      ∙ all_within (end_live files held kept copies next v unique h there choice) (record {
+      ap is_past_end (ends_live files held kept copies next v m unique h there choice)
+      ∙ all_within (end_live files held kept copies next v m unique h there choice) (record {
         births = has.births;
         serials = has.serials;
-        generations = generations_within choice (files_in_reply reply) refl (few reply) told each.generations (has.generations refl);
+        generations = omega (arith, generations, most);
         numbers = omega (arith, opens, start, numbers);
         copies = omega (arith, next_low);
       })
@@ -126,11 +97,11 @@ module _ (files : FilesState) (held : Map HeldRequest) (kept : Map Kept) (copies
   lost_within : CanPerform (old true) unique → is_past_end (old true) ≡ false → (choice : ℕ → ℕ) → is_past_end (served choice (old true) unique h).server ≡ false
   lost_within can before choice =
       let each = each_within (old true) before in
-      let has : HasNumbers (tree_said (bare files held kept copies next v unique h there) h) files.nodes files.handles true reply = numbers_of files held kept copies next v unique h there true can in
-      let start = numbers_said (bare files held kept copies next v unique h there) h in
+      let has : HasNumbers (tree_said (bare files held kept copies next v m unique h there) h) files.nodes files.handles true reply = numbers_of files held kept copies next v m unique h there true can in
+      let start = numbers_said (bare files held kept copies next v m unique h there) h in
       let old_numbers = each.numbers in
-      ap (λ (s : Server). is_past_end (replying (without_unheld_files s) unique (performed choice (server_with files (remove held unique) kept copies next v true) h).wire)) (lost_is files held kept copies next v unique h there choice)
-      ∙ all_within (end_lost files held kept copies next v unique h there choice) (record {
+      ap (λ (s : Server). is_past_end (replying (without_unheld_files s) unique (performed choice (server_with files (remove held unique) kept copies next v m true) h).wire)) (lost_is files held kept copies next v m unique h there choice)
+      ∙ all_within (end_lost files held kept copies next v m unique h there choice) (record {
         births = has.births;
         serials = has.serials;
         generations = each.generations;
@@ -147,7 +118,7 @@ files_alone s = record { tree = s.tree; nodes = s.nodes; handles = s.handles; no
 
 -- Where a held request can be performed, no counter is past its end afterwards, whatever is chosen.
 pub performs_within : (s : Server) (unique : ℕ) (h : HeldRequest) → get s.held unique ≡ Some h → CanPerform s unique → is_past_end s ≡ false → (choice : ℕ → ℕ) → MayChoose choice s.nodes (files_given s h) → is_past_end (served choice s unique h).server ≡ false
-performs_within s unique h there can before choice may = any_within (files_alone s) s.held s.kept s.copies s.next_copy s.validity unique h there s.aborted can before choice may
+performs_within s unique h there can before choice may = any_within (files_alone s) s.held s.kept s.copies s.next_copy s.validity s.minor unique h there s.aborted can before choice may
 
 -- ---- one more copy
 

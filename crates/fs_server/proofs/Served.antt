@@ -1,54 +1,60 @@
 -- A held request is performed.
-use Rattle.std.proofs.Common.{◌≡◌, ℕ, ◌+◌, ◌≤◌, ◌<◌, ◌^◌, Bool, true, false, true≢false, cond, ◌||◌, List, [], ◌∷◌, Option, Some, None, length, refl, sym, ap, subst, ◌∙◌, arith, inl, inr}
-use Rattle.std.specs.Prelude.{nat_lt, ◌⊎◌, MatchOption}
+use Rattle.std.proofs.Common.{◌≡◌, ℕ, ◌+◌, ◌≤◌, ◌<◌, ◌^◌, Bool, true, false, true≢false, cond, ◌||◌, List, [], ◌∷◌, T, Some, None, length, refl, sym, ap, subst, ◌∙◌, arith, inl, inr}
+use Rattle.std.specs.Prelude.{nat_lt, ◌⊎◌}
+use Rattle.std.specs.FinMap.{is_sorted}
+use Rattle.std.specs.Ordering.{nat_cmp}
 use Rattle.std.proofs.lemmas.Bool.{lt-ltb}
 use Rattle.std.proofs.lemmas.Option.{same_Some}
+use Rattle.fuse_spec.specs.declared.Minor.{Minor}
 use Rattle.fuse_spec.specs.Maps.{Map, get, put, remove}
 use Rattle.fuse_spec.specs.Numbers.{counter_end}
 use Rattle.fuse_spec.specs.Operations.{Reply, files_in_reply, opens_in_reply, errno_of}
 use Rattle.fuse_spec.specs.declared.Validity.{Validity}
 use Rattle.fuse_spec.specs.declared.Refusal.TheVariants.{Exhausted}
 use Rattle.fuse_spec.specs.Messages.{RequestBody, init, asks, release, forget, batch_forget, interrupt, WireReply}
-use Rattle.fuse_spec.specs.Nodes.{NodeTable, HeldNode, HandleTable, all_given, all_opened, handle_opened, handle_back, given, generation_after, MayChoose, MayName, IsUnheld, is_open, file_of}
+use Rattle.fuse_spec.specs.Nodes.{NodeTable, HandleTable, all_given, all_opened, counts_out, handle_opened, handle_back, given, MayChoose, is_open, file_of}
 use Rattle.fuse_spec.specs.Trees.{Tree}
-use Rattle.fuse_spec.specs.Performs.{PerformResult, performed, served, replying, wire_of, is_still_held}
+use Rattle.fuse_spec.specs.Performs.{PerformResult, files_given, performed, served, replying, wire_of, is_still_held}
 use Rattle.fuse_spec.specs.Server.{Server, HeldRequest, Kept, Copy, without_unheld_files, is_file_held}
 use Rattle.fuse_spec.specs.Worlds.{Sent}
 use Rattle.fs_tree.specs.Outcomes.{without_unheld}
+use Rattle.fs_files.specs.Bounds.{AreHeldBelow}
+use Rattle.fs_files.specs.Giving.{generations_after}
 use Rattle.fs_files.specs.Performing.{said, tree_said, handles_said, handles_by, telling}
 use Rattle.fs_files.specs.Plans.{LacksNumber, HasNumbers}
 use Rattle.fs_files.specs.Replies.{sent_wire}
 use Rattle.fs_files.specs.Telling.{Tells}
-use Rattle.fs_files.specs.Values.{FilesState, server_of}
+use Rattle.fs_files.specs.Values.{FilesState, server_at, server_of}
 use Rattle.fs_files.specs.declared.replies.SentReply.{SentReply}
+use Rattle.fs_files.proofs.Giving.{generations_given, none_out, sorted_given}
 use Rattle.fs_files.proofs.Performed.{performed_is, performed_lost, files_are, no_files, same_said, same_tree, same_handles}
 use Rattle.fs_server.specs.Values.{server_with}
 use Rattle.fs_server.specs.Steps.{CanPerform}
-use Rattle.fs_server.specs.Effects.{PerformsHeld, RefusesHeld, exhausted, is_past_end}
+use Rattle.fs_server.specs.Effects.{PerformsHeld, RefusesHeld, exhausted, told_too_often, is_past_end}
 
 -- a server by its parts
-abbrev pub whole : Tree → NodeTable → HandleTable → Map HeldRequest → Map Kept → Map Copy → ℕ → Validity → Bool → Server
-whole t n h held kept copies next v a = record { tree = t; nodes = n; handles = h; held = held; kept = kept; copies = copies; next_copy = next; validity = v; aborted = a }
+abbrev pub whole : Tree → NodeTable → HandleTable → Map HeldRequest → Map Kept → Map Copy → ℕ → Validity → Minor → Bool → Server
+whole t n h held kept copies next v m a = record { tree = t; nodes = n; handles = h; held = held; kept = kept; copies = copies; next_copy = next; validity = v; minor = m; aborted = a }
 
 -- files that only have more room are the same to requests
-pub same_bare : (start files : FilesState) (v : Validity) → start.tree ≡ files.tree → start.nodes ≡ files.nodes → start.handles ≡ files.handles → server_of start v ≡ server_of files v
-same_bare start files v tree nodes handles = λ i. whole (tree i) (nodes i) (handles i) [] [] [] 1 v false
+pub same_bare : (start files : FilesState) (v : Validity) (m : Minor) → start.tree ≡ files.tree → start.nodes ≡ files.nodes → start.handles ≡ files.handles → server_at m start v ≡ server_at m files v
+same_bare start files v m tree nodes handles = λ i. whole (tree i) (nodes i) (handles i) [] [] [] 1 v m false
 
-module _ (files : FilesState) (held : Map HeldRequest) (kept : Map Kept) (copies : Map Copy) (next : ℕ) (v : Validity) (unique : ℕ) (h : HeldRequest) where
+module _ (files : FilesState) (held : Map HeldRequest) (kept : Map Kept) (copies : Map Copy) (next : ℕ) (v : Validity) (m : Minor) (unique : ℕ) (h : HeldRequest) where
   abbrev b : Server
-  b = server_of files v
+  b = server_at m files v
 
   -- the server before, and without the request
   abbrev old : Bool → Server
-  old a = server_with files held kept copies next v a
+  old a = server_with files held kept copies next v m a
 
   abbrev rest : Bool → Server
-  rest a = server_with files (remove held unique) kept copies next v a
+  rest a = server_with files (remove held unique) kept copies next v m a
 
   -- ---- while the mount is not aborted
 
   abbrev told : (ℕ → ℕ) → Tree → HandleTable → Reply ℕ ℕ → PerformResult
-  told choice t hs reply = telling choice (whole t files.nodes hs (remove held unique) kept copies next v false) reply
+  told choice t hs reply = telling choice (whole t files.nodes hs (remove held unique) kept copies next v m false) reply
 
   did : (choice : ℕ → ℕ) → performed choice (rest false) h ≡ told choice (tree_said b h) (handles_said b h) (said b h)
   did choice =
@@ -66,17 +72,19 @@ module _ (files : FilesState) (held : Map HeldRequest) (kept : Map Kept) (copies
 
   -- the server once the reply is sent
   abbrev after : FilesState → WireReply → Server
-  after f wire = server_with f (remove held unique) (put kept unique (keeping wire)) (put copies next (sent_as wire)) (next + 1) v false
+  after f wire = server_with f (remove held unique) (put kept unique (keeping wire)) (put copies next (sent_as wire)) (next + 1) v m false
 
   module _ (there : get held unique ≡ Some h) where
     pub performs_live : {A : Type 0} (one two three : FilesState) (reply : Reply ℕ ℕ) (sent : SentReply A) (copy : Sent) (errno : ℕ)
+        → counts_out files.nodes (files_given (old false) h) ≡ false
         → one.tree ≡ tree_said b h → one.handles ≡ handles_said b h → one.nodes ≡ files.nodes → reply ≡ said b h → Tells one reply sent two
         → three.tree ≡ without_unheld (is_file_held (server_of two v)) two.tree → three.nodes ≡ two.nodes → three.handles ≡ two.handles
         → copy ≡ record { number = next; unique = unique; wire = sent_wire sent } → errno ≡ errno_of (sent_wire sent)
         → PerformsHeld (old false) unique errno (Some copy) (after three (sent_wire sent))
-    performs_live one two three reply sent copy errno tree handles nodes says tells left nodes_left handles_left copy_is errno_is = record {
+    performs_live one two three reply sent copy errno none tree handles nodes says tells left nodes_left handles_left copy_is errno_is = record {
       held = h;
       there = there;
+      counts = none;
       choice = tells.choice;
       may = subst (MayChoose tells.choice files.nodes) (ap files_in_reply says ∙ ap files_in_reply (sym (same_said b held kept copies next false h)) ∙ sym (files_are (old false) h refl)) (subst (λ (n : NodeTable). MayChoose tells.choice n (files_in_reply reply)) nodes tells.may);
       server_is = (λ i. after (record three { tree = left i; nodes = nodes_left i; handles = handles_left i }) (sent_wire sent)) ∙ sym (ap (λ (r : PerformResult). replying (without_unheld_files r.server) unique r.wire) same);
@@ -88,7 +96,7 @@ module _ (files : FilesState) (held : Map HeldRequest) (kept : Map Kept) (copies
         choice = tells.choice
 
         now : Tree → NodeTable → HandleTable → WireReply → PerformResult
-        now t n hs wire = record { server = whole t n hs (remove held unique) kept copies next v false; wire = wire }
+        now t n hs wire = record { server = whole t n hs (remove held unique) kept copies next v m false; wire = wire }
 
         given_now : all_given choice files.nodes (files_in_reply reply) ≡ two.nodes
         given_now = ap (λ (n : NodeTable). all_given choice n (files_in_reply reply)) (sym nodes) ∙ sym tells.nodes_is
@@ -101,27 +109,28 @@ module _ (files : FilesState) (held : Map HeldRequest) (kept : Map Kept) (copies
 
     -- the same from files that only have more room
     pub performs_from : {A : Type 0} (start one two three : FilesState) (reply : Reply ℕ ℕ) (sent : SentReply A) (copy : Sent) (errno : ℕ) → start.tree ≡ files.tree → start.nodes ≡ files.nodes → start.handles ≡ files.handles
-        → one.tree ≡ tree_said (server_of start v) h → one.handles ≡ handles_said (server_of start v) h → one.nodes ≡ start.nodes → reply ≡ said (server_of start v) h → Tells one reply sent two
+        → counts_out files.nodes (files_given (old false) h) ≡ false → one.tree ≡ tree_said (server_at m start v) h → one.handles ≡ handles_said (server_at m start v) h → one.nodes ≡ start.nodes → reply ≡ said (server_at m start v) h → Tells one reply sent two
         → three.tree ≡ without_unheld (is_file_held (server_of two v)) two.tree → three.nodes ≡ two.nodes → three.handles ≡ two.handles
         → copy ≡ record { number = next; unique = unique; wire = sent_wire sent } → errno ≡ errno_of (sent_wire sent)
         → PerformsHeld (old false) unique errno (Some copy) (after three (sent_wire sent))
-    performs_from start one two three reply sent copy errno tree_start nodes_start handles_start tree handles nodes says tells left nodes_left handles_left copy_is errno_is =
-        let same : server_of start v ≡ b = same_bare start files v tree_start nodes_start handles_start in
-        performs_live one two three reply sent copy errno (tree ∙ ap (λ x. tree_said x h) same) (handles ∙ ap (λ x. handles_said x h) same) (nodes ∙ nodes_start) (says ∙ ap (λ x. said x h) same) tells left nodes_left handles_left copy_is errno_is
+    performs_from start one two three reply sent copy errno tree_start nodes_start handles_start none tree handles nodes says tells left nodes_left handles_left copy_is errno_is =
+        let same : server_at m start v ≡ b = same_bare start files v m tree_start nodes_start handles_start in
+        performs_live one two three reply sent copy errno none (tree ∙ ap (λ x. tree_said x h) same) (handles ∙ ap (λ x. handles_said x h) same) (nodes ∙ nodes_start) (says ∙ ap (λ x. said x h) same) tells left nodes_left handles_left copy_is errno_is
 
   -- ---- after an abort
 
   abbrev after_lost : FilesState → Server
-  after_lost f = server_with f (remove held unique) kept copies next v true
+  after_lost f = server_with f (remove held unique) kept copies next v m true
 
   module _ (there : get held unique ≡ Some h) where
-    pub performs_lost : (one three : FilesState) (reply : Reply ℕ ℕ) (errno : ℕ)
+    pub performs_lost : (one three : FilesState) (reply : Reply ℕ ℕ) (errno : ℕ) → counts_out files.nodes (files_given (old true) h) ≡ false
         → one.tree ≡ tree_said b h → one.handles ≡ handles_said b h → one.nodes ≡ files.nodes → reply ≡ said b h
         → three.tree ≡ without_unheld (is_file_held (server_of one v)) one.tree → three.nodes ≡ one.nodes → three.handles ≡ one.handles
         → errno ≡ errno_of reply → PerformsHeld (old true) unique errno None (after_lost three)
-    performs_lost one three reply errno tree handles nodes says left nodes_left handles_left errno_is = record {
+    performs_lost one three reply errno none tree handles nodes says left nodes_left handles_left errno_is = record {
       held = h;
       there = there;
+      counts = none;
       choice = λ n. n;
       may = subst (MayChoose (λ n. n) files.nodes) (sym (no_files (old true) h refl)) tt;
       server_is = (λ i. after_lost (record three { tree = left i; nodes = nodes_left i; handles = handles_left i })) ∙ sym (ap (λ (s : Server). replying (without_unheld_files s) unique (performed (λ n. n) (rest true) h).wire) same);
@@ -130,7 +139,7 @@ module _ (files : FilesState) (held : Map HeldRequest) (kept : Map Kept) (copies
     }
       where
         now : Tree → NodeTable → HandleTable → Server
-        now t n hs = whole t n hs (remove held unique) kept copies next v true
+        now t n hs = whole t n hs (remove held unique) kept copies next v m true
 
         same : (performed (λ n. n) (rest true) h).server ≡ now one.tree one.nodes one.handles
         same =
@@ -168,12 +177,11 @@ past s p =
       ])
     ])
 
-new_generation : (nodes : NodeTable) (file id : ℕ) → IsUnheld nodes file → MayName nodes file id → (given nodes file id).next_generation ≡ nodes.next_generation + 1
-new_generation nodes file id unheld may = by (get nodes.rows id) refl may
-  where
-    by : (o : Option HeldNode) → get nodes.rows id ≡ o → MatchOption o ((2 ≤ id) × IsUnheld nodes file) (λ row. row.file ≡ file) → generation_after nodes o ≡ nodes.next_generation + 1
-    by None e m = refl
-    by (Some row) e m = absurd (unheld id row e m)
+-- the generation that is given next, once these files have nodes
+pub all_generations : (choice : ℕ → ℕ) (t : NodeTable) (files : List ℕ) → T (is_sorted nat_cmp t.rows) → MayChoose choice t files → (all_given choice t files).next_generation ≡ generations_after t files
+all_generations choice t [] rising may = omega arith
+all_generations choice t (file ∷ files) rising may =
+    all_generations choice (given t file (choice file)) files (sorted_given t file (choice file) rising) may.1 ∙ generations_given t file (choice file) files rising may.0
 
 pub all_numbers : (t : HandleTable) (files : List ℕ) → (all_opened t files).next_fh ≡ t.next_fh + length files
 all_numbers t [] = omega arith
@@ -183,7 +191,7 @@ pub numbers_said : (s : Server) (h : HeldRequest) → (handles_said s h).next_fh
 numbers_said s h = by h.marked (is_still_held s.nodes h.generations)
   where
     of_body : (body : RequestBody) → (handles_by s body).next_fh ≡ s.handles.next_fh
-    of_body init = refl
+    of_body (init flags) = refl
     of_body (asks operation) = refl
     of_body (release o) = released (is_open s.handles o.fh (file_of s.nodes o.nodeid))
       where
@@ -199,90 +207,114 @@ numbers_said s h = by h.marked (is_still_held s.nodes h.generations)
     by false true = of_body h.body
     by false false = refl
 
-module _ (files : FilesState) (held : Map HeldRequest) (kept : Map Kept) (copies : Map Copy) (next : ℕ) (v : Validity) (unique : ℕ) (h : HeldRequest) (there : get held unique ≡ Some h) where
+module _ (files : FilesState) (held : Map HeldRequest) (kept : Map Kept) (copies : Map Copy) (next : ℕ) (v : Validity) (m : Minor) (unique : ℕ) (h : HeldRequest) (there : get held unique ≡ Some h) where
   abbrev pub bare : Server
-  bare = server_of files v
+  bare = server_at m files v
 
   -- the server once the request is performed
   abbrev pub end_live : (ℕ → ℕ) → Server
   end_live choice =
-      replying (without_unheld_files (told files held kept copies next v unique h choice (tree_said bare h) (handles_said bare h) (said bare h)).server) unique (told files held kept copies next v unique h choice (tree_said bare h) (handles_said bare h) (said bare h)).wire
+      replying (without_unheld_files (told files held kept copies next v m unique h choice (tree_said bare h) (handles_said bare h) (said bare h)).server) unique (told files held kept copies next v m unique h choice (tree_said bare h) (handles_said bare h) (said bare h)).wire
 
   abbrev pub end_lost : (ℕ → ℕ) → Server
   end_lost choice =
-      replying (without_unheld_files (whole (tree_said bare h) files.nodes (handles_said bare h) (remove held unique) kept copies next v true)) unique (performed choice (server_with files (remove held unique) kept copies next v true) h).wire
+      replying (without_unheld_files (whole (tree_said bare h) files.nodes (handles_said bare h) (remove held unique) kept copies next v m true)) unique (performed choice (server_with files (remove held unique) kept copies next v m true) h).wire
 
-  pub ends_live : (choice : ℕ → ℕ) → (served choice (server_with files held kept copies next v false) unique h).server ≡ end_live choice
-  ends_live choice = ap (λ (r : PerformResult). replying (without_unheld_files r.server) unique r.wire) (did files held kept copies next v unique h choice)
+  pub ends_live : (choice : ℕ → ℕ) → (served choice (server_with files held kept copies next v m false) unique h).server ≡ end_live choice
+  ends_live choice = ap (λ (r : PerformResult). replying (without_unheld_files r.server) unique r.wire) (did files held kept copies next v m unique h choice)
 
-  past_told : (choice : ℕ → ℕ) → MayChoose choice files.nodes (files_in_reply (said bare h)) → LacksNumber (tree_said bare h) files.nodes files.handles false (said bare h)
-      → Past (end_live choice)
-  past_told choice may lacks = elim lacks [
-    | inl births ↦ inl births
-    | inr q ↦ elim q [
-      | inl serials ↦ inr (inl serials)
-      | inr r ↦ elim r.1 [
-        | inl g ↦
-            let one = subst (MayChoose choice files.nodes) g.1 may in
-            let more = new_generation files.nodes g.0 (choice g.0) g.2 one.0 in
-            let same : (all_given choice files.nodes (files_in_reply (said bare h))).next_generation ≡ (given files.nodes g.0 (choice g.0)).next_generation = ap (λ (xs : List ℕ). (all_given choice files.nodes xs).next_generation) g.1 in
-            let full = g.3 in
-            inr (inr (inl (omega (arith, more, same, full))))
-        | inr numbers ↦
-            let all = all_numbers (handles_said bare h) (opens_in_reply (said bare h)) in
-            let start = numbers_said bare h in
-            inr (inr (inr (inl (omega (arith, all, start, numbers)))))
-      ]
+  -- the files that get nodes
+  pub files_told : files_given (server_with files held kept copies next v m false) h ≡ files_in_reply (said bare h)
+  files_told = files_are (server_with files held kept copies next v m false) h refl ∙ ap files_in_reply (same_said bare held kept copies next false h)
+
+  lacking_told : T (is_sorted nat_cmp files.nodes.rows)
+      → (2 ^ 62 < generations_after files.nodes (files_in_reply (said bare h))) ⊎ ((counts_out files.nodes (files_in_reply (said bare h)) ≡ true) ⊎ (2 ^ 62 < files.handles.next_fh + length (opens_in_reply (said bare h))))
+      → RefusesHeld (server_with files held kept copies next v m false) unique Exhausted
+  lacking_told rising lacks = elim lacks [
+    | inl generations ↦ exhausted h there (λ choice may.
+        let all = all_generations choice files.nodes (files_in_reply (said bare h)) rising (subst (MayChoose choice files.nodes) files_told may) in
+        ap is_past_end (ends_live choice) ∙ past (end_live choice) (inr (inr (inl (omega (arith, all, generations))))))
+    | inr other ↦ elim other [
+      | inl out ↦ told_too_often h there (ap (counts_out files.nodes) files_told ∙ out)
+      | inr numbers ↦ exhausted h there (λ choice may.
+          let all = all_numbers (handles_said bare h) (opens_in_reply (said bare h)) in
+          let start = numbers_said bare h in
+          ap is_past_end (ends_live choice) ∙ past (end_live choice) (inr (inr (inr (inl (omega (arith, all, start, numbers)))))))
     ]
   ]
 
-  pub lacking_live : LacksNumber (tree_said bare h) files.nodes files.handles false (said bare h) → RefusesHeld (server_with files held kept copies next v false) unique Exhausted
-  lacking_live lacks = exhausted h there (λ choice may.
-      ap is_past_end (ends_live choice)
-      ∙ past (end_live choice) (past_told choice (subst (MayChoose choice files.nodes) (files_are (server_with files held kept copies next v false) h refl ∙ ap files_in_reply (same_said bare held kept copies next false h)) may) lacks))
+  lacking_live : T (is_sorted nat_cmp files.nodes.rows) → LacksNumber (tree_said bare h) files.nodes files.handles false (said bare h) → RefusesHeld (server_with files held kept copies next v m false) unique Exhausted
+  lacking_live rising lacks = elim lacks [
+    | inl births ↦ exhausted h there (λ choice may. ap is_past_end (ends_live choice) ∙ past (end_live choice) (inl births))
+    | inr other ↦ elim other [
+      | inl serials ↦ exhausted h there (λ choice may. ap is_past_end (ends_live choice) ∙ past (end_live choice) (inr (inl serials)))
+      | inr told ↦ lacking_told rising told.1
+    ]
+  ]
 
-  pub no_copy : 2 ^ 62 ≤ next → RefusesHeld (server_with files held kept copies next v false) unique Exhausted
+  pub no_copy : 2 ^ 62 ≤ next → RefusesHeld (server_with files held kept copies next v m false) unique Exhausted
   no_copy le = exhausted h there (λ choice may. ap is_past_end (ends_live choice) ∙ past (end_live choice) (inr (inr (inr (inr (omega (arith, le)))))))
 
-  pub lost_is : (choice : ℕ → ℕ) → (performed choice (server_with files (remove held unique) kept copies next v true) h).server ≡ whole (tree_said bare h) files.nodes (handles_said bare h) (remove held unique) kept copies next v true
+  pub lost_is : (choice : ℕ → ℕ) → (performed choice (server_with files (remove held unique) kept copies next v m true) h).server ≡ whole (tree_said bare h) files.nodes (handles_said bare h) (remove held unique) kept copies next v m true
   lost_is choice =
-      (performed_lost choice (server_with files (remove held unique) kept copies next v true) refl h).0
-      ∙ (λ i. whole (same_tree bare (remove held unique) kept copies next true h i) files.nodes (same_handles bare (remove held unique) kept copies next true h i) (remove held unique) kept copies next v true)
+      (performed_lost choice (server_with files (remove held unique) kept copies next v m true) refl h).0
+      ∙ (λ i. whole (same_tree bare (remove held unique) kept copies next true h i) files.nodes (same_handles bare (remove held unique) kept copies next true h i) (remove held unique) kept copies next v m true)
 
-  pub lacking_lost : LacksNumber (tree_said bare h) files.nodes files.handles true (said bare h) → RefusesHeld (server_with files held kept copies next v true) unique Exhausted
+  pub lacking_lost : LacksNumber (tree_said bare h) files.nodes files.handles true (said bare h) → RefusesHeld (server_with files held kept copies next v m true) unique Exhausted
   lacking_lost lacks = exhausted h there (λ choice may.
-      ap (λ (s : Server). is_past_end (replying (without_unheld_files s) unique (performed choice (server_with files (remove held unique) kept copies next v true) h).wire)) (lost_is choice)
+      ap (λ (s : Server). is_past_end (replying (without_unheld_files s) unique (performed choice (server_with files (remove held unique) kept copies next v m true) h).wire)) (lost_is choice)
       ∙ past (end_lost choice) (elim lacks [ inl births ↦ inl births | inr q ↦ elim q [ inl serials ↦ inr (inl serials) | inr r ↦ absurd (true≢false r.0) ] ]))
 
-  pub lacking : (a : Bool) → LacksNumber (tree_said bare h) files.nodes files.handles a (said bare h) → RefusesHeld (server_with files held kept copies next v a) unique Exhausted
-  lacking true lacks = lacking_lost lacks
-  lacking false lacks = lacking_live lacks
+  pub lacking : (a : Bool) → T (is_sorted nat_cmp files.nodes.rows) → LacksNumber (tree_said bare h) files.nodes files.handles a (said bare h) → RefusesHeld (server_with files held kept copies next v m a) unique Exhausted
+  lacking true rising lacks = lacking_lost lacks
+  lacking false rising lacks = lacking_live rising lacks
+
+  -- no node's lookups come to their end
+  counts_given : (a : Bool) → T (is_sorted nat_cmp files.nodes.rows) → AreHeldBelow files.nodes → HasNumbers (tree_said bare h) files.nodes files.handles a (said bare h)
+      → counts_out files.nodes (files_given (server_with files held kept copies next v m a) h) ≡ false
+  counts_given true rising below has = ap (counts_out files.nodes) (no_files (server_with files held kept copies next v m true) h refl) ∙ none_out files.nodes [] rising below tt
+  counts_given false rising below has = ap (counts_out files.nodes) files_told ∙ has.counts refl
 
   -- what the server says of a request is what its files say
-  pub can : (a : Bool) → (a ≡ false → next < 2 ^ 62) → HasNumbers (tree_said bare h) files.nodes files.handles a (said bare h) → CanPerform (server_with files held kept copies next v a) unique
-  can a copy has = record {
+  pub can : (a : Bool) → T (is_sorted nat_cmp files.nodes.rows) → AreHeldBelow files.nodes → (a ≡ false → next < 2 ^ 62) → HasNumbers (tree_said bare h) files.nodes files.handles a (said bare h)
+      → CanPerform (server_with files held kept copies next v m a) unique
+  can a rising below copy has = record {
     held = h;
     there = there;
+    rising = rising;
+    counts = counts_given a rising below has;
     copy = copy;
-    numbers = subst (λ (t : Tree). HasNumbers t files.nodes files.handles a (said (server_with files held kept copies next v a) h)) (sym (same_tree bare held kept copies next a h))
+    numbers = subst (λ (t : Tree). HasNumbers t files.nodes files.handles a (said (server_with files held kept copies next v m a) h)) (sym (same_tree bare held kept copies next a h))
         (subst (λ (r : Reply ℕ ℕ). HasNumbers (tree_said bare h) files.nodes files.handles a r) (sym (same_said bare held kept copies next a h)) has);
   }
 
-  pub numbers_of : (a : Bool) → CanPerform (server_with files held kept copies next v a) unique → HasNumbers (tree_said bare h) files.nodes files.handles a (said bare h)
+  pub numbers_of : (a : Bool) → CanPerform (server_with files held kept copies next v m a) unique → HasNumbers (tree_said bare h) files.nodes files.handles a (said bare h)
   numbers_of a c =
       subst (λ (t : Tree). HasNumbers t files.nodes files.handles a (said bare h)) (same_tree bare held kept copies next a h)
-      (subst (λ (r : Reply ℕ ℕ). HasNumbers (tree_said (server_with files held kept copies next v a) h) files.nodes files.handles a r) (same_said bare held kept copies next a h)
-      (subst (λ (x : HeldRequest). HasNumbers (tree_said (server_with files held kept copies next v a) x) files.nodes files.handles a (said (server_with files held kept copies next v a) x)) (same_Some c.held h (sym c.there ∙ there)) c.numbers))
+      (subst (λ (r : Reply ℕ ℕ). HasNumbers (tree_said (server_with files held kept copies next v m a) h) files.nodes files.handles a r) (same_said bare held kept copies next a h)
+      (subst (λ (x : HeldRequest). HasNumbers (tree_said (server_with files held kept copies next v m a) x) files.nodes files.handles a (said (server_with files held kept copies next v m a) x)) (same_Some c.held h (sym c.there ∙ there)) c.numbers))
+
+  pub counts_of : (a : Bool) → CanPerform (server_with files held kept copies next v m a) unique → counts_out files.nodes (files_given (server_with files held kept copies next v m a) h) ≡ false
+  counts_of a c = subst (λ (x : HeldRequest). counts_out files.nodes (files_given (server_with files held kept copies next v m a) x) ≡ false) (same_Some c.held h (sym c.there ∙ there)) c.counts
 
   -- the files that are told can be
-  pub live_numbers : (start one : FilesState) (reply : Reply ℕ ℕ) → start.tree ≡ files.tree → start.nodes ≡ files.nodes → start.handles ≡ files.handles → one.nodes ≡ start.nodes → one.handles ≡ handles_said (server_of start v) h
-      → reply ≡ said (server_of start v) h → HasNumbers (tree_said bare h) files.nodes files.handles false (said bare h)
-      → ((file : ℕ) → files_in_reply reply ≡ file ∷ [] → IsUnheld one.nodes file → one.nodes.next_generation < 2 ^ 62) × (one.handles.next_fh + length (opens_in_reply reply) ≤ 2 ^ 62)
-  live_numbers start one reply tree_start nodes_start handles_start nodes handles says has =
-      let same : server_of start v ≡ bare = same_bare start files v tree_start nodes_start handles_start in
-      let n : one.nodes ≡ files.nodes = nodes ∙ nodes_start in
-      let r : reply ≡ said bare h = says ∙ ap (λ x. said x h) same in
-      let fh : one.handles.next_fh ≡ files.handles.next_fh = ap (λ (t : HandleTable). t.next_fh) (handles ∙ ap (λ x. handles_said x h) same) ∙ numbers_said bare h in
-      let most = has.numbers refl in
-      let len : length (opens_in_reply reply) ≡ length (opens_in_reply (said bare h)) = ap (λ (x : Reply ℕ ℕ). length (opens_in_reply x)) r in
-      ((λ file is unheld. subst (λ (t : NodeTable). t.next_generation < 2 ^ 62) (sym n) (has.generations refl file (ap files_in_reply (sym r) ∙ is) (subst (λ (t : NodeTable). IsUnheld t file) n unheld))), omega (arith, fh, most, len))
+  module _ (start one : FilesState) (reply : Reply ℕ ℕ) (tree_start : start.tree ≡ files.tree) (nodes_start : start.nodes ≡ files.nodes) (handles_start : start.handles ≡ files.handles) (nodes : one.nodes ≡ start.nodes)
+      (says : reply ≡ said (server_at m start v) h) (has : HasNumbers (tree_said bare h) files.nodes files.handles false (said bare h)) where
+    same_start : server_at m start v ≡ bare
+    same_start = same_bare start files v m tree_start nodes_start handles_start
+
+    same_reply : said bare h ≡ reply
+    same_reply = sym (says ∙ ap (λ x. said x h) same_start)
+
+    pub live_generations : generations_after one.nodes (files_in_reply reply) ≤ 2 ^ 62
+    live_generations = subst (λ (r : Reply ℕ ℕ). generations_after one.nodes (files_in_reply r) ≤ 2 ^ 62) same_reply (subst (λ (t : NodeTable). generations_after t (files_in_reply (said bare h)) ≤ 2 ^ 62) (sym (nodes ∙ nodes_start)) (has.generations refl))
+
+    pub live_counts : counts_out files.nodes (files_in_reply reply) ≡ false
+    live_counts = subst (λ (r : Reply ℕ ℕ). counts_out files.nodes (files_in_reply r) ≡ false) same_reply (has.counts refl)
+
+    pub live_numbers : one.handles ≡ handles_said (server_at m start v) h → one.handles.next_fh + length (opens_in_reply reply) ≤ 2 ^ 62
+    live_numbers handles =
+        let fh : one.handles.next_fh ≡ files.handles.next_fh = ap (λ (t : HandleTable). t.next_fh) (handles ∙ ap (λ x. handles_said x h) same_start) ∙ numbers_said bare h in
+        let most = has.numbers refl in
+        let len : length (opens_in_reply (said bare h)) ≡ length (opens_in_reply reply) = ap (λ (x : Reply ℕ ℕ). length (opens_in_reply x)) same_reply in
+        omega (arith, fh, most, len)

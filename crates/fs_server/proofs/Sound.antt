@@ -1,28 +1,28 @@
 -- The server is sound at first, and stays it as requests are taken and performed, and copies are sent again and settled.
-use Rattle.std.proofs.Common.{◌≡◌, ◌≢◌, ℕ, ◌+◌, ◌≤◌, Bool, true, false, true≢false, cond, List, [], ◌∷◌, Option, Some, None, refl, sym, ap, subst, ◌∙◌, arith, inl, inr}
+use Rattle.std.proofs.Common.{◌≡◌, ◌≢◌, ℕ, ◌+◌, ◌≤◌, ◌<◌, ◌^◌, Bool, true, false, true≢false, cond, List, [], ◌∷◌, Option, Some, None, refl, sym, ap, subst, ◌∙◌, arith, inl, inr}
 use Rattle.std.specs.Prelude.{is_some}
 use Rattle.std.proofs.lemmas.Bool.{cases_eq}
 use Rattle.std.proofs.lemmas.Option.{none-some}
 use Rattle.fuse_spec.specs.Maps.{Map, get, put, remove}
 use Rattle.fuse_spec.specs.declared.Entry.{Entry}
-use Rattle.fuse_spec.specs.Copies.{row_back, rows_back, handles_back, rows_counted, handles_counted}
+use Rattle.fuse_spec.specs.Copies.{row_back, rows_back, handles_back, handles_counted}
 use Rattle.fuse_spec.specs.Messages.{Forget, RequestBody, WireReply, init, asks, release, forget, batch_forget, interrupt}
-use Rattle.fuse_spec.specs.Nodes.{NodeTable, HeldNode, HandleTable, OpenNumber, all_given, all_opened, file_of, handle_back, is_held, is_open, taken_back}
+use Rattle.fuse_spec.specs.Nodes.{NodeTable, HeldNode, HandleTable, OpenNumber, all_opened, file_of, handle_back, is_open, taken_back}
 use Rattle.fuse_spec.specs.Operations as operation
-use Rattle.fuse_spec.specs.Operations.{Reply, files_in_reply, opens_in_reply}
+use Rattle.fuse_spec.specs.Operations.{Reply, opens_in_reply}
 use Rattle.fuse_spec.specs.Performs.{is_still_held}
 use Rattle.fuse_spec.specs.Server.{Server, HeldRequest, all_taken_back}
 use Rattle.fuse_spec.proofs.Tables.{get_put_there, get_gone_here, get_gone_there}
-use Rattle.fs_files.specs.Bounds.{AreCounted, AreNamed, AreUsed}
+use Rattle.fs_files.specs.Bounds.{AreHeldBelow, AreNamed, AreUsed}
 use Rattle.fs_files.specs.Performing.{handles_by, handles_said}
 use Rattle.fs_files.specs.Values.{FilesState, no_handles, no_nodes}
-use Rattle.fs_files.proofs.Bounds.{given_each, taken_each, more_each, opened_each, back_each, number_more_each}
+use Rattle.fs_files.proofs.Bounds.{taken_each, row_back_each, opened_each, back_each, number_more_each}
 use Rattle.fs_server.specs.Sound.{IsSound, AreApart}
 
 pub sound_first : {V W X : Type 0} (files : FilesState) → files.nodes ≡ no_nodes → files.handles ≡ no_handles → AreNamed files.tree files.nodes files.handles → IsSound {V = V} {W = W} {X = X} files [] [] [] 1 (record { found_ms = 0; missing_ms = 0 })
 sound_first files nodes handles named = record {
   requests = record { apart = λ n there. refl; copies_below = λ n le. refl };
-  counted = λ id row is. absurd (none-some row (sym (ap (λ (t : NodeTable). get t.rows id) nodes) ∙ is));
+  below = λ id row is. absurd (none-some row (sym (ap (λ (t : NodeTable). get t.rows id) nodes) ∙ is));
   used = λ fh h is. absurd (none-some h (sym (ap (λ (t : HandleTable). get t.handles fh) handles) ∙ is));
   named = named;
   numbers = omega arith;
@@ -30,43 +30,36 @@ sound_first files nodes handles named = record {
   missing_day = omega arith;
 }
 
--- ---- counts
+-- ---- lookups
+
+abbrev Low : HeldNode → Type 0
+Low row = row.count < 2 ^ 62
+
+below_taken : (t : NodeTable) (id n : ℕ) → AreHeldBelow t → AreHeldBelow (taken_back t id n)
+below_taken t id n old = taken_each Low t id n (λ row low. omega (arith, low)) old
+
+pub below_all : (t : NodeTable) (fs : List Forget) → AreHeldBelow t → AreHeldBelow (all_taken_back t fs)
+below_all t [] old = old
+below_all t (f ∷ fs) old = below_all (taken_back t f.0 f.1) fs (below_taken t f.0 f.1 old)
+
+below_back : (t : NodeTable) (g : Entry) → AreHeldBelow t → AreHeldBelow (row_back t g)
+below_back t g old = row_back_each Low t g (λ row low. omega (arith, low)) old
+
+pub below_rows : (t : NodeTable) (gs : List Entry) → AreHeldBelow t → AreHeldBelow (rows_back t gs)
+below_rows t [] old = old
+below_rows t (g ∷ gs) old = below_rows (row_back t g) gs (below_back t g old)
+
+-- ---- uses
 
 module _ (next : ℕ) where
-  abbrev Count : HeldNode → Type 0
-  Count row = row.count ≤ next
-
-  abbrev More : HeldNode → Type 0
-  More row = row.count ≤ next + 1
-
   abbrev Use : OpenNumber → Type 0
   Use h = h.count ≤ next
 
   abbrev Uses : OpenNumber → Type 0
   Uses h = h.count ≤ next + 1
 
-  counted_still : (t : NodeTable) → AreCounted next t → AreCounted (next + 1) t
-  counted_still t old = λ q row is. let low = old q row is in omega (arith, low)
-
   used_still : (t : HandleTable) → AreUsed next t → AreUsed (next + 1) t
   used_still t old = λ q h is. let low = old q h is in omega (arith, low)
-
-  counted_one : (choice : ℕ → ℕ) (t : NodeTable) (file : ℕ) → AreCounted next t → AreCounted (next + 1) (all_given choice t (file ∷ []))
-  counted_one choice t file old = given_each Count More t file (choice file) (λ row low. omega (arith, low)) (λ row low. omega (arith, low)) (omega arith) old
-
-  -- once the files of a reply are told
-  pub counted_told : (choice : ℕ → ℕ) (t : NodeTable) (reply : Reply ℕ ℕ) → AreCounted next t → AreCounted (next + 1) (all_given choice t (files_in_reply reply))
-  counted_told choice t (operation.found file valid) old = counted_one choice t file old
-  counted_told choice t (operation.created file valid o) old = counted_one choice t file old
-  counted_told choice t (operation.missing valid) old = counted_still t old
-  counted_told choice t (operation.opened o) old = counted_still t old
-  counted_told choice t (operation.attributes a) old = counted_still t old
-  counted_told choice t (operation.listed records) old = counted_still t old
-  counted_told choice t (operation.content bytes) old = counted_still t old
-  counted_told choice t (operation.written size) old = counted_still t old
-  counted_told choice t (operation.agreed major minor) old = counted_still t old
-  counted_told choice t operation.done old = counted_still t old
-  counted_told choice t (operation.failed errno) old = counted_still t old
 
   used_one : (t : HandleTable) (file : ℕ) → AreUsed next t → AreUsed (next + 1) (all_opened t (file ∷ []))
   used_one t file old = opened_each Use Uses t file (λ h low. omega (arith, low)) (omega arith) old
@@ -78,26 +71,14 @@ module _ (next : ℕ) where
   used_told t (operation.missing valid) old = used_still t old
   used_told t (operation.attributes a) old = used_still t old
   used_told t (operation.listed records) old = used_still t old
+  used_told t (operation.listed_plus pairs) old = used_still t old
   used_told t (operation.content bytes) old = used_still t old
   used_told t (operation.written size) old = used_still t old
-  used_told t (operation.agreed major minor) old = used_still t old
+  used_told t (operation.agreed major minor flags) old = used_still t old
   used_told t operation.done old = used_still t old
   used_told t (operation.failed errno) old = used_still t old
 
   -- once one more copy of a reply is sent
-  pub counted_again : (t : NodeTable) (wire : WireReply) → AreCounted next t → AreCounted (next + 1) (rows_counted t (files_in_reply wire))
-  counted_again t (operation.found g valid) old = more_each Count More t g.nodeid (λ row low. omega (arith, low)) (λ row low. omega (arith, low)) old
-  counted_again t (operation.created g valid o) old = more_each Count More t g.nodeid (λ row low. omega (arith, low)) (λ row low. omega (arith, low)) old
-  counted_again t (operation.missing valid) old = counted_still t old
-  counted_again t (operation.opened o) old = counted_still t old
-  counted_again t (operation.attributes a) old = counted_still t old
-  counted_again t (operation.listed records) old = counted_still t old
-  counted_again t (operation.content bytes) old = counted_still t old
-  counted_again t (operation.written size) old = counted_still t old
-  counted_again t (operation.agreed major minor) old = counted_still t old
-  counted_again t operation.done old = counted_still t old
-  counted_again t (operation.failed errno) old = counted_still t old
-
   pub used_again : (t : HandleTable) (wire : WireReply) → AreUsed next t → AreUsed (next + 1) (handles_counted t (opens_in_reply wire))
   used_again t (operation.created g valid o) old = number_more_each Use Uses t o (λ h low. omega (arith, low)) (λ h low. omega (arith, low)) old
   used_again t (operation.opened o) old = number_more_each Use Uses t o (λ h low. omega (arith, low)) (λ h low. omega (arith, low)) old
@@ -105,29 +86,12 @@ module _ (next : ℕ) where
   used_again t (operation.missing valid) old = used_still t old
   used_again t (operation.attributes a) old = used_still t old
   used_again t (operation.listed records) old = used_still t old
+  used_again t (operation.listed_plus pairs) old = used_still t old
   used_again t (operation.content bytes) old = used_still t old
   used_again t (operation.written size) old = used_still t old
-  used_again t (operation.agreed major minor) old = used_still t old
+  used_again t (operation.agreed major minor flags) old = used_still t old
   used_again t operation.done old = used_still t old
   used_again t (operation.failed errno) old = used_still t old
-
-  counted_taken : (t : NodeTable) (id n : ℕ) → AreCounted next t → AreCounted next (taken_back t id n)
-  counted_taken t id n old = taken_each Count t id n (λ row low. omega (arith, low)) old
-
-  pub counted_all : (t : NodeTable) (fs : List Forget) → AreCounted next t → AreCounted next (all_taken_back t fs)
-  counted_all t [] old = old
-  counted_all t (f ∷ fs) old = counted_all (taken_back t f.0 f.1) fs (counted_taken t f.0 f.1 old)
-
-  counted_back : (t : NodeTable) (g : Entry) → AreCounted next t → AreCounted next (row_back t g)
-  counted_back t g old = by (is_held t g.nodeid g.generation)
-    where
-      by : (b : Bool) → AreCounted next (cond b (taken_back t g.nodeid 1) t)
-      by true = counted_taken t g.nodeid 1 old
-      by false = old
-
-  pub counted_rows : (t : NodeTable) (gs : List Entry) → AreCounted next t → AreCounted next (rows_back t gs)
-  counted_rows t [] old = old
-  counted_rows t (g ∷ gs) old = counted_rows (row_back t g) gs (counted_back t g old)
 
   used_back : (t : HandleTable) (fh : ℕ) → AreUsed next t → AreUsed next (handle_back t fh)
   used_back t fh old = back_each Use t fh (λ h low. omega (arith, low)) old
@@ -141,7 +105,7 @@ module _ (next : ℕ) where
   used_said s h old = by h.marked (is_still_held s.nodes h.generations)
     where
       of_body : (body : RequestBody) → AreUsed next (handles_by s body)
-      of_body init = old
+      of_body (init flags) = old
       of_body (asks o) = old
       of_body (release o) = released (is_open s.handles o.fh (file_of s.nodes o.nodeid))
         where
@@ -190,9 +154,3 @@ module _ {V W X : Type 0} (held : Map V) (kept : Map W) (copies : Map X) (coming
 
   pub apart_settled : (number : ℕ) → AreApart held kept (remove copies number) coming
   apart_settled number = record { apart = old.apart; copies_below = λ n le. gone_none copies number n (old.copies_below n le) }
-
-  pub apart_unkept : (number unique : ℕ) → AreApart held (remove kept unique) (remove copies number) coming
-  apart_unkept number unique = record {
-    apart = λ n there. gone_none kept unique n (old.apart n there);
-    copies_below = λ n le. gone_none copies number n (old.copies_below n le);
-  }

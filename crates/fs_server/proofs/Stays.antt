@@ -1,8 +1,8 @@
 -- The server stays sound.
-use Rattle.std.proofs.Common.{◌≡◌, ℕ, ◌+◌, ◌≤◌, ◌<◌, ◌^◌, Bool, true, false, cond, nat_eq, List, [], Option, Some, None, refl, sym, ap, subst, ◌∙◌, arith}
+use Rattle.std.proofs.Common.{◌≡◌, ℕ, ◌+◌, ◌≤◌, ◌<◌, ◌^◌, Bool, true, false, cond, nat_eq, List, [], length, Option, Some, None, refl, sym, ap, subst, ◌∙◌, arith}
 use Rattle.fuse_spec.specs.Maps.{Map, get, put, remove}
 use Rattle.fuse_spec.specs.Messages.{Forget, WireReply}
-use Rattle.fuse_spec.specs.Nodes.{NodeTable, HandleTable, all_given, all_opened}
+use Rattle.fuse_spec.specs.Nodes.{NodeTable, HandleTable, all_opened, counts_out}
 use Rattle.fuse_spec.specs.Numbers.{max_validity}
 use Rattle.fuse_spec.specs.Operations.{Reply, files_in_reply, opens_in_reply}
 use Rattle.fuse_spec.specs.Copies.{rows_counted, handles_counted, kept_after}
@@ -13,15 +13,16 @@ use Rattle.fuse_spec.specs.Trees.{Tree}
 use Rattle.fuse_spec.specs.declared.WriteResult.{WriteResult}
 use Rattle.fuse_spec.specs.declared.WriteResult.TheVariants.{Accepted, NoEntry, Invalid}
 use Rattle.std.proofs.lemmas.Option.{none-some}
-use Rattle.fs_files.specs.Bounds.{AreCounted, AreNamed, AreUsed}
+use Rattle.fs_files.specs.Bounds.{AreHeldBelow, AreNamed, AreUsed}
 use Rattle.fs_files.specs.Performing.{handles_said}
 use Rattle.fs_files.specs.Telling.{Tells}
 use Rattle.fs_files.specs.Values.{FilesState, server_of}
+use Rattle.fs_files.proofs.HeldBelow.{within_first, within_told}
 use Rattle.fs_files.proofs.StaysNamed.{named_all_again, named_all_counted}
 use Rattle.fs_files.specs.declared.replies.SentReply.{SentReply}
 use Rattle.fs_server.specs.Effects.{Forgets, GivesBack, SettlesFiles}
 use Rattle.fs_server.specs.Sound.{IsSound}
-use Rattle.fs_server.proofs.Sound.{apart_again, apart_performed, apart_settled, apart_taken, counted_again, counted_all, counted_rows, counted_told, gone_none, used_again, used_all, used_said, used_told}
+use Rattle.fs_server.proofs.Sound.{apart_again, apart_performed, apart_settled, apart_taken, below_all, below_rows, gone_none, used_again, used_all, used_said, used_told}
 
 -- files with the same tree, nodes and open numbers
 same_named : (new : FilesState) (tree : Tree) (nodes : NodeTable) (handles : HandleTable) → new.tree ≡ tree → new.nodes ≡ nodes → new.handles ≡ handles → AreNamed tree nodes handles → AreNamed new.tree new.nodes new.handles
@@ -31,38 +32,35 @@ same_named new tree nodes handles t n h named =
 named_sent : (files : FilesState) (gs : List Entry) (fhs : List ℕ) → AreNamed files.tree files.nodes files.handles → AreNamed files.tree (rows_counted files.nodes gs) (handles_counted files.handles fhs)
 named_sent files gs fhs named = named_all_again None files.tree (rows_counted files.nodes gs) files.handles (named_all_counted None files.tree files.nodes files.handles named gs) fhs
 
-pub counted_most : (next : ℕ) (nodes n : NodeTable) → n ≡ nodes → next ≤ 2 ^ 62 → AreCounted next nodes → AreCounted (2 ^ 62) n
-counted_most next nodes n same most counted = subst (AreCounted (2 ^ 62)) (sym same) (λ id row is. let le = counted id row is in omega (arith, le, most))
-
 pub used_most : (next : ℕ) (handles : HandleTable) → next ≤ 2 ^ 62 → AreUsed next handles → AreUsed (2 ^ 62) handles
 used_most next handles most used fh h is = let le = used fh h is in omega (arith, le, most)
 
 module _ {V W X : Type 0} (files : FilesState) (held : Map V) (kept : Map W) (copies : Map X) (next : ℕ) (v : Validity) (old : IsSound files held kept copies next v) where
-  pub with_files : (new : FilesState) → AreCounted next new.nodes → AreUsed next new.handles → AreNamed new.tree new.nodes new.handles → IsSound new held kept copies next v
-  with_files new counted used named = record { requests = old.requests; counted = counted; used = used; named = named; numbers = old.numbers; found_day = old.found_day; missing_day = old.missing_day }
+  pub with_files : (new : FilesState) → AreHeldBelow new.nodes → AreUsed next new.handles → AreNamed new.tree new.nodes new.handles → IsSound new held kept copies next v
+  with_files new below used named = record { requests = old.requests; below = below; used = used; named = named; numbers = old.numbers; found_day = old.found_day; missing_day = old.missing_day }
 
   pub same_files : (new : FilesState) → new.tree ≡ files.tree → new.nodes ≡ files.nodes → new.handles ≡ files.handles → IsSound new held kept copies next v
-  same_files new tree nodes handles = with_files new (subst (AreCounted next) (sym nodes) old.counted) (subst (AreUsed next) (sym handles) old.used) (same_named new files.tree files.nodes files.handles tree nodes handles old.named)
+  same_files new tree nodes handles = with_files new (subst AreHeldBelow (sym nodes) old.below) (subst (AreUsed next) (sym handles) old.used) (same_named new files.tree files.nodes files.handles tree nodes handles old.named)
 
   pub forgotten : (new : FilesState) (fs : List Forget) → Forgets files fs new → AreNamed new.tree new.nodes new.handles → IsSound new held kept copies next v
   forgotten new fs f named =
-      with_files new (subst (AreCounted next) (sym (ap (λ (s : Server). s.nodes) (f v))) (counted_all next files.nodes fs old.counted)) (subst (AreUsed next) (sym (ap (λ (s : Server). s.handles) (f v))) old.used) named
+      with_files new (subst AreHeldBelow (sym (ap (λ (s : Server). s.nodes) (f v))) (below_all files.nodes fs old.below)) (subst (AreUsed next) (sym (ap (λ (s : Server). s.handles) (f v))) old.used) named
 
   pub given_back : (new : FilesState) (wire : WireReply) → GivesBack files wire new → AreNamed new.tree new.nodes new.handles → IsSound new held kept copies next v
   given_back new wire g named =
-      with_files new (subst (AreCounted next) (sym (ap (λ (s : Server). s.nodes) (g v))) (counted_rows next files.nodes (files_in_reply wire) old.counted))
+      with_files new (subst AreHeldBelow (sym (ap (λ (s : Server). s.nodes) (g v))) (below_rows files.nodes (files_in_reply wire) old.below))
       (subst (AreUsed next) (sym (ap (λ (s : Server). s.handles) (g v))) (used_all next files.handles (opens_in_reply wire) old.used)) named
 
   pub taken : (unique : ℕ) (x : V) → get kept unique ≡ None → IsSound files (put held unique x) kept copies next v
-  taken unique x none = record { requests = apart_taken held kept copies next old.requests unique x none; counted = old.counted; used = old.used; named = old.named; numbers = old.numbers; found_day = old.found_day; missing_day = old.missing_day }
+  taken unique x none = record { requests = apart_taken held kept copies next old.requests unique x none; below = old.below; used = old.used; named = old.named; numbers = old.numbers; found_day = old.found_day; missing_day = old.missing_day }
 
   pub settled : (number : ℕ) → IsSound files held kept (remove copies number) next v
-  settled number = record { requests = apart_settled held kept copies next old.requests number; counted = old.counted; used = old.used; named = old.named; numbers = old.numbers; found_day = old.found_day; missing_day = old.missing_day }
+  settled number = record { requests = apart_settled held kept copies next old.requests number; below = old.below; used = old.used; named = old.named; numbers = old.numbers; found_day = old.found_day; missing_day = old.missing_day }
 
   pub unkept : (unique : ℕ) → IsSound files held (remove kept unique) copies next v
   unkept unique = record {
     requests = record { apart = λ n there. gone_none kept unique n (old.requests.apart n there); copies_below = old.requests.copies_below };
-    counted = old.counted;
+    below = old.below;
     used = old.used;
     named = old.named;
     numbers = old.numbers;
@@ -73,7 +71,7 @@ module _ {V W X : Type 0} (files : FilesState) (held : Map V) (kept : Map W) (co
   pub unheld : (unique : ℕ) → IsSound files (remove held unique) kept copies next v
   unheld unique = record {
     requests = record { apart = λ n there. old.requests.apart n (λ none. there (gone_none held unique n none)); copies_below = old.requests.copies_below };
-    counted = old.counted;
+    below = old.below;
     used = old.used;
     named = old.named;
     numbers = old.numbers;
@@ -81,11 +79,11 @@ module _ {V W X : Type 0} (files : FilesState) (held : Map V) (kept : Map W) (co
     missing_day = old.missing_day;
   }
 
-  pub sent_again : (new : FilesState) (wire : WireReply) (x : X) → new.nodes ≡ rows_counted files.nodes (files_in_reply wire) → new.handles ≡ handles_counted files.handles (opens_in_reply wire) → next < 2 ^ 62 → new.tree ≡ files.tree
+  pub sent_again : (new : FilesState) (wire : WireReply) (x : X) → new.nodes ≡ rows_counted files.nodes (files_in_reply wire) → new.handles ≡ handles_counted files.handles (opens_in_reply wire) → AreHeldBelow new.nodes → next < 2 ^ 62 → new.tree ≡ files.tree
       → IsSound new held kept (put copies next x) (next + 1) v
-  sent_again new wire x nodes handles low tree = record {
+  sent_again new wire x nodes handles below low tree = record {
     requests = apart_again held kept copies next old.requests x;
-    counted = subst (AreCounted (next + 1)) (sym nodes) (counted_again next files.nodes wire old.counted);
+    below = below;
     used = subst (AreUsed (next + 1)) (sym handles) (used_again next files.handles wire old.used);
     named = same_named new files.tree (rows_counted files.nodes (files_in_reply wire)) (handles_counted files.handles (opens_in_reply wire)) tree nodes handles (named_sent files (files_in_reply wire) (opens_in_reply wire) old.named);
     numbers = omega (arith, low);
@@ -94,13 +92,13 @@ module _ {V W X : Type 0} (files : FilesState) (held : Map V) (kept : Map W) (co
   }
 
   pub lost : IsSound {V = V} {W = W} {X = X} files held [] [] next v
-  lost = record { requests = record { apart = λ n there. refl; copies_below = λ n le. refl }; counted = old.counted; used = old.used; named = old.named; numbers = old.numbers; found_day = old.found_day; missing_day = old.missing_day }
+  lost = record { requests = record { apart = λ n there. refl; copies_below = λ n le. refl }; below = old.below; used = old.used; named = old.named; numbers = old.numbers; found_day = old.found_day; missing_day = old.missing_day }
 
   pub performed : {A : Type 0} (h : HeldRequest) (unique : ℕ) (one two three : FilesState) (reply : Reply ℕ ℕ) (sent : SentReply A) (w : W) (x : X) → one.handles ≡ handles_said (server_of files v) h → one.nodes ≡ files.nodes
-      → Tells one reply sent two → three.nodes ≡ two.nodes → three.handles ≡ two.handles → next < 2 ^ 62 → AreNamed three.tree three.nodes three.handles → IsSound three (remove held unique) (put kept unique w) (put copies next x) (next + 1) v
-  performed h unique one two three reply sent w x handles nodes tells left_nodes left_handles low named = record {
+      → Tells one reply sent two → length (files_in_reply reply) ≤ 32 → counts_out files.nodes (files_in_reply reply) ≡ false → three.nodes ≡ two.nodes → three.handles ≡ two.handles → next < 2 ^ 62 → AreNamed three.tree three.nodes three.handles → IsSound three (remove held unique) (put kept unique w) (put copies next x) (next + 1) v
+  performed h unique one two three reply sent w x handles nodes tells few none left_nodes left_handles low named = record {
     requests = apart_performed held kept copies next old.requests unique w x;
-    counted = subst (AreCounted (next + 1)) (sym (left_nodes ∙ tells.nodes_is ∙ ap (λ (t : NodeTable). all_given tells.choice t (files_in_reply reply)) nodes)) (counted_told next tells.choice files.nodes reply old.counted);
+    below = subst AreHeldBelow (sym (left_nodes ∙ tells.nodes_is)) (within_told tells.choice one.nodes (files_in_reply reply) (omega (arith, few)) tells.may (within_first one.nodes (files_in_reply reply) (ap (λ (t : NodeTable). counts_out t (files_in_reply reply)) nodes ∙ none)));
     used = subst (AreUsed (next + 1)) (sym (left_handles ∙ tells.handles_is ∙ ap (λ (t : HandleTable). all_opened t (opens_in_reply reply)) handles)) (used_told next (handles_said (server_of files v) h) reply (used_said next (server_of files v) h old.used));
     named = named;
     numbers = omega (arith, low);
@@ -112,7 +110,7 @@ module _ {V W X : Type 0} (files : FilesState) (held : Map V) (kept : Map W) (co
       → IsSound three (remove held unique) kept copies next v
   performed_lost h unique one three handles nodes left_nodes left_handles named = record {
     requests = record { apart = λ n there. old.requests.apart n (λ none. there (gone_none held unique n none)); copies_below = old.requests.copies_below };
-    counted = subst (AreCounted next) (sym (left_nodes ∙ nodes)) old.counted;
+    below = subst AreHeldBelow (sym (left_nodes ∙ nodes)) old.below;
     used = subst (AreUsed next) (sym (left_handles ∙ handles)) (used_said next (server_of files v) h old.used);
     named = named;
     numbers = old.numbers;
@@ -122,11 +120,11 @@ module _ {V W X : Type 0} (files : FilesState) (held : Map V) (kept : Map W) (co
 
   -- the files, once nothing is known
   pub cleared : (new : FilesState) → new.nodes ≡ record files.nodes { rows = [] } → new.handles ≡ record files.handles { handles = [] } → AreNamed new.tree new.nodes new.handles → IsSound new held kept copies next v
-  cleared new nodes handles named = with_files new (subst (AreCounted next) (sym nodes) (λ id row is. absurd (none-some row is))) (subst (AreUsed next) (sym handles) (λ fh h is. absurd (none-some h is))) named
+  cleared new nodes handles named = with_files new (subst AreHeldBelow (sym nodes) (λ id row is. absurd (none-some row is))) (subst (AreUsed next) (sym handles) (λ fh h is. absurd (none-some h is))) named
 
-pub first_again : {V W X : Type 0} (files : FilesState) (next : ℕ) (v w : Validity) → AreCounted next files.nodes → AreUsed next files.handles → AreNamed files.tree files.nodes files.handles → next ≤ 2 ^ 62 → w.found_ms ≤ max_validity → w.missing_ms ≤ max_validity
+pub first_again : {V W X : Type 0} (files : FilesState) (next : ℕ) (v w : Validity) → AreHeldBelow files.nodes → AreUsed next files.handles → AreNamed files.tree files.nodes files.handles → next ≤ 2 ^ 62 → w.found_ms ≤ max_validity → w.missing_ms ≤ max_validity
     → IsSound {V = V} {W = W} {X = X} files [] [] [] next w
-first_again files next v w counted used named numbers found missing = record { requests = record { apart = λ n there. refl; copies_below = λ n le. refl }; counted = counted; used = used; named = named; numbers = numbers; found_day = found; missing_day = missing }
+first_again files next v w below used named numbers found missing = record { requests = record { apart = λ n there. refl; copies_below = λ n le. refl }; below = below; used = used; named = named; numbers = numbers; found_day = found; missing_day = missing }
 
 pub unkept_copy : {V X : Type 0} (files : FilesState) (held : Map V) (kept : Map Kept) (copies : Map X) (next : ℕ) (v : Validity) → IsSound files held kept copies next v → (copy : Copy) (o : Option Kept)
     → IsSound files held (kept_after kept copy o) copies next v

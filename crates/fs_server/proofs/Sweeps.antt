@@ -1,6 +1,7 @@
 -- Nameless files that nothing holds have gone, step by step.
 use Rattle.std.proofs.Common.{◌≡◌, ◌≢◌, ℕ, List, [], ◌∷◌, Option, None, refl, sym, ap, subst, ◌∙◌}
 use Rattle.std.specs.Prelude.{option_map, option_to_list}
+use Rattle.fuse_spec.specs.declared.Minor.{Minor}
 use Rattle.fuse_spec.specs.Copies.{handles_back, row_back, rows_back}
 use Rattle.fuse_spec.specs.Maps.{get}
 use Rattle.fuse_spec.specs.Messages.{Forget}
@@ -13,13 +14,13 @@ use Rattle.fuse_spec.specs.declared.Validity.{Validity}
 use Rattle.fs_tree.specs.Outcomes.{without_unheld}
 use Rattle.fs_files.specs.Bounds.{AreNamed, AreNamedBut, IsUnopened}
 use Rattle.fs_files.specs.Performing.{handles_said, tree_said}
-use Rattle.fs_files.specs.Replies.{entry_of, opened_in, sent_wire}
+use Rattle.fs_files.specs.Replies.{opened_in, sent_wire}
 use Rattle.fs_files.specs.Telling.{Tells}
-use Rattle.fs_files.specs.Values.{FilesState, server_of}
+use Rattle.fs_files.specs.Values.{FilesState, server_at, server_of}
 use Rattle.fs_files.specs.declared.replies.PlainReply.TheVariants.{Missing, Attributes, Listed, Content, Written, Agreed, Done, Failed}
 use Rattle.fs_files.specs.declared.replies.SentReply.{SentReply}
-use Rattle.fs_files.specs.declared.replies.SentReply.TheVariants.{Found, Created, Opened, Plain}
-use Rattle.fs_files.proofs.Bounds.{back_each, taken_each}
+use Rattle.fs_files.specs.declared.replies.SentReply.TheVariants.{Found, Created, Opened, ListedPlus, Plain}
+use Rattle.fs_files.proofs.Bounds.{back_each, row_back_each, taken_each}
 use Rattle.fs_files.proofs.StaysNamed.{named_all_given, named_all_opened, named_less, named_number_back, named_row_back}
 use Rattle.fs_files.proofs.Sweeping.{swept_none, swept_twice}
 use Rattle.fs_server.specs.Effects.{CountsBack, Forgets, GivesBack, Sweeps, TakesBack}
@@ -52,16 +53,16 @@ module _ (old mid : FilesState) (named : AreNamed old.tree old.nodes old.handles
       but_same loose (option_map (λ (h : OpenNumber). h.file) (get old.handles.handles fh)) mid old.tree old.nodes (handle_back old.handles fh) is tree nodes handles (named_number_back old.tree old.nodes old.handles named fh)
 
 -- what a request leaves is told
-pub but_told : {A : Type 0} (loose : Option ℕ) (start one two : FilesState) (v : Validity) (h : HeldRequest) (reply : Reply ℕ ℕ) (sent : SentReply A) → AreNamedBut loose (tree_said (server_of start v) h) start.nodes (handles_said (server_of start v) h)
-    → one.tree ≡ tree_said (server_of start v) h → one.handles ≡ handles_said (server_of start v) h → one.nodes ≡ start.nodes → Tells one reply sent two → AreNamedBut loose two.tree two.nodes two.handles
-but_told loose start one two v h reply sent named tree handles nodes tells =
-    let one_named = but_same loose loose one (tree_said (server_of start v) h) start.nodes (handles_said (server_of start v) h) refl tree nodes handles named in
+pub but_told : {A : Type 0} (loose : Option ℕ) (start one two : FilesState) (v : Validity) (m : Minor) (h : HeldRequest) (reply : Reply ℕ ℕ) (sent : SentReply A) → AreNamedBut loose (tree_said (server_at m start v) h) start.nodes (handles_said (server_at m start v) h)
+    → one.tree ≡ tree_said (server_at m start v) h → one.handles ≡ handles_said (server_at m start v) h → one.nodes ≡ start.nodes → Tells one reply sent two → AreNamedBut loose two.tree two.nodes two.handles
+but_told loose start one two v m h reply sent named tree handles nodes tells =
+    let one_named = but_same loose loose one (tree_said (server_at m start v) h) start.nodes (handles_said (server_at m start v) h) refl tree nodes handles named in
     but_same loose loose two one.tree (all_given tells.choice one.nodes (files_in_reply reply)) (all_opened one.handles (opens_in_reply reply)) refl tells.tree_is tells.nodes_is tells.handles_is
     (named_all_opened loose one.tree (all_given tells.choice one.nodes (files_in_reply reply)) one.handles (named_all_given tells.choice loose one.tree one.nodes one.handles one_named (files_in_reply reply)) (opens_in_reply reply))
 
-pub but_said : (loose : Option ℕ) (start one : FilesState) (v : Validity) (h : HeldRequest) → AreNamedBut loose (tree_said (server_of start v) h) start.nodes (handles_said (server_of start v) h)
-    → one.tree ≡ tree_said (server_of start v) h → one.handles ≡ handles_said (server_of start v) h → one.nodes ≡ start.nodes → AreNamedBut loose one.tree one.nodes one.handles
-but_said loose start one v h named tree handles nodes = but_same loose loose one (tree_said (server_of start v) h) start.nodes (handles_said (server_of start v) h) refl tree nodes handles named
+pub but_said : (loose : Option ℕ) (start one : FilesState) (v : Validity) (m : Minor) (h : HeldRequest) → AreNamedBut loose (tree_said (server_at m start v) h) start.nodes (handles_said (server_at m start v) h)
+    → one.tree ≡ tree_said (server_at m start v) h → one.handles ≡ handles_said (server_at m start v) h → one.nodes ≡ start.nodes → AreNamedBut loose one.tree one.nodes one.handles
+but_said loose start one v m h named tree handles nodes = but_same loose loose one (tree_said (server_at m start v) h) start.nodes (handles_said (server_at m start v) h) refl tree nodes handles named
 
 pub named_as : (start files : FilesState) → start.tree ≡ files.tree → start.nodes ≡ files.nodes → start.handles ≡ files.handles → AreNamed files.tree files.nodes files.handles → AreNamed start.tree start.nodes start.handles
 named_as start files tree nodes handles named = but_same None None start files.tree files.nodes files.handles refl tree nodes handles named
@@ -98,6 +99,13 @@ sweeps_on old one two id n first second =
     (λ x lacks. subst (λ (t : NodeTable). IsUnheld t x) (sym second.nodes_are) (taken_each (λ row. row.file ≢ x) one.nodes id n (λ row is. is) lacks)) (λ x lacks. subst (λ (t : HandleTable). IsUnopened t x) (sym second.handles_are) lacks) in
     record { tree = both.tree; nodes_are = refl; handles_are = second.handles_are ∙ first.handles_are; named = both.named }
 
+-- one entry more is counted back
+pub counts_on : (old one two : FilesState) (g : Entry) → Sweeps old one.nodes old.handles one → CountsBack one (g ∷ []) [] two → Sweeps old two.nodes old.handles two
+counts_on old one two g first second =
+    let both = sweeps_then old one two one.nodes (row_back one.nodes g) old.handles one.handles first second
+    (λ x lacks. subst (λ (t : NodeTable). IsUnheld t x) (sym second.nodes_are) (row_back_each (λ row. row.file ≢ x) one.nodes g (λ row is. is) lacks)) (λ x lacks. subst (λ (t : HandleTable). IsUnopened t x) (sym second.handles_are) lacks) in
+    record { tree = both.tree; nodes_are = refl; handles_are = second.handles_are ∙ first.handles_are; named = both.named }
+
 no_more_opened : (handles : HandleTable) (fhs : List ℕ) (x : ℕ) → IsUnopened handles x → IsUnopened (handles_back handles fhs) x
 no_more_opened handles [] x lacks = lacks
 no_more_opened handles (fh ∷ fhs) x lacks = no_more_opened (handle_back handles fh) fhs x (back_each (λ h. h.file ≢ x) handles fh (λ h is. is) lacks)
@@ -114,36 +122,23 @@ counts_both old one two gs fhs first second =
 pub as_forgets : (old new : FilesState) (fs : List Forget) → TakesBack old fs new → Forgets old fs new
 as_forgets old new fs t = forgets old (record new { tree = old.tree }) new fs refl t.nodes_are t.handles_are (record { tree = t.tree; nodes = refl; handles = refl })
 
-entries_listed : {A : Type 0} (reply : SentReply A) → option_to_list (entry_of reply) ≡ files_in_reply (sent_wire reply)
-entries_listed (Found entry found_ms) = refl
-entries_listed (Created entry found_ms fh) = refl
-entries_listed (Opened fh) = refl
-entries_listed (Plain (Missing missing_ms)) = refl
-entries_listed (Plain (Attributes attributes)) = refl
-entries_listed (Plain (Listed records)) = refl
-entries_listed (Plain (Content bytes)) = refl
-entries_listed (Plain (Written size)) = refl
-entries_listed (Plain (Agreed flags)) = refl
-entries_listed (Plain Done) = refl
-entries_listed (Plain (Failed errno)) = refl
-
 numbers_listed : {A : Type 0} (reply : SentReply A) → option_to_list (opened_in reply) ≡ opens_in_reply (sent_wire reply)
 numbers_listed (Found entry found_ms) = refl
 numbers_listed (Created entry found_ms fh) = refl
 numbers_listed (Opened fh) = refl
+numbers_listed (ListedPlus listing) = refl
 numbers_listed (Plain (Missing missing_ms)) = refl
 numbers_listed (Plain (Attributes attributes)) = refl
 numbers_listed (Plain (Listed records)) = refl
 numbers_listed (Plain (Content bytes)) = refl
 numbers_listed (Plain (Written size)) = refl
-numbers_listed (Plain (Agreed flags)) = refl
+numbers_listed (Plain (Agreed minor flags)) = refl
 numbers_listed (Plain Done) = refl
 numbers_listed (Plain (Failed errno)) = refl
 
-pub as_given_back : {A : Type 0} (old one two : FilesState) (reply : SentReply A) (entry : Option Entry) (fh : Option ℕ) → entry ≡ entry_of reply → fh ≡ opened_in reply → CountsBack old (option_to_list entry) [] one → CountsBack one [] (option_to_list fh) two
+pub as_given_back : {A : Type 0} (old one two : FilesState) (reply : SentReply A) (told : List Entry) (fh : Option ℕ) → told ≡ files_in_reply (sent_wire reply) → fh ≡ opened_in reply → CountsBack old told [] one → CountsBack one [] (option_to_list fh) two
     → GivesBack old (sent_wire reply) two
-as_given_back old one two reply entry fh entry_is fh_is first second =
-    let both = counts_both old one two (option_to_list entry) (option_to_list fh) first second in
-    let gs = ap option_to_list entry_is ∙ entries_listed reply in
+as_given_back old one two reply told fh told_is fh_is first second =
+    let both = counts_both old one two told (option_to_list fh) first second in
     let fhs = ap option_to_list fh_is ∙ numbers_listed reply in
-    gives_back old (record two { tree = old.tree }) two (sent_wire reply) refl (both.nodes_are ∙ ap (rows_back old.nodes) gs) (both.handles_are ∙ ap (handles_back old.handles) fhs) (record { tree = both.tree; nodes = refl; handles = refl })
+    gives_back old (record two { tree = old.tree }) two (sent_wire reply) refl (both.nodes_are ∙ ap (rows_back old.nodes) told_is) (both.handles_are ∙ ap (handles_back old.handles) fhs) (record { tree = both.tree; nodes = refl; handles = refl })

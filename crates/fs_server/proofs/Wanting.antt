@@ -3,7 +3,7 @@ use Rattle.std.proofs.Common.{◌≡◌, ℕ, Bool, true, false, true≢false, L
 use Rattle.std.specs.Prelude.{IfErr, OnErr}
 use Rattle.std.proofs.lemmas.Option.{same_Some}
 use Rattle.fuse_spec.specs.Messages.{RequestBody, interrupt}
-use Rattle.fuse_spec.specs.Server.{Server, RequestFault, unknown_node, too_many_forgets, repeated_unique, fault_of}
+use Rattle.fuse_spec.specs.Server.{Server, RequestFault, unknown_opcode, unknown_node, too_many_forgets, repeated_unique, fault_of}
 use Rattle.fuse_spec.specs.Taking.{taking}
 use Rattle.fuse_spec.specs.declared.Taken.TheVariants.{Held, Again}
 use Rattle.fk_wire.specs.Requests as wire
@@ -28,6 +28,7 @@ is_memory_in (Some fault) = is_memory_fault fault
 
 judged_apart : (o : Option RequestFault) → is_memory_in (as_fault o) ≡ false
 judged_apart None = refl
+judged_apart (Some unknown_opcode) = refl
 judged_apart (Some unknown_node) = refl
 judged_apart (Some too_many_forgets) = refl
 judged_apart (Some repeated_unique) = refl
@@ -49,13 +50,13 @@ held_word s unique nodeid (wire.rename newdir old new) is = refl
 held_word s unique nodeid (wire.link oldnodeid name) is = refl
 held_word s unique nodeid wire.opening is = refl
 held_word s unique nodeid (wire.readdir offset size) is = refl
+held_word s unique nodeid (wire.readdirplus offset size) is = refl
 held_word s unique nodeid (wire.read fh offset size) is = refl
 held_word s unique nodeid (wire.write fh offset bytes) is = refl
 held_word s unique nodeid (wire.release fh) is = refl
 held_word s unique nodeid (wire.forget n) is = absurd (true≢false (sym is))
 held_word s unique nodeid (wire.batch_forget fs) is = absurd (true≢false (sym is))
 held_word s unique nodeid (wire.interrupt original) is = absurd (true≢false (sym is))
-held_word s unique nodeid (wire.readdirplus offset size) is = absurd (true≢false (sym is))
 
 -- nothing refuses the frame but want of memory
 module _ (s : Server) (bytes : List ℕ) (m : RequestMessage) (right : IsTakeable s bytes m) where

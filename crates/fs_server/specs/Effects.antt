@@ -4,11 +4,11 @@ use Rattle.fuse_spec.specs.Maps.{get}
 use Rattle.fuse_spec.specs.Numbers.{counter_end}
 use Rattle.fuse_spec.specs.Messages.{Forget, RequestBody, Request, WireReply}
 use Rattle.fuse_spec.specs.Operations.{errno_of}
-use Rattle.fuse_spec.specs.Nodes.{HandleTable, MayChoose, NodeTable}
+use Rattle.fuse_spec.specs.Nodes.{HandleTable, MayChoose, NodeTable, counts_out}
 use Rattle.fuse_spec.specs.Performs.{served, files_given}
 use Rattle.fuse_spec.specs.Worlds.{Sent}
-use Rattle.fuse_spec.specs.Server.{Server, HeldRequest, Kept, Copy, RequestFault, unknown_node, too_many_forgets, repeated_unique, all_taken_back, fault_of, forgetting, is_file_held}
-use Rattle.fuse_spec.specs.Copies.{given_back, handles_back, is_current, rows_back, sent_again, settled}
+use Rattle.fuse_spec.specs.Server.{Server, HeldRequest, Kept, Copy, RequestFault, unknown_opcode, unknown_node, too_many_forgets, repeated_unique, all_taken_back, fault_of, forgetting, is_file_held}
+use Rattle.fuse_spec.specs.Copies.{given_back, files_named, handles_back, is_current, rows_back, sent_again, settled}
 use Rattle.fuse_spec.specs.Taking.{taking}
 use Rattle.fuse_spec.specs.declared.Entry.{Entry}
 use Rattle.fuse_spec.specs.declared.ReplyResult.{ReplyResult}
@@ -30,6 +30,7 @@ use Rattle.fs_server.specs.declared.server.Took.{Took}
 
 abbrev pub as_fault : Option RequestFault → Option ServerFault
 as_fault None = None
+as_fault (Some unknown_opcode) = Some Wire
 as_fault (Some unknown_node) = Some UnknownNode
 as_fault (Some too_many_forgets) = Some TooManyForgets
 as_fault (Some repeated_unique) = Some RepeatedUnique
@@ -153,6 +154,7 @@ is_of_copy (Some kept) first = nat_eq kept.first first
 -- Why a held request can't be performed, want of memory aside.
 pub data RefusesHeld (s : Server) (unique : ℕ) : Refusal → Type 0 where
   not_held : get s.held unique ≡ None → RefusesHeld s unique NoSuch
+  told_too_often : (held : HeldRequest) → get s.held unique ≡ Some held → counts_out s.nodes (files_given s held) ≡ true → RefusesHeld s unique Exhausted
   exhausted : (held : HeldRequest) → get s.held unique ≡ Some held
       → ((choice : ℕ → ℕ) → MayChoose choice s.nodes (files_given s held) → is_past_end (served choice s unique held).server ≡ true) → RefusesHeld s unique Exhausted
 
@@ -165,6 +167,7 @@ first_copy false number unique wire = Some (record { number = number; unique = u
 pub record PerformsHeld (old : Server) (unique errno : ℕ) (copy : Option Sent) (new : Server) : Type 0 where
   pub held : HeldRequest
   pub there : get old.held unique ≡ Some held
+  pub counts : counts_out old.nodes (files_given old held) ≡ false
   pub choice : ℕ → ℕ
   pub may : MayChoose choice old.nodes (files_given old held)
   pub server_is : new ≡ (served choice old unique held).server
@@ -175,6 +178,7 @@ pub record PerformsHeld (old : Server) (unique errno : ℕ) (copy : Option Sent)
 pub data RefusesAgain (s : Server) (unique : ℕ) : Refusal → Type 0 where
   not_kept : get s.kept unique ≡ None → RefusesAgain s unique NoCopy
   not_current : (kept : Kept) → get s.kept unique ≡ Some kept → is_current s kept.wire ≡ false → RefusesAgain s unique NoCopy
+  copied_too_often : (kept : Kept) → get s.kept unique ≡ Some kept → is_current s kept.wire ≡ true → counts_out s.nodes (files_named s kept.wire) ≡ true → RefusesAgain s unique Exhausted
   no_number : (kept : Kept) → get s.kept unique ≡ Some kept → is_current s kept.wire ≡ true → is_past_end (sent_again s unique kept) ≡ true → RefusesAgain s unique Exhausted
 
 -- A reply is kept under this unique, each node and open number that it names is still held, and a copy number is left.
@@ -182,6 +186,7 @@ pub record CanSendAgain (s : Server) (unique : ℕ) : Type 0 where
   pub kept : Kept
   pub there : get s.kept unique ≡ Some kept
   pub current : is_current s kept.wire ≡ true
+  pub counts : counts_out s.nodes (files_named s kept.wire) ≡ false
   pub number : s.next_copy < 2 ^ 62
 
 -- One more copy of a kept reply is sent, and what it names is counted once more.
@@ -189,5 +194,6 @@ pub record SendsAgain (old : Server) (unique : ℕ) (copy : Sent) (new : Server)
   pub kept : Kept
   pub there : get old.kept unique ≡ Some kept
   pub current : is_current old kept.wire ≡ true
+  pub counts : counts_out old.nodes (files_named old kept.wire) ≡ false
   pub copy_is : copy ≡ record { number = old.next_copy; unique = unique; wire = kept.wire }
   pub after : new ≡ sent_again old unique kept

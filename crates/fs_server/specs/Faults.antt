@@ -3,9 +3,11 @@ use Rattle.std.specs.Prelude.{◌≡◌, ◌≢◌, ◌-◌, ◌++◌, ◌||◌,
 use Rattle.fk_wire.specs.declared.opcode.Opcode.{Opcode}
 use Rattle.fk_wire.specs.Faults.{HasLength}
 use Rattle.fk_wire.specs.Fields.{number_at}
-use Rattle.fk_wire.specs.Opcodes.{code_of, knows, served}
+use Rattle.fk_wire.specs.Opcodes.{code_of, knows}
 use Rattle.fk_wire.specs.Replies.{WrittenReply, empty_reply}
 use Rattle.fuse_spec.specs.Numbers.{eio, enosys}
+use Rattle.fuse_spec.specs.declared.Minor.{Minor}
+use Rattle.fuse_frames.specs.RequestTies.{codec_minor}
 use Rattle.fs_server.specs.declared.server.ServerFault.{ServerFault}
 use Rattle.fs_server.specs.declared.server.ServerFault.TheVariants.{Wire, UnknownNode, TooManyForgets}
 
@@ -26,15 +28,15 @@ pub record IsAnswerable (bytes : List ℕ) (fault : ServerFault) : Type 0 where
   pub of_fault : is_answered fault ≡ true
   pub of_opcode : is_unanswered (number_at 4 4 bytes) ≡ false
 
--- the error of the reply: ENOSYS where the opcode isn't served, else EIO
-abbrev pub IsErrorOf : (code : ℕ) → ℤ → Type 0
-IsErrorOf code error =
-    (((o : Opcode) × IsTrue (knows served o) × (code_of o ≡ code)) × (error ≡ negsuc (eio - 1))) ⊎ (((o : Opcode) → IsTrue (knows served o) → code_of o ≢ code) × (error ≡ negsuc (enosys - 1)))
+-- the error of the reply: ENOSYS where the minor doesn't know the opcode, else EIO
+abbrev pub IsErrorOf : Minor → (code : ℕ) → ℤ → Type 0
+IsErrorOf minor code error =
+    (((o : Opcode) × IsTrue (knows (codec_minor minor) o) × (code_of o ≡ code)) × (error ≡ negsuc (eio - 1))) ⊎ (((o : Opcode) → IsTrue (knows (codec_minor minor) o) → code_of o ≢ code) × (error ≡ negsuc (enosys - 1)))
 
 -- The error reply to a frame is appended: the header alone, with the frame's unique.
-pub record FaultReplied (bytes old new : List ℕ) : Type 0 where
+pub record FaultReplied (minor : Minor) (bytes old new : List ℕ) : Type 0 where
   pub error : ℤ
-  pub of_opcode : IsErrorOf (number_at 4 4 bytes) error
+  pub of_opcode : IsErrorOf minor (number_at 4 4 bytes) error
   pub frame : List ℕ
   pub written : WrittenReply (record { unique = number_at 8 8 bytes; error = error; content = empty_reply }) frame
   pub appended : new ≡ old ++ frame

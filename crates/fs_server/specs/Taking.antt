@@ -1,29 +1,22 @@
 -- What is taken of a request, by its node and by what it asks.
 use Rattle.std.specs.Prelude.{◌≡◌, ◌<◌, ◌^◌, ℕ, Bool, true, false, ◌&&◌, ◌||◌, not, List, [], ◌∷◌, Option, Some, None, map, nat_lt, is_some}
-use Rattle.std.specs.Int.RustNames.{bit_and}
 use Rattle.std.specs.List.{list_all, list_any}
 use Rattle.fuse_spec.specs.Maps.{get}
 use Rattle.fuse_spec.specs.Messages.{Forget, RequestBody}
 use Rattle.fuse_spec.specs.Nodes.{NodeTable, row_of}
+use Rattle.fuse_spec.specs.Server as server
+use Rattle.fuse_spec.specs.declared.Minor.{Minor}
 use Rattle.fuse_spec.specs.Server.{Server, HeldRequest, is_known, is_forgettable, count_in, forgotten, generation_in, nodes_of_body}
 use Rattle.fk_wire.specs.Requests as wire
-use Rattle.fk_wire.specs.Requests.{RequestContent, RequestMessage, Spells, known_flags}
-use Rattle.fs_files.specs.declared.held.HeldBody.{HeldBody}
-use Rattle.fs_files.specs.declared.held.HeldBody.TheVariants.{Init}
+use Rattle.fk_wire.specs.Requests.{RequestContent, RequestMessage, Spells}
 use Rattle.fuse_frames.specs.RequestTies.{body_in, body_or}
 use Rattle.fs_server.specs.Effects.{is_past_end}
-
--- what is served: READDIRPLUS isn't so far
-abbrev pub serves : RequestContent → Bool
-serves (wire.readdirplus offset size) = false
-serves content = true
 
 -- what is held until it is performed
 abbrev pub is_held : RequestContent → Bool
 is_held (wire.forget nlookup) = false
 is_held (wire.batch_forget forgets) = false
 is_held (wire.interrupt original) = false
-is_held (wire.readdirplus offset size) = false
 is_held content = true
 
 -- what is answered at once: an INTERRUPT of a request that is not held and whose reply is not kept
@@ -48,6 +41,7 @@ abbrev pub has_bytes : RequestContent → Bool
 has_bytes wire.getattr = false
 has_bytes wire.opening = false
 has_bytes (wire.readdir offset size) = false
+has_bytes (wire.readdirplus offset size) = false
 has_bytes (wire.read fh offset size) = false
 has_bytes content = is_operation content
 
@@ -57,16 +51,6 @@ has_two (wire.rename newdir old new) = true
 has_two (wire.link oldnodeid name) = true
 has_two (wire.write fh offset bytes) = true
 has_two content = false
-
--- the flags that an INIT offers, of those that are known
-abbrev pub flags_offered : RequestContent → Option ℕ
-flags_offered (wire.init major minor flags) = Some flags
-flags_offered content = None
-
--- the same of what is held for it
-abbrev pub flags_held : {A : Type 0} → HeldBody A → Option ℕ
-flags_held (Init flags) = Some (bit_and flags.0 known_flags)
-flags_held body = None
 
 -- what a request of this node asks
 abbrev pub body_of : ℕ → RequestContent → RequestBody
@@ -102,9 +86,13 @@ generations_for nodes nodeid content = map (λ id. (id, generation_in (row_of no
 abbrev pub held_for : NodeTable → ℕ → RequestContent → HeldRequest
 held_for nodes nodeid content = record { body = body_of nodeid content; generations = generations_for nodes nodeid content; marked = false }
 
+-- Whether the minor knows what a request of this node asks.
+abbrev pub is_spoken : Minor → ℕ → RequestContent → Bool
+is_spoken minor nodeid content = server.knows minor (body_of nodeid content)
+
 -- A request of this node with nothing wrong.
 pub record IsFaultless (s : Server) (unique nodeid : ℕ) (content : RequestContent) : Type 0 where
-  pub served_so : serves content ≡ true
+  pub spoken : is_spoken s.minor nodeid content ≡ true
   pub known : knows s.nodes nodeid content ≡ true
   pub few : forgets_too_many s.nodes nodeid content ≡ false
   pub unheld : get s.held unique ≡ None

@@ -1,27 +1,29 @@
 //! More copies of kept replies are sent.
 
-ghost use Rattle.std.specs.Prelude.{◌≡◌, ◌^◌, ◌⊎◌, ◌&&◌, OnErr, IfOk, IfErr, IfSome, IfNone, is_some};
+ghost use Rattle.std.specs.Prelude.{◌≡◌, ◌^◌, ◌⊎◌, ◌&&◌, false, OnErr, IfOk, IfErr, IfSome, IfNone, is_some};
 ghost use Rattle.std.specs.List.{list_all};
 ghost use Rattle.fuse_spec.specs.Maps.{get};
-ghost use Rattle.fuse_spec.specs.Nodes.{is_held};
+ghost use Rattle.fuse_spec.specs.Nodes.{counts_out, is_held};
 ghost use Rattle.fuse_spec.specs.Copies.{handles_counted, rows_counted};
 ghost use Rattle.fuse_spec.specs.Operations.{files_in_reply, opens_in_reply};
 ghost use Rattle.fuse_spec.specs.declared.Entry.{Entry as ReplyEntry};
 ghost use Rattle.fuse_spec.specs.declared.Refusal.TheVariants.{NoMemory};
-ghost use Rattle.fs_files.specs.Bounds.{AreCounted, AreUsed};
+ghost use Rattle.fs_files.specs.Bounds.{AreHeldBelow, AreUsed};
+ghost use Rattle.fs_files.specs.Giving.{files_of};
 ghost use Rattle.fs_files.specs.Replies.{sent_wire};
 ghost use Rattle.fs_server.specs.Effects.{CanSendAgain, RefusesAgain, SendsAgain};
 
 use crate::replies::SentCopy;
 use crate::server::{COUNTER_END, Server};
-use fs_files::{Files, NamedNode, SentReply};
+use fs_files::{Files, NamedNode, ReplySpare, SentReply};
 use fuse_frames::{ReplyCopy, ReplyRoom};
-use fuse_spec::Refusal;
+use fuse_spec::{Entry, Refusal};
 use std::alloc::{AllocError, Allocator};
 
 impl<A: Allocator + Copy> Server<A> {
     /// Why no copy of a kept reply can be sent, want of memory aside: `NoCopy` where no reply is kept under the unique, or a node
-    /// or open number that it names is no longer held, the node under the same generation; `Exhausted` where no copy number is left.
+    /// or open number that it names is no longer held, the node under the same generation; `Exhausted` where a node's lookups would
+    /// come to the end of counters, or no copy number is left.
     pub fn again_refusal(&self, unique: u64) -> Option<Refusal>
         ensures refuses { IfSome result (RefusesAgain self.now unique) }
         ensures none { IfNone result (CanSendAgain self.now unique) }
@@ -29,8 +31,12 @@ impl<A: Allocator + Copy> Server<A> {
         let Some(kept) = self.kept.get(unique) else {
             return Some(Refusal::NoCopy);
         };
-        if !is_current(&self.files, kept.reply()) {
+        let reply = kept.reply();
+        if !is_current(&self.files, reply) {
             return Some(Refusal::NoCopy);
+        }
+        if self.files.nodes().counts_out_again(reply.told()) {
+            return Some(Refusal::Exhausted);
         }
         if self.next_copy >= COUNTER_END {
             return Some(Refusal::Exhausted);
@@ -38,12 +44,13 @@ impl<A: Allocator + Copy> Server<A> {
         None
     }
 
-    /// Sends one more copy of a kept reply, and counts once more the node and the open number that it names.
+    /// Sends one more copy of a kept reply, and counts once more each node and the open number that it names.
     ///
     /// # Errors
     ///
     /// `NoCopy` where no reply is kept under the unique, or a node or open number that it names is no longer held, the node under the
-    /// same generation; `Exhausted` where no copy number is left; then `NoMemory`. The server is as before.
+    /// same generation; `Exhausted` where a node's lookups would come to the end of counters, or no copy number is left; then
+    /// `NoMemory`. The server is as before.
     pub fn again(&mut self, unique: u64) -> Result<ReplyCopy<A>, Refusal>
         ensures err { OnErr result (self.new ≡ self.old) }
         ensures refusal { IfErr result (λ refusal. RefusesAgain self.old unique refusal ⊎ (refusal ≡ NoMemory)) }
@@ -72,7 +79,7 @@ impl<A: Allocator + Copy> Server<A> {
         let reply = kept.reply();
         let len = reply.len();
         let room = ReplyRoom::new(self.alloc, len)?;
-        let spare = Vec::with_capacity(self.alloc, len)?;
+        let spare = ReplySpare::new(self.alloc, len, reply.names())?;
         let number = self.next_copy;
         let copy = ReplyCopy::new(number, reply.framed(room, unique));
         let sent = SentCopy::new(unique, reply.copied(spare), kept.first());
@@ -83,36 +90,54 @@ impl<A: Allocator + Copy> Server<A> {
     }
 }
 
-/// Whether the node and the open number that a reply names, if it names one, are still held, the node under the same generation.
+/// Whether each node and open number that a reply names is still held, the node under the same generation.
 fn is_current<A: Allocator + Copy>(files: &Files<A>, reply: &SentReply<A>) -> bool
     ensures { result ≡ (list_all (λ (g : ReplyEntry). is_held files.now.nodes g.nodeid g.generation) (files_in_reply (sent_wire reply.now)) && list_all (λ fh. is_some (get files.now.handles.handles fh)) (opens_in_reply (sent_wire reply.now))) }
 {
-    let has_node = match reply.entry() {
-        Some(entry) => files.nodes().is_held(NamedNode {
-            nodeid: entry.nodeid,
-            generation: entry.generation,
-        }),
-        None => true,
-    };
     let has_number = match reply.opened() {
         Some(fh) => files.has_number(fh),
         None => true,
     };
-    has_node && has_number
+    are_held(files, reply.told()) && has_number
 }
 
-/// Counts once more the node and the open number that a reply names, if it names one.
+/// Whether the node of each entry is held under the entry's generation.
+fn are_held<A: Allocator + Copy>(files: &Files<A>, told: &[Entry]) -> bool
+    ensures { result ≡ list_all (λ (g : ReplyEntry). is_held files.now.nodes g.nodeid g.generation) told.now }
+{
+    told.iter().all(|entry| {
+        files.nodes().is_held(NamedNode {
+            nodeid: entry.nodeid,
+            generation: entry.generation,
+        })
+    })
+}
+
+/// Counts once more each node and the open number that a reply names.
 fn count_again<A: Allocator + Copy>(files: &mut Files<A>, reply: &SentReply<A>)
-    requires counted { AreCounted (2 ^ 62) files.old.nodes }
+    requires counts { counts_out files.old.nodes (files_of files.old.nodes (files_in_reply (sent_wire reply.now))) ≡ false }
     requires used { AreUsed (2 ^ 62) files.old.handles }
     ensures tree { files.new.tree ≡ files.old.tree }
     ensures nodes { files.new.nodes ≡ rows_counted files.old.nodes (files_in_reply (sent_wire reply.now)) }
     ensures handles { files.new.handles ≡ handles_counted files.old.handles (opens_in_reply (sent_wire reply.now)) }
+    ensures below { AreHeldBelow files.new.nodes }
 {
-    if let Some(entry) = reply.entry() {
-        files.count_again(entry.nodeid);
-    }
+    count_nodes_again(files, reply.told());
     if let Some(fh) = reply.opened() {
         files.count_number_again(fh);
+    }
+}
+
+/// Counts the node of each entry once more.
+fn count_nodes_again<A: Allocator + Copy>(files: &mut Files<A>, told: &[Entry])
+    requires { counts_out files.old.nodes (files_of files.old.nodes told.now) ≡ false }
+    ensures tree { files.new.tree ≡ files.old.tree }
+    ensures nodes { files.new.nodes ≡ rows_counted files.old.nodes told.now }
+    ensures handles { files.new.handles ≡ files.old.handles }
+    ensures below { AreHeldBelow files.new.nodes }
+{
+    for entry in told {
+        files.keeps_sound();
+        files.count_again(entry.nodeid);
     }
 }

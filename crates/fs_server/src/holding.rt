@@ -4,7 +4,7 @@ ghost use Rattle.std.specs.Prelude.{◌≡◌, true, IfOk};
 ghost use Rattle.fk_wire.specs.Requests.{request_content};
 ghost use Rattle.fuse_spec.specs.Messages.{asks};
 ghost use Rattle.fs_files.specs.Values.{asked_of, named_in, operation_of};
-ghost use Rattle.fs_server.specs.Taking.{body_of, flags_held, flags_offered, generations_for, has_bytes, has_two, held_for, is_held, is_operation};
+ghost use Rattle.fs_server.specs.Taking.{body_of, generations_for, has_bytes, has_two, held_for, is_held, is_operation};
 
 use fk_wire::{Request, RequestBody};
 use fs_files::{HeldBody, HeldOperation, HeldRequest, Named, Nodes};
@@ -50,8 +50,7 @@ fn held_body<A: Allocator + Copy>(
     body: &RequestBody<'_>,
 ) -> Result<HeldBody<A>, AllocError>
     requires { is_held (request_content body.now) ≡ true }
-    ensures body { IfOk result (λ held. asked_of held ≡ body_of nodeid (request_content body.now)) }
-    ensures flags { IfOk result (λ held. flags_held held ≡ flags_offered (request_content body.now)) }
+    ensures { IfOk result (λ held. asked_of held ≡ body_of nodeid (request_content body.now)) }
 {
     match body {
         RequestBody::Init { flags, .. } => Ok(HeldBody::Init { flags: *flags }),
@@ -77,6 +76,11 @@ fn held_operation<A: Allocator + Copy>(
         RequestBody::Getattr => Ok(HeldOperation::Getattr { node: nodeid }),
         RequestBody::Open => Ok(HeldOperation::Open { node: nodeid }),
         RequestBody::Readdir { offset, size } => Ok(HeldOperation::Readdir {
+            directory: nodeid,
+            after: *offset,
+            size: *size,
+        }),
+        RequestBody::Readdirplus { offset, size } => Ok(HeldOperation::Readdirplus {
             directory: nodeid,
             after: *offset,
             size: *size,

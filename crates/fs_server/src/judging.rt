@@ -9,12 +9,13 @@ ghost use Rattle.fk_wire.specs.Requests.{request_content, request_message};
 ghost use Rattle.fuse_frames.specs.RequestTies.{body_in};
 ghost use Rattle.fs_server.specs.declared.server.ServerFault.TheVariants.{Memory as MemoryFault};
 ghost use Rattle.fs_server.specs.Effects.{AnswersFrame, CanTake, RefusesFrame, request_fault};
-ghost use Rattle.fs_server.specs.Taking.{IsFaultless, IsTakeable, answers, forgets_too_many, knows, serves};
+ghost use Rattle.fs_server.specs.Taking.{IsFaultless, IsTakeable, answers, forgets_too_many, is_spoken, knows};
 
 use crate::server::{COUNTER_END, Server, ServerFault};
 use fk_wire::{Pairs, Request, RequestBody, read_request};
 use fs_files::Nodes;
 use fs_nodes::NodeStore;
+use fuse_spec::Minor;
 use std::alloc::Allocator;
 
 impl<A: Allocator + Copy> Server<A> {
@@ -72,7 +73,7 @@ impl<A: Allocator + Copy> Server<A> {
         ensures fault { result ≡ request_fault self.now request.now.unique (body_in request.now.nodeid (request_content request.now.body)) }
         ensures faultless { IfNone result (IsFaultless self.now request.now.unique request.now.nodeid (request_content request.now.body)) }
     {
-        if !is_served(&request.body) {
+        if !is_spoken(self.minor, request.nodeid, &request.body) {
             return Some(ServerFault::Wire);
         }
         if !names_known(self.files.nodes(), request.nodeid, &request.body) {
@@ -99,11 +100,17 @@ impl<A: Allocator + Copy> Server<A> {
     }
 }
 
-/// Whether a request is served: READDIRPLUS is not so far.
-fn is_served(body: &RequestBody<'_>) -> bool
-    ensures { result ≡ serves (request_content body.now) }
+/// Whether the minor knows what a request asks: 7.15 has no READDIRPLUS and no BATCH_FORGET (linux/fuse.h, enum fuse_opcode).
+fn is_spoken(minor: Minor, nodeid: u64, body: &RequestBody<'_>) -> bool
+    ensures { result ≡ is_spoken minor nodeid (request_content body.now) }
 {
-    !matches!(body, RequestBody::Readdirplus { .. })
+    match minor {
+        Minor::M31 => true,
+        Minor::M15 => !matches!(
+            body,
+            RequestBody::Readdirplus { .. } | RequestBody::BatchForget { .. }
+        ),
+    }
 }
 
 /// Whether each node is held that a request names or whose lookups it gives back.

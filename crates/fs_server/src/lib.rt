@@ -12,5 +12,5 @@ mod server;
 mod settling;
 mod taking;
 
-pub use faults::fault_reply;
+pub use faults::{fault_reply, fault_reply_at};
 pub use server::{Done, Server, ServerFault, Took};

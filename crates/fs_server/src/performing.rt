@@ -7,13 +7,14 @@ ghost use Rattle.fs_server.specs.Steps.{CanPerform};
 
 use crate::replies::{KeptReply, SentCopy};
 use crate::server::{COUNTER_END, Done, Server};
+use fs_files::ReplySpare;
 use fuse_frames::{ReplyCopy, ReplyRoom};
 use fuse_spec::Refusal;
 use std::alloc::{AllocError, Allocator};
 
 impl<A: Allocator + Copy> Server<A> {
     /// Why a held request cannot be performed, want of memory aside: `NoSuch` where none is held under the unique, `Exhausted`
-    /// where a counter from which it draws is at its end.
+    /// where a counter from which it draws is at its end, or the lookups of a node that its reply tells would come to it.
     pub fn perform_refusal(&self, unique: u64) -> Option<Refusal>
         ensures refuses { IfSome result (RefusesHeld self.now unique) }
         ensures none { IfNone result (CanPerform self.now unique) }
@@ -35,8 +36,8 @@ impl<A: Allocator + Copy> Server<A> {
     ///
     /// # Errors
     ///
-    /// `NoSuch` where no request is held under the unique, `Exhausted` where a counter is at its end; then `NoMemory`.
-    /// The server is as before.
+    /// `NoSuch` where no request is held under the unique, `Exhausted` where a counter is at its end or the lookups of a node would
+    /// come to it; then `NoMemory`. The server is as before.
     pub fn perform(&mut self, unique: u64) -> Result<Done<A>, Refusal>
         ensures err { OnErr result (self.new ≡ self.old) }
         ensures refusal { IfErr result (λ refusal. RefusesHeld self.old unique refusal ⊎ (refusal ≡ NoMemory)) }
@@ -68,7 +69,7 @@ impl<A: Allocator + Copy> Server<A> {
             unreachable!();
         };
         let loose = self.files.loosened_by(held);
-        let outcome = self.files.answer(held, self.validity)?;
+        let outcome = self.files.answer(held, self.validity, self.minor)?;
         self.files.discard_unheld(loose);
         let _lost = self.held.remove(unique);
         Ok(Done {
@@ -91,16 +92,18 @@ impl<A: Allocator + Copy> Server<A> {
             unreachable!();
         };
         let len = held.reply_len();
+        let names = held.reply_names();
         let room = ReplyRoom::new(self.alloc, len)?;
-        let spare = Vec::with_capacity(self.alloc, len)?;
+        let spare = ReplySpare::new(self.alloc, 0, names)?;
+        let spare_copy = ReplySpare::new(self.alloc, len, names)?;
         let loose = self.files.loosened_by(held);
-        let outcome = self.files.answer(held, self.validity)?;
+        let outcome = self.files.answer(held, self.validity, self.minor)?;
         let number = self.next_copy;
-        let reply = self.files.tell(outcome, self.validity.found_ms);
+        let reply = self.files.tell(outcome, self.validity.found_ms, spare);
         self.files.discard_unheld(loose);
         let errno = reply.errno();
         let copy = ReplyCopy::new(number, reply.framed(room, unique));
-        let sent = SentCopy::new(unique, reply.copied(spare), number);
+        let sent = SentCopy::new(unique, reply.copied(spare_copy), number);
         let _held = self.held.remove(unique);
         self.kept.put(unique, KeptReply::new(reply, number));
         self.copies.put(number, sent);

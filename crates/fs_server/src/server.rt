@@ -10,7 +10,7 @@ ghost use Rattle.fs_server.specs.Effects.{is_past_end};
 use crate::replies::{KeptReply, SentCopy};
 use fs_files::{Files, HeldRequest};
 use fuse_frames::ReplyCopy;
-use fuse_spec::{Taken, Validity};
+use fuse_spec::{Minor, Taken, Validity};
 use fuse_tables::Table;
 use std::alloc::{AllocError, Allocator, Global};
 use std::marker::Model;
@@ -62,6 +62,7 @@ pub struct Server<A: Allocator + Copy = Global> {
     pub(crate) copies: Table<SentCopy<A>, A>,
     pub(crate) next_copy: u64,
     pub(crate) validity: Validity,
+    pub(crate) minor: Minor,
     pub(crate) is_aborted: bool,
 }
 
@@ -75,7 +76,7 @@ impl<A: Allocator + Copy> Model for Server<A> {
 
     ghost coded = { Prim.hlevel (codes) };
 
-    ghost view = { λ s. server_with s.files s.held.entries s.kept.entries s.copies.entries s.next_copy s.validity s.is_aborted };
+    ghost view = { λ s. server_with s.files s.held.entries s.kept.entries s.copies.entries s.next_copy s.validity s.minor s.is_aborted };
 
     ghost invariant = { λ s. IsSound s.files s.held.entries s.kept.entries s.copies.entries s.next_copy s.validity };
 }
@@ -97,6 +98,7 @@ impl<A: Allocator + Copy> Server<A> {
                 found_ms: 0,
                 missing_ms: 0,
             },
+            minor: Minor::M31,
             is_aborted: false,
         })
     }
@@ -115,6 +117,13 @@ impl<A: Allocator + Copy> Server<A> {
         self.is_aborted
     }
 
+    /// The minor that is spoken since the last mount: the one to give to `fault_reply_at`.
+    pub fn minor(&self) -> Minor
+        ensures { result ≡ self.now.minor }
+    {
+        self.minor
+    }
+
     /// The mount is aborted: kept replies and copies go, and what is held stays until the next mount. No memory is taken.
     pub fn connection_lost(&mut self)
         ensures { self.new ≡ connection_lost self.old }
@@ -125,17 +134,18 @@ impl<A: Allocator + Copy> Server<A> {
     }
 
     /// A new mount: the nodes, open numbers, held requests, kept replies and copies go, and so do nameless files; the tree stays, and
-    /// generations, open numbers and copy numbers go on. Validities are in milliseconds.
-    pub fn remount(&mut self, found_ms: u64, missing_ms: u64)
+    /// generations, open numbers and copy numbers go on. Validities are in milliseconds; the minor is the one that is spoken.
+    pub fn remount(&mut self, found_ms: u64, missing_ms: u64, minor: Minor)
         requires found { found_ms ≤ max_validity }
         requires missing { missing_ms ≤ max_validity }
-        ensures { self.new ≡ remounted self.old (record { found_ms = found_ms; missing_ms = missing_ms }) }
+        ensures { self.new ≡ remounted self.old (record { found_ms = found_ms; missing_ms = missing_ms }) minor }
     {
         self.files.clear();
         self.held.clear();
         self.kept.clear();
         self.copies.clear();
         self.is_aborted = false;
+        self.minor = minor;
         self.validity = Validity {
             found_ms,
             missing_ms,

@@ -1,6 +1,6 @@
 //! Copies are settled by the results of their writes.
 
-ghost use Rattle.std.specs.Prelude.{◌≡◌, [], OnErr, MatchResult, option_to_list};
+ghost use Rattle.std.specs.Prelude.{◌≡◌, ◌∷◌, [], OnErr, MatchResult, option_to_list};
 ghost use Rattle.fuse_spec.specs.Copies.{kept_after};
 ghost use Rattle.fuse_spec.specs.Maps.{get};
 ghost use Rattle.fs_files.specs.Bounds.{AreNamed};
@@ -75,20 +75,27 @@ fn give_back<A: Allocator + Copy>(files: &mut Files<A>, reply: &SentReply<A>)
     ensures gives { GivesBack files.old (sent_wire reply.now) files.new }
     ensures named { AreNamed files.new.tree files.new.nodes files.new.handles }
 {
-    entry_back(files, reply.entry());
+    entries_back(files, reply.told());
     number_back(files, reply.opened());
 }
 
-/// Counts back the node of an entry. A nameless file that nothing holds any longer goes.
-fn entry_back<A: Allocator + Copy>(files: &mut Files<A>, entry: Option<Entry>)
+/// Counts back the nodes of entries, one after another. Nameless files that nothing holds any longer go.
+fn entries_back<A: Allocator + Copy>(files: &mut Files<A>, told: &[Entry])
     requires { AreNamed files.old.tree files.old.nodes files.old.handles }
-    ensures { CountsBack files.old (option_to_list entry) [] files.new }
+    ensures { CountsBack files.old told.now [] files.new }
 {
-    let Some(entry) = entry else {
-        return;
-    };
+    for entry in told {
+        entry_back(files, entry);
+    }
+}
+
+/// Counts back the node of an entry. A nameless file that nothing holds any longer goes.
+fn entry_back<A: Allocator + Copy>(files: &mut Files<A>, entry: &Entry)
+    requires { AreNamed files.old.tree files.old.nodes files.old.handles }
+    ensures { CountsBack files.old (entry.now ∷ []) [] files.new }
+{
     let loose = files.nodes().counted_file(entry.nodeid);
-    files.give_back(&entry);
+    files.give_back(entry);
     files.discard_unheld(loose);
 }
 

@@ -4,6 +4,8 @@ mod frames;
 mod handles;
 mod hostile;
 mod life;
+mod listed;
+mod minor15;
 mod nodes;
 mod replies;
 mod tree;

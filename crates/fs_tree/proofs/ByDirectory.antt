@@ -5,7 +5,7 @@ use Rattle.std.proofs.lemmas.List.{map-append, append-nil}
 use Rattle.std.proofs.lemmas.Grind.{common_steps}
 use Rattle.fuse_spec.specs.Maps.{Map}
 use Rattle.fuse_spec.specs.Trees.{Content, Named, is_at, same_name}
-use Rattle.fs_tree.specs.Stored.{Entry, in_directory, dirent_in, listed, AreByDirectory}
+use Rattle.fs_tree.specs.Stored.{Entry, in_directory, lead_in, listed, AreByDirectory}
 use Rattle.fs_tree.proofs.ListLemmas.{filter-map}
 
 module _ {E : Type 0} where
@@ -95,20 +95,20 @@ module _ (entries : ℕ → List Entry) (names : List Named) (by_dir : AreByDire
 
 -- which directory it is does not matter to the records
 records-in : (files : Map Content) (after d e : ℕ) (es : List Entry)
-    → map (dirent_in files) (filter (λ n. nat_lt after n.serial) (map (in_directory d) es)) ≡ map (dirent_in files) (filter (λ n. nat_lt after n.serial) (map (in_directory e) es))
+    → map (lead_in files) (filter (λ n. nat_lt after n.serial) (map (in_directory d) es)) ≡ map (lead_in files) (filter (λ n. nat_lt after n.serial) (map (in_directory e) es))
 records-in files after d e [] = refl
 records-in files after d e (x ∷ es) = by (nat_lt after x.serial) (records-in files after d e es)
   where
-    by : (b : Bool) → map (dirent_in files) (filter (λ n. nat_lt after n.serial) (map (in_directory d) es)) ≡ map (dirent_in files) (filter (λ n. nat_lt after n.serial) (map (in_directory e) es))
-        → map (dirent_in files) (cond b (in_directory d x ∷ filter (λ n. nat_lt after n.serial) (map (in_directory d) es)) (filter (λ n. nat_lt after n.serial) (map (in_directory d) es)))
-        ≡ map (dirent_in files) (cond b (in_directory e x ∷ filter (λ n. nat_lt after n.serial) (map (in_directory e) es)) (filter (λ n. nat_lt after n.serial) (map (in_directory e) es)))
-    by true rest = ap (λ l. dirent_in files (in_directory e x) ∷ l) rest
+    by : (b : Bool) → map (lead_in files) (filter (λ n. nat_lt after n.serial) (map (in_directory d) es)) ≡ map (lead_in files) (filter (λ n. nat_lt after n.serial) (map (in_directory e) es))
+        → map (lead_in files) (cond b (in_directory d x ∷ filter (λ n. nat_lt after n.serial) (map (in_directory d) es)) (filter (λ n. nat_lt after n.serial) (map (in_directory d) es)))
+        ≡ map (lead_in files) (cond b (in_directory e x ∷ filter (λ n. nat_lt after n.serial) (map (in_directory e) es)) (filter (λ n. nat_lt after n.serial) (map (in_directory e) es)))
+    by true rest = ap (λ l. lead_in files (in_directory e x) ∷ l) rest
     by false rest = rest
 
 pub listed-in : (entries : ℕ → List Entry) (names : List Named) → AreByDirectory entries names → (files : Map Content) (dir after : ℕ)
-    → map (dirent_in files) (filter (λ n. nat_lt after n.serial) (map (in_directory 0) (entries dir))) ≡ listed files dir after names
+    → map (lead_in files) (filter (λ n. nat_lt after n.serial) (map (in_directory 0) (entries dir))) ≡ listed files dir after names
 listed-in entries names by_dir files dir after =
-    records-in files after 0 dir (entries dir) ∙ ap (λ l. map (dirent_in files) (filter (λ n. nat_lt after n.serial) l)) (by_dir dir)
+    records-in files after 0 dir (entries dir) ∙ ap (λ l. map (lead_in files) (filter (λ n. nat_lt after n.serial) l)) (by_dir dir)
 
 -- ---- what changes
 

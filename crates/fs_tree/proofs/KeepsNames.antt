@@ -4,7 +4,7 @@ use Rattle.std.proofs.lemmas.Bool.{cases_eq}
 use Rattle.std.proofs.lemmas.List.Elements.{All-filter}
 use Rattle.fuse_spec.specs.Maps.{get, put}
 use Rattle.fuse_spec.specs.Paths.{Name}
-use Rattle.fuse_spec.specs.Operations.{lookup, getattr, mkdir, create, unlink, rmdir, rename, link, opening, readdir, read, write}
+use Rattle.fuse_spec.specs.Operations.{lookup, getattr, mkdir, create, unlink, rmdir, rename, link, opening, readdir, readdirplus, read, write}
 use Rattle.fuse_spec.specs.Trees.{Tree, Named, Content, a_directory, a_file, bytes_of, file_at, is_at, is_nameless, overwritten, with_birth, with_name, without_name}
 use Rattle.fuse_spec.specs.FileOperations.{FileOperation, is_same, renamed, tree_unrefused}
 use Rattle.fuse_spec.specs.TreeShape.{IsShaped, WritesRegular}
@@ -99,6 +99,7 @@ module _ (tree : Tree) (shaped : IsShaped tree) (x : ℕ) where
       by false None at there = as_before there
       by false (Some file) at there = inr (there, named_moved tree shaped d old e new file x at other)
   keeps_name (readdir d after size) regular other there = as_before there
+  keeps_name (readdirplus d after size) regular other there = as_before there
   keeps_name (opening file) regular other there = as_before there
   keeps_name (read file offset size) regular other there = as_before there
   keeps_name (write file offset []) regular other there = as_before there

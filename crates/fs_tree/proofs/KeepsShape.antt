@@ -5,7 +5,7 @@ use Rattle.std.proofs.lemmas.List.Sums.{length-filter}
 use Rattle.fuse_spec.specs.Maps.{get, put}
 use Rattle.fuse_spec.specs.Numbers.{eperm, enoent, eexist, enotdir, eisdir, einval, enospc, enotempty, max_names}
 use Rattle.fuse_spec.specs.Paths.{Name}
-use Rattle.fuse_spec.specs.Operations.{lookup, getattr, mkdir, create, unlink, rmdir, rename, link, opening, readdir, read, write}
+use Rattle.fuse_spec.specs.Operations.{lookup, getattr, mkdir, create, unlink, rmdir, rename, link, opening, readdir, readdirplus, read, write}
 use Rattle.fuse_spec.specs.Trees.{Tree, Named, Content, a_directory, a_file, is_at, file_at, bytes_of, overwritten, is_directory, is_nameless, is_empty, with_name, without_name, with_birth}
 use Rattle.fuse_spec.specs.FileOperations.{FileOperation, Check, first_refusal, refusal, making, is_dir, is_file, is_filled, is_same, is_moved_below, replaces, renamed, tree_or, tree_unrefused, tree_after}
 use Rattle.fuse_spec.specs.TreeShape.{IsShaped, Stands, WritesRegular, names_of}
@@ -279,6 +279,7 @@ module _ (tree : Tree) (shaped : IsShaped tree) where
   unrefused (link file d name) free regular = linked file d name free
   unrefused (opening file) free regular = shaped
   unrefused (readdir d offset size) free regular = shaped
+  unrefused (readdirplus d offset size) free regular = shaped
   unrefused (read file offset size) free regular = shaped
   unrefused (write file offset []) free regular = shaped
   unrefused (write file offset (b ∷ bytes)) free regular = with_bytes tree shaped file (overwritten (bytes_of (get tree.files file)) offset (b ∷ bytes)) regular

@@ -14,3 +14,4 @@ pub mod Below
 pub mod Shaping
 pub mod KeepsShape
 pub mod KeepsNames
+pub mod Leads

@@ -1,5 +1,5 @@
 -- The names in one directory by serial, and their links by name.
-use Rattle.std.proofs.Common.{◌≡◌, ℕ, ◌+◌, ◌<◌, Bool, true, false, not, cond, ◌&&◌, List, [], ◌∷◌, ◌++◌, map, filter, find, Option, Some, None, refl, sym, ap, subst, ◌∙◌, nat_eq, nat_lt, nat_le, ◌-◌, arith, Vec, Less, Equal, Greater}
+use Rattle.std.proofs.Common.{◌≡◌, ℕ, ◌+◌, ◌<◌, ◌≤◌, Bool, true, false, not, cond, ◌&&◌, List, [], ◌∷◌, ◌++◌, map, filter, find, Option, Some, None, refl, sym, ap, subst, ◌∙◌, nat_eq, nat_lt, nat_le, ◌-◌, arith, Vec, Less, Equal, Greater}
 use Rattle.std.specs.Option.{option_map}
 use Rattle.std.specs.Ordering.{nat_cmp, is_lt}
 use Rattle.std.specs.Cmp.{ranked}
@@ -10,9 +10,9 @@ use Rattle.std.specs.Map.{lookup, keys_of, KeepsOthers}
 use Rattle.std.specs.BTreeMap.{insert_entry}
 use Rattle.std.proofs.lemmas.List.{map-append, append-nil, append_assoc}
 use Rattle.std.proofs.lemmas.Grind.{common_steps}
-use Rattle.fuse_spec.specs.Operations.{Dirent}
-use Rattle.fuse_spec.specs.Trees.{same_name, fitting, record_length}
-use Rattle.fs_tree.specs.Stored.{Entry, AreBefore, AreBelow, AreNamedOnce, IsRising, in_directory, without_key}
+use Rattle.fuse_spec.specs.Operations.{Dirent, first_told, told_by}
+use Rattle.fuse_spec.specs.Trees.{same_name, record_length}
+use Rattle.fs_tree.specs.Stored.{Entry, AreBefore, AreBelow, AreNamedOnce, IsRising, files_led, fitting_with, in_directory, lead_pair, without_key}
 use Rattle.fs_tree.specs.EntryViews.{entry_of, link_of, entry_link, link_in, AreLinked}
 use Rattle.fs_tree.specs.declared.entries.Leaf.{Leaf}
 use Rattle.fs_tree.specs.declared.entries.Link.{Link}
@@ -262,13 +262,29 @@ module _ {A : Type 0} where
       by true rest = ap (λ l. in_directory 0 (entry_of e) ∷ l) rest
       by false rest = rest
 
--- one record more that fits
-pub fitting-more : (done rest : List Dirent) (r : Dirent) (room len : ℕ) → record_length r ≡ len → nat_le len room ≡ true → done ++ fitting room (r ∷ rest) ≡ (done ++ r ∷ []) ++ fitting (room - len) rest
-fitting-more done rest r room len is fits = rw (is, fits) (sym (append_assoc done (r ∷ []) (fitting (room - len) rest)))
+module _ (more : ℕ) (rest : List (ℕ × Dirent)) (r : ℕ × Dirent) (room len : ℕ) (is : more + record_length r.1 ≡ len) where
+  -- one record more that fits
+  pub fitting-more : (done : List (ℕ × Dirent)) → nat_le len room ≡ true → done ++ fitting_with more room (r ∷ rest) ≡ (done ++ r ∷ []) ++ fitting_with more (room - len) rest
+  fitting-more done fits = rw (is, fits) (sym (append_assoc done (r ∷ []) (fitting_with more (room - len) rest)))
 
--- none more
-pub fitting-end : (done rest : List Dirent) (r : Dirent) (room len : ℕ) → record_length r ≡ len → nat_le len room ≡ false → done ++ fitting room (r ∷ rest) ≡ done
-fitting-end done rest r room len is fails = rw (is, fails) (append-nil done)
+  -- none more
+  pub fitting-end : (done : List (ℕ × Dirent)) → nat_le len room ≡ false → done ++ fitting_with more room (r ∷ rest) ≡ done
+  fitting-end done fails = rw (is, fails) (append-nil done)
+
+  -- the same of the files that they tell
+  pub files-more : (done : List ℕ) → nat_le len room ≡ true → done ++ files_led (fitting_with more room (r ∷ rest)) ≡ done ++ first_told (told_by (lead_pair 0 r)) (files_led (fitting_with more (room - len) rest))
+  files-more done fits = rw (is, fits) refl
+
+  pub files-end : (done : List ℕ) → nat_le len room ≡ false → done ++ files_led (fitting_with more room (r ∷ rest)) ≡ done
+  files-end done fails = rw (is, fails) (append-nil done)
 
 pub over : (len room : ℕ) → room < len → nat_le len room ≡ false
 over len room long = grind (arith, common_steps)
+
+pub under : (len room : ℕ) → len ≤ room → nat_le len room ≡ true
+under len room short = grind (arith, common_steps)
+
+-- one file more
+pub told-append : (o : Option ℕ) (files : List ℕ) → first_told o [] ++ files ≡ first_told o files
+told-append None files = refl
+told-append (Some file) files = refl

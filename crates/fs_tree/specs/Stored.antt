@@ -1,18 +1,35 @@
 -- What is true of a stored tree, beside what it shows.
-use Rattle.std.specs.Prelude.{◌≡◌, ℕ, ◌+◌, ◌<◌, ◌≤◌, ◌^◌, List, [], ◌∷◌, Option, Some, None, length, map, filter, find, not, nat_eq, nat_lt}
+use Rattle.std.specs.Prelude.{◌≡◌, ℕ, ◌+◌, ◌-◌, ◌<◌, ◌≤◌, ◌^◌, cond, List, [], ◌∷◌, Option, Some, None, length, map, filter, find, not, nat_eq, nat_le, nat_lt}
 use Rattle.std.specs.Map.{lookup}
 use Rattle.std.specs.Option.{unwrap_or}
 use Rattle.fuse_spec.specs.Maps.{Map, get}
-use Rattle.fuse_spec.specs.Operations.{Dirent}
-use Rattle.fuse_spec.specs.Trees.{Content, Named, is_at, kind_of, same_name}
+use Rattle.fuse_spec.specs.Operations.{Dirent, DirentPlus, files_told}
+use Rattle.fuse_spec.specs.Trees.{Content, Named, is_at, kind_of, record_length, same_name}
 
 -- The record of READDIR for a name of one of these files.
 abbrev pub dirent_in : Map Content → Named → Dirent
 dirent_in files n = record { ino = n.file + 1; offset = n.serial; kind = kind_of (get files n.file); name = n.name }
 
--- The records of the names in a directory whose serial is over `after`.
-abbrev pub listed : Map Content → ℕ → ℕ → List Named → List Dirent
-listed files dir after names = map (dirent_in files) (filter (λ n. nat_lt after n.serial) (filter (λ n. nat_eq n.directory dir) names))
+-- The file to which a name leads, with the name's record.
+abbrev pub lead_in : Map Content → Named → ℕ × Dirent
+lead_in files n = (n.file, dirent_in files n)
+
+-- The same of the names in a directory whose serial is over `after`.
+abbrev pub listed : Map Content → ℕ → ℕ → List Named → List (ℕ × Dirent)
+listed files dir after names = map (lead_in files) (filter (λ n. nat_lt after n.serial) (filter (λ n. nat_eq n.directory dir) names))
+
+-- As many of these as fit so many bytes, from the first on, where each takes its record and so many bytes more.
+abbrev pub fitting_with : (more room : ℕ) → List (ℕ × Dirent) → List (ℕ × Dirent)
+fitting_with more room [] = []
+fitting_with more room (r ∷ records) = cond (nat_le (more + record_length r.1) room) (r ∷ fitting_with more (room - (more + record_length r.1)) records) []
+
+-- A name as READDIRPLUS lists it, valid for so many milliseconds.
+abbrev pub lead_pair : (valid : ℕ) → ℕ × Dirent → DirentPlus ℕ
+lead_pair valid r = record { file = Some r.0; valid = valid; dirent = r.1 }
+
+-- The files that these names tell.
+abbrev pub files_led : List (ℕ × Dirent) → List ℕ
+files_led records = files_told (map (lead_pair 0) records)
 
 -- Every key is below this number.
 abbrev pub AreBelow : {V : Type 0} → ℕ → List (ℕ × V) → Type 0

@@ -1,8 +1,8 @@
 -- What the stored names, files and records stand for.
-use Rattle.std.specs.Prelude.{ℕ, ◌+◌}
+use Rattle.std.specs.Prelude.{ℕ, ◌+◌, Some}
 use Rattle.fuse_spec.specs.Trees as plain
 use Rattle.fuse_spec.specs.Trees.{Named, a_directory, a_file}
-use Rattle.fuse_spec.specs.Operations.{Dirent}
+use Rattle.fuse_spec.specs.Operations.{Dirent, DirentPlus}
 use Rattle.fs_tree.specs.declared.rows.Row.{Row}
 use Rattle.fs_tree.specs.declared.files.Content.{Content}
 use Rattle.fs_tree.specs.declared.files.Content.TheVariants.{Directory, Regular}
@@ -22,3 +22,11 @@ module _ {A : Type 0} where
 -- The record of READDIR for a name. An inode number is one more than the file's birth.
 abbrev pub dirent_of : Record → Dirent
 dirent_of r = record { ino = r.file + 1; offset = r.serial; kind = r.kind; name = r.name.now }
+
+-- The same with the file to which the name leads.
+abbrev pub lead_of : Record → ℕ × Dirent
+lead_of r = (r.file, dirent_of r)
+
+-- The name as READDIRPLUS lists it, valid for so many milliseconds.
+abbrev pub pair_of : (valid : ℕ) → Record → DirentPlus ℕ
+pair_of valid r = record { file = Some r.file; valid = valid; dirent = dirent_of r }

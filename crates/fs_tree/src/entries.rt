@@ -1,14 +1,19 @@
 //! The names in one directory.
 
-ghost use Rattle.std.specs.Prelude.{◌≡◌, ◌++◌, ◌∷◌, [], not, filter, find, map, nat_eq, nat_lt, length, option_map, IfOk, OnErr, OnOk};
-ghost use Rattle.fuse_spec.specs.Trees.{same_name, fitting};
+ghost use Rattle.std.specs.Prelude.{◌≡◌, ◌++◌, ◌∷◌, [], not, filter, find, map, nat_eq, nat_lt, length, option_map, ◌≤◌, ◌<◌, ◌+◌, cond, None, Some, IfOk, OnErr, OnOk};
+ghost use Rattle.fuse_spec.specs.Maps.{Map};
+ghost use Rattle.fuse_spec.specs.Trees.{Content, same_name};
 ghost use Rattle.std.specs.Ordering.{nat_cmp};
 ghost use Rattle.std.specs.BTreeMap.{IsOrdered};
-ghost use Rattle.fs_tree.specs.Stored.{AreBefore, in_directory, dirent_in, without_key};
-ghost use Rattle.fs_tree.specs.Views.{dirent_of};
+ghost use Rattle.arrayvec.specs.ArrayVec.{array_vec_len};
+ghost use Rattle.fuse_spec.specs.Operations.{first_told};
+ghost use Rattle.fuse_spec.specs.Paths.{is_dots};
+ghost use Rattle.fs_tree.specs.Stored.{AreBefore, files_led, fitting_with, in_directory, lead_in, without_key};
+ghost use Rattle.fs_tree.specs.Views.{lead_of};
 
 use crate::files::Files;
-use crate::listing::{Record, record_len};
+use crate::listing::{ENTRY_LEN, MOST_LISTED, Record, is_dots, record_len};
+use arrayvec::ArrayVec;
 use indexmap::IndexMap;
 use std::alloc::{AllocError, Allocator};
 use std::collections::BTreeMap;
@@ -116,19 +121,21 @@ impl<A: Allocator + Copy> Entries<A> {
         Ok(())
     }
 
-    /// The records of the names with a serial over `after`, as many as fit so many bytes.
+    /// The records of the names with a serial over `after`, as many as fit so many bytes with so many bytes more each.
     pub(crate) fn list(
         &self,
         files: &Files<A>,
         after: u64,
         size: usize,
+        more: usize,
     ) -> Result<Vec<Record<'_>, A>, AllocError>
-        ensures { IfOk result (λ records. map dirent_of records.items ≡ fitting size (map (dirent_in files.now) (filter (λ n. nat_lt after n.serial) (map (in_directory 0) self.now)))) }
+        requires { more ≤ 128 }
+        ensures { IfOk result (λ records. map lead_of records.items ≡ fitting_with more size (map (lead_in files.now) (filter (λ n. nat_lt after n.serial) (map (in_directory 0) self.now)))) }
     {
         let mut records = Vec::new(*self.links.allocator());
         let mut room = size;
         for (serial, leaf) in self.names.range((Bound::Excluded(after), Bound::Unbounded)) {
-            let len = record_len(&leaf.name);
+            let len = more + record_len(&leaf.name);
             if len > room {
                 break;
             }
@@ -141,6 +148,35 @@ impl<A: Allocator + Copy> Entries<A> {
             room -= len;
         }
         Ok(records)
+    }
+
+    /// The files that the names with a serial over `after` tell, as many names as fit so many bytes with their entries.
+    pub(crate) fn files_listed(&self, after: u64, size: usize) -> ArrayVec<u64, MOST_LISTED>
+        requires { size ≤ 4096 }
+        ensures { (files : Map Content) → result.items ≡ files_led (fitting_with 128 size (map (lead_in files) (filter (λ n. nat_lt after n.serial) (map (in_directory 0) self.now)))) }
+    {
+        let mut listed = ArrayVec::new();
+        let mut room = size;
+        for (_, leaf) in self.names.range((Bound::Excluded(after), Bound::Unbounded)) {
+            let len = ENTRY_LEN + record_len(&leaf.name);
+            if len > room {
+                break;
+            }
+            list_file(&mut listed, &leaf.name, leaf.file);
+            room -= len;
+        }
+        listed
+    }
+}
+
+/// Puts the file that a name tells last.
+fn list_file(listed: &mut ArrayVec<u64, MOST_LISTED>, name: &[u8], file: u64)
+    requires { array_vec_len listed.old < 26 }
+    ensures items { listed.new.items ≡ listed.old.items ++ first_told (cond (is_dots name.now) None (Some file)) [] }
+    ensures len { array_vec_len listed.new ≤ array_vec_len listed.old + 1 }
+{
+    if !is_dots(name) {
+        listed.push(file);
     }
 }
 

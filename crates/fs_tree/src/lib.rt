@@ -22,7 +22,7 @@ mod tree;
 
 pub use error::TreeError;
 pub use fuse_spec::{Attributes, Kind};
-pub use listing::Record;
+pub use listing::{MOST_LISTED, Record, is_dots};
 pub use tree::{ROOT, Tree};
 
 /// The most names in a tree.

@@ -1,14 +1,24 @@
 //! Reading a directory.
 
-ghost use Rattle.std.specs.Prelude.{◌≡◌, ◌+◌, ◌*◌, ◌/◌, ◌<◌, ◌^◌, map, length, IfOk, IfErr};
-ghost use Rattle.fuse_spec.specs.Operations.{readdir, listed};
+ghost use Rattle.std.specs.Prelude.{◌≡◌, ◌+◌, ◌*◌, ◌/◌, ◌<◌, ◌^◌, ◌≤◌, map, length, None, IfOk, IfErr};
+ghost use Rattle.fuse_spec.specs.FileOperations.{refusal, reply_unrefused};
+ghost use Rattle.fuse_spec.specs.Operations.{files_in_reply, readdir, readdirplus, listed, listed_plus};
+ghost use Rattle.fuse_spec.specs.Paths.{is_dots};
+ghost use Rattle.fuse_spec.specs.declared.Validity.{Validity};
 ghost use Rattle.fs_tree.specs.Outcomes.{IsRefused, IsReply};
-ghost use Rattle.fs_tree.specs.Views.{dirent_of};
+ghost use Rattle.fs_tree.specs.Views.{dirent_of, pair_of};
 
 use crate::error::TreeError;
 use crate::tree::Tree;
 use crate::{Kind, MOST_READ};
+use arrayvec::ArrayVec;
 use std::alloc::{AllocError, Allocator};
+
+/// How long the entry of a name is in a reply to READDIRPLUS (`struct fuse_entry_out`).
+pub(crate) const ENTRY_LEN: usize = 128;
+
+/// The most names in one reply to READDIRPLUS: each takes 152 bytes and more.
+pub const MOST_LISTED: usize = 26;
 
 /// A name that a directory lists. The record's inode number is one more than the file.
 #[derive(Clone, Copy)]
@@ -36,14 +46,56 @@ impl<A: Allocator + Copy> Tree<A> {
             return Err(TreeError::NotADirectory);
         }
         let room = size.min(MOST_READ) as usize;
-        Ok(self.names.list(&self.files, directory, offset, room)?)
+        Ok(self.names.list(&self.files, directory, offset, room, 0)?)
+    }
+
+    /// The same names with their files: as many as fit `size` and 4,096 bytes with an entry before each record
+    /// (`struct fuse_direntplus`).
+    pub fn readdirplus(
+        &self,
+        directory: u64,
+        offset: u64,
+        size: u32,
+    ) -> Result<Vec<Record<'_>, A>, TreeError>
+        ensures ok { IfOk result (λ records. (refusal self.now (readdirplus directory offset size) ≡ None) × ((valid : Validity) → reply_unrefused valid self.now (readdirplus directory offset size) ≡ listed_plus (map (pair_of valid.found_ms) records.items))) }
+        ensures refused { IfErr result (IsRefused self.now (readdirplus directory offset size)) }
+    {
+        if !self.is_directory(directory) {
+            return Err(TreeError::NotADirectory);
+        }
+        let room = size.min(MOST_READ) as usize;
+        let records = self
+            .names
+            .list(&self.files, directory, offset, room, ENTRY_LEN)?;
+        Ok(records)
+    }
+
+    /// The files that those names tell, in order: `.` and `..` tell none. In a file that is no directory there are none.
+    pub fn files_listed(&self, directory: u64, offset: u64, size: u32) -> ArrayVec<u64, MOST_LISTED>
+        ensures { (valid : Validity) → result.items ≡ files_in_reply (reply_unrefused valid self.now (readdirplus directory offset size)) }
+    {
+        let room = size.min(MOST_READ) as usize;
+        self.names.files_listed(directory, offset, room)
+    }
+}
+
+/// Whether a name is `.` or `..`.
+pub fn is_dots(name: &[u8]) -> bool
+    ensures { result ≡ is_dots name.now }
+{
+    match name {
+        [] => true,
+        [first] => *first == b'.',
+        [first, second] => *first == b'.' && *second == b'.',
+        _ => false,
     }
 }
 
 /// How long the record of a name is: 24 bytes and the name, up to a multiple of 8 (`struct fuse_dirent`).
 pub(crate) fn record_len(name: &[u8]) -> usize
     requires { length name.now < 2 ^ 63 }
-    ensures { result ≡ (31 + length name.now) / 8 * 8 }
+    ensures len { result ≡ (31 + length name.now) / 8 * 8 }
+    ensures least { 24 ≤ result }
 {
     (31 + name.len()) / 8 * 8
 }

@@ -1,15 +1,17 @@
 //! The names of a tree.
 
 ghost use Rattle.std.specs.Prelude.{◌≡◌, ◌++◌, ◌∷◌, [], ◌<◌, ◌^◌, not, filter, find, map, length, count_by, nat_eq, option_map, OnOk, OnErr, IfOk, ◌≤◌, ◌&&◌, false, None};
-ghost use Rattle.fuse_spec.specs.Trees.{is_at, is_within, fitting, same_name};
-ghost use Rattle.fs_tree.specs.Views.{dirent_of};
-ghost use Rattle.fs_tree.specs.Stored.{listed, AreRising, IsRising};
+ghost use Rattle.fuse_spec.specs.Maps.{Map};
+ghost use Rattle.fuse_spec.specs.Trees.{Content, is_at, is_within, same_name};
+ghost use Rattle.fs_tree.specs.Views.{lead_of};
+ghost use Rattle.fs_tree.specs.Stored.{files_led, fitting_with, listed, AreRising, IsRising};
 
 use crate::directories::{Directories, close, close_empty, open, put_last_in, remove_from};
 use crate::entries::{Link, copy_of};
 use crate::files::Files;
-use crate::listing::Record;
+use crate::listing::{MOST_LISTED, Record};
 use crate::rows::Rows;
+use arrayvec::ArrayVec;
 use indexmap::IndexMap;
 use std::alloc::{AllocError, Allocator};
 use std::marker::Model;
@@ -197,19 +199,37 @@ impl<A: Allocator + Copy> Names<A> {
         at == top
     }
 
-    /// The records of the names in a directory with a serial over `after`, as many as fit so many bytes.
+    /// The records of the names in a directory with a serial over `after`, as many as fit so many bytes with so many bytes more each.
     pub(crate) fn list(
         &self,
         files: &Files<A>,
         directory: u64,
         after: u64,
         size: usize,
+        more: usize,
     ) -> Result<Vec<Record<'_>, A>, AllocError>
-        ensures { IfOk result (λ records. map dirent_of records.items ≡ fitting size (listed files.now directory after self.now)) }
+        requires { more ≤ 128 }
+        ensures { IfOk result (λ records. map lead_of records.items ≡ fitting_with more size (listed files.now directory after self.now)) }
     {
         match self.directories.get(&directory) {
-            Some(entries) => entries.list(files, after, size),
+            Some(entries) => entries.list(files, after, size, more),
             None => Ok(Vec::new(self.alloc)),
+        }
+    }
+
+    /// The files that the names in a directory with a serial over `after` tell, as many names as fit so many bytes with their entries.
+    pub(crate) fn files_listed(
+        &self,
+        directory: u64,
+        after: u64,
+        size: usize,
+    ) -> ArrayVec<u64, MOST_LISTED>
+        requires { size ≤ 4096 }
+        ensures { (files : Map Content) → result.items ≡ files_led (fitting_with 128 size (listed files directory after self.now)) }
+    {
+        match self.directories.get(&directory) {
+            Some(entries) => entries.files_listed(after, size),
+            None => ArrayVec::new(),
         }
     }
 }

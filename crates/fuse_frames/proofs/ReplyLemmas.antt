@@ -54,9 +54,10 @@ body_saying (reply.created entry valid fh) = create_reply (missing 0 0) 0
 body_saying (reply.opened fh) = open_reply 0
 body_saying (reply.attributes attributes) = attr_reply (record { ino = 0; size = 0; mode = 0; nlink = 0 })
 body_saying (reply.listed records) = records_reply []
+body_saying (reply.listed_plus pairs) = plus_reply []
 body_saying (reply.content bytes) = bytes_reply []
 body_saying (reply.written size) = write_reply 0
-body_saying (reply.agreed major minor) = init_reply 0 0 0
+body_saying (reply.agreed major minor flags) = init_reply 0 0 0
 body_saying reply.done = empty_reply
 body_saying (reply.failed errno) = empty_reply
 
@@ -70,7 +71,6 @@ said_kind (entry_reply (missing seconds nanoseconds)) known = refl
 said_kind (entry_reply (found nodeid generation seconds nanoseconds a)) known = refl
 said_kind (create_reply (missing seconds nanoseconds) fh) known = refl
 said_kind (create_reply (found nodeid generation seconds nanoseconds a) fh) known = refl
-said_kind (plus_reply ps) known = absurd (true≢false (sym known))
 said_kind c known = refl
 
 no_failure : (c : ReplyContent) → is_failure (wire_body c) ≡ false
@@ -95,6 +95,7 @@ kind_going (reply.rmdir d name) reply.done e good = refl
 kind_going (reply.rename d old f new) reply.done e good = refl
 kind_going (reply.opening x) (reply.opened fh) e good = refl
 kind_going (reply.readdir d after size) (reply.listed records) e good = refl
+kind_going (reply.readdirplus d after size) (reply.listed_plus pairs) e good = refl
 kind_going (reply.read o offset size) (reply.content bytes) e good = refl
 kind_going (reply.write o offset bytes) (reply.written size) e good = refl
 kind_going operation (reply.failed errno) e good = absurd (true≢false good)
@@ -112,6 +113,7 @@ replied_by (reply.rename d old e new) = (empty_reply, refl)
 replied_by (reply.link x d name) = (entry_reply (missing 0 0), refl)
 replied_by (reply.opening x) = (open_reply 0, refl)
 replied_by (reply.readdir d after size) = (records_reply [], refl)
+replied_by (reply.readdirplus d after size) = (plus_reply [], refl)
 replied_by (reply.read o offset size) = (bytes_reply [], refl)
 replied_by (reply.write o offset bytes) = (write_reply 0, refl)
 
@@ -136,7 +138,7 @@ goes_saying o p d unique (negsuc n) c goes ok known has same =
     (kind_of_content d, has, alone ∙ elim (eqb_tells (cast_unsigned w32 (negsuc n)) 0) [ inl h ↦ absurd (shows h.1) | inr h ↦ sym (ap (λ (b : Bool). if b then kind_of_content d else kind_of_content empty_reply) h.0) ])
 
 init_kind : (wire : WireReply) → is_init_reply wire ≡ true → is_failure wire ≡ false → kind_of_content (body_saying wire) ≡ kind_of_content (init_reply 0 0 0)
-init_kind (reply.agreed major minor) e good = refl
+init_kind (reply.agreed major minor flags) e good = refl
 init_kind (reply.failed errno) e good = absurd (true≢false good)
 init_kind wire e good = absurd (true≢false (sym e))
 
@@ -208,6 +210,7 @@ has_kind op.Write h = (write_reply 0, refl)
 has_kind op.Release h = (empty_reply, refl)
 has_kind op.Init h = (init_reply 0 0 0, refl)
 has_kind op.Readdir h = (records_reply [], refl)
+has_kind op.Readdirplus h = (plus_reply [], refl)
 has_kind op.Create h = (create_reply (missing 0 0) 0, refl)
 has_kind op.Interrupt h = (empty_reply, refl)
 has_kind o h = absurd (true≢false (sym h))
@@ -222,4 +225,4 @@ error_goes o unique errno z has some most is =
 pub error_exact : (unique errno : ℕ) (z : ℤ) → 1 ≤ errno → z ≡ negsuc (errno - 1) → ◌≡◌ {A = ReplyMessage} (record { unique = unique; error = z; content = empty_reply }) (message_of (framed_by (record { unique = unique; error = z; content = empty_reply })))
 error_exact unique errno z some is =
     let said = error_said errno z empty_reply some is in
-    λ i. record { unique = unique; error = (is ∙ ap error_of (sym said)) i; content = (ap (content_of 0) (sym said)) i }
+    λ i. record { unique = unique; error = (is ∙ ap error_of (sym said)) i; content = (ap content_of (sym said)) i }

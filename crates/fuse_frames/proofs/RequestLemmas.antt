@@ -1,15 +1,18 @@
 -- Bytes say one request, and what is written is said.
 use Rattle.std.proofs.Common.{◌≡◌, ℕ, List, [], ◌++◌, Option, Some, Result, Ok, Err, refl, sym, ap, subst, ◌∙◌}
-use Rattle.std.specs.Prelude.{IsOkAnd}
+use Rattle.std.specs.Prelude.{true, IsOkAnd}
 use Rattle.fk_wire.specs.declared.fault.WireFault.{WireFault}
 use Rattle.fk_wire.specs.declared.request.Request.{Request as View}
 use Rattle.fk_wire.specs.Requests as wire
 use Rattle.fk_wire.specs.Requests.{RequestContent, RequestMessage, request_content, request_message, opcode_of, Spells, Written}
-use Rattle.fk_wire.specs.Opcodes.{served}
+use Rattle.fk_wire.specs.Opcodes.{served, knows as knows_opcode}
 use Rattle.fk_wire.proofs.OneRequest.{decoded_is}
 use Rattle.fk_wire.proofs.Frames.{spells}
 use Rattle.fuse_spec.specs.Messages.{RequestBody, Request}
-use Rattle.fuse_frames.specs.RequestTies.{SaysRequest, IsRequestFrame, request_in, body_in, body_or, asked_opcode, content_of}
+use Rattle.fuse_spec.specs.Server.{knows}
+use Rattle.fuse_spec.specs.declared.Minor.{Minor}
+use Rattle.fuse_spec.specs.declared.Minor.TheVariants.{M15, M31}
+use Rattle.fuse_frames.specs.RequestTies.{SaysRequest, SaysRequestAt, codec_minor, IsRequestFrame, request_in, body_in, body_or, asked_opcode, content_of}
 
 pub frame_says : (bytes : List ℕ) (request : Request) → IsRequestFrame bytes request → SaysRequest bytes request
 frame_says bytes request h = record { message = h.message; spells = spells served h.message bytes h.written; unique = h.unique; says = h.says }
@@ -55,7 +58,7 @@ opcode_is n (wire.write fh offset bytes) body e = ap (λ (b : Option RequestBody
 opcode_is n (wire.release fh) body e = ap (λ (b : Option RequestBody). asked_opcode (body_or b)) e
 opcode_is n (wire.init major minor flags) body e = ap (λ (b : Option RequestBody). asked_opcode (body_or b)) e
 opcode_is n (wire.readdir offset size) body e = ap (λ (b : Option RequestBody). asked_opcode (body_or b)) e
-opcode_is n (wire.readdirplus offset size) body e = absurd (cc e)
+opcode_is n (wire.readdirplus offset size) body e = ap (λ (b : Option RequestBody). asked_opcode (body_or b)) e
 opcode_is n (wire.create name) body e = ap (λ (b : Option RequestBody). asked_opcode (body_or b)) e
 opcode_is n (wire.interrupt unique) body e = ap (λ (b : Option RequestBody). asked_opcode (body_or b)) e
 opcode_is n (wire.batch_forget forgets) body e = ap (λ (b : Option RequestBody). asked_opcode (body_or b)) e
@@ -76,3 +79,38 @@ module _ (bytes read : List ℕ) (request : Request) (r : Result View WireFault)
 
   pub no_fault : (f : WireFault) → r ≡ Err f → ⊥
   no_fault f e = rw e at reads
+
+-- ---- a minor
+
+-- A minor knows what is asked where it knows the opcode.
+knows_same : (minor : Minor) (n : ℕ) (content : RequestContent) (body : RequestBody) → body_in n content ≡ Some body → knows minor body ≡ knows_opcode (codec_minor minor) (opcode_of content)
+knows_same M31 n content body e = refl
+knows_same M15 n (wire.lookup name) body e = sym (ap (λ (b : Option RequestBody). knows M15 (body_or b)) e)
+knows_same M15 n (wire.forget nlookup) body e = sym (ap (λ (b : Option RequestBody). knows M15 (body_or b)) e)
+knows_same M15 n wire.getattr body e = sym (ap (λ (b : Option RequestBody). knows M15 (body_or b)) e)
+knows_same M15 n (wire.mkdir name) body e = sym (ap (λ (b : Option RequestBody). knows M15 (body_or b)) e)
+knows_same M15 n (wire.unlink name) body e = sym (ap (λ (b : Option RequestBody). knows M15 (body_or b)) e)
+knows_same M15 n (wire.rmdir name) body e = sym (ap (λ (b : Option RequestBody). knows M15 (body_or b)) e)
+knows_same M15 n (wire.rename newdir old new) body e = sym (ap (λ (b : Option RequestBody). knows M15 (body_or b)) e)
+knows_same M15 n (wire.link oldnodeid name) body e = sym (ap (λ (b : Option RequestBody). knows M15 (body_or b)) e)
+knows_same M15 n wire.opening body e = sym (ap (λ (b : Option RequestBody). knows M15 (body_or b)) e)
+knows_same M15 n (wire.read fh offset size) body e = sym (ap (λ (b : Option RequestBody). knows M15 (body_or b)) e)
+knows_same M15 n (wire.write fh offset bytes) body e = sym (ap (λ (b : Option RequestBody). knows M15 (body_or b)) e)
+knows_same M15 n (wire.release fh) body e = sym (ap (λ (b : Option RequestBody). knows M15 (body_or b)) e)
+knows_same M15 n (wire.init major minor flags) body e = sym (ap (λ (b : Option RequestBody). knows M15 (body_or b)) e)
+knows_same M15 n (wire.readdir offset size) body e = sym (ap (λ (b : Option RequestBody). knows M15 (body_or b)) e)
+knows_same M15 n (wire.readdirplus offset size) body e = sym (ap (λ (b : Option RequestBody). knows M15 (body_or b)) e)
+knows_same M15 n (wire.create name) body e = sym (ap (λ (b : Option RequestBody). knows M15 (body_or b)) e)
+knows_same M15 n (wire.interrupt unique) body e = sym (ap (λ (b : Option RequestBody). knows M15 (body_or b)) e)
+knows_same M15 n (wire.batch_forget forgets) body e = sym (ap (λ (b : Option RequestBody). knows M15 (body_or b)) e)
+
+pub said_and_known : (minor : Minor) (bytes : List ℕ) (request : Request) → SaysRequestAt minor bytes request → SaysRequest bytes request × (knows minor request.body ≡ true)
+said_and_known minor bytes request h =
+    let m = h.message in
+    (record { message = m; spells = (h.spells.0, refl, h.spells.2, h.spells.3); unique = h.unique; says = h.says }, knows_same minor m.nodeid m.content request.body h.says ∙ h.spells.1)
+
+pub said_at : (minor : Minor) (bytes : List ℕ) (request : Request) → SaysRequest bytes request × (knows minor request.body ≡ true) → SaysRequestAt minor bytes request
+said_at minor bytes request h =
+    let m = h.0.message in
+    let known = sym (knows_same minor m.nodeid m.content request.body h.0.says) ∙ h.1 in
+    record { message = m; spells = (h.0.spells.0, known, h.0.spells.2, h.0.spells.3); unique = h.0.unique; says = h.0.says }

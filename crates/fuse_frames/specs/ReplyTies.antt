@@ -1,18 +1,18 @@
 -- A reply as its frame spells it, and as the machine of kernel and server has it.
-use Rattle.std.specs.Prelude.{◌≡◌, ◌≤◌, Bool, true, false, IsTrue, ℕ, ℤ, pos, negsuc, ◌+◌, ◌-◌, ◌*◌, ◌/◌, ◌%◌, min, cond, nat_eq, List, [], map}
+use Rattle.std.specs.Prelude.{◌≡◌, ◌≤◌, Bool, true, false, IsTrue, ℕ, ℤ, pos, negsuc, ◌+◌, ◌-◌, ◌*◌, ◌/◌, ◌%◌, min, cond, nat_eq, List, [], ◌∷◌, Option, Some, None, map}
 use Rattle.std.specs.Int.RustNames.{bit_and}
 use Rattle.fk_wire.specs.declared.opcode.Opcode.{Opcode}
 use Rattle.fk_wire.specs.declared.opcode.Opcode.TheVariants as op
 use Rattle.fk_wire.specs.declared.entry.Attr.{Attr}
-use Rattle.fk_wire.specs.Entries.{EntryContent, missing, found}
-use Rattle.fk_wire.specs.Dirents.{DirentContent}
+use Rattle.fk_wire.specs.Entries.{EntryContent, missing, found, entry_of}
+use Rattle.fk_wire.specs.Dirents.{DirentContent, DirentPlusContent}
 use Rattle.fk_wire.specs.Fields.{sizes}
 use Rattle.fk_wire.specs.Replies.{ReplyContent, empty_reply, entry_reply, attr_reply, open_reply, bytes_reply, write_reply, init_reply, create_reply, records_reply, plus_reply, ReplyMessage, GoesWith, SpellsReply, WrittenReply, IsErrorNumber, IsReplyContent, HasReplyNames, kind_of_content, knows_kind, reply_body}
 use Rattle.fk_wire.specs.Opcodes.{served}
 use Rattle.fk_wire.specs.Decoded.{decoded_reply}
 use Rattle.fuse_spec.specs.Numbers.{max_transfer, max_validity}
 use Rattle.fuse_spec.specs.Operations as reply
-use Rattle.fuse_spec.specs.Operations.{Dirent}
+use Rattle.fuse_spec.specs.Operations.{Dirent, DirentPlus}
 use Rattle.fuse_spec.specs.declared.Kind.{Kind}
 use Rattle.fuse_spec.specs.declared.Kind.TheVariants.{Directory, Regular, Other}
 use Rattle.fuse_spec.specs.declared.Attributes.{Attributes}
@@ -44,6 +44,19 @@ kind_of_type type = cond (nat_eq type 4) Directory (cond (nat_eq type 8) Regular
 abbrev pub dirent_in : DirentContent → Dirent
 dirent_in d = record { ino = d.ino; offset = d.off; kind = kind_of_type d.kind; name = d.name }
 
+-- The file that an entry names, if it names one, and for how many milliseconds. (linux/fuse.h, struct fuse_entry_out)
+abbrev pub file_in : EntryContent → Option Entry
+file_in (missing seconds nanoseconds) = None
+file_in (found nodeid generation seconds nanoseconds a) = Some (entry_in nodeid generation a)
+
+abbrev pub valid_in : EntryContent → ℕ
+valid_in (missing seconds nanoseconds) = milliseconds seconds nanoseconds
+valid_in (found nodeid generation seconds nanoseconds a) = milliseconds seconds nanoseconds
+
+-- A name in a list with the file of its entry. (linux/fuse.h, struct fuse_direntplus)
+abbrev pub pair_in : DirentPlusContent → DirentPlus Entry
+pair_in p = record { file = file_in p.entry_out; valid = valid_in p.entry_out; dirent = dirent_in p.dirent }
+
 -- what a body says
 abbrev pub wire_body : ReplyContent → WireReply
 wire_body empty_reply = reply.done
@@ -53,12 +66,11 @@ wire_body (attr_reply a) = reply.attributes (attributes_in a)
 wire_body (open_reply fh) = reply.opened fh
 wire_body (bytes_reply bytes) = reply.content bytes
 wire_body (write_reply size) = reply.written size
-wire_body (init_reply major minor flags) = reply.agreed major minor
+wire_body (init_reply major minor flags) = reply.agreed major minor flags
 wire_body (create_reply (missing seconds nanoseconds) fh) = reply.created no_entry (milliseconds seconds nanoseconds) fh
 wire_body (create_reply (found nodeid generation seconds nanoseconds a) fh) = reply.created (entry_in nodeid generation a) (milliseconds seconds nanoseconds) fh
 wire_body (records_reply ds) = reply.listed (map dirent_in ds)
--- READDIRPLUS is not served yet: no frame spells its reply
-wire_body (plus_reply ps) = reply.listed []
+wire_body (plus_reply ps) = reply.listed_plus (map pair_in ps)
 
 -- what a reply says: its body, or the error number alone
 abbrev pub wire_said : ℤ → ReplyContent → WireReply
@@ -72,18 +84,13 @@ pub record SaysReply (o : Opcode) (bytes : List ℕ) (unique : ℕ) (wire : Wire
   pub unique_is : message.unique ≡ unique
   pub says : wire_said message.error message.content ≡ wire
 
--- A reply as its frame has it. The flags are those that an answer to INIT takes up; another reply has none, which is 0.
+-- A reply as its frame has it.
 pub record Framed : Type 0 where
   pub unique : ℕ
   pub wire : WireReply
-  pub flags : ℕ
-
-abbrev pub flags_said : ReplyContent → ℕ
-flags_said (init_reply major minor flags) = flags
-flags_said content = 0
 
 abbrev pub framed_by : ReplyMessage → Framed
-framed_by m = record { unique = m.unique; wire = wire_said m.error m.content; flags = flags_said m.content }
+framed_by m = record { unique = m.unique; wire = wire_said m.error m.content }
 
 -- ---- how replies are written
 
@@ -112,42 +119,64 @@ type_of Other = 0
 abbrev pub dirent_of : Dirent → DirentContent
 dirent_of d = record { ino = d.ino; off = d.offset; kind = type_of d.kind; name = d.name }
 
+-- A name in a list is written with the entry of its file, or with one that names none.
+abbrev pub entry_for : (valid : ℕ) → Option Entry → EntryContent
+entry_for valid None = missing_of valid
+entry_for valid (Some entry) = found_of entry valid
+
+abbrev pub pair_of : DirentPlus Entry → DirentPlusContent
+pair_of p = record { entry_out = entry_for p.valid p.file; dirent = dirent_of p.dirent }
+
+-- The next three are names in a list with their entries, one to each name, where one of node 0 is of no file.
+abbrev pub entry_told : Entry → Option Entry
+entry_told e = cond (nat_eq e.nodeid 0) None (Some e)
+
+abbrev pub pairs_told : (valid : ℕ) → List Entry → List Dirent → List (DirentPlus Entry)
+pairs_told valid (e ∷ entries) (d ∷ dirents) = record { file = entry_told e; valid = valid; dirent = d } ∷ pairs_told valid entries dirents
+pairs_told valid [] dirents = []
+pairs_told valid (e ∷ entries) [] = []
+
+abbrev pub pairs_listed : (valid : ℕ) → List Entry → List DirentContent → List DirentPlusContent
+pairs_listed valid (e ∷ entries) (d ∷ ds) = record { entry_out = entry_of e.nodeid e.generation (valid / 1000) (valid % 1000 * 1000000) (attr_of e.attributes); dirent = d } ∷ pairs_listed valid entries ds
+pairs_listed valid [] ds = []
+pairs_listed valid (e ∷ entries) [] = []
+
 -- the body of a reply; an error has none
-abbrev pub content_of : (flags : ℕ) → WireReply → ReplyContent
-content_of flags (reply.found entry valid) = entry_reply (found_of entry valid)
-content_of flags (reply.missing valid) = entry_reply (missing_of valid)
-content_of flags (reply.created entry valid fh) = create_reply (found_of entry valid) fh
-content_of flags (reply.opened fh) = open_reply fh
-content_of flags (reply.attributes attributes) = attr_reply (attr_of attributes)
-content_of flags (reply.listed records) = records_reply (map dirent_of records)
-content_of flags (reply.content bytes) = bytes_reply bytes
-content_of flags (reply.written size) = write_reply size
-content_of flags (reply.agreed major minor) = init_reply major minor flags
-content_of flags reply.done = empty_reply
-content_of flags (reply.failed errno) = empty_reply
+abbrev pub content_of : WireReply → ReplyContent
+content_of (reply.found entry valid) = entry_reply (found_of entry valid)
+content_of (reply.missing valid) = entry_reply (missing_of valid)
+content_of (reply.created entry valid fh) = create_reply (found_of entry valid) fh
+content_of (reply.opened fh) = open_reply fh
+content_of (reply.attributes attributes) = attr_reply (attr_of attributes)
+content_of (reply.listed records) = records_reply (map dirent_of records)
+content_of (reply.listed_plus pairs) = plus_reply (map pair_of pairs)
+content_of (reply.content bytes) = bytes_reply bytes
+content_of (reply.written size) = write_reply size
+content_of (reply.agreed major minor flags) = init_reply major minor flags
+content_of reply.done = empty_reply
+content_of (reply.failed errno) = empty_reply
 
 abbrev pub error_of : WireReply → ℤ
 error_of (reply.failed errno) = negsuc (errno - 1)
 error_of wire = pos 0
 
 abbrev pub message_of : Framed → ReplyMessage
-message_of f = record { unique = f.unique; error = error_of f.wire; content = content_of f.flags f.wire }
+message_of f = record { unique = f.unique; error = error_of f.wire; content = content_of f.wire }
 
 -- The bytes are the one frame in which this reply to a request of this opcode is written, and they say it.
 pub record IsReplyFrame (o : Opcode) (bytes : List ℕ) (framed : Framed) : Type 0 where
   pub written : WrittenReply (message_of framed) bytes
   pub goes : GoesWith served o (message_of framed)
-  pub says : wire_said (error_of framed.wire) (content_of framed.flags framed.wire) ≡ framed.wire
+  pub says : wire_said (error_of framed.wire) (content_of framed.wire) ≡ framed.wire
 
 -- What the bytes of a reply are, where they spell anything.
 unfoldable pub framed_in : Opcode → List ℕ → Framed
 framed_in o bytes = framed_by (decoded_reply o bytes)
 
--- The opcodes that are replied to. READDIRPLUS is not served yet.
+-- the opcodes that are replied to
 abbrev pub has_reply : Opcode → Bool
 has_reply op.Forget = false
 has_reply op.BatchForget = false
-has_reply op.Readdirplus = false
 has_reply o = true
 
 -- How many bytes the longest reply of a fixed length has, which is CREATE's: a header, an entry and an open.

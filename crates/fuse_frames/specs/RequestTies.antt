@@ -3,8 +3,12 @@ use Rattle.std.specs.Prelude.{◌≡◌, ℕ, List, Option, Some, None}
 use Rattle.fk_wire.specs.declared.opcode.Opcode.{Opcode}
 use Rattle.fk_wire.specs.declared.opcode.Opcode.TheVariants as op
 use Rattle.fk_wire.specs.Requests as wire
-use Rattle.fk_wire.specs.Requests.{RequestContent, RequestMessage, Spells, Written}
+use Rattle.fk_wire.specs.declared.opcode.Minor.{Minor as CodecMinor}
+use Rattle.fk_wire.specs.declared.opcode.Minor.TheVariants as minors
+use Rattle.fk_wire.specs.Requests.{RequestContent, RequestMessage, SpellsAt, Written}
 use Rattle.fk_wire.specs.Decoded.{decoded}
+use Rattle.fuse_spec.specs.declared.Minor.{Minor}
+use Rattle.fuse_spec.specs.declared.Minor.TheVariants.{M15, M31}
 use Rattle.fuse_spec.specs.Operations as operation
 use Rattle.fuse_spec.specs.Messages.{RequestBody, Request, init, asks, release, forget, batch_forget, interrupt}
 
@@ -22,16 +26,16 @@ body_in nodeid wire.opening = Some (asks (operation.opening nodeid))
 body_in nodeid (wire.read fh offset size) = Some (asks (operation.read (record { nodeid = nodeid; fh = fh }) offset size))
 body_in nodeid (wire.write fh offset bytes) = Some (asks (operation.write (record { nodeid = nodeid; fh = fh }) offset bytes))
 body_in nodeid (wire.release fh) = Some (release (record { nodeid = nodeid; fh = fh }))
-body_in nodeid (wire.init major minor flags) = Some init
+body_in nodeid (wire.init major minor flags) = Some (init flags)
 body_in nodeid (wire.readdir offset size) = Some (asks (operation.readdir nodeid offset size))
-body_in nodeid (wire.readdirplus offset size) = None
+body_in nodeid (wire.readdirplus offset size) = Some (asks (operation.readdirplus nodeid offset size))
 body_in nodeid (wire.create name) = Some (asks (operation.create nodeid name))
 body_in nodeid (wire.interrupt unique) = Some (interrupt unique)
 body_in nodeid (wire.batch_forget forgets) = Some (batch_forget forgets)
 
 -- the opcode of a request that asks this
 abbrev pub asked_opcode : RequestBody → Opcode
-asked_opcode init = op.Init
+asked_opcode (init flags) = op.Init
 asked_opcode (asks (operation.lookup d name)) = op.Lookup
 asked_opcode (asks (operation.getattr x)) = op.Getattr
 asked_opcode (asks (operation.mkdir d name)) = op.Mkdir
@@ -42,6 +46,7 @@ asked_opcode (asks (operation.rename d old e new)) = op.Rename
 asked_opcode (asks (operation.link x d name)) = op.Link
 asked_opcode (asks (operation.opening x)) = op.Open
 asked_opcode (asks (operation.readdir d after size)) = op.Readdir
+asked_opcode (asks (operation.readdirplus d after size)) = op.Readdirplus
 asked_opcode (asks (operation.read o offset size)) = op.Read
 asked_opcode (asks (operation.write o offset bytes)) = op.Write
 asked_opcode (release o) = op.Release
@@ -49,9 +54,9 @@ asked_opcode (forget f) = op.Forget
 asked_opcode (batch_forget fs) = op.BatchForget
 asked_opcode (interrupt original) = op.Interrupt
 
--- How a request is written. INIT is of version 7.31, with the flags ASYNC_READ (bit 0) and PARALLEL_DIROPS (bit 18).
+-- How a request is written. INIT is of version 7.31, with the flags that it offers.
 abbrev pub content_of : RequestBody → RequestContent
-content_of init = wire.init 7 31 262145
+content_of (init flags) = wire.init 7 31 flags
 content_of (asks (operation.lookup d name)) = wire.lookup name
 content_of (asks (operation.getattr x)) = wire.getattr
 content_of (asks (operation.mkdir d name)) = wire.mkdir name
@@ -62,6 +67,7 @@ content_of (asks (operation.rename d old e new)) = wire.rename e old new
 content_of (asks (operation.link x d name)) = wire.link x name
 content_of (asks (operation.opening x)) = wire.opening
 content_of (asks (operation.readdir d after size)) = wire.readdir after size
+content_of (asks (operation.readdirplus d after size)) = wire.readdirplus after size
 content_of (asks (operation.read o offset size)) = wire.read o.fh offset size
 content_of (asks (operation.write o offset bytes)) = wire.write o.fh offset bytes
 content_of (release o) = wire.release o.fh
@@ -69,12 +75,21 @@ content_of (forget f) = wire.forget f.1
 content_of (batch_forget fs) = wire.batch_forget fs
 content_of (interrupt original) = wire.interrupt original
 
--- The bytes spell this request.
-pub record SaysRequest (bytes : List ℕ) (request : Request) : Type 0 where
+-- A minor as the codec names it.
+abbrev pub codec_minor : Minor → CodecMinor
+codec_minor M15 = minors.M15
+codec_minor M31 = minors.M31
+
+-- The bytes spell this request, at a minor: the opcodes that it doesn't know spell none.
+pub record SaysRequestAt (minor : Minor) (bytes : List ℕ) (request : Request) : Type 0 where
   pub message : RequestMessage
-  pub spells : Spells bytes message
+  pub spells : SpellsAt (codec_minor minor) bytes message
   pub unique : message.unique ≡ request.unique
   pub says : body_in message.nodeid message.content ≡ Some request.body
+
+-- The same at 7.31, whose opcodes are all that there are.
+abbrev pub SaysRequest : List ℕ → Request → Type 0
+SaysRequest = SaysRequestAt M31
 
 -- The bytes are the one frame in which this request is written.
 pub record IsRequestFrame (bytes : List ℕ) (request : Request) : Type 0 where
@@ -85,7 +100,7 @@ pub record IsRequestFrame (bytes : List ℕ) (request : Request) : Type 0 where
   pub content : message.content ≡ content_of request.body
 
 abbrev pub body_or : Option RequestBody → RequestBody
-body_or None = init
+body_or None = init 0
 body_or (Some body) = body
 
 -- What the bytes say, where they say anything.

@@ -1,6 +1,8 @@
 //! The machine's messages as frames: the one place where the grammar of frames and the machine of kernel and server meet.
 #![tactic(auto)]
 
+mod listing;
+mod minor;
 mod pair_bytes;
 mod reply_body;
 mod reply_copy;
@@ -9,7 +11,8 @@ mod reply_room;
 mod request_frame;
 mod request_operations;
 
-pub use reply_body::{attributes_of, kind_of_type, milliseconds};
+pub use minor::{codec_minor, said_where_known};
+pub use reply_body::{attributes_of, kind_of_type, milliseconds, told_by};
 pub use reply_copy::ReplyCopy;
 pub use reply_frame::ReplyFrame;
 pub use reply_room::ReplyRoom;

@@ -1,12 +1,16 @@
 //! What the parts of a reply mean.
 
 ghost use Rattle.std.specs.Prelude.{◌≡◌};
-ghost use Rattle.fuse_frames.specs.ReplyTies.{attributes_in, kind_of_mode};
+ghost use Rattle.fk_wire.specs.Entries.{entry_content};
+ghost use Rattle.fk_wire.specs.Records.{direntplus_content};
+ghost use Rattle.fuse_spec.specs.Operations.{told_by as file_told};
+ghost use Rattle.fuse_spec.specs.Paths.{is_dots as are_dots};
+ghost use Rattle.fuse_frames.specs.ReplyTies.{attributes_in, file_in, kind_of_mode, pair_in, valid_in};
 ghost use Rattle.fuse_frames.specs.ReplyTies.{kind_of_type as kind_told};
 ghost use Rattle.fuse_frames.specs.ReplyTies.{milliseconds as milliseconds_in};
 
-use fk_wire::Attr;
-use fuse_spec::{Attributes, Kind};
+use fk_wire::{Attr, DirentPlus};
+use fuse_spec::{Attributes, Entry, Kind};
 
 /// The longest validity of a name, a day in milliseconds (this project's rule).
 const MAX_VALIDITY: u64 = 86_400_000;
@@ -54,4 +58,45 @@ pub fn kind_of_type(type_number: u32) -> Kind
         8 => Kind::Regular,
         _ => Kind::Other,
     }
+}
+
+/// The file that the entry of a name in a list names; with node id 0 it names none.
+fn file_of(entry: &fk_wire::Entry) -> Option<Entry>
+    ensures { result ≡ file_in (entry_content entry.now) }
+{
+    if entry.nodeid == 0 {
+        return None;
+    }
+    Some(Entry {
+        nodeid: entry.nodeid,
+        generation: entry.generation,
+        attributes: attributes_of(&entry.attr),
+    })
+}
+
+/// For how many milliseconds the name of an entry leads to its file, or to none.
+fn valid_of(entry: &fk_wire::Entry) -> u64
+    ensures { result ≡ valid_in (entry_content entry.now) }
+{
+    milliseconds(entry.entry_valid, entry.entry_valid_nsec)
+}
+
+/// Whether a name is `.` or `..`, or has no byte.
+fn is_dots(name: &[u8]) -> bool
+    ensures { result ≡ are_dots name.now }
+{
+    matches!(name, [] | [b'.'] | [b'.', b'.'])
+}
+
+/// The file that a name in a list tells, and for how many milliseconds the name leads there. `.` and `..` tell none, nor does an
+/// entry of node id 0 (linux/fuse.h, struct fuse_direntplus).
+pub fn told_by(pair: &DirentPlus<'_>) -> (Option<Entry>, u64)
+    ensures file { result.0 ≡ file_told (pair_in (direntplus_content pair.now)) }
+    ensures valid { result.1 ≡ (pair_in (direntplus_content pair.now)).valid }
+{
+    let valid_ms = valid_of(&pair.entry_out);
+    if is_dots(pair.dirent.name) {
+        return (None, valid_ms);
+    }
+    (file_of(&pair.entry_out), valid_ms)
 }

@@ -3,7 +3,7 @@
 ghost use Rattle.std.specs.Prelude.{◌≡◌, ◌≤◌, ◌+◌, ℕ, [], true, vec_capacity};
 ghost use Rattle.fk_wire.specs.Fields.{sizes};
 ghost use Rattle.fk_wire.specs.Opcodes.{served};
-ghost use Rattle.fk_wire.specs.Replies.{GoesWith, reply_body, reply_message, reply_content};
+ghost use Rattle.fk_wire.specs.Replies.{ReplyMessage, WrittenReply, GoesWith, reply_body, reply_message, reply_content};
 ghost use Rattle.fuse_spec.specs.Messages.{asks};
 ghost use Rattle.fuse_spec.specs.Operations.{Operation};
 ghost use Rattle.fuse_spec.specs.Replies.{goes_with, is_init_reply, is_empty_reply};
@@ -15,7 +15,7 @@ use fuse_spec::Opened;
 use std::alloc::{Allocator, Global};
 use std::marker::Model;
 
-/// A frame of the reply link, seen as the reply that it says: its unique, its words, and the flags that an answer to INIT takes up.
+/// A frame of the reply link, seen as the reply that it says: its unique and its words.
 #[derive(Drop)]
 pub struct ReplyFrame<A: Allocator = Global> {
     opcode: Opcode,
@@ -71,5 +71,16 @@ impl<A: Allocator> ReplyFrame<A> {
         let mut bytes = bytes;
         write_reply(&mut bytes, reply).unwrap();
         ReplyFrame { opcode, bytes }
+    }
+
+    /// The frame of a reply of READDIRPLUS, whose bytes are written. They are written as `message_of` has it.
+    pub(crate) fn listing(bytes: Vec<u8, A>) -> ReplyFrame<A>
+        requires { (message : ReplyMessage) × GoesWith served Opcode.Readdirplus message × WrittenReply message bytes.items × (message ≡ message_of (framed_by message)) }
+        ensures { (message : ReplyMessage) → GoesWith served Opcode.Readdirplus message → WrittenReply message bytes.items → result ≡ framed_by message }
+    {
+        ReplyFrame {
+            opcode: Opcode::Readdirplus,
+            bytes,
+        }
     }
 }

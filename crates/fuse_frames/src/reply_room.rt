@@ -6,16 +6,19 @@ ghost use Rattle.fk_wire.specs.Dirents.{dirents};
 ghost use Rattle.fk_wire.specs.Fields.{sizes};
 ghost use Rattle.fk_wire.specs.Opcodes.{served};
 ghost use Rattle.fk_wire.specs.Records.{records_in};
-ghost use Rattle.fk_wire.specs.Replies.{init_reply, reply_body, reply_content, kind_of_content, reply_kind};
+ghost use Rattle.fk_wire.specs.Replies.{init_reply as init_content, reply_body, reply_content, kind_of_content, reply_kind};
 ghost use Rattle.fk_wire.specs.Requests.{known_flags};
 ghost use Rattle.fuse_spec.specs.Numbers.{max_transfer, max_validity};
 ghost use Rattle.fuse_spec.specs.Operations as reply;
-ghost use Rattle.fuse_frames.specs.ReplyTies.{FitsRoom, content_of, dirent_in, dirent_of, flags_said, wire_body};
+ghost use Rattle.fuse_spec.specs.Performs.{flags_known, init_reply, minor_number};
+ghost use Rattle.fuse_frames.specs.ReplyTies.{FitsRoom, content_of, dirent_in, dirent_of, pairs_told, wire_body};
 ghost use Rattle.fuse_frames.specs.ReplyTies.{attr_of as attr_written};
 
+use crate::listing::put_listing;
 use crate::reply_frame::ReplyFrame;
-use fk_wire::{Attr, InitFlags, Opcode, Records, Reply, ReplyBody};
-use fuse_spec::{Attributes, Entry, Kind};
+use bitflags::Flags;
+use fk_wire::{Attr, InitFlags, Opcode, Records, Reply, ReplyBody, put_listing_head};
+use fuse_spec::{Attributes, Entry, Kind, Minor};
 use std::alloc::{AllocError, Allocator, Global};
 use std::marker::Model;
 
@@ -55,8 +58,8 @@ impl<A: Allocator> ReplyRoom<A> {
         requires goes { reply_kind served opcode ≡ Some (kind_of_content (reply_content body)) }
         requires fits { FitsRoom (record { unique = unique; error = pos 0; content = reply_content body }) }
         requires room { 16 + sizes (reply_body (reply_content body)) ≤ self }
-        requires exact { reply_content body ≡ content_of (flags_said (reply_content body)) (wire_body (reply_content body)) }
-        ensures { result ≡ record { unique = unique; wire = wire_body (reply_content body.entry); flags = flags_said (reply_content body.entry) } }
+        requires exact { reply_content body ≡ content_of (wire_body (reply_content body)) }
+        ensures { result ≡ record { unique = unique; wire = wire_body (reply_content body.entry) } }
     {
         let reply = Reply {
             unique,
@@ -66,17 +69,17 @@ impl<A: Allocator> ReplyRoom<A> {
         ReplyFrame::written(opcode, self.bytes, &reply)
     }
 
-    /// The answer to INIT: version 7.31, and which flags of those that were offered are taken up.
-    pub fn agreed(self, unique: u64, flags: InitFlags) -> ReplyFrame<A>
-        ensures { result ≡ record { unique = unique; wire = reply.agreed 7 31; flags = bit_and flags.0 known_flags } }
+    /// The answer to an INIT that offers these flags: the minor that is spoken, and those of the flags that it knows.
+    pub fn agreed(self, unique: u64, minor: Minor, offered: InitFlags) -> ReplyFrame<A>
+        ensures { result ≡ record { unique = unique; wire = init_reply minor (bit_and offered.0 known_flags) } }
     {
-        self.said(unique, Opcode::Init, agreement(flags))
+        self.said(unique, Opcode::Init, agreement(minor, offered))
     }
 
     /// The answer to a LOOKUP that found nothing: the name is missing for so many milliseconds, at most a day.
     pub fn missing(self, unique: u64, missing_ms: u64) -> ReplyFrame<A>
         requires { missing_ms ≤ max_validity }
-        ensures { result ≡ record { unique = unique; wire = reply.missing missing_ms; flags = 0 } }
+        ensures { result ≡ record { unique = unique; wire = reply.missing missing_ms } }
     {
         let entry = no_entry(missing_ms);
         self.said(unique, Opcode::Lookup, ReplyBody::Entry { entry })
@@ -86,7 +89,7 @@ impl<A: Allocator> ReplyRoom<A> {
     pub fn found(self, unique: u64, entry: &Entry, found_ms: u64) -> ReplyFrame<A>
         requires node { entry.now.nodeid ≢ 0 }
         requires valid { found_ms ≤ max_validity }
-        ensures { result ≡ record { unique = unique; wire = reply.found entry.now found_ms; flags = 0 } }
+        ensures { result ≡ record { unique = unique; wire = reply.found entry.now found_ms } }
     {
         let entry = entry_of(entry, found_ms);
         self.said(unique, Opcode::Lookup, ReplyBody::Entry { entry })
@@ -96,7 +99,7 @@ impl<A: Allocator> ReplyRoom<A> {
     pub fn created(self, unique: u64, entry: &Entry, found_ms: u64, fh: u64) -> ReplyFrame<A>
         requires node { entry.now.nodeid ≢ 0 }
         requires valid { found_ms ≤ max_validity }
-        ensures { result ≡ record { unique = unique; wire = reply.created entry.now found_ms fh; flags = 0 } }
+        ensures { result ≡ record { unique = unique; wire = reply.created entry.now found_ms fh } }
     {
         let entry = entry_of(entry, found_ms);
         self.said(unique, Opcode::Create, ReplyBody::Create { entry, fh })
@@ -104,7 +107,7 @@ impl<A: Allocator> ReplyRoom<A> {
 
     /// The answer to OPEN: the node is open under a number.
     pub fn opened(self, unique: u64, fh: u64) -> ReplyFrame<A>
-        ensures { result ≡ record { unique = unique; wire = reply.opened fh; flags = 0 } }
+        ensures { result ≡ record { unique = unique; wire = reply.opened fh } }
     {
         self.said(unique, Opcode::Open, ReplyBody::Open { fh })
     }
@@ -113,7 +116,7 @@ impl<A: Allocator> ReplyRoom<A> {
     pub fn content(self, unique: u64, bytes: &[u8]) -> ReplyFrame<A>
         requires room { 16 + length bytes.now ≤ self }
         requires most { length bytes.now ≤ max_transfer }
-        ensures { result ≡ record { unique = unique; wire = reply.content bytes.now; flags = 0 } }
+        ensures { result ≡ record { unique = unique; wire = reply.content bytes.now } }
     {
         self.said(unique, Opcode::Read, ReplyBody::Bytes { bytes })
     }
@@ -124,21 +127,44 @@ impl<A: Allocator> ReplyRoom<A> {
         requires types { map dirent_of (map dirent_in (records_in records)) ≡ records_in records }
         requires room { 16 + sizes (dirents (records_in records)) ≤ self }
         requires most { sizes (dirents (records_in records)) ≤ max_transfer }
-        ensures { result ≡ record { unique = unique; wire = reply.listed (map dirent_in (records_in records.entry)); flags = 0 } }
+        ensures { result ≡ record { unique = unique; wire = reply.listed (map dirent_in (records_in records.entry)) } }
     {
         self.said(unique, Opcode::Readdir, ReplyBody::Records { records })
     }
 
+    /// The answer to READDIRPLUS: the records, for which there is room, each with the entry of its name's file, or with one of node 0.
+    /// Each name leads to its file for so many milliseconds, at most a day. The types are those of kinds (`type_of`).
+    pub fn listed_plus(
+        self,
+        unique: u64,
+        entries: &[Entry],
+        records: Records<'_>,
+        found_ms: u64,
+    ) -> ReplyFrame<A>
+        requires together { length entries.now ≡ length (records_in records) }
+        requires types { map dirent_of (map dirent_in (records_in records)) ≡ records_in records }
+        requires valid { found_ms ≤ max_validity }
+        requires room { 16 + (128 * length entries.now + sizes (dirents (records_in records))) ≤ self }
+        requires most { 128 * length entries.now + sizes (dirents (records_in records)) ≤ max_transfer }
+        ensures { result ≡ record { unique = unique; wire = reply.listed_plus (pairs_told found_ms entries.now (map dirent_in (records_in records.entry))) } }
+    {
+        let mut bytes = self.bytes;
+        let size = 128 * entries.len() + records.byte_len();
+        put_listing_head(&mut bytes, unique, size);
+        put_listing(&mut bytes, entries, records, found_ms);
+        ReplyFrame::listing(bytes)
+    }
+
     /// The answer to WRITE: how many bytes were written.
     pub fn written(self, unique: u64, size: u32) -> ReplyFrame<A>
-        ensures { result ≡ record { unique = unique; wire = reply.written size; flags = 0 } }
+        ensures { result ≡ record { unique = unique; wire = reply.written size } }
     {
         self.said(unique, Opcode::Write, ReplyBody::Write { size })
     }
 
     /// The answer to GETATTR.
     pub fn attributes(self, unique: u64, attributes: &Attributes) -> ReplyFrame<A>
-        ensures { result ≡ record { unique = unique; wire = reply.attributes attributes.now; flags = 0 } }
+        ensures { result ≡ record { unique = unique; wire = reply.attributes attributes.now } }
     {
         let attr = attr_of(attributes);
         self.said(unique, Opcode::Getattr, ReplyBody::Attr { attr })
@@ -146,7 +172,7 @@ impl<A: Allocator> ReplyRoom<A> {
 
     /// The answer to UNLINK, RMDIR, RENAME, RELEASE or INTERRUPT: it is done.
     pub fn done(self, unique: u64) -> ReplyFrame<A>
-        ensures { result ≡ record { unique = unique; wire = reply.done; flags = 0 } }
+        ensures { result ≡ record { unique = unique; wire = reply.done } }
     {
         self.said(unique, Opcode::Release, ReplyBody::Empty)
     }
@@ -155,7 +181,7 @@ impl<A: Allocator> ReplyRoom<A> {
     pub fn failed(self, unique: u64, errno: u32) -> ReplyFrame<A>
         requires some { 1 ≤ errno }
         requires most { errno ≤ 511 }
-        ensures { result ≡ record { unique = unique; wire = reply.failed errno; flags = 0 } }
+        ensures { result ≡ record { unique = unique; wire = reply.failed errno } }
     {
         let reply = Reply {
             unique,
@@ -166,19 +192,27 @@ impl<A: Allocator> ReplyRoom<A> {
     }
 }
 
-/// What is agreed on at INIT: version 7.31, and the flags that are taken up.
-fn agreement(flags: InitFlags) -> ReplyBody<'static>
-    ensures { reply_content result ≡ init_reply 7 31 (bit_and flags.0 known_flags) }
+/// What is agreed on at INIT: the minor that is spoken, and those of the offered flags that it knows.
+#[tactic(auto, using(crate::proofs::Agreements::known_again, crate::proofs::Agreements::read_alone))]
+fn agreement(minor: Minor, offered: InitFlags) -> ReplyBody<'static>
+    ensures { reply_content result ≡ init_content 7 (minor_number minor) (bit_and (bit_and offered.0 known_flags) (flags_known minor)) }
 {
-    ReplyBody::Init {
-        major: 7,
-        minor: 31,
-        flags,
+    match minor {
+        Minor::M15 => ReplyBody::Init {
+            major: 7,
+            minor: 15,
+            flags: offered.intersection(InitFlags::ASYNC_READ),
+        },
+        Minor::M31 => ReplyBody::Init {
+            major: 7,
+            minor: 31,
+            flags: offered,
+        },
     }
 }
 
 /// The entry of a name that leads to a node: its validity in whole seconds, and the rest in nanoseconds.
-fn entry_of(entry: &Entry, found_ms: u64) -> fk_wire::Entry
+pub(crate) fn entry_of(entry: &Entry, found_ms: u64) -> fk_wire::Entry
     ensures { result ≡ record { nodeid = entry.now.nodeid; generation = entry.now.generation; entry_valid = found_ms / 1000; entry_valid_nsec = found_ms % 1000 * 1000000; attr = attr_written entry.now.attributes } }
 {
     fk_wire::Entry {

@@ -3,6 +3,7 @@
 ghost use Rattle.std.specs.Prelude.{◌≡◌, ◌≤◌, IfOk, Some, length};
 ghost use Rattle.fk_wire.specs.Requests.{request_content};
 ghost use Rattle.fuse_spec.specs.Messages.{RequestBody as Asked, init, asks, forget, batch_forget, interrupt};
+ghost use Rattle.fuse_spec.specs.Numbers.{init_flags};
 ghost use Rattle.fuse_spec.specs.Operations.{lookup, getattr, mkdir};
 ghost use Rattle.fuse_spec.specs.Worlds.{forget_body};
 ghost use Rattle.fuse_frames.specs.RequestTies.{IsRequestFrame, body_in, content_of, asked_opcode};
@@ -68,12 +69,14 @@ impl<A: Allocator> RequestFrame<A> {
         &self.bytes
     }
 
-    /// INIT of the version that the kernel speaks, 7.31, with the flags that it offers, FUSE_ASYNC_READ and
-    /// FUSE_PARALLEL_DIROPS (uapi fuse.h). That its frame says so is in the invariant: `content_of` has what is written.
+    /// INIT of the version that the kernel speaks, 7.31, with the flags that it offers, FUSE_ASYNC_READ,
+    /// FUSE_DO_READDIRPLUS and FUSE_PARALLEL_DIROPS (uapi fuse.h). That its frame says so is in the invariant: `content_of` has what is written.
     pub fn init(alloc: A, unique: u64) -> Result<RequestFrame<A>, AllocError>
-        ensures { IfOk result (λ frame. frame ≡ record { unique = unique; body = init }) }
+        ensures { IfOk result (λ frame. frame ≡ record { unique = unique; body = init init_flags }) }
     {
-        let flags = InitFlags::ASYNC_READ.union(InitFlags::PARALLEL_DIROPS);
+        let flags = InitFlags::ASYNC_READ
+            .union(InitFlags::DO_READDIRPLUS)
+            .union(InitFlags::PARALLEL_DIROPS);
         let body = RequestBody::Init {
             major: 7,
             minor: 31,

@@ -2,7 +2,7 @@
 
 ghost use Rattle.std.specs.Prelude.{◌≡◌, IfOk};
 ghost use Rattle.fuse_spec.specs.Messages.{asks, release};
-ghost use Rattle.fuse_spec.specs.Operations.{create, unlink, rmdir, rename, link, opening, readdir, read, write};
+ghost use Rattle.fuse_spec.specs.Operations.{create, unlink, rmdir, rename, link, opening, readdir, readdirplus, read, write};
 
 use crate::request_frame::{RequestFrame, framed};
 use fk_wire::RequestBody;
@@ -142,6 +142,30 @@ impl<A: Allocator> RequestFrame<A> {
         ensures { IfOk result (λ frame. frame ≡ record { unique = unique; body = asks (readdir directory after size) }) }
     {
         let body = RequestBody::Readdir {
+            offset: after,
+            size,
+        };
+        framed(
+            alloc,
+            &fk_wire::Request {
+                unique,
+                nodeid: directory,
+                body,
+            },
+        )
+    }
+
+    /// READDIRPLUS of a directory behind an offset, in at most so many bytes.
+    pub fn readdirplus(
+        alloc: A,
+        unique: u64,
+        directory: u64,
+        after: u64,
+        size: u32,
+    ) -> Result<RequestFrame<A>, AllocError>
+        ensures { IfOk result (λ frame. frame ≡ record { unique = unique; body = asks (readdirplus directory after size) }) }
+    {
+        let body = RequestBody::Readdirplus {
             offset: after,
             size,
         };

@@ -17,7 +17,7 @@ pub data Beginning (F O : Type 0) : Type 0 where
   uses : (handle : ℕ) (operation : Operation F O) → Beginning F O
   closes : (handle : ℕ) (opened : O) → Beginning F O
 
--- A path whose words are all walked, or its fault. (this project's rule)
+-- A path whose words are all walked, or its fault.
 abbrev pub whole_path : {F O : Type 0} → List ℕ → (List Name → Beginning F O) → Beginning F O
 whole_path path then = elim (words_of path) [ Err fault ↦ faulty fault | Ok words ↦ then words ]
 
@@ -39,6 +39,7 @@ closing handle (Some opened) = closes handle opened
 abbrev pub beginning : {F O : Type 0} → Map O → Call → Beginning F O
 beginning opens (call.stat path) = whole_path path (λ words. sets_out words (last final.stat))
 beginning opens (call.list path after) = whole_path path (λ words. sets_out words (last (final.list after)))
+beginning opens (call.listplus path after) = whole_path path (λ words. sets_out words (last (final.listplus after)))
 beginning opens (call.opening path) = whole_path path (λ words. sets_out words (last final.opening))
 beginning opens (call.mkdir path) = parent_path path (λ words name. sets_out words (last (final.mkdir name)))
 beginning opens (call.create path) = parent_path path (λ words name. sets_out words (last (final.create name)))

@@ -25,43 +25,42 @@ abbrev pub counted : Option Counted → ℕ
 counted None = 0
 counted (Some node) = node.count
 
--- The next two are how often a reply names a node, and an open number. (this project's rule)
+-- The next two are how often a reply names a node, and an open number.
 abbrev pub names_in : ℕ → WireReply → ℕ
 names_in id wire = count_by (λ (g : Entry). nat_eq g.nodeid id) (files_in_reply wire)
 
 abbrev pub opens_in : ℕ → WireReply → ℕ
 opens_in fh wire = count_by (nat_eq fh) (opens_in_reply wire)
 
--- What `f` counts in the reply of a copy, as the server still knows the copy. (this project's rule)
+-- What `f` counts in the reply of a copy, as the server still knows the copy.
 abbrev pub carried : (WireReply → ℕ) → Option Copy → ℕ
 carried f None = 0
 carried f (Some copy) = f copy.wire
 
--- A count, where the result refuses the copy; an accepted copy leaves none. (this project's rule)
+-- A count, where the result refuses the copy; an accepted copy leaves none.
 abbrev pub refused : WriteResult → ℕ → ℕ
 refused Accepted n = 0
 refused NoEntry n = n
 refused Invalid n = n
 
--- What `f` counts in the copy that this result refuses, on its way back. (this project's rule)
+-- What `f` counts in the copy that this result refuses, on its way back.
 abbrev pub result_carries : (WireReply → ℕ) → Server → ReplyResult → ℕ
 result_carries f s result = refused result.result (carried f (get s.copies result.number))
 
 -- In flight for a node: forgets that are queued or on the request link, copies on the reply link that name it, and refused ones on the result link.
--- (this project's rule)
 abbrev pub in_flight : World → ℕ → ℕ
 in_flight w id =
     forgotten id w.kernel.queues.forgets + sum_by (λ (r : Request). forgotten id (forgets_of r.body)) w.requests
     + sum_by (λ (sent : Sent). names_in id sent.wire) w.replies + sum_by (result_carries (names_in id) w.server) w.results
 
--- Balance: the server's count of each node from 2 up is the kernel's and what is in flight. (this project's rule)
+-- Balance: the server's count of each node from 2 up is the kernel's and what is in flight.
 abbrev pub Balance : World → Type 0
 Balance w = (id : ℕ) → 2 ≤ id → count_in (get w.server.nodes.rows id) ≡ counted (get w.kernel.nodes id) + in_flight w id
 
--- The next two are how often a request releases an open number, by what it asks and by what the kernel keeps of it. (this project's rule)
+-- The next two are how often a request releases an open number, by what it asks and by what the kernel keeps of it.
 abbrev pub releases_in : ℕ → RequestBody → ℕ
 releases_in fh (release o) = cond (nat_eq o.fh fh) 1 0
-releases_in fh init = 0
+releases_in fh (init flags) = 0
 releases_in fh (asks operation) = 0
 releases_in fh (forget f) = 0
 releases_in fh (batch_forget fs) = 0
@@ -73,46 +72,46 @@ releases_for fh (purpose.Release o) = cond (nat_eq o.fh fh) 1 0
 releases_for fh (purpose.Call call) = 0
 
 -- In flight for an open number: RELEASEs that are pending, on the request link or held by the server, copies on the reply link that carry it, and refused
--- ones on the result link. (this project's rule)
+-- ones on the result link.
 abbrev pub open_in_flight : World → ℕ → ℕ
 open_in_flight w fh =
     sum_by (λ (e : ℕ × QueuedRequest Purpose). releases_for fh e.1.kept) (pending w.kernel.queues) + sum_by (λ (r : Request). releases_in fh r.body) w.requests
     + sum_by (λ (taken : HeldRequest). releases_in fh taken.body) (values w.server.held) + sum_by (λ (sent : Sent). opens_in fh sent.wire) w.replies
     + sum_by (result_carries (opens_in fh) w.server) w.results
 
--- The server's count of an open number, which is 0 where there is none. (this project's rule)
+-- The server's count of an open number, which is 0 where there is none.
 abbrev pub handle_count : Option OpenNumber → ℕ
 handle_count None = 0
 handle_count (Some handle) = handle.count
 
--- How many open files of the kernel, and closed ones whose RELEASE isn't queued yet, have this open number. (this project's rule)
+-- How many open files of the kernel, and closed ones whose RELEASE isn't queued yet, have this open number.
 abbrev pub open_in_kernel : Kernel → ℕ → ℕ
 open_in_kernel k fh = count_by (λ (o : Opened). nat_eq o.fh fh) (values k.vfs.opens ++ values k.closing)
 
--- Balance of open numbers: the server's count of each is the number of the kernel's files that have it and what is in flight. (this project's rule)
+-- Balance of open numbers: the server's count of each is the number of the kernel's files that have it and what is in flight.
 abbrev pub OpenBalance : World → Type 0
 OpenBalance w = (fh : ℕ) → handle_count (get w.server.handles.handles fh) ≡ open_in_kernel w.kernel fh + open_in_flight w fh
 
--- The kernel's node means some file. (this project's rule)
+-- The kernel's node means some file.
 abbrev pub IsMeant : World → ℕ → Type 0
 IsMeant w id = (file : ℕ) × MeansIn w id file
 
--- The kernel's open file means some file. (this project's rule)
+-- The kernel's open file means some file.
 abbrev pub IsOpenMeant : World → Opened → Type 0
 IsOpenMeant w o = (file : ℕ) × MeansOpenIn w o file
 
--- The entry of a copy denotes some file: the server holds its node under the entry's own generation. (this project's rule)
+-- The entry of a copy denotes some file: the server holds its node under the entry's own generation.
 abbrev pub IsNamed : World → Entry → Type 0
 IsNamed w g = (file : ℕ) × Denotes w.server.nodes g.nodeid g.generation file
 
--- The kernel's node of an unanswered RELEASE means some file. (this project's rule)
+-- The kernel's node of an unanswered RELEASE means some file.
 abbrev pub ReleaseMeant : World → Purpose → Type 0
 ReleaseMeant w purpose.Init = Unit {0}
 ReleaseMeant w (purpose.Release o) = IsMeant w o.nodeid
 ReleaseMeant w (purpose.Call call) = Unit {0}
 
 -- In a live mount: the nodes that the kernel counts, those from and to which its names lead, those of its calls, its open and closed files and its
--- unanswered RELEASEs are held by the server under the kernel's generation, and each entry on the reply link under its own. (this project's rule)
+-- unanswered RELEASEs are held by the server under the kernel's generation, and each entry on the reply link under its own.
 pub record HeldLive (w : World) : Type 0 where
   pub nodes : (id : ℕ) (node : Counted) → get w.kernel.nodes id ≡ Some node → IsMeant w id
   pub names : (directory : ℕ) (name : List ℕ) (bound : Binding) → get_name w.kernel.vfs.names (directory, name) ≡ Some bound → IsMeant w directory
@@ -123,7 +122,7 @@ pub record HeldLive (w : World) : Type 0 where
   pub releases : All (λ (e : ℕ × QueuedRequest Purpose). ReleaseMeant w e.1.kept) w.kernel.queues.requests
   pub copies : All (λ (sent : Sent). All (IsNamed w) (files_in_reply sent.wire)) w.replies
 
--- The next two are the open files that an operation names, and a request. (this project's rule)
+-- The next two are the open files that an operation names, and a request.
 abbrev pub opens_of : Operation ℕ Opened → List Opened
 opens_of (read o offset size) = o ∷ []
 opens_of (write o offset bytes) = o ∷ []
@@ -132,18 +131,18 @@ opens_of operation = []
 abbrev pub opens_of_body : RequestBody → List Opened
 opens_of_body (asks operation) = opens_of operation
 opens_of_body (release o) = o ∷ []
-opens_of_body init = []
+opens_of_body (init flags) = []
 opens_of_body (forget f) = []
 opens_of_body (batch_forget fs) = []
 opens_of_body (interrupt original) = []
 
--- Each node that the request names is in the server's table, and each open number is one of its node's file. (this project's rule)
+-- Each node that the request names is in the server's table, and each open number is one of its node's file.
 pub record IsServable (s : Server) (body : RequestBody) : Type 0 where
   pub nodes : All (λ id. is_some (row_of s.nodes id) ≡ true) (nodes_of_body body)
   pub opens : All (λ (o : Opened). is_open s.handles o.fh (file_of s.nodes o.nodeid) ≡ true) (opens_of_body body)
 
 -- Held: while the mount is live what HeldLive says, and in any mount no request that is pending, on its link or held by the server names a node or open
--- number that is gone. (this project's rule)
+-- number that is gone.
 pub record Held (w : World) : Type 0 where
   pub live : is_live w.kernel.phase ≡ true → HeldLive w
   pub pending : All (λ (e : ℕ × QueuedRequest Purpose). MatchOption (body_of w.kernel e.1.kept) ⊥ (λ body. IsServable w.server body)) (pending w.kernel.queues)
@@ -151,7 +150,6 @@ pub record Held (w : World) : Type 0 where
   pub taken : All (λ (t : HeldRequest). IsServable w.server t.body) (values w.server.held)
 
 -- Nothing is under way: the mount is live, no request, INTERRUPT or forget is queued, the links are empty, and the server holds no request.
--- (this project's rule)
 pub record AtRest (w : World) : Type 0 where
   pub live : is_live w.kernel.phase ≡ true
   pub pending : pending w.kernel.queues ≡ []
@@ -162,12 +160,12 @@ pub record AtRest (w : World) : Type 0 where
   pub results : w.results ≡ []
   pub held : w.server.held ≡ []
 
--- The same node on both sides, or none: equal generations and counts. (this project's rule)
+-- The same node on both sides, or none: equal generations and counts.
 abbrev pub SameNode : Option Counted → Option HeldNode → Type 0
 SameNode a b = OptionAlike (λ (node : Counted) (row : HeldNode). (node.generation ≡ row.generation) × (node.count ≡ row.count)) a b
 
 -- At rest no call waits, and the two sides hold the same nodes and open files, with the same counts: each open number is one of its node's file and counted
--- once, and there is none beside. (this project's rule)
+-- once, and there is none beside.
 pub record Settled (w : World) : Type 0 where
   pub processing : processing w.kernel.queues ≡ []
   pub calls : w.kernel.vfs.calls ≡ []
@@ -178,7 +176,7 @@ pub record Settled (w : World) : Type 0 where
   pub files : All (λ (o : Opened). is_open w.server.handles o.fh (file_of w.server.nodes o.nodeid) ≡ true) (values w.kernel.vfs.opens)
 
 -- The reference protocol, which is to hold after each event: Balance, of nodes and of open numbers, each of which one file of the kernel has at most; Held, no
--- fault in a request on its link, no reply with a wrong body, and what is true at rest. (this project's rule)
+-- fault in a request on its link, no reply with a wrong body, and what is true at rest.
 pub record Keeps (w : World) : Type 0 where
   pub balance : is_live w.kernel.phase ≡ true → Balance w
   pub open_balance : is_live w.kernel.phase ≡ true → OpenBalance w

@@ -1,5 +1,6 @@
 -- What may happen, what comes of it, and why it may be refused.
 use Rattle.std.specs.Prelude.{ℕ, Bool}
+use Rattle.fuse_spec.specs.declared.Minor.{Minor}
 use Rattle.fuse_spec.specs.Paths.{Name}
 use Rattle.fuse_spec.specs.Calls.{Call}
 use Rattle.fuse_spec.specs.declared.IntrEffect.{IntrEffect}
@@ -8,7 +9,7 @@ use Rattle.fuse_spec.specs.declared.Taken.{Taken}
 
 -- What may happen in one atomic step; a place k counts from 0 among the pending requests or on a link. (this project's rule)
 pub data Event : Type 0 where
-  mount : (found_ms missing_ms : ℕ) → Event
+  mount : (found_ms missing_ms : ℕ) (minor : Minor) → Event
   call : (call : Call) → Event
   read_interrupt : Event
   read_forgets : (n : ℕ) → Event
@@ -24,7 +25,7 @@ pub data Event : Type 0 where
   evict : (node : ℕ) → Event
   abort : Event
 
--- The outcome of an event that is accepted. The opcodes and lengths that are printed are those of the frames. (this project's rule)
+-- The outcome of an event that is accepted. The opcodes and lengths that are printed are those of the frames.
 pub data Outcome : Type 0 where
   mounted : Outcome
   begun : (call : ℕ) → Outcome

@@ -4,14 +4,14 @@ use Rattle.fuse_spec.specs.declared.Validity.{Validity}
 use Rattle.fuse_spec.specs.Maps.{get, put}
 use Rattle.fuse_spec.specs.Numbers.{eperm, enoent, eexist, enotdir, eisdir, einval, efbig, enospc, enotempty, max_names, max_file, max_transfer}
 use Rattle.fuse_spec.specs.Paths.{Name}
-use Rattle.fuse_spec.specs.Operations.{Operation, lookup, getattr, mkdir, create, unlink, rmdir, rename, link, opening, readdir, read, write, Reply, found, missing, created, opened, attributes, listed, content, written, done, failed}
-use Rattle.fuse_spec.specs.Trees.{Tree, a_directory, a_file, file_at, is_directory, is_nameless, is_empty, is_below, attributes_of, with_name, without_name, with_birth, overwritten, bytes_of, fitting, records_after}
+use Rattle.fuse_spec.specs.Operations.{Operation, lookup, getattr, mkdir, create, unlink, rmdir, rename, link, opening, readdir, readdirplus, read, write, Reply, found, missing, created, opened, attributes, listed, listed_plus, content, written, done, failed}
+use Rattle.fuse_spec.specs.Trees.{Tree, a_directory, a_file, file_at, is_directory, is_nameless, is_empty, is_below, attributes_of, with_name, without_name, with_birth, overwritten, bytes_of, fitting, records_after, fitting_pairs, pairs_after}
 
--- An operation on files: a file and an open file are both named by the file's birth. (this project's rule)
+-- An operation on files: a file and an open file are both named by the file's birth.
 abbrev pub FileOperation : Type 0
 FileOperation = Operation ℕ ℕ
 
--- A condition, and the error number with which it refuses. (this project's rule)
+-- A condition, and the error number with which it refuses.
 abbrev pub Check : Type 0
 Check = Bool × ℕ
 
@@ -74,16 +74,17 @@ checks tree (link file d name) =
     (not (is_directory tree d), enotdir) ∷ (is_nameless tree d, enoent) ∷ (is_directory tree file, eperm) ∷ (is_nameless tree file, enoent) ∷ making tree d name
 checks tree (rename d old e new) = moving tree d e (file_at tree d old) (file_at tree e new)
 checks tree (readdir d after size) = (not (is_directory tree d), enotdir) ∷ []
+checks tree (readdirplus d after size) = (not (is_directory tree d), enotdir) ∷ []
 checks tree (opening file) = (is_directory tree file, eisdir) ∷ []
 checks tree (read file offset size) = []
 checks tree (write file offset bytes) = (nat_lt max_file (offset + length bytes), efbig) ∷ []
 
--- The error number of the first check that refuses. (this project's rule)
+-- The error number of the first check that refuses.
 abbrev pub first_refusal : List Check → Option ℕ
 first_refusal [] = None
 first_refusal (check ∷ rest) = cond check.0 (Some check.1) (first_refusal rest)
 
--- The error number that refuses the operation on this tree, if one does. (this project's rule)
+-- The error number that refuses the operation on this tree, if one does.
 abbrev pub refusal : Tree → FileOperation → Option ℕ
 refusal tree operation = first_refusal (checks tree operation)
 
@@ -92,7 +93,7 @@ abbrev pub looked_up : Validity → Option ℕ → Reply ℕ ℕ
 looked_up valid None = missing valid.missing_ms
 looked_up valid (Some file) = found file valid.found_ms
 
--- The reply to an operation that nothing refuses. (this project's rule)
+-- The reply to an operation that nothing refuses.
 abbrev pub reply_unrefused : Validity → Tree → FileOperation → Reply ℕ ℕ
 reply_unrefused valid tree (lookup d name) = looked_up valid (file_at tree d name)
 reply_unrefused valid tree (getattr file) = attributes (attributes_of tree file)
@@ -103,6 +104,7 @@ reply_unrefused valid tree (rmdir d name) = done
 reply_unrefused valid tree (link file d name) = found file valid.found_ms
 reply_unrefused valid tree (rename d old e new) = done
 reply_unrefused valid tree (readdir d after size) = listed (fitting (min size max_transfer) (records_after tree d after))
+reply_unrefused valid tree (readdirplus d after size) = listed_plus (fitting_pairs (min size max_transfer) (pairs_after valid.found_ms tree d after))
 reply_unrefused valid tree (opening file) = opened file
 reply_unrefused valid tree (read file offset size) = content (take (min size max_transfer) (drop offset (bytes_of (get tree.files file))))
 reply_unrefused valid tree (write file offset bytes) = written (length bytes)
@@ -126,10 +128,11 @@ tree_unrefused tree (write file offset (b ∷ bytes)) =
 tree_unrefused tree (lookup d name) = tree
 tree_unrefused tree (getattr file) = tree
 tree_unrefused tree (readdir d after size) = tree
+tree_unrefused tree (readdirplus d after size) = tree
 tree_unrefused tree (opening file) = tree
 tree_unrefused tree (read file offset size) = tree
 
--- The next two keep what an unrefused operation gives, or put an error in place of its reply and the old tree in place of the new one. (this project's rule)
+-- The next two keep what an unrefused operation gives, or put an error in place of its reply and the old tree in place of the new one.
 abbrev pub reply_or : Reply ℕ ℕ → Option ℕ → Reply ℕ ℕ
 reply_or reply None = reply
 reply_or reply (Some errno) = failed errno
@@ -138,10 +141,10 @@ abbrev pub tree_or : Tree → Tree → Option ℕ → Tree
 tree_or old new None = new
 tree_or old new (Some errno) = old
 
--- The reply of the tree to an operation: the error of the first check that refuses it, or what the operation gives. (this project's rule)
+-- The reply of the tree to an operation: the error of the first check that refuses it, or what the operation gives.
 abbrev pub reply_by : Validity → Tree → FileOperation → Reply ℕ ℕ
 reply_by valid tree operation = reply_or (reply_unrefused valid tree operation) (refusal tree operation)
 
--- The tree after an operation; a refused one changes nothing. (this project's rule)
+-- The tree after an operation; a refused one changes nothing.
 abbrev pub tree_after : Tree → FileOperation → Tree
 tree_after tree operation = tree_or tree (tree_unrefused tree operation) (refusal tree operation)

@@ -1,5 +1,5 @@
 -- The kernel: its state, and how calls, mounts and signals move it.
-use Rattle.std.specs.Prelude.{ℕ, Bool, true, false, ◌||◌, cond, List, [], ◌∷◌, Option, Some, None, nat_eq, find, option_map}
+use Rattle.std.specs.Prelude.{ℕ, Bool, true, false, ◌||◌, cond, List, [], ◌∷◌, Option, Some, None, nat_eq, find, option_map, ◌&&◌, nat_lt}
 use Rattle.std.specs.List.{list_any}
 use Rattle.fuse_spec.specs.declared.Phase.{Phase}
 use Rattle.fuse_spec.specs.declared.Phase.TheVariants.{Down, Starting, Ready, Aborted}
@@ -11,25 +11,35 @@ use Rattle.fuse_spec.specs.declared.Purpose.TheVariants as purpose
 use Rattle.fuse_spec.specs.declared.IntrEffect.{IntrEffect}
 use Rattle.fuse_spec.specs.declared.IntrEffect.TheVariants.{Dequeued, Flagged, Queued, None as NoEffect}
 use Rattle.fuse_spec.specs.Maps.{Map, get, put, remove, values}
-use Rattle.fuse_spec.specs.Numbers.{eintr}
+use Rattle.fuse_spec.specs.Numbers.{eintr, init_flags}
 use Rattle.fuse_spec.specs.Operations.{Operation, files_in}
 use Rattle.fuse_spec.specs.Walks.{files_of_plan}
-use Rattle.fuse_spec.specs.Calls.{Call}
+use Rattle.fuse_spec.specs.declared.Minor.{Minor}
+use Rattle.fuse_spec.specs.declared.Minor.TheVariants.{M15, M31}
+use Rattle.fuse_spec.specs.Calls.{Call, spoken}
 use Rattle.fuse_spec.specs.Calls as call
 use Rattle.fuse_spec.specs.Answers.{failed}
 use Rattle.fuse_spec.specs.Vfs.{CallState, walking, doing, using, asked, Vfs, Advance, answered, begun, given_up}
-use Rattle.fuse_spec.specs.Messages.{RequestBody, init, asks, release}
+use Rattle.fuse_spec.specs.Messages.{Forget, RequestBody, init, asks, release}
 use Rattle.fuse_spec.specs.Queues.{QueueState, empty_queues}
-use Rattle.fuse_spec.specs.QueueCalls.{after_enqueue, after_forget, interrupt_effect, after_interrupt}
+use Rattle.fuse_spec.specs.QueueCalls.{first_forgets, after_enqueue, after_forget, interrupt_effect, after_interrupt}
 
 -- The kernel: its mount's phase, the system calls' side, the queues, the nodes with their counts, and in `closing` the files that are closed while a read or
--- write of them is unanswered. (this project's rule)
+-- write of them is unanswered.
 pub record Kernel : Type 0 where
   pub phase : Phase
   pub vfs : Vfs Opened
   pub queues : QueueState Purpose
   pub nodes : Map Counted
   pub closing : Map Opened
+  -- what the reply to INIT agreed on, the minor and whether READDIRPLUS may be asked; until then, what 7.15 has
+  pub minor : Minor
+  pub lists_files : Bool
+
+-- Whether forgets go one by one at this minor. (linux/fuse.h, FUSE_BATCH_FORGET)
+abbrev pub forgets_singly : Minor → Bool
+forgets_singly M15 = true
+forgets_singly M31 = false
 
 -- Whether a mount is there and not aborted. (fuse.rst)
 abbrev pub is_live : Phase → Bool
@@ -54,17 +64,17 @@ asked_by (Some state) = Some (asks (asked state))
 
 -- What a request asks of the server, by what the kernel keeps of it: INIT, RELEASE, or the operation of an unanswered call. (linux/fuse.h, enum fuse_opcode)
 abbrev pub body_of : Kernel → Purpose → Option RequestBody
-body_of k purpose.Init = Some init
+body_of k purpose.Init = Some (init init_flags)
 body_of k (purpose.Release opened) = Some (release opened)
 body_of k (purpose.Call call) = asked_by (get k.vfs.calls call)
 
--- Whether a request serves this call. (this project's rule)
+-- Whether a request serves this call.
 abbrev pub is_for : ℕ → Purpose → Bool
 is_for call purpose.Init = false
 is_for call (purpose.Release opened) = false
 is_for call (purpose.Call other) = nat_eq other call
 
--- The unique of the call's current request, read or not. (this project's rule)
+-- The unique of the call's current request, read or not.
 abbrev pub request_of : Kernel → ℕ → Option ℕ
 request_of k call = option_map (λ e. e.0) (find (λ e. is_for call e.1.kept) k.queues.requests)
 
@@ -130,9 +140,17 @@ abbrev pub call_begun : Kernel → Call → Kernel
 call_begun k call =
     closing_of (advanced k k.vfs.next_call (begun (is_aborted k.phase) k.vfs call)) (cond (is_aborted k.phase) None (closed_by k.vfs.opens call))
 
+-- A call begins as the kernel may put it: before READDIRPLUS, its names are listed alone. (linux/fuse.h, FUSE_READDIRPLUS)
+abbrev pub call_put : Kernel → Call → Kernel
+call_put k call = call_begun k (spoken k.lists_files call)
+
+-- The forgets that are read as one request; 7.15 knows no BATCH_FORGET. (linux/fuse.h, FUSE_BATCH_FORGET)
+abbrev pub forgets_read : Kernel → ℕ → Option (ℕ × List Forget)
+forgets_read k n = cond (forgets_singly k.minor && nat_lt 1 n) None (first_forgets k.queues n)
+
 -- Everything is given up: calls, names, nodes, open files and the four lists. (this project's rule)
 abbrev pub all_given_up : Kernel → Phase → Kernel
-all_given_up k phase = record { phase = phase; vfs = given_up k.vfs; queues = empty_queues; nodes = []; closing = [] }
+all_given_up k phase = record { phase = phase; vfs = given_up k.vfs; queues = empty_queues; nodes = []; closing = []; minor = k.minor; lists_files = k.lists_files }
 
 -- An abort: every unanswered call is answered an error, and the connection is gone. (fuse.rst)
 abbrev pub kernel_aborted : Kernel → Kernel
@@ -140,7 +158,7 @@ kernel_aborted k = all_given_up k Aborted
 
 -- A mount gives up everything, without forgets, and queues INIT. (this project's rule)
 abbrev pub kernel_mounted : Kernel → Kernel
-kernel_mounted k = record { phase = Starting; vfs = given_up k.vfs; queues = after_enqueue empty_queues purpose.Init; nodes = []; closing = [] }
+kernel_mounted k = record { phase = Starting; vfs = given_up k.vfs; queues = after_enqueue empty_queues purpose.Init; nodes = []; closing = []; minor = M15; lists_files = false }
 
 -- ---- signals
 
@@ -163,11 +181,11 @@ call_signalled k call state fatal = signalled_at k call state fatal (request_of 
 
 -- ---- nodes in use
 
--- The node of an open file. (this project's rule)
+-- The node of an open file.
 abbrev pub opened_nodes : Opened → List ℕ
 opened_nodes opened = opened.nodeid ∷ []
 
--- The nodes that a call stands on or names. (this project's rule)
+-- The nodes that a call stands on or names.
 abbrev pub nodes_of_state : CallState Opened → List ℕ
 nodes_of_state (walking directory word words plan) = directory ∷ files_of_plan plan
 nodes_of_state (doing operation) = files_in opened_nodes operation
@@ -185,7 +203,7 @@ is_pinned k node =
     list_any (λ state. list_any (nat_eq node) (nodes_of_state state)) (values k.vfs.calls)
     || (list_any (λ (opened : Opened). nat_eq opened.nodeid node) (values k.vfs.opens) || list_any (λ e. is_released_by node e.1.kept) k.queues.requests)
 
--- Whether a name leads to this node. (this project's rule)
+-- Whether a name leads to this node.
 abbrev pub leads_to : ℕ → Option ℕ → Bool
 leads_to node None = false
 leads_to node (Some target) = nat_eq target node

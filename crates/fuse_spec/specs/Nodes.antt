@@ -1,6 +1,8 @@
 -- The server's tables: nodes, each a file under a generation with its lookup count, and open files with theirs.
-use Rattle.std.specs.Prelude.{◌≡◌, ◌≢◌, ◌≤◌, ℕ, ◌+◌, ◌-◌, Bool, false, cond, List, [], ◌∷◌, Option, Some, None, nat_eq, nat_lt, MatchOption}
-use Rattle.fuse_spec.specs.Maps.{Map, get, put, remove}
+use Rattle.std.specs.Prelude.{◌≡◌, ◌≢◌, ◌≤◌, ℕ, ◌+◌, ◌-◌, Bool, false, cond, List, [], ◌∷◌, Option, Some, None, nat_eq, nat_lt, nat_le, count_by, MatchOption}
+use Rattle.std.specs.List.{list_any}
+use Rattle.fuse_spec.specs.Maps.{Map, get, put, remove, values}
+use Rattle.fuse_spec.specs.Numbers.{counter_end}
 
 -- A node that the server holds: its file, its generation and its lookup count. (libfuse, low-level: lookup)
 pub record HeldNode : Type 0 where
@@ -37,7 +39,7 @@ is_row_of generation (Some row) = nat_eq row.generation generation
 abbrev pub is_held : NodeTable → ℕ → ℕ → Bool
 is_held t id generation = is_row_of generation (row_of t id)
 
--- No node of the table has the file. (this project's rule)
+-- No node of the table has the file.
 abbrev pub IsUnheld : NodeTable → ℕ → Type 0
 IsUnheld t file = (id : ℕ) (row : HeldNode) → get t.rows id ≡ Some row → row.file ≢ file
 
@@ -64,10 +66,14 @@ abbrev pub all_given : (ℕ → ℕ) → NodeTable → List ℕ → NodeTable
 all_given choice t [] = t
 all_given choice t (file ∷ files) = all_given choice (given t file (choice file)) files
 
--- Each of these files, in turn, may be named by the id that is chosen for it. (this project's rule)
+-- Each of these files, in turn, may be named by the id that is chosen for it.
 abbrev pub MayChoose : (ℕ → ℕ) → NodeTable → List ℕ → Type 0
 MayChoose choice t [] = Unit {0}
 MayChoose choice t (file ∷ files) = MayName t file (choice file) × MayChoose choice (given t file (choice file)) files
+
+-- Whether a node's lookups would come to the end of counters, once each of these files is told once more. (this project's rule)
+abbrev pub counts_out : NodeTable → List ℕ → Bool
+counts_out t files = list_any (λ (row : HeldNode). nat_le counter_end (row.count + count_by (nat_eq row.file) files)) (values t.rows)
 
 -- The next two give so many lookups of a node back; at none left the node goes. (libfuse, low-level: forget)
 abbrev pub rows_less : Map HeldNode → ℕ → ℕ → Option HeldNode → Map HeldNode
@@ -112,7 +118,7 @@ handles_less handles fh (Some handle) = cond (nat_lt 1 handle.count) (put handle
 abbrev pub handle_back : HandleTable → ℕ → HandleTable
 handle_back t fh = record t { handles = handles_less t.handles fh (get t.handles fh) }
 
--- The next two count one use more of an open number, for one more copy of the reply that carries it. (this project's rule)
+-- The next two count one use more of an open number, for one more copy of the reply that carries it.
 abbrev pub handles_more : Map OpenNumber → ℕ → Option OpenNumber → Map OpenNumber
 handles_more handles fh None = handles
 handles_more handles fh (Some handle) = put handles fh (record handle { count = handle.count + 1 })
@@ -120,7 +126,7 @@ handles_more handles fh (Some handle) = put handles fh (record handle { count = 
 abbrev pub handle_more : HandleTable → ℕ → HandleTable
 handle_more t fh = record t { handles = handles_more t.handles fh (get t.handles fh) }
 
--- The next two count one lookup more of a held node, for one more copy of the reply whose entry names it. (this project's rule)
+-- The next two count one lookup more of a held node, for one more copy of the reply whose entry names it.
 abbrev pub rows_more : Map HeldNode → ℕ → Option HeldNode → Map HeldNode
 rows_more rows id None = rows
 rows_more rows id (Some row) = put rows id (record row { count = row.count + 1 })

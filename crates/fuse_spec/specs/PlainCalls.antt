@@ -1,11 +1,11 @@
 -- The system calls of the plain world in words of its own. It shares with the kernel's side types alone, and how the text of a path is read.
-use Rattle.std.specs.Prelude.{◌≡◌, ◌⊎◌, ◌≤◌, ◌<◌, ℕ, ◌+◌, Bool, true, false, List, [], ◌∷◌, ◌++◌, Option, Some, None, Ok, Err, length}
+use Rattle.std.specs.Prelude.{◌≡◌, ◌⊎◌, ◌≤◌, ◌<◌, ℕ, ◌+◌, Bool, true, false, List, [], ◌∷◌, ◌++◌, Option, Some, None, Ok, Err, length, map}
 use Rattle.fuse_spec.specs.declared.Attributes.{Attributes}
 use Rattle.fuse_spec.specs.declared.Binding.{Binding}
 use Rattle.fuse_spec.specs.Maps.{Map, get, put, remove, get_name, put_name, remove_name}
 use Rattle.fuse_spec.specs.Numbers.{ebadf, einval, enoent, eio, max_file, max_transfer}
-use Rattle.fuse_spec.specs.Paths.{Name, words_of}
-use Rattle.fuse_spec.specs.Operations.{Operation, Reply, Dirent}
+use Rattle.fuse_spec.specs.Paths.{Name, is_dots, words_of}
+use Rattle.fuse_spec.specs.Operations.{Operation, Reply, Dirent, DirentPlus}
 use Rattle.fuse_spec.specs.Operations as op
 use Rattle.fuse_spec.specs.Walks.{FinalOperation, WalkPlan, WalkStop, unknown, missing, arrived, last, rename, link}
 use Rattle.fuse_spec.specs.Walks as final
@@ -49,6 +49,7 @@ pub data Walks (c : Vfs ℕ) : ℕ → List Name → WalkStop ℕ → Type 0 whe
 pub data AsksAt : FinalOperation ℕ → ℕ → Operation ℕ ℕ → Type 0 where
   attributes_of : (file : ℕ) → AsksAt final.stat file (op.getattr file)
   names_in : (after file : ℕ) → AsksAt (final.list after) file (op.readdir file after max_transfer)
+  names_and_files_in : (after file : ℕ) → AsksAt (final.listplus after) file (op.readdirplus file after max_transfer)
   to_open : (file : ℕ) → AsksAt final.opening file (op.opening file)
   to_mkdir : (name : Name) (file : ℕ) → AsksAt (final.mkdir name) file (op.mkdir file name)
   to_create : (name : Name) (file : ℕ) → AsksAt (final.create name) file (op.create file name)
@@ -83,6 +84,7 @@ pub data GoesOn (c : Vfs ℕ) (number : ℕ) : ℕ → List Name → WalkPlan �
 pub data TakesWalk : Call → List Name → WalkPlan ℕ → Type 0 where
   stats : (path : List ℕ) (words : List Name) → words_of path ≡ Ok words → TakesWalk (call.stat path) words (last final.stat)
   lists : (path : List ℕ) (after : ℕ) (words : List Name) → words_of path ≡ Ok words → TakesWalk (call.list path after) words (last (final.list after))
+  lists_files : (path : List ℕ) (after : ℕ) (words : List Name) → words_of path ≡ Ok words → TakesWalk (call.listplus path after) words (last (final.listplus after))
   opens : (path : List ℕ) (words : List Name) → words_of path ≡ Ok words → TakesWalk (call.opening path) words (last final.opening)
   mkdirs : (path : List ℕ) (words : List Name) (name : Name) → words_of path ≡ Ok (words ++ name ∷ []) → TakesWalk (call.mkdir path) words (last (final.mkdir name))
   creates : (path : List ℕ) (words : List Name) (name : Name) → words_of path ≡ Ok (words ++ name ∷ []) → TakesWalk (call.create path) words (last (final.create name))
@@ -91,15 +93,16 @@ pub data TakesWalk : Call → List Name → WalkPlan ℕ → Type 0 where
   renames : (old new : List ℕ) (words more : List Name) (from to : Name) → words_of old ≡ Ok (words ++ from ∷ []) → words_of new ≡ Ok (more ++ to ∷ []) → TakesWalk (call.rename old new) words (rename from more to)
   links : (old new : List ℕ) (words more : List Name) (name : Name) → words_of old ≡ Ok words → words_of new ≡ Ok (more ++ name ∷ []) → TakesWalk (call.link old new) words (link more name)
 
--- A path that can't be walked; one whose last word is to be made or removed must have one. (this project's rule)
+-- A path that can't be walked; one whose last word is to be made or removed must have one.
 pub data HasNoName : List ℕ → ℕ → Type 0 where
   is_faulty : (path : List ℕ) (errno : ℕ) → words_of path ≡ Err errno → HasNoName path errno
   is_root : (path : List ℕ) → words_of path ≡ Ok [] → HasNoName path einval
 
--- A call that is answered an error at once. Of two paths the first is judged first. (this project's rule)
+-- A call that is answered an error at once. Of two paths the first is judged first.
 pub data Fails (opens : Map ℕ) : Call → ℕ → Type 0 where
   of_stat : (path : List ℕ) (errno : ℕ) → words_of path ≡ Err errno → Fails opens (call.stat path) errno
   of_list : (path : List ℕ) (after errno : ℕ) → words_of path ≡ Err errno → Fails opens (call.list path after) errno
+  of_listplus : (path : List ℕ) (after errno : ℕ) → words_of path ≡ Err errno → Fails opens (call.listplus path after) errno
   of_open : (path : List ℕ) (errno : ℕ) → words_of path ≡ Err errno → Fails opens (call.opening path) errno
   of_mkdir : (path : List ℕ) (errno : ℕ) → HasNoName path errno → Fails opens (call.mkdir path) errno
   of_create : (path : List ℕ) (errno : ℕ) → HasNoName path errno → Fails opens (call.create path) errno
@@ -139,9 +142,21 @@ is_reply_to (op.rmdir directory name) op.done = true
 is_reply_to (op.rename directory old newdir new) op.done = true
 is_reply_to (op.opening file) (op.opened opened) = true
 is_reply_to (op.readdir directory after size) (op.listed records) = true
+is_reply_to (op.readdirplus directory after size) (op.listed_plus pairs) = true
 is_reply_to (op.read file offset size) (op.content bytes) = true
 is_reply_to (op.write file offset bytes) (op.written size) = true
 is_reply_to operation reply = false
+
+-- Names of a list come into force in the directory, one after another: each with its file, but `.` and `..` and those that tell none.
+-- (linux/fuse.h, struct fuse_direntplus)
+pub data ComeIntoForce (directory : ℕ) : Vfs ℕ → List (DirentPlus ℕ) → Vfs ℕ → Type 0 where
+  none_left : (c : Vfs ℕ) → ComeIntoForce directory c [] c
+  comes : (c : Vfs ℕ) (pair : DirentPlus ℕ) (pairs : List (DirentPlus ℕ)) (file : ℕ) (after : Vfs ℕ) → is_dots pair.dirent.name ≡ false → pair.file ≡ Some file
+      → ComeIntoForce directory (in_force c directory pair.dirent.name (Some file) pair.valid) pairs after → ComeIntoForce directory c (pair ∷ pairs) after
+  is_dot : (c : Vfs ℕ) (pair : DirentPlus ℕ) (pairs : List (DirentPlus ℕ)) (after : Vfs ℕ) → is_dots pair.dirent.name ≡ true
+      → ComeIntoForce directory c pairs after → ComeIntoForce directory c (pair ∷ pairs) after
+  tells_none : (c : Vfs ℕ) (pair : DirentPlus ℕ) (pairs : List (DirentPlus ℕ)) (after : Vfs ℕ) → pair.file ≡ None
+      → ComeIntoForce directory c pairs after → ComeIntoForce directory c (pair ∷ pairs) after
 
 -- The reply to a call's own operation, the answer that it is, and the names that come into force or go out of it. (Linux VFS)
 pub data Answers (c : Vfs ℕ) (number : ℕ) : Operation ℕ ℕ → Reply ℕ ℕ → Vfs ℕ → Type 0 where
@@ -155,6 +170,8 @@ pub data Answers (c : Vfs ℕ) (number : ℕ) : Operation ℕ ℕ → Reply ℕ 
   is_renamed : (directory : ℕ) (old : Name) (newdir : ℕ) (new : Name) → Answers c number (op.rename directory old newdir new) op.done (is_answered (out_of_force (out_of_force c directory old) newdir new) number answer.done)
   is_opened : (file opened : ℕ) → Answers c number (op.opening file) (op.opened opened) (is_answered (record c { opens = put c.opens number opened }) number answer.done)
   names_are : (directory after size : ℕ) (records : List Dirent) → Answers c number (op.readdir directory after size) (op.listed records) (is_answered c number (answer.listing records))
+  names_and_files_are : (directory after size : ℕ) (pairs : List (DirentPlus ℕ)) (named : Vfs ℕ) → ComeIntoForce directory c pairs named
+      → Answers c number (op.readdirplus directory after size) (op.listed_plus pairs) (is_answered named number (answer.listing (map (λ pair. pair.dirent) pairs)))
   content_is : (file offset size : ℕ) (bytes : List ℕ) → Answers c number (op.read file offset size) (op.content bytes) (is_answered c number (answer.content bytes))
   is_written : (file offset : ℕ) (bytes : List ℕ) (size : ℕ) → Answers c number (op.write file offset bytes) (op.written size) (is_answered c number (answer.written size))
   has_failed : (operation : Operation ℕ ℕ) (errno : ℕ) → Answers c number operation (op.failed errno) (is_answered c number (answer.failed errno))

@@ -1,5 +1,5 @@
--- The plain world's steps in words of its own: which it takes with an event and its outcome.
-use Rattle.std.specs.Prelude.{◌≡◌, ◌≢◌, ℕ, ◌+◌, ◌-◌, Bool, true, false, [], Option, Some, None}
+-- The plain world's steps in words of its own, which are the abstract specification's transitions: which it takes with an event and its outcome.
+use Rattle.std.specs.Prelude.{◌≡◌, ◌≢◌, ℕ, ◌+◌, ◌-◌, Bool, true, false, List, [], Option, Some, None}
 use Rattle.fuse_spec.specs.declared.IntrEffect.{IntrEffect}
 use Rattle.fuse_spec.specs.declared.IntrEffect.TheVariants as effect
 use Rattle.fuse_spec.specs.declared.Taken.{Taken}
@@ -12,6 +12,9 @@ use Rattle.fuse_spec.specs.Paths.{Name}
 use Rattle.fuse_spec.specs.Operations.{Operation, Reply}
 use Rattle.fuse_spec.specs.FileOperations.{tree_after, reply_by}
 use Rattle.fuse_spec.specs.Calls.{Call}
+use Rattle.fuse_spec.specs.Calls as call
+use Rattle.fuse_spec.specs.declared.Minor.{Minor}
+use Rattle.fuse_spec.specs.declared.Minor.TheVariants.{M15, M31}
 use Rattle.fuse_spec.specs.Answers.{Answer, failed}
 use Rattle.fuse_spec.specs.Vfs.{CallState, Vfs}
 use Rattle.fuse_spec.specs.Plain.{Plain, Ask, waiting, performed, declined}
@@ -19,17 +22,23 @@ use Rattle.fuse_spec.specs.Events.{Event, Outcome}
 use Rattle.fuse_spec.specs.Events as event
 use Rattle.fuse_spec.specs.PlainCalls.{is_answered, Begins, Hears, out_of_force}
 
--- What a call asks is put under this label, or the call asks nothing. (this project's rule)
+-- What a call asks is put under this label, or the call asks nothing.
 pub data Asks (p : Plain) (label number : ℕ) (after : Vfs ℕ) : Option (Operation ℕ ℕ) → Plain → Type 0 where
   nothing : Asks p label number after None (record p { vfs = after })
   puts_ask : (operation : Operation ℕ ℕ) → Asks p label number after (Some operation)
       (record p { vfs = after; asks = put p.asks label (record { call = number; operation = operation; stage = waiting; noted = false; marked = false }) })
 
--- The calls as the next number is drawn. (this project's rule)
+-- A call as it is put at a minor: 7.15 lists names alone, without their files. (linux/fuse.h, FUSE_READDIRPLUS)
+pub data PutAs : Minor → Call → Call → Type 0 where
+  in_full : (x : Call) → PutAs M31 x x
+  names_alone : (path : List ℕ) (after : ℕ) → PutAs M15 (call.listplus path after) (call.list path after)
+  any_other : (x : Call) → ((path : List ℕ) (after : ℕ) → x ≢ call.listplus path after) → PutAs M15 x x
+
+-- The calls as the next number is drawn.
 abbrev pub one_more : Vfs ℕ → Vfs ℕ
 one_more c = record c { next_call = c.next_call + 1 }
 
--- Every unanswered call gets this answer. (this project's rule)
+-- Every unanswered call gets this answer.
 pub record AllAnswered (calls : Map (CallState ℕ)) (answers : Map Answer) (a : Answer) (after : Map Answer) : Type 0 where
   pub unanswered : (number : ℕ) (state : CallState ℕ) → get calls number ≡ Some state → get after number ≡ Some a
   pub others : (number : ℕ) → get calls number ≡ None → get after number ≡ get answers number
@@ -39,10 +48,10 @@ pub record GivesUp (c : Vfs ℕ) (after : Vfs ℕ) : Type 0 where
   pub answers : AllAnswered c.calls c.answers (failed econnaborted) after.answers
   pub rest : after ≡ record c { calls = []; names = []; opens = []; answers = after.answers }
 
--- The plain world takes these steps, and in no other way any. (this project's rule)
+-- The plain world takes these steps, and in no other way any.
 pub data Steps (p : Plain) : Event → Outcome → Plain → Type 0 where
   -- a call begins; once the mount is aborted it is answered ENOTCONN
-  begins : (x : Call) (label : ℕ) (after : Vfs ℕ) (asked : Option (Operation ℕ ℕ)) (q : Plain) → p.aborted ≡ false → get p.asks label ≡ None → Begins (one_more p.vfs) p.vfs.next_call x after asked → Asks p label p.vfs.next_call after asked q
+  begins : (x y : Call) (label : ℕ) (after : Vfs ℕ) (asked : Option (Operation ℕ ℕ)) (q : Plain) → p.aborted ≡ false → get p.asks label ≡ None → PutAs p.minor x y → Begins (one_more p.vfs) p.vfs.next_call y after asked → Asks p label p.vfs.next_call after asked q
       → Steps p (event.call x) (event.begun p.vfs.next_call) q
   begins_in_vain : (x : Call) → p.aborted ≡ true → Steps p (event.call x) (event.begun p.vfs.next_call) (record p { vfs = is_answered (one_more p.vfs) p.vfs.next_call (failed enotconn) })
   -- an ask is performed on the tree as it is now, or declined if an interrupt marked it and a signal to its call was accepted
@@ -72,8 +81,8 @@ pub data Steps (p : Plain) : Event → Outcome → Plain → Type 0 where
   time_passes : (ms : ℕ) → Steps p (event.tick ms) (event.now (p.vfs.clock + ms)) (record p { vfs = record p.vfs { clock = p.vfs.clock + ms } })
   drops : (node directory : ℕ) (name : Name) → Steps p (event.drop_name node name) event.dropped (record p { vfs = out_of_force p.vfs directory name })
   aborts : (after : Vfs ℕ) → GivesUp p.vfs after → Steps p event.abort event.aborted (record p { vfs = after; aborted = true })
-  mounts : (found_ms missing_ms : ℕ) (after : Vfs ℕ) → GivesUp p.vfs after
-      → Steps p (event.mount found_ms missing_ms) event.mounted (record p { vfs = after; asks = []; validity = record { found_ms = found_ms; missing_ms = missing_ms }; aborted = false })
+  mounts : (found_ms missing_ms : ℕ) (minor : Minor) (after : Vfs ℕ) → GivesUp p.vfs after
+      → Steps p (event.mount found_ms missing_ms minor) event.mounted (record p { vfs = after; asks = []; validity = record { found_ms = found_ms; missing_ms = missing_ms }; minor = minor; aborted = false })
   -- the plain world has no queue, no copies of replies and no nodes
   reads_interrupt : (unique : ℕ) → Steps p event.read_interrupt (event.is_read unique) p
   reads_forgets : (n unique : ℕ) → Steps p (event.read_forgets n) (event.is_read unique) p

@@ -31,7 +31,7 @@ module _ {W : Type 0} where
   abbrev pub pending_at : QueueState W → ℕ → Option (ℕ × W)
   pending_at s place = option_map (λ e. (e.0, e.1.kept)) (slice_get (pending s) place)
 
-  -- The requests, where that under a number has this mark. (this project's rule)
+  -- The requests, where that under a number has this mark.
   abbrev pub set_mark : ℕ → List (ℕ × QueuedRequest W) → Mark → List (ℕ × QueuedRequest W)
   set_mark unique [] mark = []
   set_mark unique (e ∷ es) mark = if nat_eq unique e.0 then (e.0, record { mark = mark; kept = e.1.kept }) ∷ es else e ∷ set_mark unique es mark
@@ -69,7 +69,7 @@ module _ {W : Type 0} where
   abbrev pub first_forgets : QueueState W → ℕ → Option (ℕ × List (ℕ × ℕ))
   first_forgets s count = if can_read_forgets s count then Some (s.next, take count s.forgets) else None
 
-  -- The queues once so many forgets are read as one frame, which draws a number. (this project's rule)
+  -- The queues once so many forgets are read as one frame, which draws a number.
   abbrev pub after_read_forgets : QueueState W → ℕ → QueueState W
   after_read_forgets s count = if can_read_forgets s count then record s { forgets = drop count s.forgets; next = s.next + 2 } else s
 

@@ -20,7 +20,7 @@ pub record QueueState (W : Type 0) : Type 0 where
   -- whether an INTERRUPT of this mount was answered ENOSYS
   pub interrupts_off : Bool
 
--- The queues of a new mount: no request, no INTERRUPT, no forget, and the first number coming. (this project's rule)
+-- The queues of a new mount: no request, no INTERRUPT, no forget, and the first number coming.
 abbrev pub empty_queues : {W : Type 0} → QueueState W
 empty_queues = record { requests = []; interrupts = []; forgets = []; next = first_number; interrupts_off = false }
 
@@ -65,11 +65,11 @@ mark_under s unique = option_map (λ r. r.mark) (request_under s unique)
 abbrev pub is_interrupted : {W : Type 0} → QueueState W → ℕ → Bool
 is_interrupted s unique = option_map_or has_interrupt (mark_under s unique) false
 
--- Whether a number was drawn where `next` is the coming one. (this project's rule)
+-- Whether a number was drawn where `next` is the coming one.
 abbrev pub was_drawn : ℕ → ℕ → Bool
 was_drawn next unique = nat_le first_number unique && (nat_lt unique next && nat_eq (unique % 2) 0)
 
--- What is true of the queues after each call. (this project's rule)
+-- What is true of the queues after each call.
 pub record IsSound {W : Type 0} (s : QueueState W) : Type 0 where
   pub next : IsNextNumber s.next
   -- a number that was drawn has one request at most, and no other number has one

@@ -6,17 +6,17 @@ use Rattle.fuse_spec.specs.Answers.{Answer}
 use Rattle.fuse_spec.specs.Worlds.{World}
 use Rattle.fuse_spec.specs.Events.{Outcome}
 
--- What a run records: of each event its outcome or refusal, that a link was lost, and the answer of a call. (this project's rule)
+-- What a run records: of each event its outcome or refusal, that a link was lost, and the answer of a call.
 pub data Record : Type 0 where
   outcome : (outcome : Outcome) → Record
   refused : (refusal : Refusal) → Record
   link_lost : Record
   answered : (call : ℕ) (answer : Answer) → Record
 
--- The answers that wait to be collected, in rising call number. (this project's rule)
+-- The answers that wait to be collected, in rising call number.
 abbrev pub answers_of : Map Answer → List Record
 answers_of answers = map (λ a. answered a.0 a.1) answers
 
--- The world once they are collected. (this project's rule)
+-- The world once they are collected.
 abbrev pub collected : World → World
 collected w = record w { kernel = record w.kernel { vfs = record w.kernel.vfs { answers = [] } } }

@@ -7,32 +7,34 @@ use Rattle.fuse_spec.specs.Paths.{Name}
 use Rattle.fuse_spec.specs.Calls.{Call}
 use Rattle.fuse_spec.specs.Vfs.{CallState}
 use Rattle.fuse_spec.specs.declared.Counted.{Counted}
+use Rattle.fuse_spec.specs.declared.Minor.{Minor}
 use Rattle.fuse_spec.specs.declared.Binding.{Binding}
 use Rattle.fuse_spec.specs.declared.Opened.{Opened}
 use Rattle.fuse_spec.specs.declared.Purpose.{Purpose}
 use Rattle.fuse_spec.specs.declared.ReplyResult.{ReplyResult}
 use Rattle.fuse_spec.specs.declared.Refusal.{Refusal}
 use Rattle.fuse_spec.specs.declared.Refusal.TheVariants.{BadTime, Busy, NotReady, Full, NoSuch, NoCopy, InterruptFirst, Exhausted}
-use Rattle.fuse_spec.specs.QueueCalls.{pending_at, first_forgets}
+use Rattle.fuse_spec.specs.QueueCalls.{pending_at}
 use Rattle.fuse_spec.specs.Uniques.{interrupt_number}
 use Rattle.fuse_spec.specs.Messages.{Forget, Request, RequestBody}
-use Rattle.fuse_spec.specs.Kernel.{Kernel, is_live, body_of, call_signalled, is_pinned, is_bound}
+use Rattle.fuse_spec.specs.Kernel.{Kernel, forgets_read, is_live, body_of, call_signalled, is_pinned, is_bound}
 use Rattle.fuse_spec.specs.Replies.{reply_written}
 use Rattle.fuse_spec.specs.Server.{HeldRequest, Kept}
 use Rattle.fuse_spec.specs.Taking.{taking}
-use Rattle.fuse_spec.specs.Performs.{served}
-use Rattle.fuse_spec.specs.Copies.{is_current}
+use Rattle.fuse_spec.specs.Performs.{served, files_given}
+use Rattle.fuse_spec.specs.Copies.{is_current, files_named}
+use Rattle.fuse_spec.specs.Nodes.{counts_out}
 use Rattle.fuse_spec.specs.Worlds.{World, Sent, after_mount, after_call, after_read_interrupt, after_read_forgets, after_read_pending, after_take, after_perform, after_again, after_write, after_settle, after_tick, after_drop, after_evict, after_abort}
 use Rattle.fuse_spec.specs.Steps.{is_past, is_ready}
 use Rattle.fuse_spec.specs.Events.{Event, Outcome}
 use Rattle.fuse_spec.specs.Events as event
 
--- A live mount with an unanswered call or an open file. (this project's rule)
+-- A live mount with an unanswered call or an open file.
 pub record IsInUse (k : Kernel) : Type 0 where
   pub live : is_live k.phase ≡ true
   pub used : length k.vfs.calls + length k.vfs.opens ≢ 0
 
--- No mount is live, or nothing of it is in use. (this project's rule)
+-- No mount is live, or nothing of it is in use.
 abbrev pub IsFree : Kernel → Type 0
 IsFree k = (is_live k.phase ≡ false) ⊎ (length k.vfs.calls + length k.vfs.opens ≡ 0)
 
@@ -41,20 +43,21 @@ pub record MayRead (w : World) : Type 0 where
   pub live : is_live w.kernel.phase ≡ true
   pub none_first : w.kernel.queues.interrupts ≡ []
 
--- Where an event is not refused, its outcome and where it leads, counters aside. The server chooses the ids that it gives. (this project's rule)
+-- Where an event is not refused, its outcome and where it leads, counters aside. The server chooses the ids that it gives.
 pub data Leads (choice : ℕ → ℕ) (w : World) : Event → Outcome → World → Type 0 where
-  mounts : (found_ms missing_ms : ℕ) → max found_ms missing_ms ≤ max_validity → IsFree w.kernel → Leads choice w (event.mount found_ms missing_ms) event.mounted (after_mount w found_ms missing_ms)
+  mounts : (found_ms missing_ms : ℕ) (minor : Minor) → max found_ms missing_ms ≤ max_validity → IsFree w.kernel → Leads choice w (event.mount found_ms missing_ms minor) event.mounted (after_mount w found_ms missing_ms minor)
   calls : (call : Call) → is_ready w.kernel.phase ≡ true → length w.kernel.vfs.calls < max_calls → Leads choice w (event.call call) (event.begun w.kernel.vfs.next_call) (after_call w call)
   reads_interrupt : (original : ℕ) (rest : List ℕ) → is_live w.kernel.phase ≡ true → w.kernel.queues.interrupts ≡ original ∷ rest
       → Leads choice w event.read_interrupt (event.is_read (interrupt_number original)) (after_read_interrupt w original)
-  reads_forgets : (n unique : ℕ) (forgets : List Forget) → MayRead w → first_forgets w.kernel.queues n ≡ Some (unique, forgets) → Leads choice w (event.read_forgets n) (event.is_read unique) (after_read_forgets w n forgets)
+  reads_forgets : (n unique : ℕ) (forgets : List Forget) → MayRead w → forgets_read w.kernel n ≡ Some (unique, forgets) → Leads choice w (event.read_forgets n) (event.is_read unique) (after_read_forgets w n forgets)
   reads_pending : (k unique : ℕ) (purpose : Purpose) (body : RequestBody) → MayRead w → pending_at w.kernel.queues k ≡ Some (unique, purpose) → body_of w.kernel purpose ≡ Some body
       → Leads choice w (event.read_pending k) (event.is_read unique) (after_read_pending w k unique body)
   takes : (k : ℕ) (request : Request) → slice_get w.requests k ≡ Some request
       → Leads choice w (event.take k) (event.taken request.unique (taking w.server request.unique request.body).word) (after_take w k request.unique (taking w.server request.unique request.body))
-  performs : (unique : ℕ) (held : HeldRequest) → get w.server.held unique ≡ Some held
+  performs : (unique : ℕ) (held : HeldRequest) → get w.server.held unique ≡ Some held → counts_out w.server.nodes (files_given w.server held) ≡ false
       → Leads choice w (event.perform unique) (event.performed unique (errno_of (served choice w.server unique held).wire) w.server.aborted) (after_perform w unique (served choice w.server unique held))
-  sends_again : (unique : ℕ) (kept : Kept) → get w.server.kept unique ≡ Some kept → is_current w.server kept.wire ≡ true → Leads choice w (event.again unique) (event.sent_again unique) (after_again w unique kept)
+  sends_again : (unique : ℕ) (kept : Kept) → get w.server.kept unique ≡ Some kept → is_current w.server kept.wire ≡ true → counts_out w.server.nodes (files_named w.server kept.wire) ≡ false
+      → Leads choice w (event.again unique) (event.sent_again unique) (after_again w unique kept)
   writes : (k : ℕ) (sent : Sent) → slice_get w.replies k ≡ Some sent
       → Leads choice w (event.write k) (event.written sent.unique (reply_written w.kernel sent.unique sent.wire).0) (after_write w k sent (reply_written w.kernel sent.unique sent.wire))
   settles : (k : ℕ) (result : ReplyResult) → slice_get w.results k ≡ Some result
@@ -69,7 +72,7 @@ pub data Leads (choice : ℕ → ℕ) (w : World) : Event → Outcome → World 
 
 -- The events that are refused where a counter would go past its end. (this project's rule)
 abbrev pub draws : Event → Bool
-draws (event.mount found_ms missing_ms) = false
+draws (event.mount found_ms missing_ms minor) = false
 draws (event.settle k) = false
 draws (event.tick ms) = false
 draws (event.drop_name directory name) = false
@@ -95,10 +98,10 @@ reads_other (event.read_pending k) = true
 reads_other other = false
 
 -- What the event names is not there: no such pending request, forget, INTERRUPT, request, copy or result on its link, no such request held, call unanswered,
--- name in force, or node counted. (this project's rule)
+-- name in force, or node counted.
 pub data NamesNothing (w : World) : Event → Type 0 where
   no_interrupt : w.kernel.queues.interrupts ≡ [] → NamesNothing w event.read_interrupt
-  no_forgets : (n : ℕ) → first_forgets w.kernel.queues n ≡ None → NamesNothing w (event.read_forgets n)
+  no_forgets : (n : ℕ) → forgets_read w.kernel n ≡ None → NamesNothing w (event.read_forgets n)
   no_pending : (k : ℕ) → pending_at w.kernel.queues k ≡ None → NamesNothing w (event.read_pending k)
   no_body : (k unique : ℕ) (purpose : Purpose) → pending_at w.kernel.queues k ≡ Some (unique, purpose) → body_of w.kernel purpose ≡ None → NamesNothing w (event.read_pending k)
   no_request : (k : ℕ) → slice_get w.requests k ≡ None → NamesNothing w (event.take k)
@@ -112,8 +115,8 @@ pub data NamesNothing (w : World) : Event → Type 0 where
 -- Which refusal the event has. The cases are judged in this order: each says that those before it do not apply. Want of memory, which comes last, is no
 -- matter of the state. (this project's rule)
 pub data Refuses (choice : ℕ → ℕ) (w : World) : Event → Refusal → Type 0 where
-  too_long : (found_ms missing_ms : ℕ) → max_validity < max found_ms missing_ms → Refuses choice w (event.mount found_ms missing_ms) BadTime
-  in_use : (found_ms missing_ms : ℕ) → max found_ms missing_ms ≤ max_validity → IsInUse w.kernel → Refuses choice w (event.mount found_ms missing_ms) Busy
+  too_long : (found_ms missing_ms : ℕ) (minor : Minor) → max_validity < max found_ms missing_ms → Refuses choice w (event.mount found_ms missing_ms minor) BadTime
+  in_use : (found_ms missing_ms : ℕ) (minor : Minor) → max found_ms missing_ms ≤ max_validity → IsInUse w.kernel → Refuses choice w (event.mount found_ms missing_ms minor) Busy
   clock_ends : (ms : ℕ) → clock_end ≤ w.kernel.vfs.clock + ms → Refuses choice w (event.tick ms) BadTime
   not_ready : (call : Call) → is_ready w.kernel.phase ≡ false → Refuses choice w (event.call call) NotReady
   too_many : (call : Call) → is_ready w.kernel.phase ≡ true → max_calls ≤ length w.kernel.vfs.calls → Refuses choice w (event.call call) Full
@@ -123,4 +126,7 @@ pub data Refuses (choice : ℕ → ℕ) (w : World) : Event → Refusal → Type
   none_kept : (unique : ℕ) → get w.server.kept unique ≡ None → Refuses choice w (event.again unique) NoCopy
   not_current : (unique : ℕ) (kept : Kept) → get w.server.kept unique ≡ Some kept → is_current w.server kept.wire ≡ false → Refuses choice w (event.again unique) NoCopy
   pinned_or_bound : (node : ℕ) (counted : Counted) → is_live w.kernel.phase ≡ true → get w.kernel.nodes node ≡ Some counted → is_pinned w.kernel node || is_bound w.kernel node ≡ true → Refuses choice w (event.evict node) Busy
+  told_too_often : (unique : ℕ) (held : HeldRequest) → get w.server.held unique ≡ Some held → counts_out w.server.nodes (files_given w.server held) ≡ true → Refuses choice w (event.perform unique) Exhausted
+  copied_too_often : (unique : ℕ) (kept : Kept) → get w.server.kept unique ≡ Some kept → is_current w.server kept.wire ≡ true → counts_out w.server.nodes (files_named w.server kept.wire) ≡ true
+      → Refuses choice w (event.again unique) Exhausted
   past_its_end : (e : Event) (o : Outcome) (after : World) → draws e ≡ true → Leads choice w e o after → is_past after ≡ true → Refuses choice w e Exhausted

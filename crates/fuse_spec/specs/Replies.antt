@@ -1,15 +1,18 @@
 -- How the kernel takes a reply.
-use Rattle.std.specs.Prelude.{ℕ, ◌+◌, ◌-◌, ◌%◌, Bool, true, false, ◌&&◌, cond, List, [], ◌∷◌, Option, Some, None, length, nat_eq, nat_lt, nat_le, sum_by}
+use Rattle.std.specs.Prelude.{ℕ, ◌+◌, ◌-◌, ◌%◌, Bool, true, false, not, ◌&&◌, ◌||◌, cond, List, [], ◌∷◌, ◌++◌, Option, Some, None, length, nat_eq, nat_lt, nat_le, sum_by}
+use Rattle.std.specs.Int.RustNames.{bit_and}
 use Rattle.fuse_spec.specs.Maps.{Map, get, put}
-use Rattle.fuse_spec.specs.Numbers.{eio, eagain, enosys}
-use Rattle.fuse_spec.specs.Operations.{Operation, lookup, getattr, mkdir, create, unlink, rmdir, rename, link, opening, readdir, read, write, Reply, found, missing, created, opened, attributes, listed, content, written, agreed, done, failed, reply_with, files_in_reply}
+use Rattle.fuse_spec.specs.Numbers.{eio, eagain, enosys, do_readdirplus}
+use Rattle.fuse_spec.specs.Operations.{Operation, lookup, getattr, mkdir, create, unlink, rmdir, rename, link, opening, readdir, readdirplus, read, write, DirentPlus, told_by, files_told, Reply, found, missing, created, opened, attributes, listed, listed_plus, content, written, agreed, done, failed, reply_with, files_in_reply}
 use Rattle.fuse_spec.specs.Answers as answer
-use Rattle.fuse_spec.specs.Trees.{record_length}
+use Rattle.fuse_spec.specs.Trees.{record_length, pair_length}
 use Rattle.fuse_spec.specs.Vfs.{CallState, asked, answered}
 use Rattle.fuse_spec.specs.CallReplies.{call_replied}
 use Rattle.fuse_spec.specs.declared.Opened.{Opened}
 use Rattle.fuse_spec.specs.declared.Entry.{Entry}
 use Rattle.fuse_spec.specs.declared.Counted.{Counted}
+use Rattle.fuse_spec.specs.declared.Minor.{Minor}
+use Rattle.fuse_spec.specs.declared.Minor.TheVariants.{M15, M31}
 use Rattle.fuse_spec.specs.declared.Phase.TheVariants.{Ready}
 use Rattle.fuse_spec.specs.declared.Purpose.{Purpose}
 use Rattle.fuse_spec.specs.declared.Purpose.TheVariants as purpose
@@ -17,7 +20,8 @@ use Rattle.fuse_spec.specs.declared.InterruptReply.{InterruptReply}
 use Rattle.fuse_spec.specs.declared.InterruptReply.TheVariants.{Again, NotSupported, Other}
 use Rattle.fuse_spec.specs.declared.WriteResult.{WriteResult}
 use Rattle.fuse_spec.specs.declared.WriteResult.TheVariants.{Accepted, NoEntry, Invalid}
-use Rattle.fuse_spec.specs.Messages.{WireReply}
+use Rattle.fuse_spec.specs.Messages.{Forget, WireReply}
+use Rattle.fuse_spec.specs.Queues.{QueueState}
 use Rattle.fuse_spec.specs.QueueCalls.{waiting, without, after_interrupt_reply, after_forget}
 use Rattle.fuse_spec.specs.Kernel.{Kernel, advanced, after_use, kernel_aborted}
 
@@ -38,6 +42,7 @@ goes_with (rmdir d name) done = true
 goes_with (rename d old e new) done = true
 goes_with (opening x) (opened fh) = true
 goes_with (readdir d after size) (listed records) = nat_le (sum_by record_length records) size
+goes_with (readdirplus d after size) (listed_plus pairs) = nat_le (sum_by pair_length pairs) size
 goes_with (read o offset size) (content bytes) = nat_le (length bytes) size
 goes_with (write o offset bytes) (written size) = nat_le size (length bytes)
 goes_with operation wire = false
@@ -48,23 +53,36 @@ is_empty_reply done = true
 is_empty_reply (failed errno) = true
 is_empty_reply wire = false
 
--- Whether the reply to INIT agrees on major 7 and a minor from 31 up. (this project's rule)
+-- Whether the reply to INIT agrees on major 7, and on minor 15 or one from 31 up. (this project's rule)
 abbrev pub is_agreement : WireReply → Bool
-is_agreement (agreed major minor) = nat_eq major 7 && nat_le 31 minor
+is_agreement (agreed major minor flags) = nat_eq major 7 && (nat_eq minor 15 || nat_le 31 minor)
 is_agreement wire = false
+
+-- The minor that the reply to INIT agrees on, and whether READDIRPLUS may be asked, which minor 15 doesn't know. (linux/fuse.h, struct fuse_init_out)
+abbrev pub minor_agreed : WireReply → Minor
+minor_agreed (agreed major minor flags) = cond (nat_eq minor 15) M15 M31
+minor_agreed wire = M31
+
+abbrev pub files_agreed : WireReply → Bool
+files_agreed (agreed major minor flags) = not (nat_eq (bit_and flags do_readdirplus) 0) && not (nat_eq minor 15)
+files_agreed wire = false
+
+-- The kernel is ready once INIT is agreed on.
+abbrev pub made_ready : Kernel → WireReply → Kernel
+made_ready k wire = record k { phase = Ready; minor = minor_agreed wire; lists_files = files_agreed wire }
 
 -- Whether this is a reply to INIT, well-formed or an error. (linux/fuse.h, struct fuse_init_out)
 abbrev pub is_init_reply : WireReply → Bool
-is_init_reply (agreed major minor) = true
+is_init_reply (agreed major minor flags) = true
 is_init_reply (failed errno) = true
 is_init_reply wire = false
 
--- Whether the entries of a reply can be used: they can, or one is useless, or one names a counted node under another generation. (this project's rule)
+-- Whether the entries of a reply can be used: they can, or one is useless, or one names a counted node under another generation.
 pub data Use : Type 0 where
   usable useless : Use
   stale : (node : ℕ) → Use
 
--- Whether an entry can be used, where its node is counted so: not under another generation. (this project's rule)
+-- Whether an entry can be used, where its node is counted so: not under another generation.
 abbrev pub use_counted : Entry → Option Counted → Use
 use_counted g None = usable
 use_counted g (Some counted) = cond (nat_eq counted.generation g.generation) usable (stale g.nodeid)
@@ -73,7 +91,7 @@ use_counted g (Some counted) = cond (nat_eq counted.generation g.generation) usa
 abbrev pub use_of : Map Counted → Entry → Use
 use_of nodes g = cond (nat_lt g.nodeid 2) useless (use_counted g (get nodes g.nodeid))
 
--- The next two judge the entries of a reply in order: the first that can't be used decides. (this project's rule)
+-- The next two judge the entries of a reply in order: the first that can't be used decides.
 abbrev pub first_use : Use → Use → Use
 first_use usable rest = rest
 first_use useless rest = useless
@@ -112,10 +130,72 @@ judged k call state wire usable =
 judged k call state wire useless = record k { vfs = answered k.vfs call (answer.failed eio) }
 judged k call state wire (stale node) = record k { vfs = answered k.vfs call (answer.failed eio); queues = after_forget k.queues node 1 }
 
+-- ---- names in a list, with their files
+
+-- Whether the entry of a name in a list can be used; one that tells no file need not be.
+abbrev pub use_of_told : Map Counted → Option Entry → Use
+use_of_told nodes None = usable
+use_of_told nodes (Some g) = use_of nodes g
+
+-- A name in a list as the kernel takes it: where its entry can't be used, it tells no file. (this project's rule)
+abbrev pub pair_judged : DirentPlus Entry → Use → DirentPlus Entry
+pair_judged pair usable = pair
+pair_judged pair useless = record pair { file = None }
+pair_judged pair (stale node) = record pair { file = None }
+
+-- The kernel's counts after such a name. (linux/fuse.h, struct fuse_direntplus)
+abbrev pub learnt_by : Map Counted → DirentPlus Entry → Map Counted
+learnt_by nodes pair = learnt nodes (files_told (pair_judged pair (use_of_told nodes (told_by pair)) ∷ []))
+
+-- The names of a list, each judged by the counts that those before it left. (this project's rule)
+abbrev pub pairs_judged : Map Counted → List (DirentPlus Entry) → List (DirentPlus Entry)
+pairs_judged nodes [] = []
+pairs_judged nodes (pair ∷ pairs) = pair_judged pair (use_of_told nodes (told_by pair)) ∷ pairs_judged (learnt_by nodes pair) pairs
+
+-- The next two are the nodes that names of a list tell under another generation than they are counted.
+abbrev pub stale_in : Use → List ℕ
+stale_in usable = []
+stale_in useless = []
+stale_in (stale node) = node ∷ []
+
+abbrev pub stale_among : Map Counted → List (DirentPlus Entry) → List ℕ
+stale_among nodes [] = []
+stale_among nodes (pair ∷ pairs) = stale_in (use_of_told nodes (told_by pair)) ++ stale_among (learnt_by nodes pair) pairs
+
+-- The next two forget one lookup of each of these nodes, in turn. (libfuse, low-level: forget)
+abbrev pub forgets_with : List Forget → List ℕ → List Forget
+forgets_with forgets [] = forgets
+forgets_with forgets (node ∷ nodes) = forgets_with (forgets ++ (node, 1) ∷ []) nodes
+
+abbrev pub each_forgotten : QueueState Purpose → List ℕ → QueueState Purpose
+each_forgotten q nodes = record q { forgets = forgets_with q.forgets nodes }
+
+-- The next three are a reply as the kernel takes it, whether its entries can be used, and the nodes to be forgotten once. The names of a list are judged one by
+-- one, which never fails the call. (this project's rule)
+abbrev pub reply_judged : Map Counted → WireReply → WireReply
+reply_judged nodes (listed_plus pairs) = listed_plus (pairs_judged nodes pairs)
+reply_judged nodes wire = wire
+
+abbrev pub use_of_reply : Map Counted → WireReply → Use
+use_of_reply nodes (listed_plus pairs) = usable
+use_of_reply nodes wire = use_of_all nodes (files_in_reply wire)
+
+abbrev pub stale_in_reply : Map Counted → WireReply → List ℕ
+stale_in_reply nodes (listed_plus pairs) = stale_among nodes pairs
+stale_in_reply nodes wire = []
+
+-- The kernel once those are to be forgotten. (libfuse, low-level: forget)
+abbrev pub without_stale : Kernel → WireReply → Kernel
+without_stale k wire = record k { queues = each_forgotten k.queues (stale_in_reply k.nodes wire) }
+
+-- A reply that goes with what the call asked reaches the call.
+abbrev pub heard : Kernel → ℕ → CallState Opened → WireReply → Kernel
+heard k call state wire = judged (without_stale k wire) call state (reply_judged k.nodes wire) (use_of_reply k.nodes wire)
+
 -- The reply to the call's request: its body goes with the request and is accepted, or is a wrong body, which is EINVAL to the writer and EIO to the call.
 -- (Linux VFS)
 abbrev pub replied : Kernel → ℕ → CallState Opened → Bool → WireReply → WriteResult × Kernel
-replied k call state true wire = (Accepted, after_use (judged k call state wire (use_of_all k.nodes (files_in_reply wire))) state)
+replied k call state true wire = (Accepted, after_use (heard k call state wire) state)
 replied k call state false wire = (Invalid, after_use (record k { vfs = answered k.vfs call (answer.failed eio) }) state)
 
 -- The reply to a call's request reaches the call, if that is still unanswered. (Linux VFS)
@@ -130,7 +210,7 @@ write_result_of false = Invalid
 
 -- A reply to a request, which ends with it: INIT makes the kernel ready, or aborts the mount; a RELEASE just ends. (this project's rule)
 abbrev pub ended_by : Kernel → Purpose → WireReply → WriteResult × Kernel
-ended_by k purpose.Init wire = (write_result_of (is_init_reply wire), cond (is_agreement wire) (record k { phase = Ready }) (kernel_aborted k))
+ended_by k purpose.Init wire = (write_result_of (is_init_reply wire), cond (is_agreement wire) (made_ready k wire) (kernel_aborted k))
 ended_by k (purpose.Release o) wire = (write_result_of (is_empty_reply wire), k)
 ended_by k (purpose.Call call) wire = replied_to_call k call wire (get k.vfs.calls call)
 

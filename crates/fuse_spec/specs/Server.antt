@@ -1,10 +1,12 @@
 -- The server: its state, and how it takes requests.
-use Rattle.std.specs.Prelude.{ℕ, ◌+◌, Bool, false, ◌&&◌, ◌||◌, cond, not, List, [], ◌∷◌, Option, Some, None, nat_eq, nat_lt, filter, map, is_some, sum_by}
+use Rattle.std.specs.Prelude.{ℕ, ◌+◌, Bool, true, false, ◌&&◌, ◌||◌, cond, not, List, [], ◌∷◌, Option, Some, None, nat_eq, nat_lt, filter, map, is_some, sum_by}
 use Rattle.std.specs.List.{list_any, list_all}
 use Rattle.fuse_spec.specs.Maps.{Map, get, put, values}
-use Rattle.fuse_spec.specs.Operations.{files_in}
+use Rattle.fuse_spec.specs.Operations.{readdirplus, files_in}
 use Rattle.fuse_spec.specs.Trees.{Tree, is_nameless}
 use Rattle.fuse_spec.specs.declared.Validity.{Validity}
+use Rattle.fuse_spec.specs.declared.Minor.{Minor}
+use Rattle.fuse_spec.specs.declared.Minor.TheVariants.{M15, M31}
 use Rattle.fuse_spec.specs.Messages.{Forget, RequestBody, init, asks, release, forget, batch_forget, interrupt, Request, WireReply}
 use Rattle.fuse_spec.specs.Kernel.{opened_nodes}
 use Rattle.fuse_spec.specs.Nodes.{NodeTable, HeldNode, row_of, taken_back, HandleTable, OpenNumber}
@@ -21,14 +23,14 @@ pub record Kept : Type 0 where
   pub wire : WireReply
   pub first : ℕ
 
--- A copy that was sent and isn't settled, and the number of the first copy of its reply. (this project's rule)
+-- A copy that was sent and isn't settled, and the number of the first copy of its reply.
 pub record Copy : Type 0 where
   pub unique : ℕ
   pub wire : WireReply
   pub first : ℕ
 
--- The server: its tree, its nodes and open files, the requests that it holds, its kept replies and its copies, the next copy's number, the validities, and
--- whether the mount is aborted. (this project's rule)
+-- The server: its tree, its nodes and open files, the requests that it holds, its kept replies and its copies, the next copy's number, the validities, the
+-- minor that it speaks, and whether the mount is aborted.
 pub record Server : Type 0 where
   pub tree : Tree
   pub nodes : NodeTable
@@ -38,15 +40,23 @@ pub record Server : Type 0 where
   pub copies : Map Copy
   pub next_copy : ℕ
   pub validity : Validity
+  pub minor : Minor
   pub aborted : Bool
 
--- What can be wrong with a request. (this project's rule)
+-- What can be wrong with a request.
 pub data RequestFault : Type 0 where
-  unknown_node too_many_forgets repeated_unique : RequestFault
+  unknown_opcode unknown_node too_many_forgets repeated_unique : RequestFault
+
+-- Whether the minor knows what is asked: 7.15 has no READDIRPLUS and no BATCH_FORGET. (linux/fuse.h, enum fuse_opcode)
+abbrev pub knows : Minor → RequestBody → Bool
+knows M31 body = true
+knows M15 (asks (readdirplus d after size)) = false
+knows M15 (batch_forget fs) = false
+knows M15 body = true
 
 -- The nodes that a request names, those that it forgets apart. (linux/fuse.h, struct fuse_in_header)
 abbrev pub nodes_of_body : RequestBody → List ℕ
-nodes_of_body init = []
+nodes_of_body (init flags) = []
 nodes_of_body (asks operation) = files_in opened_nodes operation
 nodes_of_body (release opened) = opened.nodeid ∷ []
 nodes_of_body (forget f) = []
@@ -55,7 +65,7 @@ nodes_of_body (interrupt original) = []
 
 -- The lookups that a request gives back, by node. (linux/fuse.h, struct fuse_forget_one)
 abbrev pub forgets_of : RequestBody → List Forget
-forgets_of init = []
+forgets_of (init flags) = []
 forgets_of (asks operation) = []
 forgets_of (release opened) = []
 forgets_of (forget f) = f ∷ []
@@ -79,13 +89,16 @@ abbrev pub count_in : Option HeldNode → ℕ
 count_in None = 0
 count_in (Some row) = row.count
 
--- The fault of a request: an unknown node, more forgets than lookups, or a unique that is held or whose reply is kept. (this project's rule)
+-- The fault of a request: an opcode that the minor doesn't know, an unknown node, more forgets than lookups, or a unique that is held or whose reply is kept.
+-- (this project's rule)
 abbrev pub fault_of : Server → Request → Option RequestFault
 fault_of s request =
-    cond (list_all (is_known s.nodes) (nodes_of_body request.body) && list_all (is_forgettable s.nodes) (forgets_of request.body))
+    cond (knows s.minor request.body)
+    (cond (list_all (is_known s.nodes) (nodes_of_body request.body) && list_all (is_forgettable s.nodes) (forgets_of request.body))
     (cond (list_any (λ f. nat_lt (count_in (get s.nodes.rows f.0)) (forgotten f.0 (forgets_of request.body))) (forgets_of request.body)) (Some too_many_forgets)
     (cond (is_some (get s.held request.unique) || is_some (get s.kept request.unique)) (Some repeated_unique) None))
-    (Some unknown_node)
+    (Some unknown_node))
+    (Some unknown_opcode)
 
 -- Whether a node but the root, or an open number, holds the file. (libfuse, low-level: forget)
 abbrev pub is_file_held : Server → ℕ → Bool
@@ -114,6 +127,6 @@ holding s unique body =
 abbrev pub forgetting : Server → List Forget → Server
 forgetting s fs = without_unheld_files (record s { nodes = all_taken_back s.nodes fs })
 
--- One copy of a reply goes out, under the next copy number. (this project's rule)
+-- One copy of a reply goes out, under the next copy number.
 abbrev pub sending : Server → ℕ → WireReply → ℕ → Server
 sending s unique wire first = record s { copies = put s.copies s.next_copy (record { unique = unique; wire = wire; first = first }); next_copy = s.next_copy + 1 }

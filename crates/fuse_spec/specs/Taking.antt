@@ -8,7 +8,7 @@ use Rattle.fuse_spec.specs.Operations.{failed}
 use Rattle.fuse_spec.specs.Messages.{RequestBody, init, asks, release, forget, batch_forget, interrupt, WireReply}
 use Rattle.fuse_spec.specs.Server.{Server, HeldRequest, Kept, holding, forgetting, sending, forgets_of}
 
--- What the server does with a request: the word for it, the server after it, and what it replies at once. (this project's rule)
+-- What the server does with a request: the word for it, the server after it, and what it replies at once.
 pub record TakeResult : Type 0 where
   pub word : Taken
   pub server : Server
@@ -22,7 +22,7 @@ interrupting s unique original None None = record { word = Again; server = sendi
 
 -- A request is taken: forgets and INTERRUPTs are done at once, and any other request is held until it is performed. (this project's rule)
 abbrev pub taking : Server → ℕ → RequestBody → TakeResult
-taking s unique init = record { word = Held; server = holding s unique init; reply = None }
+taking s unique (init flags) = record { word = Held; server = holding s unique (init flags); reply = None }
 taking s unique (asks operation) = record { word = Held; server = holding s unique (asks operation); reply = None }
 taking s unique (release opened) = record { word = Held; server = holding s unique (release opened); reply = None }
 taking s unique (forget f) = record { word = Forgot; server = forgetting s (forgets_of (forget f)); reply = None }

@@ -16,7 +16,7 @@ pub data IsBelow (tree : Tree) (top : ℕ) : ℕ → Type 0 where
 abbrev pub names_of : Tree → ℕ → ℕ
 names_of tree file = count_by (λ n. nat_eq n.file file) tree.names
 
--- The name stands in a directory of the tree that is not nameless, and leads to a file of the tree that is not the root. (this project's rule)
+-- The name stands in a directory of the tree that is not nameless, and leads to a file of the tree that is not the root.
 pub record Stands (tree : Tree) (n : Named) : Type 0 where
   pub directory : is_directory tree n.directory ≡ true
   pub named : is_nameless tree n.directory ≡ false
@@ -24,7 +24,7 @@ pub record Stands (tree : Tree) (n : Named) : Type 0 where
   pub not_root : n.file ≢ 0
 
 -- The root is a directory, a directory has one name at most, each name stands, no two names stand at one place, and no file has a
--- birth from the next on. (this project's rule)
+-- birth from the next on.
 pub record IsShaped (tree : Tree) : Type 0 where
   pub root : is_directory tree 0 ≡ true
   pub one_name : (file : ℕ) → is_directory tree file ≡ true → names_of tree file ≤ 1

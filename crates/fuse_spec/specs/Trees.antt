@@ -6,9 +6,9 @@ use Rattle.fuse_spec.specs.Paths.{Name}
 use Rattle.fuse_spec.specs.declared.Kind.{Kind}
 use Rattle.fuse_spec.specs.declared.Kind.TheVariants.{Directory, Regular, Other}
 use Rattle.fuse_spec.specs.declared.Attributes.{Attributes}
-use Rattle.fuse_spec.specs.Operations.{Dirent}
+use Rattle.fuse_spec.specs.Operations.{Dirent, DirentPlus}
 
--- What a file is: a directory, or some bytes. (this project's rule)
+-- What a file is: a directory, or some bytes.
 pub data Content : Type 0 where
   a_directory : Content
   a_file : (bytes : List ℕ) → Content
@@ -45,7 +45,7 @@ kind_of None = Other
 kind_of (Some a_directory) = Directory
 kind_of (Some (a_file bytes)) = Regular
 
--- The bytes of a file; a directory has none. (this project's rule)
+-- The bytes of a file; a directory has none.
 abbrev pub bytes_of : Option Content → List ℕ
 bytes_of None = []
 bytes_of (Some a_directory) = []
@@ -68,7 +68,7 @@ links tree file = cond (nat_eq file 0) 1 (count_by (λ n. nat_eq n.file file) tr
 abbrev pub is_nameless : Tree → ℕ → Bool
 is_nameless tree file = nat_eq (links tree file) 0
 
--- The names in a directory, in rising serial. (this project's rule)
+-- The names in a directory, in rising serial.
 abbrev pub names_in : Tree → ℕ → List Named
 names_in tree dir = filter (λ n. nat_eq n.directory dir) tree.names
 
@@ -97,7 +97,7 @@ attributes_of tree file =
       nlink = links tree file;
     }
 
--- The tree with one more name, under the next serial. (this project's rule)
+-- The tree with one more name, under the next serial.
 abbrev pub with_name : Tree → ℕ → Name → ℕ → Tree
 with_name tree dir name file =
     record tree {
@@ -109,7 +109,7 @@ with_name tree dir name file =
 abbrev pub without_name : Tree → ℕ → Name → Tree
 without_name tree dir name = record tree { names = filter (λ n. not (is_at dir name n)) tree.names }
 
--- The tree with a new file under a new name. (this project's rule)
+-- The tree with a new file under a new name.
 abbrev pub with_birth : Tree → ℕ → Name → Content → Tree
 with_birth tree dir name content =
     with_name (record tree { files = put tree.files tree.next_birth content; next_birth = tree.next_birth + 1 }) dir name tree.next_birth
@@ -136,3 +136,20 @@ fitting room (r ∷ records) = cond (nat_le (record_length r) room) (r ∷ fitti
 -- The records of the names in a directory whose serial is over `after`, which is the offset from which to read on. (libfuse, low-level: readdir)
 abbrev pub records_after : Tree → ℕ → ℕ → List Dirent
 records_after tree dir after = map (record_of tree) (filter (λ n. nat_lt after n.serial) (names_in tree dir))
+
+-- How long a name of READDIRPLUS is: an entry of 128 bytes, and the record. (linux/fuse.h, struct fuse_direntplus)
+abbrev pub pair_length : {F : Type 0} → DirentPlus F → ℕ
+pair_length pair = 128 + record_length pair.dirent
+
+-- A name as READDIRPLUS lists it: with its file, to which it leads for so many milliseconds. (linux/fuse.h, struct fuse_direntplus)
+abbrev pub pair_of : (valid : ℕ) → Tree → Named → DirentPlus ℕ
+pair_of valid tree n = record { file = Some n.file; valid = valid; dirent = record_of tree n }
+
+-- As many of these as fit so many bytes, from the first on. (libfuse, low-level: readdirplus)
+abbrev pub fitting_pairs : ℕ → List (DirentPlus ℕ) → List (DirentPlus ℕ)
+fitting_pairs room [] = []
+fitting_pairs room (r ∷ pairs) = cond (nat_le (pair_length r) room) (r ∷ fitting_pairs (room - pair_length r) pairs) []
+
+-- The same of the names in a directory as READDIRPLUS lists them. (libfuse, low-level: readdirplus)
+abbrev pub pairs_after : (valid : ℕ) → Tree → ℕ → ℕ → List (DirentPlus ℕ)
+pairs_after valid tree dir after = map (pair_of valid tree) (filter (λ n. nat_lt after n.serial) (names_in tree dir))

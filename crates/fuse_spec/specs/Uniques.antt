@@ -9,11 +9,11 @@ first_number = 2
 abbrev pub number_limit : ℕ
 number_limit = 2 ^ 62
 
--- How many numbers can still be drawn where `next` is the coming one. (this project's rule)
+-- How many numbers can still be drawn where `next` is the coming one.
 abbrev pub numbers_left_from : ℕ → ℕ
 numbers_left_from next = (number_limit - next) / 2
 
--- `n` may be the coming number: even, not before the first, and at most the limit, where none is left. (this project's rule)
+-- `n` may be the coming number: even, not before the first, and at most the limit, where none is left.
 pub record IsNextNumber (n : ℕ) : Type 0 where
   pub even : n % 2 ≡ 0
   pub low : first_number ≤ n

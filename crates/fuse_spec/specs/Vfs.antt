@@ -24,7 +24,7 @@ asked (doing operation) = operation
 asked (using handle operation) = operation
 
 -- The unanswered calls, the names in force, the open files by the numbers of the calls that opened them, the answers that are not yet collected, the next
--- call's number, the time in milliseconds, and how the root is named. (this project's rule)
+-- call's number, the time in milliseconds, and how the root is named.
 pub record Vfs (O : Type 0) : Type 0 where
   pub calls : Map (CallState O)
   pub names : NameMap Binding
@@ -34,16 +34,16 @@ pub record Vfs (O : Type 0) : Type 0 where
   pub clock : ℕ
   pub root : ℕ
 
--- Where a step leaves this side, and the operation that it asks, if it does. (this project's rule)
+-- Where a step leaves this side, and the operation that it asks, if it does.
 pub record Advance (O : Type 0) : Type 0 where
   pub vfs : Vfs O
   pub operation : Option (Operation ℕ O)
 
--- A step after which the call asks nothing. (this project's rule)
+-- A step after which the call asks nothing.
 abbrev pub no_more : {O : Type 0} → Vfs O → Advance O
 no_more c = record { vfs = c; operation = None }
 
--- The call is answered: it waits no longer, and its answer is there to be collected. (this project's rule)
+-- The call is answered: it waits no longer, and its answer is there to be collected.
 abbrev pub answered : {O : Type 0} → Vfs O → ℕ → Answer → Vfs O
 answered c call answer = record c { calls = remove c.calls call; answers = put c.answers call answer }
 
@@ -89,7 +89,7 @@ after_beginning c call (sets_out words plan) = walks_on c call c.root words plan
 after_beginning c call (uses handle operation) = asking c call (using handle operation)
 after_beginning c call (closes handle opened) = no_more (answered (record c { opens = remove c.opens handle }) call done)
 
--- The next call's number is drawn. (this project's rule)
+-- The next call's number is drawn.
 abbrev pub numbered : {O : Type 0} → Vfs O → Vfs O
 numbered c = record c { next_call = c.next_call + 1 }
 
@@ -98,7 +98,7 @@ abbrev pub begun : {O : Type 0} → Bool → Vfs O → Call → Advance O
 begun aborted c call =
     cond aborted (no_more (answered (numbered c) c.next_call (failed enotconn))) (after_beginning (numbered c) c.next_call (beginning c.opens call))
 
--- The answers once each of these calls has this one. (this project's rule)
+-- The answers once each of these calls has this one.
 abbrev pub all_answered : {X : Type 0} → Answer → Map X → Map Answer → Map Answer
 all_answered answer [] answers = answers
 all_answered answer (call ∷ calls) answers = put (all_answered answer calls answers) call.0 answer
@@ -107,6 +107,6 @@ all_answered answer (call ∷ calls) answers = put (all_answered answer calls an
 abbrev pub given_up : {O : Type 0} → Vfs O → Vfs O
 given_up c = record c { calls = []; names = []; opens = []; answers = all_answered (failed econnaborted) c.calls c.answers }
 
--- The same so many milliseconds later. (this project's rule)
+-- The same so many milliseconds later.
 abbrev pub later : {O : Type 0} → Vfs O → ℕ → Vfs O
 later c ms = record c { clock = c.clock + ms }

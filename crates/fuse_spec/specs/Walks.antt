@@ -9,6 +9,7 @@ use Rattle.fuse_spec.specs.Operations as op
 pub data FinalOperation (F : Type 0) : Type 0 where
   stat : FinalOperation F
   list : (after : ℕ) → FinalOperation F
+  listplus : (after : ℕ) → FinalOperation F
   opening : FinalOperation F
   mkdir : (name : Name) → FinalOperation F
   create : (name : Name) → FinalOperation F
@@ -27,6 +28,7 @@ pub data WalkPlan (F : Type 0) : Type 0 where
 abbrev pub operation_at : {F O : Type 0} → FinalOperation F → F → Operation F O
 operation_at stat file = op.getattr file
 operation_at (list after) file = op.readdir file after max_transfer
+operation_at (listplus after) file = op.readdirplus file after max_transfer
 operation_at opening file = op.opening file
 operation_at (mkdir name) file = op.mkdir file name
 operation_at (create name) file = op.create file name
@@ -70,12 +72,13 @@ after_stop look root (link words name) (arrived file) = after_last (link_to file
 abbrev pub walk : {F O : Type 0} → (F → Name → Option (Option F)) → F → F → List Name → WalkPlan F → Walked F O
 walk look root at words plan = after_stop look root plan (go look at words)
 
--- The files that stand in what is still to be done. (this project's rule)
+-- The files that stand in what is still to be done.
 abbrev pub files_of_plan : {F : Type 0} → WalkPlan F → List F
 files_of_plan (last (rename_from directory old new)) = directory ∷ []
 files_of_plan (last (link_to file name)) = file ∷ []
 files_of_plan (last stat) = []
 files_of_plan (last (list after)) = []
+files_of_plan (last (listplus after)) = []
 files_of_plan (last opening) = []
 files_of_plan (last (mkdir name)) = []
 files_of_plan (last (create name)) = []

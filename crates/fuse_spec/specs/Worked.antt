@@ -13,7 +13,13 @@ pub mod IdUsedAgainWhileOlderReplyIsKept
 pub mod InterruptMarkBelongsToTheRequest
 pub mod LinkCountsTheSameNode
 pub mod ListAndListFromAnOffset
+pub mod ListplusCountsAndBindsEachName
+pub mod ListplusOfThirtyNamesInTwoReplies
+pub mod ListplusOneFileUnderTwoNames
+pub mod ListplusRefusedCopyGivesEveryCountBack
 pub mod LookupInAFileOpenReleaseAndGap
+pub mod Minor15ForgetsOneByOne
+pub mod Minor15ListplusSendsReaddirThenMinor31
 pub mod MountBusyWithAnOpenFile
 pub mod NameLengthsAndPathFaults
 pub mod NoCopyAfterSettle

@@ -8,26 +8,27 @@ use Rattle.fuse_spec.specs.Vfs.{later}
 use Rattle.fuse_spec.specs.Trees.{a_directory}
 use Rattle.fuse_spec.specs.declared.Phase.TheVariants.{Down}
 use Rattle.fuse_spec.specs.declared.Counted.{Counted}
+use Rattle.fuse_spec.specs.declared.Minor.{Minor}
+use Rattle.fuse_spec.specs.declared.Minor.TheVariants.{M15, M31}
 use Rattle.fuse_spec.specs.declared.WriteResult.{WriteResult}
 use Rattle.fuse_spec.specs.declared.ReplyResult.{ReplyResult}
 use Rattle.fuse_spec.specs.Queues.{empty_queues}
 use Rattle.fuse_spec.specs.QueueCalls as queues
 use Rattle.fuse_spec.specs.Uniques.{interrupt_number}
 use Rattle.fuse_spec.specs.Messages.{Forget, RequestBody, forget, batch_forget, interrupt, Request, WireReply}
-use Rattle.fuse_spec.specs.Kernel.{Kernel, call_begun, kernel_aborted, kernel_mounted, evicted}
+use Rattle.fuse_spec.specs.Kernel.{Kernel, call_put, kernel_aborted, kernel_mounted, evicted}
 use Rattle.fuse_spec.specs.Server.{Server, Kept, Copy}
 use Rattle.fuse_spec.specs.Taking.{TakeResult}
 use Rattle.fuse_spec.specs.Performs.{PerformResult}
 use Rattle.fuse_spec.specs.Copies.{sent_again, settled, connection_lost, remounted}
 
--- A copy of a reply on its way, under its number. (this project's rule)
+-- A copy of a reply on its way, under its number.
 pub record Sent : Type 0 where
   pub number : ℕ
   pub unique : ℕ
   pub wire : WireReply
 
 -- The world: one kernel, one server, and the three links with the requests, the copies of replies and their results that are on their way.
--- (this project's rule)
 pub record World : Type 0 where
   pub kernel : Kernel
   pub server : Server
@@ -38,11 +39,11 @@ pub record World : Type 0 where
 -- What each event does once nothing refuses it.
 
 -- A mount with these validities: both sides begin anew, and the links are empty. (this project's rule)
-abbrev pub after_mount : World → (found_ms missing_ms : ℕ) → World
-after_mount w found_ms missing_ms =
+abbrev pub after_mount : World → (found_ms missing_ms : ℕ) → Minor → World
+after_mount w found_ms missing_ms minor =
     record {
       kernel = kernel_mounted w.kernel;
-      server = remounted w.server (record { found_ms = found_ms; missing_ms = missing_ms });
+      server = remounted w.server (record { found_ms = found_ms; missing_ms = missing_ms }) minor;
       requests = [];
       replies = [];
       results = [];
@@ -50,7 +51,7 @@ after_mount w found_ms missing_ms =
 
 -- A system call begins. (Linux VFS)
 abbrev pub after_call : World → Call → World
-after_call w call = record w { kernel = call_begun w.kernel call }
+after_call w call = record w { kernel = call_put w.kernel call }
 
 -- A request of the kernel goes onto its link. (fuse.rst)
 abbrev pub requesting : World → ℕ → RequestBody → World
@@ -76,24 +77,24 @@ after_read_forgets w n read =
 abbrev pub after_read_pending : World → (k unique : ℕ) → RequestBody → World
 after_read_pending w k unique body = requesting (record w { kernel = record w.kernel { queues = queues.after_read_pending w.kernel.queues k } }) unique body
 
--- A copy goes onto the reply link, if there is one. (this project's rule)
+-- A copy goes onto the reply link, if there is one.
 abbrev pub replying : World → (number unique : ℕ) → Option WireReply → World
 replying w number unique None = w
 replying w number unique (Some wire) = record w { replies = w.replies ++ record { number = number; unique = unique; wire = wire } ∷ [] }
 
--- The server takes the request at this place of the request link, and a reply that it gives at once goes onto the reply link. (this project's rule)
+-- The server takes the request at this place of the request link, and a reply that it gives at once goes onto the reply link.
 abbrev pub after_take : World → ℕ → ℕ → TakeResult → World
 after_take w k unique took = replying (record w { requests = without w.requests k; server = took.server }) w.server.next_copy unique took.reply
 
--- The server performs a held request, and the first copy of its reply goes onto the reply link, unless the mount is aborted. (this project's rule)
+-- The server performs a held request, and the first copy of its reply goes onto the reply link, unless the mount is aborted.
 abbrev pub after_perform : World → ℕ → PerformResult → World
 after_perform w unique did = replying (record w { server = did.server }) w.server.next_copy unique (cond w.server.aborted None (Some did.wire))
 
--- One more copy of a kept reply goes onto the reply link. (this project's rule)
+-- One more copy of a kept reply goes onto the reply link.
 abbrev pub after_again : World → ℕ → Kept → World
 after_again w unique kept = replying (record w { server = sent_again w.server unique kept }) w.server.next_copy unique (Some kept.wire)
 
--- The kernel takes the copy at this place of the reply link, and its result goes onto the result link. (this project's rule)
+-- The kernel takes the copy at this place of the reply link, and its result goes onto the result link.
 abbrev pub after_write : World → ℕ → Sent → WriteResult × Kernel → World
 after_write w k sent taken =
     record w {
@@ -102,20 +103,20 @@ after_write w k sent taken =
       results = w.results ++ record { number = sent.number; unique = sent.unique; result = taken.0 } ∷ [];
     }
 
--- The server settles a copy, if it still knows the copy. (this project's rule)
+-- The server settles a copy, if it still knows the copy.
 abbrev pub server_settled : Server → ReplyResult → Option Copy → Server
 server_settled s result None = s
 server_settled s result (Some copy) = settled s result.number copy result.result
 
--- The server takes the result at this place of the result link. (this project's rule)
+-- The server takes the result at this place of the result link.
 abbrev pub after_settle : World → ℕ → ReplyResult → Option Copy → World
 after_settle w k result copy = record w { results = without w.results k; server = server_settled w.server result copy }
 
--- The kernel's clock goes on. (this project's rule)
+-- The kernel's clock goes on.
 abbrev pub after_tick : World → ℕ → World
 after_tick w ms = record w { kernel = record w.kernel { vfs = later w.kernel.vfs ms } }
 
--- A name in force is dropped. (this project's rule)
+-- A name in force is dropped.
 abbrev pub after_drop : World → ℕ → Name → World
 after_drop w directory name =
     record w { kernel = record w.kernel { vfs = record w.kernel.vfs { names = remove_name w.kernel.vfs.names (directory, name) } } }
@@ -128,7 +129,7 @@ after_evict w node counted = record w { kernel = evicted w.kernel node counted }
 abbrev pub after_abort : World → World
 after_abort w = record { kernel = kernel_aborted w.kernel; server = connection_lost w.server; requests = []; replies = []; results = [] }
 
--- The kernel before the first mount. (this project's rule)
+-- The kernel before the first mount.
 abbrev pub first_kernel : Kernel
 first_kernel =
     record {
@@ -137,9 +138,11 @@ first_kernel =
       queues = empty_queues;
       nodes = [];
       closing = [];
+      minor = M15;
+      lists_files = false;
     }
 
--- The server before the first mount: its tree is the root alone. (this project's rule)
+-- The server before the first mount: its tree is the root alone.
 abbrev pub first_server : Server
 first_server =
     record {
@@ -151,9 +154,10 @@ first_server =
       copies = [];
       next_copy = 1;
       validity = record { found_ms = 0; missing_ms = 0 };
+      minor = M31;
       aborted = false;
     }
 
--- Where everything begins: no mount yet, and the root alone. (this project's rule)
+-- Where everything begins: no mount yet, and the root alone.
 abbrev pub first_world : World
 first_world = record { kernel = first_kernel; server = first_server; requests = []; replies = []; results = [] }

@@ -146,6 +146,13 @@ pub struct Validity {
     pub missing_ms: u64,
 }
 
+/// The protocol of a mount: 7.15 or 7.31.
+#[derive(Clone, Copy, Debug, PartialEq, Eq)]
+pub enum Minor {
+    M15,
+    M31,
+}
+
 /// What became of a request that the server took.
 #[derive(Clone, Copy, Debug, PartialEq, Eq)]
 pub enum Taken {

@@ -32,6 +32,12 @@ ghost use Rattle.fuse_spec.specs.Worked.StormOfSixtyFourCopies.{IsComputed as St
 ghost use Rattle.fuse_spec.specs.Worked.WalkOfTwoWordsAndExpiry.{IsComputed as WalkOfTwoWordsAndExpiryIsComputed};
 ghost use Rattle.fuse_spec.specs.Worked.DequeuedReadOfAClosedFile.{IsComputed as DequeuedReadOfAClosedFileIsComputed};
 ghost use Rattle.fuse_spec.specs.Worked.RenameOverABoundName.{IsComputed as RenameOverABoundNameIsComputed};
+ghost use Rattle.fuse_spec.specs.Worked.ListplusCountsAndBindsEachName.{IsComputed as ListplusCountsAndBindsEachNameIsComputed};
+ghost use Rattle.fuse_spec.specs.Worked.ListplusRefusedCopyGivesEveryCountBack.{IsComputed as ListplusRefusedCopyGivesEveryCountBackIsComputed};
+ghost use Rattle.fuse_spec.specs.Worked.ListplusOneFileUnderTwoNames.{IsComputed as ListplusOneFileUnderTwoNamesIsComputed};
+ghost use Rattle.fuse_spec.specs.Worked.ListplusOfThirtyNamesInTwoReplies.{IsComputed as ListplusOfThirtyNamesInTwoRepliesIsComputed};
+ghost use Rattle.fuse_spec.specs.Worked.Minor15ForgetsOneByOne.{IsComputed as Minor15ForgetsOneByOneIsComputed};
+ghost use Rattle.fuse_spec.specs.Worked.Minor15ListplusSendsReaddirThenMinor31.{IsComputed as Minor15ListplusSendsReaddirThenMinor31IsComputed};
 
 /// Id used again while older reply is kept.
 pub fn id_used_again_while_older_reply_is_kept()
@@ -191,4 +197,34 @@ pub fn dequeued_read_of_a_closed_file()
 /// Rename over a bound name.
 pub fn rename_over_a_bound_name()
     ensures { RenameOverABoundNameIsComputed }
+{}
+
+/// Listplus counts and binds each name.
+pub fn listplus_counts_and_binds_each_name()
+    ensures { ListplusCountsAndBindsEachNameIsComputed }
+{}
+
+/// Listplus refused copy gives every count back.
+pub fn listplus_refused_copy_gives_every_count_back()
+    ensures { ListplusRefusedCopyGivesEveryCountBackIsComputed }
+{}
+
+/// Listplus one file under two names.
+pub fn listplus_one_file_under_two_names()
+    ensures { ListplusOneFileUnderTwoNamesIsComputed }
+{}
+
+/// Listplus of thirty names in two replies.
+pub fn listplus_of_thirty_names_in_two_replies()
+    ensures { ListplusOfThirtyNamesInTwoRepliesIsComputed }
+{}
+
+/// Minor15 forgets one by one.
+pub fn minor15_forgets_one_by_one()
+    ensures { Minor15ForgetsOneByOneIsComputed }
+{}
+
+/// Minor15 listplus sends readdir then minor31.
+pub fn minor15_listplus_sends_readdir_then_minor31()
+    ensures { Minor15ListplusSendsReaddirThenMinor31IsComputed }
 {}

@@ -36,6 +36,8 @@ module _ (w : World) (p : Plain) (root : w.kernel.vfs.root ≡ 1) (sorted : T (i
     };
     asks = λ live. absurd (cc);
     validity = same.validity;
+    minor = same.minor;
+    agreed = λ e. absurd (cc (e));
     aborted = refl;
   }
 

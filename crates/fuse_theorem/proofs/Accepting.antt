@@ -1,4 +1,5 @@
 -- The kernel accepts a reply to a call's request, for all operations: the call hears of the files what its ask came to.
+use Rattle.fuse_theorem.proofs.Judging.{heard_is}
 use Rattle.std.proofs.Common.{◌≡◌, ℕ, Bool, true, not, List, [], ◌∷◌, ◌++◌, Option, Some, None, is_some, refl, ap, sym, subst, ◌∙◌}
 use Rattle.fuse_spec.specs.declared.Counted.{Counted}
 use Rattle.fuse_spec.specs.declared.Opened.{Opened}
@@ -11,7 +12,7 @@ use Rattle.fuse_spec.specs.Vfs.{CallState, walking, doing, using, asked, Advance
 use Rattle.fuse_spec.specs.CallReplies.{call_replied}
 use Rattle.fuse_spec.specs.QueueCalls.{without}
 use Rattle.fuse_spec.specs.Kernel.{Kernel, is_live, advanced, after_use}
-use Rattle.fuse_spec.specs.Replies.{Use, learnt, kernel_reply, judged, replied, replied_to_call}
+use Rattle.fuse_spec.specs.Replies.{learnt, kernel_reply, replied, replied_to_call}
 use Rattle.fuse_spec.specs.Worlds.{World, Sent, after_write}
 use Rattle.fuse_spec.specs.Events as event
 use Rattle.fuse_spec.specs.Plain.{Plain, Ask, Stage, ask_told}
@@ -89,7 +90,7 @@ module _ (w : World) (p : Plain) (numbered : IsNumbered w) (one : OneId w.server
   replied_is =
       ap (λ (o : Option (CallState Opened)). replied_to_call (record w.kernel { queues = without w.kernel.queues sent.unique }) call sent.wire o) is.state_is
       ∙ ap (λ (b : Bool). replied (record w.kernel { queues = without w.kernel.queues sent.unique }) call state b sent.wire) is.goes
-      ∙ ap (λ (u : Use). (Accepted, after_use (judged (record w.kernel { queues = without w.kernel.queues sent.unique }) call state sent.wire u) state)) is.used
+      ∙ ap (λ (l : Kernel). (Accepted, after_use l state)) (heard_is (record w.kernel { queues = without w.kernel.queues sent.unique }) call state sent.wire is.used)
 
   pub accepts : (replied_to_call (record w.kernel { queues = without w.kernel.queues sent.unique }) call sent.wire (get w.kernel.vfs.calls call)).0 ≡ Accepted
   accepts = ap (λ (took : WriteResult × Kernel). took.0) replied_is

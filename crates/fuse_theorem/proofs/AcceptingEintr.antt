@@ -1,4 +1,7 @@
 -- The kernel accepts EINTR for a request that was marked: its call is answered EINTR, and the plain world's ask ends so.
+use Rattle.std.proofs.lemmas.List.Elements.{All-nil}
+use Rattle.fuse_spec.specs.declared.Entry.{Entry}
+use Rattle.fuse_theorem.proofs.Judging.{heard_is}
 use Rattle.std.proofs.Common.{◌≡◌, ℕ, Bool, true, ◌&&◌, is_some, List, [], ◌∷◌, ◌++◌, Option, Some, None, refl, ap, sym, subst, ◌∙◌}
 use Rattle.fuse_spec.specs.declared.Opened.{Opened}
 use Rattle.fuse_spec.specs.declared.ReplyResult.{ReplyResult}
@@ -11,12 +14,12 @@ use Rattle.fuse_spec.specs.Vfs.{CallState, walking, doing, using, asked, answere
 use Rattle.fuse_spec.specs.QueueCalls.{without}
 use Rattle.fuse_spec.specs.Messages.{WireReply}
 use Rattle.fuse_spec.specs.Kernel.{Kernel, is_live, after_use}
-use Rattle.fuse_spec.specs.Replies.{goes_with, replied_to_call, replied}
+use Rattle.fuse_spec.specs.Replies.{goes_with, replied_to_call, replied, judged, usable}
 use Rattle.fuse_spec.specs.Worlds.{World, Sent, after_write}
 use Rattle.fuse_spec.specs.Events as event
 use Rattle.fuse_spec.specs.Plain.{Plain, Ask, Stage, ask_interrupted}
 use Rattle.fuse_spec.specs.PlainSteps.{Takes, telling, telling_ask, where_so}
-use Rattle.fuse_spec.specs.Denotes.{MeansIn, MeansOpenIn, OptionAlike, StateAlike}
+use Rattle.fuse_spec.specs.Denotes.{MeansIn, MeansOpenIn, OptionAlike, StateAlike, generation_known}
 use Rattle.fuse_spec.specs.Alike.{Alike}
 use Rattle.fuse_spec.proofs.QueueSoundness.{IsSound-without}
 use Rattle.fuse_theorem.specs.Numbering.{IsNumbered}
@@ -54,9 +57,12 @@ module _ (w : World) (p : Plain) (numbered : IsNumbered w) (one : OneId w.server
 
   -- what the kernel makes of it
   took_is : (s : CallState Opened) → replied k1 call s true (failed 4) ≡ (Accepted, after_use k2 s)
-  took_is (walking d word words plan) = refl
-  took_is (doing operation) = refl
-  took_is (using handle operation) = refl
+  took_is s = ap (λ (l : Kernel). (Accepted, l)) (ap (λ (l : Kernel). after_use l s) (heard_is k1 call s (failed 4) (record { judged = refl; none_stale = refl; is_usable = refl; known = All-nil (λ (g : Entry). generation_known k1.nodes g.nodeid ≡ Some g.generation) })) ∙ by s)
+    where
+      by : (x : CallState Opened) → after_use (judged k1 call x (failed 4) usable) x ≡ after_use k2 x
+      by (walking d word words plan) = refl
+      by (doing operation) = refl
+      by (using handle operation) = refl
 
   replied_is : replied_to_call k1 call sent.wire (get w.kernel.vfs.calls call) ≡ (Accepted, after_use k2 state)
   replied_is =

@@ -3,7 +3,7 @@
 use Rattle.std.proofs.Common.{◌≡◌, ◌≢◌, ℕ, ◌+◌, Bool, true, false, List, Option, Some, None, refl, ap, ◌∙◌}
 use Rattle.fuse_spec.specs.Maps.{Map, get, remove}
 use Rattle.fuse_spec.specs.Paths.{Name}
-use Rattle.fuse_spec.specs.Operations.{Operation, getattr, mkdir, create, unlink, rmdir, rename, link, opening, readdir, read, write, Reply, found, missing, created, opened, attributes, listed, content, written, done, failed}
+use Rattle.fuse_spec.specs.Operations.{Operation, getattr, mkdir, create, unlink, rmdir, rename, link, opening, readdir, readdirplus, read, write, Reply, found, missing, created, opened, attributes, listed, listed_plus, content, written, done, failed}
 use Rattle.fuse_spec.specs.Walks.{WalkPlan, Walked, looks_up, finds_none, asks, walk}
 use Rattle.fuse_spec.specs.Calls.{Call}
 use Rattle.fuse_spec.specs.Begins.{Beginning, faulty, sets_out, uses, closes, beginning}
@@ -61,6 +61,7 @@ module _ {O : Type 0} where
   operation_replied_calls c call (rename d old e new) done = refl
   operation_replied_calls c call (opening file) (opened o) = refl
   operation_replied_calls c call (readdir d after size) (listed records) = refl
+  operation_replied_calls c call (readdirplus d after size) (listed_plus pairs) = refl
   operation_replied_calls c call (read o offset size) (content bytes) = refl
   operation_replied_calls c call (write o offset bytes) (written size) = refl
   operation_replied_calls c call operation reply = refl

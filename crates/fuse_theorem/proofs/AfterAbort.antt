@@ -4,7 +4,7 @@ use Rattle.std.specs.List.{remove as without_at}
 use Rattle.fuse_spec.specs.declared.Opened.{Opened}
 use Rattle.fuse_spec.specs.declared.Phase.{Phase}
 use Rattle.fuse_spec.specs.declared.Phase.TheVariants.{Down, Starting, Ready, Aborted}
-use Rattle.fuse_spec.specs.Calls.{Call}
+use Rattle.fuse_spec.specs.Calls.{Call, spoken}
 use Rattle.fuse_spec.specs.Maps.{Map, get, remove}
 use Rattle.fuse_spec.specs.Messages.{WireReply}
 use Rattle.fuse_spec.specs.Vfs.{CallState, begun}
@@ -67,10 +67,10 @@ module _ (choice : ℕ → ℕ) (w : World) (sound : WorldSound w) (asked : Requ
   serves unique t there dead = let idle = links.idle dead in elim idle.server [ inl empty ↦ none_in w.server.held unique t empty there | inr aborted ↦ by_serving unique t dead aborted there ]
 
   pub without_mount : (e : Event) (o : Outcome) (after : World) → Happened choice w e o after → is_live after.kernel.phase ≡ false → WithoutMount choice w after
-  without_mount e o after (by_mount f m idle) = λ dead. absurd (true≢false dead)
-  without_mount e o after (by_call call ready room within) = from_dead after (λ live. let goes = begun_goes_on w.kernel call in ap is_live goes.phase) (λ dead. by_kernel after dead refl (begun_empty w.kernel call ready dead))
+  without_mount e o after (by_mount f m v idle) = λ dead. absurd (true≢false dead)
+  without_mount e o after (by_call call ready room within) = from_dead after (λ live. let goes = begun_goes_on w.kernel (spoken w.kernel.lists_files call) in ap is_live goes.phase) (λ dead. by_kernel after dead refl (begun_empty w.kernel (spoken w.kernel.lists_files call) ready dead))
   without_mount e o after (by_read_interrupt original rest live there within) = lives after live refl
-  without_mount e o after (by_read_forgets n live free can within) = lives after live refl
+  without_mount e o after (by_read_forgets n live free can within few) = lives after live refl
   without_mount e o after (by_read_pending k unique kept body live free there says within) = lives after live refl
   without_mount e o after (by_take k r there within) =
       let took = taking w.server r.unique r.body in

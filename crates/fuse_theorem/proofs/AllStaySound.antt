@@ -46,7 +46,7 @@ module _ (w : World) (p : Plain) (all : AllSound w p) where
     one_node_a_file w p all.both all.releases,
     λ result copy there known. (settle_holds w p all.both all.releases k result copy there known, settled_held w p all.both all.releases all.opens k result copy there known),
   )
-  all_met choice (event.mount f m) may o after stepped = both_met w p all.both choice (event.mount f m) o after stepped tt
+  all_met choice (event.mount f m v) may o after stepped = both_met w p all.both choice (event.mount f m v) o after stepped tt
   all_met choice (event.call call) may o after stepped = both_met w p all.both choice (event.call call) o after stepped tt
   all_met choice event.read_interrupt may o after stepped = both_met w p all.both choice event.read_interrupt o after stepped tt
   all_met choice (event.read_forgets n) may o after stepped = both_met w p all.both choice (event.read_forgets n) o after stepped tt

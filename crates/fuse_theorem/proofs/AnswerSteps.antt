@@ -5,8 +5,8 @@ use Rattle.fuse_spec.specs.Maps.{Map, get, remove}
 use Rattle.fuse_spec.specs.Answers.{Answer}
 use Rattle.fuse_spec.specs.Begins.{Beginning, faulty, sets_out, uses, closes, beginning}
 use Rattle.fuse_spec.specs.Calls.{Call}
-use Rattle.fuse_spec.specs.CallReplies.{operation_replied, call_replied}
-use Rattle.fuse_spec.specs.Operations.{Operation, getattr, mkdir, create, unlink, rmdir, rename, link, opening, readdir, read, write, Reply, found, missing, created, opened, attributes, listed, content, written, done, failed}
+use Rattle.fuse_spec.specs.CallReplies.{all_bound, operation_replied, call_replied}
+use Rattle.fuse_spec.specs.Operations.{Operation, getattr, mkdir, create, unlink, rmdir, rename, link, opening, readdir, readdirplus, read, write, Reply, found, missing, created, opened, attributes, listed, listed_plus, content, written, done, failed}
 use Rattle.fuse_spec.specs.Vfs.{CallState, walking, doing, using, Vfs, look, answered, asking, bound, unbound, opened_by, after_walk, after_beginning, numbered, begun}
 use Rattle.fuse_spec.specs.Walks.{Walked, looks_up, finds_none, asks, walk}
 use Rattle.fuse_spec.proofs.Tables.{get_put_there, get_gone_here, get_gone_there}
@@ -65,6 +65,7 @@ operation_changes c call (rmdir d name) done = answered_changes (unbound c d nam
 operation_changes c call (rename d old e new) done = answered_changes (unbound (unbound c d old) e new) call _
 operation_changes c call (opening file) (opened o) = answered_changes (opened_by c call o) call _
 operation_changes c call (readdir d after size) (listed records) = answered_changes c call _
+operation_changes c call (readdirplus d after size) (listed_plus pairs) = answered_changes (all_bound c d pairs) call _
 operation_changes c call (read o offset size) (content bytes) = answered_changes c call _
 operation_changes c call (write o offset bytes) (written size) = answered_changes c call _
 operation_changes c call operation reply = answered_changes c call _

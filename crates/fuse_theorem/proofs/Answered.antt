@@ -1,5 +1,11 @@
 -- A reply ends a request that serves no call, INIT or a RELEASE: that is no step of the plain world. Nor is a reply that nothing awaits, or
 -- one to an INTERRUPT.
+use Rattle.fuse_spec.specs.Numbers.{init_flags}
+use Rattle.fuse_spec.specs.Replies.{made_ready, minor_agreed, files_agreed}
+use Rattle.fuse_spec.specs.Performs.{init_reply}
+use Rattle.fuse_spec.specs.Calls.{lists_files_at}
+use Rattle.fuse_spec.specs.declared.Minor.TheVariants.{M15, M31}
+use Rattle.fuse_spec.specs.declared.Minor.{Minor}
 use Rattle.std.proofs.Common.{◌≡◌, ℕ, Bool, true, false, true≢false, cond, Option, Some, None, option_map, get_or, is_some, refl, ap, sym, subst, ◌∙◌, inl, inr, All}
 use Rattle.std.specs.Prelude.{MatchOption}
 use Rattle.std.specs.Option.{option_map_or}
@@ -86,13 +92,18 @@ module _ (w : World) (p : Plain) (numbered : IsNumbered w) (same : Alike w p) (l
     ];
   }
 
--- A live mount is ready.
+-- What the reply to INIT agrees on is the minor that the server speaks.
+pub init_agrees : (m : Minor) → (minor_agreed (init_reply m init_flags) ≡ m) × (files_agreed (init_reply m init_flags) ≡ lists_files_at m)
+init_agrees M15 = (refl, refl)
+init_agrees M31 = (refl, refl)
+
+-- A live mount is ready once the server's reply to INIT is there.
 module _ (w : World) (live : is_live w.kernel.phase ≡ true) where
   abbrev pub ready : World
-  ready = record w { kernel = record w.kernel { phase = Ready } }
+  ready = record w { kernel = made_ready w.kernel (init_reply w.server.minor init_flags) }
 
   abbrev ready_kernel : Kernel
-  ready_kernel = record w.kernel { phase = Ready }
+  ready_kernel = made_ready w.kernel (init_reply w.server.minor init_flags)
 
   not_aborted_live : (phase : Phase) → is_live phase ≡ true → is_aborted phase ≡ false
   not_aborted_live Down e = absurd (cc)
@@ -123,5 +134,7 @@ module _ (w : World) (live : is_live w.kernel.phase ≡ true) where
           copies = old.copies;
         };
     validity = same.validity;
+    minor = same.minor;
+    agreed = λ _. let says = init_agrees w.server.minor in (says.0 ∙ same.minor, says.1 ∙ ap lists_files_at same.minor);
     aborted = sym (not_aborted_live w.kernel.phase live) ∙ same.aborted;
   }

@@ -8,20 +8,20 @@ use Rattle.std.proofs.lemmas.Bool.Decides.{nat_tests}
 use Rattle.fuse_spec.specs.declared.IntrEffect.{IntrEffect}
 use Rattle.fuse_spec.specs.declared.IntrEffect.TheVariants.{Dequeued, Flagged, Queued, None as NoEffect}
 use Rattle.fuse_spec.specs.declared.Opened.{Opened}
-use Rattle.fuse_spec.specs.declared.Phase.TheVariants.{Ready}
 use Rattle.fuse_spec.specs.declared.Purpose.{Purpose}
 use Rattle.fuse_spec.specs.declared.Purpose.TheVariants as purpose
 use Rattle.fuse_spec.specs.Maps.{Map, get, put}
 use Rattle.fuse_spec.specs.Numbers.{max_calls}
 use Rattle.fuse_spec.specs.Answers.{Answer}
 use Rattle.fuse_spec.specs.Answers as answer
-use Rattle.fuse_spec.specs.Calls.{Call}
+use Rattle.fuse_spec.specs.Calls.{Call, spoken}
 use Rattle.fuse_spec.specs.CallReplies.{call_replied}
 use Rattle.fuse_spec.specs.Kernel.{Kernel, kernel_aborted, is_aborted, advanced, asking_for, released, released_if_idle, after_use, closed_by, closing_of, call_begun, after_signal, signalled_at, call_signalled, request_of}
 use Rattle.fuse_spec.specs.Messages.{WireReply}
 use Rattle.fuse_spec.specs.Operations.{Operation, done, failed, files_in_reply}
 use Rattle.fuse_spec.specs.QueueCalls.{waiting, without, after_interrupt, interrupt_effect}
-use Rattle.fuse_spec.specs.Replies.{kernel_reply, learnt, Use, usable, useless, stale, use_of_all, goes_with, is_agreement, judged, replied, replied_to_call, ended_by, reply_taken, odd_taken, interrupt_replied, reply_written}
+use Rattle.fuse_spec.specs.Queues.{QueueState}
+use Rattle.fuse_spec.specs.Replies.{kernel_reply, learnt, Use, usable, useless, stale, goes_with, is_agreement, judged, replied, replied_to_call, ended_by, reply_taken, odd_taken, interrupt_replied, reply_written, heard, without_stale, reply_judged, use_of_reply, made_ready}
 use Rattle.fuse_spec.specs.Vfs.{asked, CallState, walking, doing, using, Vfs, Advance, answered, begun, all_answered, given_up}
 use Rattle.fuse_spec.specs.Taking.{taking}
 use Rattle.fuse_spec.specs.Performs.{served}
@@ -183,12 +183,12 @@ module _ (k : Kernel) (sound : AnswersSound k.vfs) where
       by None = as_they_were k.vfs sound
       by (Some unique) = effect unique (interrupt_effect k.queues unique fatal)
 
-  judged_changes : (call : ℕ) (state : CallState Opened) (wire : WireReply) (u : Use) → ChangesCall k.vfs call (judged k call state wire u).vfs
-  judged_changes call state wire usable =
+  judged_changes : (q : QueueState Purpose) (call : ℕ) (state : CallState Opened) (wire : WireReply) (u : Use) → ChangesCall k.vfs call (judged (record k { queues = q }) call state wire u).vfs
+  judged_changes q call state wire usable =
       let next = call_replied k.vfs call state (kernel_reply (asked state) wire) in
-      subst (λ (d : Vfs Opened). ChangesCall k.vfs call d) (sym (advanced_vfs (record k { nodes = learnt k.nodes (files_in_reply wire) }) call next)) (replied_changes k.vfs call state (kernel_reply (asked state) wire))
-  judged_changes call state wire useless = answered_changes k.vfs call (answer.failed 5)
-  judged_changes call state wire (stale node) = answered_changes k.vfs call (answer.failed 5)
+      subst (λ (d : Vfs Opened). ChangesCall k.vfs call d) (sym (advanced_vfs (record k { queues = q; nodes = learnt k.nodes (files_in_reply wire) }) call next)) (replied_changes k.vfs call state (kernel_reply (asked state) wire))
+  judged_changes q call state wire useless = answered_changes k.vfs call (answer.failed 5)
+  judged_changes q call state wire (stale node) = answered_changes k.vfs call (answer.failed 5)
 
   -- A reply reaches a call.
   call_hears : (call : ℕ) (wire : WireReply) (o : Option (CallState Opened)) → get k.vfs.calls call ≡ o → CallsStay false k.vfs (replied_to_call k call wire o).1.vfs
@@ -196,7 +196,7 @@ module _ (k : Kernel) (sound : AnswersSound k.vfs) where
   call_hears call wire (Some state) there = by (goes_with (asked state) wire)
     where
       by : (b : Bool) → CallsStay false k.vfs (replied k call state b wire).1.vfs
-      by true = let u = use_of_all k.nodes (files_in_reply wire) in used_after call state there (judged k call state wire u) (judged_changes call state wire u)
+      by true = used_after call state there (heard k call state wire) (judged_changes (without_stale k wire).queues call state (reply_judged k.nodes wire) (use_of_reply k.nodes wire))
       by false = used_after call state there (record k { vfs = answered k.vfs call (answer.failed 5) }) (answered_changes k.vfs call (answer.failed 5))
 
 -- A reply is written.
@@ -206,7 +206,7 @@ reply_hears k sound unique wire = by (nat_eq (unique % 2) 1)
     ended : (q : Kernel) (kept : Purpose) → AnswersSound q.vfs → CallsStay false q.vfs (ended_by q kept wire).1.vfs
     ended q purpose.Init s = agreed_or (is_agreement wire)
       where
-        agreed_or : (b : Bool) → CallsStay false q.vfs (cond b (record q { phase = Ready }) (kernel_aborted q)).vfs
+        agreed_or : (b : Bool) → CallsStay false q.vfs (cond b (made_ready q wire) (kernel_aborted q)).vfs
         agreed_or true = as_they_were q.vfs s
         agreed_or false = gives_up q.vfs s
     ended q (purpose.Release o) s = as_they_were q.vfs s
@@ -253,10 +253,10 @@ as_before c d sound calls answers coming = record {
 }
 
 by_event : (choice : ℕ → ℕ) (w : World) → AnswersSound w.kernel.vfs → (e : Event) (o : Outcome) (after : World) → Happened choice w e o after → CallsStay (begins_call e) w.kernel.vfs after.kernel.vfs
-by_event choice w s e o after (by_mount f m idle) = gives_up w.kernel.vfs s
-by_event choice w s e o after (by_call call ready room within) = call_begins w.kernel s call (grind (arith, nat_tests, room))
+by_event choice w s e o after (by_mount f m v idle) = gives_up w.kernel.vfs s
+by_event choice w s e o after (by_call call ready room within) = call_begins w.kernel s (spoken w.kernel.lists_files call) (grind (arith, nat_tests, room))
 by_event choice w s e o after (by_read_interrupt original rest live there within) = as_they_were w.kernel.vfs s
-by_event choice w s e o after (by_read_forgets n live free can within) = as_they_were w.kernel.vfs s
+by_event choice w s e o after (by_read_forgets n live free can within few) = as_they_were w.kernel.vfs s
 by_event choice w s e o after (by_read_pending k unique kept body live free there says within) = as_they_were w.kernel.vfs s
 by_event choice w s e o after (by_take k q there within) =
     let took = taking w.server q.unique q.body in sent_off (record w { requests = without_at w.requests k; server = took.server }) s w.server.next_copy q.unique took.reply

@@ -1,4 +1,6 @@
 -- While one call takes a step, all else stays alike; what the call then asks is queued by the kernel and put by the plain world.
+use Rattle.fuse_spec.specs.declared.Phase.TheVariants.{Ready}
+use Rattle.fuse_spec.specs.Calls.{lists_files_at}
 use Rattle.std.proofs.Common.{◌≡◌, ◌≢◌, ℕ, Bool, true, false, true≢false, [], ◌∷◌, ◌++◌, Option, Some, None, nat_eq, find, option_map, refl, ap, sym, subst, ◌∙◌, arith, inl, inr, All, get_or}
 use Rattle.std.specs.Prelude.{MatchOption}
 use Rattle.std.proofs.lemmas.Bool.{cases_eq}
@@ -55,7 +57,7 @@ pub asked_beside : (R : ℕ → ℕ → Type 0) (S : Opened → ℕ → Type 0) 
     → RequestBodyAsked all unique signalled marked R S body → RequestBodyAsked (put all label ask) unique signalled marked R S body
 asked_beside R S all label ask unique signalled marked (asks operation) ne old =
     record { ask = old.ask; there = get_put_there all label ask unique ne ∙ old.there; is_waiting = old.is_waiting; same = old.same }
-asked_beside R S all label ask unique signalled marked init ne old = get_put_there all label ask unique ne ∙ old
+asked_beside R S all label ask unique signalled marked (init flags) ne old = get_put_there all label ask unique ne ∙ old
 asked_beside R S all label ask unique signalled marked (release o) ne old = get_put_there all label ask unique ne ∙ old
 asked_beside R S all label ask unique signalled marked (forget f) ne old = get_put_there all label ask unique ne ∙ old
 asked_beside R S all label ask unique signalled marked (batch_forget fs) ne old = get_put_there all label ask unique ne ∙ old
@@ -80,7 +82,8 @@ module _ (w : World) (p : Plain) (call : ℕ) (numbered : IsNumbered w) (paused 
   pending_apart : All (λ (e : ℕ × QueuedRequest Purpose). e.0 ≢ w.kernel.queues.next) (pending w.kernel.queues)
   pending_apart = All-filter (λ (e : ℕ × QueuedRequest Purpose). is_unread e.1.mark) (λ (e : ℕ × QueuedRequest Purpose). e.0 ≢ w.kernel.queues.next) w.kernel.queues.requests (no_key w.kernel.queues.next w.kernel.queues.requests (lookup-next w.kernel.queues numbered.queues))
 
-  module _ (one : IsOneToOne (MeansIn w)) (tree : TreeAlike w.server p.tree) (validity : w.server.validity ≡ p.validity) where
+  module _ (one : IsOneToOne (MeansIn w)) (tree : TreeAlike w.server p.tree) (validity : w.server.validity ≡ p.validity) (minor : w.server.minor ≡ p.minor)
+      (agreed : w.kernel.phase ≡ Ready → (w.kernel.minor ≡ p.minor) × (w.kernel.lists_files ≡ lists_files_at p.minor)) where
     -- The step of a call that is answered.
     pub answered_goes : (coming : ℕ) (c : Advance Opened) (d : Advance ℕ) → AdvanceAlike Mean MeanOpen one c d → StepsAlone w.kernel.vfs.calls coming call c → c.operation ≡ None → d.operation ≡ None
         → is_aborted w.kernel.phase ≡ p.aborted → Alike (record w { kernel = record w.kernel { vfs = c.vfs } }) (record p { vfs = d.vfs })
@@ -113,6 +116,8 @@ module _ (w : World) (p : Plain) (call : ℕ) (numbered : IsNumbered w) (paused 
                 copies = old.copies;
               };
           validity = validity;
+          minor = minor;
+          agreed = agreed;
           aborted = aborted;
         }
 
@@ -208,6 +213,8 @@ module _ (w : World) (p : Plain) (call : ℕ) (numbered : IsNumbered w) (paused 
                     old.copies i s lt x (sym (get_put_there p.asks n ask sent.unique (λ e. absurd (omega (arith, low, e)))) ∙ at);
               };
           validity = validity;
+          minor = minor;
+          agreed = agreed;
           aborted = aborted;
         }
 

@@ -6,7 +6,7 @@ use Rattle.fuse_spec.specs.declared.Purpose.{Purpose}
 use Rattle.fuse_spec.specs.declared.Purpose.TheVariants as purpose
 use Rattle.fuse_spec.specs.Maps.{get}
 use Rattle.fuse_spec.specs.Messages.{RequestBody, init, asks, release, forget, batch_forget, interrupt}
-use Rattle.fuse_spec.specs.Operations.{Operation, lookup, getattr, mkdir, create, unlink, rmdir, rename, link, opening, readdir, read, write}
+use Rattle.fuse_spec.specs.Operations.{Operation, lookup, getattr, mkdir, create, unlink, rmdir, rename, link, opening, readdir, readdirplus, read, write}
 use Rattle.fuse_spec.specs.Vfs.{CallState, asked}
 use Rattle.fuse_spec.specs.Kernel.{is_live, asked_by, body_of}
 use Rattle.fuse_spec.specs.Nodes.{file_of, is_open}
@@ -47,10 +47,11 @@ module _ (w : World) (p : Plain) (same : Alike w p) (requests : RequestsAskedWhi
   of_operation (link x d name) o among is = none o among
   of_operation (opening x) o among is = none o among
   of_operation (readdir d after size) o among is = none o among
+  of_operation (readdirplus d after size) o among is = none o among
 
   module _ (unique : ℕ) (t : HeldRequest) (there : get w.server.held unique ≡ Some t) (o : Opened) where
     of_body : (body : RequestBody) → t.body ≡ body → Contains (opens_of_body body) o → IsItsNodes o
-    of_body init is among = none o among
+    of_body (init flags) is among = none o among
     of_body (asks operation) is among =
         let asked_is = subst (RequestBodyAsked p.asks unique false t.marked (Meant w.server.nodes t.generations) (MeantOpen w.server.nodes w.server.handles t.generations)) is (same.requests.held unique t there) in
         of_operation operation o among (open_for w p same t.generations operation asked_is.ask.operation asked_is.same)

@@ -56,6 +56,7 @@ module _ {F O G P : Type 0} (R : F → G → Type 0) (S : O → P → Type 0) wh
       → BeginningAlike (beginning opens c) (beginning others c)
   beginning_alike opens others same (call.stat path) = whole_alike path _ _ (λ words. (refl, tt))
   beginning_alike opens others same (call.list path after) = whole_alike path _ _ (λ words. (refl, refl))
+  beginning_alike opens others same (call.listplus path after) = whole_alike path _ _ (λ words. (refl, refl))
   beginning_alike opens others same (call.opening path) = whole_alike path _ _ (λ words. (refl, tt))
   beginning_alike opens others same (call.mkdir path) = parent_alike path _ _ (λ words name. (refl, refl))
   beginning_alike opens others same (call.create path) = parent_alike path _ _ (λ words name. (refl, refl))

@@ -29,7 +29,7 @@ use Rattle.fuse_spec.specs.Queues.{QueueState, IsSound, request_under, mark_unde
 use Rattle.fuse_spec.specs.QueueCalls.{after_enqueue, after_effect, after_reading, after_reply_effect, after_interrupt_reply, interrupt_effect, without}
 use Rattle.fuse_spec.specs.Signals.{reply_effect}
 use Rattle.fuse_spec.specs.Kernel.{Kernel, is_aborted, is_for, is_used, request_of, advanced, released, released_if_idle, after_use, closed_by, closing_of, call_begun, after_signal, signalled_at, call_signalled}
-use Rattle.fuse_spec.specs.Replies.{kernel_reply, learnt, Use, usable, useless, stale, use_of_all, goes_with, judged, replied, replied_to_call}
+use Rattle.fuse_spec.specs.Replies.{kernel_reply, learnt, Use, usable, useless, stale, goes_with, judged, replied, replied_to_call, heard, without_stale, reply_judged, use_of_reply}
 use Rattle.fuse_spec.proofs.QueueCounts.{count_by-push}
 use Rattle.fuse_spec.proofs.QueueReadings.{key_count-le-one}
 use Rattle.fuse_spec.proofs.Tables.{get_gone_here, get_gone_there}
@@ -187,14 +187,14 @@ replied_numbered k numbered call wire (Some state) there none = by (goes_with (a
         begun_one true e = grind (arith, nat_tests, e)
         begun_one false e = absurd (cc (there, numbered.calls_below call (grind (arith, nat_tests, e))))
 
-    judged_numbered : (u : Use) → CallsNumbered (judged k call state wire u)
-    judged_numbered usable =
-        let next = call_replied k.vfs call state (kernel_reply (asked state) wire) in
-        calls_advanced (record k { nodes = learnt k.nodes (files_in_reply wire) }) (record { calls_below = numbered.calls_below; one_request = numbered.one_request }) k.vfs.next_call call next none
-        (call_replied_alone k.vfs call state (kernel_reply (asked state) wire)) low (omega arith)
-    judged_numbered useless = answered_numbered k numbered call (answer.failed 5) none
-    judged_numbered (stale node) = let calls = answered_numbered k numbered call (answer.failed 5) none in record { calls_below = calls.calls_below; one_request = calls.one_request }
+    judged_numbered : (x : WireReply) (u : Use) → CallsNumbered (judged (without_stale k wire) call state x u)
+    judged_numbered x usable =
+        let next = call_replied k.vfs call state (kernel_reply (asked state) x) in
+        calls_advanced (record (without_stale k wire) { nodes = learnt k.nodes (files_in_reply x) }) (record { calls_below = numbered.calls_below; one_request = numbered.one_request }) k.vfs.next_call call next none
+        (call_replied_alone k.vfs call state (kernel_reply (asked state) x)) low (omega arith)
+    judged_numbered x useless = let calls = answered_numbered k numbered call (answer.failed 5) none in record { calls_below = calls.calls_below; one_request = calls.one_request }
+    judged_numbered x (stale node) = let calls = answered_numbered k numbered call (answer.failed 5) none in record { calls_below = calls.calls_below; one_request = calls.one_request }
 
     by : (b : Bool) → CallsNumbered (replied k call state b wire).1
-    by true = let u = use_of_all k.nodes (files_in_reply wire) in used_numbered (judged k call state wire u) (judged_numbered u) state
+    by true = used_numbered (heard k call state wire) (judged_numbered (reply_judged k.nodes wire) (use_of_reply k.nodes wire)) state
     by false = used_numbered (record k { vfs = answered k.vfs call (answer.failed 5) }) (answered_numbered k numbered call (answer.failed 5) none) state

@@ -7,7 +7,7 @@ use Rattle.fuse_spec.specs.declared.Phase.{Phase}
 use Rattle.fuse_spec.specs.declared.Phase.TheVariants.{Down, Starting, Ready, Aborted}
 use Rattle.fuse_spec.specs.Maps.{get, put}
 use Rattle.fuse_spec.specs.Operations.{Operation}
-use Rattle.fuse_spec.specs.Calls.{Call}
+use Rattle.fuse_spec.specs.Calls.{Call, spoken, lists_files_at}
 use Rattle.fuse_spec.specs.Calls as call
 use Rattle.fuse_spec.specs.Vfs.{Vfs, Advance, begun, after_beginning, numbered}
 use Rattle.fuse_spec.specs.Begins.{closing}
@@ -16,7 +16,7 @@ use Rattle.fuse_spec.specs.Kernel.{Kernel, is_live, is_aborted, asking_for, adva
 use Rattle.fuse_spec.specs.Worlds.{World, after_call}
 use Rattle.fuse_spec.specs.Steps.{is_ready}
 use Rattle.fuse_spec.specs.Events as event
-use Rattle.fuse_spec.specs.Plain.{Plain, Ask, going_on, call_begun}
+use Rattle.fuse_spec.specs.Plain.{Plain, Ask, going_on, call_put}
 use Rattle.fuse_spec.specs.PlainSteps.{Takes, where_so}
 use Rattle.fuse_spec.specs.Denotes.{MeansIn, MeansOpenIn}
 use Rattle.fuse_spec.specs.Alike.{PurposeAsked, Alike}
@@ -56,6 +56,13 @@ may_begin : (w : World) (p : Plain) → Alike w p → (label : ℕ) → get p.as
 may_begin w p same label fresh = ap (λ (n : ℕ). nat_eq w.kernel.vfs.next_call n && not (is_some (get p.asks label))) (sym same.vfs.next_call)
     ∙ ap (λ (b : Bool). b && not (is_some (get p.asks label))) (same_is w.kernel.vfs.next_call) ∙ ap (λ (o : Option Ask). not (is_some o)) fresh
 
+-- a mount on which calls are accepted, and that is not aborted, is ready
+ready_is : (phase : Phase) → is_ready phase ≡ true → is_aborted phase ≡ false → phase ≡ Ready
+ready_is Down ready live = absurd (cc)
+ready_is Starting ready live = absurd (cc)
+ready_is Ready ready live = refl
+ready_is Aborted ready live = absurd (cc)
+
 module _ (w : World) (p : Plain) (numbering : IsNumbered w) (one : IsOneToOne (MeansIn w)) (same : Alike w p) where
   pub none_new : requests_for w.kernel.vfs.next_call w.kernel.queues ≡ 0
   none_new =
@@ -76,7 +83,7 @@ module _ (w : World) (p : Plain) (numbering : IsNumbered w) (one : IsOneToOne (M
       → Alike (record w { kernel = closing_of (advanced w.kernel w.kernel.vfs.next_call (begun b w.kernel.vfs call)) (cond b None (closed_by w.kernel.vfs.opens call)) })
       (going_on p label w.kernel.vfs.next_call (begun b p.vfs call))
   call_alike call label true ready is labelled =
-      advanced_alike w p w.kernel.vfs.next_call numbering paused_new one same.tree same.validity (w.kernel.vfs.next_call + 1) (begun true w.kernel.vfs call) (begun true p.vfs call)
+      advanced_alike w p w.kernel.vfs.next_call numbering paused_new one same.tree same.validity same.minor same.agreed (w.kernel.vfs.next_call + 1) (begun true w.kernel.vfs call) (begun true p.vfs call)
       (begun_alike (MeansIn w) (MeansOpenIn w) one w.kernel.vfs p.vfs same.vfs true call) (begun_alone true w.kernel.vfs call) (λ a e. absurd (cc)) same.aborted
   call_alike call label false ready is labelled =
       subst (λ (l : ℕ). Alike (record w { kernel = closing_of (advanced k c0 next) (closed_by k.vfs.opens call) }) (going_on p l c0 (begun false p.vfs call))) (sym (labelled refl))
@@ -99,7 +106,7 @@ module _ (w : World) (p : Plain) (numbering : IsNumbered w) (one : IsOneToOne (M
 
       went : Alike (record w { kernel = advanced k c0 next }) q
       went =
-          advanced_alike w p c0 numbering paused_new one same.tree same.validity (c0 + 1) next (begun false p.vfs call)
+          advanced_alike w p c0 numbering paused_new one same.tree same.validity same.minor same.agreed (c0 + 1) next (begun false p.vfs call)
           (begun_alike (MeansIn w) (MeansOpenIn w) one k.vfs p.vfs same.vfs false call) (begun_alone false k.vfs call) (λ a e. live) same.aborted
 
       by : (o : Option (ℕ × Opened)) → closed_by k.vfs.opens call ≡ o → Alike (record w { kernel = closing_of (advanced k c0 next) o }) q
@@ -109,15 +116,22 @@ module _ (w : World) (p : Plain) (numbering : IsNumbered w) (one : IsOneToOne (M
           subst (λ (l : Kernel). Alike (record w { kernel = closing_of l (Some f) }) q) (sym quiet)
           (closed_alike (record w { kernel = record k { vfs = next.vfs } }) q numbering.queues live (subst (λ (l : Kernel). Alike (record w { kernel = l }) q) quiet went) f)
 
+  -- Both put the call alike, where it is put at all.
+  put_alike : (call : Call) (b : Bool) → is_ready w.kernel.phase ≡ true → is_aborted w.kernel.phase ≡ b → begun b p.vfs (spoken w.kernel.lists_files call) ≡ begun b p.vfs (spoken (lists_files_at p.minor) call)
+  put_alike call true ready is = refl
+  put_alike call false ready is = ap (λ (lists : Bool). begun false p.vfs (spoken lists call)) (same.agreed (ready_is w.kernel.phase ready is)).1
+
   goes_under : (call : Call) (label : ℕ) → is_ready w.kernel.phase ≡ true → get p.asks label ≡ None → (is_aborted w.kernel.phase ≡ false → label ≡ w.kernel.queues.next)
       → (q : Plain) × Takes p (event.call call) (event.begun w.kernel.vfs.next_call) q × Alike (after_call w call) q
-  goes_under call label ready fresh labelled = (
-    call_begun p label call,
-    (label, ap (λ (b : Bool). where_so b (call_begun p label call)) (may_begin w p same label fresh)),
-    subst (λ (b : Bool). Alike (after_call w call) (going_on p label p.vfs.next_call (begun b p.vfs call))) same.aborted
-        (subst (λ (n : ℕ). Alike (after_call w call) (going_on p label n (begun (is_aborted w.kernel.phase) p.vfs call))) same.vfs.next_call
-        (call_alike call label (is_aborted w.kernel.phase) ready refl labelled)),
-  )
+  goes_under call label ready fresh labelled =
+      let put = spoken (lists_files_at p.minor) call in (
+        call_put p label call,
+        (label, ap (λ (b : Bool). where_so b (call_put p label call)) (may_begin w p same label fresh)),
+        subst (λ (b : Bool). Alike (after_call w call) (going_on p label p.vfs.next_call (begun b p.vfs put))) same.aborted
+            (subst (λ (n : ℕ). Alike (after_call w call) (going_on p label n (begun (is_aborted w.kernel.phase) p.vfs put))) same.vfs.next_call
+            (subst (λ (went : Advance ℕ). Alike (after_call w call) (going_on p label w.kernel.vfs.next_call went)) (put_alike call (is_aborted w.kernel.phase) ready refl)
+            (call_alike (spoken w.kernel.lists_files call) label (is_aborted w.kernel.phase) ready refl labelled))),
+      )
 
   -- A call begins: after that the two are alike again.
   pub call_goes : (call : Call) → is_ready w.kernel.phase ≡ true → (q : Plain) × Takes p (event.call call) (event.begun w.kernel.vfs.next_call) q × Alike (after_call w call) q
@@ -156,6 +170,8 @@ module _ (w : World) (p : Plain) (one : IsOneToOne (MeansIn w)) (same : Alike w 
         };
         asks = λ live. absurd (true≢false (sym live ∙ not_live w.kernel.phase aborted));
         validity = same.validity;
+        minor = same.minor;
+        agreed = same.agreed;
         aborted = same.aborted;
       }
 
@@ -163,10 +179,10 @@ module _ (w : World) (p : Plain) (one : IsOneToOne (MeansIn w)) (same : Alike w 
   answered_goes =
       let free = absent p.asks in
       let plain_aborted : p.aborted ≡ true = sym same.aborted ∙ aborted in (
-        call_begun p free.0 call,
-        (free.0, ap (λ (b : Bool). where_so b (call_begun p free.0 call)) (may_begin w p same free.0 free.1)),
-        subst (λ (b : Bool). Alike (after_call w call) (going_on p free.0 p.vfs.next_call (begun b p.vfs call))) (sym plain_aborted)
-            (subst (λ (b : Bool). Alike (record w { kernel = closing_of (advanced w.kernel w.kernel.vfs.next_call (begun b w.kernel.vfs call)) (cond b None (closed_by w.kernel.vfs.opens call)) }) answered_plain) (sym aborted) answered_alike),
+        call_put p free.0 call,
+        (free.0, ap (λ (b : Bool). where_so b (call_put p free.0 call)) (may_begin w p same free.0 free.1)),
+        subst (λ (b : Bool). Alike (after_call w call) (going_on p free.0 p.vfs.next_call (begun b p.vfs (spoken (lists_files_at p.minor) call)))) (sym plain_aborted)
+            (subst (λ (b : Bool). Alike (record w { kernel = closing_of (advanced w.kernel w.kernel.vfs.next_call (begun b w.kernel.vfs (spoken w.kernel.lists_files call))) (cond b None (closed_by w.kernel.vfs.opens (spoken w.kernel.lists_files call))) }) answered_plain) (sym aborted) answered_alike),
       )
 
 -- A call begins, live or after an abort: after that the two are alike again.

@@ -1,4 +1,5 @@
 -- The tables of nodes change, and what was meant by them is meant still: all stays alike.
+use Rattle.fuse_theorem.proofs.Pairs.{pairs_more}
 use Rattle.std.proofs.Common.{◌≡◌, ℕ, Bool, true, false, List, [], Option, Some, None, get_or, refl, subst, All}
 use Rattle.std.specs.Prelude.{Contains}
 use Rattle.fuse_spec.specs.declared.Binding.{Binding}
@@ -6,7 +7,7 @@ use Rattle.fuse_spec.specs.declared.Counted.{Counted}
 use Rattle.fuse_spec.specs.declared.Entry.{Entry}
 use Rattle.fuse_spec.specs.declared.Opened.{Opened}
 use Rattle.fuse_spec.specs.Maps.{Map, get, get_name}
-use Rattle.fuse_spec.specs.Operations.{Operation, Reply, found, missing, created, opened, attributes, listed, content, written, agreed, done, failed, files_in_reply, opens_in_reply}
+use Rattle.fuse_spec.specs.Operations.{Operation, Reply, found, missing, created, opened, attributes, listed, listed_plus, content, written, agreed, done, failed, files_in_reply, opens_in_reply}
 use Rattle.fuse_spec.specs.Walks.{FinalOperation, WalkPlan, last}
 use Rattle.fuse_spec.specs.Walks as final
 use Rattle.fuse_spec.specs.Trees.{Tree}
@@ -37,6 +38,7 @@ module _ (R R' : ℕ → ℕ → Type 0) (more : (id file : ℕ) → R id file �
   pub final_more : (a b : FinalOperation ℕ) → FinalAlike R a b → FinalAlike R' a b
   final_more final.stat final.stat h = h
   final_more (final.list after) (final.list after') h = h
+  final_more (final.listplus after) (final.listplus after') h = h
   final_more final.opening final.opening h = h
   final_more (final.mkdir name) (final.mkdir other) h = h
   final_more (final.create name) (final.create other) h = h
@@ -108,9 +110,10 @@ reply_more R R' S S' (created g v fh) (created file v' o) f k h = (f g file (fir
 reply_more R R' S S' (opened fh) (opened o) f k h = k fh o (first_of fh []) h
 reply_more R R' S S' (attributes x) (attributes y) f k h = h
 reply_more R R' S S' (listed xs) (listed ys) f k h = h
+reply_more R R' S S' (listed_plus xs) (listed_plus ys) f k h = pairs_more R R' xs ys f h
 reply_more R R' S S' (content xs) (content ys) f k h = h
 reply_more R R' S S' (written n) (written m) f k h = h
-reply_more R R' S S' (agreed x y) (agreed z u) f k h = h
+reply_more R R' S S' (agreed x y c) (agreed z u d) f k h = h
 reply_more R R' S S' done done f k h = h
 reply_more R R' S S' (failed x) (failed y) f k h = h
 reply_more R R' S S' a b f k h = absurd h
@@ -131,7 +134,7 @@ body_more R R' S S' all unique signalled marked (asks operation) f k h = record 
   is_waiting = h.is_waiting;
   same = operation_more R R' S S' operation h.ask.operation f (λ o file among named s. k o file named s) h.same;
 }
-body_more R R' S S' all unique signalled marked init f k h = h
+body_more R R' S S' all unique signalled marked (init flags) f k h = h
 body_more R R' S S' all unique signalled marked (release o) f k h = h
 body_more R R' S S' all unique signalled marked (forget x) f k h = h
 body_more R R' S S' all unique signalled marked (batch_forget fs) f k h = h
@@ -187,6 +190,8 @@ carried_alike w p same nodes t h tree tree' carries trees = record {
         copies = λ i s lt ask there. carries.copies live i s lt ask there (old.copies i s lt ask there);
       };
   validity = same.validity;
+  minor = same.minor;
+  agreed = same.agreed;
   aborted = same.aborted;
 }
 

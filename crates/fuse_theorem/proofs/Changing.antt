@@ -123,5 +123,7 @@ module _ (w : World) (p : Plain) (same : Alike w p) (label : ℕ) (new : Ask) (m
               ];
         };
     validity = same.validity;
+    minor = same.minor;
+    agreed = same.agreed;
     aborted = same.aborted;
   }

@@ -1,12 +1,14 @@
 -- There are always free nodeids to choose from.
-use Rattle.std.proofs.Common.{◌≡◌, ◌≢◌, ◌⊎◌, ◌≤◌, ℕ, ◌+◌, Bool, true, false, true≢false, cond, ◌||◌, List, [], ◌∷◌, Option, Some, None, nat_eq, map, refl, sym, subst, inl, inr, arith}
+use Rattle.fuse_theorem.proofs.NodesSound.{put_found}
+use Rattle.std.proofs.lemmas.Bool.{cases_eq}
+use Rattle.std.proofs.Common.{◌≡◌, ◌≢◌, ◌⊎◌, ◌≤◌, ℕ, ◌+◌, Bool, true, false, true≢false, cond, ◌||◌, List, [], ◌∷◌, Option, Some, None, nat_eq, map, refl, sym, subst, inl, inr, arith, ap, ◌∙◌}
 use Rattle.std.specs.List.{list_any}
 use Rattle.std.specs.Prelude.{MatchOption}
 use Rattle.std.proofs.lemmas.Bool.Decides.{nat_tests}
 use Rattle.fuse_spec.specs.Maps.{Map, get}
 use Rattle.fuse_spec.specs.Messages.{RequestBody, init, asks, release, forget, batch_forget, interrupt}
-use Rattle.fuse_spec.specs.Nodes.{NodeTable, HeldNode, IsUnheld, MayName, MayChoose}
-use Rattle.fuse_spec.specs.Operations.{Reply, found, missing, created, opened, attributes, listed, content, written, agreed, done, failed, files_in_reply}
+use Rattle.fuse_spec.specs.Nodes.{NodeTable, HeldNode, IsUnheld, MayName, MayChoose, given, given_row}
+use Rattle.fuse_spec.specs.Operations.{Reply, found, missing, created, opened, attributes, listed, listed_plus, content, written, agreed, done, failed, files_in_reply, files_told}
 use Rattle.fuse_spec.specs.FileOperations.{reply_by}
 use Rattle.fuse_spec.specs.Performs.{files_by, is_open_for, file_operation_of}
 use Rattle.fuse_spec.specs.Server.{Server, HeldRequest}
@@ -15,7 +17,7 @@ use Rattle.fuse_spec.specs.declared.Refusal.{Refusal}
 use Rattle.fuse_spec.specs.Events.{Event, Outcome}
 use Rattle.fuse_spec.specs.Events as event
 use Rattle.fuse_spec.specs.Steps.{MayChooseFor, MayStep, IsRefused, Happens}
-use Rattle.fuse_spec.proofs.Tables.{tie_no}
+use Rattle.fuse_spec.proofs.Tables.{tie_no, get_put_here, get_put_there}
 
 -- ---- keys
 
@@ -70,7 +72,8 @@ has_file file (Some row) = nat_eq row.file file
 abbrev fresh : NodeTable → ℕ
 fresh t = 2 + total (keys t.rows)
 
-may_name : (t : NodeTable) (file : ℕ) → (id : ℕ) × MayName t file id
+-- .. that names it already, or that is new, and another for each file
+may_name : (t : NodeTable) (file : ℕ) → (id : ℕ) × MayName t file id × (get t.rows id ≡ None → id ≡ fresh t + file)
 may_name t file = by (search (λ id. has_file file (get t.rows id)) (keys t.rows))
   where
     named : (id : ℕ) (o : Option HeldNode) → has_file file o ≡ true → MatchOption o ((2 ≤ id) × IsUnheld t file) (λ row. row.file ≡ file)
@@ -82,15 +85,15 @@ may_name t file = by (search (λ id. has_file file (get t.rows id)) (keys t.rows
         let off : has_file file (Some row) ≡ false = subst (λ (o : Option HeldNode). has_file file o ≡ false) at (none id (has_key t.rows id row at)) in
         grind (arith, nat_tests, off, is)
 
-    free : IsUnheld t file → (o : Option HeldNode) → get t.rows (fresh t) ≡ o → MatchOption o ((2 ≤ fresh t) × IsUnheld t file) (λ row. row.file ≡ file)
+    free : IsUnheld t file → (o : Option HeldNode) → get t.rows (fresh t + file) ≡ o → MatchOption o ((2 ≤ fresh t + file) × IsUnheld t file) (λ row. row.file ≡ file)
     free none None is = (omega (arith), none)
-    free none (Some row) is = let low = no_more (fresh t) (keys t.rows) (has_key t.rows (fresh t) row is) in absurd (omega (arith, low))
+    free none (Some row) is = let low = no_more (fresh t + file) (keys t.rows) (has_key t.rows (fresh t + file) row is) in absurd (omega (arith, low))
 
-    by : ((k : ℕ) × (has_file file (get t.rows k) ≡ true)) ⊎ ((k : ℕ) → list_any (nat_eq k) (keys t.rows) ≡ true → has_file file (get t.rows k) ≡ false) → (id : ℕ) × MayName t file id
-    by (inl some) = (some.0, named some.0 (get t.rows some.0) some.1)
-    by (inr none) = (fresh t, free (unheld none) (get t.rows (fresh t)) refl)
+    by : ((k : ℕ) × (has_file file (get t.rows k) ≡ true)) ⊎ ((k : ℕ) → list_any (nat_eq k) (keys t.rows) ≡ true → has_file file (get t.rows k) ≡ false) → (id : ℕ) × MayName t file id × (get t.rows id ≡ None → id ≡ fresh t + file)
+    by (inl some) = (some.0, named some.0 (get t.rows some.0) some.1, λ none. absurd (true≢false (sym some.1 ∙ ap (has_file file) none)))
+    by (inr none) = (fresh t + file, free (unheld none) (get t.rows (fresh t + file)) refl, λ e. refl)
 
--- ---- what a request gives nodes to: one file at most
+-- ---- what a request gives nodes to
 
 abbrev CanChoose : NodeTable → List ℕ → Type 0
 CanChoose t files = (choice : ℕ → ℕ) × MayChoose choice t files
@@ -98,8 +101,51 @@ CanChoose t files = (choice : ℕ → ℕ) × MayChoose choice t files
 for_none : (t : NodeTable) → CanChoose t []
 for_none t = (λ x. 0, tt)
 
+-- One id for each file, and no id for two.
+module _ (choice : ℕ → ℕ) (apart : (x y : ℕ) → choice x ≡ choice y → x ≡ y) where
+  still_may : (t : NodeTable) (f : ℕ) → ((x : ℕ) → MayName t x (choice x)) → (x : ℕ) → MayName (given t f (choice f)) x (choice x)
+  still_may t f may x = elim (cases_eq x f) [
+    | inl same ↦ subst (λ (n : ℕ). MayName (given t f (choice f)) n (choice n)) (sym same) (rw (get_put_here t.rows (choice f) (given_row t f (get t.rows (choice f)))) (is_its (get t.rows (choice f)) (may f)))
+    | inr other ↦ rw (get_put_there t.rows (choice f) (given_row t f (get t.rows (choice f))) (choice x) (λ e. other (apart x f e))) (kept other (get t.rows (choice x)) (may x))
+  ]
+    where
+      is_its : (o : Option HeldNode) → MatchOption o ((2 ≤ choice f) × IsUnheld t f) (λ row. row.file ≡ f) → (given_row t f o).file ≡ f
+      is_its None m = refl
+      is_its (Some row) m = m
+
+      kept : x ≢ f → (o : Option HeldNode) → MatchOption o ((2 ≤ choice x) × IsUnheld t x) (λ row. row.file ≡ x) → MatchOption o ((2 ≤ choice x) × IsUnheld (given t f (choice f)) x) (λ row. row.file ≡ x)
+      kept other (Some row) m = m
+      kept other None m = (
+        m.0,
+        λ id row at is. elim (put_found t.rows (choice f) (given_row t f (get t.rows (choice f))) id row at) [
+          | inl h ↦ other (sym (sym (is_its (get t.rows (choice f)) (may f)) ∙ ap (λ (r : HeldNode). r.file) h.1 ∙ is))
+          | inr h ↦ m.1 id row h is
+        ],
+      )
+
+  all_may : (files : List ℕ) (t : NodeTable) → ((x : ℕ) → MayName t x (choice x)) → MayChoose choice t files
+  all_may [] t may = tt
+  all_may (f ∷ files) t may = (may f, all_may files (given t f (choice f)) (still_may t f may))
+
+for_all : (files : List ℕ) (t : NodeTable) → CanChoose t files
+for_all files t = (choice, all_may choice apart files t (λ x. (may_name t x).1))
+  where
+    choice : ℕ → ℕ
+    choice x = (may_name t x).0
+
+    -- what stands under two files' ids
+    apart_by : (x y i : ℕ) (o : Option HeldNode) → get t.rows i ≡ o → MatchOption o ((2 ≤ i) × IsUnheld t x) (λ row. row.file ≡ x) → MatchOption o ((2 ≤ i) × IsUnheld t y) (λ row. row.file ≡ y)
+        → (get t.rows i ≡ None → i ≡ fresh t + x) → (get t.rows i ≡ None → i ≡ fresh t + y) → x ≡ y
+    apart_by x y i None at m n f g = let a = f at in let b = g at in omega (arith, a, b)
+    apart_by x y i (Some row) at m n f g = sym m ∙ n
+
+    apart : (x y : ℕ) → choice x ≡ choice y → x ≡ y
+    apart x y e =
+        let of_y = subst (λ (i : ℕ). MayName t y i × (get t.rows i ≡ None → i ≡ fresh t + y)) (sym e) ((may_name t y).1, (may_name t y).2) in
+        apart_by x y (choice x) (get t.rows (choice x)) refl (may_name t x).1 of_y.0 (may_name t x).2 of_y.1
+
 for_one : (t : NodeTable) (file : ℕ) → CanChoose t (file ∷ [])
-for_one t file = let id = may_name t file in (λ x. id.0, (id.1, tt))
+for_one t file = for_all (file ∷ []) t
 
 for_reply : {O : Type 0} (t : NodeTable) (reply : Reply ℕ O) → CanChoose t (files_in_reply reply)
 for_reply t (found x valid) = for_one t x
@@ -108,9 +154,10 @@ for_reply t (missing valid) = for_none t
 for_reply t (opened o) = for_none t
 for_reply t (attributes a) = for_none t
 for_reply t (listed records) = for_none t
+for_reply t (listed_plus pairs) = for_all (files_told pairs) t
 for_reply t (content bytes) = for_none t
 for_reply t (written size) = for_none t
-for_reply t (agreed major minor) = for_none t
+for_reply t (agreed major minor flags) = for_none t
 for_reply t done = for_none t
 for_reply t (failed errno) = for_none t
 
@@ -122,7 +169,7 @@ for_body : (s : Server) (body : RequestBody) → CanChoose s.nodes (files_by s b
 for_body s (asks operation) =
     let reply = reply_by s.validity s.tree (file_operation_of s.nodes operation) in
     either s.nodes (is_open_for s operation) (files_in_reply reply) [] (for_reply s.nodes reply) (for_none s.nodes)
-for_body s init = for_none s.nodes
+for_body s (init flags) = for_none s.nodes
 for_body s (release o) = for_none s.nodes
 for_body s (forget f) = for_none s.nodes
 for_body s (batch_forget fs) = for_none s.nodes
@@ -135,7 +182,7 @@ for_held w (Some t) = either w.server.nodes _ [] (files_by w.server t.body) (for
 -- Whatever the event, the server has ids to choose.
 pub some_choice : (w : World) (e : Event) → (choice : ℕ → ℕ) × MayStep choice w e
 some_choice w (event.perform unique) = for_held w _
-some_choice w (event.mount f m) = (λ x. 0, tt)
+some_choice w (event.mount f m v) = (λ x. 0, tt)
 some_choice w (event.call c) = (λ x. 0, tt)
 some_choice w event.read_interrupt = (λ x. 0, tt)
 some_choice w (event.read_forgets n) = (λ x. 0, tt)

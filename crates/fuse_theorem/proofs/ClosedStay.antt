@@ -11,23 +11,22 @@ use Rattle.fuse_spec.specs.declared.Binding.{Binding}
 use Rattle.fuse_spec.specs.declared.IntrEffect.{IntrEffect}
 use Rattle.fuse_spec.specs.declared.IntrEffect.TheVariants.{Dequeued, Flagged, Queued, None as NoEffect}
 use Rattle.fuse_spec.specs.declared.Opened.{Opened}
-use Rattle.fuse_spec.specs.declared.Phase.TheVariants.{Ready}
 use Rattle.fuse_spec.specs.declared.Purpose.{Purpose}
 use Rattle.fuse_spec.specs.declared.Purpose.TheVariants as purpose
 use Rattle.fuse_spec.specs.Answers as answer
 use Rattle.fuse_spec.specs.Begins.{Beginning, faulty, sets_out, uses, closes, whole_path, parent_path, beginning}
 use Rattle.fuse_spec.specs.Begins as begins
-use Rattle.fuse_spec.specs.Calls.{Call}
+use Rattle.fuse_spec.specs.Calls.{Call, spoken}
 use Rattle.fuse_spec.specs.Calls as call
 use Rattle.fuse_spec.specs.CallReplies.{operation_replied, call_replied}
 use Rattle.fuse_spec.specs.Counts.{opens_of}
 use Rattle.fuse_spec.specs.Kernel.{Kernel, is_using, is_aborted, is_used, request_of, kernel_aborted, asking_for, advanced, released, released_if_idle, after_use, closed_by, closing_of, call_begun, after_signal, signalled_at, call_signalled}
 use Rattle.fuse_spec.specs.Maps.{Map, NameMap, get, put, remove, values}
 use Rattle.fuse_spec.specs.Messages.{WireReply}
-use Rattle.fuse_spec.specs.Operations.{Operation, Reply, getattr, mkdir, create, unlink, rmdir, rename, link, opening, readdir, read, write, found, missing, created, opened, attributes, listed, content, written, done, failed, files_in_reply}
+use Rattle.fuse_spec.specs.Operations.{Operation, Reply, getattr, mkdir, create, unlink, rmdir, rename, link, opening, readdir, readdirplus, read, write, found, missing, created, opened, attributes, listed, listed_plus, content, written, done, failed, files_in_reply}
 use Rattle.fuse_spec.specs.Paths.{Name, words_of, parent_and_last}
 use Rattle.fuse_spec.specs.QueueCalls.{after_effect, interrupt_effect, waiting, without}
-use Rattle.fuse_spec.specs.Replies.{kernel_reply, learnt, Use, usable, useless, stale, use_of_all, goes_with, is_agreement, judged, replied, replied_to_call, reply_taken, odd_taken, interrupt_replied, reply_written}
+use Rattle.fuse_spec.specs.Replies.{kernel_reply, learnt, Use, usable, useless, stale, goes_with, is_agreement, judged, replied, replied_to_call, reply_taken, odd_taken, interrupt_replied, reply_written, heard, without_stale, reply_judged, use_of_reply, made_ready}
 use Rattle.fuse_spec.specs.Taking.{taking}
 use Rattle.fuse_spec.specs.Performs.{served}
 use Rattle.fuse_spec.specs.Vfs.{CallState, walking, doing, using, asked, Vfs, Advance, answered, bound, look, after_walk, after_beginning, numbered, begun, given_up}
@@ -140,6 +139,7 @@ module _ (c : Vfs Opened) (closing : Map Opened) (old : ClosedFiles c closing) (
   operation_so (rename d from e new) done = ends_so _ _
   operation_so (opening file) (opened o) = opens_so o _ _
   operation_so (readdir d after size) (listed records) = ends_so _ _
+  operation_so (readdirplus d after size) (listed_plus pairs) = ends_so _ _
   operation_so (read o offset size) (content bytes) = ends_so _ _
   operation_so (write o offset bytes) (written size) = ends_so _ _
   operation_so operation reply = ends_so _ _
@@ -249,6 +249,7 @@ module _ (k : Kernel) (old : ClosedFiles k.vfs k.closing) where
   by_call_of : (x : Call) → Begun false x
   by_call_of (call.stat path) = others (call.stat path) refl (whole_on k.vfs.opens path _ (λ words. tt))
   by_call_of (call.list path after) = others (call.list path after) refl (whole_on k.vfs.opens path _ (λ words. tt))
+  by_call_of (call.listplus path after) = others (call.listplus path after) refl (whole_on k.vfs.opens path _ (λ words. tt))
   by_call_of (call.opening path) = others (call.opening path) refl (whole_on k.vfs.opens path _ (λ words. tt))
   by_call_of (call.mkdir path) = others (call.mkdir path) refl (parent_on k.vfs.opens path _ (λ words name. tt))
   by_call_of (call.create path) = others (call.create path) refl (parent_on k.vfs.opens path _ (λ words name. tt))
@@ -289,15 +290,15 @@ heard_closes : (k : Kernel) → ClosedFiles k.vfs k.closing → (call : ℕ) (wi
 heard_closes k old call wire None there = old
 heard_closes k old call wire (Some state) there = by (goes_with (asked state) wire)
   where
-    judged_so : (u : Use) → ClosedBut (λ h. is_using h state) (judged k call state wire u).vfs (judged k call state wire u).closing
-    judged_so usable =
-        let reply = kernel_reply (asked state) wire in
-        advanced_but (λ h. is_using h state) (record k { nodes = learnt k.nodes (files_in_reply wire) }) call (call_replied k.vfs call state reply) (replied_so k.vfs k.closing old call state there reply state)
-    judged_so useless = answered_so k.vfs k.closing old call state there (answer.failed 5)
-    judged_so (stale node) = answered_so k.vfs k.closing old call state there (answer.failed 5)
+    judged_so : (x : WireReply) (u : Use) → ClosedBut (λ h. is_using h state) (judged (without_stale k wire) call state x u).vfs (judged (without_stale k wire) call state x u).closing
+    judged_so x usable =
+        let reply = kernel_reply (asked state) x in
+        advanced_but (λ h. is_using h state) (record (without_stale k wire) { nodes = learnt k.nodes (files_in_reply x) }) call (call_replied k.vfs call state reply) (replied_so k.vfs k.closing old call state there reply state)
+    judged_so x useless = answered_so k.vfs k.closing old call state there (answer.failed 5)
+    judged_so x (stale node) = answered_so k.vfs k.closing old call state there (answer.failed 5)
 
     by : (b : Bool) → After (replied k call state b wire).1
-    by true = let u = use_of_all k.nodes (files_in_reply wire) in used_closes (judged k call state wire u) state (judged_so u)
+    by true = used_closes (heard k call state wire) state (judged_so (reply_judged k.nodes wire) (use_of_reply k.nodes wire))
     by false = used_closes (record k { vfs = answered k.vfs call (answer.failed 5) }) state (answered_so k.vfs k.closing old call state there (answer.failed 5))
 
 -- Everything is given up.
@@ -324,7 +325,7 @@ written_closes k old unique wire = by (nat_eq (unique % 2) 1)
     odd None = old
     odd (Some kept) = interrupts wire
 
-    agrees : (b : Bool) → After (cond b (record k { phase = Ready; queues = without k.queues unique }) (kernel_aborted (record k { queues = without k.queues unique })))
+    agrees : (b : Bool) → After (cond b (made_ready (record k { queues = without k.queues unique }) wire) (kernel_aborted (record k { queues = without k.queues unique })))
     agrees true = old
     agrees false = none_open k.vfs
 
@@ -362,10 +363,10 @@ module _ (choice : ℕ → ℕ) (w : World) (old : ClosedFiles w.kernel.vfs w.ke
   sent_off v number unique o same = subst After (sym (replying_kernel v number unique o ∙ same)) old
 
   closes_by_event : (e : Event) (o : Outcome) (after : World) → Happened choice w e o after → After after.kernel
-  closes_by_event e o after (by_mount f m idle) = none_open w.kernel.vfs
-  closes_by_event e o after (by_call call ready room within) = call_closes w.kernel old call
+  closes_by_event e o after (by_mount f m v idle) = none_open w.kernel.vfs
+  closes_by_event e o after (by_call call ready room within) = call_closes w.kernel old (spoken w.kernel.lists_files call)
   closes_by_event e o after (by_read_interrupt original rest live there within) = old
-  closes_by_event e o after (by_read_forgets n live free can within) = old
+  closes_by_event e o after (by_read_forgets n live free can within few) = old
   closes_by_event e o after (by_read_pending k unique kept body live free there says within) = old
   closes_by_event e o after (by_take k r there within) = let took = taking w.server r.unique r.body in sent_off (record w { requests = without_at w.requests k; server = took.server }) w.server.next_copy r.unique took.reply refl
   closes_by_event e o after (by_perform unique t there within) =

@@ -112,7 +112,12 @@ module _ (w : World) (answers : Map Answer) (sorted : T (is_sorted nat_cmp answe
       }
 
   pub collected_faultless : Faultless w → Faultless (with_answers w answers)
-  collected_faultless old = record { queued = old.queued; sent = old.sent; kept = old.kept }
+  collected_faultless old = record {
+    queued = old.queued;
+    sent = old.sent;
+    kept = old.kept;
+    spoken = λ live is. let at = old.spoken live is in record { minor = at.minor; lists_files = at.lists_files; calls = at.calls; sent = at.sent };
+  }
 
   pub collected_fits : RepliesFitWhileLive w → RepliesFitWhileLive (with_answers w answers)
   collected_fits old live = let at = old live in record { released = at.released; interrupted = at.interrupted; results = at.results }

@@ -136,7 +136,7 @@ module _ (w : World) (sound : CopiesSound w) where
       interrupts original None None = copy_sent server (record { unique = r.unique; wire = failed 11; first = w.server.next_copy }) _ refl refl refl
 
       by : (body : RequestBody) → CopiesSound (after_take w k r.unique (taking w.server r.unique body))
-      by init = copies_same _ refl refl refl
+      by (init flags) = copies_same _ refl refl refl
       by (asks operation) = copies_same _ refl refl refl
       by (release o) = copies_same _ refl refl refl
       by (forget f) = copies_same _ refl refl refl
@@ -224,10 +224,10 @@ module _ (w : World) (sound : CopiesSound w) where
 
 -- The copies of replies stay as the server knows them, whatever the event.
 pub copies_stay : (w : World) → CopiesSound w → ServerSound w.server → (choice : ℕ → ℕ) (e : Event) (o : Outcome) (after : World) → Happened choice w e o after → CopiesSound after
-copies_stay w sound server choice e o after (by_mount f m idle) = nothing_sent after refl refl
+copies_stay w sound server choice e o after (by_mount f m v idle) = nothing_sent after refl refl
 copies_stay w sound server choice e o after (by_call call ready room within) = copies_same w sound after refl refl refl
 copies_stay w sound server choice e o after (by_read_interrupt original rest live there within) = copies_same w sound after refl refl refl
-copies_stay w sound server choice e o after (by_read_forgets n live free can within) = copies_same w sound after refl refl refl
+copies_stay w sound server choice e o after (by_read_forgets n live free can within few) = copies_same w sound after refl refl refl
 copies_stay w sound server choice e o after (by_read_pending k unique kept body live free there says within) = copies_same w sound after refl refl refl
 copies_stay w sound server choice e o after (by_take k r there within) = taken_copies w sound server k r
 copies_stay w sound server choice e o after (by_perform unique t there within) = performed_copies w sound server choice unique t

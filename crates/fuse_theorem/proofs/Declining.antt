@@ -102,6 +102,8 @@ module _ (w : World) (p : Plain) (same : Alike w p) (choice : ℕ → ℕ) (uniq
               copies = old.copies;
             };
         validity = changed.validity;
+        minor = changed.minor;
+        agreed = changed.agreed;
         aborted = changed.aborted;
       }
 

@@ -30,6 +30,8 @@ module _ (w : World) (p : Plain) (one : IsOneToOne (MeansIn w)) (same : Alike w 
           copies = old.copies;
         };
     validity = same.validity;
+    minor = same.minor;
+    agreed = same.agreed;
     aborted = same.aborted;
   }
 

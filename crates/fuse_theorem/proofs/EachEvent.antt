@@ -1,4 +1,6 @@
 -- Each event that is not refused, where its conditions hold: the plain world takes its step, and the two are alike.
+use Rattle.fuse_spec.specs.declared.Minor.{Minor}
+use Rattle.fuse_spec.specs.Nodes.{counts_out}
 use Rattle.std.proofs.Common.{◌≡◌, ℕ, ◌+◌, ◌-◌, ◌%◌, Bool, true, false, not, ◌||◌, cond, List, [], ◌∷◌, Option, Some, None, Ok, nat_eq, length, slice_get, option_map, refl, ap, sym, subst, ◌∙◌}
 use Rattle.std.specs.Prelude.{nat_lt, nat_le, max}
 use Rattle.std.specs.List.{remove}
@@ -16,7 +18,7 @@ use Rattle.fuse_spec.specs.Maps.{get, get_name}
 use Rattle.fuse_spec.specs.Numbers.{max_calls, max_validity, clock_end}
 use Rattle.fuse_spec.specs.Operations.{errno_of}
 use Rattle.fuse_spec.specs.Queues.{pending}
-use Rattle.fuse_spec.specs.QueueCalls.{pending_at, first_forgets, waiting, without}
+use Rattle.fuse_spec.specs.QueueCalls.{pending_at, waiting, without}
 use Rattle.fuse_spec.specs.Messages.{Forget, Request, RequestBody, init, asks, release, forget, batch_forget, interrupt}
 use Rattle.fuse_spec.specs.Vfs.{CallState}
 use Rattle.fuse_spec.specs.Calls.{Call}
@@ -24,13 +26,14 @@ use Rattle.fuse_spec.specs.Paths.{Name}
 use Rattle.fuse_spec.specs.Kernel.{Kernel, is_live, body_of, call_signalled, is_pinned, is_bound}
 use Rattle.fuse_spec.specs.Replies.{reply_written, reply_taken, odd_taken, replied_to_call}
 use Rattle.fuse_spec.specs.Server.{HeldRequest, Kept, Copy, holding}
-use Rattle.fuse_spec.specs.Copies.{is_current}
+use Rattle.fuse_spec.specs.Copies.{is_current, files_named}
 use Rattle.fuse_spec.specs.Taking.{taking}
-use Rattle.fuse_spec.specs.Performs.{served}
+use Rattle.fuse_spec.specs.Performs.{served, files_given}
 use Rattle.fuse_spec.specs.Worlds.{World, Sent, after_mount, after_call, after_read_interrupt, after_read_forgets, after_read_pending, after_take, after_perform, after_again, after_write, after_settle, after_tick, after_drop, after_evict, after_abort}
 use Rattle.fuse_spec.specs.Events.{Event, Outcome}
 use Rattle.fuse_spec.specs.Events as event
 use Rattle.fuse_spec.specs.Uniques.{interrupt_number}
+use Rattle.fuse_spec.specs.Kernel.{forgets_read as forgets_of_kernel}
 use Rattle.fuse_spec.specs.Steps.{unless, going, is_ready, is_busy, when_not_interrupted, reading_interrupt, reading_forgets, reading_body, reading_pending, taking_request, performing_held, sending_again, writing_copy, settling, signalling, dropping, evicting, step}
 use Rattle.fuse_spec.specs.Plain.{Plain}
 use Rattle.fuse_spec.specs.PlainSteps.{Takes, takes}
@@ -69,11 +72,11 @@ stays : (p : Plain) (e : Event) (outcome : Outcome) (after : World) → (chosen 
 stays p e outcome after takes alike = (p, takes, alike)
 
 module _ (w : World) (p : Plain) (same : Alike w p) (o : Outcome) (last : World) where
-  mounts : (found_ms missing_ms : ℕ) (choice : ℕ → ℕ) → Needs choice w p (event.mount found_ms missing_ms) → step choice w (event.mount found_ms missing_ms) ≡ Ok (o, last) → Moves p (event.mount found_ms missing_ms) o last
-  mounts f m choice needs e =
-      let timely = unless_ok (nat_lt max_validity (max f m)) refusal.BadTime (unless (is_busy w.kernel) refusal.Busy (accepted event.mounted (after_mount w f m))) o last e in
-      let idle = unless_ok (is_busy w.kernel) refusal.Busy (accepted event.mounted (after_mount w f m)) o last timely.rest in
-      led p (event.mount f m) event.mounted (after_mount w f m) o last (ok_is event.mounted (after_mount w f m) o last idle.rest) (mount_goes w f m p needs.root needs.answers same)
+  mounts : (found_ms missing_ms : ℕ) (minor : Minor) (choice : ℕ → ℕ) → Needs choice w p (event.mount found_ms missing_ms minor) → step choice w (event.mount found_ms missing_ms minor) ≡ Ok (o, last) → Moves p (event.mount found_ms missing_ms minor) o last
+  mounts f m v choice needs e =
+      let timely = unless_ok (nat_lt max_validity (max f m)) refusal.BadTime (unless (is_busy w.kernel) refusal.Busy (accepted event.mounted (after_mount w f m v))) o last e in
+      let idle = unless_ok (is_busy w.kernel) refusal.Busy (accepted event.mounted (after_mount w f m v)) o last timely.rest in
+      led p (event.mount f m v) event.mounted (after_mount w f m v) o last (ok_is event.mounted (after_mount w f m v) o last idle.rest) (mount_goes w f m v p needs.root needs.answers same)
 
   calls : (call : Call) (choice : ℕ → ℕ) → Needs choice w p (event.call call) → step choice w (event.call call) ≡ Ok (o, last) → Moves p (event.call call) o last
   calls call choice needs e =
@@ -97,7 +100,7 @@ module _ (w : World) (p : Plain) (same : Alike w p) (o : Outcome) (last : World)
 
   reads_forgets : (n : ℕ) (choice : ℕ → ℕ) → Needs choice w p (event.read_forgets n) → step choice w (event.read_forgets n) ≡ Ok (o, last) → Moves p (event.read_forgets n) o last
   reads_forgets n choice sound e =
-      let read = first_forgets w.kernel.queues n in
+      let read = forgets_of_kernel w.kernel n in
       let lives = unless_ok (not (is_live w.kernel.phase)) refusal.NotReady (when_not_interrupted w (reading_forgets w n read)) o last e in
       let free = unless_ok (not (nat_eq (length w.kernel.queues.interrupts) 0)) refusal.InterruptFirst (reading_forgets w n read) o last lives.rest in
       by read (is_not (is_live w.kernel.phase) lives.passed) free.rest
@@ -113,7 +116,7 @@ module _ (w : World) (p : Plain) (same : Alike w p) (o : Outcome) (last : World)
   takes_one k choice needs e = by (slice_get w.requests k) refl e
     where
       taken : (r : Request) (body : RequestBody) → r.body ≡ body → slice_get w.requests k ≡ Some r → CanTake w p k r body → Moves p (event.take k) (event.taken r.unique (taking w.server r.unique body).word) (after_take w k r.unique (taking w.server r.unique body))
-      taken r init is at can = (p, (0, refl), subst (λ (b : RequestBody). Alike (record w { requests = remove w.requests k; server = holding w.server r.unique b }) p) is (held_alike w p same k r at))
+      taken r (init flags) is at can = (p, (0, refl), subst (λ (b : RequestBody). Alike (record w { requests = remove w.requests k; server = holding w.server r.unique b }) p) is (held_alike w p same k r at))
       taken r (asks operation) is at can = (p, (0, refl), subst (λ (b : RequestBody). Alike (record w { requests = remove w.requests k; server = holding w.server r.unique b }) p) is (held_alike w p same k r at))
       taken r (release x) is at can = (p, (0, refl), subst (λ (b : RequestBody). Alike (record w { requests = remove w.requests k; server = holding w.server r.unique b }) p) is (held_alike w p same k r at))
       taken r (forget f) is at can = (p, (0, refl), forgotten_alike w p can.0 same k (f ∷ []) can.1)
@@ -155,7 +158,7 @@ module _ (w : World) (p : Plain) (same : Alike w p) (o : Outcome) (last : World)
           perform_goes w p same choice unique t operation can live tables (one_to_one w.kernel.nodes w.server.nodes one) known (may ask.ask ask.there)
       serves t at (each.performs_unheard operation can lost one) = lost_goes w p same choice unique t operation can lost one
       serves t at (each.declines operation can) = decline_goes w p same choice unique t operation can
-      serves t at (each.initiates is unmarked still) = let goes = init_goes w p same choice unique t at is unmarked still in (p, goes.0, goes.1)
+      serves t at (each.initiates flags is unmarked still) = let goes = init_goes w p same choice unique t at flags is unmarked still in (p, goes.0, goes.1)
       serves t at (each.releases x can one holds opens) = let goes = release_goes w p same choice unique t one x can holds opens in (p, goes.0, goes.1)
 
       by : (x : Option HeldRequest) → get w.server.held unique ≡ x → performing_held choice w unique x ≡ Ok (o, last) → Moves p (event.perform unique) o last
@@ -163,7 +166,8 @@ module _ (w : World) (p : Plain) (same : Alike w p) (o : Outcome) (last : World)
       by (Some t) at f =
           let did = served choice w.server unique t in
           let outcome = event.performed unique (errno_of did.wire) w.server.aborted in
-          let went = going_ok outcome (after_perform w unique did) o last f in
+          let few = unless_ok (counts_out w.server.nodes (files_given w.server t)) refusal.Exhausted (going outcome (after_perform w unique did)) o last f in
+          let went = going_ok outcome (after_perform w unique did) o last few.rest in
           led p (event.perform unique) outcome (after_perform w unique did) o last went.leads (serves t at (needs t at))
 
   sends_again : (unique : ℕ) (choice : ℕ → ℕ) → Needs choice w p (event.again unique) → step choice w (event.again unique) ≡ Ok (o, last) → Moves p (event.again unique) o last
@@ -172,8 +176,11 @@ module _ (w : World) (p : Plain) (same : Alike w p) (o : Outcome) (last : World)
       by : (x : Option Kept) → get w.server.kept unique ≡ x → sending_again w unique x ≡ Ok (o, last) → Moves p (event.again unique) o last
       by None at f = absurd (cc)
       by (Some kept) at f =
-          let current = unless_ok (not (is_current w.server kept.wire)) refusal.NoCopy (going (event.sent_again unique) (after_again w unique kept)) o last f in
-          let went = going_ok (event.sent_again unique) (after_again w unique kept) o last current.rest in
+          let out = counts_out w.server.nodes (files_named w.server kept.wire) in
+          let gone = going (event.sent_again unique) (after_again w unique kept) in
+          let current = unless_ok (not (is_current w.server kept.wire)) refusal.NoCopy (unless out refusal.Exhausted gone) o last f in
+          let few = unless_ok out refusal.Exhausted gone o last current.rest in
+          let went = going_ok (event.sent_again unique) (after_again w unique kept) o last few.rest in
           led p (event.again unique) (event.sent_again unique) (after_again w unique kept) o last went.leads
           (stays p (event.again unique) (event.sent_again unique) (after_again w unique kept) (0, refl) (again_alike w p (one_to_one w.kernel.nodes w.server.nodes needs.0) needs.1 same unique kept at))
 
@@ -279,7 +286,7 @@ module _ (w : World) (p : Plain) (same : Alike w p) (o : Outcome) (last : World)
 
   -- Any event.
   pub each_moves : (choice : ℕ → ℕ) (e : Event) → Needs choice w p e → step choice w e ≡ Ok (o, last) → Moves p e o last
-  each_moves choice (event.mount f m) needs s = mounts f m choice needs s
+  each_moves choice (event.mount f m v) needs s = mounts f m v choice needs s
   each_moves choice (event.call call) needs s = calls call choice needs s
   each_moves choice event.read_interrupt needs s = reads_interrupt choice needs s
   each_moves choice (event.read_forgets n) needs s = reads_forgets n choice needs s

@@ -35,7 +35,7 @@ pub asked_without : (R : ℕ → ℕ → Type 0) (S : Opened → ℕ → Type 0)
     → RequestBodyAsked all unique signalled marked R S body → RequestBodyAsked (remove all label) unique signalled marked R S body
 asked_without R S all label unique signalled marked (asks operation) ne old =
     record { ask = old.ask; there = get_gone_there all label unique ne ∙ old.there; is_waiting = old.is_waiting; same = old.same }
-asked_without R S all label unique signalled marked init ne old = get_gone_there all label unique ne ∙ old
+asked_without R S all label unique signalled marked (init flags) ne old = get_gone_there all label unique ne ∙ old
 asked_without R S all label unique signalled marked (release o) ne old = get_gone_there all label unique ne ∙ old
 asked_without R S all label unique signalled marked (forget f) ne old = get_gone_there all label unique ne ∙ old
 asked_without R S all label unique signalled marked (batch_forget fs) ne old = get_gone_there all label unique ne ∙ old
@@ -48,7 +48,7 @@ not_asked R S all unique signalled marked (asks operation) ask there over old =
     let same : old.ask ≡ ask = cc (old.there, there) in
     let stage = old.is_waiting.stage in
     over (ap (λ (a : Ask). a.stage) (sym same) ∙ stage)
-not_asked R S all unique signalled marked init ask there over old = cc
+not_asked R S all unique signalled marked (init flags) ask there over old = cc
 not_asked R S all unique signalled marked (release o) ask there over old = cc
 not_asked R S all unique signalled marked (forget f) ask there over old = cc
 not_asked R S all unique signalled marked (batch_forget fs) ask there over old = cc

@@ -48,7 +48,7 @@ pub both_met : (w : World) (p : Plain) → BothSound w p → (choice : ℕ → �
 both_met w p both choice (event.take k) o after stepped alone = λ r there. takes r there r.body refl (alone r there)
   where
     takes : (r : Request) → slice_get w.requests k ≡ Some r → (body : RequestBody) → r.body ≡ body → ForgetsNothing body → CanTake w p k r body
-    takes r there init is none = tt
+    takes r there (init flags) is none = tt
     takes r there (asks operation) is none = tt
     takes r there (release x) is none = tt
     takes r there (forget f) is none = absurd none
@@ -58,7 +58,7 @@ both_met w p both choice (event.perform unique) o after stepped alone = absurd a
 both_met w p both choice (event.settle k) o after stepped alone = absurd alone
 both_met w p both choice (event.write k) o after stepped alone = write_met choice w p both.world both.asked both.links both.served both.alike k
 both_met w p both choice (event.evict node) o after stepped alone = evict_met choice w p both.world both.asked node o after stepped
-both_met w p both choice (event.mount f m) o after stepped alone = needs_met w both.world choice p (event.mount f m) tt
+both_met w p both choice (event.mount f m v) o after stepped alone = needs_met w both.world choice p (event.mount f m v) tt
 both_met w p both choice (event.call call) o after stepped alone = needs_met w both.world choice p (event.call call) tt
 both_met w p both choice event.read_interrupt o after stepped alone = needs_met w both.world choice p event.read_interrupt tt
 both_met w p both choice (event.read_forgets n) o after stepped alone = needs_met w both.world choice p (event.read_forgets n) tt

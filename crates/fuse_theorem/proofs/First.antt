@@ -44,5 +44,7 @@ first_alike = record {
   requests = record { pending = λ k d below. absurd (omega arith); sent = λ k d below. absurd (omega arith); held = λ unique t at. absurd (cc) };
   asks = λ live. absurd (true≢false (sym live));
   validity = refl;
+  minor = refl;
+  agreed = λ e. absurd (cc (e));
   aborted = refl;
 }

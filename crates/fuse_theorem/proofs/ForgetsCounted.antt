@@ -1,12 +1,13 @@
 -- Each forget that is queued or sent is of a node from 2 up and of one lookup at least, and no reply is kept under the number of an INTERRUPT.
-use Rattle.std.proofs.Common.{◌≡◌, ℕ, ◌+◌, ◌-◌, ◌≤◌, Bool, true, false, true≢false, cond, List, [], ◌∷◌, take, drop, Option, Some, None, nat_eq, slice_get, refl, ap, sym, subst, ◌∙◌, arith, inl, inr, All}
+use Rattle.fuse_theorem.proofs.SpokenStay.{spoken_after}
+use Rattle.fuse_spec.specs.Calls.{spoken}
+use Rattle.std.proofs.Common.{◌≡◌, ℕ, ◌+◌, ◌-◌, ◌≤◌, Bool, true, false, true≢false, cond, List, [], ◌∷◌, ◌++◌, take, drop, Option, Some, None, nat_eq, slice_get, refl, ap, sym, subst, ◌∙◌, arith, inl, inr, All}
 use Rattle.std.specs.Prelude.{◌%◌, nat_lt}
 use Rattle.std.specs.List.{remove as without_at}
 use Rattle.std.proofs.lemmas.Bool.Decides.{nat_tests}
-use Rattle.std.proofs.lemmas.List.Elements.{All-nil, All-push, All-take, All-drop}
+use Rattle.std.proofs.lemmas.List.Elements.{All-nil, All-cons, All-head, All-tail, All-append, All-push, All-take, All-drop}
 use Rattle.fuse_spec.specs.declared.Counted.{Counted}
 use Rattle.fuse_spec.specs.declared.Entry.{Entry}
-use Rattle.fuse_spec.specs.declared.Phase.TheVariants.{Ready}
 use Rattle.fuse_spec.specs.declared.Purpose.{Purpose}
 use Rattle.fuse_spec.specs.declared.Purpose.TheVariants as purpose
 use Rattle.fuse_spec.specs.declared.Opened.{Opened}
@@ -15,11 +16,11 @@ use Rattle.fuse_spec.specs.CallReplies.{call_replied}
 use Rattle.fuse_spec.specs.Kernel.{Kernel, is_live, kernel_aborted}
 use Rattle.fuse_spec.specs.Maps.{Map, get, put, remove}
 use Rattle.fuse_spec.specs.Messages.{Forget, Request, RequestBody, init, asks, release, forget, batch_forget, interrupt, WireReply}
-use Rattle.fuse_spec.specs.Operations.{done, failed, files_in_reply}
+use Rattle.fuse_spec.specs.Operations.{DirentPlus, told_by, listed_plus, done, failed, files_in_reply}
 use Rattle.fuse_spec.specs.Performs.{performed, served}
 use Rattle.fuse_spec.specs.QueueCalls.{can_read_forgets, waiting, without}
 use Rattle.fuse_spec.specs.Queues.{pending}
-use Rattle.fuse_spec.specs.Replies.{kernel_reply, learnt, Use, usable, useless, stale, use_counted, first_use, use_of_all, goes_with, is_agreement, judged, replied, replied_to_call, reply_taken, odd_taken, interrupt_replied, interrupt_reply_of, reply_written}
+use Rattle.fuse_spec.specs.Replies.{kernel_reply, learnt, Use, usable, useless, stale, use_counted, first_use, use_of_all, goes_with, is_agreement, judged, replied, replied_to_call, reply_taken, odd_taken, interrupt_replied, interrupt_reply_of, reply_written, heard, without_stale, reply_judged, use_of_reply, use_of, use_of_told, learnt_by, stale_in, stale_among, forgets_with, stale_in_reply, made_ready}
 use Rattle.fuse_spec.specs.Server.{Server, HeldRequest, Kept, forgets_of}
 use Rattle.fuse_spec.specs.Taking.{taking}
 use Rattle.fuse_spec.specs.Vfs.{CallState, asked, answered}
@@ -47,6 +48,9 @@ same_forgets fs gs same h = subst (All IsForget) (sym same) h
 
 -- ---- what the kernel queues
 
+abbrev Low : ℕ → Type 0
+Low node = 2 ≤ node
+
 -- An entry that is stale names a node from 2 up.
 stale_low : (nodes : Map Counted) (gs : List Entry) (node : ℕ) → use_of_all nodes gs ≡ stale node → 2 ≤ node
 stale_low nodes [] node e = absurd (cc (e))
@@ -64,24 +68,53 @@ stale_low nodes (g ∷ gs) node e = by (nat_lt g.nodeid 2) refl (get nodes g.nod
     by true is o f rest = absurd (cc (f))
     by false is o f rest = of_counted o (grind (arith, nat_tests, is)) f rest
 
+-- .. so does one of a list
+told_low : (nodes : Map Counted) (o : Option Entry) → All Low (stale_in (use_of_told nodes o))
+told_low nodes None = All-nil Low
+told_low nodes (Some g) = by (use_of nodes g) refl
+  where
+    by : (u : Use) → use_of nodes g ≡ u → All Low (stale_in u)
+    by usable e = All-nil Low
+    by useless e = All-nil Low
+    by (stale node) e = All-cons Low node [] (stale_low nodes (g ∷ []) node (ap (λ (u : Use). first_use u usable) e)) (All-nil Low)
+
+among_low : (pairs : List (DirentPlus Entry)) (nodes : Map Counted) → All Low (stale_among nodes pairs)
+among_low [] nodes = All-nil Low
+among_low (pair ∷ pairs) nodes = All-append Low (stale_in (use_of_told nodes (told_by pair))) (stale_among (learnt_by nodes pair) pairs) (told_low nodes (told_by pair)) (among_low pairs (learnt_by nodes pair))
+
+in_reply_low : (nodes : Map Counted) (wire : WireReply) → All Low (stale_in_reply nodes wire)
+in_reply_low nodes (listed_plus pairs) = among_low pairs nodes
+in_reply_low nodes wire = All-nil Low
+
+of_reply_low : (nodes : Map Counted) (wire : WireReply) (node : ℕ) → use_of_reply nodes wire ≡ stale node → 2 ≤ node
+of_reply_low nodes (listed_plus pairs) node e = absurd (cc (e))
+of_reply_low nodes wire node e = stale_low nodes (files_in_reply wire) node e
+
+each_forget : (nodes : List ℕ) (forgets : List Forget) → All IsForget forgets → All Low nodes → All IsForget (forgets_with forgets nodes)
+each_forget [] forgets old h = old
+each_forget (node ∷ nodes) forgets old h =
+    each_forget nodes (forgets ++ (node, 1) ∷ []) (All-push IsForget forgets (node, 1) old (All-head Low node nodes h, omega arith)) (All-tail Low node nodes h)
+
 heard_forgets : (k : Kernel) → All IsForget k.queues.forgets → (call : ℕ) (wire : WireReply) (o : Option (CallState Opened)) → All IsForget (replied_to_call k call wire o).1.queues.forgets
 heard_forgets k old call wire None = old
 heard_forgets k old call wire (Some state) = by (goes_with (asked state) wire)
   where
-    judged_forgets : (u : Use) → use_of_all k.nodes (files_in_reply wire) ≡ u → All IsForget (judged k call state wire u).queues.forgets
-    judged_forgets usable is =
-        let k1 = record k { nodes = learnt k.nodes (files_in_reply wire) } in
-        let same = advanced_same k1 call (call_replied k.vfs call state (kernel_reply (asked state) wire)) in
-        same_forgets k.queues.forgets _ same.forgets old
-    judged_forgets useless is = old
-    judged_forgets (stale node) is = All-push IsForget k.queues.forgets (node, 1) old (stale_low k.nodes (files_in_reply wire) node is, omega arith)
+    stale_old : All IsForget (without_stale k wire).queues.forgets
+    stale_old = each_forget (stale_in_reply k.nodes wire) k.queues.forgets old (in_reply_low k.nodes wire)
+
+    judged_forgets : (x : WireReply) (u : Use) → ((node : ℕ) → u ≡ stale node → 2 ≤ node) → All IsForget (judged (without_stale k wire) call state x u).queues.forgets
+    judged_forgets x usable low =
+        let k1 = record (without_stale k wire) { nodes = learnt k.nodes (files_in_reply x) } in
+        let same = advanced_same k1 call (call_replied k.vfs call state (kernel_reply (asked state) x)) in
+        same_forgets (without_stale k wire).queues.forgets _ same.forgets stale_old
+    judged_forgets x useless low = stale_old
+    judged_forgets x (stale node) low = All-push IsForget (without_stale k wire).queues.forgets (node, 1) stale_old (low node refl, omega arith)
 
     by : (b : Bool) → All IsForget (replied k call state b wire).1.queues.forgets
     by true =
-        let u = use_of_all k.nodes (files_in_reply wire) in
-        let l = judged k call state wire u in
+        let l = heard k call state wire in
         let same = used_same l state in
-        same_forgets l.queues.forgets _ same.forgets (judged_forgets u refl)
+        same_forgets l.queues.forgets _ same.forgets (judged_forgets (reply_judged k.nodes wire) (use_of_reply k.nodes wire) (of_reply_low k.nodes wire))
     by false = let l = record k { vfs = answered k.vfs call (answer.failed 5) } in let same = used_same l state in same_forgets k.queues.forgets _ same.forgets old
 
 written_forgets : (k : Kernel) → All IsForget k.queues.forgets → (unique : ℕ) (wire : WireReply) → All IsForget (reply_written k unique wire).1.queues.forgets
@@ -96,7 +129,7 @@ written_forgets k old unique wire = by (nat_eq (unique % 2) 1)
     odd None = old
     odd (Some kept) = interrupts wire
 
-    agrees : (b : Bool) → All IsForget (cond b (record k { phase = Ready; queues = without k.queues unique }) (kernel_aborted (record k { queues = without k.queues unique }))).queues.forgets
+    agrees : (b : Bool) → All IsForget (cond b (made_ready (record k { queues = without k.queues unique }) wire) (kernel_aborted (record k { queues = without k.queues unique }))).queues.forgets
     agrees true = old
     agrees false = All-nil IsForget
 
@@ -113,7 +146,7 @@ written_forgets k old unique wire = by (nat_eq (unique % 2) 1)
 -- ---- what goes onto the request link
 
 gives_nothing_back : (body : RequestBody) → AwaitsReply body → All IsForget (forgets_of body)
-gives_nothing_back init of_init = All-nil IsForget
+gives_nothing_back (init flags) (of_init _) = All-nil IsForget
 gives_nothing_back (asks operation) (of_call x) = All-nil IsForget
 gives_nothing_back (release o) (of_release x) = All-nil IsForget
 gives_nothing_back (forget f) awaits = elim awaits [ ]
@@ -129,10 +162,10 @@ forgets_spelled (f ∷ g ∷ fs) = refl
 
 module _ (choice : ℕ → ℕ) (w : World) (sound : WorldSound w) (requests : RequestsAskedWhileLive w) (links : LinksSound w) (old : Faultless w) where
   queued_after : (e : Event) (o : Outcome) (after : World) → Happened choice w e o after → All IsForget after.kernel.queues.forgets
-  queued_after e o after (by_mount f m idle) = All-nil IsForget
-  queued_after e o after (by_call call ready room within) = let same = begun_same w.kernel call in same_forgets w.kernel.queues.forgets _ same.forgets old.queued
+  queued_after e o after (by_mount f m v idle) = All-nil IsForget
+  queued_after e o after (by_call call ready room within) = let same = begun_same w.kernel (spoken w.kernel.lists_files call) in same_forgets w.kernel.queues.forgets _ same.forgets old.queued
   queued_after e o after (by_read_interrupt original rest live there within) = old.queued
-  queued_after e o after (by_read_forgets n live free can within) = by (can_read_forgets w.kernel.queues n)
+  queued_after e o after (by_read_forgets n live free can within few) = by (can_read_forgets w.kernel.queues n)
     where
       by : (b : Bool) → All IsForget (cond b (record w.kernel.queues { forgets = drop n w.kernel.queues.forgets; next = w.kernel.queues.next + 2 }) w.kernel.queues).forgets
       by true = All-drop IsForget n w.kernel.queues.forgets old.queued
@@ -167,10 +200,10 @@ module _ (choice : ℕ → ℕ) (w : World) (sound : WorldSound w) (requests : R
   replying_requests v number unique (Some wire) = refl
 
   sent_after : (e : Event) (o : Outcome) (after : World) → Happened choice w e o after → All (λ (r : Request). All IsForget (forgets_of r.body)) after.requests
-  sent_after e o after (by_mount f m idle) = All-nil SentFine
+  sent_after e o after (by_mount f m v idle) = All-nil SentFine
   sent_after e o after (by_call call ready room within) = old.sent
   sent_after e o after (by_read_interrupt original rest live there within) = All-push SentFine w.requests (record { unique = interrupt_number original; body = interrupt original }) old.sent (All-nil IsForget)
-  sent_after e o after (by_read_forgets n live free can within) =
+  sent_after e o after (by_read_forgets n live free can within few) =
       let fs = take n w.kernel.queues.forgets in
       All-push SentFine w.requests (record { unique = w.kernel.queues.next; body = forget_body fs }) old.sent (same_forgets fs (forgets_of (forget_body fs)) (forgets_spelled fs) (All-take IsForget n w.kernel.queues.forgets old.queued))
   sent_after e o after (by_read_pending k unique kept body live free there says within) = All-push SentFine w.requests (record { unique = unique; body = body }) old.sent (gives_nothing_back body (asks_reply w.kernel kept body says))
@@ -228,10 +261,10 @@ module _ (choice : ℕ → ℕ) (w : World) (sound : WorldSound w) (requests : R
   sent_off v number unique (Some wire) h = h
 
   kept_even : (e : Event) (o : Outcome) (after : World) → Happened choice w e o after → KeptEven after.server.kept
-  kept_even e o after (by_mount f m idle) = λ u k at. absurd (cc)
+  kept_even e o after (by_mount f m v idle) = λ u k at. absurd (cc)
   kept_even e o after (by_call call ready room within) = old.kept
   kept_even e o after (by_read_interrupt original rest live there within) = old.kept
-  kept_even e o after (by_read_forgets n live free can within) = old.kept
+  kept_even e o after (by_read_forgets n live free can within few) = old.kept
   kept_even e o after (by_read_pending k unique kept body live free there says within) = old.kept
   kept_even e o after (by_take k r there within) =
       let took = taking w.server r.unique r.body in
@@ -251,7 +284,12 @@ module _ (choice : ℕ → ℕ) (w : World) (sound : WorldSound w) (requests : R
 pub faultless_stay : (w : World) → WorldSound w → RequestsAskedWhileLive w → LinksSound w → Faultless w → (e : Event) (o : Outcome) (after : World) → Happens w e o after → Faultless after
 faultless_stay w sound requests links old e o after h =
     let did = happened h.0 w o after e h.2 in
-    record { queued = queued_after h.0 w sound requests links old e o after did; sent = sent_after h.0 w sound requests links old e o after did; kept = kept_even h.0 w sound requests links old e o after did }
+    record { queued = queued_after h.0 w sound requests links old e o after did; sent = sent_after h.0 w sound requests links old e o after did; kept = kept_even h.0 w sound requests links old e o after did; spoken = spoken_after h.0 w requests links old.spoken e o after did }
 
 pub first_faultless : Faultless first_world
-first_faultless = record { queued = All-nil IsForget; sent = All-nil (λ (r : Request). All IsForget (forgets_of r.body)); kept = λ u k at. absurd (cc) }
+first_faultless = record {
+  queued = All-nil IsForget;
+  sent = All-nil (λ (r : Request). All IsForget (forgets_of r.body));
+  kept = λ u k at. absurd (cc);
+  spoken = λ live. absurd (true≢false (sym live));
+}

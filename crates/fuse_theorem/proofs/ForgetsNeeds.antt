@@ -71,7 +71,7 @@ module _ (w : World) (p : Plain) (both : BothSound w p) (releases : ReleasesKnow
     take_met r there = by r.body refl
       where
         by : (body : RequestBody) → r.body ≡ body → CanTake w p k r body
-        by init is = tt
+        by (init flags) is = tt
         by (asks operation) is = tt
         by (release x) is = tt
         by (forget f) is = (one_node_a_file, forgets r there (forget f) (f ∷ []) is refl)

@@ -1,4 +1,5 @@
 -- What the laws on single events need of a world holds after each mount; and after an abort, as far as the kernel is concerned.
+use Rattle.fuse_spec.specs.declared.Minor.{Minor}
 use Rattle.std.proofs.Common.{◌≡◌, ℕ, ◌<◌, cond, [], Some, None, refl, ap, sym, subst, ◌∙◌, arith, inl, inr}
 use Rattle.std.proofs.lemmas.Bool.{cases_eq}
 use Rattle.std.proofs.lemmas.List.Elements.{All-nil}
@@ -36,9 +37,9 @@ root_held next id generation file held = elim (cases_eq id 1) [
       absurd (cc (none, there))
 ]
 
-module _ (w : World) (found_ms missing_ms : ℕ) where
+module _ (w : World) (found_ms missing_ms : ℕ) (minor : Minor) where
   abbrev mounted : World
-  mounted = after_mount w found_ms missing_ms
+  mounted = after_mount w found_ms missing_ms minor
 
   pub mounted_numbered : IsNumbered mounted
   mounted_numbered = record {

@@ -1,5 +1,6 @@
 -- What an accepted event did: what stood where it looked, and the world that it made.
-use Rattle.std.proofs.Common.{◌≡◌, ℕ, ◌+◌, Bool, true, false, not, ◌||◌, List, [], ◌∷◌, length, take, Option, Some, None, Ok, nat_eq, slice_get, subst, refl, ap, sym, ◌∙◌, true≢false, arith}
+use Rattle.fuse_spec.specs.declared.Minor.{Minor}
+use Rattle.std.proofs.Common.{◌≡◌, ℕ, ◌+◌, Bool, true, false, not, ◌||◌, List, [], ◌∷◌, length, take, Option, Some, None, Ok, nat_eq, slice_get, subst, refl, ap, sym, ◌∙◌, true≢false, arith, ◌&&◌, cond}
 use Rattle.std.specs.Prelude.{if◌then◌else◌, nat_lt, nat_le, max}
 use Rattle.fuse_spec.specs.declared.Binding.{Binding}
 use Rattle.fuse_spec.specs.declared.Counted.{Counted}
@@ -13,29 +14,31 @@ use Rattle.fuse_spec.specs.Operations.{errno_of}
 use Rattle.fuse_spec.specs.Paths.{Name}
 use Rattle.fuse_spec.specs.Calls.{Call}
 use Rattle.fuse_spec.specs.Vfs.{CallState}
-use Rattle.fuse_spec.specs.QueueCalls.{pending_at, can_read_forgets, first_forgets}
+use Rattle.fuse_spec.specs.QueueCalls.{pending_at, can_read_forgets}
 use Rattle.fuse_spec.specs.Uniques.{interrupt_number}
 use Rattle.fuse_spec.specs.Messages.{Request, RequestBody}
-use Rattle.fuse_spec.specs.Kernel.{is_live, body_of, call_signalled, is_pinned, is_bound}
+use Rattle.fuse_spec.specs.Kernel.{is_live, body_of, call_signalled, is_pinned, is_bound, forgets_read, forgets_singly}
 use Rattle.fuse_spec.specs.Replies.{reply_written}
 use Rattle.fuse_spec.specs.Server.{HeldRequest, Kept}
 use Rattle.fuse_spec.specs.Taking.{taking}
-use Rattle.fuse_spec.specs.Performs.{served}
-use Rattle.fuse_spec.specs.Copies.{is_current}
+use Rattle.fuse_spec.specs.Performs.{served, files_given}
+use Rattle.fuse_spec.specs.Copies.{is_current, files_named}
 use Rattle.fuse_spec.specs.Worlds.{World, Sent, after_mount, after_call, after_read_interrupt, after_read_forgets, after_read_pending, after_take, after_perform, after_again, after_write, after_settle, after_tick, after_drop, after_evict, after_abort}
 use Rattle.fuse_spec.specs.Events.{Event, Outcome}
 use Rattle.fuse_spec.specs.Events as event
+use Rattle.fuse_spec.specs.Nodes.{counts_out}
 use Rattle.fuse_spec.specs.Steps.{is_past, unless, going, is_ready, is_busy, when_not_interrupted, reading_interrupt, reading_forgets, reading_body, reading_pending, taking_request, performing_held, sending_again, writing_copy, settling, signalling, dropping, evicting, step}
 use Rattle.fuse_theorem.proofs.Finding.{other_is}
 use Rattle.fuse_theorem.proofs.Accepted.{Leads, accepted, unless_ok, going_ok, ok_is, is_not}
 
 pub data Happened (choice : ℕ → ℕ) (w : World) : Event → Outcome → World → Type 0 where
-  by_mount : (found_ms missing_ms : ℕ) → is_busy w.kernel ≡ false → Happened choice w (event.mount found_ms missing_ms) event.mounted (after_mount w found_ms missing_ms)
+  by_mount : (found_ms missing_ms : ℕ) (minor : Minor) → is_busy w.kernel ≡ false → Happened choice w (event.mount found_ms missing_ms minor) event.mounted (after_mount w found_ms missing_ms minor)
   by_call : (call : Call) → is_ready w.kernel.phase ≡ true → nat_le max_calls (length w.kernel.vfs.calls) ≡ false → is_past (after_call w call) ≡ false
       → Happened choice w (event.call call) (event.begun w.kernel.vfs.next_call) (after_call w call)
   by_read_interrupt : (original : ℕ) (rest : List ℕ) → is_live w.kernel.phase ≡ true → w.kernel.queues.interrupts ≡ original ∷ rest → is_past (after_read_interrupt w original) ≡ false
       → Happened choice w event.read_interrupt (event.is_read (interrupt_number original)) (after_read_interrupt w original)
   by_read_forgets : (n : ℕ) → is_live w.kernel.phase ≡ true → w.kernel.queues.interrupts ≡ [] → can_read_forgets w.kernel.queues n ≡ true → is_past (after_read_forgets w n (take n w.kernel.queues.forgets)) ≡ false
+      → (forgets_singly w.kernel.minor && nat_lt 1 n) ≡ false
       → Happened choice w (event.read_forgets n) (event.is_read w.kernel.queues.next) (after_read_forgets w n (take n w.kernel.queues.forgets))
   by_read_pending : (k unique : ℕ) (kept : Purpose) (body : RequestBody) → is_live w.kernel.phase ≡ true → w.kernel.queues.interrupts ≡ [] → pending_at w.kernel.queues k ≡ Some (unique, kept) → body_of w.kernel kept ≡ Some body
       → is_past (after_read_pending w k unique body) ≡ false → Happened choice w (event.read_pending k) (event.is_read unique) (after_read_pending w k unique body)
@@ -72,10 +75,10 @@ module _ (choice : ℕ → ℕ) (w : World) (o : Outcome) (last : World) where
 
   -- What any event did that is not refused.
   pub happened : (e : Event) → step choice w e ≡ Ok (o, last) → Happened choice w e o last
-  happened (event.mount f m) s =
-      let timely = unless_ok (nat_lt max_validity (max f m)) refusal.BadTime (unless (is_busy w.kernel) refusal.Busy (accepted event.mounted (after_mount w f m))) o last s in
-      let idle = unless_ok (is_busy w.kernel) refusal.Busy (accepted event.mounted (after_mount w f m)) o last timely.rest in
-      leads_to (event.mount f m) event.mounted (after_mount w f m) (ok_is event.mounted (after_mount w f m) o last idle.rest) (by_mount f m idle.passed)
+  happened (event.mount f m v) s =
+      let timely = unless_ok (nat_lt max_validity (max f m)) refusal.BadTime (unless (is_busy w.kernel) refusal.Busy (accepted event.mounted (after_mount w f m v))) o last s in
+      let idle = unless_ok (is_busy w.kernel) refusal.Busy (accepted event.mounted (after_mount w f m v)) o last timely.rest in
+      leads_to (event.mount f m v) event.mounted (after_mount w f m v) (ok_is event.mounted (after_mount w f m v) o last idle.rest) (by_mount f m v idle.passed)
   happened (event.call call) s =
       let begun = event.begun w.kernel.vfs.next_call in
       let ready = unless_ok (not (is_ready w.kernel.phase)) refusal.NotReady (unless (nat_le max_calls (length w.kernel.vfs.calls)) refusal.Full (going begun (after_call w call))) o last s in
@@ -89,16 +92,17 @@ module _ (choice : ℕ → ℕ) (w : World) (o : Outcome) (last : World) where
       by [] there live f = absurd (cc)
       by (original ∷ rest) there live f = goes event.read_interrupt (event.is_read (interrupt_number original)) (after_read_interrupt w original) f (λ within. by_read_interrupt original rest live there within)
   happened (event.read_forgets n) s =
-      let read = first_forgets w.kernel.queues n in
+      let read = forgets_read w.kernel n in
       let lives = unless_ok (not (is_live w.kernel.phase)) refusal.NotReady (when_not_interrupted w (reading_forgets w n read)) o last s in
       let free = unless_ok (not (nat_eq (length w.kernel.queues.interrupts) 0)) refusal.InterruptFirst (reading_forgets w n read) o last lives.rest in
-      by (can_read_forgets w.kernel.queues n) refl (is_not (is_live w.kernel.phase) lives.passed) (none_queued w.kernel.queues.interrupts free.passed) free.rest
+      by (forgets_singly w.kernel.minor && nat_lt 1 n) (can_read_forgets w.kernel.queues n) refl refl (is_not (is_live w.kernel.phase) lives.passed) (none_queued w.kernel.queues.interrupts free.passed) free.rest
     where
-      by : (b : Bool) → can_read_forgets w.kernel.queues n ≡ b → is_live w.kernel.phase ≡ true → w.kernel.queues.interrupts ≡ []
-          → reading_forgets w n (if b then Some (w.kernel.queues.next, take n w.kernel.queues.forgets) else None) ≡ Ok (o, last) → Happened choice w (event.read_forgets n) o last
-      by true can live free f =
-          goes (event.read_forgets n) (event.is_read w.kernel.queues.next) (after_read_forgets w n (take n w.kernel.queues.forgets)) f (λ within. by_read_forgets n live free can within)
-      by false can live free f = absurd (cc)
+      by : (a b : Bool) → (forgets_singly w.kernel.minor && nat_lt 1 n) ≡ a → can_read_forgets w.kernel.queues n ≡ b → is_live w.kernel.phase ≡ true → w.kernel.queues.interrupts ≡ []
+          → reading_forgets w n (cond a None (if b then Some (w.kernel.queues.next, take n w.kernel.queues.forgets) else None)) ≡ Ok (o, last) → Happened choice w (event.read_forgets n) o last
+      by true b few can live free f = absurd (cc)
+      by false true few can live free f =
+          goes (event.read_forgets n) (event.is_read w.kernel.queues.next) (after_read_forgets w n (take n w.kernel.queues.forgets)) f (λ within. by_read_forgets n live free can within few)
+      by false false few can live free f = absurd (cc)
   happened (event.read_pending k) s =
       let at = pending_at w.kernel.queues k in
       let lives = unless_ok (not (is_live w.kernel.phase)) refusal.NotReady (when_not_interrupted w (reading_pending w k at)) o last s in
@@ -127,14 +131,19 @@ module _ (choice : ℕ → ℕ) (w : World) (o : Outcome) (last : World) where
       by None there f = absurd (cc)
       by (Some t) there f =
           let did = served choice w.server unique t in
-          goes (event.perform unique) (event.performed unique (errno_of did.wire) w.server.aborted) (after_perform w unique did) f (λ within. by_perform unique t there within)
+          let outcome = event.performed unique (errno_of did.wire) w.server.aborted in
+          let few = unless_ok (counts_out w.server.nodes (files_given w.server t)) refusal.Exhausted (going outcome (after_perform w unique did)) o last f in
+          goes (event.perform unique) outcome (after_perform w unique did) few.rest (λ within. by_perform unique t there within)
   happened (event.again unique) s = by (get w.server.kept unique) refl s
     where
       by : (x : Option Kept) → get w.server.kept unique ≡ x → sending_again w unique x ≡ Ok (o, last) → Happened choice w (event.again unique) o last
       by None there f = absurd (cc)
       by (Some kept) there f =
-          let current = unless_ok (not (is_current w.server kept.wire)) refusal.NoCopy (going (event.sent_again unique) (after_again w unique kept)) o last f in
-          goes (event.again unique) (event.sent_again unique) (after_again w unique kept) current.rest (λ within. by_again unique kept there (is_not (is_current w.server kept.wire) current.passed) within)
+          let out = counts_out w.server.nodes (files_named w.server kept.wire) in
+          let gone = going (event.sent_again unique) (after_again w unique kept) in
+          let current = unless_ok (not (is_current w.server kept.wire)) refusal.NoCopy (unless out refusal.Exhausted gone) o last f in
+          let few = unless_ok out refusal.Exhausted gone o last current.rest in
+          goes (event.again unique) (event.sent_again unique) (after_again w unique kept) few.rest (λ within. by_again unique kept there (is_not (is_current w.server kept.wire) current.passed) within)
   happened (event.write k) s = by (slice_get w.replies k) refl s
     where
       by : (x : Option Sent) → slice_get w.replies k ≡ x → writing_copy w k x ≡ Ok (o, last) → Happened choice w (event.write k) o last

@@ -1,12 +1,12 @@
 -- The server performs the very operation of the ask: its operation, with each node replaced by the file that it denotes.
 use Rattle.std.proofs.Common.{◌≡◌, ℕ, List, ap, ◌∙◌}
-use Rattle.fuse_spec.specs.Operations.{Operation, lookup, getattr, mkdir, create, unlink, rmdir, rename, link, opening, readdir, read, write, operation_with}
+use Rattle.fuse_spec.specs.Operations.{Operation, lookup, getattr, mkdir, create, unlink, rmdir, rename, link, opening, readdir, readdirplus, read, write, operation_with}
 use Rattle.fuse_spec.specs.declared.Opened.{Opened}
 use Rattle.fuse_spec.specs.Nodes.{NodeTable, HandleTable, file_of, file_in}
 use Rattle.fuse_spec.specs.Performs.{file_operation_of}
 use Rattle.fuse_spec.specs.Denotes.{OperationAlike, Denotes}
 use Rattle.fuse_spec.specs.Alike.{Meant, MeantOpen}
-use Rattle.fuse_theorem.proofs.Cases.{SameOperation, both_lookup, both_getattr, both_mkdir, both_create, both_unlink, both_rmdir, both_rename, both_link, both_opening, both_readdir, both_read, both_write, same_operation}
+use Rattle.fuse_theorem.proofs.Cases.{SameOperation, both_lookup, both_getattr, both_mkdir, both_create, both_unlink, both_rmdir, both_rename, both_link, both_opening, both_readdir, both_readdirplus, both_read, both_write, same_operation}
 
 module _ {F O G P : Type 0} (R : F → G → Type 0) (S : O → P → Type 0) (f : F → G) (g : O → P) (finds : (x : F) (y : G) → R x y → f x ≡ y) (leads : (o : O) (p : P) → S o p → g o ≡ p) where
   by_cases : (a : Operation F O) (b : Operation G P) → SameOperation R S a b → operation_with f g a ≡ b
@@ -20,6 +20,7 @@ module _ {F O G P : Type 0} (R : F → G → Type 0) (S : O → P → Type 0) (f
   by_cases a b (both_link x y x' y' n m r r' e) = λ i. link (finds x y r i) (finds x' y' r' i) (e i)
   by_cases a b (both_opening x y r) = λ i. opening (finds x y r i)
   by_cases a b (both_readdir x y n m k l r e e') = λ i. readdir (finds x y r i) (e i) (e' i)
+  by_cases a b (both_readdirplus x y n m k l r e e') = λ i. readdirplus (finds x y r i) (e i) (e' i)
   by_cases a b (both_read o p n m k l s e e') = λ i. read (leads o p s i) (e i) (e' i)
   by_cases a b (both_write o p n m k l s e e') = λ i. write (leads o p s i) (e i) (e' i)
 

@@ -1,11 +1,11 @@
 -- What the server holds of calls is named as the kernel knows it, whatever the event.
+use Rattle.fuse_spec.specs.Calls.{spoken}
 use Rattle.std.proofs.Common.{◌≡◌, ◌≢◌, ℕ, ◌-◌, Bool, true, false, true≢false, cond, List, [], ◌∷◌, map, Option, Some, None, nat_eq, slice_get, refl, ap, sym, subst, ◌∙◌, inl, inr, All}
 use Rattle.std.specs.Prelude.{◌%◌}
 use Rattle.std.specs.List.{list_any}
 use Rattle.std.proofs.lemmas.List.Elements.{All-nil, All-cons, All-head, All-tail}
 use Rattle.fuse_spec.specs.declared.Counted.{Counted}
 use Rattle.fuse_spec.specs.declared.Opened.{Opened}
-use Rattle.fuse_spec.specs.declared.Phase.TheVariants.{Ready}
 use Rattle.fuse_spec.specs.declared.Purpose.{Purpose}
 use Rattle.fuse_spec.specs.declared.Purpose.TheVariants as purpose
 use Rattle.fuse_spec.specs.declared.ReplyResult.{ReplyResult}
@@ -21,7 +21,7 @@ use Rattle.fuse_spec.specs.QueueCalls.{waiting, without}
 use Rattle.fuse_spec.specs.Vfs.{CallState, asked, answered}
 use Rattle.fuse_spec.specs.Kernel.{Kernel, is_live, is_pinned, is_bound, kernel_aborted, after_use}
 use Rattle.fuse_spec.specs.Performs.{served}
-use Rattle.fuse_spec.specs.Replies.{kernel_reply, learnt, Use, usable, useless, stale, use_of_all, goes_with, is_agreement, judged, replied, replied_to_call, reply_taken, odd_taken, interrupt_replied, reply_written}
+use Rattle.fuse_spec.specs.Replies.{kernel_reply, learnt, Use, usable, useless, stale, goes_with, is_agreement, judged, replied, replied_to_call, reply_taken, odd_taken, interrupt_replied, reply_written, heard, without_stale, reply_judged, use_of_reply, made_ready}
 use Rattle.fuse_spec.specs.Server.{HeldRequest, Kept, Copy, nodes_of_body}
 use Rattle.fuse_spec.specs.Taking.{taking, interrupting}
 use Rattle.fuse_spec.specs.Denotes.{generation_known}
@@ -59,19 +59,19 @@ replied_grows : (k : Kernel) (call : ℕ) (wire : WireReply) (o : Option (CallSt
 replied_grows k call wire None = λ id generation e. e
 replied_grows k call wire (Some state) = by (goes_with (asked state) wire)
   where
-    judged_grows : (u : Use) → Grows k.nodes (judged k call state wire u).nodes
-    judged_grows usable = λ id generation e.
-        let k1 = record k { nodes = learnt k.nodes (files_in_reply wire) } in
-        let same = advanced_same k1 call (call_replied k.vfs call state (kernel_reply (asked state) wire)) in
-        same_grows k1.nodes (judged k call state wire usable).nodes same.nodes id generation (learnt_known (files_in_reply wire) k.nodes id generation e)
-    judged_grows useless = λ id generation e. e
-    judged_grows (stale node) = λ id generation e. e
+    judged_grows : (x : WireReply) (u : Use) → Grows k.nodes (judged (without_stale k wire) call state x u).nodes
+    judged_grows x usable = λ id generation e.
+        let k1 = record (without_stale k wire) { nodes = learnt k.nodes (files_in_reply x) } in
+        let same = advanced_same k1 call (call_replied k.vfs call state (kernel_reply (asked state) x)) in
+        same_grows k1.nodes (judged (without_stale k wire) call state x usable).nodes same.nodes id generation (learnt_known (files_in_reply x) k.nodes id generation e)
+    judged_grows x useless = λ id generation e. e
+    judged_grows x (stale node) = λ id generation e. e
 
     by : (b : Bool) → Grows k.nodes (replied k call state b wire).1.nodes
     by true = λ id generation e.
-        let l = judged k call state wire (use_of_all k.nodes (files_in_reply wire)) in
+        let l = heard k call state wire in
         let same = used_same l state in
-        same_grows l.nodes (after_use l state).nodes same.nodes id generation (judged_grows (use_of_all k.nodes (files_in_reply wire)) id generation e)
+        same_grows l.nodes (after_use l state).nodes same.nodes id generation (judged_grows (reply_judged k.nodes wire) (use_of_reply k.nodes wire) id generation e)
     by false =
         let l = record k { vfs = answered k.vfs call (answer.failed 5) } in
         let same = used_same l state in
@@ -90,8 +90,8 @@ written_grows k unique wire live = by (nat_eq (unique % 2) 1) live
     odd None = λ id generation e. e
     odd (Some kept) = interrupts wire
 
-    agrees : (b : Bool) → is_live (cond b (record k { phase = Ready; queues = without k.queues unique }) (kernel_aborted (record k { queues = without k.queues unique }))).phase ≡ true
-        → Grows k.nodes (cond b (record k { phase = Ready; queues = without k.queues unique }) (kernel_aborted (record k { queues = without k.queues unique }))).nodes
+    agrees : (b : Bool) → is_live (cond b (made_ready (record k { queues = without k.queues unique }) wire) (kernel_aborted (record k { queues = without k.queues unique }))).phase ≡ true
+        → Grows k.nodes (cond b (made_ready (record k { queues = without k.queues unique }) wire) (kernel_aborted (record k { queues = without k.queues unique }))).nodes
     agrees true alive = λ id generation e. e
     agrees false alive = λ id generation e. absurd (true≢false (sym alive))
 
@@ -158,7 +158,7 @@ module _ (Which : RequestBody → Type 0) (choice : ℕ → ℕ) (w : World) (so
     interrupts original None there None = carry (after_take w k r.unique (interrupting w.server r.unique original None None)) refl (old live)
 
     takes : (body : RequestBody) → SentAsked w.kernel r.unique body → AllHeld Which (after_take w k r.unique (taking w.server r.unique body)) (after_take w k r.unique (taking w.server r.unique body)).server.held
-    takes init is = carry (after_take w k r.unique (taking w.server r.unique init)) refl (now_held _ (taken_held Which w (known_held w sound.lookups) init (named r.unique init is) _ refl refl))
+    takes (init flags) is = carry (after_take w k r.unique (taking w.server r.unique (init flags))) refl (now_held _ (taken_held Which w (known_held w sound.lookups) (init flags) (named r.unique (init flags) is) _ refl refl))
     takes (asks operation) is = carry (after_take w k r.unique (taking w.server r.unique (asks operation))) refl (now_held _ (taken_held Which w (known_held w sound.lookups) (asks operation) (named r.unique (asks operation) is) _ refl refl))
     takes (release o) is = carry (after_take w k r.unique (taking w.server r.unique (release o))) refl (now_held _ (taken_held Which w (known_held w sound.lookups) (release o) (named r.unique (release o) is) _ refl refl))
     takes (forget f) is = carry (after_take w k r.unique (taking w.server r.unique (forget f))) refl (old live)
@@ -201,13 +201,13 @@ module _ (Which : RequestBody → Type 0) (choice : ℕ → ℕ) (w : World) (so
       each names none h = apart t.generations (ap (list_any (nat_eq node)) names ∙ none) h
 
   by_event : (e : Event) (o : Outcome) (after : World) → Happened choice w e o after → HeldOfWhileLive Which after
-  by_event e o after (by_mount f m idle) live = λ u x at. absurd (cc)
+  by_event e o after (by_mount f m v idle) live = λ u x at. absurd (cc)
   by_event e o after (by_call call ready room within) live = λ u x at.
-      let goes = begun_goes_on w.kernel call in
-      let same = begun_same w.kernel call in
+      let goes = begun_goes_on w.kernel (spoken w.kernel.lists_files call) in
+      let same = begun_same w.kernel (spoken w.kernel.lists_files call) in
       carried Which w after x (same_grows w.kernel.nodes after.kernel.nodes same.nodes) (old (ap is_live (sym goes.phase) ∙ live) u x at)
   by_event e o after (by_read_interrupt original rest lives there within) live = λ u x at. carried Which w after x (λ id generation e. e) (old lives u x at)
-  by_event e o after (by_read_forgets n lives free can within) live = λ u x at. carried Which w after x (λ id generation e. e) (old lives u x at)
+  by_event e o after (by_read_forgets n lives free can within few) live = λ u x at. carried Which w after x (λ id generation e. e) (old lives u x at)
   by_event e o after (by_read_pending k unique kept body lives free there says within) live = λ u x at. carried Which w after x (λ id generation e. e) (old lives u x at)
   by_event e o after (by_take k r there within) live = by (is_live w.kernel.phase) refl
     where

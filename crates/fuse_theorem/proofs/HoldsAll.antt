@@ -1,4 +1,5 @@
 -- In a live mount the server holds the nodes that the kernel knows, those of held requests, and those that copies and kept replies name.
+use Rattle.fuse_spec.specs.Numbers.{init_flags}
 use Rattle.std.proofs.Common.{◌≡◌, ◌≢◌, ◌≤◌, ℕ, true, List, Option, Some, None, refl, sym, subst, All}
 use Rattle.std.proofs.lemmas.List.Elements.{All-nil, All-head, All-tail, All-contains}
 use Rattle.fuse_spec.specs.declared.Entry.{Entry}
@@ -29,12 +30,12 @@ use Rattle.fuse_theorem.proofs.NodesSound.{left_found}
 
 -- What a request that awaits a reply asks: INIT, a call's operation or a RELEASE.
 pub data AwaitsReply : RequestBody → Type 0 where
-  of_init : AwaitsReply init
+  of_init : (flags : ℕ) → AwaitsReply (init flags)
   of_call : (operation : Operation ℕ Opened) → AwaitsReply (asks operation)
   of_release : (o : Opened) → AwaitsReply (release o)
 
 pub asks_reply : (k : Kernel) (kept : Purpose) (body : RequestBody) → body_of k kept ≡ Some body → AwaitsReply body
-asks_reply k purpose.Init body e = let same : init ≡ body = cc (e) in subst AwaitsReply same of_init
+asks_reply k purpose.Init body e = let same : init init_flags ≡ body = cc (e) in subst AwaitsReply same (of_init init_flags)
 asks_reply k (purpose.Release o) body e = let same : release o ≡ body = cc (e) in subst AwaitsReply same (of_release o)
 asks_reply k (purpose.Call call) body e = called (get k.vfs.calls call) e
   where
@@ -62,7 +63,7 @@ module _ (w : World) (sound : WorldSound w) (requests : RequestsAskedWhileLive w
   held_known unique t at = by t.body refl (awaits_reply w.kernel unique t.body ((requests live).held unique t at).is_asked)
     where
       by : (body : RequestBody) → t.body ≡ body → AwaitsReply body → All (λ (g : ℕ × ℕ). generation_known w.kernel.nodes g.0 ≡ Some g.1) t.generations
-      by init is of_init = subst (All KnownAs) (sym (links.held unique t at is)) (All-nil KnownAs)
+      by (init flags) is (of_init _) = subst (All KnownAs) (sym (links.held unique t at flags is)) (All-nil KnownAs)
       by (asks operation) is (of_call x) = (held live unique t at).known operation is
       by (release o) is (of_release x) = releases.held live unique t at o is
       by (forget f) is awaits = elim awaits [ ]

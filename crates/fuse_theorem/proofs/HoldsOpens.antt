@@ -69,7 +69,7 @@ module _ (w : World) (h : HandleTable) (apart : OpensApart w.kernel.vfs w.kernel
   of_asked unique operation is = let state = asked_state w.kernel unique operation is in subst (λ (x : Operation ℕ Opened). All Held (opens_of x)) state.3 (of_calls state.0 state.1 state.2)
 
   of_sent : (unique : ℕ) (body : RequestBody) → SentAsked w.kernel unique body → All Held (released_by body) → All Held (opens_of_body body)
-  of_sent unique init is r = All-nil Held
+  of_sent unique (init flags) is r = All-nil Held
   of_sent unique (asks operation) is r = of_asked unique operation is
   of_sent unique (release o) is r = r
   of_sent unique (forget f) is r = All-nil Held
@@ -77,7 +77,7 @@ module _ (w : World) (h : HandleTable) (apart : OpensApart w.kernel.vfs w.kernel
   of_sent unique (interrupt original) is r = All-nil Held
 
   of_held : (unique : ℕ) (body : RequestBody) → IsAsked w.kernel unique body → All Held (released_by body) → All Held (opens_of_body body)
-  of_held unique init is r = All-nil Held
+  of_held unique (init flags) is r = All-nil Held
   of_held unique (asks operation) is r = of_asked unique operation is
   of_held unique (release o) is r = r
   of_held unique (forget f) is r = All-nil Held

@@ -16,17 +16,16 @@ use Rattle.fuse_spec.specs.declared.WriteResult.{WriteResult}
 use Rattle.fuse_spec.specs.declared.WriteResult.TheVariants.{Accepted, NoEntry, Invalid}
 use Rattle.fuse_spec.specs.Maps.{Map, get, put, remove}
 use Rattle.fuse_spec.specs.Messages.{Request, RequestBody, init, asks, release, forget, batch_forget, interrupt, WireReply}
-use Rattle.fuse_spec.specs.declared.Phase.TheVariants.{Ready}
 use Rattle.fuse_spec.specs.declared.Purpose.TheVariants as purpose
 use Rattle.std.specs.Option.{option_map_or}
 use Rattle.std.proofs.lemmas.Bool.Decides.{nat_tests}
 use Rattle.fuse_spec.specs.Kernel.{Kernel, is_live, kernel_aborted, call_begun, call_signalled}
-use Rattle.fuse_spec.specs.Replies.{is_agreement, ended_by, reply_taken, odd_taken, replied_to_call, reply_written}
+use Rattle.fuse_spec.specs.Replies.{is_agreement, ended_by, reply_taken, odd_taken, replied_to_call, reply_written, made_ready}
 use Rattle.fuse_spec.specs.Server.{HeldRequest, Kept, Copy}
 use Rattle.fuse_spec.specs.Taking.{taking, interrupting}
 use Rattle.fuse_spec.specs.Performs.{served}
 use Rattle.fuse_spec.specs.Copies.{kept_after, after_result}
-use Rattle.fuse_spec.specs.Calls.{Call}
+use Rattle.fuse_spec.specs.Calls.{Call, spoken}
 use Rattle.fuse_spec.specs.Events.{Event, Outcome}
 use Rattle.fuse_spec.specs.Steps.{Happens}
 use Rattle.fuse_theorem.specs.Numbering.{IsNumberedWhileLive}
@@ -120,8 +119,8 @@ pub ended_absent : (k : Kernel) (u : ℕ) (kept : Purpose) (wire : WireReply) �
     → request_under (ended_by (record k { queues = without k.queues u }) kept wire).1.queues u ≡ None
 ended_absent k u purpose.Init wire queues_sound low live = by (is_agreement wire) live
   where
-    by : (b : Bool) → is_live (cond b (record k { phase = Ready; queues = without k.queues u }) (kernel_aborted (record k { queues = without k.queues u }))).phase ≡ true
-        → request_under (cond b (record k { phase = Ready; queues = without k.queues u }) (kernel_aborted (record k { queues = without k.queues u }))).queues u ≡ None
+    by : (b : Bool) → is_live (cond b (made_ready (record k { queues = without k.queues u }) wire) (kernel_aborted (record k { queues = without k.queues u }))).phase ≡ true
+        → request_under (cond b (made_ready (record k { queues = without k.queues u }) wire) (kernel_aborted (record k { queues = without k.queues u }))).queues u ≡ None
     by true alive = request_under-without k.queues u queues_sound
     by false alive = absurd (true≢false (sym alive))
 ended_absent k u (purpose.Release o) wire queues_sound low live = request_under-without k.queues u queues_sound
@@ -152,7 +151,7 @@ module _ (choice : ℕ → ℕ) (w : World) (sound : WorldSound w) (old : KeptAr
       interrupts original None None = quiet (after_take w k r.unique (interrupting w.server r.unique original None None)) (λ u. refl) (λ u x at. at) (λ P h. has_pushed P w.replies _ h)
 
       by : (body : RequestBody) → KeptAreSent (after_take w k r.unique (taking w.server r.unique body))
-      by init = quiet (after_take w k r.unique (taking w.server r.unique init)) (λ u. refl) (λ u x at. at) (λ P h. h)
+      by (init flags) = quiet (after_take w k r.unique (taking w.server r.unique (init flags))) (λ u. refl) (λ u x at. at) (λ P h. h)
       by (asks operation) = quiet (after_take w k r.unique (taking w.server r.unique (asks operation))) (λ u. refl) (λ u x at. at) (λ P h. h)
       by (release o) = quiet (after_take w k r.unique (taking w.server r.unique (release o))) (λ u. refl) (λ u x at. at) (λ P h. h)
       by (forget f) = quiet (after_take w k r.unique (taking w.server r.unique (forget f))) (λ u. refl) (λ u x at. at) (λ P h. h)
@@ -261,10 +260,10 @@ module _ (choice : ℕ → ℕ) (w : World) (sound : WorldSound w) (old : KeptAr
   forgets_same n u false = refl
 
   by_event : (e : Event) (o : Outcome) (after : World) → IsNumberedWhileLive after → Happened choice w e o after → KeptAreSent after
-  by_event e o after coming (by_mount f m idle) u x at stands = absurd (cc)
-  by_event e o after coming (by_call call ready room within) u x at stands = called call coming u x at stands
+  by_event e o after coming (by_mount f m v idle) u x at stands = absurd (cc)
+  by_event e o after coming (by_call call ready room within) u x at stands = called (spoken w.kernel.lists_files call) coming u x at stands
   by_event e o after coming (by_read_interrupt original rest live found within) u x at stands = old u x at stands
-  by_event e o after coming (by_read_forgets n live free can within) u x at stands = old u x at (λ none. stands (forgets_same n u (can_read_forgets w.kernel.queues n) ∙ none))
+  by_event e o after coming (by_read_forgets n live free can within few) u x at stands = old u x at (λ none. stands (forgets_same n u (can_read_forgets w.kernel.queues n) ∙ none))
   by_event e o after coming (by_read_pending k unique kept body live free found says within) u x at stands =
       moved (after_read_pending w k unique body).kernel live (read_moves w.kernel.queues sound.queues k) (after_read_pending w k unique body).requests u x at stands
   by_event e o after coming (by_take k r found within) u x at stands = taken k r u x at stands

@@ -17,7 +17,7 @@ use Rattle.fuse_theorem.proofs.Settling.{kept_was}
 module _ (s : Server) where
   -- To take a request keeps no reply.
   pub taken_kept : (unique : ℕ) (body : RequestBody) → (taking s unique body).server.kept ≡ s.kept
-  taken_kept unique init = refl
+  taken_kept unique (init flags) = refl
   taken_kept unique (asks operation) = refl
   taken_kept unique (release o) = refl
   taken_kept unique (forget f) = refl

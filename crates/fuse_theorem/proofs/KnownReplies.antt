@@ -1,7 +1,8 @@
 -- What a call begins with, and what it hears, names known nodes.
-use Rattle.std.proofs.Common.{◌≡◌, ℕ, Bool, true, false, cond, List, [], ◌∷◌, Option, Some, None, Result, Ok, Err, length, refl, subst, All}
+use Rattle.fuse_theorem.proofs.Pairs.{told_files_with}
+use Rattle.std.proofs.Common.{◌≡◌, ℕ, Bool, true, false, cond, List, [], ◌∷◌, Option, Some, None, Result, Ok, Err, length, refl, subst, All, map, sym}
 use Rattle.std.specs.Prelude.{nat_lt, ◌||◌}
-use Rattle.std.proofs.lemmas.List.Elements.{All-nil, All-cons, All-head, All-tail}
+use Rattle.std.proofs.lemmas.List.Elements.{All-nil, All-cons, All-head, All-tail, All-map}
 use Rattle.fuse_spec.specs.declared.Counted.{Counted}
 use Rattle.fuse_spec.specs.declared.Entry.{Entry}
 use Rattle.fuse_spec.specs.declared.Opened.{Opened}
@@ -9,10 +10,10 @@ use Rattle.fuse_spec.specs.Begins.{Beginning, faulty, sets_out, uses, closes, wh
 use Rattle.fuse_spec.specs.Begins as begins
 use Rattle.fuse_spec.specs.Calls.{Call}
 use Rattle.fuse_spec.specs.Calls as call
-use Rattle.fuse_spec.specs.CallReplies.{operation_replied, call_replied}
+use Rattle.fuse_spec.specs.CallReplies.{name_told, names_told, all_bound, operation_replied, call_replied}
 use Rattle.fuse_spec.specs.Maps.{Map, get, remove}
 use Rattle.fuse_spec.specs.Messages.{WireReply}
-use Rattle.fuse_spec.specs.Operations.{Operation, Reply, files_in, files_in_reply}
+use Rattle.fuse_spec.specs.Operations.{Operation, DirentPlus, Reply, files_in, files_in_reply}
 use Rattle.fuse_spec.specs.Operations as op
 use Rattle.fuse_spec.specs.Paths.{Name, words_of, parent_and_last}
 use Rattle.fuse_spec.specs.Replies.{kernel_reply}
@@ -64,6 +65,7 @@ module _ (nodes : Map Counted) where
   beginning_known : (c : Vfs Opened) → VfsKnown nodes c → (x : Call) → BeginsKnown (beginning c.opens x)
   beginning_known c old (call.stat path) = whole path _ (λ words. nothing)
   beginning_known c old (call.list path after) = whole path _ (λ words. nothing)
+  beginning_known c old (call.listplus path after) = whole path _ (λ words. nothing)
   beginning_known c old (call.opening path) = whole path _ (λ words. nothing)
   beginning_known c old (call.mkdir path) = parent path _ (λ words name. nothing)
   beginning_known c old (call.create path) = parent path _ (λ words name. nothing)
@@ -97,6 +99,18 @@ module _ (nodes : Map Counted) where
 
   -- ---- a call hears a reply
 
+  -- the names of a list lead to known nodes
+  all_bound_known : (d : ℕ) → IsKnown nodes d → (pairs : List (DirentPlus ℕ)) (c : Vfs Opened) → VfsKnown nodes c → All (IsKnown nodes) (op.files_told pairs) → VfsKnown nodes (all_bound c d pairs)
+  all_bound_known d from [] c old known = old
+  all_bound_known d from (pair ∷ pairs) c old known = by (op.told_by pair) known (λ e olds k. all_bound_known d from pairs e olds k)
+    where
+      by : (o : Option ℕ) → All (IsKnown nodes) (op.first_told o (op.files_told pairs)) → ((e : Vfs Opened) → VfsKnown nodes e → All (IsKnown nodes) (op.files_told pairs) → VfsKnown nodes (all_bound e d pairs)) → VfsKnown nodes (record c { names = names_told c.clock d (name_told c.clock d c.names pair o) pairs })
+      by None k rest = rest c old k
+      by (Some file) k rest =
+          rest (bound c d pair.dirent.name (Some file) pair.valid)
+          (bound_known nodes c old d pair.dirent.name (Some file) pair.valid from (λ other e. let is : file ≡ other = cc in subst (IsKnown nodes) is (All-head (IsKnown nodes) file (op.files_told pairs) k)))
+          (All-tail (IsKnown nodes) file (op.files_told pairs) k)
+
   module _ (c : Vfs Opened) (old : VfsKnown nodes c) (call : ℕ) where
     head : (id : ℕ) (ids : List ℕ) → All (IsKnown nodes) (id ∷ ids) → IsKnown nodes id
     head id ids h = All-head (IsKnown nodes) id ids h
@@ -120,6 +134,10 @@ module _ (nodes : Map Counted) where
     operation_known (op.opening x) (op.opened fh) h k = answered_known nodes _ (opened_known nodes c old call (record { nodeid = x; fh = fh }) (head x [] h)) call _
     operation_known (op.getattr x) (op.attributes m) h k = answered_known nodes c old call _
     operation_known (op.readdir d after size) (op.listed records) h k = answered_known nodes c old call _
+    operation_known (op.readdirplus d after size) (op.listed_plus pairs) h k =
+        let ids = map (op.pair_with (λ (g : Entry). g.nodeid)) pairs in
+        let known = subst (All (IsKnown nodes)) (sym (told_files_with (λ (g : Entry). g.nodeid) pairs)) (All-map (IsKnown nodes) (λ (g : Entry). g.nodeid) (op.files_told pairs) k) in
+        answered_known nodes _ (all_bound_known d (head d [] h) ids c old known) call _
     operation_known (op.read o offset size) (op.content bytes) h k = answered_known nodes c old call _
     operation_known (op.write o offset bytes) (op.written size) h k = answered_known nodes c old call _
     operation_known a wire h k = answered_known nodes c old call _

@@ -11,7 +11,7 @@ use Rattle.fuse_spec.specs.Answers.{Answer}
 use Rattle.fuse_spec.specs.Maps.{Map, place_cmp, get_name}
 use Rattle.fuse_spec.specs.Operations.{files_in}
 use Rattle.fuse_spec.specs.Paths.{Name}
-use Rattle.fuse_spec.specs.Walks.{FinalOperation, stat, list, opening, mkdir, create, unlink, rmdir, rename_from, link_to, WalkPlan, last, rename, link, operation_at, WalkStop, unknown, missing, arrived, go, Walked, looks_up, finds_none, asks, after_last, after_stop, walk, files_of_plan}
+use Rattle.fuse_spec.specs.Walks.{FinalOperation, stat, list, opening, mkdir, create, unlink, rmdir, rename_from, link_to, WalkPlan, last, rename, link, operation_at, WalkStop, unknown, missing, arrived, go, Walked, looks_up, finds_none, asks, after_last, after_stop, walk, files_of_plan, listplus}
 use Rattle.fuse_spec.specs.Vfs.{CallState, walking, doing, Vfs, answered, asking, bound, unbound, opened_by, valid_at, look, after_walk, walks_on}
 use Rattle.fuse_spec.specs.Kernel.{opened_nodes, nodes_of_state}
 use Rattle.fuse_spec.proofs.Tables.{name_put, name_gone, name_put_there}
@@ -62,6 +62,7 @@ module _ (nodes : Map Counted) where
   final_known : (final : FinalOperation ℕ) (file : ℕ) → All (IsKnown nodes) (files_of_plan (last final)) → K file → All (IsKnown nodes) (files_in opened_nodes (operation_at {O = Opened} final file))
   final_known stat file h g = one file g
   final_known (list after) file h g = one file g
+  final_known (listplus after) file h g = one file g
   final_known opening file h g = one file g
   final_known (mkdir name) file h g = one file g
   final_known (create name) file h g = one file g

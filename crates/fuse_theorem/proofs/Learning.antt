@@ -1,5 +1,7 @@
 -- The kernel learns the nodes that a reply names.
-use Rattle.std.proofs.Common.{◌≡◌, ◌≢◌, ℕ, Bool, true, false, true≢false, cond, List, [], ◌∷◌, Option, Some, None, nat_eq, option_map, refl, ap, sym, subst, ◌∙◌, inl, inr}
+use Rattle.fuse_theorem.proofs.Pairs.{told_with}
+use Rattle.std.proofs.lemmas.List.Elements.{All-head, All-tail}
+use Rattle.std.proofs.Common.{◌≡◌, ◌≢◌, ℕ, Bool, true, false, true≢false, cond, List, [], ◌∷◌, Option, Some, None, nat_eq, option_map, refl, ap, sym, subst, ◌∙◌, inl, inr, map, All}
 use Rattle.std.specs.Prelude.{nat_lt}
 use Rattle.std.proofs.lemmas.Bool.{cases_eq}
 use Rattle.std.proofs.lemmas.Bool.Decides.{eqb_tells}
@@ -7,14 +9,14 @@ use Rattle.fuse_spec.specs.declared.Counted.{Counted}
 use Rattle.fuse_spec.specs.declared.Entry.{Entry}
 use Rattle.fuse_spec.specs.declared.Opened.{Opened}
 use Rattle.fuse_spec.specs.Maps.{Map, get, put}
-use Rattle.fuse_spec.specs.Operations.{Operation, create, opening, Reply, found, missing, created, opened, attributes, listed, content, written, agreed, done, failed, files_in_reply}
+use Rattle.fuse_spec.specs.Operations.{Operation, create, opening, Reply, found, missing, created, opened, attributes, listed, listed_plus, content, written, agreed, done, failed, files_in_reply, DirentPlus, told_by, first_told, files_told, pair_with}
 use Rattle.fuse_spec.specs.Messages.{WireReply}
 use Rattle.fuse_spec.specs.Nodes.{NodeTable, HandleTable, OpenNumber, is_open, is_file_of}
-use Rattle.fuse_spec.specs.Replies.{goes_with, usable, useless, stale, use_counted, use_of, use_of_all, first_use, counted_more, learnt, kernel_reply}
-use Rattle.fuse_spec.specs.Denotes.{Denotes, Names, Opens, generation_known, Means, MeansOpen, OperationAlike, ReplyAlike}
+use Rattle.fuse_spec.specs.Replies.{goes_with, usable, useless, stale, use_counted, use_of, first_use, counted_more, learnt, kernel_reply}
+use Rattle.fuse_spec.specs.Denotes.{Denotes, Names, Opens, generation_known, Means, MeansOpen, OperationAlike, ReplyAlike, OptionAlike, PairsAlike}
 use Rattle.fuse_spec.proofs.Tables.{get_put_here, get_put_there}
 use Rattle.fuse_theorem.specs.Numbering.{IsOneToOne}
-use Rattle.fuse_theorem.specs.Conditions.{OneId, OpensItsFile}
+use Rattle.fuse_theorem.specs.Conditions.{OneId, OpensItsFile, IsUsable}
 use Rattle.fuse_theorem.proofs.Finding.{other_is}
 use Rattle.fuse_theorem.proofs.Giving.{denotes_one}
 
@@ -54,7 +56,7 @@ learnt_known [] nodes id generation e = e
 learnt_known (g ∷ gs) nodes id generation e = learnt_known gs (put nodes g.nodeid (counted_more g (get nodes g.nodeid))) id generation (put_known nodes g id generation e)
 
 -- An entry that can be used is known from then on under its own generation.
-usable_known : (nodes : Map Counted) (g : Entry) → first_use (use_of nodes g) usable ≡ usable → generation_known (learnt nodes (g ∷ [])) g.nodeid ≡ Some g.generation
+pub usable_known : (nodes : Map Counted) (g : Entry) → first_use (use_of nodes g) usable ≡ usable → generation_known (learnt nodes (g ∷ [])) g.nodeid ≡ Some g.generation
 usable_known nodes g e = by (nat_lt g.nodeid 2) refl e
   where
     counted : (o : Option Counted) → first_use (use_counted g o) usable ≡ usable → Some (counted_more g o).generation ≡ Some g.generation
@@ -83,14 +85,36 @@ opens_one h fh a b x y = by (get h.handles fh) x y
       | inr p ↦ absurd (true≢false (sym x ∙ p.0))
     ]
 
+abbrev EntryKnown : Map Counted → Entry → Type 0
+EntryKnown nodes g = generation_known nodes g.nodeid ≡ Some g.generation
+
+-- names of a list whose entries are known
+heard_pairs : (nodes : Map Counted) (t : NodeTable) (xs : List (DirentPlus Entry)) (ys : List (DirentPlus ℕ)) → All (λ (g : Entry). generation_known nodes g.nodeid ≡ Some g.generation) (files_told xs) → PairsAlike (Names t) xs ys
+    → PairsAlike (Means nodes t) (map (pair_with (λ (g : Entry). g.nodeid)) xs) ys
+heard_pairs nodes t [] [] known h = h
+heard_pairs nodes t (x ∷ xs) (y ∷ ys) known h =
+    ((subst (λ (o : Option ℕ). OptionAlike (Means nodes t) o (told_by y)) (sym (told_with (λ (g : Entry). g.nodeid) x)) (first (told_by x) (told_by y) known h.0.0), h.0.1, h.0.2), heard_pairs nodes t xs ys (rest (told_by x) known) h.1)
+  where
+    first : (a : Option Entry) (b : Option ℕ) → All (EntryKnown nodes) (first_told a (files_told xs)) → OptionAlike (Names t) a b → OptionAlike (Means nodes t) (option_map (λ (g : Entry). g.nodeid) a) b
+    first None None k r = r
+    first (Some g) (Some file) k r = record { generation = g.generation; known = All-head (EntryKnown nodes) g (files_told xs) k; denotes = r }
+    first None (Some file) k r = absurd r
+    first (Some g) None k r = absurd r
+
+    rest : (a : Option Entry) → All (EntryKnown nodes) (first_told a (files_told xs)) → All (EntryKnown nodes) (files_told xs)
+    rest None k = k
+    rest (Some g) k = All-tail (EntryKnown nodes) g (files_told xs) k
+heard_pairs nodes t [] (y ∷ ys) known h = absurd h
+heard_pairs nodes t (x ∷ xs) [] known h = absurd h
+
 -- What the kernel hears is what the reply says of the files.
 pub heard_fits : (nodes : Map Counted) (t : NodeTable) (h : HandleTable) (operation : Operation ℕ Opened) (asked : Operation ℕ ℕ) (wire : WireReply) (reply : Reply ℕ ℕ) → goes_with operation wire ≡ true
-    → use_of_all nodes (files_in_reply wire) ≡ usable → OpensItsFile t h operation wire → OperationAlike (Means nodes t) (MeansOpen nodes t h) operation asked → ReplyAlike (Names t) (Opens h) wire reply
+    → IsUsable nodes wire → OpensItsFile t h operation wire → OperationAlike (Means nodes t) (MeansOpen nodes t h) operation asked → ReplyAlike (Names t) (Opens h) wire reply
     → ReplyAlike (Means (learnt nodes (files_in_reply wire)) t) (MeansOpen (learnt nodes (files_in_reply wire)) t h) (kernel_reply operation wire) reply
-heard_fits nodes t h operation asked (found g v) (found file v') goes used its same told = (record { generation = g.generation; known = usable_known nodes g used; denotes = told.0 }, told.1)
+heard_fits nodes t h operation asked (found g v) (found file v') goes used its same told = (record { generation = g.generation; known = All-head (λ (x : Entry). generation_known (learnt nodes (g ∷ [])) x.nodeid ≡ Some x.generation) g [] used.known; denotes = told.0 }, told.1)
 heard_fits nodes t h operation asked (missing v) (missing v') goes used its same told = told
 heard_fits nodes t h (create d name) asked (created g v fh) (created file v' o) goes used its same told =
-    let known = usable_known nodes g used in
+    let known = All-head (λ (x : Entry). generation_known (learnt nodes (g ∷ [])) x.nodeid ≡ Some x.generation) g [] used.known in
     let one_file : file ≡ o = opens_one h fh file o (its file told.0) told.2 in (
       record { generation = g.generation; known = known; denotes = told.0 },
       told.1,
@@ -101,9 +125,10 @@ heard_fits nodes t h (opening node) (opening file) (opened fh) (opened o) goes u
     record { node_means = record { generation = same.generation; known = same.known; denotes = subst (λ (n : ℕ). Denotes t node same.generation n) one_file same.denotes }; is_number = told }
 heard_fits nodes t h operation asked (attributes a) (attributes b) goes used its same told = told
 heard_fits nodes t h operation asked (listed xs) (listed ys) goes used its same told = told
+heard_fits nodes t h operation asked (listed_plus xs) (listed_plus ys) goes used its same told = heard_pairs (learnt nodes (files_told xs)) t xs ys used.known told
 heard_fits nodes t h operation asked (content xs) (content ys) goes used its same told = told
 heard_fits nodes t h operation asked (written n) (written m) goes used its same told = told
-heard_fits nodes t h operation asked (agreed a b) (agreed c d) goes used its same told = told
+heard_fits nodes t h operation asked (agreed a b x) (agreed c d y) goes used its same told = told
 heard_fits nodes t h operation asked done done goes used its same told = told
 heard_fits nodes t h operation asked (failed a) (failed b) goes used its same told = told
 heard_fits nodes t h operation asked (created g v fh) (created file v' o) goes used its same told = absurd (cc)

@@ -1,3 +1,7 @@
+pub mod Pairs
+pub mod Judging
+pub mod OldCalls
+pub mod SpokenStay
 pub mod Walking
 pub mod Beginning
 pub mod Cases

@@ -1,9 +1,12 @@
--- Without a live mount the links are empty, and INIT is answered 7.31, whatever happens.
-use Rattle.std.proofs.Common.{◌≡◌, ℕ, ◌-◌, Bool, true, false, true≢false, cond, List, [], Option, Some, None, nat_eq, slice_get, refl, ap, sym, subst, ◌∙◌, arith, inl, inr}
+-- Without a live mount the links are empty, and INIT is answered with the server's minor, whatever happens.
+use Rattle.fuse_spec.specs.Numbers.{init_flags}
+use Rattle.fuse_spec.specs.declared.Minor.TheVariants.{M15, M31}
+use Rattle.fuse_spec.specs.declared.Minor.{Minor}
+use Rattle.fuse_spec.specs.Calls.{spoken}
+use Rattle.std.proofs.Common.{◌≡◌, ℕ, ◌-◌, Bool, true, false, true≢false, cond, List, [], Option, Some, None, nat_eq, slice_get, refl, ap, sym, subst, ◌∙◌, arith, inl, inr, All, ◌++◌, ◌∷◌}
 use Rattle.std.specs.Prelude.{◌%◌}
 use Rattle.std.specs.List.{remove as without_at}
 use Rattle.std.proofs.lemmas.List.Elements.{All-nil, All-push}
-use Rattle.fuse_spec.specs.declared.Phase.TheVariants.{Ready}
 use Rattle.fuse_spec.specs.declared.Purpose.{Purpose}
 use Rattle.fuse_spec.specs.declared.Purpose.TheVariants as purpose
 use Rattle.fuse_spec.specs.declared.QueuedRequest.{QueuedRequest}
@@ -13,14 +16,14 @@ use Rattle.fuse_spec.specs.declared.WriteResult.TheVariants.{Accepted, NoEntry, 
 use Rattle.fuse_spec.specs.Copies.{kept_after, after_result}
 use Rattle.fuse_spec.specs.Maps.{Map, get, put, remove}
 use Rattle.fuse_spec.specs.Messages.{Request, RequestBody, init, asks, release, forget, batch_forget, interrupt, WireReply}
-use Rattle.fuse_spec.specs.Operations.{agreed, done, failed}
+use Rattle.fuse_spec.specs.Operations.{done, failed}
 use Rattle.fuse_spec.specs.Queues.{request_under}
 use Rattle.fuse_spec.specs.QueueCalls.{waiting, without}
 use Rattle.fuse_spec.specs.Kernel.{Kernel, is_live, kernel_aborted, body_of}
-use Rattle.fuse_spec.specs.Replies.{is_agreement, reply_taken, odd_taken, interrupt_replied, reply_written}
+use Rattle.fuse_spec.specs.Replies.{is_agreement, reply_taken, odd_taken, interrupt_replied, reply_written, made_ready}
 use Rattle.fuse_spec.specs.Server.{Server, HeldRequest, Kept, Copy}
 use Rattle.fuse_spec.specs.Taking.{taking, interrupting}
-use Rattle.fuse_spec.specs.Performs.{performed, served}
+use Rattle.fuse_spec.specs.Performs.{performed, served, init_reply}
 use Rattle.fuse_spec.specs.Worlds.{World, Sent, first_world, replying, after_take, after_perform, after_again, after_write, after_settle}
 use Rattle.fuse_spec.specs.Events.{Event, Outcome}
 use Rattle.fuse_spec.specs.Steps.{Happens}
@@ -38,8 +41,8 @@ use Rattle.fuse_theorem.proofs.Queuing.{All-without, All-at}
 use Rattle.fuse_theorem.proofs.Settling.{kept_was}
 use Rattle.fuse_theorem.proofs.StillAsked.{IsNumberedFor}
 
-abbrev pub AgreesToInit : Sent → Type 0
-AgreesToInit s = s.unique ≡ 2 → s.wire ≡ agreed 7 31
+abbrev pub AgreesToInit : Minor → Sent → Type 0
+AgreesToInit minor s = s.unique ≡ 2 → s.wire ≡ init_reply minor init_flags
 
 -- nothing stands on an empty link
 pub none_at : {X : Type 0} {Y : Type 0} (xs : List X) (k : ℕ) (x : X) → xs ≡ [] → slice_get xs k ≡ Some x → Y
@@ -48,7 +51,7 @@ none_at {X = X} xs k x empty at = let none : slice_get xs k ≡ None = ap (λ (y
 pub none_in : {X : Type 0} {Y : Type 0} (m : Map X) (k : ℕ) (x : X) → m ≡ [] → get m k ≡ Some x → Y
 none_in {X = X} m k x empty at = let none : get m k ≡ None = ap (λ (n : Map X). get n k) empty in absurd (cc (none, at))
 
--- ---- INIT is answered 7.31
+-- ---- INIT is answered with the server's minor
 
 -- a request is INIT where it bears the first number, and bears it where it is INIT
 first_is_init : (k : Kernel) → InitIsFirst k.queues → (r : QueuedRequest Purpose) → request_under k.queues 2 ≡ Some r → r.kept ≡ purpose.Init
@@ -63,7 +66,7 @@ pub init_is_first : (k : Kernel) → InitIsFirst k.queues → (unique : ℕ) (r 
 init_is_first k first unique r under is = subst (BearsFirst unique) is (All-found IsNumberedFor unique k.queues.requests r first.entries under)
 
 -- What is held under the first number is INIT, and performed so.
-init_performed : (choice : ℕ → ℕ) (s : Server) (t : HeldRequest) → t.body ≡ init → t.marked ≡ false → t.generations ≡ [] → (performed choice s t).wire ≡ agreed 7 31
+init_performed : (choice : ℕ → ℕ) (s : Server) (t : HeldRequest) → t.body ≡ init init_flags → t.marked ≡ false → t.generations ≡ [] → (performed choice s t).wire ≡ init_reply s.minor init_flags
 init_performed choice s t body unmarked none = λ i. (performed choice s (record { body = body i; generations = none i; marked = unmarked i })).wire
 
 module _ (choice : ℕ → ℕ) (w : World) (links : LinksSound w) (asked : RequestsAsked w) (t : HeldRequest) (there : get w.server.held 2 ≡ Some t) where
@@ -73,8 +76,8 @@ module _ (choice : ℕ → ℕ) (w : World) (links : LinksSound w) (asked : Requ
   is_init : request.request.kept ≡ purpose.Init
   is_init = first_is_init w.kernel asked.first request.request request.under
 
-  body_is : t.body ≡ init
-  body_is = let says : Some t.body ≡ Some init = sym request.asks ∙ ap (body_of w.kernel) is_init in cc (says)
+  body_is : t.body ≡ init init_flags
+  body_is = let says : Some t.body ≡ Some (init init_flags) = sym request.asks ∙ ap (body_of w.kernel) is_init in cc (says)
 
   unmarked : t.marked ≡ false
   unmarked = by t.marked refl
@@ -85,14 +88,18 @@ module _ (choice : ℕ → ℕ) (w : World) (links : LinksSound w) (asked : Requ
           let interrupted = (asked.held 2 t there).interrupted e in
           absurd (true≢false (sym (interrupted.of_call request.request request.under) ∙ ap serves_call is_init))
 
-  init_answered : (served choice w.server 2 t).wire ≡ agreed 7 31
-  init_answered = init_performed choice (record w.server { held = remove w.server.held 2 }) t body_is unmarked (links.held 2 t there body_is)
+  init_answered : (served choice w.server 2 t).wire ≡ init_reply w.server.minor init_flags
+  init_answered = init_performed choice (record w.server { held = remove w.server.held 2 }) t body_is unmarked (links.held 2 t there init_flags body_is)
 
 -- ---- a reply is written
 
+is_agreed : (m : Minor) → is_agreement (init_reply m init_flags) ≡ true
+is_agreed M15 = refl
+is_agreed M31 = refl
+
 -- A live mount stays live where its INIT is agreed on.
-pub stays_live : (k : Kernel) → InitIsFirst k.queues → is_live k.phase ≡ true → (unique : ℕ) (wire : WireReply) → (unique ≡ 2 → wire ≡ agreed 7 31) → is_live (reply_written k unique wire).1.phase ≡ true
-stays_live k first live unique wire agrees = by (nat_eq (unique % 2) 1)
+pub stays_live : (k : Kernel) → InitIsFirst k.queues → is_live k.phase ≡ true → (minor : Minor) (unique : ℕ) (wire : WireReply) → (unique ≡ 2 → wire ≡ init_reply minor init_flags) → is_live (reply_written k unique wire).1.phase ≡ true
+stays_live k first live minor unique wire agrees = by (nat_eq (unique % 2) 1)
   where
     interrupts : (x : WireReply) → is_live (interrupt_replied k (unique - 1) x).1.phase ≡ true
     interrupts (failed errno) = live
@@ -107,8 +114,8 @@ stays_live k first live unique wire agrees = by (nat_eq (unique % 2) 1)
     even None waits = live
     even (Some purpose.Init) waits =
         let request = waiting_is k.queues unique purpose.Init waits in
-        let says : wire ≡ agreed 7 31 = agrees (init_is_first k first unique request.request request.under request.serves) in
-        subst (λ (b : Bool). is_live (cond b (record k { phase = Ready; queues = without k.queues unique }) (kernel_aborted (record k { queues = without k.queues unique }))).phase ≡ true) (ap is_agreement (sym says)) refl
+        let says : wire ≡ init_reply minor init_flags = agrees (init_is_first k first unique request.request request.under request.serves) in
+        subst (λ (b : Bool). is_live (cond b (made_ready (record k { queues = without k.queues unique }) wire) (kernel_aborted (record k { queues = without k.queues unique }))).phase ≡ true) (sym (ap is_agreement says ∙ is_agreed minor)) refl
     even (Some (purpose.Release o)) waits = live
     even (Some (purpose.Call call)) waits =
         let k1 = record k { queues = without k.queues unique } in
@@ -138,7 +145,7 @@ module _ (choice : ℕ → ℕ) (w : World) (sound : WorldSound w) (asked : Requ
   asks_live live requests dead = absurd (true≢false (sym live ∙ dead))
 
   -- A live mount's server changes.
-  serves : (v : World) → is_live w.kernel.phase ≡ true → v.kernel ≡ w.kernel → ((unique : ℕ) (t : HeldRequest) → get v.server.held unique ≡ Some t → t.body ≡ init → t.generations ≡ []) → v.server.aborted ≡ w.server.aborted → InitAgreed v → LinksSound v
+  serves : (v : World) → is_live w.kernel.phase ≡ true → v.kernel ≡ w.kernel → ((unique : ℕ) (t : HeldRequest) → get v.server.held unique ≡ Some t → (flags : ℕ) → t.body ≡ init flags → t.generations ≡ []) → v.server.aborted ≡ w.server.aborted → InitAgreed v → LinksSound v
   serves v live kernel held aborted says_so = record {
     held = held;
     serving = λ _. aborted ∙ links.serving live;
@@ -149,15 +156,15 @@ module _ (choice : ℕ → ℕ) (w : World) (sound : WorldSound w) (asked : Requ
   -- ---- the server takes a request
 
   module _ (live : is_live w.kernel.phase ≡ true) (k : ℕ) (r : Request) (at_k : slice_get w.requests k ≡ Some r) where
-    now_held : (new : HeldRequest) → (new.body ≡ init → new.generations ≡ []) → (unique : ℕ) (t : HeldRequest) → get (put w.server.held r.unique new) unique ≡ Some t → t.body ≡ init → t.generations ≡ []
+    now_held : (new : HeldRequest) → ((flags : ℕ) → new.body ≡ init flags → new.generations ≡ []) → (unique : ℕ) (t : HeldRequest) → get (put w.server.held r.unique new) unique ≡ Some t → (flags : ℕ) → t.body ≡ init flags → t.generations ≡ []
     now_held new names unique t at = elim (put_found w.server.held r.unique new unique t at) [
-      | inl h ↦ subst (λ (x : HeldRequest). x.body ≡ init → x.generations ≡ []) h.1 names
+      | inl h ↦ subst (λ (x : HeldRequest). (flags : ℕ) → x.body ≡ init flags → x.generations ≡ []) h.1 names
       | inr h ↦ links.held unique t h
     ]
 
-    now_marked : (original : ℕ) (t : HeldRequest) → get w.server.held original ≡ Some t → (unique : ℕ) (x : HeldRequest) → get (put w.server.held original (record t { marked = true })) unique ≡ Some x → x.body ≡ init → x.generations ≡ []
+    now_marked : (original : ℕ) (t : HeldRequest) → get w.server.held original ≡ Some t → (unique : ℕ) (x : HeldRequest) → get (put w.server.held original (record t { marked = true })) unique ≡ Some x → (flags : ℕ) → x.body ≡ init flags → x.generations ≡ []
     now_marked original t there unique x at = elim (put_found w.server.held original (record t { marked = true }) unique x at) [
-      | inl h ↦ subst (λ (y : HeldRequest). y.body ≡ init → y.generations ≡ []) h.1 (links.held original t there)
+      | inl h ↦ subst (λ (y : HeldRequest). (flags : ℕ) → y.body ≡ init flags → y.generations ≡ []) h.1 (links.held original t there)
       | inr h ↦ links.held unique x h
     ]
 
@@ -171,7 +178,7 @@ module _ (choice : ℕ → ℕ) (w : World) (sound : WorldSound w) (asked : Requ
         serves (after_take w k r.unique (interrupting w.server r.unique original None (Some x))) live refl links.held refl (record { copies = old.copies; kept = old.kept })
     interrupts original bears None there None =
         serves (after_take w k r.unique (interrupting w.server r.unique original None None)) live refl links.held refl
-        (record { copies = All-push AgreesToInit w.replies (record { number = w.server.next_copy; unique = r.unique; wire = failed 11 }) old.copies (λ e. absurd (omega (arith, e, bears))); kept = old.kept })
+        (record { copies = All-push (AgreesToInit w.server.minor) w.replies (record { number = w.server.next_copy; unique = r.unique; wire = failed 11 }) old.copies (λ e. absurd (omega (arith, e, bears))); kept = old.kept })
 
     taken_links : LinksSound (after_take w k r.unique (taking w.server r.unique r.body))
     taken_links = let requests = sound.requests in by r.body (All-at (λ (x : Request). BearsNumber x.unique x.body) w.requests k r requests.numbers at_k)
@@ -180,9 +187,9 @@ module _ (choice : ℕ → ℕ) (w : World) (sound : WorldSound w) (asked : Requ
         same = old
 
         by : (body : RequestBody) → BearsNumber r.unique body → LinksSound (after_take w k r.unique (taking w.server r.unique body))
-        by init bears = serves (after_take w k r.unique (taking w.server r.unique init)) live refl (now_held _ (λ e. refl)) refl (record { copies = same.copies; kept = same.kept })
-        by (asks operation) bears = serves (after_take w k r.unique (taking w.server r.unique (asks operation))) live refl (now_held _ (λ e. absurd (cc (e)))) refl (record { copies = same.copies; kept = same.kept })
-        by (release o) bears = serves (after_take w k r.unique (taking w.server r.unique (release o))) live refl (now_held _ (λ e. absurd (cc (e)))) refl (record { copies = same.copies; kept = same.kept })
+        by (init offered) bears = serves (after_take w k r.unique (taking w.server r.unique (init offered))) live refl (now_held _ (λ flags e. refl)) refl (record { copies = same.copies; kept = same.kept })
+        by (asks operation) bears = serves (after_take w k r.unique (taking w.server r.unique (asks operation))) live refl (now_held _ (λ flags e. absurd (cc (e)))) refl (record { copies = same.copies; kept = same.kept })
+        by (release o) bears = serves (after_take w k r.unique (taking w.server r.unique (release o))) live refl (now_held _ (λ flags e. absurd (cc (e)))) refl (record { copies = same.copies; kept = same.kept })
         by (forget f) bears = serves (after_take w k r.unique (taking w.server r.unique (forget f))) live refl links.held refl (record { copies = same.copies; kept = same.kept })
         by (batch_forget fs) bears = serves (after_take w k r.unique (taking w.server r.unique (batch_forget fs))) live refl links.held refl (record { copies = same.copies; kept = same.kept })
         by (interrupt original) bears = interrupts original bears (get w.server.held original) refl (get w.server.kept original)
@@ -196,7 +203,7 @@ module _ (choice : ℕ → ℕ) (w : World) (sound : WorldSound w) (asked : Requ
     abbrev first_kept : Kept
     first_kept = record { wire = wire; first = w.server.next_copy }
 
-    still_held : (u : ℕ) (x : HeldRequest) → get (served choice w.server unique t).server.held u ≡ Some x → x.body ≡ init → x.generations ≡ []
+    still_held : (u : ℕ) (x : HeldRequest) → get (served choice w.server unique t).server.held u ≡ Some x → (flags : ℕ) → x.body ≡ init flags → x.generations ≡ []
     still_held u x at =
         let rest = performed_rest choice (record w.server { held = remove w.server.held unique }) t in
         links.held u x (left_found w.server.held unique u x (ap (λ (m : Map HeldRequest). get m u) (sym rest.held) ∙ at))
@@ -209,23 +216,30 @@ module _ (choice : ℕ → ℕ) (w : World) (sound : WorldSound w) (asked : Requ
         let rest = performed_rest choice (record w.server { held = remove w.server.held unique }) t in
         λ i. cond (rest.aborted i) (rest.kept i) (put (rest.kept i) unique (record { wire = wire; first = rest.next_copy i }))
 
+    minor_same : (served choice w.server unique t).server.minor ≡ w.server.minor
+    minor_same = (performed_rest choice (record w.server { held = remove w.server.held unique }) t).minor
+
     -- where it is INIT
-    says : is_live w.kernel.phase ≡ true → unique ≡ 2 → wire ≡ agreed 7 31
+    says : is_live w.kernel.phase ≡ true → unique ≡ 2 → wire ≡ init_reply w.server.minor init_flags
     says live e =
-        subst (λ (n : ℕ). (served choice w.server n t).wire ≡ agreed 7 31) (sym e) (init_answered choice w links (asked live) t (subst (λ (n : ℕ). get w.server.held n ≡ Some t) e there))
+        subst (λ (n : ℕ). (served choice w.server n t).wire ≡ init_reply w.server.minor init_flags) (sym e) (init_answered choice w links (asked live) t (subst (λ (n : ℕ). get w.server.held n ≡ Some t) e there))
 
     live_performs : is_live w.kernel.phase ≡ true → (b : Bool) → (served choice w.server unique t).server.kept ≡ cond b w.server.kept (put w.server.kept unique first_kept)
         → LinksSound (replying (record w { server = (served choice w.server unique t).server }) w.server.next_copy unique (cond b None (Some wire)))
     live_performs live true kept =
         let old = links.agreed live in
-        serves (record w { server = (served choice w.server unique t).server }) live refl still_held aborted_same (record { copies = old.copies; kept = λ x at. old.kept x (ap (λ (m : Map Kept). get m 2) (sym kept) ∙ at) })
+        serves (record w { server = (served choice w.server unique t).server }) live refl still_held aborted_same (record {
+          copies = subst (λ (m : Minor). All (AgreesToInit m) w.replies) (sym minor_same) old.copies;
+          kept = λ x at. old.kept x (ap (λ (m : Map Kept). get m 2) (sym kept) ∙ at) ∙ ap (λ (m : Minor). init_reply m init_flags) (sym minor_same);
+        })
     live_performs live false kept =
         let old = links.agreed live in
         serves (replying (record w { server = (served choice w.server unique t).server }) w.server.next_copy unique (Some wire)) live refl still_held aborted_same (record {
-          copies = All-push AgreesToInit w.replies (record { number = w.server.next_copy; unique = unique; wire = wire }) old.copies (says live);
+          copies = subst (λ (m : Minor). All (AgreesToInit m) (w.replies ++ record { number = w.server.next_copy; unique = unique; wire = wire } ∷ [])) (sym minor_same)
+              (All-push (AgreesToInit w.server.minor) w.replies (record { number = w.server.next_copy; unique = unique; wire = wire }) old.copies (says live));
           kept = λ x at. elim (put_found w.server.kept unique first_kept 2 x (ap (λ (m : Map Kept). get m 2) (sym kept) ∙ at)) [
-            | inl h ↦ ap (λ (y : Kept). y.wire) (sym h.1) ∙ says live (sym h.0)
-            | inr h ↦ old.kept x h
+            | inl h ↦ ap (λ (y : Kept). y.wire) (sym h.1) ∙ says live (sym h.0) ∙ ap (λ (m : Minor). init_reply m init_flags) (sym minor_same)
+            | inr h ↦ old.kept x h ∙ ap (λ (m : Minor). init_reply m init_flags) (sym minor_same)
           ];
         })
 
@@ -264,7 +278,7 @@ module _ (choice : ℕ → ℕ) (w : World) (sound : WorldSound w) (asked : Requ
       old : InitAgreed w
       old = links.agreed live
 
-      fewer : (x : Kept) → get (kept_after w.server.kept copy (get w.server.kept copy.unique)) 2 ≡ Some x → x.wire ≡ agreed 7 31
+      fewer : (x : Kept) → get (kept_after w.server.kept copy (get w.server.kept copy.unique)) 2 ≡ Some x → x.wire ≡ init_reply w.server.minor init_flags
       fewer x at = old.kept x (kept_was w.server.kept copy (get w.server.kept copy.unique) 2 x at)
 
       by : (r : WriteResult) → LinksSound (record w { results = without_at w.results k; server = after_result (record w.server { copies = remove w.server.copies result.number; kept = kept_after w.server.kept copy (get w.server.kept copy.unique) }) copy.wire r })
@@ -274,7 +288,7 @@ module _ (choice : ℕ → ℕ) (w : World) (sound : WorldSound w) (asked : Requ
 
   -- The mount lives on as a reply is written.
   pub written_live : is_live w.kernel.phase ≡ true → (k : ℕ) (sent : Sent) → slice_get w.replies k ≡ Some sent → is_live (reply_written w.kernel sent.unique sent.wire).1.phase ≡ true
-  written_live live k sent at_k = let old = links.agreed live in stays_live w.kernel (asked live).first live sent.unique sent.wire (All-at AgreesToInit w.replies k sent old.copies at_k)
+  written_live live k sent at_k = let old = links.agreed live in stays_live w.kernel (asked live).first live w.server.minor sent.unique sent.wire (All-at (AgreesToInit w.server.minor) w.replies k sent old.copies at_k)
 
   written_links : is_live w.kernel.phase ≡ true → (k : ℕ) (sent : Sent) → slice_get w.replies k ≡ Some sent → LinksSound (after_write w k sent (reply_written w.kernel sent.unique sent.wire))
   written_links live k sent at_k =
@@ -282,7 +296,7 @@ module _ (choice : ℕ → ℕ) (w : World) (sound : WorldSound w) (asked : Requ
       record {
         held = links.held;
         serving = λ _. links.serving live;
-        agreed = λ _. record { copies = All-without AgreesToInit w.replies k old.copies; kept = old.kept };
+        agreed = λ _. record { copies = All-without (AgreesToInit w.server.minor) w.replies k old.copies; kept = old.kept };
         idle = λ dead. absurd (true≢false (sym (written_live live k sent at_k) ∙ dead));
       }
 
@@ -290,7 +304,7 @@ module _ (choice : ℕ → ℕ) (w : World) (sound : WorldSound w) (asked : Requ
   again_links live unique kept there =
       let old = links.agreed live in
       serves (after_again w unique kept) live refl links.held refl (record {
-        copies = All-push AgreesToInit w.replies (record { number = w.server.next_copy; unique = unique; wire = kept.wire }) old.copies (λ e. old.kept kept (subst (λ (n : ℕ). get w.server.kept n ≡ Some kept) e there));
+        copies = All-push (AgreesToInit w.server.minor) w.replies (record { number = w.server.next_copy; unique = unique; wire = kept.wire }) old.copies (λ e. old.kept kept (subst (λ (n : ℕ). get w.server.kept n ≡ Some kept) e there));
         kept = old.kept;
       })
 
@@ -303,15 +317,15 @@ module _ (choice : ℕ → ℕ) (w : World) (sound : WorldSound w) (asked : Requ
       by false dead = idle (links.idle dead)
 
   by_event : (e : Event) (o : Outcome) (after : World) → Happened choice w e o after → LinksSound after
-  by_event e o after (by_mount f m idle) = record {
+  by_event e o after (by_mount f m v idle) = record {
     held = λ unique t at. absurd (cc);
     serving = λ live. refl;
-    agreed = λ live. record { copies = All-nil AgreesToInit; kept = λ x at. absurd (cc) };
+    agreed = λ live. record { copies = All-nil (AgreesToInit v); kept = λ x at. absurd (cc) };
     idle = λ dead. absurd (true≢false dead);
   }
-  by_event e o after (by_call call ready room within) = let goes = begun_goes_on w.kernel call in goes_on after.kernel w.requests (ap is_live goes.phase) dead_requests
+  by_event e o after (by_call call ready room within) = let goes = begun_goes_on w.kernel (spoken w.kernel.lists_files call) in goes_on after.kernel w.requests (ap is_live goes.phase) dead_requests
   by_event e o after (by_read_interrupt original rest live there within) = goes_on after.kernel after.requests refl (asks_live live after.requests)
-  by_event e o after (by_read_forgets n live free can within) = goes_on after.kernel after.requests refl (asks_live live after.requests)
+  by_event e o after (by_read_forgets n live free can within few) = goes_on after.kernel after.requests refl (asks_live live after.requests)
   by_event e o after (by_read_pending k unique kept body live free there says within) = goes_on after.kernel after.requests refl (asks_live live after.requests)
   by_event e o after (by_take k r there within) = while_live (λ live. taken_links live k r there) (λ idle. none_at w.requests k r idle.requests there)
   by_event e o after (by_perform unique t there within) = performed_links unique t there

@@ -1,14 +1,13 @@
 -- Lookups stay balanced as the kernel takes a reply.
+use Rattle.fuse_theorem.specs.Conditions.{IsUsable}
 use Rattle.std.proofs.Common.{◌≡◌, ◌≢◌, ℕ, ◌+◌, ◌-◌, ◌≤◌, Bool, true, false, true≢false, cond, List, [], ◌∷◌, ◌++◌, Option, Some, None, nat_eq, is_some, slice_get, refl, ap, sym, subst, ◌∙◌, arith, inl, inr, All}
-use Rattle.std.specs.Prelude.{◌%◌, nat_lt}
+use Rattle.std.specs.Prelude.{◌%◌}
 use Rattle.std.specs.List.{remove as without_at}
-use Rattle.std.proofs.lemmas.Bool.Decides.{nat_tests}
-use Rattle.std.proofs.lemmas.List.Elements.{All-push, All-head}
+use Rattle.std.proofs.lemmas.List.Elements.{All-push, All-head, All-tail}
 use Rattle.std.proofs.lemmas.List.Sums.{sum_by_push}
 use Rattle.fuse_spec.specs.declared.Counted.{Counted}
 use Rattle.fuse_spec.specs.declared.Entry.{Entry}
 use Rattle.fuse_spec.specs.declared.Opened.{Opened}
-use Rattle.fuse_spec.specs.declared.Phase.TheVariants.{Ready}
 use Rattle.fuse_spec.specs.declared.Purpose.{Purpose}
 use Rattle.fuse_spec.specs.declared.Purpose.TheVariants as purpose
 use Rattle.fuse_spec.specs.declared.QueuedRequest.{QueuedRequest}
@@ -17,15 +16,15 @@ use Rattle.fuse_spec.specs.declared.WriteResult.{WriteResult}
 use Rattle.fuse_spec.specs.declared.WriteResult.TheVariants.{Accepted, NoEntry, Invalid}
 use Rattle.fuse_spec.specs.Answers as answer
 use Rattle.fuse_spec.specs.CallReplies.{call_replied}
-use Rattle.fuse_spec.specs.Maps.{Map, get}
+use Rattle.fuse_spec.specs.Maps.{Map, get, put}
 use Rattle.fuse_spec.specs.Messages.{WireReply}
 use Rattle.fuse_spec.specs.Operations.{agreed, done, failed, files_in_reply}
 use Rattle.fuse_spec.specs.Vfs.{CallState, asked, answered}
 use Rattle.fuse_spec.specs.QueueCalls.{waiting, without}
 use Rattle.fuse_spec.specs.Kernel.{Kernel, is_live, is_for, kernel_aborted, after_use}
-use Rattle.fuse_spec.specs.Nodes.{HeldNode, NodeTable}
+use Rattle.fuse_spec.specs.Nodes.{NodeTable}
 use Rattle.fuse_spec.specs.Server.{Copy, forgotten}
-use Rattle.fuse_spec.specs.Replies.{kernel_reply, counted_more, learnt, Use, usable, useless, stale, use_counted, use_of, use_of_all, first_use, goes_with, is_empty_reply, is_init_reply, is_agreement, write_result_of, judged, replied, replied_to_call, ended_by, reply_taken, odd_taken, interrupt_replied, interrupt_reply_of, reply_written}
+use Rattle.fuse_spec.specs.Replies.{kernel_reply, counted_more, learnt, usable, goes_with, is_empty_reply, is_init_reply, is_agreement, write_result_of, judged, replied, replied_to_call, ended_by, reply_taken, odd_taken, interrupt_replied, interrupt_reply_of, reply_written, made_ready}
 use Rattle.fuse_spec.specs.Counts.{counted, names_in, carried, refused}
 use Rattle.fuse_spec.specs.Worlds.{World, Sent, after_write}
 use Rattle.fuse_spec.proofs.QueueCounts.{count_by-cons}
@@ -35,12 +34,13 @@ use Rattle.fuse_theorem.specs.Numbering.{IsNumbered, requests_for}
 use Rattle.fuse_theorem.proofs.Answered.{waiting_is}
 use Rattle.fuse_theorem.proofs.CountsStay.{SameCounts, then_same, advanced_same, used_same, interrupt_reply_same}
 use Rattle.fuse_theorem.proofs.Finding.{same_is, count_left}
+use Rattle.fuse_theorem.proofs.Judging.{heard_is, reply_usable}
 use Rattle.fuse_theorem.proofs.LinkSums.{sum_removed}
 use Rattle.fuse_theorem.proofs.Lookups.{copies_name, refused_name}
 use Rattle.fuse_theorem.proofs.NodesSound.{put_found}
 use Rattle.fuse_theorem.proofs.Queuing.{All-without, All-at}
 use Rattle.fuse_theorem.proofs.RowCounts.{learnt_count}
-use Rattle.fuse_theorem.proofs.WireCounts.{OneAtMost, nothing, one, names_one, entries_of}
+use Rattle.fuse_theorem.proofs.WireCounts.{entries_of}
 
 -- What the kernel knows of its nodes: their ids, counts, and that the server holds them.
 abbrev pub KnownIn : NodeTable → Map Counted → Type 0
@@ -82,62 +82,48 @@ names_nothing t k l wire result known same none = record {
 -- ---- a reply to a call
 
 module _ (t : NodeTable) (nodes : Map Counted) (known : KnownIn t nodes) where
-  -- An entry that is held can be used.
-  entry_usable : (g : Entry) → 2 ≤ g.nodeid → IsHeldAs t g.nodeid g.generation → use_of nodes g ≡ usable
-  entry_usable g low held = ap (λ (b : Bool). cond b useless (use_counted g (get nodes g.nodeid))) not_root ∙ by (get nodes g.nodeid) refl
-    where
-      not_root : nat_lt g.nodeid 2 ≡ false
-      not_root = grind (arith, nat_tests, low)
+  -- A reply whose entries are held can be used.
+  pub wire_usable : (wire : WireReply) → EntriesHeld t wire → IsUsable nodes wire
+  wire_usable wire held = reply_usable t nodes (λ id node at. (known id node at).2) wire held
 
-      by : (o : Option Counted) → get nodes g.nodeid ≡ o → use_counted g o ≡ usable
-      by None at = refl
-      by (Some c) at =
-          let is_known = known g.nodeid c at in
-          let a = is_known.2.1 in
-          let b = held.1 in
-          let row : a.row ≡ b.row = cc (a.there, b.there) in
-          let same : c.generation ≡ g.generation = sym a.same_generation ∙ ap (λ (r : HeldNode). r.generation) row ∙ b.same_generation in
-          ap (λ (x : Bool). cond x usable (stale g.nodeid)) (subst (λ (n : ℕ). nat_eq c.generation n ≡ true) same (same_is c.generation))
+-- An entry of a node that is held.
+abbrev EntryHeld : NodeTable → Entry → Type 0
+EntryHeld t g = (2 ≤ g.nodeid) × IsHeldAs t g.nodeid g.generation
 
-  pub wire_usable : (wire : WireReply) → EntriesHeld t wire → use_of_all nodes (files_in_reply wire) ≡ usable
-  wire_usable wire held = by (files_in_reply wire) (names_one wire) held
-    where
-      by : (gs : List Entry) → OneAtMost gs → All (λ (g : Entry). (2 ≤ g.nodeid) × IsHeldAs t g.nodeid g.generation) gs → use_of_all nodes gs ≡ usable
-      by gs nothing h = refl
-      by gs (one g) h = let mine = All-head (λ (x : Entry). (2 ≤ x.nodeid) × IsHeldAs t x.nodeid x.generation) g [] h in ap (λ (u : Use). first_use u usable) (entry_usable g mine.0 mine.1)
+-- Its entries are learnt.
+wire_known : (t : NodeTable) (gs : List Entry) (nodes : Map Counted) → KnownIn t nodes → All (EntryHeld t) gs → KnownIn t (learnt nodes gs)
+wire_known t [] nodes known held = known
+wire_known t (g ∷ gs) nodes known held = wire_known t gs (put nodes g.nodeid new) one_known (All-tail (EntryHeld t) g gs held)
+  where
+    new : Counted
+    new = counted_more g (get nodes g.nodeid)
 
-  -- Its entries are learnt.
-  wire_known : (wire : WireReply) → EntriesHeld t wire → KnownIn t (learnt nodes (files_in_reply wire))
-  wire_known wire held = by (files_in_reply wire) (names_one wire) held
-    where
-      new_known : (g : Entry) → 2 ≤ g.nodeid → IsHeldAs t g.nodeid g.generation → (o : Option Counted) → get nodes g.nodeid ≡ o → (2 ≤ g.nodeid) × (1 ≤ (counted_more g o).count) × IsHeldAs t g.nodeid (counted_more g o).generation
-      new_known g low h None at = (low, omega arith, h)
-      new_known g low h (Some c) at = (low, omega arith, (known g.nodeid c at).2)
+    mine : EntryHeld t g
+    mine = All-head (EntryHeld t) g gs held
 
-      by : (gs : List Entry) → OneAtMost gs → All (λ (g : Entry). (2 ≤ g.nodeid) × IsHeldAs t g.nodeid g.generation) gs → KnownIn t (learnt nodes gs)
-      by gs nothing h id node at = known id node at
-      by gs (one g) h id node at =
-          let mine = All-head (λ (x : Entry). (2 ≤ x.nodeid) × IsHeldAs t x.nodeid x.generation) g [] h in
-          let new = counted_more g (get nodes g.nodeid) in
-          elim (put_found nodes g.nodeid new id node at) [
-            | inl e ↦ subst (λ (c : Counted). (2 ≤ id) × (1 ≤ c.count) × IsHeldAs t id c.generation) e.1 (subst (λ (n : ℕ). (2 ≤ n) × (1 ≤ new.count) × IsHeldAs t n new.generation) (sym e.0) (new_known g mine.0 mine.1 (get nodes g.nodeid) refl))
-            | inr e ↦ known id node e
-          ]
+    new_known : (o : Option Counted) → get nodes g.nodeid ≡ o → (2 ≤ g.nodeid) × (1 ≤ (counted_more g o).count) × IsHeldAs t g.nodeid (counted_more g o).generation
+    new_known None at = (mine.0, omega arith, mine.1)
+    new_known (Some c) at = (mine.0, omega arith, (known g.nodeid c at).2)
 
-  wire_counted : (wire : WireReply) (id : ℕ) → counted (get (learnt nodes (files_in_reply wire)) id) ≡ counted (get nodes id) + names_in id wire
-  wire_counted wire id = by (files_in_reply wire) (names_one wire)
-    where
-      by : (gs : List Entry) → OneAtMost gs → counted (get (learnt nodes gs) id) ≡ counted (get nodes id) + entries_of id gs
-      by gs nothing = omega arith
-      by gs (one g) =
-          let more = learnt_count nodes g id in
-          let counts = count_by-cons (λ (x : Entry). nat_eq x.nodeid id) g [] in
-          omega (arith, more, counts)
+    one_known : KnownIn t (put nodes g.nodeid (counted_more g (get nodes g.nodeid)))
+    one_known id node at = elim (put_found nodes g.nodeid (counted_more g (get nodes g.nodeid)) id node at) [
+      | inl e ↦ subst (λ (c : Counted). (2 ≤ id) × (1 ≤ c.count) × IsHeldAs t id c.generation) e.1
+          (subst (λ (n : ℕ). (2 ≤ n) × (1 ≤ (counted_more g (get nodes g.nodeid)).count) × IsHeldAs t n (counted_more g (get nodes g.nodeid)).generation) (sym e.0) (new_known (get nodes g.nodeid) refl))
+      | inr e ↦ known id node e
+    ]
+
+wire_counted : (gs : List Entry) (nodes : Map Counted) (id : ℕ) → counted (get (learnt nodes gs) id) ≡ counted (get nodes id) + entries_of id gs
+wire_counted [] nodes id = omega arith
+wire_counted (g ∷ gs) nodes id =
+    let more = learnt_count nodes g id in
+    let counts = count_by-cons (λ (x : Entry). nat_eq x.nodeid id) g gs in
+    let rest = wire_counted gs (put nodes g.nodeid (counted_more g (get nodes g.nodeid))) id in
+    omega (arith, more, counts, rest)
 
 module _ (t : NodeTable) (k : Kernel) (known : KnownIn t k.nodes) (wire : WireReply) (held : EntriesHeld t wire) where
   -- The reply goes with what the call asked.
   goes_balanced : (call : ℕ) (state : CallState Opened) → Balances t k wire (replied k call state true wire)
-  goes_balanced call state = subst (λ (u : Use). Balances t k wire (Accepted, after_use (judged k call state wire u) state)) (sym (wire_usable t k.nodes known wire held)) learns
+  goes_balanced call state = subst (λ (l : Kernel). Balances t k wire (Accepted, after_use l state)) (sym (heard_is k call state wire (wire_usable t k.nodes known wire held))) learns
     where
       learns : Balances t k wire (Accepted, after_use (judged k call state wire usable) state)
       learns =
@@ -148,9 +134,9 @@ module _ (t : NodeTable) (k : Kernel) (known : KnownIn t k.nodes) (wire : WireRe
             counts = λ id.
                 let nodes : counted (get (after_use l state).nodes id) ≡ counted (get (learnt k.nodes (files_in_reply wire)) id) = ap (λ (m : Map Counted). counted (get m id)) same.nodes in
                 let forgets : forgotten id (after_use l state).queues.forgets ≡ forgotten id k.queues.forgets = ap (forgotten id) same.forgets in
-                let more = wire_counted t k.nodes known wire id in
+                let more = wire_counted (files_in_reply wire) k.nodes id in
                 omega (arith, nodes, forgets, more);
-            known = λ id node at. wire_known t k.nodes known wire held id node (sym (ap (λ (m : Map Counted). get m id) same.nodes) ∙ at);
+            known = λ id node at. wire_known t (files_in_reply wire) k.nodes known held id node (sym (ap (λ (m : Map Counted). get m id) same.nodes) ∙ at);
           }
 
   -- A reply reaches an unanswered call.
@@ -184,14 +170,14 @@ module _ (t : NodeTable) (k : Kernel) (known : KnownIn t k.nodes) (one_request :
   ended = record k { queues = without k.queues unique }
 
   -- a reply that is no entry of a file names nothing
-  init_balanced : Balances t k wire (write_result_of (is_init_reply wire), record ended { phase = Ready })
+  init_balanced : Balances t k wire (write_result_of (is_init_reply wire), made_ready ended wire)
   init_balanced = by wire
     where
-      same : SameCounts k (record ended { phase = Ready })
+      same : SameCounts k (made_ready ended wire)
       same = record { nodes = refl; forgets = refl }
 
-      by : (x : WireReply) → Balances t k x (write_result_of (is_init_reply x), record ended { phase = Ready })
-      by (agreed major minor) = names_nothing t k _ (agreed major minor) Accepted known same (λ id. refl)
+      by : (x : WireReply) → Balances t k x (write_result_of (is_init_reply x), made_ready ended wire)
+      by (agreed major minor flags) = names_nothing t k _ (agreed major minor flags) Accepted known same (λ id. refl)
       by (failed errno) = names_nothing t k _ (failed errno) Accepted known same (λ id. refl)
       by x = refuses t k _ x Invalid known same (λ n. refl)
 
@@ -209,7 +195,7 @@ module _ (t : NodeTable) (k : Kernel) (known : KnownIn t k.nodes) (one_request :
   ended_balanced : (kept : Purpose) → waiting k.queues unique ≡ Some kept → is_live (ended_by ended kept wire).1.phase ≡ true → Balances t k wire (ended_by ended kept wire)
   ended_balanced purpose.Init waits live = by (is_agreement wire) live
     where
-      by : (b : Bool) → is_live (cond b (record ended { phase = Ready }) (kernel_aborted ended)).phase ≡ true → Balances t k wire (write_result_of (is_init_reply wire), cond b (record ended { phase = Ready }) (kernel_aborted ended))
+      by : (b : Bool) → is_live (cond b (made_ready ended wire) (kernel_aborted ended)).phase ≡ true → Balances t k wire (write_result_of (is_init_reply wire), cond b (made_ready ended wire) (kernel_aborted ended))
       by true still = init_balanced
       by false still = absurd (true≢false (sym still))
   ended_balanced (purpose.Release o) waits live = release_balanced

@@ -101,7 +101,7 @@ module _ (w : World) (old : LookupsBalanced w) (sound : CopiesSound w) (server :
         omega (arith, whole, less, taken))
 
   pub taken_balanced : (k unique : ℕ) (body : RequestBody) → slice_get w.requests k ≡ Some (record { unique = unique; body = body }) → LookupsBalanced (after_take w k unique (taking w.server unique body))
-  taken_balanced k unique init there = quietly k unique init there refl (taking w.server unique init).server refl refl
+  taken_balanced k unique (init flags) there = quietly k unique (init flags) there refl (taking w.server unique (init flags)).server refl refl
   taken_balanced k unique (asks operation) there = quietly k unique (asks operation) there refl (taking w.server unique (asks operation)).server refl refl
   taken_balanced k unique (release o) there = quietly k unique (release o) there refl (taking w.server unique (release o)).server refl refl
   taken_balanced k unique (forget f) there = forgotten_balanced k unique (forget f) there

@@ -1,4 +1,7 @@
 -- Lookups stay balanced, whatever happens.
+use Rattle.fuse_spec.specs.Numbers.{init_flags}
+use Rattle.fuse_spec.specs.Calls.{spoken}
+use Rattle.fuse_spec.specs.declared.Minor.{Minor}
 use Rattle.std.proofs.Common.{◌≡◌, ℕ, ◌+◌, ◌≤◌, Bool, true, false, true≢false, cond, List, [], ◌∷◌, ◌++◌, take, drop, Option, Some, None, nat_eq, slice_get, option_map, refl, ap, sym, subst, ◌∙◌, arith, inl, inr, All}
 use Rattle.std.specs.List.{remove as without_at}
 use Rattle.std.proofs.lemmas.Bool.{cases_eq}
@@ -88,7 +91,7 @@ read_forgets w old n can = by (queues.can_read_forgets w.kernel.queues n) can
 
 -- a pending request forgets nothing
 body_forgets : (k : Kernel) (kept : Purpose) (body : RequestBody) → body_of k kept ≡ Some body → forgets_of body ≡ []
-body_forgets k purpose.Init body says = let is : init ≡ body = cc in ap forgets_of (sym is)
+body_forgets k purpose.Init body says = let is : init init_flags ≡ body = cc in ap forgets_of (sym is)
 body_forgets k (purpose.Release o) body says = let is : release o ≡ body = cc in ap forgets_of (sym is)
 body_forgets k (purpose.Call call) body says = by (get k.vfs.calls call) says
   where
@@ -120,12 +123,12 @@ evict w old node c there = record {
   refused = old.refused;
 }
 
-fresh : (w : World) (found_ms missing_ms : ℕ) → LookupsBalanced (after_mount w found_ms missing_ms)
-fresh w f m = record {
+fresh : (w : World) (found_ms missing_ms : ℕ) (minor : Minor) → LookupsBalanced (after_mount w found_ms missing_ms minor)
+fresh w f m v = record {
   balance = λ id low. omega arith;
   known = λ id node at. absurd (cc);
-  copies = All-nil (λ (s : Sent). EntriesHeld (after_mount w f m).server.nodes s.wire);
-  refused = All-nil (RefusedHeld (after_mount w f m).server.nodes (after_mount w f m).server.copies);
+  copies = All-nil (λ (s : Sent). EntriesHeld (after_mount w f m v).server.nodes s.wire);
+  refused = All-nil (RefusedHeld (after_mount w f m v).server.nodes (after_mount w f m v).server.copies);
 }
 
 -- ---- kept replies
@@ -142,7 +145,7 @@ module _ (choice : ℕ → ℕ) (w : World) (s : LookupsSound w) where
   sound = s.server
 
   taken_kept : (unique : ℕ) (body : RequestBody) → KeptNamed (taking w.server unique body).server.kept
-  taken_kept unique init = s.kept
+  taken_kept unique (init flags) = s.kept
   taken_kept unique (asks operation) = s.kept
   taken_kept unique (release o) = s.kept
   taken_kept unique (forget f) = s.kept
@@ -186,10 +189,10 @@ module _ (choice : ℕ → ℕ) (w : World) (s : LookupsSound w) where
       by Invalid = was
 
   kept_stays : (e : Event) (o : Outcome) (after : World) → MayStep choice w e → Happened choice w e o after → KeptNamed after.server.kept
-  kept_stays e o after may (by_mount f m idle) = λ u k at. absurd (cc)
+  kept_stays e o after may (by_mount f m v idle) = λ u k at. absurd (cc)
   kept_stays e o after may (by_call call ready room within) = s.kept
   kept_stays e o after may (by_read_interrupt original rest live there within) = s.kept
-  kept_stays e o after may (by_read_forgets n live free can within) = s.kept
+  kept_stays e o after may (by_read_forgets n live free can within few) = s.kept
   kept_stays e o after may (by_read_pending k unique kept body live free there says within) = s.kept
   kept_stays e o after may (by_take k r there within) = let took = taking w.server r.unique r.body in sent_off (record w { requests = without_at w.requests k; server = took.server }) w.server.next_copy r.unique took.reply (taken_kept r.unique r.body)
   kept_stays e o after may (by_perform unique t there within) =
@@ -223,11 +226,11 @@ module _ (choice : ℕ → ℕ) (w : World) (s : LookupsSound w) where
           absurd (true≢false (sym live ∙ ap (λ (k : Kernel). is_live k.phase) (unheard w.kernel (numbers.idle dead) sent.unique sent.wire) ∙ dead))
 
   balanced_after : (e : Event) (o : Outcome) (after : World) → MayStep choice w e → Happened choice w e o after → is_live after.kernel.phase ≡ true → LookupsBalanced after
-  balanced_after e o after may (by_mount f m idle) live = fresh w f m
+  balanced_after e o after may (by_mount f m v idle) live = fresh w f m v
   balanced_after e o after may (by_call call ready room within) live =
-      let goes = begun_goes_on w.kernel call in moves w (s.balanced (sym (ap is_live goes.phase) ∙ live)) (call_begun w.kernel call) (begun_same w.kernel call)
+      let goes = begun_goes_on w.kernel (spoken w.kernel.lists_files call) in moves w (s.balanced (sym (ap is_live goes.phase) ∙ live)) (call_begun w.kernel (spoken w.kernel.lists_files call)) (begun_same w.kernel (spoken w.kernel.lists_files call))
   balanced_after e o after may (by_read_interrupt original rest was there within) live = read_interrupt w (s.balanced was) original
-  balanced_after e o after may (by_read_forgets n was free can within) live = read_forgets w (s.balanced was) n can
+  balanced_after e o after may (by_read_forgets n was free can within few) live = read_forgets w (s.balanced was) n can
   balanced_after e o after may (by_read_pending k unique kept body was free there says within) live = read_pending w (s.balanced was) k unique kept body says
   balanced_after e o after may (by_take k r there within) live =
       let took = taking w.server r.unique r.body in
@@ -264,13 +267,13 @@ module _ (choice : ℕ → ℕ) (w : World) (s : LookupsSound w) where
       by false was = let numbers = s.numbers in ap (λ (k : Kernel). k.nodes) (unheard w.kernel (numbers.idle was) sent.unique sent.wire) ∙ s.uncounted was
 
   uncounted_after : (e : Event) (o : Outcome) (after : World) → Happened choice w e o after → is_live after.kernel.phase ≡ false → after.kernel.nodes ≡ []
-  uncounted_after e o after (by_mount f m idle) dead = refl
+  uncounted_after e o after (by_mount f m v idle) dead = refl
   uncounted_after e o after (by_call call ready room within) dead =
-      let goes = begun_goes_on w.kernel call in
-      let same = begun_same w.kernel call in
+      let goes = begun_goes_on w.kernel (spoken w.kernel.lists_files call) in
+      let same = begun_same w.kernel (spoken w.kernel.lists_files call) in
       same.nodes ∙ s.uncounted (sym (ap is_live goes.phase) ∙ dead)
   uncounted_after e o after (by_read_interrupt original rest live there within) dead = lives_on after.kernel refl live dead
-  uncounted_after e o after (by_read_forgets n live free can within) dead = lives_on after.kernel refl live dead
+  uncounted_after e o after (by_read_forgets n live free can within few) dead = lives_on after.kernel refl live dead
   uncounted_after e o after (by_read_pending k unique kept body live free there says within) dead = lives_on after.kernel refl live dead
   uncounted_after e o after (by_take k r there within) dead =
       let took = taking w.server r.unique r.body in still (after_take w k r.unique took) (replying_kernel (record w { requests = without_at w.requests k; server = took.server }) w.server.next_copy r.unique took.reply) dead

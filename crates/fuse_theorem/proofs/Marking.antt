@@ -47,6 +47,8 @@ holding_alike w p same held each = record {
         copies = old.copies;
       };
   validity = same.validity;
+  minor = same.minor;
+  agreed = same.agreed;
   aborted = same.aborted;
 }
 
@@ -62,7 +64,7 @@ marked_asked R S all unique marked (asks operation) ask there noted h =
       is_waiting = record { stage = ap (λ (a : Ask). a.stage) (sym same) ∙ stage; noted = λ _. noted; marked_too = refl };
       same = subst (λ (a : Ask). OperationAlike R S operation a.operation) same h.same;
     }
-marked_asked R S all unique marked init ask there noted h = absurd (cc (h, there))
+marked_asked R S all unique marked (init flags) ask there noted h = absurd (cc (h, there))
 marked_asked R S all unique marked (release o) ask there noted h = absurd (cc (h, there))
 marked_asked R S all unique marked (forget f) ask there noted h = absurd (cc (h, there))
 marked_asked R S all unique marked (batch_forget fs) ask there noted h = absurd (cc (h, there))
@@ -72,7 +74,7 @@ marked_asked R S all unique marked (interrupt original) ask there noted h = absu
 marked_unasked : (R : ℕ → ℕ → Type 0) (S : Opened → ℕ → Type 0) (all : Map Ask) (unique : ℕ) (marked : Bool) (body : RequestBody) → get all unique ≡ None
     → RequestBodyAsked all unique false marked R S body → RequestBodyAsked all unique false true R S body
 marked_unasked R S all unique marked (asks operation) none h = let there = h.there in absurd (cc (none, there))
-marked_unasked R S all unique marked init none h = h
+marked_unasked R S all unique marked (init flags) none h = h
 marked_unasked R S all unique marked (release o) none h = h
 marked_unasked R S all unique marked (forget f) none h = h
 marked_unasked R S all unique marked (batch_forget fs) none h = h

@@ -1,7 +1,7 @@
 -- Operations that are alike stay alike where what their files mean is said in another way.
 use Rattle.std.proofs.Common.{◌≡◌, ℕ, zero, suc, List, [], ◌∷◌, map, refl, ap, subst, ◌∙◌, arith}
 use Rattle.std.specs.Prelude.{Contains}
-use Rattle.fuse_spec.specs.Operations.{Operation, lookup, getattr, mkdir, create, unlink, rmdir, rename, link, opening, readdir, read, write, files_in}
+use Rattle.fuse_spec.specs.Operations.{Operation, lookup, getattr, mkdir, create, unlink, rmdir, rename, link, opening, readdir, readdirplus, read, write, files_in}
 use Rattle.fuse_spec.specs.declared.Opened.{Opened}
 use Rattle.fuse_spec.specs.declared.Counted.{Counted}
 use Rattle.fuse_spec.specs.Maps.{Map}
@@ -32,6 +32,7 @@ operation_more R R' S S' (rename d old e new) (rename d' old' e' new') f g h = (
 operation_more R R' S S' (link x d name) (link y e other) f g h = (f x y (second_of d x []) h.0, f d e (first_of d (x ∷ [])) h.1, h.2)
 operation_more R R' S S' (opening x) (opening y) f g h = f x y (first_of x []) h
 operation_more R R' S S' (readdir d after size) (readdir e after' size') f g h = (f d e (first_of d []) h.0, h.1, h.2)
+operation_more R R' S S' (readdirplus d after size) (readdirplus e after' size') f g h = (f d e (first_of d []) h.0, h.1, h.2)
 operation_more R R' S S' (read o offset size) (read o' offset' size') f g h = (g o o' (first_of o.nodeid []) (first_of o []) h.0, h.1, h.2)
 operation_more R R' S S' (write o offset bytes) (write o' offset' bytes') f g h = (g o o' (first_of o.nodeid []) (first_of o []) h.0, h.1, h.2)
 operation_more R R' S S' a b f g h = absurd h

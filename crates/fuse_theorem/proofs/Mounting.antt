@@ -1,4 +1,5 @@
 -- A mount, in both worlds.
+use Rattle.fuse_spec.specs.declared.Minor.{Minor}
 use Rattle.std.proofs.Common.{◌≡◌, ℕ, false, true≢false, [], Some, refl, sym}
 use Rattle.std.specs.Prelude.{T}
 use Rattle.std.specs.Ordering.{nat_cmp}
@@ -19,9 +20,9 @@ use Rattle.fuse_theorem.proofs.OnlyRoots.{only_root_known}
 use Rattle.fuse_theorem.proofs.GivingUp.{given_up_alike, root_means}
 use Rattle.fuse_theorem.proofs.Sweeping.{swept_alike}
 
-module _ (w : World) (found_ms missing_ms : ℕ) where
+module _ (w : World) (found_ms missing_ms : ℕ) (minor : Minor) where
   abbrev mounted : World
-  mounted = after_mount w found_ms missing_ms
+  mounted = after_mount w found_ms missing_ms minor
 
   -- No node but the root is known then.
   pub mounted_means : (id file : ℕ) → MeansIn mounted id file → (id ≡ 1) × (file ≡ 0)
@@ -29,7 +30,7 @@ module _ (w : World) (found_ms missing_ms : ℕ) where
 
   module _ (p : Plain) (root : w.kernel.vfs.root ≡ 1) (sorted : T (is_sorted nat_cmp w.kernel.vfs.answers)) (same : Alike w p) where
     abbrev q : Plain
-    q = plain_mounted p (record { found_ms = found_ms; missing_ms = missing_ms })
+    q = plain_mounted p (record { found_ms = found_ms; missing_ms = missing_ms }) minor
 
     -- the tables of the server as they are emptied, before the files that nothing holds go
     abbrev emptied : Server
@@ -40,6 +41,7 @@ module _ (w : World) (found_ms missing_ms : ℕ) where
       kept = [];
       copies = [];
       validity = record { found_ms = found_ms; missing_ms = missing_ms };
+      minor = minor;
       aborted = false;
     }
 
@@ -61,9 +63,11 @@ module _ (w : World) (found_ms missing_ms : ℕ) where
         copies = All-nil (λ (sent : Sent). (ask : Ask) → get q.asks sent.unique ≡ Some ask → StageTold mounted.server.nodes mounted.server.handles ask.stage sent.wire);
       };
       validity = refl;
+      minor = refl;
+      agreed = λ e. absurd (cc (e));
       aborted = refl;
     }
 
     -- After a mount the plain world has taken its step, and the two are alike.
-    pub mount_goes : (q : Plain) × Takes p (event.mount found_ms missing_ms) event.mounted q × Alike mounted q
+    pub mount_goes : (q : Plain) × Takes p (event.mount found_ms missing_ms minor) event.mounted q × Alike mounted q
     mount_goes = (q, (0, refl), mounted_alike)

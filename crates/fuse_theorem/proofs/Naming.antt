@@ -1,4 +1,6 @@
 -- What a reply names as it is sent: files by the nodes that are given, an open file by its new number.
+use Rattle.fuse_theorem.proofs.Pairs.{pairs_named}
+use Rattle.fuse_theorem.proofs.Giving.{all_given_denotes}
 use Rattle.std.proofs.Common.{◌≡◌, ◌≢◌, ℕ, ◌≤◌, Bool, true, false, true≢false, ◌||◌, cond, List, [], ◌∷◌, Option, Some, None, nat_eq, refl, ap, sym, subst, ◌∙◌, arith, inl, inr, All}
 use Rattle.std.specs.Prelude.{MatchOption}
 use Rattle.std.specs.List.{list_any}
@@ -7,15 +9,15 @@ use Rattle.std.specs.declared.cmp.Ordering.TheVariants.{Less, Equal, Greater}
 use Rattle.std.specs.Ordering.{nat_cmp}
 use Rattle.std.specs.FinMap.Entries.{by_order}
 use Rattle.std.proofs.lemmas.Bool.{cases_eq}
-use Rattle.std.proofs.lemmas.List.Elements.{All-head, All-tail}
+use Rattle.std.proofs.lemmas.List.Elements.{All-head, All-tail, All-nil, All-cons}
 use Rattle.fuse_spec.specs.Maps.{Map, get, put, values}
-use Rattle.fuse_spec.specs.Operations.{Reply, found, missing, created, opened, attributes, listed, content, written, agreed, done, failed, files_in_reply, opens_in_reply}
+use Rattle.fuse_spec.specs.Operations.{Reply, found, missing, created, opened, attributes, listed, listed_plus, content, written, agreed, done, failed, files_in_reply, opens_in_reply, files_told}
 use Rattle.fuse_spec.specs.Trees.{Tree}
 use Rattle.fuse_spec.specs.Nodes.{HeldNode, NodeTable, row_of, root_row, MayName, IsUnheld, MayChoose, given, given_row, all_given, OpenNumber, HandleTable, is_open, is_file_of, handle_opened, all_opened}
 use Rattle.fuse_spec.specs.Server.{generation_in}
-use Rattle.fuse_spec.specs.Performs.{wire_of}
+use Rattle.fuse_spec.specs.Performs.{wire_of, entry_for}
 use Rattle.fuse_spec.specs.Denotes.{Denotes, ReplyAlike, Names, Opens}
-use Rattle.fuse_spec.proofs.Tables.{get_put_here}
+use Rattle.fuse_spec.proofs.Tables.{get_put_here, get_put_there}
 use Rattle.fuse_theorem.proofs.Finding.{same_is, other_is}
 
 module _ (t : NodeTable) (no_root : get t.rows 1 ≡ None) where
@@ -36,6 +38,29 @@ module _ (t : NodeTable) (no_root : get t.rows 1 ≡ None) where
       file_is None m = refl
       file_is (Some row) m = m
 
+-- an id that may name a file is not the root's
+pub not_the_root : (t : NodeTable) → get t.rows 1 ≡ None → (file id : ℕ) → MayName t file id → id ≢ 1
+not_the_root t no_root file id may e = by (get t.rows id) refl may
+  where
+    by : (o : Option HeldNode) → get t.rows id ≡ o → MatchOption o ((2 ≤ id) × IsUnheld t file) (λ row. row.file ≡ file) → ⊥
+    by None q m = let low = m.0 in omega (arith, e, low)
+    by (Some row) q m = absurd (cc (subst (λ (n : ℕ). get t.rows n ≡ Some row) e q, no_root))
+
+-- What the id that is chosen for a file denotes in this table.
+abbrev pub IsGiven : (ℕ → ℕ) → NodeTable → ℕ → Type 0
+IsGiven choice t file = Denotes t (choice file) (generation_in (row_of t (choice file))) file
+
+-- Each of these files is given a node.
+pub all_given_nodes : (choice : ℕ → ℕ) (files : List ℕ) (t : NodeTable) → get t.rows 1 ≡ None → MayChoose choice t files → All (IsGiven choice (all_given choice t files)) files
+all_given_nodes choice [] t no_root may = All-nil (IsGiven choice t)
+all_given_nodes choice (f ∷ files) t no_root may =
+    let next = given t f (choice f) in
+    let last = all_given choice next files in
+    let d = given_node t no_root f (choice f) may.0 in
+    let kept = all_given_denotes choice files next (choice f) (generation_in (row_of next (choice f))) f d in
+    All-cons (IsGiven choice last) f files (record { row = kept.row; there = kept.there; same_generation = sym (ap generation_in kept.there); same_file = kept.same_file })
+    (all_given_nodes choice files next (get_put_there t.rows (choice f) (given_row t f (get t.rows (choice f))) 1 (λ e. not_the_root t no_root f (choice f) may.0 (sym e)) ∙ no_root) may.1)
+
 -- the number that an open file is given
 pub opened_number : (h : HandleTable) (file : ℕ) → is_open (handle_opened h file) h.next_fh file ≡ true
 opened_number h file = ap (is_file_of file) (get_put_here h.handles h.next_fh (record { file = file; count = 1 })) ∙ same_is file
@@ -49,9 +74,12 @@ named_alike choice t h tree (created file v o) no_root may = (given_node t no_ro
 named_alike choice t h tree (opened o) no_root may = opened_number h o
 named_alike choice t h tree (attributes a) no_root may = refl
 named_alike choice t h tree (listed xs) no_root may = refl
+named_alike choice t h tree (listed_plus pairs) no_root may =
+    let last = all_given choice t (files_told pairs) in
+    pairs_named (Names last) (entry_for choice last tree) pairs (all_given_nodes choice (files_told pairs) t no_root may)
 named_alike choice t h tree (content xs) no_root may = refl
 named_alike choice t h tree (written n) no_root may = refl
-named_alike choice t h tree (agreed a b) no_root may = (refl, refl)
+named_alike choice t h tree (agreed a b flags) no_root may = (refl, refl, refl)
 named_alike choice t h tree done no_root may = tt
 named_alike choice t h tree (failed e) no_root may = refl
 

@@ -33,6 +33,7 @@ module _ (R R' : ℕ → ℕ → Type 0) where
   pub final_within : (a b : FinalOperation ℕ) → ((id file : ℕ) → Contains (files_of_plan (last a)) id → R id file → R' id file) → FinalAlike R a b → FinalAlike R' a b
   final_within final.stat final.stat f h = h
   final_within (final.list after) (final.list after') f h = h
+  final_within (final.listplus after) (final.listplus after') f h = h
   final_within final.opening final.opening f h = h
   final_within (final.mkdir name) (final.mkdir other) f h = h
   final_within (final.create name) (final.create other) f h = h
@@ -87,7 +88,7 @@ module _ (R R' : ℕ → ℕ → Type 0) where
       is_waiting = h.is_waiting;
       same = operation_more R R' S S' operation h.ask.operation f g h.same;
     }
-    body_within all unique signalled marked init f g h = h
+    body_within all unique signalled marked (init flags) f g h = h
     body_within all unique signalled marked (release o) f g h = h
     body_within all unique signalled marked (forget x) f g h = h
     body_within all unique signalled marked (batch_forget fs) f g h = h
@@ -220,5 +221,7 @@ narrowed_alike w p same nodes t h tree tree' narrows trees = record {
         copies = λ i s lt ask there. narrows.copies live i s lt ask there (old.copies i s lt ask there);
       };
   validity = same.validity;
+  minor = same.minor;
+  agreed = same.agreed;
   aborted = same.aborted;
 }

@@ -3,7 +3,7 @@ use Rattle.std.proofs.Common.{◌≢◌, ℕ, inl, inr}
 use Rattle.fuse_spec.specs.declared.Refusal.{Refusal}
 use Rattle.fuse_spec.specs.declared.Refusal.TheVariants.{NoMemory, LinkLost}
 use Rattle.fuse_spec.specs.Events.{Event}
-use Rattle.fuse_spec.specs.Refusals.{Refuses, too_long, in_use, clock_ends, not_ready, too_many, not_live, interrupt_first, names_nothing, none_kept, not_current, pinned_or_bound, past_its_end}
+use Rattle.fuse_spec.specs.Refusals.{Refuses, too_long, in_use, clock_ends, not_ready, too_many, not_live, interrupt_first, names_nothing, none_kept, not_current, pinned_or_bound, told_too_often, copied_too_often, past_its_end}
 use Rattle.fuse_spec.specs.Steps.{IsRefused, RefusedWith}
 use Rattle.fuse_spec.specs.Worlds.{World}
 use Rattle.fuse_theorem.proofs.Choosing.{some_choice}
@@ -15,8 +15,8 @@ record IsJudged (r : Refusal) : Type 0 where
   not_link : r ≢ LinkLost
 
 by_case : (choice : ℕ → ℕ) (w : World) (e : Event) (r : Refusal) → Refuses choice w e r → IsJudged r
-by_case choice w e r (too_long f m far) = record { not_memory = λ is. absurd (cc is); not_link = λ is. absurd (cc is) }
-by_case choice w e r (in_use f m near used) = record { not_memory = λ is. absurd (cc is); not_link = λ is. absurd (cc is) }
+by_case choice w e r (too_long f m v far) = record { not_memory = λ is. absurd (cc is); not_link = λ is. absurd (cc is) }
+by_case choice w e r (in_use f m v near used) = record { not_memory = λ is. absurd (cc is); not_link = λ is. absurd (cc is) }
 by_case choice w e r (clock_ends ms end) = record { not_memory = λ is. absurd (cc is); not_link = λ is. absurd (cc is) }
 by_case choice w e r (not_ready call down) = record { not_memory = λ is. absurd (cc is); not_link = λ is. absurd (cc is) }
 by_case choice w e r (too_many call ready full) = record { not_memory = λ is. absurd (cc is); not_link = λ is. absurd (cc is) }
@@ -26,6 +26,8 @@ by_case choice w e r (names_nothing _ live free nothing) = record { not_memory =
 by_case choice w e r (none_kept unique none) = record { not_memory = λ is. absurd (cc is); not_link = λ is. absurd (cc is) }
 by_case choice w e r (not_current unique kept there old) = record { not_memory = λ is. absurd (cc is); not_link = λ is. absurd (cc is) }
 by_case choice w e r (pinned_or_bound node counted live there kept) = record { not_memory = λ is. absurd (cc is); not_link = λ is. absurd (cc is) }
+by_case choice w e r (told_too_often unique held there many) = record { not_memory = λ is. absurd (cc is); not_link = λ is. absurd (cc is) }
+by_case choice w e r (copied_too_often unique kept there current many) = record { not_memory = λ is. absurd (cc is); not_link = λ is. absurd (cc is) }
 by_case choice w e r (past_its_end _ o after drawn leads past) = record { not_memory = λ is. absurd (cc is); not_link = λ is. absurd (cc is) }
 
 judged : (w : World) (e : Event) (r : Refusal) → IsRefused w e r → IsJudged r

@@ -1,12 +1,14 @@
 -- The open number that a performed request's reply carries is the coming one.
+use Rattle.fuse_spec.specs.declared.Minor.TheVariants.{M15, M31}
+use Rattle.fuse_spec.specs.declared.Minor.{Minor}
 use Rattle.std.proofs.Common.{◌≡◌, ℕ, ◌+◌, ◌≤◌, Bool, true, false, cond, List, [], ◌∷◌, nat_eq, count_by, refl, ap, arith}
 use Rattle.std.proofs.lemmas.Bool.Decides.{nat_tests}
 use Rattle.fuse_spec.specs.FileOperations.{FileOperation, reply_by, tree_after}
 use Rattle.fuse_spec.specs.Messages.{RequestBody, init, asks, release, forget, batch_forget, interrupt}
-use Rattle.fuse_spec.specs.Operations.{Reply, found, missing, created, opened, attributes, listed, content, written, agreed, done, failed, files_in_reply, opens_in_reply, errno_of}
+use Rattle.fuse_spec.specs.Operations.{Reply, found, missing, created, opened, attributes, listed, listed_plus, content, written, agreed, done, failed, files_in_reply, opens_in_reply, errno_of}
 use Rattle.fuse_spec.specs.Nodes.{NodeTable, HandleTable, file_of, is_open, all_given, handle_opened, all_opened, handle_more, handle_back}
 use Rattle.fuse_spec.specs.Server.{Server, HeldRequest}
-use Rattle.fuse_spec.specs.Performs.{PerformResult, file_operation_of, is_open_for, doing, wire_of, refusing, performing, performed, is_still_held}
+use Rattle.fuse_spec.specs.Performs.{PerformResult, file_operation_of, is_open_for, doing, wire_of, refusing, performing, performed, is_still_held, init_reply}
 use Rattle.fuse_spec.specs.Copies.{handles_counted, handles_back}
 use Rattle.fuse_spec.specs.Counts.{opens_in}
 use Rattle.fuse_spec.specs.Trees.{Tree}
@@ -38,9 +40,10 @@ wire_new choice t tree h (found file v) fh some = absurd (omega (arith, some))
 wire_new choice t tree h (missing v) fh some = absurd (omega (arith, some))
 wire_new choice t tree h (attributes a) fh some = absurd (omega (arith, some))
 wire_new choice t tree h (listed xs) fh some = absurd (omega (arith, some))
+wire_new choice t tree h (listed_plus xs) fh some = absurd (omega (arith, some))
 wire_new choice t tree h (content xs) fh some = absurd (omega (arith, some))
 wire_new choice t tree h (written n) fh some = absurd (omega (arith, some))
-wire_new choice t tree h (agreed a b) fh some = absurd (omega (arith, some))
+wire_new choice t tree h (agreed a b flags) fh some = absurd (omega (arith, some))
 wire_new choice t tree h done fh some = absurd (omega (arith, some))
 wire_new choice t tree h (failed e) fh some = absurd (omega (arith, some))
 
@@ -63,7 +66,11 @@ module _ (choice : ℕ → ℕ) (s : Server) where
       by_new fh false some = wire_new choice (all_given choice s.nodes (files_in_reply (reply_by s.validity s.tree operation))) (tree_after s.tree operation) s.handles (reply_by s.validity s.tree operation) fh some
 
   performing_draws : (body : RequestBody) → Draws s (performing choice s body)
-  performing_draws init = record { rises = omega arith; new = λ fh some. absurd (omega (arith, some)) }
+  performing_draws (init flags) = by s.minor
+    where
+      by : (m : Minor) → Draws s (record { server = s; wire = init_reply m flags })
+      by M15 = record { rises = omega arith; new = λ fh some. absurd (omega (arith, some)) }
+      by M31 = record { rises = omega arith; new = λ fh some. absurd (omega (arith, some)) }
   performing_draws (asks operation) = by (is_open_for s operation)
     where
       by : (b : Bool) → Draws s (cond b (doing choice s (file_operation_of s.nodes operation)) (refusing s 9))

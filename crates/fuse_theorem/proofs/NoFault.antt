@@ -1,4 +1,5 @@
 -- No request on the link has a fault.
+use Rattle.fuse_theorem.proofs.SpokenStay.{request_known}
 use Rattle.std.proofs.Common.{◌≡◌, ℕ, ◌≤◌, ◌<◌, Bool, true, false, ◌||◌, cond, List, length, Option, Some, None, is_some, nat_eq, get_or, refl, sym, subst, arith, All}
 use Rattle.std.specs.Prelude.{◌%◌, nat_lt, count_by}
 use Rattle.std.specs.List.{list_any, list_all}
@@ -103,7 +104,7 @@ module _ (w : World) (p : Plain) (both : BothSound w p) (releases : ReleasesKnow
       numbers = let world = both.world in let sound = world.requests in sound.numbers
 
       by : (body : RequestBody) → BearsNumber (get_or w.requests i d).unique body → (is_some (get w.server.held (get_or w.requests i d).unique) || is_some (get w.server.kept (get_or w.requests i d).unique)) ≡ false
-      by init even = even_new even
+      by (init flags) even = even_new even
       by (asks operation) even = even_new even
       by (release o) even = even_new even
       by (forget f) even = even_new even
@@ -111,7 +112,7 @@ module _ (w : World) (p : Plain) (both : BothSound w p) (releases : ReleasesKnow
       by (interrupt original) number = odd_new (omega (arith, number))
 
   pub none_wrong : fault_of w.server (get_or w.requests i d) ≡ None
-  none_wrong = rw (known, forgettable, not_too_many, new_number) refl
+  none_wrong = rw (request_known w faultless.spoken live i d lt, known, forgettable, not_too_many, new_number) refl
 
 -- No request that is taken has a fault.
 pub no_fault : (w : World) (p : Plain) → BothSound w p → ReleasesKnown w → Faultless w → All (λ (r : Request). fault_of w.server r ≡ None) w.requests

@@ -53,6 +53,8 @@ stray_alike = record {
     copies = λ k d below. absurd (omega arith);
   };
   validity = refl;
+  minor = refl;
+  agreed = λ e. (refl, refl);
   aborted = refl;
 }
 

@@ -1,4 +1,8 @@
 -- The kernel refuses no copy for its body.
+use Rattle.fuse_spec.specs.Numbers.{init_flags}
+use Rattle.fuse_spec.specs.Performs.{init_reply}
+use Rattle.fuse_spec.specs.declared.Minor.TheVariants.{M15, M31}
+use Rattle.fuse_spec.specs.declared.Minor.{Minor}
 use Rattle.std.proofs.Common.{◌≡◌, ◌≢◌, ℕ, ◌-◌, Bool, true, false, true≢false, cond, Option, Some, None, nat_eq, slice_get, refl, ap, sym, subst, ◌∙◌, arith}
 use Rattle.std.specs.Prelude.{◌%◌}
 use Rattle.std.proofs.lemmas.Bool.Decides.{nat_tests}
@@ -25,6 +29,10 @@ use Rattle.fuse_theorem.proofs.Answered.{waiting_is}
 use Rattle.fuse_theorem.proofs.Finding.{All-found}
 use Rattle.fuse_theorem.proofs.Queuing.{All-at}
 use Rattle.fuse_theorem.proofs.WriteNeeds.{write_met}
+
+of_init_reply : (m : Minor) → is_init_reply (init_reply m init_flags) ≡ true
+of_init_reply M15 = refl
+of_init_reply M31 = refl
 
 module _ (w : World) (p : Plain) (both : BothSound w p) (fit : RepliesFit w) (k : ℕ) (sent : Sent) (there : slice_get w.replies k ≡ Some sent) where
   abbrev l : Kernel
@@ -84,7 +92,7 @@ module _ (w : World) (p : Plain) (both : BothSound w p) (fit : RepliesFit w) (k 
       let empty = subst (FitsPurpose w.replies w.server.kept sent.unique) request.serves mine in
       let says = All-at (λ (s : Sent). s.unique ≡ sent.unique → is_empty_reply s.wire ≡ true) w.replies k sent empty.of_copies there refl in
       even_so (Some (purpose.Release o)) waits even (accepted (of_empty (is_empty_reply sent.wire) says))
-  heard_fits (each.of_init numbered live even waits wire_is) = even_so (Some purpose.Init) waits even (accepted (of_empty (is_init_reply sent.wire) (ap is_init_reply wire_is)))
+  heard_fits (each.of_init numbered live even waits wire_is) = even_so (Some purpose.Init) waits even (accepted (of_empty (is_init_reply sent.wire) (ap is_init_reply wire_is ∙ of_init_reply w.server.minor)))
   heard_fits (each.of_call call state reply numbered one live even waits is) = even_so (Some (purpose.Call call)) waits even (accepted (called_so call state is.goes (get w.kernel.vfs.calls call) is.state_is))
   heard_fits (each.of_declined call state numbered one live even waits is) =
       even_so (Some (purpose.Call call)) waits even (accepted (called_so call state (ap (goes_with (asked state)) is.wire_is ∙ goes_failed (asked state)) (get w.kernel.vfs.calls call) is.state_is))

@@ -1,4 +1,5 @@
 -- The server holds the nodes that a live kernel uses, and those of the requests on their way.
+use Rattle.fuse_spec.specs.Numbers.{init_flags}
 use Rattle.std.proofs.Common.{◌≡◌, ◌≢◌, ◌≤◌, ℕ, Bool, true, false, cond, List, [], Option, Some, None, is_some, nat_eq, option_map, refl, ap, sym, subst, ◌∙◌, get_or, All}
 use Rattle.std.specs.Prelude.{MatchOption}
 use Rattle.std.proofs.lemmas.List.Elements.{All-nil, All-cons}
@@ -75,7 +76,7 @@ module _ (w : World) (p : Plain) (both : BothSound w p) (releases : ReleasesKnow
 
   -- What a request that the kernel keeps names is known.
   asked_known : (kept : Purpose) → ReleaseKnown w.kernel.nodes kept → (body : RequestBody) → body_of w.kernel kept ≡ Some body → All (IsKnown w.kernel.nodes) (nodes_of_body body)
-  asked_known purpose.Init h body e = let same : init ≡ body = cc (e) in subst (λ (b : RequestBody). All (IsKnown w.kernel.nodes) (nodes_of_body b)) same (All-nil (IsKnown w.kernel.nodes))
+  asked_known purpose.Init h body e = let same : init init_flags ≡ body = cc (e) in subst (λ (b : RequestBody). All (IsKnown w.kernel.nodes) (nodes_of_body b)) same (All-nil (IsKnown w.kernel.nodes))
   asked_known (purpose.Release o) h body e =
       let same : release o ≡ body = cc (e) in
       subst (λ (b : RequestBody). All (IsKnown w.kernel.nodes) (nodes_of_body b)) same (All-cons (IsKnown w.kernel.nodes) o.nodeid [] h (All-nil (IsKnown w.kernel.nodes)))
@@ -95,7 +96,7 @@ module _ (w : World) (p : Plain) (both : BothSound w p) (releases : ReleasesKnow
       (asked_known is.request.kept (All-found (λ (e : ℕ × QueuedRequest Purpose). ReleaseKnown w.kernel.nodes e.1.kept) unique w.kernel.queues.requests is.request releases.requests is.under) body is.asks)
 
   sent_servable : (unique : ℕ) (body : RequestBody) → SentAsked w.kernel unique body → NodesServable w.server body
-  sent_servable unique init is = servable unique init is
+  sent_servable unique (init flags) is = servable unique (init flags) is
   sent_servable unique (asks operation) is = servable unique (asks operation) is
   sent_servable unique (release o) is = servable unique (release o) is
   sent_servable unique (forget f) is = all_there [] (All-nil (IsKnown w.kernel.nodes))

@@ -8,12 +8,11 @@ use Rattle.fuse_spec.specs.declared.Entry.{Entry}
 use Rattle.fuse_spec.specs.declared.IntrEffect.{IntrEffect}
 use Rattle.fuse_spec.specs.declared.IntrEffect.TheVariants.{Dequeued, Flagged, Queued, None as NoEffect}
 use Rattle.fuse_spec.specs.declared.Opened.{Opened}
-use Rattle.fuse_spec.specs.declared.Phase.TheVariants.{Ready}
 use Rattle.fuse_spec.specs.declared.Purpose.{Purpose}
 use Rattle.fuse_spec.specs.declared.Purpose.TheVariants as purpose
 use Rattle.fuse_spec.specs.declared.QueuedRequest.{QueuedRequest}
 use Rattle.fuse_spec.specs.Answers as answer
-use Rattle.fuse_spec.specs.Calls.{Call}
+use Rattle.fuse_spec.specs.Calls.{Call, spoken}
 use Rattle.fuse_spec.specs.CallReplies.{call_replied}
 use Rattle.fuse_spec.specs.Maps.{Map, get, put, remove, values}
 use Rattle.fuse_spec.specs.Messages.{WireReply}
@@ -21,7 +20,7 @@ use Rattle.fuse_spec.specs.Operations.{Operation, done, failed, files_in_reply}
 use Rattle.fuse_spec.specs.QueueCalls.{after_effect, interrupt_effect, waiting, without}
 use Rattle.fuse_spec.specs.Vfs.{CallState, walking, doing, using, asked, Vfs, Advance, answered, begun, given_up}
 use Rattle.fuse_spec.specs.Kernel.{Kernel, is_aborted, request_of, nodes_of_state, is_released_by, is_pinned, is_bound, kernel_aborted, asking_for, advanced, released, released_if_idle, after_use, closed_by, closing_of, call_begun, after_signal, signalled_at, call_signalled}
-use Rattle.fuse_spec.specs.Replies.{kernel_reply, learnt, counted_more, Use, usable, useless, stale, use_of_all, goes_with, is_agreement, judged, replied, replied_to_call, reply_taken, odd_taken, interrupt_replied, reply_written}
+use Rattle.fuse_spec.specs.Replies.{kernel_reply, learnt, counted_more, Use, usable, useless, stale, goes_with, is_agreement, judged, replied, replied_to_call, reply_taken, odd_taken, interrupt_replied, reply_written, heard, without_stale, reply_judged, use_of_reply, made_ready}
 use Rattle.fuse_spec.specs.Denotes.{generation_known}
 use Rattle.fuse_spec.proofs.Tables.{get_put_here}
 use Rattle.fuse_spec.specs.Taking.{taking}
@@ -132,17 +131,17 @@ heard_known : (k : Kernel) → NodesKnown k → (call : ℕ) (wire : WireReply) 
 heard_known k old call wire None there = old
 heard_known k old call wire (Some state) there = by (goes_with (asked state) wire)
   where
-    judged_known : (u : Use) → NodesKnown (judged k call state wire u)
-    judged_known usable =
-        let gs = files_in_reply wire in
+    judged_known : (x : WireReply) (u : Use) → NodesKnown (judged (without_stale k wire) call state x u)
+    judged_known x usable =
+        let gs = files_in_reply x in
         let more = known_more k.nodes (learnt k.nodes gs) (learnt_more gs k.nodes) k.vfs old in
-        advanced_known (record k { nodes = learnt k.nodes gs }) call (call_replied k.vfs call state (kernel_reply (asked state) wire))
-        (replied_known (learnt k.nodes gs) k.vfs more call state wire (All-get (StateKnown (learnt k.nodes gs)) k.vfs.calls call state more.calls there) (entries_known gs k.nodes))
-    judged_known useless = answered_known k.nodes k.vfs old call (answer.failed 5)
-    judged_known (stale node) = answered_known k.nodes k.vfs old call (answer.failed 5)
+        advanced_known (record (without_stale k wire) { nodes = learnt k.nodes gs }) call (call_replied k.vfs call state (kernel_reply (asked state) x))
+        (replied_known (learnt k.nodes gs) k.vfs more call state x (All-get (StateKnown (learnt k.nodes gs)) k.vfs.calls call state more.calls there) (entries_known gs k.nodes))
+    judged_known x useless = answered_known k.nodes k.vfs old call (answer.failed 5)
+    judged_known x (stale node) = answered_known k.nodes k.vfs old call (answer.failed 5)
 
     by : (b : Bool) → NodesKnown (replied k call state b wire).1
-    by true = used_known (judged k call state wire (use_of_all k.nodes (files_in_reply wire))) state (judged_known (use_of_all k.nodes (files_in_reply wire)))
+    by true = used_known (heard k call state wire) state (judged_known (reply_judged k.nodes wire) (use_of_reply k.nodes wire))
     by false = used_known (record k { vfs = answered k.vfs call (answer.failed 5) }) state (answered_known k.nodes k.vfs old call (answer.failed 5))
 
 -- Everything is given up, and the root is known still.
@@ -166,7 +165,7 @@ write_known k old root unique wire = by (nat_eq (unique % 2) 1)
     odd None = old
     odd (Some kept) = interrupts wire
 
-    agrees : (b : Bool) → NodesKnown (cond b (record k { phase = Ready; queues = without k.queues unique }) (kernel_aborted (record k { queues = without k.queues unique })))
+    agrees : (b : Bool) → NodesKnown (cond b (made_ready (record k { queues = without k.queues unique }) wire) (kernel_aborted (record k { queues = without k.queues unique })))
     agrees true = old
     agrees false = empty_known k.vfs root
 
@@ -228,10 +227,10 @@ module _ (choice : ℕ → ℕ) (w : World) (sound : WorldSound w) (old : NodesK
   replying_same v number unique (Some wire) h = h
 
   by_event : (e : Event) (o : Outcome) (after : World) → Happened choice w e o after → NodesKnown after.kernel
-  by_event e o after (by_mount f m idle) = empty_known w.kernel.vfs root_is
-  by_event e o after (by_call call ready room within) = call_known w.kernel old call
+  by_event e o after (by_mount f m v idle) = empty_known w.kernel.vfs root_is
+  by_event e o after (by_call call ready room within) = call_known w.kernel old (spoken w.kernel.lists_files call)
   by_event e o after (by_read_interrupt original rest live there within) = old
-  by_event e o after (by_read_forgets n live free can within) = old
+  by_event e o after (by_read_forgets n live free can within few) = old
   by_event e o after (by_read_pending k unique kept body live free there says within) = old
   by_event e o after (by_take k r there within) = replying_same (record w { requests = without_at w.requests k; server = (taking w.server r.unique r.body).server }) w.server.next_copy r.unique (taking w.server r.unique r.body).reply old
   by_event e o after (by_perform unique t there within) =

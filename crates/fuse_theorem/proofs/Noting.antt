@@ -37,7 +37,7 @@ noted_asked R S all unique old now marked (asks operation) ask there h =
       is_waiting = record { stage = ap (λ (a : Ask). a.stage) (sym same) ∙ waits.stage; noted = λ _. refl; marked_too = ap (λ (a : Ask). a.marked) (sym same) ∙ waits.marked_too };
       same = subst (λ (a : Ask). OperationAlike R S operation a.operation) same h.same;
     }
-noted_asked R S all unique old now marked init ask there h = absurd (cc (h, there))
+noted_asked R S all unique old now marked (init flags) ask there h = absurd (cc (h, there))
 noted_asked R S all unique old now marked (release o) ask there h = absurd (cc (h, there))
 noted_asked R S all unique old now marked (forget f) ask there h = absurd (cc (h, there))
 noted_asked R S all unique old now marked (batch_forget fs) ask there h = absurd (cc (h, there))
@@ -136,7 +136,7 @@ module _ (w : World) (p : Plain) (same : Alike w p) (unique : ℕ) (ask : Ask) (
           let is_ask : ask ≡ h.ask = cc (there, h.there) in
           let waits = h.is_waiting in
           record { ask = h.ask; there = h.there; is_waiting = record { stage = waits.stage; noted = λ _. subst (λ (x : Ask). x.noted ≡ true) is_ask noted; marked_too = waits.marked_too }; same = h.same }
-      with_signal init a b h = h
+      with_signal (init flags) a b h = h
       with_signal (release o) a b h = h
       with_signal (forget f) a b h = h
       with_signal (batch_forget fs) a b h = h

@@ -6,7 +6,7 @@ use Rattle.std.proofs.lemmas.Bool.{cases_eq}
 use Rattle.std.proofs.lemmas.Bool.Decides.{nat_tests}
 use Rattle.fuse_spec.specs.Maps.{Map, get, put, remove}
 use Rattle.fuse_spec.specs.Messages.{WireReply}
-use Rattle.fuse_spec.specs.Operations.{Reply, found, missing, created, opened, attributes, listed, content, written, agreed, done, failed, opens_in_reply}
+use Rattle.fuse_spec.specs.Operations.{Reply, found, missing, created, opened, attributes, listed, listed_plus, content, written, agreed, done, failed, opens_in_reply}
 use Rattle.fuse_spec.specs.Nodes.{NodeTable, HandleTable, OpenNumber, is_file_of, is_open, handle_opened, all_opened, handles_less, handle_back, handles_more, handle_more}
 use Rattle.fuse_spec.specs.Copies.{handles_counted, handles_back}
 use Rattle.fuse_spec.specs.Counts.{handle_count, opens_in}
@@ -112,9 +112,10 @@ opens_one (found x v) = nothing
 opens_one (missing v) = nothing
 opens_one (attributes a) = nothing
 opens_one (listed xs) = nothing
+opens_one (listed_plus xs) = nothing
 opens_one (content xs) = nothing
 opens_one (written n) = nothing
-opens_one (agreed a b) = nothing
+opens_one (agreed a b flags) = nothing
 opens_one done = nothing
 opens_one (failed e) = nothing
 
@@ -166,9 +167,10 @@ wire_opened choice t tree h none (found file v) fh = omega arith
 wire_opened choice t tree h none (missing v) fh = omega arith
 wire_opened choice t tree h none (attributes a) fh = omega arith
 wire_opened choice t tree h none (listed xs) fh = omega arith
+wire_opened choice t tree h none (listed_plus xs) fh = omega arith
 wire_opened choice t tree h none (content xs) fh = omega arith
 wire_opened choice t tree h none (written n) fh = omega arith
-wire_opened choice t tree h none (agreed a b) fh = omega arith
+wire_opened choice t tree h none (agreed a b flags) fh = omega arith
 wire_opened choice t tree h none done fh = omega arith
 wire_opened choice t tree h none (failed e) fh = omega arith
 

@@ -138,7 +138,7 @@ module _ (nodes : NodeTable) (handles : HandleTable) (held : Map HeldRequest) (o
 
     -- what is held is counted
     counted_still : (u : ℕ) (x : HeldRequest) → get left u ≡ Some x → (o : Opened) (body : RequestBody) → x.body ≡ body → Contains (opens_of_body body) o → 1 ≤ handle_count (get back.handles o.fh)
-    counted_still u x at o init is among = absurd (let lt = among.1 in omega (arith, lt))
+    counted_still u x at o (init flags) is among = absurd (let lt = among.1 in omega (arith, lt))
     counted_still u x at o (asks operation) is among = let enough = enough_used u x at operation is o among in omega (arith, enough)
     counted_still u x at o (release other) is (zero, lt, same) =
         let number : releases_in o.fh x.body ≡ 1 = ap (releases_in o.fh) is ∙ ap (λ (y : Opened). cond (nat_eq y.fh o.fh) 1 0) same ∙ ap (λ (b : Bool). cond b 1 0) (same_is o.fh) in

@@ -18,7 +18,7 @@ use Rattle.fuse_spec.specs.declared.QueuedRequest.{QueuedRequest}
 use Rattle.fuse_spec.specs.declared.ReplyResult.{ReplyResult}
 use Rattle.fuse_spec.specs.declared.WriteResult.{WriteResult}
 use Rattle.fuse_spec.specs.declared.WriteResult.TheVariants.{Accepted, NoEntry, Invalid}
-use Rattle.fuse_spec.specs.Calls.{Call}
+use Rattle.fuse_spec.specs.Calls.{Call, spoken}
 use Rattle.fuse_spec.specs.Maps.{Map, get, put, remove}
 use Rattle.fuse_spec.specs.Messages.{Forget, Request, RequestBody, init, asks, release, forget, batch_forget, interrupt, WireReply}
 use Rattle.fuse_spec.specs.Operations.{done, failed}
@@ -28,12 +28,12 @@ use Rattle.fuse_spec.specs.Vfs.{begun, later}
 use Rattle.fuse_spec.specs.Queues.{QueueState, IsSound, empty_queues, is_unread, has_interrupt, pending, is_interrupted, request_under, mark_under}
 use Rattle.fuse_spec.specs.QueueCalls.{waiting, without, pending_at, can_read_forgets}
 use Rattle.fuse_spec.specs.QueueCalls as queues
-use Rattle.fuse_spec.specs.Kernel.{Kernel, is_live, is_aborted, is_for, kernel_aborted, advanced, closed_by, closing_of, call_begun, call_signalled}
+use Rattle.fuse_spec.specs.Kernel.{Kernel, is_live, is_aborted, is_for, kernel_aborted, advanced, closed_by, closing_of, call_signalled, call_put}
 use Rattle.fuse_spec.specs.Server.{Server, HeldRequest, Kept, Copy, without_unheld_files}
 use Rattle.fuse_spec.specs.Taking.{TakeResult, taking, interrupting}
 use Rattle.fuse_spec.specs.Performs.{performed, replying, served}
 use Rattle.fuse_spec.specs.Copies.{kept_after, sent_again, given_back, after_result}
-use Rattle.fuse_spec.specs.Replies.{is_agreement, ended_by, reply_taken, odd_taken, interrupt_replied, reply_written, interrupt_reply_of}
+use Rattle.fuse_spec.specs.Replies.{is_agreement, ended_by, reply_taken, odd_taken, interrupt_replied, reply_written, interrupt_reply_of, made_ready}
 use Rattle.fuse_spec.specs.Worlds.{World, Sent, first_world, forget_body, after_call, after_read_interrupt, after_read_forgets, after_read_pending, after_take, after_perform, after_again, after_write, after_settle, after_drop, after_evict}
 use Rattle.fuse_spec.specs.Worlds as worlds
 use Rattle.fuse_spec.specs.Events.{Event, Outcome}
@@ -214,7 +214,7 @@ module _ (w : World) (numbered : IsNumbered w) where
       interrupts original None at None = goes (interrupting w.server r.unique original None None) numbered.held_below numbered.kept_below
 
       by : (body : RequestBody) → IsNumbered (after_take w k r.unique (taking w.server r.unique body))
-      by init = goes (taking w.server r.unique init) (λ live. put_below w.server.held r.unique _ low (numbered.held_below live)) numbered.kept_below
+      by (init flags) = goes (taking w.server r.unique (init flags)) (λ live. put_below w.server.held r.unique _ low (numbered.held_below live)) numbered.kept_below
       by (asks operation) = goes (taking w.server r.unique (asks operation)) (λ live. put_below w.server.held r.unique _ low (numbered.held_below live)) numbered.kept_below
       by (release o) = goes (taking w.server r.unique (release o)) (λ live. put_below w.server.held r.unique _ low (numbered.held_below live)) numbered.kept_below
       by (forget f) = goes (taking w.server r.unique (forget f)) numbered.held_below numbered.kept_below
@@ -273,23 +273,23 @@ module _ (k : Kernel) (live : is_live k.phase ≡ true) (sound : IsSound k.queue
       k1 : Kernel
       k1 = record k { queues = without k.queues unique }
 
-      by : (b : Bool) → Hears k (cond b (record k1 { phase = Ready }) (kernel_aborted k1))
+      by : (b : Bool) → Hears k (cond b (made_ready k1 wire) (kernel_aborted k1))
       by true = let calls = without_numbered k numbered unique in goes_on refl (omega arith) (record { calls_below = calls.calls_below; one_request = calls.one_request })
       by false = ends refl refl refl
-  ended_heard (purpose.Release o) waits = went _ (record { phase = refl; rises = omega arith }) (without_numbered k numbered unique)
+  ended_heard (purpose.Release o) waits = went _ (record { phase = refl; minor = refl; lists_files = refl; rises = omega arith }) (without_numbered k numbered unique)
   ended_heard (purpose.Call call) waits =
       let k1 = record k { queues = without k.queues unique } in
       let request = waiting_is k.queues unique (purpose.Call call) waits in
       let mine : is_for call request.request.kept ≡ true = subst (λ (x : Purpose). is_for call x ≡ true) (sym request.serves) (same_is call) in
       let goes = replied_goes_on k1 call wire (get k.vfs.calls call) in
-      went _ (record { phase = goes.phase; rises = goes.rises })
+      went _ (record { phase = goes.phase; minor = goes.minor; lists_files = goes.lists_files; rises = goes.rises })
       (replied_numbered k1 (without_numbered k numbered unique) call wire (get k.vfs.calls call) refl (none_left k numbered call unique request.request request.under mine))
 
   pub written_heard : Hears k (reply_written k unique wire).1
   written_heard = by (nat_eq (unique % 2) 1)
     where
       even : (o : Option Purpose) → waiting k.queues unique ≡ o → Hears k (reply_taken k unique wire o).1
-      even None waits = went k (record { phase = refl; rises = omega arith }) numbered
+      even None waits = went k (record { phase = refl; minor = refl; lists_files = refl; rises = omega arith }) numbered
       even (Some kept) waits = ended_heard kept waits
 
       reply_next : (original : ℕ) (reply : InterruptReply) → (queues.after_interrupt_reply k.queues original reply).next ≡ k.queues.next
@@ -307,12 +307,12 @@ module _ (k : Kernel) (live : is_live k.phase ≡ true) (sound : IsSound k.queue
       interrupts : (x : WireReply) → Hears k (interrupt_replied k (unique - 1) x).1
       interrupts (failed errno) =
           let next = reply_next (unique - 1) (interrupt_reply_of errno) in
-          went _ (record { phase = refl; rises = omega (arith, next) }) (interrupt_replied_numbered k numbered (unique - 1) (interrupt_reply_of errno))
-      interrupts done = went k (record { phase = refl; rises = omega arith }) numbered
-      interrupts x = went k (record { phase = refl; rises = omega arith }) numbered
+          went _ (record { phase = refl; minor = refl; lists_files = refl; rises = omega (arith, next) }) (interrupt_replied_numbered k numbered (unique - 1) (interrupt_reply_of errno))
+      interrupts done = went k (record { phase = refl; minor = refl; lists_files = refl; rises = omega arith }) numbered
+      interrupts x = went k (record { phase = refl; minor = refl; lists_files = refl; rises = omega arith }) numbered
 
       odd : (o : Option Purpose) → Hears k (odd_taken k unique wire o).1
-      odd None = went k (record { phase = refl; rises = omega arith }) numbered
+      odd None = went k (record { phase = refl; minor = refl; lists_files = refl; rises = omega arith }) numbered
       odd (Some kept) = interrupts wire
 
       by : (b : Bool) → Hears k (cond b (odd_taken k unique wire (waiting k.queues (unique - 1))) (reply_taken k unique wire (waiting k.queues unique))).1
@@ -371,28 +371,28 @@ module _ (w : World) (numbered : IsNumberedWhileLive w) where
   moved_numbered k live goes sound calls = still_live (record w { kernel = k }) (ap is_live goes.phase ∙ live) (kernel_numbered w (numbered.live live) live k goes.rises sound calls)
 
   -- After an abort a call is answered at once.
-  call_numbered : (call : Call) → is_ready w.kernel.phase ≡ true → (is_live w.kernel.phase ≡ true → IsSound (call_begun w.kernel call).queues) → IsNumberedWhileLive (after_call w call)
+  call_numbered : (call : Call) → is_ready w.kernel.phase ≡ true → (is_live w.kernel.phase ≡ true → IsSound (call_put w.kernel call).queues) → IsNumberedWhileLive (after_call w call)
   call_numbered call ready sound = by (is_live w.kernel.phase) refl
     where
-      at_once : (b : Bool) → b ≡ true → (closing_of (advanced w.kernel w.kernel.vfs.next_call (begun b w.kernel.vfs call)) (cond b None (closed_by w.kernel.vfs.opens call))).queues ≡ w.kernel.queues
+      at_once : (b : Bool) → b ≡ true → (closing_of (advanced w.kernel w.kernel.vfs.next_call (begun b w.kernel.vfs (spoken w.kernel.lists_files call))) (cond b None (closed_by w.kernel.vfs.opens (spoken w.kernel.lists_files call)))).queues ≡ w.kernel.queues
       at_once true e = refl
       at_once false e = absurd (true≢false (sym e))
 
-      goes : GoesOn w.kernel (call_begun w.kernel call)
-      goes = begun_goes_on w.kernel call
+      goes : GoesOn w.kernel (call_put w.kernel call)
+      goes = begun_goes_on w.kernel (spoken w.kernel.lists_files call)
 
       by : (b : Bool) → is_live w.kernel.phase ≡ b → IsNumberedWhileLive (after_call w call)
-      by true live = moved_numbered (call_begun w.kernel call) live goes (sound live) (begun_numbered w.kernel (calls_of w (numbered.live live)) call)
+      by true live = moved_numbered (call_put w.kernel call) live goes (sound live) (begun_numbered w.kernel (calls_of w (numbered.live live)) (spoken w.kernel.lists_files call))
       by false dead = record {
         live = λ still. absurd (true≢false (sym still ∙ ap is_live goes.phase ∙ dead));
         idle = λ _. at_once (is_aborted w.kernel.phase) (aborted_if_ready w.kernel.phase ready dead) ∙ numbered.idle dead;
       }
 
   stay : (choice : ℕ → ℕ) (e : Event) (o : Outcome) (after : World) → Happened choice w e o after → (is_live w.kernel.phase ≡ true → IsSound after.kernel.queues) → IsNumberedWhileLive after
-  stay choice e o after (by_mount f m idle) sound = record { live = λ _. mounted_numbered w f m; idle = λ dead. absurd (true≢false dead) }
+  stay choice e o after (by_mount f m v idle) sound = record { live = λ _. mounted_numbered w f m v; idle = λ dead. absurd (true≢false dead) }
   stay choice e o after (by_call call ready room within) sound = call_numbered call ready sound
   stay choice e o after (by_read_interrupt original rest live there within) sound = still_live (after_read_interrupt w original) live (read_interrupt w (numbered.live live) live original rest there (sound live))
-  stay choice e o after (by_read_forgets n live free can within) sound =
+  stay choice e o after (by_read_forgets n live free can within few) sound =
       let fs = take n w.kernel.queues.forgets in still_live (after_read_forgets w n fs) live (read_forgets w (numbered.live live) live n fs can (sound live))
   stay choice e o after (by_read_pending k unique kept body live free there says within) sound =
       still_live (after_read_pending w k unique body) live (read_pending w (numbered.live live) live k unique kept body there (sound live))
@@ -416,9 +416,9 @@ module _ (w : World) (numbered : IsNumberedWhileLive w) where
     idle = numbered.idle;
   }
   stay choice e o after (by_drop directory name bound live there) sound =
-      let old = numbered.live live in moved_numbered (after_drop w directory name).kernel live (record { phase = refl; rises = omega arith }) (sound live) (record { calls_below = old.calls_below; one_request = old.one_request })
+      let old = numbered.live live in moved_numbered (after_drop w directory name).kernel live (record { phase = refl; minor = refl; lists_files = refl; rises = omega arith }) (sound live) (record { calls_below = old.calls_below; one_request = old.one_request })
   stay choice e o after (by_evict node counted live there unused) sound =
-      let old = numbered.live live in moved_numbered (after_evict w node counted).kernel live (record { phase = refl; rises = omega arith }) (sound live) (record { calls_below = old.calls_below; one_request = old.one_request })
+      let old = numbered.live live in moved_numbered (after_evict w node counted).kernel live (record { phase = refl; minor = refl; lists_files = refl; rises = omega arith }) (sound live) (record { calls_below = old.calls_below; one_request = old.one_request })
   stay choice e o after (by_abort live) sound = record { live = λ still. absurd (true≢false (sym still)); idle = λ _. refl }
 
 -- The numbers of a live mount stay in order, whatever the event.

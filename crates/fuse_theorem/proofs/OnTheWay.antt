@@ -1,4 +1,6 @@
 -- A request that was read and is unanswered stays on its way, whatever happens.
+use Rattle.fuse_spec.specs.Numbers.{init_flags}
+use Rattle.fuse_spec.specs.Calls.{spoken}
 use Rattle.std.proofs.Common.{◌≡◌, ◌≢◌, ℕ, ◌+◌, ◌-◌, Bool, true, false, true≢false, cond, List, drop, Option, Some, None, nat_eq, slice_get, option_map, refl, ap, sym, subst, ◌∙◌, arith, inl, inr}
 use Rattle.std.specs.Prelude.{◌%◌}
 use Rattle.std.specs.List.{remove as without_at}
@@ -77,7 +79,7 @@ read_ends k sound u r under read wire live =
 
 -- what the kernel asks of its own will be held
 own_held : (k : Kernel) (kept : Purpose) (body : RequestBody) → body_of k kept ≡ Some body → IsToBeHeld body
-own_held k purpose.Init body says = let is : RequestBody.init ≡ body = cc in subst IsToBeHeld is tt
+own_held k purpose.Init body says = let is : RequestBody.init init_flags ≡ body = cc in subst IsToBeHeld is tt
 own_held k (purpose.Release o) body says = let is : release o ≡ body = cc in subst IsToBeHeld is tt
 own_held k (purpose.Call call) body says = by (get k.vfs.calls call) says
   where
@@ -162,7 +164,7 @@ module _ (choice : ℕ → ℕ) (w : World) (sound : WorldSound w) (links : Link
     taken u = by r.body refl
       where
         by : (body : RequestBody) → r.body ≡ body → IsOnItsWay w u → IsOnItsWay (after_take w k r.unique (taking w.server r.unique body)) u
-        by init is = is_held _ u
+        by (init flags) is = is_held _ u
         by (asks operation) is = is_held _ u
         by (release o) is = is_held _ u
         by (forget f) is = not_held (forget f) is (λ x. x) (after_take w k r.unique (taking w.server r.unique (forget f))) u refl (λ h. h) (λ h. h)
@@ -223,12 +225,12 @@ module _ (choice : ℕ → ℕ) (w : World) (sound : WorldSound w) (links : Link
   just_queued false r e read = absurd (cc)
 
   by_event : (e : Event) (o : Outcome) (after : World) → Happened choice w e o after → ReadAreOnTheirWay after
-  by_event e o after (by_mount f m idle) live u r under read = just_queued (nat_eq u 2) r under read
+  by_event e o after (by_mount f m v idle) live u r under read = just_queued (nat_eq u 2) r under read
   by_event e o after (by_call call ready room within) live u r under read =
-      let goes = begun_goes_on w.kernel call in
-      kernel_stays after.kernel w.requests (λ v h. h) u (goes_on after.kernel (ap is_live (sym goes.phase) ∙ live) (begun_reads_none w.kernel call) u r under read)
+      let goes = begun_goes_on w.kernel (spoken w.kernel.lists_files call) in
+      kernel_stays after.kernel w.requests (λ v h. h) u (goes_on after.kernel (ap is_live (sym goes.phase) ∙ live) (begun_reads_none w.kernel (spoken w.kernel.lists_files call)) u r under read)
   by_event e o after (by_read_interrupt original rest lives there within) live u r under read = kernel_stays after.kernel after.requests (λ v h. has_pushed (IsRequest v) w.requests _ h) u (old lives u r under read)
-  by_event e o after (by_read_forgets n lives free can within) live u r under read =
+  by_event e o after (by_read_forgets n lives free can within few) live u r under read =
       kernel_stays after.kernel after.requests (λ v h. has_pushed (IsRequest v) w.requests _ h) u (old lives u r (sym (forgets_same n u (can_read_forgets w.kernel.queues n)) ∙ under) read)
   by_event e o after (by_read_pending k unique kept body lives free there says within) live u r under read = reads lives k unique kept body there says live u r under read
   by_event e o after (by_take k q there within) live u r under read =

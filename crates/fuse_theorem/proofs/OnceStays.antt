@@ -1,4 +1,6 @@
 -- An open number is of one open file at most, whatever happens.
+use Rattle.fuse_spec.specs.Calls.{spoken}
+use Rattle.fuse_spec.specs.declared.Minor.{Minor}
 use Rattle.std.proofs.Common.{◌≡◌, ◌≢◌, ℕ, ◌+◌, ◌-◌, ◌≤◌, ◌<◌, Bool, true, false, true≢false, cond, List, [], ◌++◌, drop, Option, Some, None, nat_eq, slice_get, count_by, refl, ap, sym, subst, ◌∙◌, arith, ◌⊎◌, inl, inr, All}
 use Rattle.std.specs.Prelude.{◌%◌, sum_by}
 use Rattle.std.specs.List.{remove as without_at}
@@ -76,15 +78,15 @@ carries_below w numbered live unique fh (inr sent) =
     omega (arith, low, is)
 
 -- No reply is kept or on the link.
-fresh_once : (w : World) (f m : ℕ) → OpensOnce (after_mount w f m)
-fresh_once w f m = record {
+fresh_once : (w : World) (f m : ℕ) (v : Minor) → OpensOnce (after_mount w f m v)
+fresh_once w f m v = record {
   below = λ u fh c. absurd (none u fh c);
-  one = λ u v fh c d. absurd (none u fh c);
+  one = λ u x fh c d. absurd (none u fh c);
   unopened = λ u fh c waits. absurd (none u fh c);
   once = λ fh. omega arith;
 }
   where
-    none : (u fh : ℕ) → Carries (after_mount w f m) u fh → ⊥
+    none : (u fh : ℕ) → Carries (after_mount w f m v) u fh → ⊥
     none u fh (inl kept) = let at = kept.1 in cc (at)
     none u fh (inr sent) = has_none (λ (s : Sent). (s.unique ≡ u) × (1 ≤ opens_in fh s.wire)) [] sent refl
 
@@ -117,7 +119,7 @@ module _ (choice : ℕ → ℕ) (w : World) (p : Plain) (both : BothSound w p) (
   -- ---- the server takes, sends again and settles
 
   taken_carries : (k unique : ℕ) (body : RequestBody) (u fh : ℕ) → Carries (after_take w k unique (taking w.server unique body)) u fh → Carries w u fh
-  taken_carries k unique init u fh c = c
+  taken_carries k unique (init flags) u fh c = c
   taken_carries k unique (asks operation) u fh c = c
   taken_carries k unique (release o) u fh c = c
   taken_carries k unique (forget f) u fh c = c
@@ -285,11 +287,11 @@ module _ (choice : ℕ → ℕ) (w : World) (p : Plain) (both : BothSound w p) (
   -- ---- every event
 
   once_after : (e : Event) (o : Outcome) (after : World) → MayStep choice w e → Happened choice w e o after → is_live after.kernel.phase ≡ true → OpensOnce after
-  once_after e o after may (by_mount f m idle) alive_now = fresh_once w f m
+  once_after e o after may (by_mount f m v idle) alive_now = fresh_once w f m v
   once_after e o after may (by_call call ready room within) alive_now =
-      moved (call_begun w.kernel call) w.requests (keeps_same w (call_begun w.kernel call) (begun_keeps w.kernel opens.apart call)) (answered_still (call_begun w.kernel call).queues (begun_moves w.kernel call))
+      moved (call_begun w.kernel (spoken w.kernel.lists_files call)) w.requests (keeps_same w (call_begun w.kernel (spoken w.kernel.lists_files call)) (begun_keeps w.kernel opens.apart (spoken w.kernel.lists_files call))) (answered_still (call_begun w.kernel (spoken w.kernel.lists_files call)).queues (begun_moves w.kernel (spoken w.kernel.lists_files call)))
   once_after e o after may (by_read_interrupt original rest was found within) alive_now = moved after.kernel after.requests (interrupt_same w original) (λ u fh c waits. waits)
-  once_after e o after may (by_read_forgets n was free can within) alive_now =
+  once_after e o after may (by_read_forgets n was free can within few) alive_now =
       moved after.kernel after.requests (forgets_same w n) (λ u fh c waits none. waits (forgets_under n u (can_read_forgets w.kernel.queues n) ∙ none))
   once_after e o after may (by_read_pending k unique kept body was free found says within) alive_now =
       moved after.kernel after.requests (pending_same w k unique body (read_sum w.kernel sound.queues k unique kept body found says)) (answered_still after.kernel.queues (read_moves w.kernel.queues sound.queues k))
@@ -316,10 +318,10 @@ mounted_once choice w sound dead e o after did live = by e o after did live
     was now = true≢false (sym now ∙ dead)
 
     by : (x : Event) (r : Outcome) (v : World) → Happened choice w x r v → is_live v.kernel.phase ≡ true → OpensOnce v
-    by x r v (by_mount f m idle) now = fresh_once w f m
-    by x r v (by_call call ready room within) now = let goes = begun_goes_on w.kernel call in absurd (true≢false (sym now ∙ ap is_live goes.phase ∙ dead))
+    by x r y (by_mount f m v idle) now = fresh_once w f m v
+    by x r v (by_call call ready room within) now = let goes = begun_goes_on w.kernel (spoken w.kernel.lists_files call) in absurd (true≢false (sym now ∙ ap is_live goes.phase ∙ dead))
     by x r v (by_read_interrupt original rest lives found within) now = absurd (was lives)
-    by x r v (by_read_forgets n lives free can within) now = absurd (was lives)
+    by x r v (by_read_forgets n lives free can within few) now = absurd (was lives)
     by x r v (by_read_pending k unique kept body lives free found says within) now = absurd (was lives)
     by x r v (by_take k q found within) now =
         let took = taking w.server q.unique q.body in

@@ -8,12 +8,12 @@ use Rattle.fuse_spec.specs.Begins.{Beginning, faulty, sets_out, uses, closes, wh
 use Rattle.fuse_spec.specs.Begins as begins
 use Rattle.fuse_spec.specs.Calls.{Call}
 use Rattle.fuse_spec.specs.Calls as call
-use Rattle.fuse_spec.specs.CallReplies.{operation_replied, call_replied}
+use Rattle.fuse_spec.specs.CallReplies.{all_bound, operation_replied, call_replied}
 use Rattle.fuse_spec.specs.Counts.{opens_of, opens_in}
 use Rattle.fuse_spec.specs.Kernel.{closed_by}
 use Rattle.fuse_spec.specs.Maps.{Map, get}
 use Rattle.fuse_spec.specs.Messages.{WireReply}
-use Rattle.fuse_spec.specs.Operations.{Operation, getattr, mkdir, create, unlink, rmdir, rename, link, opening, readdir, read, write, Reply, found, missing, created, opened, attributes, listed, content, written, done, failed}
+use Rattle.fuse_spec.specs.Operations.{Operation, getattr, mkdir, create, unlink, rmdir, rename, link, opening, readdir, readdirplus, read, write, Reply, found, missing, created, opened, attributes, listed, listed_plus, content, written, done, failed}
 use Rattle.fuse_spec.specs.Paths.{Name, words_of, parent_and_last}
 use Rattle.fuse_spec.specs.Replies.{kernel_reply, goes_with}
 use Rattle.fuse_spec.specs.Vfs.{CallState, walking, doing, using, Vfs, look, answered, asking, bound, unbound, opened_by, after_walk, after_beginning}
@@ -58,6 +58,7 @@ asking_steps c call state uses_it = record {
 final_plain : (final : FinalOperation ℕ) (file : ℕ) → opens_of (operation_at {O = Opened} final file) ≡ []
 final_plain walks.stat file = refl
 final_plain (walks.list after) file = refl
+final_plain (walks.listplus after) file = refl
 final_plain walks.opening file = refl
 final_plain (walks.mkdir name) file = refl
 final_plain (walks.create name) file = refl
@@ -130,6 +131,7 @@ module _ (opens : Map Opened) where
   pub begins_as : (x : Call) → BeginsAs opens (beginning opens x) (closed_by opens x)
   begins_as (call.stat path) = whole path _ (λ words. leads words _)
   begins_as (call.list path after) = whole path _ (λ words. leads words _)
+  begins_as (call.listplus path after) = whole path _ (λ words. leads words _)
   begins_as (call.opening path) = whole path _ (λ words. leads words _)
   begins_as (call.mkdir path) = parent path _ (λ words name. leads words _)
   begins_as (call.create path) = parent path _ (λ words name. leads words _)
@@ -173,6 +175,7 @@ operation_steps : (c : Vfs Opened) (call : ℕ) (operation : Operation ℕ Opene
 operation_steps c call operation (failed errno) = answered_steps c call _
 operation_steps c call (getattr file) (attributes a) = answered_steps c call _
 operation_steps c call (readdir d after size) (listed records) = answered_steps c call _
+operation_steps c call (readdirplus d after size) (listed_plus pairs) = answered_steps (all_bound c d pairs) call _
 operation_steps c call (read o offset size) (content bytes) = answered_steps c call _
 operation_steps c call (write o offset bytes) (written size) = answered_steps c call _
 operation_steps c call (mkdir d name) (found file valid) = answered_steps (bound c d name (Some file) valid) call _

@@ -73,7 +73,7 @@ releases_for_is fh (purpose.Release o) = let one = sum_by-cons (has_number fh) o
 releases_for_is fh (purpose.Call call) = refl
 
 releases_in_is : (fh : ℕ) (body : RequestBody) → sum_by (has_number fh) (released_by body) ≡ releases_in fh body
-releases_in_is fh init = refl
+releases_in_is fh (init flags) = refl
 releases_in_is fh (asks operation) = refl
 releases_in_is fh (release o) = let one = sum_by-cons (has_number fh) o [] in omega (arith, one)
 releases_in_is fh (forget f) = refl

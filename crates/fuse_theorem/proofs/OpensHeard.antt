@@ -1,4 +1,7 @@
 -- As the kernel takes a reply, what the copy carries is opened or refused.
+use Rattle.fuse_spec.specs.Numbers.{init_flags}
+use Rattle.fuse_theorem.proofs.Judging.{heard_is}
+use Rattle.fuse_theorem.specs.Conditions.{IsUsable}
 use Rattle.std.proofs.Common.{◌≡◌, ℕ, ◌+◌, ◌-◌, ◌≤◌, Bool, true, false, true≢false, cond, List, Option, Some, None, nat_eq, is_some, slice_get, option_map, refl, ap, sym, subst, ◌∙◌, arith}
 use Rattle.std.specs.Prelude.{◌%◌, sum_by}
 use Rattle.std.specs.List.{list_any}
@@ -9,7 +12,6 @@ use Rattle.fuse_spec.specs.declared.InterruptReplyEffect.TheVariants.{QueuedAgai
 use Rattle.fuse_spec.specs.declared.Mark.{Mark}
 use Rattle.fuse_spec.specs.declared.Mark.TheVariants as mark
 use Rattle.fuse_spec.specs.declared.Opened.{Opened}
-use Rattle.fuse_spec.specs.declared.Phase.TheVariants.{Ready}
 use Rattle.fuse_spec.specs.declared.Purpose.{Purpose}
 use Rattle.fuse_spec.specs.declared.Purpose.TheVariants as purpose
 use Rattle.fuse_spec.specs.declared.QueuedRequest.{QueuedRequest}
@@ -26,7 +28,7 @@ use Rattle.fuse_spec.specs.Queues.{QueueState, IsSound, is_unread, pending, requ
 use Rattle.fuse_spec.specs.QueueCalls.{after_reading, after_read_pending, after_reply_effect, after_interrupt_reply, pending_at, waiting, with_mark, with_interrupt, without}
 use Rattle.fuse_spec.specs.Signals.{reply_effect}
 use Rattle.fuse_spec.specs.Kernel.{Kernel, is_live, asked_by, body_of, kernel_aborted, after_use}
-use Rattle.fuse_spec.specs.Replies.{kernel_reply, learnt, Use, usable, use_of_all, goes_with, is_empty_reply, is_init_reply, is_agreement, write_result_of, judged, replied, replied_to_call, ended_by, reply_taken, odd_taken, interrupt_replied, interrupt_reply_of, reply_written}
+use Rattle.fuse_spec.specs.Replies.{kernel_reply, learnt, usable, goes_with, is_empty_reply, is_init_reply, is_agreement, write_result_of, judged, replied, replied_to_call, ended_by, reply_taken, odd_taken, interrupt_replied, interrupt_reply_of, reply_written, made_ready}
 use Rattle.fuse_spec.proofs.QueueCounts.{lookup-found}
 use Rattle.fuse_spec.proofs.QueueReadings.{key_count-le-one}
 use Rattle.fuse_theorem.specs.OpenNumbers.{OpensApart, released_for, released_by}
@@ -52,7 +54,7 @@ read_sum k sound place unique kept body there says f =
   where
     -- the request asks what it is for
     same_release : (x : Purpose) → body_of k x ≡ Some body → sum_by f (released_by body) ≡ sum_by f (released_for x)
-    same_release purpose.Init e = let is : init ≡ body = cc (e) in ap (λ (b : RequestBody). sum_by f (released_by b)) (sym is)
+    same_release purpose.Init e = let is : init init_flags ≡ body = cc (e) in ap (λ (b : RequestBody). sum_by f (released_by b)) (sym is)
     same_release (purpose.Release o) e = let is : release o ≡ body = cc (e) in ap (λ (b : RequestBody). sum_by f (released_by b)) (sym is)
     same_release (purpose.Call call) e = of_call (get k.vfs.calls call) e
       where
@@ -135,8 +137,8 @@ module _ (P : Opened → Type 0) where
         by (doing operation) all e = all o e
         by (using handle operation) all e = all o e
 
-    goes_heard : use_of_all k.nodes (files_in_reply wire) ≡ usable → goes_with (asked state) wire ≡ true → ((o : Opened) → gained_by (asked state) (kernel_reply (asked state) wire) ≡ Some o → P o) → HearsOpens P k wire (replied k call state true wire)
-    goes_heard used goes each = subst (λ (u : Use). HearsOpens P k wire (Accepted, after_use (judged k call state wire u) state)) (sym used) learns
+    goes_heard : IsUsable k.nodes wire → goes_with (asked state) wire ≡ true → ((o : Opened) → gained_by (asked state) (kernel_reply (asked state) wire) ≡ Some o → P o) → HearsOpens P k wire (replied k call state true wire)
+    goes_heard used goes each = subst (λ (l : Kernel). HearsOpens P k wire (Accepted, after_use l state)) (sym (heard_is k call state wire used)) learns
       where
         learns : HearsOpens P k wire (Accepted, after_use (judged k call state wire usable) state)
         learns =
@@ -154,7 +156,7 @@ module _ (P : Opened → Type 0) where
               fits = state_fits each;
             }
 
-    replied_heard : use_of_all k.nodes (files_in_reply wire) ≡ usable → (goes_with (asked state) wire ≡ true → (o : Opened) → gained_by (asked state) (kernel_reply (asked state) wire) ≡ Some o → P o)
+    replied_heard : IsUsable k.nodes wire → (goes_with (asked state) wire ≡ true → (o : Opened) → gained_by (asked state) (kernel_reply (asked state) wire) ≡ Some o → P o)
         → HearsOpens P k wire (replied k call state (goes_with (asked state) wire) wire)
     replied_heard used each = by (goes_with (asked state) wire) refl
       where
@@ -164,7 +166,7 @@ module _ (P : Opened → Type 0) where
 
   -- ---- any reply
 
-  module _ (k : Kernel) (old : OpensApart k.vfs k.closing) (one_request : (call : ℕ) → requests_for call k.queues ≤ cond (is_some (get k.vfs.calls call)) 1 0) (unique : ℕ) (wire : WireReply) (used : use_of_all k.nodes (files_in_reply wire) ≡ usable)
+  module _ (k : Kernel) (old : OpensApart k.vfs k.closing) (one_request : (call : ℕ) → requests_for call k.queues ≤ cond (is_some (get k.vfs.calls call)) 1 0) (unique : ℕ) (wire : WireReply) (used : IsUsable k.nodes wire)
       (each : nat_eq (unique % 2) 1 ≡ false → (call : ℕ) (state : CallState Opened) → waiting k.queues unique ≡ Some (purpose.Call call) → get k.vfs.calls call ≡ Some state → goes_with (asked state) wire ≡ true → (o : Opened) → gained_by (asked state) (kernel_reply (asked state) wire) ≡ Some o → P o) where
     abbrev ended : Kernel
     ended = record k { queues = without k.queues unique }
@@ -187,11 +189,11 @@ module _ (P : Opened → Type 0) where
         by None under e = absurd (cc (e))
         by (Some r) under e = read_one r under (is_unread r.mark) refl e
 
-    init_heard : KeepsOpen k (record ended { phase = Ready }) None → HearsOpens P k wire (write_result_of (is_init_reply wire), record ended { phase = Ready })
+    init_heard : KeepsOpen k (made_ready ended wire) None → HearsOpens P k wire (write_result_of (is_init_reply wire), made_ready ended wire)
     init_heard keeps = by wire
       where
-        by : (x : WireReply) → HearsOpens P k x (write_result_of (is_init_reply x), record ended { phase = Ready })
-        by (agreed major minor) = carries_nothing k _ (agreed major minor) Accepted keeps (λ fh. refl)
+        by : (x : WireReply) → HearsOpens P k x (write_result_of (is_init_reply x), made_ready ended wire)
+        by (agreed major minor flags) = carries_nothing k _ (agreed major minor flags) Accepted keeps (λ fh. refl)
         by (failed errno) = carries_nothing k _ (failed errno) Accepted keeps (λ fh. refl)
         by x = refuses k _ x Invalid keeps (λ n. refl)
 
@@ -206,7 +208,7 @@ module _ (P : Opened → Type 0) where
     ended_heard : nat_eq (unique % 2) 1 ≡ false → (kept : Purpose) → waiting k.queues unique ≡ Some kept → is_live (ended_by ended kept wire).1.phase ≡ true → HearsOpens P k wire (ended_by ended kept wire)
     ended_heard is_even purpose.Init waits live = by (is_agreement wire) live
       where
-        by : (b : Bool) → is_live (cond b (record ended { phase = Ready }) (kernel_aborted ended)).phase ≡ true → HearsOpens P k wire (write_result_of (is_init_reply wire), cond b (record ended { phase = Ready }) (kernel_aborted ended))
+        by : (b : Bool) → is_live (cond b (made_ready ended wire) (kernel_aborted ended)).phase ≡ true → HearsOpens P k wire (write_result_of (is_init_reply wire), cond b (made_ready ended wire) (kernel_aborted ended))
         by true still = let keeps = ended_keeps purpose.Init waits in init_heard (record { sums = keeps.sums; apart = keeps.apart })
         by false still = absurd (true≢false (sym still))
     ended_heard is_even (purpose.Release o) waits live = release_heard (ended_keeps (purpose.Release o) waits)

@@ -47,7 +47,7 @@ module _ (w : World) (nodes : NodesKnown w.kernel) (releases : ReleasesKnown w) 
   kept_known (purpose.Call call) h = All-nil Known
 
   sent_known : (unique : ℕ) (body : RequestBody) → SentAsked w.kernel unique body → All Known (released_by body)
-  sent_known unique init h = All-nil Known
+  sent_known unique (init flags) h = All-nil Known
   sent_known unique (asks operation) h = All-nil Known
   sent_known unique (release o) h = All-cons Known o [] (release_known w releases unique o h) (All-nil Known)
   sent_known unique (forget f) h = All-nil Known
@@ -55,7 +55,7 @@ module _ (w : World) (nodes : NodesKnown w.kernel) (releases : ReleasesKnown w) 
   sent_known unique (interrupt original) h = All-nil Known
 
   held_known : (unique : ℕ) (body : RequestBody) → IsAsked w.kernel unique body → All Known (released_by body)
-  held_known unique init h = All-nil Known
+  held_known unique (init flags) h = All-nil Known
   held_known unique (asks operation) h = All-nil Known
   held_known unique (release o) h = All-cons Known o [] (release_known w releases unique o h) (All-nil Known)
   held_known unique (forget f) h = All-nil Known

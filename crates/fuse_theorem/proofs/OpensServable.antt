@@ -1,4 +1,5 @@
 -- What `Held` says of open numbers: those that a live kernel uses, and those that requests name, are numbers of their nodes' files.
+use Rattle.fuse_spec.specs.Numbers.{init_flags}
 use Rattle.std.proofs.Common.{◌≡◌, ℕ, true, List, ◌++◌, Option, Some, None, refl, ap, sym, subst, ◌∙◌, inl, inr, All}
 use Rattle.std.proofs.lemmas.List.Elements.{All-nil}
 use Rattle.fuse_spec.specs.declared.Opened.{Opened}
@@ -75,7 +76,7 @@ module _ (w : World) (files : All (IsOfItsNode w.server) (open_files w)) where
     called_fit call (Some state) at body is = let same : asks (asked state) ≡ body = cc in subst (λ (b : RequestBody). All Fits (opens_of_body b)) same (used_fit call state at)
 
     kept_fit : (kept : Purpose) → All Fits (released_for kept) → (body : RequestBody) → body_of w.kernel kept ≡ Some body → All Fits (opens_of_body body)
-    kept_fit purpose.Init released body is = let same : init ≡ body = cc in subst (λ (b : RequestBody). All Fits (opens_of_body b)) same (All-nil Fits)
+    kept_fit purpose.Init released body is = let same : init init_flags ≡ body = cc in subst (λ (b : RequestBody). All Fits (opens_of_body b)) same (All-nil Fits)
     kept_fit (purpose.Release o) released body is = let same : release o ≡ body = cc in subst (λ (b : RequestBody). All Fits (opens_of_body b)) same released
     kept_fit (purpose.Call call) released body is = called_fit call (get w.kernel.vfs.calls call) refl body is
 
@@ -84,7 +85,7 @@ module _ (w : World) (files : All (IsOfItsNode w.server) (open_files w)) where
     pending_servable e released body is = kept_fit e.1.kept released body is
 
     sent_body_fits : (unique : ℕ) (body : RequestBody) → SentAsked w.kernel unique body → All Fits (released_by body) → All Fits (opens_of_body body)
-    sent_body_fits unique init of released = All-nil Fits
+    sent_body_fits unique (init flags) of released = All-nil Fits
     sent_body_fits unique (asks operation) of released =
         let call = asked_state w.kernel unique operation of in
         subst (λ (x : Operation ℕ Opened). All Fits (opens_of x)) call.3 (used_fit call.0 call.1 call.2)

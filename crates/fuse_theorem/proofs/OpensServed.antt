@@ -98,7 +98,7 @@ module _ (w : World) (counts : CountsOpens w) (sound : CopiesSound w) (server : 
 
   pub taken_sum : Rises w.server.held → (k unique : ℕ) (body : RequestBody) → slice_get w.requests k ≡ Some (record { unique = unique; body = body }) → BearsNumber unique body → (unique % 2 ≡ 0 → get w.server.held unique ≡ None) → (f : Opened → ℕ)
       → sum_by f (open_files (after_take w k unique (taking w.server unique body))) ≡ sum_by f (open_files w)
-  taken_sum rises k unique init there bears none f = left_sum rises k unique init there _ f (held_more rises k unique init there (none bears) _ f) (taking w.server unique init).server refl
+  taken_sum rises k unique (init flags) there bears none f = left_sum rises k unique (init flags) there _ f (held_more rises k unique (init flags) there (none bears) _ f) (taking w.server unique (init flags)).server refl
   taken_sum rises k unique (asks operation) there bears none f =
       left_sum rises k unique (asks operation) there _ f (held_more rises k unique (asks operation) there (none bears) _ f) (taking w.server unique (asks operation)).server refl
   taken_sum rises k unique (release o) there bears none f = left_sum rises k unique (release o) there _ f (held_more rises k unique (release o) there (none bears) _ f) (taking w.server unique (release o)).server refl
@@ -114,7 +114,7 @@ module _ (w : World) (counts : CountsOpens w) (sound : CopiesSound w) (server : 
       by None at None = left_sum rises k unique (interrupt original) there w.server.held f (omega arith) (interrupting w.server unique original None None).server refl
 
   pub taken_counts : (k unique : ℕ) (body : RequestBody) → ((f : Opened → ℕ) → sum_by f (open_files (after_take w k unique (taking w.server unique body))) ≡ sum_by f (open_files w)) → CountsOpens (after_take w k unique (taking w.server unique body))
-  taken_counts k unique init same = none_out (after_take w k unique (taking w.server unique init)) refl refl refl (λ fh. let sum = same (has_number fh) in omega (arith, sum))
+  taken_counts k unique (init flags) same = none_out (after_take w k unique (taking w.server unique (init flags))) refl refl refl (λ fh. let sum = same (has_number fh) in omega (arith, sum))
   taken_counts k unique (asks operation) same = none_out (after_take w k unique (taking w.server unique (asks operation))) refl refl refl (λ fh. let sum = same (has_number fh) in omega (arith, sum))
   taken_counts k unique (release o) same = none_out (after_take w k unique (taking w.server unique (release o))) refl refl refl (λ fh. let sum = same (has_number fh) in omega (arith, sum))
   taken_counts k unique (forget x) same = none_out (after_take w k unique (taking w.server unique (forget x))) refl refl refl (λ fh. let sum = same (has_number fh) in omega (arith, sum))

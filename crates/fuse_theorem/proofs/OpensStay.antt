@@ -1,4 +1,5 @@
 -- Open numbers stay balanced, whatever happens.
+use Rattle.fuse_spec.specs.declared.Minor.{Minor}
 use Rattle.std.proofs.Common.{◌≡◌, ℕ, Bool, true, false, true≢false, cond, [], Option, Some, None, slice_get, refl, ap, sym, subst, ◌∙◌, arith}
 use Rattle.std.specs.List.{remove as without_at}
 use Rattle.std.proofs.lemmas.List.Elements.{All-nil}
@@ -7,7 +8,7 @@ use Rattle.fuse_spec.specs.declared.ReplyResult.{ReplyResult}
 use Rattle.fuse_spec.specs.declared.WriteResult.{WriteResult}
 use Rattle.fuse_spec.specs.declared.WriteResult.TheVariants.{Accepted, NoEntry, Invalid}
 use Rattle.fuse_spec.specs.Copies.{kept_after, after_result}
-use Rattle.fuse_spec.specs.Calls.{Call}
+use Rattle.fuse_spec.specs.Calls.{Call, spoken}
 use Rattle.fuse_spec.specs.Maps.{Map, get, remove}
 use Rattle.fuse_spec.specs.Messages.{RequestBody, init, asks, release, forget, batch_forget, interrupt}
 use Rattle.fuse_spec.specs.Vfs.{Vfs, begun, given_up, later}
@@ -48,8 +49,8 @@ emptied_apart : (c : Vfs Opened) → OpensApart (given_up c) []
 emptied_apart c = record { once = λ n. omega arith; below = λ n high. refl; opens = tt; closing = tt; uses = λ call state at. absurd (cc (at)) }
 
 -- A mount, whatever was there.
-fresh : (w : World) (f m : ℕ) → OpensBalanced (after_mount w f m)
-fresh w f m = record { balance = λ fh. refl; files = All-nil (IsOfItsNode (after_mount w f m).server) }
+fresh : (w : World) (f m : ℕ) (v : Minor) → OpensBalanced (after_mount w f m v)
+fresh w f m v = record { balance = λ fh. refl; files = All-nil (IsOfItsNode (after_mount w f m v).server) }
 
 -- ---- what the server holds stands in rising number
 
@@ -63,7 +64,7 @@ settled_held w old result (Some copy) = by result.result
     by Invalid = old
 
 taken_held : (w : World) → Rises w.server.held → (unique : ℕ) (body : RequestBody) → Rises (taking w.server unique body).server.held
-taken_held w old unique init = put_rises w.server.held unique _ old
+taken_held w old unique (init flags) = put_rises w.server.held unique _ old
 taken_held w old unique (asks operation) = put_rises w.server.held unique _ old
 taken_held w old unique (release o) = put_rises w.server.held unique _ old
 taken_held w old unique (forget f) = old
@@ -76,10 +77,10 @@ taken_held w old unique (interrupt original) = by (get w.server.held original) (
     by None None = old
 
 held_rises : (choice : ℕ → ℕ) (w : World) → Rises w.server.held → (e : Event) (o : Outcome) (after : World) → Happened choice w e o after → Rises after.server.held
-held_rises choice w old e o after (by_mount f m idle) = tt
+held_rises choice w old e o after (by_mount f m v idle) = tt
 held_rises choice w old e o after (by_call call ready room within) = old
 held_rises choice w old e o after (by_read_interrupt original rest live there within) = old
-held_rises choice w old e o after (by_read_forgets n live free can within) = old
+held_rises choice w old e o after (by_read_forgets n live free can within few) = old
 held_rises choice w old e o after (by_read_pending k unique kept body live free there says within) = old
 held_rises choice w old e o after (by_take k r there within) =
     let took = taking w.server r.unique r.body in
@@ -116,7 +117,7 @@ module _ (choice : ℕ → ℕ) (w : World) (p : Plain) (both : BothSound w p) (
     alive =
         let links = both.links in
         let agreed = links.agreed live in
-        stays_live w.kernel (both.asked live).first live sent.unique sent.wire (All-at AgreesToInit w.replies k sent agreed.copies there)
+        stays_live w.kernel (both.asked live).first live w.server.minor sent.unique sent.wire (All-at (AgreesToInit w.server.minor) w.replies k sent agreed.copies there)
 
     pub entries : EntriesHeld w.server.nodes sent.wire
     entries = let balanced = lookups.balanced live in All-at (λ (s : Sent). EntriesHeld w.server.nodes s.wire) w.replies k sent balanced.copies there
@@ -139,10 +140,10 @@ module _ (choice : ℕ → ℕ) (w : World) (p : Plain) (both : BothSound w p) (
       by false dead = let links = both.links in none_at w.replies k sent (links.idle dead).replies there
 
   apart_after : (e : Event) (o : Outcome) (after : World) → Happened choice w e o after → OpensApart after.kernel.vfs after.kernel.closing
-  apart_after e o after (by_mount f m idle) = emptied_apart w.kernel.vfs
-  apart_after e o after (by_call call ready room within) = let kept = begun_keeps w.kernel old.apart call in kept.apart
+  apart_after e o after (by_mount f m v idle) = emptied_apart w.kernel.vfs
+  apart_after e o after (by_call call ready room within) = let kept = begun_keeps w.kernel old.apart (spoken w.kernel.lists_files call) in kept.apart
   apart_after e o after (by_read_interrupt original rest live there within) = old.apart
-  apart_after e o after (by_read_forgets n live free can within) = old.apart
+  apart_after e o after (by_read_forgets n live free can within few) = old.apart
   apart_after e o after (by_read_pending k unique kept body live free there says within) = old.apart
   apart_after e o after (by_take k r there within) =
       let took = taking w.server r.unique r.body in
@@ -171,11 +172,11 @@ module _ (choice : ℕ → ℕ) (w : World) (p : Plain) (both : BothSound w p) (
       by false dead = let links = both.links in none_at w.replies k sent (links.idle dead).replies there
 
   balanced_after : (e : Event) (o : Outcome) (after : World) → MayStep choice w e → LookupsSound after → Happened choice w e o after → is_live after.kernel.phase ≡ true → OpensBalanced after
-  balanced_after e o after may next (by_mount f m idle) live = fresh w f m
+  balanced_after e o after may next (by_mount f m v idle) live = fresh w f m v
   balanced_after e o after may next (by_call call ready room within) live =
-      let goes = begun_goes_on w.kernel call in kernel_moves w (old.balanced (sym (ap is_live goes.phase) ∙ live)) (call_begun w.kernel call) w.requests (keeps_same w (call_begun w.kernel call) (begun_keeps w.kernel old.apart call))
+      let goes = begun_goes_on w.kernel (spoken w.kernel.lists_files call) in kernel_moves w (old.balanced (sym (ap is_live goes.phase) ∙ live)) (call_begun w.kernel (spoken w.kernel.lists_files call)) w.requests (keeps_same w (call_begun w.kernel (spoken w.kernel.lists_files call)) (begun_keeps w.kernel old.apart (spoken w.kernel.lists_files call)))
   balanced_after e o after may next (by_read_interrupt original rest was there within) live = kernel_moves w (old.balanced was) after.kernel after.requests (interrupt_same w original)
-  balanced_after e o after may next (by_read_forgets n was free can within) live = kernel_moves w (old.balanced was) after.kernel after.requests (forgets_same w n)
+  balanced_after e o after may next (by_read_forgets n was free can within few) live = kernel_moves w (old.balanced was) after.kernel after.requests (forgets_same w n)
   balanced_after e o after may next (by_read_pending k unique kept body was free there says within) live = kernel_moves w (old.balanced was) after.kernel after.requests (pending_same w k unique body (read_sum w.kernel sound.queues k unique kept body there says))
   balanced_after e o after may next (by_take k r there within) live =
       let took = taking w.server r.unique r.body in
@@ -221,11 +222,11 @@ module _ (choice : ℕ → ℕ) (w : World) (p : Plain) (both : BothSound w p) (
       by false was = let links = both.links in none_at w.replies k sent (links.idle was).replies there
 
   unopened_after : (e : Event) (o : Outcome) (after : World) → Happened choice w e o after → is_live after.kernel.phase ≡ false → Unopened after.kernel
-  unopened_after e o after (by_mount f m idle) dead = (refl, refl)
+  unopened_after e o after (by_mount f m v idle) dead = (refl, refl)
   unopened_after e o after (by_call call ready room within) dead =
-      let goes = begun_goes_on w.kernel call in called_unopened call ready (sym (ap is_live goes.phase) ∙ dead)
+      let goes = begun_goes_on w.kernel (spoken w.kernel.lists_files call) in called_unopened (spoken w.kernel.lists_files call) ready (sym (ap is_live goes.phase) ∙ dead)
   unopened_after e o after (by_read_interrupt original rest live there within) dead = lives_on after.kernel refl live dead
-  unopened_after e o after (by_read_forgets n live free can within) dead = lives_on after.kernel refl live dead
+  unopened_after e o after (by_read_forgets n live free can within few) dead = lives_on after.kernel refl live dead
   unopened_after e o after (by_read_pending k unique kept body live free there says within) dead = lives_on after.kernel refl live dead
   unopened_after e o after (by_take k r there within) dead =
       let took = taking w.server r.unique r.body in still (after_take w k r.unique took) (replying_kernel (record w { requests = without_at w.requests k; server = took.server }) w.server.next_copy r.unique took.reply) dead

@@ -67,7 +67,7 @@ held_fits w old unique t at o is =
 
 -- To take a request changes no open number.
 pub taken_handles : (w : World) (unique : ℕ) (body : RequestBody) → (taking w.server unique body).server.handles ≡ w.server.handles
-taken_handles w unique init = refl
+taken_handles w unique (init flags) = refl
 taken_handles w unique (asks operation) = refl
 taken_handles w unique (release o) = refl
 taken_handles w unique (forget f) = refl
@@ -137,7 +137,7 @@ module _ (w : World) (p : Plain) (both : BothSound w p) (live : is_live w.kernel
             absurd (omega (arith, once, some, one))
 
     taken_denotes : (unique : ℕ) (body : RequestBody) (i generation file : ℕ) → Denotes (taking w.server unique body).server.nodes i generation file → Denotes w.server.nodes i generation file
-    taken_denotes unique init i generation file d = d
+    taken_denotes unique (init flags) i generation file d = d
     taken_denotes unique (asks operation) i generation file d = d
     taken_denotes unique (release o) i generation file d = d
     taken_denotes unique (forget f) i generation file d = all_less_denotes (f ∷ []) w.server.nodes i generation file d

@@ -107,7 +107,7 @@ module _ (w : World) (p : Plain) (both : BothSound w p) (unique : ℕ) (t : Held
         by_mark operation is false unmarked = performs choice may operation is unmarked
 
         by : (body : RequestBody) → t.body ≡ body → CanServe choice w p unique t
-        by init is = each.initiates is (marked_as init is) still
+        by (init flags) is = each.initiates flags is (marked_as (init flags) is) still
         by (asks operation) is = by_mark operation is t.marked refl
         by (release o) is = releases o is
         by (forget f) is = absurd (marked_as (forget f) is)

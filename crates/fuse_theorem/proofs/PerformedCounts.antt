@@ -1,22 +1,27 @@
 -- What a performed request's reply names is counted, where the reply goes out.
-use Rattle.std.proofs.Common.{◌≡◌, ℕ, ◌+◌, ◌≤◌, Bool, true, false, not, ◌||◌, cond, [], Option, Some, None, refl, ap, sym, subst, arith}
+use Rattle.fuse_spec.specs.declared.Minor.TheVariants.{M15, M31}
+use Rattle.fuse_spec.specs.declared.Minor.{Minor}
+use Rattle.fuse_spec.proofs.QueueCounts.{count_by-cons}
+use Rattle.std.proofs.Common.{◌≡◌, ℕ, ◌+◌, ◌≤◌, Bool, true, false, not, ◌||◌, cond, [], Option, Some, None, refl, ap, sym, subst, arith, List, ◌∷◌, map, count_by, nat_eq, get_or, ◌∙◌, inl, inr, All}
 use Rattle.std.specs.Prelude.{MatchOption}
-use Rattle.std.proofs.lemmas.List.Elements.{All-nil, All-cons}
+use Rattle.std.proofs.lemmas.List.Elements.{All-nil, All-cons, All-map}
 use Rattle.fuse_spec.specs.declared.Entry.{Entry}
 use Rattle.fuse_spec.specs.Maps.{get}
 use Rattle.fuse_spec.specs.Messages.{RequestBody, init, asks, release, forget, batch_forget, interrupt, WireReply}
-use Rattle.fuse_spec.specs.Operations.{Reply, found, missing, created, opened, attributes, listed, content, written, agreed, done, failed, files_in_reply, errno_of}
+use Rattle.fuse_spec.specs.Operations.{Reply, done, failed, files_in_reply, errno_of}
 use Rattle.fuse_spec.specs.FileOperations.{FileOperation, reply_by, tree_after}
 use Rattle.fuse_spec.specs.Trees.{Tree}
-use Rattle.fuse_spec.specs.Nodes.{HeldNode, NodeTable, file_of, is_open, MayName, IsUnheld, MayChoose, given, all_given, handle_back}
+use Rattle.fuse_spec.specs.Nodes.{HeldNode, NodeTable, file_of, is_open, MayName, IsUnheld, MayChoose, given, all_given, handle_back, given_row}
 use Rattle.fuse_spec.specs.Server.{Server, HeldRequest}
-use Rattle.fuse_spec.specs.Performs.{PerformResult, file_operation_of, is_open_for, doing, wire_of, refusing, performing, performed, is_still_held, files_by, files_given}
+use Rattle.fuse_spec.specs.Performs.{PerformResult, file_operation_of, is_open_for, doing, wire_of, refusing, performing, performed, is_still_held, files_by, files_given, entry_for, init_reply}
 use Rattle.fuse_spec.specs.Counts.{names_in}
 use Rattle.fuse_spec.specs.Denotes.{Denotes}
 use Rattle.fuse_theorem.specs.Lookups.{IsHeldAs, EntriesHeld}
 use Rattle.fuse_theorem.specs.ServerTables.{NodesSound}
 use Rattle.fuse_theorem.proofs.Giving.{all_given_denotes}
-use Rattle.fuse_theorem.proofs.Naming.{given_node}
+use Rattle.fuse_theorem.proofs.Naming.{all_given_nodes}
+use Rattle.fuse_theorem.proofs.NodesSound.{put_found}
+use Rattle.fuse_theorem.proofs.Pairs.{files_with}
 use Rattle.fuse_theorem.proofs.RowCounts.{count_of, given_count}
 use Rattle.fuse_theorem.proofs.ServerSound.{no_node}
 
@@ -25,45 +30,61 @@ Named t g = (2 ≤ g.nodeid) × IsHeldAs t g.nodeid g.generation
 
 -- ---- a reply that is sent
 
+-- how often ids are chosen
+abbrev times : (ℕ → ℕ) → ℕ → List ℕ → ℕ
+times choice id files = count_by (λ (f : ℕ). nat_eq (choice f) id) files
+
+given_times : (choice : ℕ → ℕ) (files : List ℕ) (t : NodeTable) (id : ℕ) → count_of (all_given choice t files) id ≡ count_of t id + times choice id files
+given_times choice [] t id = omega arith
+given_times choice (f ∷ files) t id =
+    let more = given_count t f (choice f) id in
+    let counts = count_by-cons (λ (x : ℕ). nat_eq (choice x) id) f files in
+    let rest = given_times choice files (given t f (choice f)) id in
+    omega (arith, more, counts, rest)
+
+named_times : (choice : ℕ → ℕ) (t : NodeTable) (tree : Tree) (files : List ℕ) (id : ℕ) → count_by (λ (g : Entry). nat_eq g.nodeid id) (map (entry_for choice t tree) files) ≡ times choice id files
+named_times choice t tree [] id = refl
+named_times choice t tree (f ∷ files) id =
+    let a = count_by-cons (λ (g : Entry). nat_eq g.nodeid id) (entry_for choice t tree f) (map (entry_for choice t tree) files) in
+    let b = count_by-cons (λ (x : ℕ). nat_eq (choice x) id) f files in
+    let rest = named_times choice t tree files id in
+    omega (arith, a, b, rest)
+
 -- each file that it names is counted once more
 wire_counts : (choice : ℕ → ℕ) (t : NodeTable) (tree : Tree) (fh : ℕ) (reply : Reply ℕ ℕ) (id : ℕ)
     → count_of (all_given choice t (files_in_reply reply)) id ≡ count_of t id + names_in id (wire_of choice (all_given choice t (files_in_reply reply)) tree fh reply)
-wire_counts choice t tree fh (found file v) id = let more = given_count t file (choice file) id in omega (arith, more)
-wire_counts choice t tree fh (created file v o) id = let more = given_count t file (choice file) id in omega (arith, more)
-wire_counts choice t tree fh (missing v) id = omega arith
-wire_counts choice t tree fh (opened o) id = omega arith
-wire_counts choice t tree fh (attributes a) id = omega arith
-wire_counts choice t tree fh (listed xs) id = omega arith
-wire_counts choice t tree fh (content xs) id = omega arith
-wire_counts choice t tree fh (written n) id = omega arith
-wire_counts choice t tree fh (agreed a b) id = omega arith
-wire_counts choice t tree fh done id = omega arith
-wire_counts choice t tree fh (failed e) id = omega arith
+wire_counts choice t tree fh reply id =
+    let last = all_given choice t (files_in_reply reply) in
+    let given = given_times choice (files_in_reply reply) t id in
+    let named : names_in id (wire_of choice last tree fh reply) ≡ times choice id (files_in_reply reply) =
+    ap (λ (gs : List Entry). count_by (λ (g : Entry). nat_eq g.nodeid id) gs) (files_with (entry_for choice last tree) (λ (file : ℕ). fh) reply) ∙ named_times choice last tree (files_in_reply reply) id in
+    omega (arith, given, named)
 
 -- an id that may name a file is no root
-chosen_low : (t : NodeTable) → NodesSound t → (file id : ℕ) → MayName t file id → 2 ≤ id
-chosen_low t sound file id may = by (get t.rows id) refl may
+chosen_low : (t : NodeTable) → ((id : ℕ) (row : HeldNode) → get t.rows id ≡ Some row → 2 ≤ id) → (file id : ℕ) → MayName t file id → 2 ≤ id
+chosen_low t ids file id may = by (get t.rows id) refl may
   where
     by : (o : Option HeldNode) → get t.rows id ≡ o → MatchOption o ((2 ≤ id) × IsUnheld t file) (λ row. row.file ≡ file) → 2 ≤ id
     by None at m = m.0
-    by (Some row) at m = sound.ids id row at
+    by (Some row) at m = ids id row at
+
+all_low : (choice : ℕ → ℕ) (files : List ℕ) (t : NodeTable) → ((id : ℕ) (row : HeldNode) → get t.rows id ≡ Some row → 2 ≤ id) → MayChoose choice t files → All (λ (f : ℕ). 2 ≤ choice f) files
+all_low choice [] t ids may = All-nil (λ (f : ℕ). 2 ≤ choice f)
+all_low choice (f ∷ files) t ids may =
+    let low = chosen_low t ids f (choice f) may.0 in
+    All-cons (λ (x : ℕ). 2 ≤ choice x) f files low
+    (all_low choice files (given t f (choice f)) (λ id row at. elim (put_found t.rows (choice f) (given_row t f (get t.rows (choice f))) id row at) [ inl e ↦ subst (λ (n : ℕ). 2 ≤ n) (sym e.0) low | inr e ↦ ids id row e ]) may.1)
 
 -- each file that it names is held
 wire_held : (choice : ℕ → ℕ) (t : NodeTable) → NodesSound t → (tree : Tree) (fh : ℕ) (reply : Reply ℕ ℕ) → MayChoose choice t (files_in_reply reply)
     → EntriesHeld (all_given choice t (files_in_reply reply)) (wire_of choice (all_given choice t (files_in_reply reply)) tree fh reply)
-wire_held choice t sound tree fh (found file v) may =
-    All-cons (Named (given t file (choice file))) _ [] (chosen_low t sound file (choice file) may.0, (file, given_node t (no_node t sound 1 (omega arith)) file (choice file) may.0)) (All-nil (Named (given t file (choice file))))
-wire_held choice t sound tree fh (created file v o) may =
-    All-cons (Named (given t file (choice file))) _ [] (chosen_low t sound file (choice file) may.0, (file, given_node t (no_node t sound 1 (omega arith)) file (choice file) may.0)) (All-nil (Named (given t file (choice file))))
-wire_held choice t sound tree fh (missing v) may = All-nil (Named t)
-wire_held choice t sound tree fh (opened o) may = All-nil (Named t)
-wire_held choice t sound tree fh (attributes a) may = All-nil (Named t)
-wire_held choice t sound tree fh (listed xs) may = All-nil (Named t)
-wire_held choice t sound tree fh (content xs) may = All-nil (Named t)
-wire_held choice t sound tree fh (written n) may = All-nil (Named t)
-wire_held choice t sound tree fh (agreed a b) may = All-nil (Named t)
-wire_held choice t sound tree fh done may = All-nil (Named t)
-wire_held choice t sound tree fh (failed e) may = All-nil (Named t)
+wire_held choice t sound tree fh reply may =
+    let files = files_in_reply reply in
+    let last = all_given choice t files in
+    let entry = entry_for choice last tree in
+    let given = all_given_nodes choice files t (no_node t sound 1 (omega arith)) may in
+    let low = all_low choice files t sound.ids may in
+    subst (All (Named last)) (sym (files_with entry (λ (file : ℕ). fh) reply)) (All-map (Named last) entry files (λ i f lt. (low i f lt, (get_or files i f, given i f lt))))
 
 -- ---- a request that is performed
 
@@ -107,7 +128,11 @@ module _ (choice : ℕ → ℕ) (s : Server) (sound : NodesSound s.nodes) where
         by_held false m = wire_held choice s.nodes sound (tree_after s.tree operation) s.handles.next_fh reply m
 
   performing_counts : (body : RequestBody) → MayChoose choice s.nodes (cond s.aborted [] (files_by s body)) → Counts s (performing choice s body)
-  performing_counts init may = record { more = λ i generation file d. d; counts = λ live id. omega arith; same = λ dead. refl; held = All-nil (Named s.nodes) }
+  performing_counts (init flags) may = by s.minor
+    where
+      by : (m : Minor) → Counts s (record { server = s; wire = init_reply m flags })
+      by M15 = record { more = λ i generation file d. d; counts = λ live id. omega arith; same = λ dead. refl; held = All-nil (Named s.nodes) }
+      by M31 = record { more = λ i generation file d. d; counts = λ live id. omega arith; same = λ dead. refl; held = All-nil (Named s.nodes) }
   performing_counts (asks operation) may = by (is_open_for s operation) may
     where
       by : (b : Bool) → MayChoose choice s.nodes (cond s.aborted [] (cond b (files_in_reply (reply_by s.validity s.tree (file_operation_of s.nodes operation))) []))

@@ -1,4 +1,6 @@
 -- How a performed request changes the counts of open numbers.
+use Rattle.fuse_spec.specs.declared.Minor.TheVariants.{M15, M31}
+use Rattle.fuse_spec.specs.declared.Minor.{Minor}
 use Rattle.std.proofs.Common.{◌≡◌, ℕ, ◌+◌, ◌≤◌, Bool, true, false, true≢false, cond, List, [], None, refl, sym, ◌∙◌, arith}
 use Rattle.std.specs.Prelude.{sum_by}
 use Rattle.std.proofs.lemmas.List.Sums.{sum_by-cons}
@@ -9,7 +11,7 @@ use Rattle.fuse_spec.specs.Messages.{RequestBody, init, asks, release, forget, b
 use Rattle.fuse_spec.specs.Operations.{Reply, done, failed, files_in_reply, opens_in_reply, errno_of}
 use Rattle.fuse_spec.specs.Nodes.{HandleTable, file_of, is_open, all_given, all_opened, handle_back}
 use Rattle.fuse_spec.specs.Server.{Server, HeldRequest}
-use Rattle.fuse_spec.specs.Performs.{PerformResult, file_operation_of, is_open_for, doing, wire_of, refusing, performing, performed, is_still_held}
+use Rattle.fuse_spec.specs.Performs.{PerformResult, file_operation_of, is_open_for, doing, wire_of, refusing, performing, performed, is_still_held, init_reply}
 use Rattle.fuse_spec.specs.Counts.{opens_in}
 use Rattle.fuse_theorem.specs.OpenNumbers.{released_by}
 use Rattle.fuse_theorem.proofs.Giving.{opened_open}
@@ -38,7 +40,7 @@ opened_files h none reply = by (opens_in_reply reply) (opens_one reply)
 
 module _ (choice : ℕ → ℕ) (s : Server) (live : s.aborted ≡ false) (none : get s.handles.handles s.handles.next_fh ≡ None) where
   releases_nothing : (body : RequestBody) → ((o : Opened) → body ≡ release o → ⊥) → (fh : ℕ) → ◌≡◌ {A = ℕ} (sum_by (has_number fh) (released_by body)) 0
-  releases_nothing init apart fh = refl
+  releases_nothing (init flags) apart fh = refl
   releases_nothing (asks operation) apart fh = refl
   releases_nothing (release o) apart fh = absurd (apart o refl)
   releases_nothing (forget f) apart fh = refl
@@ -70,7 +72,11 @@ module _ (choice : ℕ → ℕ) (s : Server) (live : s.aborted ≡ false) (none 
 
   module _ (t : HeldRequest) (released : (o : Opened) → t.body ≡ release o → Releases s t o) where
     performing_numbers : (body : RequestBody) → t.body ≡ body → Numbers s body (performing choice s body)
-    performing_numbers init is = record { counts = λ fh. omega arith; files = λ fh file there h. h }
+    performing_numbers (init flags) is = by s.minor
+      where
+        by : (m : Minor) → Numbers s (init flags) (record { server = s; wire = init_reply m flags })
+        by M15 = record { counts = λ fh. omega arith; files = λ fh file there h. h }
+        by M31 = record { counts = λ fh. omega arith; files = λ fh file there h. h }
     performing_numbers (asks operation) is = by (is_open_for s operation)
       where
         by : (b : Bool) → Numbers s (asks operation) (cond b (doing choice s (file_operation_of s.nodes operation)) (refusing s 9))

@@ -13,22 +13,23 @@ pub record SameRest (s t : Server) : Type 0 where
   pub copies : t.copies ≡ s.copies
   pub next_copy : t.next_copy ≡ s.next_copy
   pub validity : t.validity ≡ s.validity
+  pub minor : t.minor ≡ s.minor
   pub aborted : t.aborted ≡ s.aborted
 
 same_rest : (s : Server) → SameRest s s
-same_rest s = record { held = refl; kept = refl; copies = refl; next_copy = refl; validity = refl; aborted = refl }
+same_rest s = record { held = refl; kept = refl; copies = refl; next_copy = refl; validity = refl; minor = refl; aborted = refl }
 
 performing_rest : (choice : ℕ → ℕ) (s : Server) (body : RequestBody) → SameRest s (performing choice s body).server
-performing_rest choice s init = same_rest s
+performing_rest choice s (init flags) = same_rest s
 performing_rest choice s (asks operation) = by (is_open_for s operation)
   where
     by : (b : Bool) → SameRest s (cond b (doing choice s (file_operation_of s.nodes operation)) (refusing s 9)).server
-    by true = record { held = refl; kept = refl; copies = refl; next_copy = refl; validity = refl; aborted = refl }
+    by true = record { held = refl; kept = refl; copies = refl; next_copy = refl; validity = refl; minor = refl; aborted = refl }
     by false = same_rest s
 performing_rest choice s (release o) = by (is_open s.handles o.fh (file_of s.nodes o.nodeid))
   where
     by : (b : Bool) → SameRest s (cond b (record { server = record s { handles = handle_back s.handles o.fh }; wire = done }) (refusing s 9)).server
-    by true = record { held = refl; kept = refl; copies = refl; next_copy = refl; validity = refl; aborted = refl }
+    by true = record { held = refl; kept = refl; copies = refl; next_copy = refl; validity = refl; minor = refl; aborted = refl }
     by false = same_rest s
 performing_rest choice s (forget f) = same_rest s
 performing_rest choice s (batch_forget fs) = same_rest s

@@ -6,7 +6,7 @@ use Rattle.fuse_spec.specs.declared.Opened.{Opened}
 use Rattle.fuse_spec.specs.declared.Purpose.{Purpose}
 use Rattle.fuse_spec.specs.declared.QueuedRequest.{QueuedRequest}
 use Rattle.fuse_spec.specs.Maps.{Map, get, put, remove, values}
-use Rattle.fuse_spec.specs.Operations.{Operation, lookup, getattr, mkdir, create, unlink, rmdir, rename, link, opening, readdir, read, write, Reply, found, missing, created, opened, attributes, listed, content, written, agreed, done, failed, files_in_reply, opens_in_reply, errno_of}
+use Rattle.fuse_spec.specs.Operations.{Operation, lookup, getattr, mkdir, create, unlink, rmdir, rename, link, opening, readdir, readdirplus, read, write, Reply, found, missing, created, opened, attributes, listed, listed_plus, content, written, agreed, done, failed, files_in_reply, opens_in_reply, errno_of}
 use Rattle.fuse_spec.specs.Trees.{Tree, Named}
 use Rattle.fuse_spec.specs.FileOperations.{FileOperation, reply_by, tree_after, refusal}
 use Rattle.fuse_spec.specs.Queues.{pending}
@@ -80,6 +80,7 @@ module _ (w : World) (p : Plain) (same : Alike w p) where
     deed_stands (link x d name) (link y e other) h = (stands x y h.0, stands d e h.1)
     deed_stands (opening x) (opening y) h = stands x y h
     deed_stands (readdir d after size) (readdir e after' size') h = stands d e h.0
+    deed_stands (readdirplus d after size) (readdirplus e after' size') h = stands d e h.0
     deed_stands (read o offset size) (read file offset' size') h = opened_stands o file h.0
     deed_stands (write o offset bytes) (write file offset' bytes') h = opened_stands o file h.0
     deed_stands a b h = absurd h
@@ -95,6 +96,7 @@ module _ (w : World) (p : Plain) (same : Alike w p) where
     open_for (link x d name) b h = refl
     open_for (opening x) b h = refl
     open_for (readdir d after size) b h = refl
+    open_for (readdirplus d after size) b h = refl
     open_for (read o offset size) (read file offset' size') h = number_open o file h.0
     open_for (write o offset bytes) (write file offset' bytes') h = number_open o file h.0
     open_for (read o offset size) b h = absurd h
@@ -274,9 +276,10 @@ module _ (w : World) (p : Plain) (same : Alike w p) (choice : ℕ → ℕ) (uniq
     opens_still (missing v) fh file h = h
     opens_still (attributes a) fh file h = h
     opens_still (listed xs) fh file h = h
+    opens_still (listed_plus xs) fh file h = h
     opens_still (content xs) fh file h = h
     opens_still (written n) fh file h = h
-    opens_still (agreed a b) fh file h = h
+    opens_still (agreed a b flags) fh file h = h
     opens_still done fh file h = h
     opens_still (failed e) fh file h = h
 

@@ -3,11 +3,11 @@ use Rattle.std.proofs.Common.{◌≡◌, ℕ, ◌+◌, Bool, true, false, ◌||�
 use Rattle.std.specs.List.{list_any}
 use Rattle.fuse_spec.specs.declared.Opened.{Opened}
 use Rattle.fuse_spec.specs.Maps.{Map, get, put, remove, values}
-use Rattle.fuse_spec.specs.Operations.{done, agreed, errno_of}
+use Rattle.fuse_spec.specs.Operations.{done, errno_of}
 use Rattle.fuse_spec.specs.Messages.{RequestBody, init, release, WireReply}
 use Rattle.fuse_spec.specs.Nodes.{HeldNode, OpenNumber, HandleTable, handle_back}
 use Rattle.fuse_spec.specs.Server.{Server, HeldRequest, Kept, Copy, is_file_held, without_unheld_files}
-use Rattle.fuse_spec.specs.Performs.{PerformResult, performed, performing, served, replying, refusing, is_still_held}
+use Rattle.fuse_spec.specs.Performs.{PerformResult, performed, performing, served, replying, refusing, is_still_held, init_reply}
 use Rattle.fuse_spec.specs.Worlds.{World, after_perform}
 use Rattle.fuse_spec.specs.Worlds as worlds
 use Rattle.fuse_spec.specs.Events as event
@@ -73,9 +73,9 @@ module _ (w : World) (p : Plain) (same : Alike w p) (choice : ℕ → ℕ) (uniq
   did_body body is unmarked still = λ i. cond (unmarked i) (refusing (unheld w unique).server 4) (cond (still i) (performing choice (unheld w unique).server (is i)) (refusing (unheld w unique).server 5))
 
   -- INIT is performed.
-  pub init_goes : get w.server.held unique ≡ Some t → t.body ≡ init → t.marked ≡ false → is_still_held w.server.nodes t.generations ≡ true
+  pub init_goes : get w.server.held unique ≡ Some t → (flags : ℕ) → t.body ≡ init flags → t.marked ≡ false → is_still_held w.server.nodes t.generations ≡ true
       → Takes p (event.perform unique) (event.performed unique (errno_of (served choice w.server unique t).wire) w.server.aborted) p × Alike (after_perform w unique (served choice w.server unique t)) p
-  init_goes there body_is unmarked still = unasked_goes w p same choice unique t (asked_of there init body_is) w.server.handles (agreed 7 31) (did_body init body_is unmarked still)
+  init_goes there flags body_is unmarked still = unasked_goes w p same choice unique t (asked_of there (init flags) body_is) w.server.handles (init_reply w.server.minor flags) (did_body (init flags) body_is unmarked still)
       (record {
         back = λ id file m. m;
         root = λ file m. m;

@@ -1,4 +1,5 @@
 -- What the plain world performs is replied to as its operation asks, whatever step it takes.
+use Rattle.fuse_spec.specs.Calls.{spoken, lists_files_at}
 use Rattle.std.proofs.Common.{◌≡◌, ℕ, ◌-◌, ◌≤◌, Bool, true, false, cond, List, [], ◌∷◌, Option, Some, None, refl, ap, sym, subst, ◌∙◌, arith, inl, inr}
 use Rattle.std.specs.Prelude.{nat_le, min, sum_by}
 use Rattle.std.proofs.lemmas.List.{length-take}
@@ -13,11 +14,11 @@ use Rattle.fuse_spec.specs.Events.{Event, Outcome}
 use Rattle.fuse_spec.specs.Events as event
 use Rattle.fuse_spec.specs.FileOperations.{FileOperation, refusal, reply_unrefused, reply_or, looked_up, reply_by}
 use Rattle.fuse_spec.specs.Maps.{Map, get, put, remove}
-use Rattle.fuse_spec.specs.Operations.{lookup, getattr, mkdir, create, unlink, rmdir, rename, link, opening, readdir, read, write, Dirent, failed}
-use Rattle.fuse_spec.specs.Trees.{Tree, record_length, fitting, records_after, file_at}
+use Rattle.fuse_spec.specs.Operations.{lookup, getattr, mkdir, create, unlink, rmdir, rename, link, opening, readdir, readdirplus, read, write, Dirent, DirentPlus, failed}
+use Rattle.fuse_spec.specs.Trees.{Tree, record_length, fitting, records_after, pair_length, fitting_pairs, pairs_after, file_at}
 use Rattle.fuse_spec.specs.CallReplies.{call_replied}
 use Rattle.fuse_spec.specs.Vfs.{CallState, begun}
-use Rattle.fuse_spec.specs.Plain.{Plain, Ask, Stage, waiting, performed, declined, asking, call_begun, ask_performed, ask_declined, ask_told, ask_interrupted, ask_noted, ask_marked, plain_later, name_dropped, plain_aborted, plain_mounted, first_plain}
+use Rattle.fuse_spec.specs.Plain.{Plain, Ask, Stage, waiting, performed, declined, asking, call_put, ask_performed, ask_declined, ask_told, ask_interrupted, ask_noted, ask_marked, plain_later, name_dropped, plain_aborted, plain_mounted, first_plain}
 use Rattle.fuse_spec.specs.PlainSteps.{where_so, serving_ask, serving, telling_call, telling_ask, telling, signalled_ask, signalling, marking, takes, Takes}
 use Rattle.fuse_spec.specs.PlainReplies.{RepliesTo, AskServed, AsksServed}
 use Rattle.fuse_theorem.proofs.NodesSound.{put_found, left_found}
@@ -36,6 +37,18 @@ fits room (r ∷ records) = by (nat_le (record_length r) room) refl (fits (room 
         omega (arith, enough, rest, total)
     by false fit rest = omega arith
 
+-- as many names of a list as fit
+fits_pairs : (room : ℕ) (pairs : List (DirentPlus ℕ)) → sum_by pair_length (fitting_pairs room pairs) ≤ room
+fits_pairs room [] = omega arith
+fits_pairs room (r ∷ pairs) = by (nat_le (pair_length r) room) refl (fits_pairs (room - pair_length r) pairs)
+  where
+    by : (b : Bool) → nat_le (pair_length r) room ≡ b → sum_by pair_length (fitting_pairs (room - pair_length r) pairs) ≤ room - pair_length r → sum_by pair_length (cond b (r ∷ fitting_pairs (room - pair_length r) pairs) []) ≤ room
+    by true fit rest =
+        let enough : pair_length r ≤ room = grind (arith, nat_tests, fit) in
+        let total = sum_by-cons pair_length r (fitting_pairs (room - pair_length r) pairs) in
+        omega (arith, enough, rest, total)
+    by false fit rest = omega arith
+
 refused_so : (operation : FileOperation) (errno : ℕ) → RepliesTo operation (failed errno)
 refused_so (lookup d name) errno = tt
 refused_so (getattr x) errno = tt
@@ -47,6 +60,7 @@ refused_so (rename d old e new) errno = tt
 refused_so (link x d name) errno = tt
 refused_so (opening x) errno = tt
 refused_so (readdir d after size) errno = tt
+refused_so (readdirplus d after size) errno = tt
 refused_so (read o offset size) errno = tt
 refused_so (write o offset bytes) errno = tt
 
@@ -65,6 +79,7 @@ unrefused_so valid tree (rename d old e new) = tt
 unrefused_so valid tree (link x d name) = tt
 unrefused_so valid tree (opening x) = refl
 unrefused_so valid tree (readdir d after size) = let few = fits (min size 4096) (records_after tree d after) in omega (arith, few)
+unrefused_so valid tree (readdirplus d after size) = let few = fits_pairs (min size 4096) (pairs_after valid.found_ms tree d after) in omega (arith, few)
 unrefused_so valid tree (read o offset size) = simp length-take (omega arith)
 unrefused_so valid tree (write o offset bytes) = omega arith
 
@@ -143,9 +158,9 @@ module _ (p : Plain) (old : AsksServed p) where
 
   step_served : (chosen : ℕ) (e : Event) (o : Outcome) (q : Plain) → takes chosen p e o ≡ Some q → AsksServed q
   step_served chosen (event.call call) (event.begun number) q f =
-      let went = begun p.aborted p.vfs call in
+      let went = begun p.aborted p.vfs (spoken (lists_files_at p.minor) call) in
       let p1 = record p { vfs = went.vfs } in
-      where_served _ (call_begun p chosen call) q (asking_served p1 (same_asks p p1 old refl) chosen p.vfs.next_call went.operation) f
+      where_served _ (call_put p chosen call) q (asking_served p1 (same_asks p p1 old refl) chosen p.vfs.next_call went.operation) f
   step_served chosen (event.perform unique) (event.performed u errno lost) q f = by (get p.asks unique) refl f
     where
       by : (x : Option Ask) → get p.asks unique ≡ x → serving p unique x ≡ Some q → AsksServed q
@@ -174,7 +189,7 @@ module _ (p : Plain) (old : AsksServed p) where
   step_served chosen (event.tick ms) (event.now clock) q f = where_served _ (plain_later p ms) q (same_asks p (plain_later p ms) old refl) f
   step_served chosen (event.drop_name node name) event.dropped q f = some_served (name_dropped p chosen name) q (same_asks p (name_dropped p chosen name) old refl) f
   step_served chosen event.abort event.aborted q f = some_served (plain_aborted p) q (same_asks p (plain_aborted p) old refl) f
-  step_served chosen (event.mount f m) event.mounted q g = some_served (plain_mounted p (record { found_ms = f; missing_ms = m })) q (λ label ask at. absurd (cc)) g
+  step_served chosen (event.mount f m v) event.mounted q g = some_served (plain_mounted p (record { found_ms = f; missing_ms = m }) v) q (λ label ask at. absurd (cc)) g
   step_served chosen event.read_interrupt (event.is_read unique) q f = some_served p q old f
   step_served chosen (event.read_forgets n) (event.is_read unique) q f = some_served p q old f
   step_served chosen (event.read_pending k) (event.is_read unique) q f = some_served p q old f

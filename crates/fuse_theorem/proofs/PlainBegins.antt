@@ -103,6 +103,8 @@ module _ (c : Vfs ℕ) (number : ℕ) where
   begins (call.stat path) = along (call.stat path) path _ (λ errno e. fails (call.stat path) errno (plain.of_stat path errno e)) (λ words e. sets (call.stat path) words (last final.stat) (plain.stats path words e))
   begins (call.list path after) =
       along (call.list path after) path _ (λ errno e. fails (call.list path after) errno (plain.of_list path after errno e)) (λ words e. sets (call.list path after) words (last (final.list after)) (plain.lists path after words e))
+  begins (call.listplus path after) =
+      along (call.listplus path after) path _ (λ errno e. fails (call.listplus path after) errno (plain.of_listplus path after errno e)) (λ words e. sets (call.listplus path after) words (last (final.listplus after)) (plain.lists_files path after words e))
   begins (call.opening path) = along (call.opening path) path _ (λ errno e. fails (call.opening path) errno (plain.of_open path errno e)) (λ words e. sets (call.opening path) words (last final.opening) (plain.opens path words e))
   begins (call.mkdir path) =
       up_to_last (call.mkdir path) path _ (λ errno none. fails (call.mkdir path) errno (plain.of_mkdir path errno none)) (λ words name e. sets (call.mkdir path) words (last (final.mkdir name)) (plain.mkdirs path words name e))

@@ -1,15 +1,28 @@
 -- A reply reaches a call of the plain world, in its own words.
-use Rattle.std.proofs.Common.{ℕ, refl}
-use Rattle.fuse_spec.specs.Operations.{Operation, Reply}
+use Rattle.std.proofs.Common.{◌≡◌, ℕ, Bool, true, false, cond, List, [], ◌∷◌, Option, Some, None, refl}
+use Rattle.fuse_spec.specs.Operations.{Operation, Reply, DirentPlus}
+use Rattle.fuse_spec.specs.Paths.{is_dots}
 use Rattle.fuse_spec.specs.Operations as op
 use Rattle.fuse_spec.specs.Vfs.{CallState, walking, doing, using, Vfs, walks_on, bound}
-use Rattle.fuse_spec.specs.CallReplies.{operation_replied, call_replied}
-use Rattle.std.proofs.Common.{Some}
-use Rattle.fuse_spec.specs.PlainCalls.{Answers, Hears}
+use Rattle.fuse_spec.specs.CallReplies.{name_told, names_told, all_bound, operation_replied, call_replied}
+use Rattle.fuse_spec.specs.PlainCalls.{ComeIntoForce, Answers, Hears}
 use Rattle.fuse_spec.specs.PlainCalls as plain
 use Rattle.fuse_theorem.proofs.PlainWalks.{goes_on}
 
 module _ (c : Vfs ℕ) (number : ℕ) where
+  -- Names of a list come into force as they do in words.
+  come_into_force : (directory : ℕ) (pairs : List (DirentPlus ℕ)) (d : Vfs ℕ) → ComeIntoForce directory d pairs (all_bound d directory pairs)
+  come_into_force directory [] d = plain.none_left d
+  come_into_force directory (pair ∷ pairs) d = by (is_dots pair.dirent.name) refl pair.file refl (come_into_force directory pairs)
+    where
+      by : (b : Bool) → is_dots pair.dirent.name ≡ b → (o : Option ℕ) → pair.file ≡ o → ((e : Vfs ℕ) → ComeIntoForce directory e pairs (all_bound e directory pairs))
+          → ComeIntoForce directory d (pair ∷ pairs) (record d { names = names_told d.clock directory (name_told d.clock directory d.names pair (cond b None o)) pairs })
+      by true dots o file rest = plain.is_dot d pair pairs (all_bound d directory pairs) dots (rest d)
+      by false dots None file rest = plain.tells_none d pair pairs (all_bound d directory pairs) file (rest d)
+      by false dots (Some x) file rest =
+          let next = bound d directory pair.dirent.name (Some x) pair.valid in
+          plain.comes d pair pairs x (all_bound next directory pairs) dots file (rest next)
+
   -- The reply to a call's own operation is answered as it is in words.
   answers : (operation : Operation ℕ ℕ) (reply : Reply ℕ ℕ) → Answers c number operation reply (operation_replied c number operation reply)
   answers operation (op.failed errno) = plain.has_failed operation errno
@@ -22,6 +35,7 @@ module _ (c : Vfs ℕ) (number : ℕ) where
   answers (op.rename directory old newdir new) op.done = plain.is_renamed directory old newdir new
   answers (op.opening file) (op.opened opened) = plain.is_opened file opened
   answers (op.readdir directory after size) (op.listed records) = plain.names_are directory after size records
+  answers (op.readdirplus directory after size) (op.listed_plus pairs) = plain.names_and_files_are directory after size pairs (all_bound c directory pairs) (come_into_force directory pairs c)
   answers (op.read file offset size) (op.content bytes) = plain.content_is file offset size bytes
   answers (op.write file offset bytes) (op.written size) = plain.is_written file offset bytes size
   answers operation reply = plain.is_no_reply operation reply refl

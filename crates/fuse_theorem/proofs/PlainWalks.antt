@@ -19,6 +19,7 @@ GoesOnTo c number at words plan went = GoesOn c number at words plan went.vfs we
 asks_at : (last_one : FinalOperation ℕ) (file : ℕ) → AsksAt last_one file (operation_at last_one file)
 asks_at final.stat file = plain.attributes_of file
 asks_at (final.list after) file = plain.names_in after file
+asks_at (final.listplus after) file = plain.names_and_files_in after file
 asks_at final.opening file = plain.to_open file
 asks_at (final.mkdir name) file = plain.to_mkdir name file
 asks_at (final.create name) file = plain.to_create name file

@@ -1,4 +1,6 @@
 -- Each step of the plain world is one in its own words.
+use Rattle.fuse_spec.specs.declared.Minor.TheVariants.{M15, M31}
+use Rattle.fuse_spec.specs.declared.Minor.{Minor}
 use Rattle.std.proofs.Common.{◌≡◌, ℕ, ◌+◌, ◌-◌, Bool, true, false, not, ◌&&◌, cond, Option, Some, None, nat_eq, is_some, refl, sym, subst, inl, inr}
 use Rattle.std.proofs.lemmas.Bool.Decides.{eqb_tells}
 use Rattle.fuse_spec.specs.declared.IntrEffect.{IntrEffect}
@@ -7,14 +9,15 @@ use Rattle.fuse_spec.specs.declared.Taken.TheVariants.{Held, Forgot, Marked, Ign
 use Rattle.fuse_spec.specs.declared.WriteResult.TheVariants.{Accepted, NoEntry, Invalid}
 use Rattle.fuse_spec.specs.Maps.{get, remove}
 use Rattle.fuse_spec.specs.Operations.{Operation, Reply}
-use Rattle.fuse_spec.specs.Calls.{Call}
+use Rattle.fuse_spec.specs.Calls as call
+use Rattle.fuse_spec.specs.Calls.{Call, spoken, lists_files_at}
 use Rattle.fuse_spec.specs.Vfs.{CallState, Vfs, begun, given_up}
 use Rattle.fuse_spec.specs.CallReplies.{call_replied}
-use Rattle.fuse_spec.specs.Plain.{Plain, Ask, Stage, waiting, performed, declined, asking, going_on, call_begun, ask_performed, ask_declined, ask_told, ask_interrupted, plain_later}
+use Rattle.fuse_spec.specs.Plain.{Plain, Ask, Stage, waiting, performed, declined, asking, going_on, call_put, ask_performed, ask_declined, ask_told, ask_interrupted, plain_later}
 use Rattle.fuse_spec.specs.PlainSteps.{where_so, serving_ask, serving, telling_call, telling_ask, telling, may_signal, signalled_ask, signalling, marking, takes, Takes}
 use Rattle.fuse_spec.specs.Events.{Event, Outcome}
 use Rattle.fuse_spec.specs.Events as event
-use Rattle.fuse_spec.specs.PlainWords.{one_more, Asks, Steps}
+use Rattle.fuse_spec.specs.PlainWords.{one_more, Asks, Steps, PutAs}
 use Rattle.fuse_spec.specs.PlainWords as plain
 use Rattle.fuse_theorem.proofs.PlainBegins.{begins}
 use Rattle.fuse_theorem.proofs.PlainGivesUp.{gives_up}
@@ -58,6 +61,12 @@ asks : (p : Plain) (label number : ℕ) (after : Vfs ℕ) (asked : Option (Opera
 asks p label number after None = plain.nothing
 asks p label number after (Some operation) = plain.puts_ask operation
 
+-- A call is put as it is in words.
+put_as : (m : Minor) (x : Call) → PutAs m x (spoken (lists_files_at m) x)
+put_as M31 x = plain.in_full x
+put_as M15 (call.listplus path after) = plain.names_alone path after
+put_as M15 x = plain.any_other x (λ path after e. absurd (cc (e)))
+
 module _ (p q : Plain) where
   -- A step to r is one to q, which is r.
   goes : (e : Event) (o : Outcome) (r : Plain) → r ≡ q → Steps p e o r → Steps p e o q
@@ -66,14 +75,17 @@ module _ (p q : Plain) where
   some_goes : (e : Event) (o : Outcome) (r : Plain) → ◌≡◌ {A = Option Plain} (Some r) (Some q) → Steps p e o r → Steps p e o q
   some_goes e o r same step = goes e o r (cc) step
 
-  call_begins : (x : Call) (label : ℕ) → get p.asks label ≡ None → Steps p (event.call x) (event.begun p.vfs.next_call) (call_begun p label x)
+  call_begins : (x : Call) (label : ℕ) → get p.asks label ≡ None → Steps p (event.call x) (event.begun p.vfs.next_call) (call_put p label x)
   call_begins x label free = by p.aborted refl
     where
-      by : (aborted : Bool) → p.aborted ≡ aborted → Steps p (event.call x) (event.begun p.vfs.next_call) (going_on p label p.vfs.next_call (begun aborted p.vfs x))
+      y : Call
+      y = spoken (lists_files_at p.minor) x
+
+      by : (aborted : Bool) → p.aborted ≡ aborted → Steps p (event.call x) (event.begun p.vfs.next_call) (going_on p label p.vfs.next_call (begun aborted p.vfs (spoken (lists_files_at p.minor) x)))
       by true lost = plain.begins_in_vain x lost
       by false live =
-          let went = begun false p.vfs x in
-          plain.begins x label went.vfs went.operation (going_on p label p.vfs.next_call went) live free (begins (one_more p.vfs) p.vfs.next_call x) (asks p label p.vfs.next_call went.vfs went.operation)
+          let went = begun false p.vfs y in
+          plain.begins x y label went.vfs went.operation (going_on p label p.vfs.next_call went) live free (put_as p.minor x) (begins (one_more p.vfs) p.vfs.next_call y) (asks p label p.vfs.next_call went.vfs went.operation)
 
   performs : (unique u errno : ℕ) (lost : Bool) (o : Option Ask) → get p.asks unique ≡ o → serving p unique o ≡ Some q → Steps p (event.perform unique) (event.performed u errno lost) q
   performs unique u errno lost None there e = some_goes _ _ p e (plain.performs_none unique u errno lost there)
@@ -137,7 +149,7 @@ module _ (p q : Plain) where
 
   steps : (chosen : ℕ) (e : Event) (o : Outcome) → takes chosen p e o ≡ Some q → Steps p e o q
   steps chosen (event.call x) (event.begun number) e =
-      let did = taken_so (nat_eq number p.vfs.next_call && not (is_some (get p.asks chosen))) (call_begun p chosen x) q e in
+      let did = taken_so (nat_eq number p.vfs.next_call && not (is_some (get p.asks chosen))) (call_put p chosen x) q e in
       let tests = both (nat_eq number p.vfs.next_call) (not (is_some (get p.asks chosen))) did.so in
       subst (λ (n : ℕ). Steps p (event.call x) (event.begun n) q) (same_number number p.vfs.next_call tests.first) (goes _ _ _ did.leads (call_begins x chosen (is_free (get p.asks chosen) tests.second)))
   steps chosen (event.perform unique) (event.performed u errno lost) e = performs unique u errno lost (get p.asks unique) refl e
@@ -155,7 +167,7 @@ module _ (p q : Plain) where
       subst (λ (n : ℕ). Steps p (event.tick ms) (event.now n) q) (same_number clock (p.vfs.clock + ms) did.so) (goes _ _ _ did.leads (plain.time_passes ms))
   steps chosen (event.drop_name node name) event.dropped e = some_goes _ _ _ e (plain.drops node chosen name)
   steps chosen event.abort event.aborted e = some_goes _ _ _ e (plain.aborts (given_up p.vfs) (gives_up p.vfs))
-  steps chosen (event.mount found_ms missing_ms) event.mounted e = some_goes _ _ _ e (plain.mounts found_ms missing_ms (given_up p.vfs) (gives_up p.vfs))
+  steps chosen (event.mount found_ms missing_ms minor) event.mounted e = some_goes _ _ _ e (plain.mounts found_ms missing_ms minor (given_up p.vfs) (gives_up p.vfs))
   steps chosen event.read_interrupt (event.is_read unique) e = some_goes _ _ p e (plain.reads_interrupt unique)
   steps chosen (event.read_forgets n) (event.is_read unique) e = some_goes _ _ p e (plain.reads_forgets n unique)
   steps chosen (event.read_pending k) (event.is_read unique) e = some_goes _ _ p e (plain.reads_pending k unique)

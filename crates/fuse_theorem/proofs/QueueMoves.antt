@@ -12,7 +12,6 @@ use Rattle.fuse_spec.specs.declared.InterruptReplyEffect.TheVariants.{QueuedAgai
 use Rattle.fuse_spec.specs.declared.Mark.{Mark}
 use Rattle.fuse_spec.specs.declared.Mark.TheVariants as mark
 use Rattle.fuse_spec.specs.declared.Opened.{Opened}
-use Rattle.fuse_spec.specs.declared.Phase.TheVariants.{Ready}
 use Rattle.fuse_spec.specs.declared.Purpose.{Purpose}
 use Rattle.fuse_spec.specs.declared.Purpose.TheVariants as purpose
 use Rattle.fuse_spec.specs.declared.QueuedRequest.{QueuedRequest}
@@ -27,7 +26,7 @@ use Rattle.fuse_spec.specs.Queues.{QueueState, IsSound, is_unread, pending, requ
 use Rattle.fuse_spec.specs.QueueCalls.{after_enqueue, after_forget, after_effect, after_reading, after_reply_effect, after_read_pending, set_mark, waiting, without}
 use Rattle.fuse_spec.specs.Signals.{signal_effect, reply_effect}
 use Rattle.fuse_spec.specs.Kernel.{Kernel, is_live, is_aborted, is_used, request_of, kernel_aborted, asking_for, advanced, released, released_if_idle, after_use, closed_by, closing_of, call_begun, after_signal, signalled_at, call_signalled}
-use Rattle.fuse_spec.specs.Replies.{kernel_reply, learnt, Use, usable, useless, stale, use_of_all, goes_with, is_agreement, judged, replied, replied_to_call, reply_taken, odd_taken, interrupt_replied, interrupt_reply_of, reply_written}
+use Rattle.fuse_spec.specs.Replies.{kernel_reply, learnt, Use, usable, useless, stale, goes_with, is_agreement, judged, replied, replied_to_call, reply_taken, odd_taken, interrupt_replied, interrupt_reply_of, reply_written, heard, without_stale, reply_judged, use_of_reply, made_ready}
 use Rattle.fuse_spec.proofs.QueueSoundness.{mark_under-pending}
 
 -- `May` says which mark a request may get in place of which.
@@ -149,15 +148,15 @@ pub replied_reads_none : (k : Kernel) (call : ℕ) (wire : WireReply) (o : Optio
 replied_reads_none k call wire None = stays k.queues k.queues refl refl
 replied_reads_none k call wire (Some state) = by (goes_with (asked state) wire)
   where
-    judged_moves : (u : Use) → ReadsNone k.queues (judged k call state wire u).queues
-    judged_moves usable = advanced_moves (record k { nodes = learnt k.nodes (files_in_reply wire) }) call (call_replied k.vfs call state (kernel_reply (asked state) wire))
-    judged_moves useless = stays k.queues k.queues refl refl
-    judged_moves (stale node) = stays k.queues (after_forget k.queues node 1) refl refl
+    judged_moves : (x : WireReply) (u : Use) → ReadsNone k.queues (judged (without_stale k wire) call state x u).queues
+    judged_moves x usable = moves_on k.queues (without_stale k wire).queues _ (stays k.queues (without_stale k wire).queues refl refl) (advanced_moves (record (without_stale k wire) { nodes = learnt k.nodes (files_in_reply x) }) call (call_replied k.vfs call state (kernel_reply (asked state) x)))
+    judged_moves x useless = stays k.queues (without_stale k wire).queues refl refl
+    judged_moves x (stale node) = stays k.queues (after_forget (without_stale k wire).queues node 1) refl refl
 
     by : (b : Bool) → ReadsNone k.queues (replied k call state b wire).1.queues
     by true =
-        let l = judged k call state wire (use_of_all k.nodes (files_in_reply wire)) in
-        moves_on k.queues l.queues (after_use l state).queues (judged_moves (use_of_all k.nodes (files_in_reply wire))) (used_moves l state)
+        let l = heard k call state wire in
+        moves_on k.queues l.queues (after_use l state).queues (judged_moves (reply_judged k.nodes wire) (use_of_reply k.nodes wire)) (used_moves l state)
     by false = used_moves (record k { vfs = answered k.vfs call (answer.failed 5) }) state
 
 -- A reply that leaves the mount live.
@@ -183,8 +182,8 @@ written_reads_none k unique wire = by (nat_eq (unique % 2) 1)
     odd None = stays k.queues k.queues refl refl
     odd (Some kept) = interrupts wire
 
-    init_moves : (b : Bool) → is_live (cond b (record k { phase = Ready; queues = without k.queues unique }) (kernel_aborted (record k { queues = without k.queues unique }))).phase ≡ true
-        → ReadsNone k.queues (cond b (record k { phase = Ready; queues = without k.queues unique }) (kernel_aborted (record k { queues = without k.queues unique }))).queues
+    init_moves : (b : Bool) → is_live (cond b (made_ready (record k { queues = without k.queues unique }) wire) (kernel_aborted (record k { queues = without k.queues unique }))).phase ≡ true
+        → ReadsNone k.queues (cond b (made_ready (record k { queues = without k.queues unique }) wire) (kernel_aborted (record k { queues = without k.queues unique }))).queues
     init_moves true live = ends k.queues (without k.queues unique) unique refl refl
     init_moves false live = absurd (true≢false (sym live))
 

@@ -4,19 +4,18 @@ use Rattle.std.specs.Prelude.{◌%◌}
 use Rattle.fuse_spec.specs.declared.IntrEffect.{IntrEffect}
 use Rattle.fuse_spec.specs.declared.IntrEffect.TheVariants.{Dequeued, Flagged, Queued, None as NoEffect}
 use Rattle.fuse_spec.specs.declared.Opened.{Opened}
-use Rattle.fuse_spec.specs.declared.Phase.TheVariants.{Ready}
 use Rattle.fuse_spec.specs.declared.Purpose.{Purpose}
 use Rattle.fuse_spec.specs.declared.Purpose.TheVariants as purpose
 use Rattle.fuse_spec.specs.Maps.{get, put}
 use Rattle.fuse_spec.specs.Answers.{Answer}
 use Rattle.fuse_spec.specs.Answers as answer
-use Rattle.fuse_spec.specs.Calls.{Call}
+use Rattle.fuse_spec.specs.Calls.{Call, spoken}
 use Rattle.fuse_spec.specs.CallReplies.{call_replied}
 use Rattle.fuse_spec.specs.Kernel.{Kernel, kernel_aborted, is_aborted, advanced, asking_for, released, released_if_idle, after_use, closed_by, closing_of, call_begun, after_signal, signalled_at, call_signalled, request_of}
 use Rattle.fuse_spec.specs.Messages.{WireReply}
 use Rattle.fuse_spec.specs.Operations.{Operation, done, failed, files_in_reply}
 use Rattle.fuse_spec.specs.QueueCalls.{waiting, without, after_interrupt, interrupt_effect}
-use Rattle.fuse_spec.specs.Replies.{kernel_reply, learnt, Use, usable, useless, stale, use_of_all, goes_with, is_agreement, judged, replied, replied_to_call, ended_by, reply_taken, odd_taken, interrupt_replied, reply_written}
+use Rattle.fuse_spec.specs.Replies.{kernel_reply, learnt, Use, usable, useless, stale, goes_with, is_agreement, judged, replied, replied_to_call, ended_by, reply_taken, odd_taken, interrupt_replied, reply_written, heard, without_stale, reply_judged, use_of_reply, made_ready}
 use Rattle.fuse_spec.specs.Vfs.{asked, CallState, walking, doing, using, Advance, answered, begun}
 use Rattle.std.specs.List.{remove as without_at}
 use Rattle.fuse_spec.specs.QueueCalls.{pending_at, first_forgets}
@@ -168,15 +167,17 @@ replied_grows : (k : Kernel) (call : ℕ) (wire : WireReply) (o : Option (CallSt
 replied_grows k call wire None = same_grows k.queues
 replied_grows k call wire (Some state) = by (goes_with (asked state) wire)
   where
-    judged_grows : (u : Use) → Grows k.queues (judged k call state wire u).queues
-    judged_grows usable = advanced_grows (record k { nodes = learnt k.nodes (files_in_reply wire) }) call (call_replied k.vfs call state (kernel_reply (asked state) wire))
-    judged_grows useless = same_grows k.queues
-    judged_grows (stale node) = forget_grows k.queues node 1
+    stale_grows : Grows k.queues (without_stale k wire).queues
+    stale_grows = record { rises = omega arith; sound = λ high s. record { next = s.next; requests = s.requests; interrupts = s.interrupts } }
+
+    judged_grows : (x : WireReply) (u : Use) → Grows k.queues (judged (without_stale k wire) call state x u).queues
+    judged_grows x usable = then_grows k.queues (without_stale k wire).queues _ stale_grows (advanced_grows (record (without_stale k wire) { nodes = learnt k.nodes (files_in_reply x) }) call (call_replied k.vfs call state (kernel_reply (asked state) x)))
+    judged_grows x useless = stale_grows
+    judged_grows x (stale node) = then_grows k.queues (without_stale k wire).queues _ stale_grows (forget_grows (without_stale k wire).queues node 1)
 
     by : (b : Bool) → Grows k.queues (replied k call state b wire).1.queues
     by true =
-        let u = use_of_all k.nodes (files_in_reply wire) in
-        then_grows k.queues (judged k call state wire u).queues (after_use (judged k call state wire u) state).queues (judged_grows u) (used_grows (judged k call state wire u) state)
+        then_grows k.queues (heard k call state wire).queues (after_use (heard k call state wire) state).queues (judged_grows (reply_judged k.nodes wire) (use_of_reply k.nodes wire)) (used_grows (heard k call state wire) state)
     by false = used_grows (record k { vfs = answered k.vfs call (answer.failed 5) }) state
 
 written_sound : (k : Kernel) (unique : ℕ) (wire : WireReply) → IsSound k.queues → (reply_written k unique wire).1.queues.next ≤ 2 ^ 62 → IsSound (reply_written k unique wire).1.queues
@@ -185,7 +186,7 @@ written_sound k unique wire s = by (nat_eq (unique % 2) 1)
     ended : (q : Kernel) (kept : Purpose) → IsSound q.queues → (ended_by q kept wire).1.queues.next ≤ 2 ^ 62 → IsSound (ended_by q kept wire).1.queues
     ended q purpose.Init sound = agreed_or (is_agreement wire)
       where
-        agreed_or : (b : Bool) → (cond b (record q { phase = Ready }) (kernel_aborted q)).queues.next ≤ 2 ^ 62 → IsSound (cond b (record q { phase = Ready }) (kernel_aborted q)).queues
+        agreed_or : (b : Bool) → (cond b (made_ready q wire) (kernel_aborted q)).queues.next ≤ 2 ^ 62 → IsSound (cond b (made_ready q wire) (kernel_aborted q)).queues
         agreed_or true high = sound
         agreed_or false high = empty_sound
     ended q (purpose.Release o) sound = λ high. sound
@@ -225,10 +226,10 @@ forgets_sound q n r = drawn (queues.can_read_forgets q n)
     drawn false high = r
 
 by_event : (choice : ℕ → ℕ) (w : World) → IsSound w.kernel.queues → (e : Event) (o : Outcome) (after : World) → Happened choice w e o after → IsSound after.kernel.queues
-by_event choice w r e o after (by_mount f m idle) = IsSound-enqueue empty_queues purpose.Init empty_sound (record { even = refl; low = omega arith; high = omega arith })
-by_event choice w r e o after (by_call call ready room within) = let grows = begun_grows w.kernel call in grows.sound (next_within (after_call w call) within) r
+by_event choice w r e o after (by_mount f m v idle) = IsSound-enqueue empty_queues purpose.Init empty_sound (record { even = refl; low = omega arith; high = omega arith })
+by_event choice w r e o after (by_call call ready room within) = let grows = begun_grows w.kernel (spoken w.kernel.lists_files call) in grows.sound (next_within (after_call w call) within) r
 by_event choice w r e o after (by_read_interrupt original rest live there within) = IsSound-read_interrupt w.kernel.queues r
-by_event choice w r e o after (by_read_forgets n live free can within) = forgets_sound w.kernel.queues n r (next_within (after_read_forgets w n (take n w.kernel.queues.forgets)) within)
+by_event choice w r e o after (by_read_forgets n live free can within few) = forgets_sound w.kernel.queues n r (next_within (after_read_forgets w n (take n w.kernel.queues.forgets)) within)
 by_event choice w r e o after (by_read_pending k unique kept body live free there says within) = reading_sound w.kernel.queues k r
 by_event choice w r e o after (by_take k q there within) =
     let took = taking w.server q.unique q.body in sent_off (record w { requests = without_at w.requests k; server = took.server }) w.server.next_copy q.unique took.reply r

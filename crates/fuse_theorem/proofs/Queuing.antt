@@ -42,7 +42,7 @@ pub asked_unsignalled : (R : ℕ → ℕ → Type 0) (S : Opened → ℕ → Typ
 asked_unsignalled R S all unique signalled (asks operation) h =
     let old = h.is_waiting in
     record { ask = h.ask; there = h.there; is_waiting = record { stage = old.stage; noted = λ e. absurd (cc); marked_too = old.marked_too }; same = h.same }
-asked_unsignalled R S all unique signalled init h = h
+asked_unsignalled R S all unique signalled (init flags) h = h
 asked_unsignalled R S all unique signalled (release o) h = h
 asked_unsignalled R S all unique signalled (forget f) h = h
 asked_unsignalled R S all unique signalled (batch_forget fs) h = h
@@ -81,6 +81,8 @@ queues_alike w p same q requests stay sent = record {
         copies = old.copies;
       };
   validity = same.validity;
+  minor = same.minor;
+  agreed = same.agreed;
   aborted = same.aborted;
 }
 

@@ -1,18 +1,20 @@
 -- Each case of the definition is what the step function gives.
+use Rattle.fuse_spec.specs.Performs.{files_given}
 use Rattle.std.proofs.Common.{◌≡◌, ◌≢◌, ℕ, ◌+◌, Bool, true, false, not, cond, ◌&&◌, ◌||◌, List, [], ◌∷◌, Ok, Err, length, nat_eq, nat_lt, nat_le, max, inl, inr, ◌⊎◌, refl, ap, ◌∙◌, arith}
 use Rattle.std.proofs.lemmas.Bool.{lt-ltb, le-ltb, le-leb, lt-leb}
 use Rattle.fuse_spec.specs.Maps.{get, get_name}
 use Rattle.fuse_spec.specs.Numbers.{max_calls, max_validity, clock_end}
 use Rattle.fuse_spec.specs.declared.Refusal.{Refusal}
 use Rattle.fuse_spec.specs.declared.Refusal.TheVariants.{BadTime, Busy, NotReady, Full, NoSuch, NoCopy, InterruptFirst, Exhausted}
-use Rattle.fuse_spec.specs.QueueCalls.{pending_at, first_forgets}
-use Rattle.fuse_spec.specs.Kernel.{is_live, is_pinned, is_bound}
-use Rattle.fuse_spec.specs.Copies.{is_current}
+use Rattle.fuse_spec.specs.QueueCalls.{pending_at}
+use Rattle.fuse_spec.specs.Kernel.{is_live, is_pinned, is_bound, forgets_read}
+use Rattle.fuse_spec.specs.Copies.{is_current, files_named}
 use Rattle.fuse_spec.specs.Worlds.{World, after_mount, after_drop}
 use Rattle.fuse_spec.specs.Events.{Event, Outcome}
 use Rattle.fuse_spec.specs.Events as event
+use Rattle.fuse_spec.specs.Nodes.{counts_out}
 use Rattle.fuse_spec.specs.Steps.{Stepped, unless, is_past, going, is_ready, is_busy, when_live, when_not_interrupted, reading_interrupt, reading_forgets, reading_body, reading_pending, taking_request, performing_held, sending_again, writing_copy, settling, signalling, dropping, evicting, step}
-use Rattle.fuse_spec.specs.Refusals.{MayRead, Leads, mounts, calls, reads_interrupt, reads_forgets, reads_pending, takes, performs, sends_again, writes, settles, signals, passes, drops, evicts, aborts, draws, needs_live, reads_other, NamesNothing, no_interrupt, no_forgets, no_pending, no_body, no_request, none_held, no_copy, no_result, no_call, no_name, no_node, Refuses, too_long, in_use, clock_ends, not_ready, too_many, not_live, interrupt_first, names_nothing, none_kept, not_current, pinned_or_bound, past_its_end}
+use Rattle.fuse_spec.specs.Refusals.{MayRead, Leads, mounts, calls, reads_interrupt, reads_forgets, reads_pending, takes, performs, sends_again, writes, settles, signals, passes, drops, evicts, aborts, draws, needs_live, reads_other, NamesNothing, no_interrupt, no_forgets, no_pending, no_body, no_request, none_held, no_copy, no_result, no_call, no_name, no_node, Refuses, too_long, in_use, clock_ends, not_ready, too_many, not_live, interrupt_first, names_nothing, none_kept, not_current, pinned_or_bound, told_too_often, copied_too_often, past_its_end}
 use Rattle.fuse_theorem.proofs.Finding.{other_is}
 
 -- ---- a test that refuses, and one that does not
@@ -58,8 +60,8 @@ module _ (choice : ℕ → ℕ) (w : World) where
   Comes e o after = step choice w e ≡ cond (draws e) (going o after) (Ok (o, after))
 
   pub comes_to : (e : Event) (o : Outcome) (after : World) → Leads choice w e o after → Comes e o after
-  comes_to e o after (mounts f m day free) =
-      let mounted = Ok (event.mounted, after_mount w f m) in
+  comes_to e o after (mounts f m v day free) =
+      let mounted = Ok (event.mounted, after_mount w f m v) in
       passed (nat_lt max_validity (max f m)) BadTime (unless (is_busy w.kernel) Busy mounted) (le-ltb max_validity (max f m) day)
       ∙ passed (is_busy w.kernel) Busy mounted (free_is (is_live w.kernel.phase) (length w.kernel.vfs.calls + length w.kernel.vfs.opens) free)
   comes_to e o after (calls call ready room) =
@@ -67,12 +69,14 @@ module _ (choice : ℕ → ℕ) (w : World) where
       let gone = going o after in
       passed (not (is_ready w.kernel.phase)) NotReady (unless (nat_le max_calls there) Full gone) (ap not ready) ∙ passed (nat_le max_calls there) Full gone (lt-leb max_calls there room)
   comes_to e o after (reads_interrupt original rest live there) = live_passes w (reading_interrupt w w.kernel.queues.interrupts) live ∙ ap (reading_interrupt w) there
-  comes_to e o after (reads_forgets n unique forgets may there) = read_passes w (reading_forgets w n (first_forgets w.kernel.queues n)) may ∙ ap (reading_forgets w n) there
+  comes_to e o after (reads_forgets n unique forgets may there) = read_passes w (reading_forgets w n (forgets_read w.kernel n)) may ∙ ap (reading_forgets w n) there
   comes_to e o after (reads_pending k unique purpose body may there says) =
       read_passes w (reading_pending w k (pending_at w.kernel.queues k)) may ∙ ap (reading_pending w k) there ∙ ap (reading_body w k unique) says
   comes_to e o after (takes k request there) = ap (taking_request w k) there
-  comes_to e o after (performs unique held there) = ap (performing_held choice w unique) there
-  comes_to e o after (sends_again unique kept there current) = ap (sending_again w unique) there ∙ passed (not (is_current w.server kept.wire)) NoCopy (going o after) (ap not current)
+  comes_to e o after (performs unique held there few) = ap (performing_held choice w unique) there ∙ passed (counts_out w.server.nodes (files_given w.server held)) Exhausted (going o after) few
+  comes_to e o after (sends_again unique kept there current few) =
+      ap (sending_again w unique) there ∙ passed (not (is_current w.server kept.wire)) NoCopy (unless (counts_out w.server.nodes (files_named w.server kept.wire)) Exhausted (going o after)) (ap not current)
+      ∙ passed (counts_out w.server.nodes (files_named w.server kept.wire)) Exhausted (going o after) few
   comes_to e o after (writes k sent there) = ap (writing_copy w k) there
   comes_to e o after (settles k result there) = ap (settling w k) there
   comes_to e o after (signals call fatal state live there) = live_passes w (signalling w call fatal (get w.kernel.vfs.calls call)) live ∙ ap (signalling w call fatal) there
@@ -127,8 +131,8 @@ module _ (choice : ℕ → ℕ) (w : World) where
   nothing e live first (no_node node none) = live_passes w _ (live refl) ∙ ap (evicting w node) none
 
   pub refused : (e : Event) (r : Refusal) → Refuses choice w e r → step choice w e ≡ Err r
-  refused e r (too_long f m long) = refused_by (nat_lt max_validity (max f m)) BadTime _ (lt-ltb max_validity (max f m) long)
-  refused e r (in_use f m day used) =
+  refused e r (too_long f m v long) = refused_by (nat_lt max_validity (max f m)) BadTime _ (lt-ltb max_validity (max f m) long)
+  refused e r (in_use f m v day used) =
       passed (nat_lt max_validity (max f m)) BadTime _ (le-ltb max_validity (max f m) day)
       ∙ refused_by (is_busy w.kernel) Busy _ (busy_is (is_live w.kernel.phase) (length w.kernel.vfs.calls + length w.kernel.vfs.opens) used.live used.used)
   refused e r (clock_ends ms late) = refused_by (nat_le clock_end (w.kernel.vfs.clock + ms)) BadTime _ (le-leb clock_end (w.kernel.vfs.clock + ms) late)
@@ -141,4 +145,7 @@ module _ (choice : ℕ → ℕ) (w : World) where
   refused e r (none_kept unique none) = ap (sending_again w unique) none
   refused e r (not_current unique kept there stale) = ap (sending_again w unique) there ∙ refused_by (not (is_current w.server kept.wire)) NoCopy _ (ap not stale)
   refused e r (pinned_or_bound node counted live there used) = live_passes w _ live ∙ ap (evicting w node) there ∙ refused_by (is_pinned w.kernel node || is_bound w.kernel node) Busy _ used
+  refused e r (told_too_often unique held there many) = ap (performing_held choice w unique) there ∙ refused_by (counts_out w.server.nodes (files_given w.server held)) Exhausted _ many
+  refused e r (copied_too_often unique kept there current many) =
+      ap (sending_again w unique) there ∙ passed (not (is_current w.server kept.wire)) NoCopy _ (ap not current) ∙ refused_by (counts_out w.server.nodes (files_named w.server kept.wire)) Exhausted _ many
   refused e r (past_its_end same o after drawn there past) = exhausted e o after drawn there past

@@ -1,4 +1,5 @@
 -- What the step function gives is one of the cases: a refusal that the event has, or what it leads to.
+use Rattle.fuse_spec.specs.declared.Minor.{Minor}
 use Rattle.std.proofs.Common.{◌≡◌, ◌≢◌, ℕ, ◌+◌, Bool, true, false, true≢false, not, ◌&&◌, ◌||◌, List, [], ◌∷◌, Option, Some, None, ◌⊎◌, Ok, Err, length, nat_eq, nat_lt, nat_le, slice_get, max, inl, inr, refl, sym, ◌∙◌}
 use Rattle.std.proofs.lemmas.Bool.{ltb-true, ltb-false, leb-true, leb-false, eqb-true, eqb-false, not-true, not-false}
 use Rattle.fuse_spec.specs.Maps.{get, get_name}
@@ -14,20 +15,21 @@ use Rattle.fuse_spec.specs.declared.Purpose.{Purpose}
 use Rattle.fuse_spec.specs.declared.ReplyResult.{ReplyResult}
 use Rattle.fuse_spec.specs.declared.Refusal.{Refusal}
 use Rattle.fuse_spec.specs.declared.Refusal.TheVariants.{BadTime, Busy, NotReady, Full, NoSuch, NoCopy, InterruptFirst, Exhausted}
-use Rattle.fuse_spec.specs.QueueCalls.{pending_at, first_forgets}
+use Rattle.fuse_spec.specs.QueueCalls.{pending_at}
 use Rattle.fuse_spec.specs.Uniques.{interrupt_number}
 use Rattle.fuse_spec.specs.Messages.{Forget, Request, RequestBody}
-use Rattle.fuse_spec.specs.Kernel.{is_live, body_of, call_signalled, is_pinned, is_bound}
+use Rattle.fuse_spec.specs.Kernel.{is_live, body_of, call_signalled, is_pinned, is_bound, forgets_read}
 use Rattle.fuse_spec.specs.Replies.{reply_written}
 use Rattle.fuse_spec.specs.Server.{HeldRequest, Kept}
 use Rattle.fuse_spec.specs.Taking.{taking}
-use Rattle.fuse_spec.specs.Performs.{served}
-use Rattle.fuse_spec.specs.Copies.{is_current}
+use Rattle.fuse_spec.specs.Performs.{served, files_given}
+use Rattle.fuse_spec.specs.Copies.{is_current, files_named}
 use Rattle.fuse_spec.specs.Worlds.{World, Sent, after_mount, after_call, after_read_interrupt, after_read_forgets, after_read_pending, after_take, after_perform, after_again, after_write, after_settle, after_tick, after_drop, after_evict, after_abort}
 use Rattle.fuse_spec.specs.Events.{Event, Outcome}
 use Rattle.fuse_spec.specs.Events as event
+use Rattle.fuse_spec.specs.Nodes.{counts_out}
 use Rattle.fuse_spec.specs.Steps.{Stepped, unless, is_past, going, is_ready, is_busy, when_live, when_not_interrupted, reading_interrupt, reading_forgets, reading_body, reading_pending, taking_request, performing_held, sending_again, writing_copy, settling, signalling, dropping, evicting, step}
-use Rattle.fuse_spec.specs.Refusals.{Leads, mounts, calls, reads_interrupt, reads_forgets, reads_pending, takes, performs, sends_again, writes, settles, signals, passes, drops, evicts, aborts, draws, needs_live, reads_other, NamesNothing, no_interrupt, no_forgets, no_pending, no_body, no_request, none_held, no_copy, no_result, no_call, no_name, no_node, Refuses, too_long, in_use, clock_ends, not_ready, too_many, not_live, interrupt_first, names_nothing, none_kept, not_current, pinned_or_bound, past_its_end}
+use Rattle.fuse_spec.specs.Refusals.{Leads, mounts, calls, reads_interrupt, reads_forgets, reads_pending, takes, performs, sends_again, writes, settles, signals, passes, drops, evicts, aborts, draws, needs_live, reads_other, NamesNothing, no_interrupt, no_forgets, no_pending, no_body, no_request, none_held, no_copy, no_result, no_call, no_name, no_node, Refuses, too_long, in_use, clock_ends, not_ready, too_many, not_live, interrupt_first, names_nothing, none_kept, not_current, pinned_or_bound, told_too_often, copied_too_often, past_its_end}
 use Rattle.fuse_theorem.proofs.Evicting.{or_false}
 use Rattle.fuse_theorem.proofs.Happened.{none_queued}
 
@@ -84,15 +86,15 @@ module _ (choice : ℕ → ℕ) (w : World) where
   abbrev Comes : Event → Stepped → Type 0
   Comes e s = ByCases choice w e s
 
-  by_mount : (f m : ℕ) → Comes (event.mount f m) (step choice w (event.mount f m))
-  by_mount f m =
+  by_mount : (f m : ℕ) (v : Minor) → Comes (event.mount f m v) (step choice w (event.mount f m v))
+  by_mount f m v =
       let uses = length w.kernel.vfs.calls + length w.kernel.vfs.opens in
       let live = is_live w.kernel.phase in
-      let e = event.mount f m in
-      let mounted = Ok (event.mounted, after_mount w f m) in
-      tested choice w e (nat_lt max_validity (max f m)) BadTime (unless (is_busy w.kernel) Busy mounted) (λ t. too_long f m (ltb-true max_validity (max f m) t))
-      (λ s. tested choice w e (is_busy w.kernel) Busy mounted (λ t. in_use f m (ltb-false max_validity (max f m) s) (let both = used live uses t in record { live = both.0; used = both.1 }))
-      (λ i. goes_undrawn choice w e event.mounted (after_mount w f m) refl (mounts f m (ltb-false max_validity (max f m) s) (idle live uses i))))
+      let e = event.mount f m v in
+      let mounted = Ok (event.mounted, after_mount w f m v) in
+      tested choice w e (nat_lt max_validity (max f m)) BadTime (unless (is_busy w.kernel) Busy mounted) (λ t. too_long f m v (ltb-true max_validity (max f m) t))
+      (λ s. tested choice w e (is_busy w.kernel) Busy mounted (λ t. in_use f m v (ltb-false max_validity (max f m) s) (let both = used live uses t in record { live = both.0; used = both.1 }))
+      (λ i. goes_undrawn choice w e event.mounted (after_mount w f m v) refl (mounts f m v (ltb-false max_validity (max f m) s) (idle live uses i))))
 
   by_call : (call : Call) → Comes (event.call call) (step choice w (event.call call))
   by_call call =
@@ -123,10 +125,10 @@ module _ (choice : ℕ → ℕ) (w : World) where
   by_read_forgets : (n : ℕ) → Comes (event.read_forgets n) (step choice w (event.read_forgets n))
   by_read_forgets n =
       let e = event.read_forgets n in
-      let read = first_forgets w.kernel.queues n in
+      let read = forgets_read w.kernel n in
       if_live choice w e refl (when_not_interrupted w (reading_forgets w n read)) (λ live. if_none_first choice w e refl live (reading_forgets w n read) (λ first. by live first read refl))
     where
-      by : is_live w.kernel.phase ≡ true → w.kernel.queues.interrupts ≡ [] → (x : Option (ℕ × List Forget)) → first_forgets w.kernel.queues n ≡ x → Comes (event.read_forgets n) (reading_forgets w n x)
+      by : is_live w.kernel.phase ≡ true → w.kernel.queues.interrupts ≡ [] → (x : Option (ℕ × List Forget)) → forgets_read w.kernel n ≡ x → Comes (event.read_forgets n) (reading_forgets w n x)
       by live first None there = nothing_read choice w (event.read_forgets n) live first (no_forgets n there)
       by live first (Some x) there =
           goes choice w (event.read_forgets n) (event.is_read x.0) (after_read_forgets w n x.1) refl (reads_forgets n x.0 x.1 (record { live = live; none_first = first }) there)
@@ -159,15 +161,21 @@ module _ (choice : ℕ → ℕ) (w : World) where
   by_perform unique None there = nothing_there choice w (event.perform unique) refl refl (none_held unique there)
   by_perform unique (Some held) there =
       let did = served choice w.server unique held in
-      goes choice w (event.perform unique) (event.performed unique (errno_of did.wire) w.server.aborted) (after_perform w unique did) refl (performs unique held there)
+      let outcome = event.performed unique (errno_of did.wire) w.server.aborted in
+      let out = counts_out w.server.nodes (files_given w.server held) in
+      tested choice w (event.perform unique) out Exhausted (going outcome (after_perform w unique did)) (λ t. told_too_often unique held there t)
+      (λ f. goes choice w (event.perform unique) outcome (after_perform w unique did) refl (performs unique held there f))
 
   by_again : (unique : ℕ) (x : Option Kept) → get w.server.kept unique ≡ x → Comes (event.again unique) (sending_again w unique x)
   by_again unique None there = is_refused NoCopy (none_kept unique there)
   by_again unique (Some kept) there =
       let e = event.again unique in
       let current = is_current w.server kept.wire in
-      tested choice w e (not current) NoCopy (going (event.sent_again unique) (after_again w unique kept)) (λ t. not_current unique kept there (not-true current t))
-      (λ f. goes choice w e (event.sent_again unique) (after_again w unique kept) refl (sends_again unique kept there (not-false current f)))
+      let out = counts_out w.server.nodes (files_named w.server kept.wire) in
+      let gone = going (event.sent_again unique) (after_again w unique kept) in
+      tested choice w e (not current) NoCopy (unless out Exhausted gone) (λ t. not_current unique kept there (not-true current t))
+      (λ f. tested choice w e out Exhausted gone (λ t. copied_too_often unique kept there (not-false current f) t)
+      (λ g. goes choice w e (event.sent_again unique) (after_again w unique kept) refl (sends_again unique kept there (not-false current f) g)))
 
   by_write : (k : ℕ) (x : Option Sent) → slice_get w.replies k ≡ x → Comes (event.write k) (writing_copy w k x)
   by_write k None there = nothing_there choice w (event.write k) refl refl (no_copy k there)
@@ -204,7 +212,7 @@ module _ (choice : ℕ → ℕ) (w : World) where
 
   -- Each event's step is one of the cases.
   pub by_cases : (e : Event) → ByCases choice w e (step choice w e)
-  by_cases (event.mount f m) = by_mount f m
+  by_cases (event.mount f m v) = by_mount f m v
   by_cases (event.call call) = by_call call
   by_cases event.read_interrupt = by_read_interrupt
   by_cases (event.read_forgets n) = by_read_forgets n

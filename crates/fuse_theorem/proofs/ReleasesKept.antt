@@ -13,7 +13,6 @@ use Rattle.fuse_spec.specs.declared.InterruptReplyEffect.TheVariants.{QueuedAgai
 use Rattle.fuse_spec.specs.declared.Mark.{Mark}
 use Rattle.fuse_spec.specs.declared.Mark.TheVariants as mark
 use Rattle.fuse_spec.specs.declared.Opened.{Opened}
-use Rattle.fuse_spec.specs.declared.Phase.TheVariants.{Ready}
 use Rattle.fuse_spec.specs.declared.Purpose.{Purpose}
 use Rattle.fuse_spec.specs.declared.Purpose.TheVariants as purpose
 use Rattle.fuse_spec.specs.declared.QueuedRequest.{QueuedRequest}
@@ -27,7 +26,7 @@ use Rattle.fuse_spec.specs.Messages.{WireReply}
 use Rattle.fuse_spec.specs.Operations.{Operation, done, failed, files_in_reply}
 use Rattle.fuse_spec.specs.QueueCalls.{after_enqueue, set_mark, after_reading, after_effect, interrupt_effect, after_reply_effect, waiting, without}
 use Rattle.fuse_spec.specs.Queues.{QueueState, mark_under}
-use Rattle.fuse_spec.specs.Replies.{kernel_reply, learnt, Use, usable, useless, stale, use_of_all, goes_with, is_agreement, judged, replied, replied_to_call, reply_taken, odd_taken, interrupt_replied, interrupt_reply_of, reply_written}
+use Rattle.fuse_spec.specs.Replies.{kernel_reply, learnt, Use, usable, useless, stale, goes_with, is_agreement, judged, replied, replied_to_call, reply_taken, odd_taken, interrupt_replied, interrupt_reply_of, reply_written, heard, without_stale, reply_judged, use_of_reply, made_ready}
 use Rattle.fuse_spec.specs.Signals.{reply_effect}
 use Rattle.fuse_spec.specs.Vfs.{CallState, walking, doing, using, asked, Advance, answered, begun}
 use Rattle.fuse_theorem.specs.KnownNodes.{IsKnown, NodesKnown}
@@ -147,18 +146,18 @@ heard_kept : (k : Kernel) → KeptReleases k → (call : ℕ) (wire : WireReply)
 heard_kept k old call wire None = old
 heard_kept k old call wire (Some state) = by (goes_with (asked state) wire)
   where
-    judged_kept : (u : Use) → KeptReleases (judged k call state wire u)
-    judged_kept usable =
-        let gs = files_in_reply wire in
-        let k1 = record k { nodes = learnt k.nodes gs } in
+    judged_kept : (x : WireReply) (u : Use) → KeptReleases (judged (without_stale k wire) call state x u)
+    judged_kept x usable =
+        let gs = files_in_reply x in
+        let k1 = record (without_stale k wire) { nodes = learnt k.nodes gs } in
         let more = learnt_more gs k.nodes in
-        advanced_kept k1 call (call_replied k.vfs call state (kernel_reply (asked state) wire))
+        advanced_kept k1 call (call_replied k.vfs call state (kernel_reply (asked state) x))
         (record { closing = All-more (values k.closing) (λ o h. more o.nodeid h) old.closing; requests = All-more k.queues.requests (λ e h. more_released k.nodes (learnt k.nodes gs) more e.1.kept h) old.requests })
-    judged_kept useless = record { closing = old.closing; requests = old.requests }
-    judged_kept (stale node) = record { closing = old.closing; requests = old.requests }
+    judged_kept x useless = record { closing = old.closing; requests = old.requests }
+    judged_kept x (stale node) = record { closing = old.closing; requests = old.requests }
 
     by : (b : Bool) → KeptReleases (replied k call state b wire).1
-    by true = let u = use_of_all k.nodes (files_in_reply wire) in used_kept (judged k call state wire u) state (judged_kept u)
+    by true = used_kept (heard k call state wire) state (judged_kept (reply_judged k.nodes wire) (use_of_reply k.nodes wire))
     by false = used_kept (record k { vfs = answered k.vfs call (answer.failed 5) }) state (record { closing = old.closing; requests = old.requests })
 
 -- Everything is given up.
@@ -193,7 +192,7 @@ written_kept k old unique wire = by (nat_eq (unique % 2) 1)
     ended : KeptReleases (record k { queues = without k.queues unique })
     ended = record { closing = old.closing; requests = All-removed (Fine k.nodes) unique k.queues.requests old.requests }
 
-    agrees : (b : Bool) → KeptReleases (cond b (record k { phase = Ready; queues = without k.queues unique }) (kernel_aborted (record k { queues = without k.queues unique })))
+    agrees : (b : Bool) → KeptReleases (cond b (made_ready (record k { queues = without k.queues unique }) wire) (kernel_aborted (record k { queues = without k.queues unique })))
     agrees true = record { closing = ended.closing; requests = ended.requests }
     agrees false = none_kept (kernel_aborted (record k { queues = without k.queues unique })) refl refl
 

@@ -1,4 +1,5 @@
 -- The kernel knows the nodes of closed files and of RELEASEs, and the server holds RELEASEs as the kernel knows them, whatever the event.
+use Rattle.fuse_spec.specs.Calls.{spoken}
 use Rattle.std.proofs.Common.{◌≡◌, ℕ, ◌+◌, Bool, drop, true, false, true≢false, cond, [], ◌∷◌, Option, Some, None, nat_eq, slice_get, refl, sym, subst, ◌∙◌, get_or, All}
 use Rattle.std.specs.List.{list_any, remove as without_at}
 use Rattle.std.proofs.lemmas.List.Elements.{All-nil, All-cons, All-head}
@@ -78,10 +79,10 @@ module _ (w : World) (nodes : NodesKnown w.kernel) (old : ReleasesKnown w) where
   requests_same v number unique o same = subst (λ (k : Kernel). All (λ (e : ℕ × QueuedRequest Purpose). ReleaseKnown k.nodes e.1.kept) k.queues.requests) (sym (replying_kernel v number unique o ∙ same)) old.requests
 
   by_event : (choice : ℕ → ℕ) (e : Event) (o : Outcome) (after : World) → Happened choice w e o after → All (λ (x : ℕ × QueuedRequest Purpose). ReleaseKnown after.kernel.nodes x.1.kept) after.kernel.queues.requests
-  by_event choice e o after (by_mount f m idle) = All-cons (Fine []) _ [] tt (All-nil (Fine []))
-  by_event choice e o after (by_call call ready room within) = let now = begun_kept w.kernel nodes releases call in now.requests
+  by_event choice e o after (by_mount f m v idle) = All-cons (Fine []) _ [] tt (All-nil (Fine []))
+  by_event choice e o after (by_call call ready room within) = let now = begun_kept w.kernel nodes releases (spoken w.kernel.lists_files call) in now.requests
   by_event choice e o after (by_read_interrupt original rest live there within) = old.requests
-  by_event choice e o after (by_read_forgets n live free can within) = by (can_read_forgets w.kernel.queues n)
+  by_event choice e o after (by_read_forgets n live free can within few) = by (can_read_forgets w.kernel.queues n)
     where
       by : (b : Bool) → All (λ (x : ℕ × QueuedRequest Purpose). ReleaseKnown w.kernel.nodes x.1.kept) (cond b (record w.kernel.queues { forgets = drop n w.kernel.queues.forgets; next = w.kernel.queues.next + 2 }) w.kernel.queues).requests
       by true = old.requests

@@ -60,6 +60,8 @@ module _ (w : World) (p : Plain) (sound : IsSound w.kernel.queues) (same : Alike
               copies = old.copies;
             };
         validity = same.validity;
+        minor = same.minor;
+        agreed = same.agreed;
         aborted = same.aborted;
       }
 
@@ -81,6 +83,8 @@ module _ (w : World) (p : Plain) (sound : IsSound w.kernel.queues) (same : Alike
           copies = old.copies;
         };
     validity = same.validity;
+    minor = same.minor;
+    agreed = same.agreed;
     aborted = same.aborted;
   }
 

@@ -1,5 +1,9 @@
 -- The kernel takes a reply that reaches no call: under a number that nothing awaits, or to INIT, a RELEASE or an INTERRUPT. All stays alike, and the
 -- plain world takes no step.
+use Rattle.fuse_spec.specs.Numbers.{init_flags}
+use Rattle.fuse_spec.specs.Performs.{init_reply}
+use Rattle.fuse_spec.specs.declared.Minor.TheVariants.{M15, M31}
+use Rattle.fuse_spec.specs.declared.Minor.{Minor}
 use Rattle.std.proofs.Common.{◌≡◌, ℕ, ◌-◌, ◌%◌, Bool, true, false, cond, List, [], ◌∷◌, ◌++◌, Option, Some, None, nat_eq, refl, ap, sym, subst, ◌∙◌, arith}
 use Rattle.std.specs.Option.{option_map_or}
 use Rattle.std.proofs.lemmas.Bool.Decides.{nat_tests}
@@ -7,19 +11,18 @@ use Rattle.fuse_spec.specs.declared.InterruptReplyEffect.{InterruptReplyEffect}
 use Rattle.fuse_spec.specs.declared.InterruptReplyEffect.TheVariants.{QueuedAgain, TurnedOff, None as NoReplyEffect}
 use Rattle.fuse_spec.specs.declared.Mark.{Mark}
 use Rattle.fuse_spec.specs.declared.Opened.{Opened}
-use Rattle.fuse_spec.specs.declared.Phase.TheVariants.{Ready}
 use Rattle.fuse_spec.specs.declared.Purpose.{Purpose}
 use Rattle.fuse_spec.specs.declared.Purpose.TheVariants as purpose
 use Rattle.fuse_spec.specs.declared.ReplyResult.{ReplyResult}
 use Rattle.fuse_spec.specs.declared.WriteResult.{WriteResult}
 use Rattle.fuse_spec.specs.declared.WriteResult.TheVariants.{Accepted, NoEntry, Invalid}
 use Rattle.fuse_spec.specs.Maps.{get}
-use Rattle.fuse_spec.specs.Operations.{found, missing, created, opened, attributes, listed, content, written, agreed, done, failed}
+use Rattle.fuse_spec.specs.Operations.{found, missing, created, opened, attributes, listed, listed_plus, content, written, agreed, done, failed}
 use Rattle.fuse_spec.specs.Queues.{QueueState, mark_under}
 use Rattle.fuse_spec.specs.QueueCalls.{waiting, without, after_reply_effect, after_interrupt_reply}
 use Rattle.fuse_spec.specs.Messages.{WireReply}
 use Rattle.fuse_spec.specs.Kernel.{Kernel, is_live}
-use Rattle.fuse_spec.specs.Replies.{is_empty_reply, write_result_of, ended_by, reply_taken, odd_taken, interrupt_replied, interrupt_reply_of, reply_written}
+use Rattle.fuse_spec.specs.Replies.{is_empty_reply, write_result_of, ended_by, reply_taken, odd_taken, interrupt_replied, interrupt_reply_of, reply_written, made_ready}
 use Rattle.fuse_spec.specs.Worlds.{World, Sent, after_write}
 use Rattle.fuse_spec.specs.Events as event
 use Rattle.fuse_spec.specs.Plain.{Plain, Ask}
@@ -36,6 +39,11 @@ use Rattle.fuse_theorem.proofs.Writing.{unsent_alike}
 -- What the kernel makes of a copy: a result and a kernel that the plain world does not see.
 abbrev Unseen : World → Plain → ℕ → Sent → WriteResult × Kernel → Type 0
 Unseen w p k sent took = Takes p (event.write k) (event.written sent.unique took.0) p × Alike (after_write w k sent took) p
+
+-- the server's reply to INIT is accepted
+init_accepted : (k : Kernel) (m : Minor) → ended_by k purpose.Init (init_reply m init_flags) ≡ (Accepted, made_ready k (init_reply m init_flags))
+init_accepted k M15 = refl
+init_accepted k M31 = refl
 
 module _ (w : World) (p : Plain) (same : Alike w p) (k : ℕ) (sent : Sent) where
   abbrev results : WriteResult → List ReplyResult
@@ -74,13 +82,13 @@ module _ (w : World) (p : Plain) (same : Alike w p) (k : ℕ) (sent : Sent) wher
           subst (Unseen w p k sent) (sym (written_is (purpose.Release o) waits))
           (unseen_result r (unasked w p numbered same live sent.unique (purpose.Release o) waits (λ call. refl)), unsent_alike (record w { kernel = left }) p ended k (results r))
 
-      -- INIT ends with an agreement on 7.31, and the mount is ready.
-      pub init_ends : waiting w.kernel.queues sent.unique ≡ Some purpose.Init → sent.wire ≡ agreed 7 31 → Unseen w p k sent (reply_written w.kernel sent.unique sent.wire)
+      -- INIT ends with an agreement on the server's minor, and the mount is ready.
+      pub init_ends : waiting w.kernel.queues sent.unique ≡ Some purpose.Init → sent.wire ≡ init_reply w.server.minor init_flags → Unseen w p k sent (reply_written w.kernel sent.unique sent.wire)
       init_ends waits agrees =
           let ended = queues_alike w p same (without w.kernel.queues sent.unique) w.requests (ended_stay w p numbered same live sent.unique purpose.Init waits (λ call. refl)) same.requests.sent in
           let ready = ready_alike (record w { kernel = left }) live p ended in
-          subst (Unseen w p k sent) (sym (written_is purpose.Init waits ∙ ap (ended_by left purpose.Init) agrees))
-          (unseen_result Accepted (unasked w p numbered same live sent.unique purpose.Init waits (λ call. refl)), unsent_alike (record w { kernel = record left { phase = Ready } }) p ready k (results Accepted))
+          subst (Unseen w p k sent) (sym (written_is purpose.Init waits ∙ ap (ended_by left purpose.Init) agrees ∙ init_accepted left w.server.minor))
+          (unseen_result Accepted (unasked w p numbered same live sent.unique purpose.Init waits (λ call. refl)), unsent_alike (record w { kernel = made_ready left (init_reply w.server.minor init_flags) }) p ready k (results Accepted))
 
     module _ (odd : nat_eq (sent.unique % 2) 1 ≡ true) where
       -- what a reply to an INTERRUPT makes of the queues leaves the requests
@@ -118,6 +126,7 @@ module _ (w : World) (p : Plain) (same : Alike w p) (k : ℕ) (sent : Sent) wher
           by (opened fh) = same_kernel Invalid
           by (attributes a) = same_kernel Invalid
           by (listed xs) = same_kernel Invalid
+          by (listed_plus xs) = same_kernel Invalid
           by (content xs) = same_kernel Invalid
           by (written n) = same_kernel Invalid
-          by (agreed a b) = same_kernel Invalid
+          by (agreed a b flags) = same_kernel Invalid

@@ -1,4 +1,5 @@
 -- Replies to RELEASEs and INTERRUPTs say only whether the request failed, and no copy is refused for its body, whatever the event.
+use Rattle.fuse_spec.specs.Calls.{spoken}
 use Rattle.std.proofs.Common.{◌≡◌, ◌≢◌, ◌⊎◌, ℕ, ◌+◌, ◌≤◌, ◌<◌, Bool, true, false, true≢false, cond, List, [], ◌∷◌, ◌++◌, drop, length, Option, Some, None, slice_get, get_or, refl, ap, sym, subst, ◌∙◌, arith, inl, inr, All}
 use Rattle.std.specs.Prelude.{◌%◌}
 use Rattle.std.specs.List.{remove as without_at}
@@ -80,7 +81,7 @@ release_empty choice s t o is = by_mark t.marked
 
 -- What the server says as it takes a request.
 taken_empty : (s : Server) (unique : ℕ) (body : RequestBody) (wire : WireReply) → (taking s unique body).reply ≡ Some wire → is_empty_reply wire ≡ true
-taken_empty s unique init wire e = absurd (cc (e))
+taken_empty s unique (init flags) wire e = absurd (cc (e))
 taken_empty s unique (asks operation) wire e = absurd (cc (e))
 taken_empty s unique (release o) wire e = absurd (cc (e))
 taken_empty s unique (forget f) wire e = absurd (cc (e))
@@ -238,15 +239,15 @@ module _ (choice : ℕ → ℕ) (w : World) (p : Plain) (both : BothSound w p) (
   }
 
   by_event : (e : Event) (o : Outcome) (after : World) → Happened choice w e o after → RepliesFitWhileLive after
-  by_event e o after (by_mount f m idle) live = record {
+  by_event e o after (by_mount f m v idle) live = record {
     released = All-cons (Fits [] []) _ [] tt (All-nil (Fits [] []));
     interrupted = All-nil FitsOdd;
     results = All-nil (λ (r : ReplyResult). r.result ≢ Invalid);
   }
-  by_event e o after (by_call call ready room within) live = let goes = begun_goes_on w.kernel call in goes_on (ap is_live (sym goes.phase) ∙ live) (call_begun w.kernel call) (begun_moves w.kernel call) w.requests
+  by_event e o after (by_call call ready room within) live = let goes = begun_goes_on w.kernel (spoken w.kernel.lists_files call) in goes_on (ap is_live (sym goes.phase) ∙ live) (call_begun w.kernel (spoken w.kernel.lists_files call)) (begun_moves w.kernel (spoken w.kernel.lists_files call)) w.requests
   by_event e o after (by_read_interrupt original rest lives there within) live =
       record { released = (old lives).released; interrupted = (old lives).interrupted; results = (old lives).results }
-  by_event e o after (by_read_forgets n lives free can within) live = record { released = by (can_read_forgets w.kernel.queues n); interrupted = (old lives).interrupted; results = (old lives).results }
+  by_event e o after (by_read_forgets n lives free can within few) live = record { released = by (can_read_forgets w.kernel.queues n); interrupted = (old lives).interrupted; results = (old lives).results }
     where
       by : (b : Bool) → All (λ (x : ℕ × QueuedRequest Purpose). FitsPurpose w.replies w.server.kept x.0 x.1.kept) (cond b (record w.kernel.queues { forgets = drop n w.kernel.queues.forgets; next = w.kernel.queues.next + 2 }) w.kernel.queues).requests
       by true = (old lives).released

@@ -1,4 +1,5 @@
 -- A copy that says what a performed ask came to goes with its request's operation.
+use Rattle.fuse_theorem.proofs.Pairs.{lengths_same}
 use Rattle.std.proofs.Common.{◌≡◌, ℕ, ◌≤◌, ◌<◌, Bool, true, false, List, [], ◌∷◌, Option, Some, None, length, nat_eq, refl, ap, sym, subst, ◌∙◌, arith, All}
 use Rattle.std.specs.Prelude.{nat_le, nat_lt, sum_by}
 use Rattle.std.proofs.lemmas.Bool.Decides.{nat_tests}
@@ -11,13 +12,13 @@ use Rattle.fuse_spec.specs.Messages.{WireReply}
 use Rattle.fuse_spec.specs.Operations.{Operation, Reply, Dirent}
 use Rattle.fuse_spec.specs.FileOperations.{FileOperation}
 use Rattle.fuse_spec.specs.Nodes.{NodeTable, HandleTable, HeldNode, is_open}
-use Rattle.fuse_spec.specs.Trees.{record_length}
+use Rattle.fuse_spec.specs.Trees.{record_length, pair_length}
 use Rattle.fuse_spec.specs.Denotes.{Denotes, generation_known, Means, Names, Opens, OperationAlike, ReplyAlike}
 use Rattle.fuse_spec.specs.Replies.{goes_with, Use, usable, first_use, use_of, use_counted, use_of_all}
 use Rattle.fuse_spec.specs.PlainReplies.{RepliesTo}
 use Rattle.fuse_theorem.specs.Conditions.{OpensItsFile}
 use Rattle.fuse_theorem.specs.Lookups.{IsHeldAs}
-use Rattle.fuse_theorem.proofs.Cases.{SameOperation, both_lookup, both_getattr, both_mkdir, both_create, both_unlink, both_rmdir, both_rename, both_link, both_opening, both_readdir, both_read, both_write, same_operation, SameReply, same_found, same_missing, same_created, same_opened, same_attributes, same_listed, same_content, same_written, same_done, same_failed, same_reply}
+use Rattle.fuse_theorem.proofs.Cases.{SameOperation, both_lookup, both_getattr, both_mkdir, both_create, both_unlink, both_rmdir, both_rename, both_link, both_opening, both_readdir, both_readdirplus, both_read, both_write, same_operation, SameReply, same_found, same_missing, same_created, same_opened, same_attributes, same_listed, same_listed_plus, same_content, same_written, same_done, same_failed, same_reply}
 use Rattle.fuse_theorem.proofs.Giving.{denotes_one}
 
 within : (n m : ℕ) → n ≤ m → nat_le n m ≡ true
@@ -47,6 +48,10 @@ module _ (R : ℕ → ℕ → Type 0) (S : Opened → ℕ → Type 0) (t : NodeT
   goes _ _ _ _ (both_readdir d e x y size size' r q same) (same_listed records others f) so =
       within (sum_by record_length records) size (subst (λ (xs : List Dirent). sum_by record_length xs ≤ size) (sym f) (subst (λ (n : ℕ). sum_by record_length others ≤ n) (sym same) so))
   goes _ _ _ _ (both_readdir d e x y size size' r q same) (same_failed v u f) so = refl
+  goes _ _ _ _ (both_readdirplus d e x y size size' r q same) (same_listed_plus pairs others f) so =
+      let lengths = lengths_same (Names t) pairs others f in
+      within (sum_by pair_length pairs) size (omega (arith, lengths, same, so))
+  goes _ _ _ _ (both_readdirplus d e x y size size' r q same) (same_failed v u f) so = refl
   goes _ _ _ _ (both_read o o' x y size size' r q same) (same_content bytes others f) so =
       within (length bytes) size (subst (λ (xs : List ℕ). length xs ≤ size) (sym f) (subst (λ (n : ℕ). length others ≤ n) (sym same) so))
   goes _ _ _ _ (both_read o o' x y size size' r q same) (same_failed v u f) so = refl
@@ -71,7 +76,7 @@ module _ (nodes : Map Counted) (t : NodeTable) (h : HandleTable) (held : (id gen
 
 -- ---- entries that can be used
 
-use_one : (nodes : Map Counted) (t : NodeTable) → ((id : ℕ) (node : Counted) → get nodes id ≡ Some node → IsHeldAs t id node.generation) → (g : Entry) → 2 ≤ g.nodeid → IsHeldAs t g.nodeid g.generation → use_of nodes g ≡ usable
+pub use_one : (nodes : Map Counted) (t : NodeTable) → ((id : ℕ) (node : Counted) → get nodes id ≡ Some node → IsHeldAs t id node.generation) → (g : Entry) → 2 ≤ g.nodeid → IsHeldAs t g.nodeid g.generation → use_of nodes g ≡ usable
 use_one nodes t known g low held = by (nat_lt g.nodeid 2) refl
   where
     counted : (o : Option Counted) → get nodes g.nodeid ≡ o → use_counted g o ≡ usable

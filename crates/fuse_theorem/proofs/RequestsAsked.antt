@@ -60,7 +60,7 @@ interrupted_still k l keeps unique old =
 
 -- What is on the link stays so.
 sent_still : (k l : Kernel) → Keeps k l → (unique : ℕ) (body : RequestBody) → ((old : IsAsked k unique body) → StillThere k l unique old.request) → SentAsked k unique body → SentAsked l unique body
-sent_still k l keeps unique init there old = asked_if k l unique init old (there old)
+sent_still k l keeps unique (init flags) there old = asked_if k l unique (init flags) old (there old)
 sent_still k l keeps unique (asks operation) there old = asked_if k l unique (asks operation) old (there old)
 sent_still k l keeps unique (release o) there old = asked_if k l unique (release o) old (there old)
 sent_still k l keeps unique (forget f) there old = tt

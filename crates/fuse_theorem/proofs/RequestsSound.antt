@@ -1,4 +1,5 @@
 -- A request that is not performed has no reply, whatever happens.
+use Rattle.fuse_spec.specs.Numbers.{init_flags}
 use Rattle.std.proofs.Common.{◌≡◌, ◌≢◌, ℕ, ◌≤◌, Bool, true, false, true≢false, ◌&&◌, cond, List, [], ◌∷◌, ◌++◌, take, Option, Some, None, Ok, nat_eq, slice_get, option_map, refl, ap, sym, subst, ◌∙◌, arith, All}
 use Rattle.std.specs.Prelude.{◌%◌, nat_le}
 use Rattle.std.specs.List.{remove as without_at}
@@ -41,7 +42,7 @@ use Rattle.fuse_theorem.proofs.StandsOnce.{is_mount, one_held, bounded_stays, st
 
 -- what the kernel asks bears an even number
 asked_even : (k : Kernel) (kept : Purpose) (body : RequestBody) (unique : ℕ) → body_of k kept ≡ Some body → unique % 2 ≡ 0 → BearsNumber unique body
-asked_even k purpose.Init body unique says even = let is : init ≡ body = cc in subst (BearsNumber unique) is even
+asked_even k purpose.Init body unique says even = let is : init init_flags ≡ body = cc in subst (BearsNumber unique) is even
 asked_even k (purpose.Release o) body unique says even = let is : release o ≡ body = cc in subst (BearsNumber unique) is even
 asked_even k (purpose.Call call) body unique says even = by (get k.vfs.calls call) says
   where
@@ -81,10 +82,10 @@ module _ (choice : ℕ → ℕ) (w : World) (sound : RequestsSound w) (numbered 
           subst (λ (n : ℕ). n % 2 ≡ 0) same (number_even w.kernel.queues now.queues x.0 (key_count-found (λ (y : ℕ × QueuedRequest Purpose). is_unread y.1.mark) w.kernel.queues.requests k x at))
 
   numbers_after : (e : Event) (o : Outcome) (after : World) → Happened choice w e o after → All Bears after.requests
-  numbers_after e o after (by_mount f m idle) = All-nil Bears
+  numbers_after e o after (by_mount f m v idle) = All-nil Bears
   numbers_after e o after (by_call call ready room within) = sound.numbers
   numbers_after e o after (by_read_interrupt original rest live there within) = All-push Bears w.requests (record { unique = interrupt_number original; body = interrupt original }) sound.numbers refl
-  numbers_after e o after (by_read_forgets n live free can within) =
+  numbers_after e o after (by_read_forgets n live free can within few) =
       let now = numbered.live live in
       let coming = now.queues.next in
       All-push Bears w.requests (record { unique = w.kernel.queues.next; body = forget_body (take n w.kernel.queues.forgets) }) sound.numbers (forgets_even (take n w.kernel.queues.forgets) w.kernel.queues.next coming.even)
@@ -172,7 +173,7 @@ module _ (choice : ℕ → ℕ) (w : World) (sound : RequestsSound w) (numbered 
           unanswered_push (after_take w k r.unique (interrupting w.server r.unique original None None)) u w.server.next_copy r.unique (failed 11) refl old.kept (λ e. absurd (omega (arith, e, even, bears))) old
 
       by : (body : RequestBody) → BearsNumber r.unique body → IsUnanswered (after_take w k r.unique (taking w.server r.unique body)) u
-      by init bears = unanswered_same (after_take w k r.unique (taking w.server r.unique init)) u refl refl old
+      by (init flags) bears = unanswered_same (after_take w k r.unique (taking w.server r.unique (init flags))) u refl refl old
       by (asks operation) bears = unanswered_same (after_take w k r.unique (taking w.server r.unique (asks operation))) u refl refl old
       by (release o) bears = unanswered_same (after_take w k r.unique (taking w.server r.unique (release o))) u refl refl old
       by (forget f) bears = unanswered_same (after_take w k r.unique (taking w.server r.unique (forget f))) u refl refl old
@@ -235,15 +236,15 @@ module _ (choice : ℕ → ℕ) (w : World) (sound : RequestsSound w) (numbered 
       by Invalid = record { copies = old.copies; kept = left (get w.server.kept copy.unique) }
 
   mounted_unanswered : (e : Event) (o : Outcome) (after : World) → Happened choice w e o after → is_mount e ≡ true → (u : ℕ) → IsUnanswered after u
-  mounted_unanswered e o after (by_mount f m idle) is u = nothing_sent after u refl refl
+  mounted_unanswered e o after (by_mount f m v idle) is u = nothing_sent after u refl refl
   mounted_unanswered e o after did is u = absurd (true≢false (sym is))
 
   -- Unanswered before is unanswered now.
   stays_unanswered : (e : Event) (o : Outcome) (after : World) → Happened choice w e o after → (u : ℕ) → u % 2 ≡ 0 → 1 ≤ unperformed after u → IsUnanswered w u → IsUnanswered after u
-  stays_unanswered e o after (by_mount f m idle) u even stands old = nothing_sent after u refl refl
+  stays_unanswered e o after (by_mount f m v idle) u even stands old = nothing_sent after u refl refl
   stays_unanswered e o after (by_call call ready room within) u even stands old = unanswered_same after u refl refl old
   stays_unanswered e o after (by_read_interrupt original rest live there within) u even stands old = unanswered_same after u refl refl old
-  stays_unanswered e o after (by_read_forgets n live free can within) u even stands old = unanswered_same after u refl refl old
+  stays_unanswered e o after (by_read_forgets n live free can within few) u even stands old = unanswered_same after u refl refl old
   stays_unanswered e o after (by_read_pending k unique kept body live free there says within) u even stands old = unanswered_same after u refl refl old
   stays_unanswered e o after (by_take k r there within) u even stands old = taken_unanswered k r there u even old
   stays_unanswered e o after (by_perform unique t there within) u even stands old = performed_unanswered unique t there u even stands old

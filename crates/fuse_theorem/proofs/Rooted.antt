@@ -6,20 +6,19 @@ use Rattle.std.specs.FinMap.Entries.{is_sorted-put}
 use Rattle.fuse_spec.specs.declared.IntrEffect.{IntrEffect}
 use Rattle.fuse_spec.specs.declared.IntrEffect.TheVariants.{Dequeued, Flagged, Queued, None as NoEffect}
 use Rattle.fuse_spec.specs.declared.Opened.{Opened}
-use Rattle.fuse_spec.specs.declared.Phase.TheVariants.{Ready}
 use Rattle.fuse_spec.specs.declared.Purpose.{Purpose}
 use Rattle.fuse_spec.specs.declared.Purpose.TheVariants as purpose
 use Rattle.fuse_spec.specs.Maps.{get, put, remove}
 use Rattle.fuse_spec.specs.Answers.{Answer}
 use Rattle.fuse_spec.specs.Answers as answer
 use Rattle.fuse_spec.specs.Begins.{Beginning, faulty, sets_out, uses, closes, beginning}
-use Rattle.fuse_spec.specs.Calls.{Call}
-use Rattle.fuse_spec.specs.CallReplies.{operation_replied, call_replied}
+use Rattle.fuse_spec.specs.Calls.{Call, spoken}
+use Rattle.fuse_spec.specs.CallReplies.{all_bound, operation_replied, call_replied}
 use Rattle.fuse_spec.specs.Kernel.{Kernel, kernel_aborted, is_aborted, advanced, asking_for, released, released_if_idle, after_use, closed_by, closing_of, call_begun, after_signal, signalled_at, call_signalled, request_of}
 use Rattle.fuse_spec.specs.Messages.{WireReply}
-use Rattle.fuse_spec.specs.Operations.{Operation, getattr, mkdir, create, unlink, rmdir, rename, link, opening, readdir, read, write, Reply, found, missing, created, opened, attributes, listed, content, written, done, failed, files_in_reply}
+use Rattle.fuse_spec.specs.Operations.{Operation, getattr, mkdir, create, unlink, rmdir, rename, link, opening, readdir, readdirplus, read, write, Reply, found, missing, created, opened, attributes, listed, listed_plus, content, written, done, failed, files_in_reply}
 use Rattle.fuse_spec.specs.QueueCalls.{waiting, without, after_interrupt, interrupt_effect}
-use Rattle.fuse_spec.specs.Replies.{kernel_reply, learnt, Use, usable, useless, stale, use_of_all, goes_with, is_agreement, judged, replied, replied_to_call, ended_by, reply_taken, odd_taken, interrupt_replied, reply_written}
+use Rattle.fuse_spec.specs.Replies.{kernel_reply, learnt, Use, usable, useless, stale, goes_with, is_agreement, judged, replied, replied_to_call, ended_by, reply_taken, odd_taken, interrupt_replied, reply_written, heard, without_stale, reply_judged, use_of_reply, made_ready}
 use Rattle.fuse_spec.specs.Vfs.{look, no_more, asked, CallState, walking, doing, using, Vfs, Advance, answered, bound, unbound, opened_by, after_walk, after_beginning, numbered, begun, given_up}
 use Rattle.fuse_spec.specs.Walks.{Walked, looks_up, finds_none, walk}
 use Rattle.fuse_spec.specs.Walks as walked
@@ -72,6 +71,7 @@ operation_rooted c call (rmdir d name) done r = answered_rooted (unbound c d nam
 operation_rooted c call (rename d old e new) done r = answered_rooted (unbound (unbound c d old) e new) call answer.done (record { root = r.root; answers = r.answers })
 operation_rooted c call (opening file) (opened o) r = answered_rooted (opened_by c call o) call answer.done (record { root = r.root; answers = r.answers })
 operation_rooted c call (readdir d after size) (listed records) r = answered_rooted c call (answer.listing records) r
+operation_rooted c call (readdirplus d after size) (listed_plus pairs) r = answered_rooted (all_bound c d pairs) call _ (record { root = r.root; answers = r.answers })
 operation_rooted c call (read o offset size) (content bytes) r = answered_rooted c call (answer.content bytes) r
 operation_rooted c call (write o offset bytes) (written size) r = answered_rooted c call (answer.written size) r
 operation_rooted c call operation reply r = answered_rooted c call (answer.failed 5) r
@@ -149,7 +149,7 @@ to_call_rooted k call wire None r = r
 to_call_rooted k call wire (Some state) r = by (goes_with (asked state) wire)
   where
     by : (b : Bool) → IsRooted (replied k call state b wire).1.vfs
-    by true = used_rooted (judged k call state wire (use_of_all k.nodes (files_in_reply wire))) state (judged_rooted k call state wire (use_of_all k.nodes (files_in_reply wire)) r)
+    by true = used_rooted (heard k call state wire) state (judged_rooted (without_stale k wire) call state (reply_judged k.nodes wire) (use_of_reply k.nodes wire) r)
     by false = used_rooted (record k { vfs = answered k.vfs call (answer.failed 5) }) state (answered_rooted k.vfs call (answer.failed 5) r)
 
 pub written_rooted : (k : Kernel) (unique : ℕ) (wire : WireReply) → IsRooted k.vfs → IsRooted (reply_written k unique wire).1.vfs
@@ -158,7 +158,7 @@ written_rooted k unique wire r = by (nat_eq (unique % 2) 1)
     ended : (q : Kernel) (kept : Purpose) → IsRooted q.vfs → IsRooted (ended_by q kept wire).1.vfs
     ended q purpose.Init s = agreed_or (is_agreement wire)
       where
-        agreed_or : (b : Bool) → IsRooted (cond b (record q { phase = Ready }) (kernel_aborted q)).vfs
+        agreed_or : (b : Bool) → IsRooted (cond b (made_ready q wire) (kernel_aborted q)).vfs
         agreed_or true = s
         agreed_or false = given_up_rooted q.vfs s
     ended q (purpose.Release o) s = s
@@ -189,10 +189,10 @@ sent_off w number unique None rooted = rooted
 sent_off w number unique (Some wire) rooted = rooted
 
 by_event : (choice : ℕ → ℕ) (w : World) → IsRooted w.kernel.vfs → (e : Event) (o : Outcome) (after : World) → Happened choice w e o after → IsRooted after.kernel.vfs
-by_event choice w r e o after (by_mount f m idle) = given_up_rooted w.kernel.vfs r
-by_event choice w r e o after (by_call call ready room within) = begins_rooted w.kernel call r
+by_event choice w r e o after (by_mount f m v idle) = given_up_rooted w.kernel.vfs r
+by_event choice w r e o after (by_call call ready room within) = begins_rooted w.kernel (spoken w.kernel.lists_files call) r
 by_event choice w r e o after (by_read_interrupt original rest live there within) = r
-by_event choice w r e o after (by_read_forgets n live free can within) = r
+by_event choice w r e o after (by_read_forgets n live free can within few) = r
 by_event choice w r e o after (by_read_pending k unique kept body live free there says within) = r
 by_event choice w r e o after (by_take k q there within) =
     let took = taking w.server q.unique q.body in sent_off (record w { requests = without_at w.requests k; server = took.server }) w.server.next_copy q.unique took.reply r

@@ -7,12 +7,13 @@ use Rattle.fuse_spec.specs.Maps.{get}
 use Rattle.fuse_spec.specs.Messages.{WireReply}
 use Rattle.fuse_spec.specs.Numbers.{counter_end}
 use Rattle.fuse_spec.specs.Server.{Server, HeldRequest}
-use Rattle.fuse_spec.specs.Performs.{PerformResult, served}
+use Rattle.fuse_spec.specs.Performs.{PerformResult, served, files_given}
 use Rattle.fuse_spec.specs.Worlds.{World, after_perform}
 use Rattle.fuse_spec.specs.Worlds as worlds
 use Rattle.fuse_spec.specs.Events.{Event, Outcome}
 use Rattle.fuse_spec.specs.Events as event
-use Rattle.fuse_spec.specs.Steps.{Stepped, unless, is_past, going, performing_held, step, MayChooseFor, MayStep, IsRefused, Happens}
+use Rattle.fuse_spec.specs.Nodes.{counts_out}
+use Rattle.fuse_spec.specs.Steps.{Stepped, unless, is_counted_out, is_past, going, performing_held, step, MayChooseFor, MayStep, IsRefused, Happens}
 use Rattle.fuse_theorem.proofs.Choosing.{some_choice}
 use Rattle.fuse_theorem.proofs.SameCounters.{SameCounters, served_counters}
 
@@ -26,7 +27,7 @@ past_alike : (w : World) (s t : Server) → SameCounters s t → is_past (record
 past_alike w s t same = λ i.
     nat_lt counter_end w.kernel.queues.next || (nat_lt counter_end w.kernel.vfs.next_call
     || (nat_lt counter_end (same.birth i) || (nat_lt counter_end (same.serial i) || (nat_lt counter_end (same.generation i)
-    || (nat_lt counter_end (same.number i) || nat_lt counter_end (same.copy i))))))
+    || (nat_lt counter_end (same.number i) || (nat_lt counter_end (same.copy i) || is_counted_out w.kernel))))))
 
 performed_past : (w : World) (unique : ℕ) (a b : PerformResult) → SameCounters a.server b.server → is_past (after_perform w unique a) ≡ is_past (after_perform w unique b)
 performed_past w unique a b same =
@@ -43,18 +44,23 @@ also_past o p v u same r = by (is_past v) (is_past u) same
     by false b e refused = absurd (cc)
     by true false e refused = absurd (cc)
 
+also_unless : (b : Bool) (s t : Stepped) (r : Refusal) → (s ≡ Err r → t ≡ Err r) → unless b refusal.Exhausted s ≡ Err r → unless b refusal.Exhausted t ≡ Err r
+also_unless true s t r also refused = refused
+also_unless false s t r also refused = also refused
+
 module _ (w : World) (c d : ℕ → ℕ) where
   performing_refused : (unique : ℕ) (held : Option HeldRequest) → MayChooseFor c w held → MayChooseFor d w held → (r : Refusal) → performing_held c w unique held ≡ Err r → performing_held d w unique held ≡ Err r
   performing_refused unique None m n r refused = refused
   performing_refused unique (Some t) m n r refused =
       let one = served c w.server unique t in
       let other = served d w.server unique t in
-      also_past _ _ (after_perform w unique one) (after_perform w unique other) (performed_past w unique one other (served_counters c d w.server unique t m n)) r refused
+      also_unless (counts_out w.server.nodes (files_given w.server t)) _ _ r
+      (also_past _ _ (after_perform w unique one) (after_perform w unique other) (performed_past w unique one other (served_counters c d w.server unique t m n)) r) refused
 
   -- What one choice of ids is refused, any other is refused.
   pub same_refusal : (e : Event) → MayStep c w e → MayStep d w e → (r : Refusal) → step c w e ≡ Err r → step d w e ≡ Err r
   same_refusal (event.perform unique) m n r refused = performing_refused unique (get w.server.held unique) m n r refused
-  same_refusal (event.mount f g) m n r refused = refused
+  same_refusal (event.mount f g v) m n r refused = refused
   same_refusal (event.call call) m n r refused = refused
   same_refusal event.read_interrupt m n r refused = refused
   same_refusal (event.read_forgets k) m n r refused = refused

@@ -9,7 +9,7 @@ use Rattle.fuse_spec.specs.declared.WriteResult.{WriteResult}
 use Rattle.fuse_spec.specs.declared.WriteResult.TheVariants.{Accepted, NoEntry, Invalid}
 use Rattle.fuse_spec.specs.Maps.{Map, get, put, remove}
 use Rattle.fuse_spec.specs.Messages.{Forget, RequestBody, init, asks, release, forget, batch_forget, interrupt, WireReply}
-use Rattle.fuse_spec.specs.Operations.{Operation, lookup, getattr, mkdir, create, unlink, rmdir, rename, link, opening, readdir, read, write, files_in_reply, opens_in_reply, done, failed}
+use Rattle.fuse_spec.specs.Operations.{Operation, lookup, getattr, mkdir, create, unlink, rmdir, rename, link, opening, readdir, readdirplus, read, write, files_in_reply, opens_in_reply, done, failed}
 use Rattle.fuse_spec.specs.Trees.{Named, is_nameless}
 use Rattle.fuse_spec.specs.FileOperations.{FileOperation, reply_by}
 use Rattle.fuse_spec.specs.Nodes.{HeldNode, NodeTable, root_row, HandleTable, OpenNumber, MayChoose, file_of, is_file_of, is_open, all_given, all_opened, handle_back}
@@ -63,7 +63,7 @@ forgetting_sound : (s : Server) → ServerSound s → (fs : List Forget) → Ser
 forgetting_sound s sound fs = swept_sound (record s { nodes = _ }) (record { tree = sound.tree; nodes = all_taken_sound fs s.nodes sound.nodes; handles = sound.handles; copies = sound.copies })
 
 taking_sound : (s : Server) → ServerSound s → (unique : ℕ) (body : RequestBody) → ServerSound (taking s unique body).server
-taking_sound s sound unique init = record { tree = sound.tree; nodes = sound.nodes; handles = sound.handles; copies = sound.copies }
+taking_sound s sound unique (init flags) = record { tree = sound.tree; nodes = sound.nodes; handles = sound.handles; copies = sound.copies }
 taking_sound s sound unique (asks operation) = record { tree = sound.tree; nodes = sound.nodes; handles = sound.handles; copies = sound.copies }
 taking_sound s sound unique (release o) = record { tree = sound.tree; nodes = sound.nodes; handles = sound.handles; copies = sound.copies }
 taking_sound s sound unique (forget f) = forgetting_sound s sound (f ∷ [])
@@ -96,6 +96,7 @@ opens_no_root s sound (rename d old n new) e = tt
 opens_no_root s sound (link x d name) e = tt
 opens_no_root s sound (opening x) e = tt
 opens_no_root s sound (readdir d after size) e = tt
+opens_no_root s sound (readdirplus d after size) e = tt
 
 module _ (choice : ℕ → ℕ) (s : Server) (sound : ServerSound s) where
   doing_sound : (operation : FileOperation) → OpensNoRoot operation → MayChoose choice s.nodes (cond s.aborted [] (files_in_reply (reply_by s.validity s.tree operation))) → ServerSound (doing choice s operation).server
@@ -118,7 +119,7 @@ module _ (choice : ℕ → ℕ) (s : Server) (sound : ServerSound s) where
       by_handles false = all_opened_sound (opens_in_reply (reply_by s.validity s.tree operation)) s.handles sound.handles (opened_not_root s.tree sound.tree s.validity operation)
 
   performing_sound : (body : RequestBody) → MayChoose choice s.nodes (cond s.aborted [] (files_by s body)) → ServerSound (performing choice s body).server
-  performing_sound init may = sound
+  performing_sound (init flags) may = sound
   performing_sound (asks operation) may = by (is_open_for s operation) refl may
     where
       by : (b : Bool) → is_open_for s operation ≡ b → MayChoose choice s.nodes (cond s.aborted [] (cond b (files_in_reply (reply_by s.validity s.tree (file_operation_of s.nodes operation))) []))
@@ -199,11 +200,11 @@ sent_off w number unique (Some wire) sound = sound
 
 -- The server stays sound, whatever the event and whatever free ids it gives.
 pub stays_sound : (choice : ℕ → ℕ) (w : World) → ServerSound w.server → (e : Event) (o : Outcome) (after : World) → MayStep choice w e → Happened choice w e o after → ServerSound after.server
-stays_sound choice w sound e o after may (by_mount f m idle) =
+stays_sound choice w sound e o after may (by_mount f m v idle) =
     swept_sound _ (record { tree = sound.tree; nodes = emptied_sound w.server.nodes; handles = emptied_handles_sound w.server.handles; copies = λ number later. refl })
 stays_sound choice w sound e o after may (by_call call ready room within) = sound
 stays_sound choice w sound e o after may (by_read_interrupt original rest live there within) = sound
-stays_sound choice w sound e o after may (by_read_forgets n live free can within) = sound
+stays_sound choice w sound e o after may (by_read_forgets n live free can within few) = sound
 stays_sound choice w sound e o after may (by_read_pending k unique kept body live free there says within) = sound
 stays_sound choice w sound e o after may (by_take k r there within) =
     let took = taking w.server r.unique r.body in sent_off (record w { requests = without w.requests k; server = took.server }) w.server.next_copy r.unique took.reply (taking_sound w.server sound r.unique r.body)

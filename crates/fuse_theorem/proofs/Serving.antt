@@ -37,6 +37,8 @@ module _ (w : World) (p : Plain) (same : Alike w p) where
           copies = old.copies;
         };
     validity = same.validity;
+    minor = same.minor;
+    agreed = same.agreed;
     aborted = same.aborted;
   }
 
@@ -66,6 +68,8 @@ module _ (w : World) (p : Plain) (same : Alike w p) where
               (told live);
         };
     validity = same.validity;
+    minor = same.minor;
+    agreed = same.agreed;
     aborted = same.aborted;
   }
 
@@ -89,5 +93,7 @@ module _ (w : World) (p : Plain) (same : Alike w p) where
               (told live);
         };
     validity = same.validity;
+    minor = same.minor;
+    agreed = same.agreed;
     aborted = same.aborted;
   }

@@ -60,6 +60,8 @@ kept_fewer_alike w p same results kept copies was = record {
         copies = old.copies;
       };
   validity = same.validity;
+  minor = same.minor;
+  agreed = same.agreed;
   aborted = same.aborted;
 }
 

@@ -149,7 +149,7 @@ module _ (w : World) (p : Plain) (numbered : IsNumbered w) (one : IsOneToOne (Me
         kept_below = numbered.kept_below;
       } in
       let stepped : Alike (record w { kernel = record k1 { vfs = answered w.kernel.vfs call (answer.failed 4) } }) (record (without_ask p pair.unique) { vfs = answered p.vfs call (answer.failed 4) }) =
-      advanced_alike w1 (without_ask p pair.unique) call numbered1 paused one same.tree same.validity w.kernel.vfs.next_call (no_more (answered w.kernel.vfs call (answer.failed 4))) (no_more (answered p.vfs call (answer.failed 4)))
+      advanced_alike w1 (without_ask p pair.unique) call numbered1 paused one same.tree same.validity same.minor same.agreed w.kernel.vfs.next_call (no_more (answered w.kernel.vfs call (answer.failed 4))) (no_more (answered p.vfs call (answer.failed 4)))
       (record { vfs = answered_alike (MeansIn w) (MeansOpenIn w) one w.kernel.vfs p.vfs same.vfs call call (answer.failed 4) (answer.failed 4) refl refl; operation = tt }) (answered_alone w.kernel.vfs call (answer.failed 4)) (λ a e. live) same.aborted in
       used_alike (record w { kernel = record k1 { vfs = answered w.kernel.vfs call (answer.failed 4) } }) (ask_interrupted p pair.unique pair.ask) sound live
       (subst (λ (c : ℕ). Alike (record w { kernel = record k1 { vfs = answered w.kernel.vfs call (answer.failed 4) } }) (record (without_ask p pair.unique) { vfs = answered p.vfs c (answer.failed 4) })) (sym pair.by) stepped) state

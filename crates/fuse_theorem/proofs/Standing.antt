@@ -1,15 +1,17 @@
 -- A tree operation on the server's tree and on the plain tree: the same files stand afterwards, the new one among them.
-use Rattle.std.proofs.Common.{◌≡◌, ℕ, Bool, true, false, true≢false, not, ◌||◌, cond, List, [], ◌∷◌, ◌++◌, Option, Some, None, nat_eq, filter, find, option_map, refl, ap, sym, subst, ◌∙◌, inl, inr, All}
+use Rattle.std.proofs.Common.{◌≡◌, ℕ, Bool, true, false, true≢false, not, ◌||◌, cond, List, [], ◌∷◌, ◌++◌, Option, Some, None, nat_eq, get_or, filter, find, option_map, refl, ap, sym, subst, ◌∙◌, inl, inr, All}
 use Rattle.std.proofs.lemmas.Bool.{cases_eq}
-use Rattle.std.proofs.lemmas.List.Elements.{All-nil, All-cons, All-head, All-tail}
+use Rattle.std.specs.Prelude.{min, nat_lt}
+use Rattle.std.proofs.lemmas.List.Elements.{All-nil, All-cons, All-head, All-tail, All-filter}
 use Rattle.fuse_spec.specs.Maps.{Map, get, put}
-use Rattle.fuse_spec.specs.Operations.{lookup, getattr, mkdir, create, unlink, rmdir, rename, link, opening, readdir, read, write, files_in_reply, opens_in_reply}
-use Rattle.fuse_spec.specs.Trees.{Tree, Named, Content, a_directory, a_file, file_at, bytes_of, overwritten, is_at}
+use Rattle.fuse_spec.specs.Operations.{lookup, getattr, mkdir, create, unlink, rmdir, rename, link, opening, readdir, readdirplus, read, write, files_in_reply, opens_in_reply}
+use Rattle.fuse_spec.specs.Trees.{Tree, Named, Content, a_directory, a_file, file_at, bytes_of, overwritten, is_at, pairs_after}
 use Rattle.fuse_spec.specs.declared.Validity.{Validity}
 use Rattle.fuse_spec.specs.FileOperations.{FileOperation, refusal, reply_by, reply_or, reply_unrefused, looked_up, tree_after, tree_or, tree_unrefused, renamed, is_same}
 use Rattle.fuse_spec.proofs.Tables.{get_put_here, get_put_there}
 use Rattle.fuse_theorem.proofs.Finding.{same_is, other_is}
 use Rattle.fuse_theorem.proofs.Names.{is_named, named_before, named_push, each_named, found_named}
+use Rattle.fuse_theorem.proofs.Pairs.{listed_told, fitting_told}
 use Rattle.fuse_theorem.proofs.Trees.{with_files, Same, AllSame, DeedSame, refusal_same}
 
 or_left : (a b : Bool) → a ≡ true → (a || b) ≡ true
@@ -67,6 +69,7 @@ module _ (tree : Tree) (files : Map Content) (held : ℕ → Bool) (kept : (file
   DeedStands (link file d name) = Stands file × Stands d
   DeedStands (opening file) = Stands file
   DeedStands (readdir d after size) = Stands d
+  DeedStands (readdirplus d after size) = Stands d
   DeedStands (read file offset size) = Stands file
   DeedStands (write file offset bytes) = Stands file
 
@@ -81,6 +84,7 @@ module _ (tree : Tree) (files : Map Content) (held : ℕ → Bool) (kept : (file
   deed_same (link file d name) h = (same_if_stands file h.0, same_if_stands d h.1)
   deed_same (opening file) h = same_if_stands file h
   deed_same (readdir d after size) h = same_if_stands d h
+  deed_same (readdirplus d after size) h = same_if_stands d h
   deed_same (read file offset size) h = same_if_stands file h
   deed_same (write file offset bytes) h = same_if_stands file h
 
@@ -132,6 +136,7 @@ module _ (tree : Tree) (files : Map Content) (held : ℕ → Bool) (kept : (file
   files_unrefused (link x d name) h file = unmade file
   files_unrefused (opening x) h file = unmade file
   files_unrefused (readdir d after size) h file = unmade file
+  files_unrefused (readdirplus d after size) h file = unmade file
   files_unrefused (read x offset size) h file = unmade file
   files_unrefused (write x offset []) h file = unmade file
   files_unrefused (write x offset (b ∷ bytes)) h file = overwriting x (λ (o : Option Content). a_file (overwritten (bytes_of o) offset (b ∷ bytes))) h file
@@ -187,6 +192,7 @@ module _ (tree : Tree) (files : Map Content) (held : ℕ → Bool) (kept : (file
       (λ q. elim (cases_eq x file) [ inl same ↦ or_left (stands file) false (subst Stands same h.0) | inr ne ↦ absurd (true≢false (sym q ∙ other_is x file ne)) ]) n
   named_unrefused (opening x) h file n = kept_name (opening x) file n
   named_unrefused (readdir d after size) h file n = kept_name (readdir d after size) file n
+  named_unrefused (readdirplus d after size) h file n = kept_name (readdirplus d after size) file n
   named_unrefused (read x offset size) h file n = kept_name (read x offset size) file n
   named_unrefused (write x offset []) h file n = kept_name (write x offset []) file n
   named_unrefused (write x offset (b ∷ bytes)) h file n = kept_name (write x offset (b ∷ bytes)) file n
@@ -205,6 +211,12 @@ module _ (tree : Tree) (files : Map Content) (held : ℕ → Bool) (kept : (file
   looked_stands valid test None e = All-nil (λ f. (stands f || false) ≡ true)
   looked_stands valid test (Some x) e = All-cons (λ f. (stands f || false) ≡ true) x [] (or_left (stands x) false (lead_stands test x e)) (All-nil (λ f. (stands f || false) ≡ true))
 
+  abbrev TellsStanding : Named → Type 0
+  TellsStanding n = (stands n.file || false) ≡ true
+
+  each_stands : All TellsStanding tree.names
+  each_stands i n lt = or_left (stands (get_or tree.names i n).file) false (named_stands (get_or tree.names i n).file (each_named tree.names i n lt))
+
   given_unrefused : (valid : Validity) (operation : FileOperation) → DeedStands operation → All (λ f. (stands f || makes tree operation f) ≡ true) (files_in_reply (reply_unrefused valid tree operation))
   given_unrefused valid (lookup d name) h = looked_stands valid (is_at d name) (file_at tree d name) refl
   given_unrefused valid (getattr x) h = All-nil (λ f. (stands f || false) ≡ true)
@@ -218,6 +230,10 @@ module _ (tree : Tree) (files : Map Content) (held : ℕ → Bool) (kept : (file
   given_unrefused valid (link x d name) h = All-cons (λ f. (stands f || false) ≡ true) x [] (or_left (stands x) false h.0) (All-nil (λ f. (stands f || false) ≡ true))
   given_unrefused valid (opening x) h = All-nil (λ f. (stands f || false) ≡ true)
   given_unrefused valid (readdir d after size) h = All-nil (λ f. (stands f || false) ≡ true)
+  given_unrefused valid (readdirplus d after size) h =
+      fitting_told (λ f. (stands f || false) ≡ true) (min size 4096) (pairs_after valid.found_ms tree d after)
+      (listed_told (λ f. (stands f || false) ≡ true) valid.found_ms tree _
+      (All-filter (λ n. nat_lt after n.serial) TellsStanding _ (All-filter (λ n. nat_eq n.directory d) TellsStanding tree.names each_stands)))
   given_unrefused valid (read x offset size) h = All-nil (λ f. (stands f || false) ≡ true)
   given_unrefused valid (write x offset bytes) h = All-nil (λ f. (stands f || false) ≡ true)
 
@@ -237,6 +253,7 @@ module _ (tree : Tree) (files : Map Content) (held : ℕ → Bool) (kept : (file
   opened_unrefused valid (link x d name) h = All-nil (λ f. (stands f || false) ≡ true)
   opened_unrefused valid (opening x) h = All-cons (λ f. (stands f || false) ≡ true) x [] (or_left (stands x) false h) (All-nil (λ f. (stands f || false) ≡ true))
   opened_unrefused valid (readdir d after size) h = All-nil (λ f. (stands f || false) ≡ true)
+  opened_unrefused valid (readdirplus d after size) h = All-nil (λ f. (stands f || false) ≡ true)
   opened_unrefused valid (read x offset size) h = All-nil (λ f. (stands f || false) ≡ true)
   opened_unrefused valid (write x offset bytes) h = All-nil (λ f. (stands f || false) ≡ true)
 

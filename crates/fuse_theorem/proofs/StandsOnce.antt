@@ -1,4 +1,5 @@
 -- A request that is not performed stands once, whatever happens.
+use Rattle.fuse_spec.specs.declared.Minor.{Minor}
 use Rattle.std.proofs.Common.{◌≡◌, ℕ, ◌+◌, ◌≤◌, Bool, true, false, true≢false, cond, List, [], ◌∷◌, ◌++◌, take, drop, Option, Some, None, Ok, nat_eq, is_some, slice_get, get_or, count_by, option_map, refl, ap, sym, subst, ◌∙◌, arith, inl, inr}
 use Rattle.std.specs.Prelude.{◌%◌, nat_lt}
 use Rattle.std.specs.List.{remove as without_at}
@@ -9,7 +10,7 @@ use Rattle.fuse_spec.specs.declared.QueuedRequest.{QueuedRequest}
 use Rattle.fuse_spec.specs.declared.ReplyResult.{ReplyResult}
 use Rattle.fuse_spec.specs.declared.WriteResult.{WriteResult}
 use Rattle.fuse_spec.specs.declared.WriteResult.TheVariants.{Accepted, NoEntry, Invalid}
-use Rattle.fuse_spec.specs.Calls.{Call}
+use Rattle.fuse_spec.specs.Calls.{Call, spoken}
 use Rattle.fuse_spec.specs.Copies.{kept_after, after_result}
 use Rattle.fuse_spec.specs.Maps.{Map, get, put, remove}
 use Rattle.fuse_spec.specs.Messages.{Forget, Request, RequestBody, init, asks, release, forget, batch_forget, interrupt, WireReply}
@@ -17,7 +18,7 @@ use Rattle.fuse_spec.specs.Uniques.{interrupt_number}
 use Rattle.fuse_spec.specs.Vfs.{later}
 use Rattle.fuse_spec.specs.Queues.{QueueState, IsSound, pending}
 use Rattle.fuse_spec.specs.QueueCalls as queues
-use Rattle.fuse_spec.specs.Kernel.{Kernel, is_live, call_begun}
+use Rattle.fuse_spec.specs.Kernel.{Kernel, is_live, call_put}
 use Rattle.fuse_spec.specs.Server.{HeldRequest, Kept, Copy}
 use Rattle.fuse_spec.specs.Taking.{taking, interrupting}
 use Rattle.fuse_spec.specs.Performs.{served}
@@ -84,7 +85,7 @@ none_later w numbered live u later =
     none_held (Some t) at = let low = numbered.held_below live u t at in absurd (omega (arith, low, later))
 
 abbrev pub is_mount : Event → Bool
-is_mount (event.mount found_ms missing_ms) = true
+is_mount (event.mount found_ms missing_ms minor) = true
 is_mount e = false
 
 -- A bound on how often a number that is not performed stands, which leaves room for numbers that are not drawn yet.
@@ -247,7 +248,7 @@ module _ (b : ℕ → ℕ) (w : World) (room : HasRoom b w) (once : AtMost b w) 
       interrupts original at None held None = taken_once b w once k unique (interrupt original) at (after_take w k unique (interrupting w.server unique original None None)) refl refl (none_more w.server.held (λ u. omega arith))
 
       by : (x : RequestBody) → slice_get w.requests k ≡ Some (record { unique = unique; body = x }) → AtMost b (after_take w k unique (taking w.server unique x))
-      by init at = taken_once b w once k unique init at (after_take w k unique (taking w.server unique init)) refl refl (put_held w.server.held unique _)
+      by (init flags) at = taken_once b w once k unique (init flags) at (after_take w k unique (taking w.server unique (init flags))) refl refl (put_held w.server.held unique _)
       by (asks operation) at = taken_once b w once k unique (asks operation) at (after_take w k unique (taking w.server unique (asks operation))) refl refl (put_held w.server.held unique _)
       by (release o) at = taken_once b w once k unique (release o) at (after_take w k unique (taking w.server unique (release o))) refl refl (put_held w.server.held unique _)
       by (forget f) at = taken_once b w once k unique (forget f) at (after_take w k unique (taking w.server unique (forget f))) refl refl (none_more w.server.held (λ u. omega arith))
@@ -286,29 +287,29 @@ module _ (b : ℕ → ℕ) (w : World) (room : HasRoom b w) (once : AtMost b w) 
       by false dead = fewer_once b w once (record w { kernel = (reply_written w.kernel sent.unique sent.wire).1 }) (unheard w.kernel (numbered.idle dead) sent.unique sent.wire) refl (λ u. omega arith)
 
   -- A call begins.
-  called : (call : Call) → (is_live w.kernel.phase ≡ true → IsSound (call_begun w.kernel call).queues) → IsNumberedWhileLive (after_call w call) → AtMost b (after_call w call)
+  called : (call : Call) → (is_live w.kernel.phase ≡ true → IsSound (call_put w.kernel call).queues) → IsNumberedWhileLive (after_call w call) → AtMost b (after_call w call)
   called call sound after = by (is_live w.kernel.phase) refl
     where
       by : (c : Bool) → is_live w.kernel.phase ≡ c → AtMost b (after_call w call)
-      by true live u even = kernel_once b w room once (numbered.live live) live (call_begun w.kernel call) (moves_fewer w.kernel.queues (call_begun w.kernel call).queues (begun_moves w.kernel call)) (sound live) u even
+      by true live u even = kernel_once b w room once (numbered.live live) live (call_put w.kernel call) (moves_fewer w.kernel.queues (call_put w.kernel call).queues (begun_moves w.kernel (spoken w.kernel.lists_files call))) (sound live) u even
       by false dead u even =
           let old = once u even in
-          let goes = begun_goes_on w.kernel call in
-          let none : pending_under u (call_begun w.kernel call).queues ≡ 0 = ap (pending_under u) (after.idle (ap is_live goes.phase ∙ dead)) in
+          let goes = begun_goes_on w.kernel (spoken w.kernel.lists_files call) in
+          let none : pending_under u (call_put w.kernel call).queues ≡ 0 = ap (pending_under u) (after.idle (ap is_live goes.phase ∙ dead)) in
           omega (arith, old, none)
 
   -- INIT is pending after a mount.
-  mounted_once : (f m : ℕ) → 1 ≤ b 2 → (u : ℕ) → unperformed (after_mount w f m) u ≤ b u
-  mounted_once f m first u = elim (cases_eq u 2) [
+  mounted_once : (f m : ℕ) (v : Minor) → 1 ≤ b 2 → (u : ℕ) → unperformed (after_mount w f m v) u ≤ b u
+  mounted_once f m v first u = elim (cases_eq u 2) [
     | inl e ↦ let one = at_most_one (nat_eq u 2) in let enough : 1 ≤ b u = subst (λ (n : ℕ). 1 ≤ b n) (sym e) first in omega (arith, one, enough)
     | inr ne ↦ let none = ap one_if (other_is u 2 ne) in omega (arith, none)
   ]
 
   stay : (choice : ℕ → ℕ) (e : Event) (o : Outcome) (after : World) → (is_mount e ≡ true → 1 ≤ b 2) → IsNumberedWhileLive after → (is_live w.kernel.phase ≡ true → IsSound after.kernel.queues) → Happened choice w e o after → AtMost b after
-  stay choice e o after first coming sound (by_mount f m idle) = λ u even. mounted_once f m (first refl) u
+  stay choice e o after first coming sound (by_mount f m v idle) = λ u even. mounted_once f m v (first refl) u
   stay choice e o after first coming sound (by_call call ready room within) = called call sound coming
   stay choice e o after first coming sound (by_read_interrupt original rest live there within) = interrupt_once original
-  stay choice e o after first coming sound (by_read_forgets n live free can within) = forgets_once live n (take n w.kernel.queues.forgets) can
+  stay choice e o after first coming sound (by_read_forgets n live free can within few) = forgets_once live n (take n w.kernel.queues.forgets) can
   stay choice e o after first coming sound (by_read_pending k unique kept body live free there says within) = read_once live k unique kept body there
   stay choice e o after first coming sound (by_take k r there within) = taken k r.unique r.body there
   stay choice e o after first coming sound (by_perform unique t there within) = performed choice unique t

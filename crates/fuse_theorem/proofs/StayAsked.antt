@@ -1,4 +1,5 @@
 -- What is on the request link or held stays what the kernel asks, whatever the event.
+use Rattle.fuse_spec.specs.Calls.{spoken}
 use Rattle.std.proofs.Common.{◌≡◌, ℕ, ◌+◌, ◌≤◌, ◌<◌, Bool, true, false, true≢false, cond, List, [], ◌∷◌, ◌++◌, drop, take, Option, Some, None, nat_eq, slice_get, count_by, option_map, refl, ap, sym, subst, ◌∙◌, arith, inl, inr, All}
 use Rattle.std.specs.List.{remove as without_at}
 use Rattle.std.specs.Option.{option_map_or}
@@ -101,7 +102,7 @@ module _ (w : World) (old : RequestsAsked w) (k : ℕ) (r : Request) (at_k : sli
   taken_asked = by r.body was_sent
     where
       by : (body : RequestBody) → SentAsked w.kernel r.unique body → RequestsAsked (after_take w k r.unique (taking w.server r.unique body))
-      by init new = same_kernel w (after_take w k r.unique (taking w.server r.unique init)) old refl now_sent (now_held _ refl new)
+      by (init flags) new = same_kernel w (after_take w k r.unique (taking w.server r.unique (init flags))) old refl now_sent (now_held _ refl new)
       by (asks operation) new = same_kernel w (after_take w k r.unique (taking w.server r.unique (asks operation))) old refl now_sent (now_held _ refl new)
       by (release o) new = same_kernel w (after_take w k r.unique (taking w.server r.unique (release o))) old refl now_sent (now_held _ refl new)
       by (forget f) new = same_kernel w (after_take w k r.unique (taking w.server r.unique (forget f))) old refl now_sent old.held
@@ -135,7 +136,7 @@ settled_asked w old k result (Some copy) = by result.result
 
 -- what the kernel asks of its own is neither a FORGET nor an INTERRUPT
 sent_of : (l : Kernel) (unique : ℕ) (kept : Purpose) (body : RequestBody) → body_of l kept ≡ Some body → IsAsked l unique body → SentAsked l unique body
-sent_of l unique kept init says new = new
+sent_of l unique kept (init flags) says new = new
 sent_of l unique kept (asks operation) says new = new
 sent_of l unique kept (release o) says new = new
 sent_of l unique kept (forget f) says new = tt
@@ -252,22 +253,22 @@ module _ (choice : ℕ → ℕ) (w : World) (sound : WorldSound w) (before : Req
   forgets_asked k unique (f ∷ g ∷ fs) = tt
 
   by_event : (e : Event) (o : Outcome) (after : World) → Happened choice w e o after → RequestsAskedWhileLive after
-  by_event e o after (by_mount f m idle) live = record {
+  by_event e o after (by_mount f m v idle) live = record {
     sent = All-nil (λ (r : Request). SentAsked after.kernel r.unique r.body);
     held = λ unique t at. absurd (cc);
     signals = All-cons ReachesCall _ [] (λ e. absurd (true≢false (sym e))) (All-nil ReachesCall);
     first = record { next = omega arith; entries = All-cons IsNumberedFor _ [] refl (All-nil IsNumberedFor) };
   }
   by_event e o after (by_call call ready room within) live =
-      let goes = begun_goes_on w.kernel call in
+      let goes = begun_goes_on w.kernel (spoken w.kernel.lists_files call) in
       let lives : is_live w.kernel.phase ≡ true = ap is_live (sym goes.phase) ∙ live in
-      moved lives after.kernel (begun_follows w.kernel (calls_of w (numbered lives)) call) (begun_moves w.kernel call)
+      moved lives after.kernel (begun_follows w.kernel (calls_of w (numbered lives)) (spoken w.kernel.lists_files call)) (begun_moves w.kernel (spoken w.kernel.lists_files call))
   by_event e o after (by_read_interrupt original rest lives there within) live =
       let k1 = record w.kernel { queues = record w.kernel.queues { interrupts = drop 1 w.kernel.queues.interrupts } } in
       let w1 = record w { kernel = k1 } in
       let new = first_interrupted w (before lives) sound.queues original rest there in
       pushed w1 (quiet lives k1 refl refl (omega arith)) (interrupt_number original) (interrupt original) (record { even = new.even; drawn = new.drawn; marked = new.marked; of_call = new.of_call })
-  by_event e o after (by_read_forgets n lives free can within) live =
+  by_event e o after (by_read_forgets n lives free can within few) live =
       let w1 = record w { kernel = after.kernel } in
       pushed w1 (quiet lives after.kernel (forgets_requests n (can_read_forgets w.kernel.queues n)) refl (forgets_rise n (can_read_forgets w.kernel.queues n))) w.kernel.queues.next (forget_body (take n w.kernel.queues.forgets))
       (forgets_asked after.kernel w.kernel.queues.next (take n w.kernel.queues.forgets))

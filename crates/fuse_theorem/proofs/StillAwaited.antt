@@ -9,7 +9,6 @@ use Rattle.fuse_spec.specs.declared.InterruptReplyEffect.{InterruptReplyEffect}
 use Rattle.fuse_spec.specs.declared.InterruptReplyEffect.TheVariants.{QueuedAgain, TurnedOff, None as NoReplyEffect}
 use Rattle.fuse_spec.specs.declared.Mark.{Mark}
 use Rattle.fuse_spec.specs.declared.Opened.{Opened}
-use Rattle.fuse_spec.specs.declared.Phase.TheVariants.{Ready}
 use Rattle.fuse_spec.specs.declared.Purpose.{Purpose}
 use Rattle.fuse_spec.specs.declared.Purpose.TheVariants as purpose
 use Rattle.fuse_spec.specs.declared.QueuedRequest.{QueuedRequest}
@@ -23,7 +22,7 @@ use Rattle.fuse_spec.specs.Queues.{IsSound, is_unread, request_under, mark_under
 use Rattle.fuse_spec.specs.QueueCalls.{after_reply_effect, waiting, without}
 use Rattle.fuse_spec.specs.Signals.{reply_effect}
 use Rattle.fuse_spec.specs.Kernel.{Kernel, is_live, is_for, kernel_aborted, after_use}
-use Rattle.fuse_spec.specs.Replies.{kernel_reply, learnt, Use, usable, useless, stale, use_of_all, goes_with, is_agreement, judged, replied, replied_to_call, ended_by, reply_taken, odd_taken, interrupt_replied, interrupt_reply_of, reply_written}
+use Rattle.fuse_spec.specs.Replies.{kernel_reply, learnt, Use, usable, useless, stale, goes_with, is_agreement, judged, replied, replied_to_call, ended_by, reply_taken, odd_taken, interrupt_replied, interrupt_reply_of, reply_written, heard, without_stale, reply_judged, use_of_reply, made_ready}
 use Rattle.fuse_spec.proofs.QueueReadings.{request_under-without, request_under-without_other}
 use Rattle.fuse_theorem.specs.Numbering.{requests_for}
 use Rattle.fuse_theorem.specs.AskedRequests.{SignalsReachCalls, InitIsFirst}
@@ -51,20 +50,23 @@ replied_follows : (k : Kernel) (call : ℕ) (wire : WireReply) (o : Option (Call
 replied_follows k call wire None none = unmoved k k refl refl (omega arith)
 replied_follows k call wire (Some state) none = by (goes_with (asked state) wire)
   where
-    judged_follows : (u : Use) → Follows k (judged k call state wire u)
-    judged_follows usable =
-        let k1 = record k { nodes = learnt k.nodes (files_in_reply wire) } in
-        let next = call_replied k.vfs call state (kernel_reply (asked state) wire) in
-        then_follows k k1 (judged k call state wire usable) (unmoved k k1 refl refl (omega arith)) (advanced_follows k1 call k.vfs.next_call next none (call_replied_alone k.vfs call state (kernel_reply (asked state) wire)))
-    judged_follows useless = answered_follows k call (answer.failed 5) none
-    judged_follows (stale node) =
-        let k1 = record k { vfs = answered k.vfs call (answer.failed 5) } in
-        then_follows k k1 (judged k call state wire (stale node)) (answered_follows k call (answer.failed 5) none) (unmoved k1 (judged k call state wire (stale node)) refl refl (omega arith))
+    stale_follows : Follows k (without_stale k wire)
+    stale_follows = unmoved k (without_stale k wire) refl refl (omega arith)
+
+    judged_follows : (x : WireReply) (u : Use) → Follows k (judged (without_stale k wire) call state x u)
+    judged_follows x usable =
+        let k1 = record (without_stale k wire) { nodes = learnt k.nodes (files_in_reply x) } in
+        let next = call_replied k.vfs call state (kernel_reply (asked state) x) in
+        then_follows k k1 (judged (without_stale k wire) call state x usable) (unmoved k k1 refl refl (omega arith)) (advanced_follows k1 call k.vfs.next_call next none (call_replied_alone k.vfs call state (kernel_reply (asked state) x)))
+    judged_follows x useless = then_follows k (without_stale k wire) _ stale_follows (answered_follows (without_stale k wire) call (answer.failed 5) none)
+    judged_follows x (stale node) =
+        let k1 = record (without_stale k wire) { vfs = answered k.vfs call (answer.failed 5) } in
+        then_follows k k1 (judged (without_stale k wire) call state x (stale node)) (then_follows k (without_stale k wire) k1 stale_follows (answered_follows (without_stale k wire) call (answer.failed 5) none)) (unmoved k1 (judged (without_stale k wire) call state x (stale node)) refl refl (omega arith))
 
     by : (b : Bool) → Follows k (replied k call state b wire).1
     by true =
-        let l = judged k call state wire (use_of_all k.nodes (files_in_reply wire)) in
-        then_follows k l (after_use l state) (judged_follows (use_of_all k.nodes (files_in_reply wire))) (used_follows l state)
+        let l = heard k call state wire in
+        then_follows k l (after_use l state) (judged_follows (reply_judged k.nodes wire) (use_of_reply k.nodes wire)) (used_follows l state)
     by false =
         let l = record k { vfs = answered k.vfs call (answer.failed 5) } in
         then_follows k l (after_use l state) (answered_follows k call (answer.failed 5) none) (used_follows l state)
@@ -91,8 +93,8 @@ module _ (k : Kernel) (sound : IsSound k.queues) (numbered : CallsNumbered k) (u
   ended_answers : (kept : Purpose) → Waits k.queues unique kept → is_live (ended_by left kept wire).1.phase ≡ true → Answers k (ended_by left kept wire).1 unique
   ended_answers purpose.Init waits live = by (is_agreement wire) live
     where
-      by : (b : Bool) → is_live (cond b (record left { phase = Ready }) (kernel_aborted left)).phase ≡ true → Answers k (cond b (record left { phase = Ready }) (kernel_aborted left)) unique
-      by true alive = ends (record left { phase = Ready }) (unmoved left (record left { phase = Ready }) refl refl (omega arith)) (request_under-without k.queues unique sound)
+      by : (b : Bool) → is_live (cond b (made_ready left wire) (kernel_aborted left)).phase ≡ true → Answers k (cond b (made_ready left wire) (kernel_aborted left)) unique
+      by true alive = ends (made_ready left wire) (unmoved left (made_ready left wire) refl refl (omega arith)) (request_under-without k.queues unique sound)
       by false alive = absurd (true≢false (sym alive))
   ended_answers (purpose.Release o) waits live = ends left (unmoved left left refl refl (omega arith)) (request_under-without k.queues unique sound)
   ended_answers (purpose.Call call) waits live =

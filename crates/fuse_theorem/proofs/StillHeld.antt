@@ -1,4 +1,5 @@
 -- What the server holds of requests names nodes that it holds still, in a live mount and after an abort.
+use Rattle.fuse_spec.specs.Numbers.{init_flags}
 use Rattle.std.proofs.Common.{◌≡◌, ℕ, Bool, true, false, true≢false, cond, Option, Some, None, refl, ap, sym, subst, ◌∙◌, All}
 use Rattle.std.proofs.lemmas.List.Elements.{All-nil}
 use Rattle.fuse_spec.specs.declared.Opened.{Opened}
@@ -56,7 +57,7 @@ module _ (w : World) (asked : RequestsAskedWhileLive w) (live : is_live w.kernel
       of_call (Some state) says = let body_is : asks (asked_of state) ≡ t.body = cc (says) in subst (IsHeldMarked t.marked) body_is tt
 
       by : (kept : Purpose) → held_asked.is_asked.request.kept ≡ kept → body_of w.kernel kept ≡ Some t.body → IsHeldMarked t.marked t.body
-      by purpose.Init kept_is says = let body_is : init ≡ t.body = cc (says) in subst (IsHeldMarked t.marked) body_is (unmarked (ap serves_call kept_is))
+      by purpose.Init kept_is says = let body_is : init init_flags ≡ t.body = cc (says) in subst (IsHeldMarked t.marked) body_is (unmarked (ap serves_call kept_is))
       by (purpose.Release o) kept_is says = let body_is : release o ≡ t.body = cc (says) in subst (IsHeldMarked t.marked) body_is (unmarked (ap serves_call kept_is))
       by (purpose.Call call) kept_is says = of_call (get w.kernel.vfs.calls call) says
 
@@ -69,7 +70,7 @@ live_still_held w sound asked links known live unique t there releases = let mar
     held h = known_nodes_held w (known_held w sound.lookups) t.generations h
 
     by : (body : RequestBody) → t.body ≡ body → IsHeldMarked t.marked body → All (HeldAs w.server.nodes) t.generations
-    by init is mark = subst (All (HeldAs w.server.nodes)) (sym (links.held unique t there is)) (All-nil (HeldAs w.server.nodes))
+    by (init flags) is mark = subst (All (HeldAs w.server.nodes)) (sym (links.held unique t there flags is)) (All-nil (HeldAs w.server.nodes))
     by (asks operation) is mark = let old = known live unique t there in held (old.known operation is)
     by (release o) is mark = held (releases o is)
     by (forget f) is mark = absurd mark

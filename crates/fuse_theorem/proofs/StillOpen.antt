@@ -29,7 +29,7 @@ abbrev NumbersAfter : Server → RequestBody → HandleTable → Type 0
 NumbersAfter s body h = (h ≡ s.handles) ⊎ ((o : Opened) × (body ≡ release o) × (h ≡ handle_back s.handles o.fh))
 
 performing_numbers : (choice : ℕ → ℕ) (s : Server) → s.aborted ≡ true → (body : RequestBody) → NumbersAfter s body (performing choice s body).server.handles
-performing_numbers choice s aborted init = inl refl
+performing_numbers choice s aborted (init flags) = inl refl
 performing_numbers choice s aborted (asks operation) = by (is_open_for s operation)
   where
     by : (b : Bool) → NumbersAfter s (asks operation) (cond b (doing choice s (file_operation_of s.nodes operation)) (refusing s 9)).server.handles

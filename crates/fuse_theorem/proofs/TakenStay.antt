@@ -50,7 +50,7 @@ InOrder held = T (is_sorted nat_cmp held)
 
 module _ (s : Server) (old : InOrder s.held) where
   taken_in_order : (unique : ℕ) (body : RequestBody) → InOrder (taking s unique body).server.held
-  taken_in_order unique init = is_sorted-put nat_cmp nat_cmp_total unique _ s.held old
+  taken_in_order unique (init flags) = is_sorted-put nat_cmp nat_cmp_total unique _ s.held old
   taken_in_order unique (asks operation) = is_sorted-put nat_cmp nat_cmp_total unique _ s.held old
   taken_in_order unique (release o) = is_sorted-put nat_cmp nat_cmp_total unique _ s.held old
   taken_in_order unique (forget f) = old
@@ -86,10 +86,10 @@ module _ (choice : ℕ → ℕ) (w : World) (old : InOrder w.server.held) where
   sent_off v number unique o h = subst (λ (s : Server). InOrder s.held) (sym (replying_server v number unique o)) h
 
   order_stays : (e : Event) (o : Outcome) (after : World) → Happened choice w e o after → InOrder after.server.held
-  order_stays e o after (by_mount f m idle) = tt
+  order_stays e o after (by_mount f m v idle) = tt
   order_stays e o after (by_call call ready room within) = old
   order_stays e o after (by_read_interrupt original rest live there within) = old
-  order_stays e o after (by_read_forgets n live free can within) = old
+  order_stays e o after (by_read_forgets n live free can within few) = old
   order_stays e o after (by_read_pending k unique kept body live free there says within) = old
   order_stays e o after (by_take k r there within) =
       let took = taking w.server r.unique r.body in sent_off (record w { requests = without_at w.requests k; server = took.server }) w.server.next_copy r.unique took.reply (taken_in_order w.server old r.unique r.body)
@@ -138,7 +138,7 @@ module _ (choice : ℕ → ℕ) (w : World) (links : LinksSound w) (old : TakenS
       releases false o = refl
 
       by_body : (body : RequestBody) → (performing choice s body).server.nodes ≡ w.server.nodes
-      by_body init = refl
+      by_body (init flags) = refl
       by_body (asks operation) = does (is_open_for s operation) operation
       by_body (release o) = releases (is_open s.handles o.fh (file_of s.nodes o.nodeid)) o
       by_body (forget f) = refl
@@ -165,10 +165,10 @@ module _ (choice : ℕ → ℕ) (w : World) (links : LinksSound w) (old : TakenS
   ]
 
   dead_servable : (e : Event) (o : Outcome) (after : World) → Happened choice w e o after → is_live after.kernel.phase ≡ false → Servable after.server.nodes after.server.held
-  dead_servable e o after (by_mount f m idle) dead = absurd (true≢false dead)
+  dead_servable e o after (by_mount f m v idle) dead = absurd (true≢false dead)
   dead_servable e o after (by_call call ready room within) dead = old.nodes
   dead_servable e o after (by_read_interrupt original rest live there within) dead = old.nodes
-  dead_servable e o after (by_read_forgets n live free can within) dead = old.nodes
+  dead_servable e o after (by_read_forgets n live free can within few) dead = old.nodes
   dead_servable e o after (by_read_pending k unique kept body live free there says within) dead = old.nodes
   dead_servable e o after (by_take k r there within) dead =
       let took = taking w.server r.unique r.body in

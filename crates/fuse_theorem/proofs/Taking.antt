@@ -35,7 +35,7 @@ module _ (w : World) (p : Plain) (same : Alike w p) where
         is_waiting = h.is_waiting;
         same = operation_more (MeansIn w) _ (MeansOpenIn w) _ operation h.ask.operation (means_meant w.kernel.nodes w.server.nodes w.server.handles ids) (λ o file among named s. means_open_meant w.kernel.nodes w.server.nodes w.server.handles ids o file among s) h.same;
       }
-  taken_asked unique init h = h
+  taken_asked unique (init flags) h = h
   taken_asked unique (release o) h = h
   taken_asked unique (forget f) h = h
   taken_asked unique (batch_forget fs) h = h
@@ -72,6 +72,8 @@ module _ (w : World) (p : Plain) (same : Alike w p) where
               copies = old.copies;
             };
         validity = same.validity;
+        minor = same.minor;
+        agreed = same.agreed;
         aborted = same.aborted;
       }
 
@@ -93,6 +95,8 @@ module _ (w : World) (p : Plain) (same : Alike w p) where
           copies = old.copies;
         };
     validity = same.validity;
+    minor = same.minor;
+    agreed = same.agreed;
     aborted = same.aborted;
   }
 
@@ -116,5 +120,7 @@ module _ (w : World) (p : Plain) (same : Alike w p) where
               (λ ask there. absurd (cc (unasked, there)));
         };
     validity = same.validity;
+    minor = same.minor;
+    agreed = same.agreed;
     aborted = same.aborted;
   }

@@ -1,23 +1,39 @@
 -- What is reply reaches the calls of the two worlds alike, once for all operations.
-use Rattle.std.proofs.Common.{◌≡◌, ℕ, cond, Bool, true, false, true≢false, List, Option, Some, None, refl, ap, sym}
+use Rattle.fuse_theorem.proofs.Pairs.{dirents_same}
+use Rattle.std.proofs.Common.{◌≡◌, ℕ, cond, Bool, true, false, true≢false, List, Option, Some, None, refl, ap, sym, [], ◌∷◌, map}
 use Rattle.std.specs.Prelude.{nat_lt}
 use Rattle.fuse_spec.specs.Maps.{get_name}
 use Rattle.fuse_spec.specs.Paths.{Name}
-use Rattle.fuse_spec.specs.Operations.{Operation, Reply}
+use Rattle.fuse_spec.specs.Operations.{Operation, Dirent, DirentPlus, told_by, Reply}
 use Rattle.fuse_spec.specs.Walks.{WalkPlan, Walked, looks_up, finds_none, asks, walk}
 use Rattle.fuse_spec.specs.Answers as answer
 use Rattle.fuse_spec.specs.declared.Binding.{Binding}
 use Rattle.fuse_spec.specs.Vfs.{CallState, walking, doing, using, Vfs, Advance, answered, bound, unbound, opened_by, asking, no_more, valid_at, look, after_walk, walks_on, asked}
-use Rattle.fuse_spec.specs.CallReplies.{operation_replied, call_replied}
-use Rattle.fuse_spec.specs.Denotes.{OptionAlike, OperationAlike, ReplyAlike, StateAlike, BindingAlike, WalkPlanAlike}
+use Rattle.fuse_spec.specs.CallReplies.{name_told, names_told, all_bound, operation_replied, call_replied}
+use Rattle.fuse_spec.specs.Denotes.{OptionAlike, OperationAlike, ReplyAlike, StateAlike, BindingAlike, WalkPlanAlike, PairsAlike}
 use Rattle.fuse_spec.specs.Alike.{VfsAlike}
 use Rattle.fuse_spec.proofs.Tables.{put_alike}
 use Rattle.fuse_theorem.specs.Numbering.{IsOneToOne}
-use Rattle.fuse_theorem.proofs.Cases.{SameOperation, both_getattr, both_mkdir, both_create, both_unlink, both_rmdir, both_rename, both_link, both_opening, both_readdir, both_read, both_write, same_operation, SameReply, same_found, same_missing, same_created, same_opened, same_attributes, same_listed, same_content, same_written, same_done, same_failed, same_reply}
+use Rattle.fuse_theorem.proofs.Cases.{SameOperation, both_getattr, both_mkdir, both_create, both_unlink, both_rmdir, both_rename, both_link, both_opening, both_readdir, both_readdirplus, both_read, both_write, same_operation, SameReply, same_found, same_missing, same_created, same_opened, same_attributes, same_listed, same_listed_plus, same_content, same_written, same_done, same_failed, same_reply}
 use Rattle.fuse_theorem.proofs.Walking.{WalkedAlike, LookAlike, walk_alike}
 use Rattle.fuse_theorem.proofs.Hearing.{answered_alike, opened_alike, bound_alike, unbound_alike}
 
 module _ {O P : Type 0} (R : ℕ → ℕ → Type 0) (S : O → P → Type 0) (one : IsOneToOne R) where
+  -- The names of a list come into force alike.
+  all_bound_alike : (x y : ℕ) → R x y → (v w : List (DirentPlus ℕ)) (c : Vfs O) (d : Vfs P) → VfsAlike R S c d → PairsAlike R v w → VfsAlike R S (all_bound c x v) (all_bound d y w)
+  all_bound_alike x y r [] [] c d same h = same
+  all_bound_alike x y r (p ∷ v) (q ∷ w) c d same h = by (told_by p) (told_by q) h.0.0 (λ c' d' same'. all_bound_alike x y r v w c' d' same' h.1)
+    where
+      by : (a b : Option ℕ) → OptionAlike R a b → ((c' : Vfs O) (d' : Vfs P) → VfsAlike R S c' d' → VfsAlike R S (all_bound c' x v) (all_bound d' y w)) → VfsAlike R S (record c { names = names_told c.clock x (name_told c.clock x c.names p a) v }) (record d { names = names_told d.clock y (name_told d.clock y d.names q b) w })
+      by None None k rest = rest c d same
+      by (Some f) (Some g) k rest =
+          rest (bound c x p.dirent.name (Some f) p.valid) (bound d y q.dirent.name (Some g) q.valid)
+          (bound_alike R S one c d same x y p.dirent.name q.dirent.name (Some f) (Some g) p.valid q.valid r (ap (λ (e : Dirent). e.name) h.0.2) k h.0.1)
+      by None (Some g) k rest = absurd k
+      by (Some f) None k rest = absurd k
+  all_bound_alike x y r [] (q ∷ w) c d same h = absurd h
+  all_bound_alike x y r (p ∷ v) [] c d same h = absurd h
+
   told_by_cases : (c : Vfs O) (d : Vfs P) → VfsAlike R S c d → (call : ℕ) (a : Operation ℕ O) (b : Operation ℕ P) (s : Reply ℕ O) (t : Reply ℕ P) → SameOperation R S a b → SameReply R S s t
       → VfsAlike R S (operation_replied c call a s) (operation_replied d call b t)
   told_by_cases c d same call a b s t o (same_failed x y e) = answered_alike R S one c d same call call (answer.failed x) (answer.failed y) refl (ap (λ (n : ℕ). answer.failed n) e)
@@ -39,6 +55,9 @@ module _ {O P : Type 0} (R : ℕ → ℕ → Type 0) (S : O → P → Type 0) (o
   told_by_cases c d same call a b s t (both_opening x y r) (same_opened o p z) =
       answered_alike R S one (opened_by c call o) (opened_by d call p) (opened_alike R S one c d same call o p z) call call answer.done answer.done refl refl
   told_by_cases c d same call a b s t (both_readdir x y n m i j r e f) (same_listed v w h) = answered_alike R S one c d same call call (answer.listing v) (answer.listing w) refl (ap (λ v. answer.listing v) h)
+  told_by_cases c d same call a b s t (both_readdirplus x y n m i j r e f) (same_listed_plus v w h) =
+      answered_alike R S one (all_bound c x v) (all_bound d y w) (all_bound_alike x y r v w c d same h) call call (answer.listing (map (λ (p : DirentPlus ℕ). p.dirent) v)) (answer.listing (map (λ (p : DirentPlus ℕ). p.dirent) w)) refl
+      (ap (λ v. answer.listing v) (dirents_same R v w h))
   told_by_cases c d same call a b s t (both_read x y n m i j r e f) (same_content v w h) = answered_alike R S one c d same call call (answer.content v) (answer.content w) refl (ap (λ v. answer.content v) h)
   told_by_cases c d same call a b s t (both_write x y n m i j r e f) (same_written v w h) = answered_alike R S one c d same call call (answer.written v) (answer.written w) refl (ap (λ v. answer.written v) h)
   told_by_cases c d same call a b s t o p = answered_alike R S one c d same call call (answer.failed 5) (answer.failed 5) refl refl

@@ -29,6 +29,8 @@ module _ (w : World) (p : Plain) (same : Alike w p) where
       copies = (same.asks live).copies;
     };
     validity = same.validity;
+    minor = same.minor;
+    agreed = same.agreed;
     aborted = same.aborted;
   }
 

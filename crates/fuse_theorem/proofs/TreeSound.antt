@@ -1,15 +1,16 @@
 -- The tree stays sound: the root is a directory to which no name leads.
 use Rattle.std.proofs.Common.{◌≡◌, ◌≢◌, ℕ, Bool, true, false, true≢false, not, cond, List, [], ◌∷◌, Option, Some, None, find, option_map, refl, ap, sym, subst, ◌∙◌, arith, All}
-use Rattle.std.proofs.lemmas.List.Elements.{All-nil, All-cons, All-head, All-tail, All-push}
+use Rattle.std.specs.Prelude.{min, nat_eq, nat_lt}
+use Rattle.std.proofs.lemmas.List.Elements.{All-nil, All-cons, All-head, All-tail, All-push, All-filter}
 use Rattle.fuse_spec.specs.declared.Validity.{Validity}
 use Rattle.fuse_spec.specs.Maps.{get}
 use Rattle.fuse_spec.specs.Paths.{Name}
-use Rattle.fuse_spec.specs.Operations.{lookup, getattr, mkdir, create, unlink, rmdir, rename, link, opening, readdir, read, write, files_in_reply, opens_in_reply}
-use Rattle.fuse_spec.specs.Trees.{Tree, Named, Content, a_directory, a_file, file_at, kind_of, is_kind_directory, is_directory, is_nameless, bytes_of, overwritten, is_at, with_name, without_name, with_birth}
+use Rattle.fuse_spec.specs.Operations.{lookup, getattr, mkdir, create, unlink, rmdir, rename, link, opening, readdir, readdirplus, read, write, files_in_reply, opens_in_reply}
+use Rattle.fuse_spec.specs.Trees.{Tree, Named, Content, a_directory, a_file, file_at, kind_of, is_kind_directory, is_directory, is_nameless, bytes_of, overwritten, is_at, with_name, without_name, with_birth, pairs_after}
 use Rattle.fuse_spec.specs.FileOperations.{FileOperation, Check, making, first_refusal, refusal, looked_up, reply_by, reply_or, reply_unrefused, tree_after, tree_or, tree_unrefused, renamed, is_same}
 use Rattle.fuse_spec.proofs.Tables.{get_put_there}
 use Rattle.fuse_theorem.specs.ServerTables.{TreeSound}
-use Rattle.fuse_theorem.proofs.Finding.{All-filter}
+use Rattle.fuse_theorem.proofs.Pairs.{listed_told, fitting_told}
 
 -- A file that is not the root.
 abbrev NotRoot : ℕ → Type 0
@@ -71,6 +72,9 @@ module _ (tree : Tree) (sound : TreeSound tree) where
   given_unrefused valid (mkdir d name) free = All-cons NotRoot tree.next_birth [] born (All-nil NotRoot)
   given_unrefused valid (create d name) free = All-cons NotRoot tree.next_birth [] born (All-nil NotRoot)
   given_unrefused valid (link file d name) free = All-cons NotRoot file [] (linked_is file d name free) (All-nil NotRoot)
+  given_unrefused valid (readdirplus d after size) free =
+      fitting_told NotRoot (min size 4096) (pairs_after valid.found_ms tree d after)
+      (listed_told NotRoot valid.found_ms tree _ (All-filter (λ n. nat_lt after n.serial) NamesNone _ (All-filter (λ n. nat_eq n.directory d) NamesNone tree.names sound.names)))
   given_unrefused valid operation free = All-nil NotRoot
 
   opened_looked : (valid : Validity) (o : Option ℕ) → All NotRoot (opens_in_reply (looked_up valid o))
@@ -141,6 +145,7 @@ module _ (tree : Tree) (sound : TreeSound tree) where
   unrefused_sound (link file d name) free opens = named tree sound d name file (linked_is tree sound file d name free)
   unrefused_sound (opening file) free opens = sound
   unrefused_sound (readdir d after size) free opens = sound
+  unrefused_sound (readdirplus d after size) free opens = sound
   unrefused_sound (read file offset size) free opens = sound
   unrefused_sound (write file offset []) free opens = sound
   unrefused_sound (write file offset (b ∷ bytes)) free opens = record {

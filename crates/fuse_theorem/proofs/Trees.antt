@@ -3,8 +3,8 @@ use Rattle.std.proofs.Common.{◌≡◌, ℕ, ◌+◌, Bool, true, false, cond, 
 use Rattle.std.specs.Prelude.{nat_eq, nat_lt, find, filter, option_map, is_some}
 use Rattle.fuse_spec.specs.Maps.{Map, get}
 use Rattle.fuse_spec.specs.Paths.{Name}
-use Rattle.fuse_spec.specs.Operations.{lookup, getattr, mkdir, create, unlink, rmdir, rename, link, opening, readdir, read, write, attributes, listed, content, Dirent}
-use Rattle.fuse_spec.specs.Trees.{Tree, Named, Content, file_at, kind_of, bytes_of, is_kind_directory, is_directory, is_below, is_nameless, record_of, fitting, is_at, links}
+use Rattle.fuse_spec.specs.Operations.{lookup, getattr, mkdir, create, unlink, rmdir, rename, link, opening, readdir, readdirplus, read, write, attributes, listed, listed_plus, content, Dirent, DirentPlus}
+use Rattle.fuse_spec.specs.Trees.{Tree, Named, Content, file_at, kind_of, bytes_of, is_kind_directory, is_directory, is_below, is_nameless, record_of, fitting, pair_of, fitting_pairs, is_at, links}
 use Rattle.fuse_spec.specs.declared.Validity.{Validity}
 use Rattle.fuse_spec.specs.FileOperations.{FileOperation, making, first_refusal, refusal, reply_by, reply_or, reply_unrefused, tree_after, tree_or, tree_unrefused, renamed, is_same, is_file, is_dir, is_filled, is_moved_below, replaces}
 use Rattle.fuse_spec.specs.Numbers as number
@@ -68,6 +68,7 @@ module _ (tree : Tree) (files : Map Content) where
   DeedSame (link file d name) = Same file × Same d
   DeedSame (opening file) = Same file
   DeedSame (readdir d after size) = Same d
+  DeedSame (readdirplus d after size) = Same d
   DeedSame (read file offset size) = Same file
   DeedSame (write file offset bytes) = Same file
 
@@ -96,25 +97,29 @@ module _ (tree : Tree) (files : Map Content) where
         ∷ (replaces moved there && (is_file_same moved m i && is_dir_same there t i), number.eisdir) ∷ (replaces moved there && filled_same there i, number.enotempty) ∷ [])
     refusal_same (opening file) h = λ i. first_refusal ((dir_same file h i, number.eisdir) ∷ [])
     refusal_same (readdir d after size) h = λ i. first_refusal ((not (dir_same d h i), number.enotdir) ∷ [])
+    refusal_same (readdirplus d after size) h = λ i. first_refusal ((not (dir_same d h i), number.enotdir) ∷ [])
     refusal_same (read file offset size) h = refl
     refusal_same (write file offset bytes) h = refl
 
     one_record : (n : Named) → Same n.file → record_of (with_files tree files) n ≡ record_of tree n
     one_record n h = λ i. record { ino = n.file + 1; offset = n.serial; kind = kind_of (h i); name = n.name }
 
-    more_records : (n : Named) (xs : List Named) (b : Bool) → Same n.file → map (record_of (with_files tree files)) xs ≡ map (record_of tree) xs
-        → map (record_of (with_files tree files)) (cond b (n ∷ xs) xs) ≡ map (record_of tree) (cond b (n ∷ xs) xs)
-    more_records n xs true h e = λ i. one_record n h i ∷ e i
-    more_records n xs false h e = e
+    one_pair : (valid_ms : ℕ) (n : Named) → Same n.file → pair_of valid_ms (with_files tree files) n ≡ pair_of valid_ms tree n
+    one_pair valid_ms n h = λ i. record { file = Some n.file; valid = valid_ms; dirent = one_record n h i }
 
-    filter_same : (p q : Named → Bool) (names : List Named) → AllSame names → map (record_of (with_files tree files)) (filter p (filter q names)) ≡ map (record_of tree) (filter p (filter q names))
-    filter_same p q [] h = refl
-    filter_same p q (n ∷ names) h = keep (q n) (p n) (filter_same p q names h.1)
-      where
-        keep : (b c : Bool) → map (record_of (with_files tree files)) (filter p (filter q names)) ≡ map (record_of tree) (filter p (filter q names))
-            → map (record_of (with_files tree files)) (filter p (cond b (n ∷ filter q names) (filter q names))) ≡ map (record_of tree) (filter p (cond b (n ∷ filter q names) (filter q names)))
-        keep true c e = more_records n (filter p (filter q names)) (p n) h.0 e
-        keep false c e = e
+    module _ {X : Type 0} (f g : Named → X) (one : (n : Named) → Same n.file → f n ≡ g n) where
+      more_records : (n : Named) (xs : List Named) (b : Bool) → Same n.file → map f xs ≡ map g xs → map f (cond b (n ∷ xs) xs) ≡ map g (cond b (n ∷ xs) xs)
+      more_records n xs true h e = λ i. one n h i ∷ e i
+      more_records n xs false h e = e
+
+      filter_same : (p q : Named → Bool) (names : List Named) → AllSame names → map f (filter p (filter q names)) ≡ map g (filter p (filter q names))
+      filter_same p q [] h = refl
+      filter_same p q (n ∷ names) h = keep (q n) (p n) (filter_same p q names h.1)
+        where
+          keep : (b c : Bool) → map f (filter p (filter q names)) ≡ map g (filter p (filter q names))
+              → map f (filter p (cond b (n ∷ filter q names) (filter q names))) ≡ map g (filter p (cond b (n ∷ filter q names) (filter q names)))
+          keep true c e = more_records n (filter p (filter q names)) (p n) h.0 e
+          keep false c e = e
 
     unrefused_same : (valid : Validity) (operation : FileOperation) → DeedSame operation → reply_unrefused valid (with_files tree files) operation ≡ reply_unrefused valid tree operation
     unrefused_same valid (lookup d name) h = refl
@@ -127,7 +132,10 @@ module _ (tree : Tree) (files : Map Content) where
     unrefused_same valid (link file d name) h = refl
     unrefused_same valid (opening file) h = refl
     unrefused_same valid (readdir d after size) h =
-        ap (λ (xs : List Dirent). listed (fitting (min size number.max_transfer) xs)) (filter_same (λ n. nat_lt after n.serial) (λ n. nat_eq n.directory d) tree.names named)
+        ap (λ (xs : List Dirent). listed (fitting (min size number.max_transfer) xs)) (filter_same (record_of (with_files tree files)) (record_of tree) one_record (λ n. nat_lt after n.serial) (λ n. nat_eq n.directory d) tree.names named)
+    unrefused_same valid (readdirplus d after size) h =
+        ap (λ (xs : List (DirentPlus ℕ)). listed_plus (fitting_pairs (min size number.max_transfer) xs))
+        (filter_same (pair_of valid.found_ms (with_files tree files)) (pair_of valid.found_ms tree) (λ n same. one_pair valid.found_ms n same) (λ n. nat_lt after n.serial) (λ n. nat_eq n.directory d) tree.names named)
     unrefused_same valid (read file offset size) h = λ i. content (take (min size number.max_transfer) (drop offset (bytes_of (h i))))
     unrefused_same valid (write file offset bytes) h = refl
 
@@ -155,6 +163,7 @@ module _ (tree : Tree) (files : Map Content) where
     numbers_unrefused (link file d name) = refl
     numbers_unrefused (opening file) = refl
     numbers_unrefused (readdir d after size) = refl
+    numbers_unrefused (readdirplus d after size) = refl
     numbers_unrefused (read file offset size) = refl
     numbers_unrefused (write file offset []) = refl
     numbers_unrefused (write file offset (b ∷ bytes)) = refl

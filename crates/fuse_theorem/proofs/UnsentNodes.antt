@@ -1,4 +1,5 @@
 -- A node that the kernel does not pin stands in no request on the link.
+use Rattle.fuse_spec.specs.Numbers.{init_flags}
 use Rattle.std.proofs.Common.{◌≡◌, ℕ, Bool, false, ◌||◌, List, [], ◌∷◌, Option, Some, None, Ok, nat_eq, get_or, arith, refl, ap, subst, All}
 use Rattle.std.specs.List.{list_any}
 use Rattle.std.proofs.lemmas.Bool.Decides.{nat_tests}
@@ -52,7 +53,7 @@ module _ (k : Kernel) (node : ℕ) (unpinned : is_pinned k node ≡ false) where
       (first.0, (or_false _ (list_any OfReleases k.queues.requests) first.1).1)
 
   of_kept : (kept : Purpose) (body : RequestBody) → is_released_by node kept ≡ false → body_of k kept ≡ Some body → list_any (nat_eq node) (nodes_of_body body) ≡ false
-  of_kept purpose.Init body free says = let is : init ≡ body = cc in subst (λ (b : RequestBody). list_any (nat_eq node) (nodes_of_body b) ≡ false) is refl
+  of_kept purpose.Init body free says = let is : init init_flags ≡ body = cc in subst (λ (b : RequestBody). list_any (nat_eq node) (nodes_of_body b) ≡ false) is refl
   of_kept (purpose.Release o) body free says =
       let is : release o ≡ body = cc in
       subst (λ (b : RequestBody). list_any (nat_eq node) (nodes_of_body b) ≡ false) is (ap (λ (b : Bool). b || false) (turned free))
@@ -71,7 +72,7 @@ module _ (k : Kernel) (node : ℕ) (unpinned : is_pinned k node ≡ false) where
   of_asked unique body x = of_kept x.request.kept body (All-found (λ (e : ℕ × QueuedRequest Purpose). OfReleases e ≡ false) unique k.queues.requests x.request (each_fails OfReleases k.queues.requests unnamed.1) x.under) x.asks
 
   of_sent : (unique : ℕ) (body : RequestBody) → SentAsked k unique body → list_any (nat_eq node) (nodes_of_body body) ≡ false
-  of_sent unique init x = refl
+  of_sent unique (init flags) x = refl
   of_sent unique (asks operation) x = of_asked unique (asks operation) x
   of_sent unique (release o) x = of_asked unique (release o) x
   of_sent unique (forget f) x = refl

@@ -8,20 +8,20 @@ use Rattle.std.specs.List.{remove as without_at}
 use Rattle.fuse_spec.specs.declared.IntrEffect.{IntrEffect}
 use Rattle.fuse_spec.specs.declared.IntrEffect.TheVariants.{Dequeued, Flagged, Queued, None as NoEffect}
 use Rattle.fuse_spec.specs.declared.Opened.{Opened}
-use Rattle.fuse_spec.specs.declared.Phase.TheVariants.{Ready}
 use Rattle.fuse_spec.specs.declared.Purpose.{Purpose}
 use Rattle.fuse_spec.specs.declared.Purpose.TheVariants as purpose
 use Rattle.fuse_spec.specs.Maps.{Map, get, put, remove}
 use Rattle.fuse_spec.specs.Answers.{Answer}
 use Rattle.fuse_spec.specs.Answers as answer
 use Rattle.fuse_spec.specs.Begins.{Beginning, faulty, sets_out, uses, closes, beginning}
-use Rattle.fuse_spec.specs.Calls.{Call}
+use Rattle.fuse_spec.specs.Calls.{Call, spoken}
 use Rattle.fuse_spec.specs.CallReplies.{call_replied, operation_replied}
 use Rattle.fuse_spec.specs.Kernel.{Kernel, kernel_aborted, is_aborted, advanced, after_use, closed_by, call_begun, after_signal, signalled_at, call_signalled, request_of}
 use Rattle.fuse_spec.specs.Messages.{WireReply}
-use Rattle.fuse_spec.specs.Operations.{Operation, getattr, mkdir, create, unlink, rmdir, rename, link, opening, readdir, read, write, Reply, found, missing, created, opened, attributes, listed, content, written, done, failed, files_in_reply}
+use Rattle.fuse_spec.specs.Operations.{Operation, getattr, mkdir, create, unlink, rmdir, rename, link, opening, readdir, readdirplus, read, write, Reply, found, missing, created, opened, attributes, listed, listed_plus, content, written, done, failed, files_in_reply}
 use Rattle.fuse_spec.specs.QueueCalls.{waiting, without, after_interrupt, interrupt_effect}
-use Rattle.fuse_spec.specs.Replies.{kernel_reply, Use, usable, useless, stale, use_of_all, goes_with, is_agreement, judged, replied, replied_to_call, ended_by, reply_taken, odd_taken, interrupt_replied, reply_written, learnt}
+use Rattle.fuse_spec.specs.Queues.{QueueState}
+use Rattle.fuse_spec.specs.Replies.{kernel_reply, Use, usable, useless, stale, goes_with, is_agreement, judged, replied, replied_to_call, ended_by, reply_taken, odd_taken, interrupt_replied, reply_written, learnt, heard, without_stale, reply_judged, use_of_reply, made_ready}
 use Rattle.fuse_spec.specs.Vfs.{asked, CallState, walking, doing, using, Vfs, answered, asking, look, numbered, bound, begun, after_beginning, after_walk, all_answered, given_up}
 use Rattle.fuse_spec.specs.Walks.{Walked, looks_up, finds_none, asks, walk}
 use Rattle.fuse_spec.specs.Taking.{taking}
@@ -100,6 +100,7 @@ operation_more c call (rmdir d name) done = answered_more c call _
 operation_more c call (rename d old e new) done = answered_more c call _
 operation_more c call (opening file) (opened o) = answered_more c call _
 operation_more c call (readdir d after size) (listed records) = answered_more c call _
+operation_more c call (readdirplus d after size) (listed_plus pairs) = answered_more c call _
 operation_more c call (read o offset size) (content bytes) = answered_more c call _
 operation_more c call (write o offset bytes) (written size) = answered_more c call _
 operation_more c call operation reply = answered_more c call _
@@ -138,19 +139,19 @@ module _ (k : Kernel) where
       by None = as_many k.vfs
       by (Some unique) = effect unique (interrupt_effect k.queues unique fatal)
 
-  judged_more : (call : ℕ) (state : CallState Opened) (wire : WireReply) (u : Use) → OneMore k.vfs (judged k call state wire u).vfs
-  judged_more call state wire usable =
+  judged_more : (q : QueueState Purpose) (call : ℕ) (state : CallState Opened) (wire : WireReply) (u : Use) → OneMore k.vfs (judged (record k { queues = q }) call state wire u).vfs
+  judged_more q call state wire usable =
       let next = call_replied k.vfs call state (kernel_reply (asked state) wire) in
-      subst (OneMore k.vfs) (sym (advanced_vfs (record k { nodes = learnt k.nodes (files_in_reply wire) }) call next)) (replied_more k.vfs call state (kernel_reply (asked state) wire))
-  judged_more call state wire useless = answered_more k.vfs call (answer.failed 5)
-  judged_more call state wire (stale node) = answered_more k.vfs call (answer.failed 5)
+      subst (OneMore k.vfs) (sym (advanced_vfs (record k { queues = q; nodes = learnt k.nodes (files_in_reply wire) }) call next)) (replied_more k.vfs call state (kernel_reply (asked state) wire))
+  judged_more q call state wire useless = answered_more k.vfs call (answer.failed 5)
+  judged_more q call state wire (stale node) = answered_more k.vfs call (answer.failed 5)
 
   hears_more : (call : ℕ) (wire : WireReply) (o : Option (CallState Opened)) → OneMore k.vfs (replied_to_call k call wire o).1.vfs
   hears_more call wire None = as_many k.vfs
   hears_more call wire (Some state) = by (goes_with (asked state) wire)
     where
       by : (b : Bool) → OneMore k.vfs (replied k call state b wire).1.vfs
-      by true = let u = use_of_all k.nodes (files_in_reply wire) in used_more state (judged k call state wire u) (judged_more call state wire u)
+      by true = used_more state (heard k call state wire) (judged_more (without_stale k wire).queues call state (reply_judged k.nodes wire) (use_of_reply k.nodes wire))
       by false = used_more state (record k { vfs = answered k.vfs call (answer.failed 5) }) (answered_more k.vfs call (answer.failed 5))
 
 written_more : (k : Kernel) (unique : ℕ) (wire : WireReply) → OneMore k.vfs (reply_written k unique wire).1.vfs
@@ -159,7 +160,7 @@ written_more k unique wire = by (nat_eq (unique % 2) 1)
     ended : (q : Kernel) (kept : Purpose) → OneMore q.vfs (ended_by q kept wire).1.vfs
     ended q purpose.Init = agreed_or (is_agreement wire)
       where
-        agreed_or : (b : Bool) → OneMore q.vfs (cond b (record q { phase = Ready }) (kernel_aborted q)).vfs
+        agreed_or : (b : Bool) → OneMore q.vfs (cond b (made_ready q wire) (kernel_aborted q)).vfs
         agreed_or true = as_many q.vfs
         agreed_or false = given_up_more q.vfs
     ended q (purpose.Release o) = as_many q.vfs
@@ -189,10 +190,10 @@ sent_more w number unique None = as_many w.kernel.vfs
 sent_more w number unique (Some wire) = as_many w.kernel.vfs
 
 by_event : (choice : ℕ → ℕ) (w : World) (e : Event) (o : Outcome) (after : World) → Happened choice w e o after → OneMore w.kernel.vfs after.kernel.vfs
-by_event choice w e o after (by_mount f m idle) = given_up_more w.kernel.vfs
-by_event choice w e o after (by_call call ready room within) = begins_more w.kernel call
+by_event choice w e o after (by_mount f m v idle) = given_up_more w.kernel.vfs
+by_event choice w e o after (by_call call ready room within) = begins_more w.kernel (spoken w.kernel.lists_files call)
 by_event choice w e o after (by_read_interrupt original rest live there within) = as_many w.kernel.vfs
-by_event choice w e o after (by_read_forgets n live free can within) = as_many w.kernel.vfs
+by_event choice w e o after (by_read_forgets n live free can within few) = as_many w.kernel.vfs
 by_event choice w e o after (by_read_pending k unique kept body live free there says within) = as_many w.kernel.vfs
 by_event choice w e o after (by_take k q there within) =
     let took = taking w.server q.unique q.body in

@@ -45,6 +45,7 @@ module _ {F O G P : Type 0} (R : F → G → Type 0) (S : O → P → Type 0) wh
     pub operation_alike : (a : FinalOperation F) (b : FinalOperation G) (x : F) (y : G) → FinalAlike R a b → R x y → OperationAlike {O = O} {P = P} R S (operation_at a x) (operation_at b y)
     operation_alike final.stat final.stat x y h r = r
     operation_alike (final.list after) (final.list after') x y h r = (r, h, refl)
+    operation_alike (final.listplus after) (final.listplus after') x y h r = (r, h, refl)
     operation_alike final.opening final.opening x y h r = r
     operation_alike (final.mkdir name) (final.mkdir other) x y h r = (r, h)
     operation_alike (final.create name) (final.create other) x y h r = (r, h)

@@ -61,6 +61,8 @@ module _ (w : World) (answers : Map Answer) where
           copies = old.copies;
         };
     validity = same.validity;
+    minor = same.minor;
+    agreed = same.agreed;
     aborted = same.aborted;
   }
 

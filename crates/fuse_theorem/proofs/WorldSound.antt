@@ -35,7 +35,7 @@ pub needs_met : (w : World) → WorldSound w → (choice : ℕ → ℕ) (p : Pla
 needs_met w s choice p e no_more = by e no_more
   where
     by : (x : Event) → NeedsNoMore x → Needs choice w p x
-    by (event.mount f m) _ = s.rooted
+    by (event.mount f m v) _ = s.rooted
     by (event.call call) _ = let lookups = s.lookups in let server = lookups.server in (lookups.numbers, one_to_one w.kernel.nodes w.server.nodes (one_id w.server.nodes server.nodes))
     by event.read_interrupt _ = s.queues
     by (event.read_forgets n) _ = s.queues

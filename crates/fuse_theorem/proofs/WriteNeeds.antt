@@ -6,7 +6,7 @@ use Rattle.fuse_spec.specs.declared.Purpose.{Purpose}
 use Rattle.fuse_spec.specs.declared.Purpose.TheVariants as purpose
 use Rattle.fuse_spec.specs.declared.QueuedRequest.{QueuedRequest}
 use Rattle.fuse_spec.specs.Maps.{get}
-use Rattle.fuse_spec.specs.Operations.{Reply, files_in_reply}
+use Rattle.fuse_spec.specs.Operations.{Reply}
 use Rattle.fuse_spec.specs.Vfs.{CallState, asked}
 use Rattle.fuse_spec.specs.QueueCalls.{waiting}
 use Rattle.fuse_spec.specs.Kernel.{is_live, is_for}
@@ -31,7 +31,8 @@ use Rattle.fuse_theorem.proofs.Cases.{same_operation, same_reply}
 use Rattle.fuse_theorem.proofs.Finding.{same_is, none_passes, found_one, All-found}
 use Rattle.fuse_theorem.proofs.LinksSound.{AgreesToInit, none_at, init_is_first}
 use Rattle.fuse_theorem.proofs.Queuing.{All-at}
-use Rattle.fuse_theorem.proofs.RepliesGo.{wire_goes, wire_opens, all_usable}
+use Rattle.fuse_theorem.proofs.Judging.{reply_usable}
+use Rattle.fuse_theorem.proofs.RepliesGo.{wire_goes, wire_opens}
 use Rattle.fuse_theorem.proofs.ServerSound.{one_id}
 
 module _ (w : World) (p : Plain) (sound : WorldSound w) (asked_so : RequestsAskedWhileLive w) (links : LinksSound w) (served : AsksServed p) (same : Alike w p) (live : is_live w.kernel.phase ≡ true) (k : ℕ) (sent : Sent)
@@ -100,7 +101,7 @@ module _ (w : World) (p : Plain) (sound : WorldSound w) (asked_so : RequestsAske
             stage = stage;
             told = says;
             goes = wire_goes (MeansIn w) (MeansOpenIn w) w.server.nodes w.server.handles (asked state) pair.ask.operation sent.wire reply pair.same says so;
-            used = all_usable w.kernel.nodes w.server.nodes (λ id node at. let known = balanced.known id node at in known.2) (files_in_reply sent.wire) entries;
+            used = reply_usable w.server.nodes w.kernel.nodes (λ id node at. let known = balanced.known id node at in known.2) sent.wire entries;
             opens = wire_opens w.kernel.nodes w.server.nodes w.server.handles one_file (MeansOpenIn w) (asked state) pair.ask.operation sent.wire reply (same_operation (MeansIn w) (MeansOpenIn w) (asked state) pair.ask.operation pair.same)
                 (same_reply (Names w.server.nodes) (Opens w.server.handles) sent.wire reply says) so;
           }
@@ -142,7 +143,7 @@ module _ (w : World) (p : Plain) (sound : WorldSound w) (asked_so : RequestsAske
   even_hears even (Some purpose.Init) waits =
       let request = waiting_is w.kernel.queues sent.unique purpose.Init waits in
       let first = init_is_first w.kernel (asked_so live).first sent.unique request.request request.under request.serves in
-      each.of_init numbered live even waits (All-at AgreesToInit w.replies k sent (links.agreed live).copies there first)
+      each.of_init numbered live even waits (All-at (AgreesToInit w.server.minor) w.replies k sent (links.agreed live).copies there first)
   even_hears even (Some (purpose.Release o)) waits = each.of_release o numbered live even waits
   even_hears even (Some (purpose.Call call)) waits = call_hears call waits even
 

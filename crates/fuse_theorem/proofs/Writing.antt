@@ -46,6 +46,8 @@ unsent_alike w p same k results = record {
         copies = All-without (λ (sent : Sent). (ask : Ask) → get p.asks sent.unique ≡ Some ask → StageTold w.server.nodes w.server.handles ask.stage sent.wire) w.replies k old.copies;
       };
   validity = same.validity;
+  minor = same.minor;
+  agreed = same.agreed;
   aborted = same.aborted;
 }
 
@@ -90,7 +92,7 @@ module _ (w : World) (p : Plain) (numbered : IsNumbered w) (one : IsOneToOne (Me
   stepped : (c : Advance Opened) (d : Advance ℕ) → ask.stage ≢ waiting → AdvanceAlike (MeansIn w) (MeansOpenIn w) one c d → StepsAlone w.kernel.vfs.calls w.kernel.vfs.next_call call c
       → Alike (record w { kernel = advanced k1 call c }) (going_on p1 w.kernel.queues.next call d)
   stepped c d over alike alone =
-      advanced_alike w1 p1 call numbered1 (paused over) one same.tree same.validity w.kernel.vfs.next_call c d alike alone (λ a e. live) same.aborted
+      advanced_alike w1 p1 call numbered1 (paused over) one same.tree same.validity same.minor same.agreed w.kernel.vfs.next_call c d alike alone (λ a e. live) same.aborted
 
   label_free : get p.asks w.kernel.queues.next ≡ None
   label_free = next_unasked w p numbered.queues same live

@@ -1,4 +1,4 @@
--- All that is true of the world and the plain world, whatever list of events led to them.
+-- All that is true of the world and the plain world, whatever list of events led to them: the inductive invariant.
 use Rattle.fuse_spec.specs.Plain.{Plain}
 use Rattle.fuse_spec.specs.Worlds.{World}
 use Rattle.fuse_theorem.specs.EveryList.{BothSound}

@@ -32,7 +32,7 @@ pub record IsInterrupted (k : Kernel) (unique : ℕ) : Type 0 where
 
 -- A request on the link is its kernel's. A FORGET has no reply, so none awaits it; an INTERRUPT is one of a request that was interrupted.
 abbrev pub SentAsked : Kernel → ℕ → RequestBody → Type 0
-SentAsked k unique init = IsAsked k unique init
+SentAsked k unique (init flags) = IsAsked k unique (init flags)
 SentAsked k unique (asks operation) = IsAsked k unique (asks operation)
 SentAsked k unique (release o) = IsAsked k unique (release o)
 SentAsked k unique (forget f) = Unit {0}

@@ -1,11 +1,12 @@
 -- What the laws on single events need of the world.
-use Rattle.std.specs.Prelude.{Contains, ◌≡◌, ◌≢◌, ◌≤◌, ◌+◌, ◌-◌, ◌%◌, ℕ, Option, cond, All, true, false, Some, None, nat_eq, count_by, slice_get}
+use Rattle.std.specs.Prelude.{Contains, ◌≡◌, ◌≢◌, ◌≤◌, ◌+◌, ◌-◌, ◌%◌, ℕ, [], Option, cond, All, true, false, Some, None, nat_eq, count_by, slice_get}
 use Rattle.fuse_spec.specs.declared.Entry.{Entry}
 use Rattle.fuse_spec.specs.declared.Opened.{Opened}
 use Rattle.fuse_spec.specs.declared.Purpose.{Purpose}
 use Rattle.fuse_spec.specs.declared.Purpose.TheVariants as purpose
 use Rattle.fuse_spec.specs.declared.QueuedRequest.{QueuedRequest}
-use Rattle.fuse_spec.specs.Maps.{get}
+use Rattle.fuse_spec.specs.declared.Counted.{Counted}
+use Rattle.fuse_spec.specs.Maps.{Map, get}
 use Rattle.fuse_spec.specs.Numbers.{eintr}
 use Rattle.fuse_spec.specs.Operations.{Operation, Reply, opening, created, opened, failed, files_in_reply, opens_in_reply}
 use Rattle.fuse_spec.specs.Vfs.{CallState, asked}
@@ -15,7 +16,7 @@ use Rattle.fuse_spec.specs.Nodes.{NodeTable, HandleTable, file_of, is_open}
 use Rattle.std.specs.List.{list_any}
 use Rattle.fuse_spec.specs.Counts.{opens_of, opens_of_body}
 use Rattle.fuse_spec.specs.Server.{Server, HeldRequest, Kept, nodes_of_body}
-use Rattle.fuse_spec.specs.Replies.{goes_with, usable, use_of_all}
+use Rattle.fuse_spec.specs.Replies.{goes_with, usable, learnt, reply_judged, use_of_reply, stale_in_reply}
 use Rattle.fuse_spec.specs.Performs.{is_still_held}
 use Rattle.fuse_spec.specs.Kernel.{Kernel}
 use Rattle.fuse_spec.specs.QueueCalls.{waiting}
@@ -71,6 +72,13 @@ pub record CanRelease (w : World) (unique : ℕ) (t : HeldRequest) (o : Opened) 
   pub still : is_still_held w.server.nodes t.generations ≡ true
   pub number : is_open w.server.handles o.fh (file_of w.server.nodes o.nodeid) ≡ true
 
+-- The entries of a reply can be used: the kernel takes the reply as it is, forgets nothing for it, and then knows each node under its entry's generation.
+pub record IsUsable (nodes : Map Counted) (wire : WireReply) : Type 0 where
+  pub judged : reply_judged nodes wire ≡ wire
+  pub none_stale : stale_in_reply nodes wire ≡ []
+  pub is_usable : use_of_reply nodes wire ≡ usable
+  pub known : All (λ (g : Entry). generation_known (learnt nodes (files_in_reply wire)) g.nodeid ≡ Some g.generation) (files_in_reply wire)
+
 -- A copy that replies to the request of an unanswered call, whose ask was performed: it goes with the operation, and its entries can be used.
 pub record IsReply (w : World) (p : Plain) (sent : Sent) (call : ℕ) (state : CallState Opened) (reply : Reply ℕ ℕ) : Type 0 where
   pub request : QueuedRequest Purpose
@@ -84,7 +92,7 @@ pub record IsReply (w : World) (p : Plain) (sent : Sent) (call : ℕ) (state : C
   pub stage : ask.stage ≡ plain.performed reply
   pub told : ReplyAlike (Names w.server.nodes) (Opens w.server.handles) sent.wire reply
   pub goes : goes_with (asked state) sent.wire ≡ true
-  pub used : use_of_all w.kernel.nodes (files_in_reply sent.wire) ≡ usable
+  pub used : IsUsable w.kernel.nodes sent.wire
   pub opens : OpensItsFile w.server.nodes w.server.handles (asked state) sent.wire
 
 -- A copy that says EINTR of an unanswered call's request, whose ask was declined.

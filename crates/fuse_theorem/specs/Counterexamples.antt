@@ -1,5 +1,6 @@
 -- Worlds in which a law fails once one of its premises is left out.
-use Rattle.std.specs.Prelude.{false, List, [], ◌∷◌}
+use Rattle.std.specs.Prelude.{true, false, List, [], ◌∷◌}
+use Rattle.fuse_spec.specs.declared.Minor.TheVariants.{M31}
 use Rattle.fuse_spec.specs.declared.Phase.TheVariants.{Ready}
 use Rattle.fuse_spec.specs.Answers.{failed as failed_with}
 use Rattle.fuse_spec.specs.Events.{Event}
@@ -14,7 +15,7 @@ use Rattle.fuse_spec.specs.Worlds.{World, first_world, after_tick}
 
 -- A live mount with a FORGET on its way, of a node that the server does not hold.
 abbrev pub with_a_stray_forget : World
-with_a_stray_forget = record first_world { kernel = record first_world.kernel { phase = Ready }; requests = record { unique = 2; body = forget (2, 1) } ∷ [] }
+with_a_stray_forget = record first_world { kernel = record first_world.kernel { phase = Ready; minor = M31; lists_files = true }; requests = record { unique = 2; body = forget (2, 1) } ∷ [] }
 
 -- A live mount in which call 1 is unanswered, while an answer of it waits.
 abbrev pub with_an_early_answer : World

@@ -7,16 +7,17 @@ use Rattle.fuse_spec.specs.declared.Purpose.{Purpose}
 use Rattle.fuse_spec.specs.declared.Purpose.TheVariants.{Init, Release, Call}
 use Rattle.fuse_spec.specs.declared.ReplyResult.{ReplyResult}
 use Rattle.fuse_spec.specs.Maps.{get, remove}
-use Rattle.fuse_spec.specs.Operations.{Operation, Reply, agreed, files_in_reply}
+use Rattle.fuse_spec.specs.Operations.{Operation, Reply, files_in_reply}
 use Rattle.fuse_spec.specs.FileOperations.{reply_by}
 use Rattle.fuse_spec.specs.Vfs.{CallState, Vfs}
 use Rattle.fuse_spec.specs.Queues.{IsSound}
 use Rattle.fuse_spec.specs.QueueCalls.{waiting}
+use Rattle.fuse_spec.specs.Numbers.{init_flags}
 use Rattle.fuse_spec.specs.Messages.{Request, RequestBody, init, asks, release, forget, batch_forget, interrupt}
 use Rattle.fuse_spec.specs.Kernel.{is_live}
 use Rattle.fuse_spec.specs.Nodes.{MayChoose, handle_back}
 use Rattle.fuse_spec.specs.Server.{HeldRequest, Copy, all_taken_back}
-use Rattle.fuse_spec.specs.Performs.{is_still_held}
+use Rattle.fuse_spec.specs.Performs.{is_still_held, init_reply}
 use Rattle.fuse_spec.specs.Worlds.{World, Sent, after_settle}
 use Rattle.fuse_spec.specs.Events.{Event, Outcome}
 use Rattle.fuse_spec.specs.Events as event
@@ -38,7 +39,7 @@ pub record IsRooted (c : Vfs Opened) : Type 0 where
 
 -- A request that the server can hold, or an INTERRUPT or forgets that it can take.
 abbrev pub CanTake : World → Plain → ℕ → Request → RequestBody → Type 0
-CanTake w p k r init = Unit {0}
+CanTake w p k r (init flags) = Unit {0}
 CanTake w p k r (asks operation) = Unit {0}
 CanTake w p k r (release o) = Unit {0}
 CanTake w p k r (forget f) = OneId w.server.nodes × HoldsAll w (all_taken_back w.server.nodes (f ∷ []))
@@ -51,7 +52,7 @@ pub data CanServe (choice : ℕ → ℕ) (w : World) (p : Plain) (unique : ℕ) 
       → ((ask : Ask) → get p.asks unique ≡ Some ask → MayChoose choice w.server.nodes (files_in_reply (reply_by p.validity p.tree ask.operation))) → CanServe choice w p unique t
   performs_unheard : (operation : Operation ℕ Opened) → CanPerform w unique t operation → w.server.aborted ≡ true → IsOneToOne (MeansIn w) → CanServe choice w p unique t
   declines : (operation : Operation ℕ Opened) → CanDecline w unique t operation → CanServe choice w p unique t
-  initiates : t.body ≡ init → t.marked ≡ false → is_still_held w.server.nodes t.generations ≡ true → CanServe choice w p unique t
+  initiates : (flags : ℕ) → t.body ≡ init flags → t.marked ≡ false → is_still_held w.server.nodes t.generations ≡ true → CanServe choice w p unique t
   releases : (o : Opened) → CanRelease w unique t o → OneId w.server.nodes → HoldsAll (record w { server = record w.server { held = remove w.server.held unique } }) w.server.nodes
       → HoldsOpens (record w { server = record w.server { held = remove w.server.held unique } }) (handle_back w.server.handles o.fh) → CanServe choice w p unique t
 
@@ -60,7 +61,7 @@ pub data CanHear (w : World) (p : Plain) (sent : Sent) : Type 0 where
   nothing : awaiting w.kernel sent.unique ≡ None → CanHear w p sent
   of_interrupt : (kept : Purpose) → IsNumbered w → is_live w.kernel.phase ≡ true → nat_eq (sent.unique % 2) 1 ≡ true → waiting w.kernel.queues (sent.unique - 1) ≡ Some kept → CanHear w p sent
   of_release : (o : Opened) → IsNumbered w → is_live w.kernel.phase ≡ true → nat_eq (sent.unique % 2) 1 ≡ false → waiting w.kernel.queues sent.unique ≡ Some (Release o) → CanHear w p sent
-  of_init : IsNumbered w → is_live w.kernel.phase ≡ true → nat_eq (sent.unique % 2) 1 ≡ false → waiting w.kernel.queues sent.unique ≡ Some Init → sent.wire ≡ agreed 7 31 → CanHear w p sent
+  of_init : IsNumbered w → is_live w.kernel.phase ≡ true → nat_eq (sent.unique % 2) 1 ≡ false → waiting w.kernel.queues sent.unique ≡ Some Init → sent.wire ≡ init_reply w.server.minor init_flags → CanHear w p sent
   of_call : (call : ℕ) (state : CallState Opened) (reply : Reply ℕ ℕ) → IsNumbered w → OneId w.server.nodes → is_live w.kernel.phase ≡ true → nat_eq (sent.unique % 2) 1 ≡ false → waiting w.kernel.queues sent.unique ≡ Some (Call call)
       → IsReply w p sent call state reply → CanHear w p sent
   of_declined : (call : ℕ) (state : CallState Opened) → IsNumbered w → OneId w.server.nodes → is_live w.kernel.phase ≡ true → nat_eq (sent.unique % 2) 1 ≡ false → waiting w.kernel.queues sent.unique ≡ Some (Call call) → IsDeclined w p sent call state
@@ -71,7 +72,7 @@ abbrev pub CanSettle : World → ℕ → ReplyResult → Copy → Type 0
 CanSettle w k result copy = HoldsAll (after_settle w k result (Some copy)) (after_settle w k result (Some copy)).server.nodes × HoldsOpens (after_settle w k result (Some copy)) (after_settle w k result (Some copy)).server.handles
 
 abbrev pub Needs : (ℕ → ℕ) → World → Plain → Event → Type 0
-Needs choice w p (event.mount found_ms missing_ms) = IsRooted w.kernel.vfs
+Needs choice w p (event.mount found_ms missing_ms minor) = IsRooted w.kernel.vfs
 Needs choice w p (event.call call) = IsNumberedWhileLive w × IsOneToOne (MeansIn w)
 Needs choice w p event.read_interrupt = IsSound w.kernel.queues
 Needs choice w p (event.read_forgets n) = IsSound w.kernel.queues

@@ -26,7 +26,7 @@ pub record BothSound (w : World) (p : Plain) : Type 0 where
   pub served : AsksServed p
 
 abbrev pub ForgetsNothing : RequestBody → Type 0
-ForgetsNothing init = Unit {0}
+ForgetsNothing (init flags) = Unit {0}
 ForgetsNothing (asks operation) = Unit {0}
 ForgetsNothing (release o) = Unit {0}
 ForgetsNothing (forget f) = ⊥
@@ -38,7 +38,7 @@ abbrev pub NeedsBothAlone : World → Event → Type 0
 NeedsBothAlone w (event.take k) = (r : Request) → slice_get w.requests k ≡ Some r → ForgetsNothing r.body
 NeedsBothAlone w (event.perform unique) = ⊥
 NeedsBothAlone w (event.settle k) = ⊥
-NeedsBothAlone w (event.mount found_ms missing_ms) = Unit {0}
+NeedsBothAlone w (event.mount found_ms missing_ms minor) = Unit {0}
 NeedsBothAlone w (event.call call) = Unit {0}
 NeedsBothAlone w event.read_interrupt = Unit {0}
 NeedsBothAlone w (event.read_forgets n) = Unit {0}

@@ -11,7 +11,7 @@ use Rattle.fuse_theorem.specs.Copies.{SomeHas}
 
 -- The server holds it once it has taken it, until it performs it.
 abbrev pub IsToBeHeld : RequestBody → Type 0
-IsToBeHeld init = Unit {0}
+IsToBeHeld (init flags) = Unit {0}
 IsToBeHeld (asks operation) = Unit {0}
 IsToBeHeld (release o) = Unit {0}
 IsToBeHeld (forget f) = ⊥

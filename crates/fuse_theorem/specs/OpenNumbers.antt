@@ -46,7 +46,7 @@ released_for (purpose.Release o) = o ∷ []
 released_for (purpose.Call call) = []
 
 abbrev pub released_by : RequestBody → List Opened
-released_by init = []
+released_by (init flags) = []
 released_by (asks operation) = []
 released_by (release o) = o ∷ []
 released_by (forget f) = []

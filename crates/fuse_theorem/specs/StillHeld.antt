@@ -12,7 +12,7 @@ use Rattle.fuse_theorem.specs.Lookups.{IsHeldAs}
 
 -- Requests of calls, INIT and RELEASEs are held, and of these only requests of calls are marked.
 abbrev pub IsHeldMarked : Bool → RequestBody → Type 0
-IsHeldMarked marked init = marked ≡ false
+IsHeldMarked marked (init flags) = marked ≡ false
 IsHeldMarked marked (asks operation) = Unit {0}
 IsHeldMarked marked (release o) = marked ≡ false
 IsHeldMarked marked (forget f) = ⊥

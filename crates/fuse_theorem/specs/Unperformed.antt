@@ -20,7 +20,7 @@ StandsOnce w = (unique : ℕ) → unique % 2 ≡ 0 → unperformed w unique ≤ 
 -- An INTERRUPT bears its original's number with the lowest bit set, and any other request an even number.
 abbrev pub BearsNumber : ℕ → RequestBody → Type 0
 BearsNumber unique (interrupt original) = unique ≡ interrupt_number original
-BearsNumber unique init = unique % 2 ≡ 0
+BearsNumber unique (init flags) = unique % 2 ≡ 0
 BearsNumber unique (asks operation) = unique % 2 ≡ 0
 BearsNumber unique (release o) = unique % 2 ≡ 0
 BearsNumber unique (forget f) = unique % 2 ≡ 0

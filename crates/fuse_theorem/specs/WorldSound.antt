@@ -16,7 +16,7 @@ pub record WorldSound (w : World) : Type 0 where
 
 -- A mount, a call, the reading of requests, one more copy, a signal, the time, a name that is dropped, and an abort need no more of the world than that.
 abbrev pub NeedsNoMore : Event → Type 0
-NeedsNoMore (event.mount found_ms missing_ms) = Unit {0}
+NeedsNoMore (event.mount found_ms missing_ms minor) = Unit {0}
 NeedsNoMore (event.call call) = Unit {0}
 NeedsNoMore event.read_interrupt = Unit {0}
 NeedsNoMore (event.read_forgets n) = Unit {0}

@@ -2,6 +2,7 @@
 //! are alike again (`step`). The other laws say that every event keeps what `step` needs of the world.
 
 ghost use Rattle.std.specs.Prelude.{◌≡◌, ℕ};
+ghost use Rattle.fuse_spec.specs.declared.Minor.{Minor};
 ghost use Rattle.fuse_spec.specs.Maps.{get};
 ghost use Rattle.fuse_spec.specs.Queues.{IsSound};
 ghost use Rattle.fuse_spec.specs.Events as event;
@@ -112,13 +113,13 @@ pub fn kept_replies_stay_sent()
 
 /// After a mount, and after an abort, no node means anything but the root.
 pub fn root_alone()
-    ensures { (w : World) (id file : ℕ) → ((found_ms missing_ms : ℕ) → MeansIn (after_mount w found_ms missing_ms) id file → (id ≡ 1) × (file ≡ 0)) × (MeansIn (after_abort w) id file → (id ≡ 1) × (file ≡ 0)) }
+    ensures { (w : World) (id file : ℕ) → ((found_ms missing_ms : ℕ) (minor : Minor) → MeansIn (after_mount w found_ms missing_ms minor) id file → (id ≡ 1) × (file ≡ 0)) × (MeansIn (after_abort w) id file → (id ≡ 1) × (file ≡ 0)) }
 {}
 
 /// After a mount, whatever was there, the world meets the conditions of the other laws on numbers and on the tables.
 pub fn mounted_is_sound()
-    ensures { (w : World) (found_ms missing_ms : ℕ) →
-        IsNumbered (after_mount w found_ms missing_ms) × OneId (after_mount w found_ms missing_ms).server.nodes × KnownAreHeld (after_mount w found_ms missing_ms) × TablesSound (after_mount w found_ms missing_ms).server }
+    ensures { (w : World) (found_ms missing_ms : ℕ) (minor : Minor) →
+        IsNumbered (after_mount w found_ms missing_ms minor) × OneId (after_mount w found_ms missing_ms minor).server.nodes × KnownAreHeld (after_mount w found_ms missing_ms minor) × TablesSound (after_mount w found_ms missing_ms minor).server }
 {}
 
 /// After an abort too, where the server's tables met them, which stay as they were.

@@ -49,8 +49,8 @@ pub fn requests_stay_asked()
     ensures evict { (w : World) → WorldSound w → RequestsAskedWhileLive w → (choice : ℕ → ℕ) (p : Plain) (node : ℕ) (o : Outcome) (after : World) → step choice w (event.evict node) ≡ Ok (o, after) → Needs choice w p (event.evict node) }
 {}
 
-/// While no mount is live, the links are empty, whatever the event; a live one has INIT answered 7.31, so that it stays live until it is aborted. An
-/// INTERRUPT that is taken bears its original's number and one, and a signal was noted on its ask.
+/// While no mount is live, the links are empty, whatever the event; a live one has INIT answered with the minor that the server speaks, so that it
+/// stays live until it is aborted. An INTERRUPT that is taken bears its original's number and one, and a signal was noted on its ask.
 pub fn links_stay_sound()
     ensures at_first { LinksSound first_world }
     ensures always { (w : World) → WorldSound w → RequestsAskedWhileLive w → LinksSound w → (e : Event) (o : Outcome) (after : World) → Happens w e o after → LinksSound after }
@@ -146,8 +146,9 @@ pub fn nodes_stay_held()
     ensures held { (w : World) (p : Plain) → BothSound w p → ReleasesKnown w → TakenServable w.server → NodesHeld w }
 {}
 
-/// Each forget is of a node from 2 up and of one lookup at least, whatever the event. So no request on the link names a node that is gone, gives back more
-/// lookups than the server counts, or bears a number that is held or whose reply is kept.
+/// Each forget is of a node from 2 up and of one lookup at least, and each request asks what the minor of the mount knows, whatever the event. So no request
+/// on the link has an opcode that the server doesn't know, names a node that is gone, gives back more lookups than the server counts, or bears a number that
+/// is held or whose reply is kept.
 pub fn requests_have_no_fault()
     ensures at_first { Faultless first_world }
     ensures always { (w : World) → WorldSound w → RequestsAskedWhileLive w → LinksSound w → Faultless w → (e : Event) (o : Outcome) (after : World) → Happens w e o after → Faultless after }

@@ -37,20 +37,22 @@ word_is_listed word.Show = (omega arith, refl)
 abbrev pub place_of_call : CallForm → ℕ
 place_of_call call.Stat = 0
 place_of_call call.List = 1
-place_of_call call.Open = 2
-place_of_call call.Mkdir = 3
-place_of_call call.Create = 4
-place_of_call call.Unlink = 5
-place_of_call call.Rmdir = 6
-place_of_call call.Rename = 7
-place_of_call call.Link = 8
-place_of_call call.Read = 9
-place_of_call call.Write = 10
-place_of_call call.Close = 11
+place_of_call call.ListPlus = 2
+place_of_call call.Open = 3
+place_of_call call.Mkdir = 4
+place_of_call call.Create = 5
+place_of_call call.Unlink = 6
+place_of_call call.Rmdir = 7
+place_of_call call.Rename = 8
+place_of_call call.Link = 9
+place_of_call call.Read = 10
+place_of_call call.Write = 11
+place_of_call call.Close = 12
 
-pub call_is_listed : (f : CallForm) → (place_of_call f < 12) × (get_or CALL_FORMS (place_of_call f) call.Stat ≡ f)
+pub call_is_listed : (f : CallForm) → (place_of_call f < 13) × (get_or CALL_FORMS (place_of_call f) call.Stat ≡ f)
 call_is_listed call.Stat = (omega arith, refl)
 call_is_listed call.List = (omega arith, refl)
+call_is_listed call.ListPlus = (omega arith, refl)
 call_is_listed call.Open = (omega arith, refl)
 call_is_listed call.Mkdir = (omega arith, refl)
 call_is_listed call.Create = (omega arith, refl)

@@ -1,4 +1,5 @@
 pub mod Hexes
+pub mod Mounts
 pub mod Decimals
 pub mod Forms
 pub mod Numbering

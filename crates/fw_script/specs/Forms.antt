@@ -28,6 +28,7 @@ word_name word.Show = codes "show"
 abbrev pub call_name : CallForm → List ℕ
 call_name call.Stat = codes "stat"
 call_name call.List = codes "list"
+call_name call.ListPlus = codes "listplus"
 call_name call.Open = codes "open"
 call_name call.Mkdir = codes "mkdir"
 call_name call.Create = codes "create"
@@ -57,19 +58,26 @@ pub data Argument : Type 0 where
   text : Argument
   bytes : Argument
   signal : Argument
+  minor : Argument
 
--- what follows a word alone
-abbrev pub after_word : WordForm → List Argument
-after_word word.Mount = number ∷ number ∷ []
-after_word word.Interrupt = number ∷ signal ∷ []
-after_word word.DropName = number ∷ text ∷ []
-after_word word.Abort = []
-after_word word.Show = []
-after_word _ = number ∷ []
+-- what follows `mount`: a third word is a minor
+abbrev pub after_mount : List (List ℕ) → List Argument
+after_mount (found ∷ missing ∷ last ∷ words) = number ∷ number ∷ minor ∷ []
+after_mount words = number ∷ number ∷ []
+
+-- what follows a word alone, where these words do
+abbrev pub after_word : WordForm → List (List ℕ) → List Argument
+after_word word.Mount words = after_mount words
+after_word word.Interrupt words = number ∷ signal ∷ []
+after_word word.DropName words = number ∷ text ∷ []
+after_word word.Abort words = []
+after_word word.Show words = []
+after_word _ words = number ∷ []
 
 -- what follows a call's name
 abbrev pub after_call : CallForm → List Argument
 after_call call.List = text ∷ number ∷ []
+after_call call.ListPlus = text ∷ number ∷ []
 after_call call.Rename = text ∷ text ∷ []
 after_call call.Link = text ∷ text ∷ []
 after_call call.Read = number ∷ number ∷ number ∷ []
@@ -82,8 +90,8 @@ abbrev pub after_read : ReadForm → List Argument
 after_read read.Interrupt = []
 after_read _ = number ∷ []
 
--- what follows the words that a line begins with
-abbrev pub arguments_of : Form → List Argument
-arguments_of (Word f) = after_word f
-arguments_of (Call f) = after_call f
-arguments_of (Read f) = after_read f
+-- what follows the words that a line begins with, where these do
+abbrev pub arguments_of : Form → List (List ℕ) → List Argument
+arguments_of (Word f) words = after_word f words
+arguments_of (Call f) words = after_call f
+arguments_of (Read f) words = after_read f

@@ -1,7 +1,9 @@
 -- Script lines, by their words.
-use Rattle.std.specs.Prelude.{◌≡◌, ◌≢◌, ◌<◌, ◌≤◌, ◌^◌, ℕ, List, [], ◌∷◌, ◌++◌, All, Bool, true, false, codes, decimal, length}
+use Rattle.std.specs.Prelude.{◌≡◌, ◌≢◌, ◌<◌, ◌≤◌, ◌^◌, ℕ, List, [], ◌∷◌, ◌++◌, ◌⊎◌, All, Bool, true, false, codes, decimal, length}
 use Rattle.fw_script.specs.Words.{HasWords}
-use Rattle.fw_script.specs.Forms.{Argument, number, text, bytes, signal, name_of, arguments_of}
+use Rattle.fuse_spec.specs.declared.Minor.{Minor}
+use Rattle.fuse_spec.specs.declared.Minor.TheVariants.{M15, M31}
+use Rattle.fw_script.specs.Forms.{Argument, number, text, bytes, signal, minor, name_of, arguments_of}
 use Rattle.fw_script.specs.HexTexts.{IsHexOrNone, hex_or_none}
 use Rattle.fw_script.specs.declared.form.Form.{Form}
 use Rattle.fw_script.specs.declared.line.LineFault.{LineFault}
@@ -31,6 +33,14 @@ signal_word false = codes "soft"
 abbrev pub IsSignal : List ℕ → Type 0
 IsSignal word = (fatal : Bool) × (word ≡ signal_word fatal)
 
+-- a minor as it is written
+abbrev pub minor_word : Minor → List ℕ
+minor_word M15 = codes "15"
+minor_word M31 = codes "31"
+
+abbrev pub IsMinor : List ℕ → Type 0
+IsMinor word = (m : Minor) × (word ≡ minor_word m)
+
 -- a fact of each word, by what it has to be
 abbrev pub AllAre : (Argument → List ℕ → Type 0) → List Argument → List (List ℕ) → Type 0
 AllAre P (argument ∷ arguments) (word ∷ words) = P argument word × AllAre P arguments words
@@ -42,6 +52,7 @@ IsSignalAt argument word = Unit {0}
 
 abbrev pub IsNumberAt : Argument → List ℕ → Type 0
 IsNumberAt number word = IsNumber word
+IsNumberAt minor word = IsMinor word
 IsNumberAt argument word = Unit {0}
 
 abbrev pub IsTextAt : Argument → List ℕ → Type 0
@@ -57,6 +68,7 @@ IsShaped arguments words = HasWords (length arguments) words × AllAre IsSignalA
 abbrev pub spelled_call : Call → List (List ℕ)
 spelled_call (call.Stat path) = codes "stat" ∷ path.now ∷ []
 spelled_call (call.List path after) = codes "list" ∷ path.now ∷ decimal after ∷ []
+spelled_call (call.ListPlus path after) = codes "listplus" ∷ path.now ∷ decimal after ∷ []
 spelled_call (call.Open path) = codes "open" ∷ path.now ∷ []
 spelled_call (call.Mkdir path) = codes "mkdir" ∷ path.now ∷ []
 spelled_call (call.Create path) = codes "create" ∷ path.now ∷ []
@@ -76,7 +88,7 @@ spelled_pick (pick.Pending place) = codes "p" ∷ decimal place ∷ []
 
 -- the words of the line that names an event
 abbrev pub spelled_event : Event → List (List ℕ)
-spelled_event (event.Mount found missing) = codes "mount" ∷ decimal found ∷ decimal missing ∷ []
+spelled_event (event.Mount found missing m) = codes "mount" ∷ decimal found ∷ decimal missing ∷ minor_word m ∷ []
 spelled_event (event.Call c) = codes "call" ∷ spelled_call c
 spelled_event (event.Read p) = codes "read" ∷ spelled_pick p
 spelled_event (event.Take place) = codes "take" ∷ decimal place ∷ []
@@ -101,6 +113,7 @@ spelled line.Show = codes "show" ∷ []
 abbrev pub HasTexts : Call → Type 0
 HasTexts (call.Stat path) = IsText path.now
 HasTexts (call.List path after) = IsText path.now
+HasTexts (call.ListPlus path after) = IsText path.now
 HasTexts (call.Open path) = IsText path.now
 HasTexts (call.Mkdir path) = IsText path.now
 HasTexts (call.Create path) = IsText path.now
@@ -117,8 +130,14 @@ IsWritten (line.Event (event.DropName directory name)) = IsText name.now
 IsWritten (line.CallWrite handle offset hex) = IsHexOrNone hex.now
 IsWritten other = Unit {0}
 
+-- the last words of a mount at this minor: 31 may be left out
+abbrev pub EndsAt : Minor → List (List ℕ) → Type 0
+EndsAt M15 words = words ≡ minor_word M15 ∷ []
+EndsAt M31 words = (words ≡ []) ⊎ (words ≡ minor_word M31 ∷ [])
+
 -- these are the words of the line
 abbrev pub Names : Line → List (List ℕ) → Type 0
+Names (line.Event (event.Mount found missing m)) words = (last : List (List ℕ)) × (words ≡ codes "mount" ∷ decimal found ∷ decimal missing ∷ last) × EndsAt m last
 Names l words = (words ≡ spelled l) × IsWritten l
 
 -- what is wrong with the words that follow a form's, the first fault in order: their count, an empty
@@ -134,4 +153,4 @@ ArgumentFaultIs arguments words faults.BadText =
 abbrev pub FaultIs : List (List ℕ) → LineFault → Type 0
 FaultIs words faults.UnknownEvent = (f : Form) (rest : List (List ℕ)) → words ≢ name_of f ++ rest
 FaultIs words fault =
-    (f : Form) × (rest : List (List ℕ)) × (words ≡ name_of f ++ rest) × ArgumentFaultIs (arguments_of f) rest fault
+    (f : Form) × (rest : List (List ℕ)) × (words ≡ name_of f ++ rest) × ArgumentFaultIs (arguments_of f rest) rest fault

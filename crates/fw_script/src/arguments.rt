@@ -1,15 +1,16 @@
 //! The words that follow the form of a line, as numbers, texts, hex and signals.
 
-ghost use Rattle.std.specs.Prelude.{◌≡◌, ◌∷◌, ◌↔◌, [], IsTrue, MatchOption, MatchResult, decimal, option_copied};
-ghost use Rattle.fw_script.specs.Forms.{bytes, number, signal, text};
+ghost use Rattle.std.specs.Prelude.{◌≡◌, ◌∷◌, ◌↔◌, [], ℕ, IsTrue, List, MatchOption, MatchResult, decimal, option_copied};
+ghost use Rattle.fw_script.specs.Forms.{after_mount, bytes, number, signal, text};
 ghost use Rattle.fw_script.specs.HexTexts.{IsHexOrNone};
-ghost use Rattle.fw_script.specs.Lines.{ArgumentFaultIs, IsSignal, IsText, signal_word};
+ghost use Rattle.fw_script.specs.Lines.{ArgumentFaultIs, EndsAt, IsMinor, IsSignal, IsText, minor_word, signal_word};
 ghost use Rattle.fw_script.specs.Words.{words_left};
 
 use crate::hex_text::is_hex_or_none;
 use crate::line::LineFault;
 use crate::number::read_number;
 use crate::word::{one_word, three_words, two_words};
+use fuse_spec::Minor;
 
 /// Whether a word is made of bytes from 33 to 126.
 fn is_text(word: &[u8]) -> bool
@@ -66,6 +67,33 @@ pub(crate) fn two_numbers(rest: Option<&[u8]>) -> Result<(u64, u64), LineFault>
     };
     match (read_number(first), read_number(second)) {
         (Some(first), Some(second)) => Ok((first, second)),
+        _ => Err(LineFault::BadNumber),
+    }
+}
+
+/// The minor that a word says.
+fn read_minor(word: &[u8]) -> Option<Minor>
+    ensures { MatchOption result (¬ (IsMinor word.now)) (λ m. word.now ≡ minor_word m) }
+{
+    match word {
+        b"15" => Some(Minor::M15),
+        b"31" => Some(Minor::M31),
+        _ => None,
+    }
+}
+
+/// The numbers that a rest of two words is, and the minor that a third word says; it is 31 where there is none.
+pub(crate) fn two_numbers_and_minor(rest: Option<&[u8]>) -> Result<(u64, u64, Minor), LineFault>
+    ensures { let words = words_left (option_copied rest.entry) in MatchResult result
+        (λ three. (last : List (List ℕ)) × (words ≡ decimal three.0 ∷ decimal three.1 ∷ last) × EndsAt three.2 last)
+        (ArgumentFaultIs (after_mount words) words) }
+{
+    let Some((first, second, third)) = three_words(rest) else {
+        let (first, second) = two_numbers(rest)?;
+        return Ok((first, second, Minor::M31));
+    };
+    match (read_number(first), read_number(second), read_minor(third)) {
+        (Some(first), Some(second), Some(minor)) => Ok((first, second, minor)),
         _ => Err(LineFault::BadNumber),
     }
 }

@@ -36,6 +36,7 @@ pub(crate) enum WordForm {
 pub(crate) enum CallForm {
     Stat,
     List,
+    ListPlus,
     Open,
     Mkdir,
     Create,
@@ -71,9 +72,10 @@ const WORD_FORMS: [WordForm; 12] = [
     WordForm::Show,
 ];
 
-const CALL_FORMS: [CallForm; 12] = [
+const CALL_FORMS: [CallForm; 13] = [
     CallForm::Stat,
     CallForm::List,
+    CallForm::ListPlus,
     CallForm::Open,
     CallForm::Mkdir,
     CallForm::Create,
@@ -113,6 +115,7 @@ fn name_of_call(form: CallForm) -> &'static [u8]
     match form {
         CallForm::Stat => b"stat",
         CallForm::List => b"list",
+        CallForm::ListPlus => b"listplus",
         CallForm::Open => b"open",
         CallForm::Mkdir => b"mkdir",
         CallForm::Create => b"create",

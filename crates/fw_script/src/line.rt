@@ -7,7 +7,7 @@ ghost use Rattle.fw_script.specs.Words.{words_left, words_of};
 
 use crate::arguments::{
     no_words, number_and_signal, number_and_text, one_number, one_text, text_and_number,
-    three_numbers, two_numbers, two_numbers_and_hex, two_texts,
+    three_numbers, two_numbers_and_hex, two_numbers_and_minor, two_texts,
 };
 use crate::form::{CallForm, Form, ReadForm, WordForm, split_form};
 use fw_world::{Call, Event, Pick};
@@ -19,7 +19,7 @@ pub enum LineFault {
     UnknownEvent,
     /// Too few words or too many, an empty one, or one in a signal's place that is none.
     WrongWords,
-    /// A word is no decimal number below 2^64, or begins with a needless zero.
+    /// A word is no decimal number below 2^64, or begins with a needless zero, or a mount's third is neither 15 nor 31.
     BadNumber,
     /// A path or a name has a byte outside 33 to 126, or hex is no pairs of lower-case digits.
     BadText,
@@ -44,14 +44,15 @@ pub enum Line<'a> {
 fn line_of_word(form: WordForm, rest: Option<&[u8]>) -> Result<Line<'_>, LineFault>
     ensures { let words = words_left (option_copied rest.entry) in MatchResult result
         (λ l. Names l (word_name form ∷ words))
-        (ArgumentFaultIs (after_word form) words) }
+        (ArgumentFaultIs (after_word form words) words) }
 {
     let event = match form {
         WordForm::Mount => {
-            let (found_ms, missing_ms) = two_numbers(rest)?;
+            let (found_ms, missing_ms, minor) = two_numbers_and_minor(rest)?;
             Event::Mount {
                 found_ms,
                 missing_ms,
+                minor,
             }
         }
         WordForm::Take => Event::Take(one_number(rest)?),
@@ -94,6 +95,10 @@ fn line_of_call(form: CallForm, rest: Option<&[u8]>) -> Result<Line<'_>, LineFau
         CallForm::List => {
             let (path, after) = text_and_number(rest)?;
             Call::List { path, after }
+        }
+        CallForm::ListPlus => {
+            let (path, after) = text_and_number(rest)?;
+            Call::ListPlus { path, after }
         }
         CallForm::Open => Call::Open {
             path: one_text(rest)?,

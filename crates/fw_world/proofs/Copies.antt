@@ -9,6 +9,8 @@ use Rattle.fk_wire.specs.Fields.{number_at}
 use Rattle.fk_wire.specs.Replies.{reply_body, IsErrorNumber}
 use Rattle.fk_wire.proofs.OneRequest.{within}
 use Rattle.fk_wire.proofs.OneReply.{error_fits}
+use Rattle.fuse_spec.specs.Numbers.{init_flags}
+use Rattle.fuse_spec.specs.Performs.{init_reply}
 use Rattle.fuse_spec.specs.declared.Opened.{Opened}
 use Rattle.fuse_spec.specs.declared.Purpose.{Purpose}
 use Rattle.fuse_spec.specs.declared.Refusal.{Refusal}
@@ -18,7 +20,7 @@ use Rattle.fuse_spec.specs.declared.WriteResult.{WriteResult}
 use Rattle.fuse_spec.specs.declared.WriteResult.TheVariants.{NoEntry}
 use Rattle.fuse_spec.specs.Maps.{get}
 use Rattle.fuse_spec.specs.Operations as op
-use Rattle.fuse_spec.specs.Operations.{Operation, lookup, getattr, mkdir, create, unlink, rmdir, rename, link, opening, readdir, read, write}
+use Rattle.fuse_spec.specs.Operations.{Operation, lookup, getattr, mkdir, create, unlink, rmdir, rename, link, opening, readdir, readdirplus, read, write}
 use Rattle.fuse_spec.specs.Messages.{WireReply, asks}
 use Rattle.fuse_spec.specs.QueueCalls.{waiting}
 use Rattle.fuse_spec.specs.Kernel.{Kernel, is_live}
@@ -44,10 +46,12 @@ use Rattle.fk_kernel.specs.Said as said
 use Rattle.std.specs.Option.{unwrap_or}
 use Rattle.std.specs.Prelude.{IfSome, IfNone}
 use Rattle.fuse_spec.specs.declared.Refusal.TheVariants.{NoMemory, Exhausted}
-use Rattle.fk_kernel.specs.Refused.{is_past_end, PassesEnd, WriteRefused, WritePasses, no_memory, exhausted}
+use Rattle.fk_kernel.specs.Refused.{PassesEnd, WriteRefused, WritePasses, no_memory, exhausted}
+use Rattle.fk_kernel.specs.Refused as kernel
 use Rattle.fk_kernel.proofs.PastEnds.{passes}
 use Rattle.fw_world.proofs.Happening.{writes}
-use Rattle.fw_world.proofs.Wanting.{wanting, kernel_low, kernel_past}
+use Rattle.fw_world.proofs.Counters.{kernel_all_low, kernel_past, server_low}
+use Rattle.fw_world.proofs.Wanting.{wanting}
 use Rattle.fw_world.proofs.Refusing.{past_written}
 
 -- What says a reply has its head.
@@ -69,6 +73,7 @@ same_opcode (rename d old e new) = refl
 same_opcode (link x d name) = refl
 same_opcode (opening x) = refl
 same_opcode (readdir d after size) = refl
+same_opcode (readdirplus d after size) = refl
 same_opcode (read o offset size) = refl
 same_opcode (write o offset bytes) = refl
 
@@ -84,6 +89,7 @@ is_judged (rename d old e new) h = h
 is_judged (link x d name) h = h
 is_judged (opening x) h = h
 is_judged (readdir d after size) h = h
+is_judged (readdirplus d after size) h = h
 is_judged (read o offset size) h = h
 is_judged (write o offset bytes) h = h
 
@@ -149,7 +155,7 @@ module _ (w : World) (here : IsReached w) (place : ℕ) (sent : Sent) (found : s
       (awaits_even w.kernel sent.unique (Some (purpose.Release file)) even waits, says opcode.Release sent.wire refl (empty none_said).0)
 
   -- It is the server's reply to INIT.
-  to_init : nat_eq (sent.unique % 2) 1 ≡ false → waiting w.kernel.queues sent.unique ≡ Some purpose.Init → sent.wire ≡ op.agreed 7 31 → (awaited w.kernel sent.unique ≡ reply_to opcode.Init) × Says opcode.Init bytes sent.wire
+  to_init : nat_eq (sent.unique % 2) 1 ≡ false → waiting w.kernel.queues sent.unique ≡ Some purpose.Init → sent.wire ≡ init_reply w.server.minor init_flags → (awaited w.kernel sent.unique ≡ reply_to opcode.Init) × Says opcode.Init bytes sent.wire
   to_init even waits wire_is = (awaits_even w.kernel sent.unique (Some purpose.Init) even waits, says opcode.Init sent.wire refl (init (ap is_init_reply wire_is)))
 
   goes_failed : (operation : Operation ℕ Opened) → goes_with operation (op.failed 4) ≡ true
@@ -220,11 +226,12 @@ module _ (w : World) (here : IsReached w) (place : ℕ) (sent : Sent) (found : s
   judged_of (link x d name) = tt
   judged_of (opening x) = tt
   judged_of (readdir d after size) = tt
+  judged_of (readdirplus d after size) = tt
   judged_of (read o offset size) = tt
   judged_of (write o offset bytes) = tt
 
   -- A number is wanting for what the copy says, where the machine's counter goes past its end.
-  passes_end : is_past_end w.kernel ≡ false → is_past_end (reply_written w.kernel sent.unique sent.wire).1 ≡ true → WritePasses w.kernel bytes
+  passes_end : kernel.is_past w.kernel ≡ false → kernel.is_past (reply_written w.kernel sent.unique sent.wire).1 ≡ true → WritePasses w.kernel bytes
   passes_end low past = (head.0, subst (λ (u : ℕ). PassesEnd w.kernel u bytes (awaited w.kernel u)) (sym head.1) (by can_hear))
     where
       said_past : (o : Opcode) → IsJudged o → (awaited w.kernel sent.unique ≡ reply_to o) × Says o bytes sent.wire → PassesEnd w.kernel sent.unique bytes (awaited w.kernel sent.unique)
@@ -233,7 +240,7 @@ module _ (w : World) (here : IsReached w) (place : ℕ) (sent : Sent) (found : s
       by : CanHear w here.plain sent → PassesEnd w.kernel sent.unique bytes (awaited w.kernel sent.unique)
       by (each.nothing e) =
           let none = awaits_none w.kernel sent.unique sent.wire e in
-          absurd (true≢false (sym past ∙ ap (λ (took : WriteResult × Kernel). is_past_end took.1) none.1 ∙ low))
+          absurd (true≢false (sym past ∙ ap (λ (took : WriteResult × Kernel). kernel.is_past took.1) none.1 ∙ low))
       by (each.of_interrupt kept numbered live odd waits) = said_past opcode.Interrupt tt (to_interrupt kept live odd waits)
       by (each.of_release o numbered live even waits) = said_past opcode.Release tt (to_release o live even waits)
       by (each.of_init numbered live even waits wire_is) = said_past opcode.Init tt (to_init even waits wire_is)
@@ -252,7 +259,7 @@ module _ (w : World) (here : IsReached w) (place : ℕ) (sent : Sent) (found : s
       after = after_write w place sent took
 
       by : (past : Bool) → is_past after ≡ past → RefusedWith w (event.write place) given
-      by true past = absurd (none (passes_end (kernel_low w low) (kernel_past w took.1 low past)))
+      by true past = absurd (none (passes_end (kernel_all_low w low) (kernel_past after past (server_low w low))))
       by false ends = wanting w (event.write place) (event.written sent.unique took.0) after refl (writes w place sent took found refl ends) given is
 
   -- The kernel refused its bytes.
@@ -260,7 +267,7 @@ module _ (w : World) (here : IsReached w) (place : ℕ) (sent : Sent) (found : s
   write_refused within r (exhausted it) last =
       let awaits : awaited w.kernel sent.unique ≡ reply_to it.opcode = ap (awaited w.kernel) (sym head.1) ∙ it.awaits in
       let means : Means it.opcode bytes sent.wire = means_said sent.wire (heard_by can_hear it.opcode it.judged awaits) in
-      let past : is_past_end (reply_written w.kernel sent.unique sent.wire).1 ≡ true = ap (λ (u : ℕ). is_past_end (reply_written w.kernel u sent.wire).1) (sym head.1) ∙ it.past sent.wire means in
+      let past : kernel.is_past (reply_written w.kernel sent.unique sent.wire).1 ≡ true = ap (λ (u : ℕ). kernel.is_past (reply_written w.kernel u sent.wire).1) (sym head.1) ∙ it.past sent.wire means in
       inl (past_written w place sent found past)
   write_refused within r (no_memory none) last = write_wanting within (last refl) NoMemory refl
 

@@ -1,5 +1,6 @@
 -- Where kernel and server accept an event, and nothing is past its end, it happens so in the machine.
 use Rattle.std.proofs.Common.{◌≡◌, ℕ, ◌+◌, ◌||◌, List, Bool, true, false, not, cond, Option, Some, None, Ok, Err, nat_eq, nat_lt, nat_le, max, length, slice_get, refl, ap, sym, ◌∙◌}
+use Rattle.fuse_spec.specs.declared.Minor.{Minor}
 use Rattle.fuse_spec.specs.declared.Binding.{Binding}
 use Rattle.fuse_spec.specs.declared.Counted.{Counted}
 use Rattle.fuse_spec.specs.declared.Refusal.{Refusal}
@@ -11,17 +12,18 @@ use Rattle.fuse_spec.specs.Numbers.{max_validity, max_calls, clock_end}
 use Rattle.fuse_spec.specs.Operations.{errno_of}
 use Rattle.fuse_spec.specs.Calls.{Call}
 use Rattle.fuse_spec.specs.Messages.{Forget, Request}
-use Rattle.fuse_spec.specs.Kernel.{Kernel, is_live, is_pinned, is_bound, call_begun}
-use Rattle.fuse_spec.specs.QueueCalls.{pending_at, first_forgets}
+use Rattle.fuse_spec.specs.Kernel.{Kernel, is_live, is_pinned, is_bound, call_put, forgets_read}
+use Rattle.fuse_spec.specs.QueueCalls.{pending_at}
 use Rattle.fuse_spec.specs.Replies.{reply_written}
 use Rattle.fuse_spec.specs.Server.{HeldRequest, Kept, Copy}
-use Rattle.fuse_spec.specs.Copies.{is_current}
+use Rattle.fuse_spec.specs.Copies.{is_current, files_named}
+use Rattle.fuse_spec.specs.Nodes.{counts_out}
 use Rattle.fuse_spec.specs.Taking.{taking}
-use Rattle.fuse_spec.specs.Performs.{PerformResult, served}
+use Rattle.fuse_spec.specs.Performs.{PerformResult, served, files_given}
 use Rattle.fuse_spec.specs.Worlds.{World, Sent, after_mount, after_call, after_read_pending, after_read_forgets as after_forgets, after_take, after_perform, after_again, after_write, after_settle, after_tick, after_drop, after_evict}
 use Rattle.fuse_spec.specs.Events.{Event, Outcome}
 use Rattle.fuse_spec.specs.Events as event
-use Rattle.fuse_spec.specs.Steps.{Stepped, going, is_past, is_busy, is_ready, unless, reading_pending, reading_forgets, taking_request, performing_held, sending_again, writing_copy, settling, dropping, evicting, MayStep, Happens}
+use Rattle.fuse_spec.specs.Steps.{Stepped, going, is_past, is_busy, is_ready, unless, reading_pending, reading_forgets, taking_request, performed_as, performing_held, sending_again, writing_copy, settling, dropping, evicting, MayStep, Happens}
 use Rattle.fk_kernel.specs.Refused.{begin_refusal, mount_refusal, read_refusal, place_refusal, is_past_end, IsPendingRequest}
 use Rattle.fk_kernel.specs.RefusedUpkeep.{read_forgets_refusal, forgets_refusal, tick_refusal, name_refusal, drop_refusal, counted_refusal, evict_refusal}
 
@@ -36,9 +38,9 @@ none_refused : (b : Bool) (r : Refusal) → ◌≡◌ {A = Option Refusal} (cond
 none_refused true r e = absurd (cc e)
 none_refused false r e = refl
 
-pub mounts : (w : World) (found_ms missing_ms : ℕ) → nat_lt max_validity (max found_ms missing_ms) ≡ false → mount_refusal w.kernel ≡ None
-    → Happens w (event.mount found_ms missing_ms) event.mounted (after_mount w found_ms missing_ms)
-mounts w found_ms missing_ms day judged =
+pub mounts : (w : World) (found_ms missing_ms : ℕ) (minor : Minor) → nat_lt max_validity (max found_ms missing_ms) ≡ false → mount_refusal w.kernel ≡ None
+    → Happens w (event.mount found_ms missing_ms minor) event.mounted (after_mount w found_ms missing_ms minor)
+mounts w found_ms missing_ms minor day judged =
     (any_id, tt, rw (day, none_refused (is_busy w.kernel) refusal.Busy judged) refl)
 
 begins : (not_ready full past : Bool) (s : Stepped) (x : Outcome × World) → ◌≡◌ {A = Option Refusal} (cond not_ready (Some refusal.NotReady) (cond full (Some refusal.Full) (cond past (Some refusal.Exhausted) None))) None → s ≡ Ok x
@@ -50,7 +52,7 @@ begins false false past s x e h = h
 pub calls : (w : World) (call : Call) → begin_refusal w.kernel call ≡ None → is_past (after_call w call) ≡ false → Happens w (event.call call) (event.begun w.kernel.vfs.next_call) (after_call w call)
 calls w call judged within =
     let o = event.begun w.kernel.vfs.next_call in
-    (any_id, tt, begins (not (is_ready w.kernel.phase)) (nat_le max_calls (length w.kernel.vfs.calls)) (is_past_end (call_begun w.kernel call)) (going o (after_call w call)) (o, after_call w call) judged (accepted o (after_call w call) within))
+    (any_id, tt, begins (not (is_ready w.kernel.phase)) (nat_le max_calls (length w.kernel.vfs.calls)) (is_past_end (call_put w.kernel call)) (going o (after_call w call)) (o, after_call w call) judged (accepted o (after_call w call) within))
 
 live_judged : (a b : Bool) (o : Option Refusal) → cond a (Some refusal.NotReady) (cond b (Some refusal.InterruptFirst) o) ≡ None → (s : Stepped) (x : Outcome × World) → s ≡ Ok x
     → unless a refusal.NotReady (unless b refusal.InterruptFirst s) ≡ Ok x
@@ -74,18 +76,22 @@ takes w place request there within =
     let took = taking w.server request.unique request.body in
     (any_id, tt, ap (taking_request w place) there ∙ accepted (event.taken request.unique took.word) (after_take w place request.unique took) within)
 
-pub performs : (choice : ℕ → ℕ) (w : World) (unique : ℕ) (held : HeldRequest) → get w.server.held unique ≡ Some held → MayStep choice w (event.perform unique) → (did : PerformResult) → served choice w.server unique held ≡ did
+pub performs : (choice : ℕ → ℕ) (w : World) (unique : ℕ) (held : HeldRequest) → get w.server.held unique ≡ Some held → counts_out w.server.nodes (files_given w.server held) ≡ false → MayStep choice w (event.perform unique) → (did : PerformResult) → served choice w.server unique held ≡ did
     → is_past (after_perform w unique did) ≡ false → Happens w (event.perform unique) (event.performed unique (errno_of did.wire) w.server.aborted) (after_perform w unique did)
-performs choice w unique held there may did is within =
+performs choice w unique held there counts may did is within =
     let outcome = event.performed unique (errno_of did.wire) w.server.aborted in
-    (choice, may, ap (performing_held choice w unique) there ∙ ap (λ (d : PerformResult). going (event.performed unique (errno_of d.wire) w.server.aborted) (after_perform w unique d)) is ∙ accepted outcome (after_perform w unique did) within)
+    (choice, may, ap (performing_held choice w unique) there ∙ ap (λ (b : Bool). unless b refusal.Exhausted (performed_as w unique (served choice w.server unique held))) counts ∙ ap (λ (d : PerformResult). going (event.performed unique (errno_of d.wire) w.server.aborted) (after_perform w unique d)) is ∙ accepted outcome (after_perform w unique did) within)
 
-pub sends_again : (w : World) (unique : ℕ) (kept : Kept) → get w.server.kept unique ≡ Some kept → is_current w.server kept.wire ≡ true → is_past (after_again w unique kept) ≡ false
+pub sends_again : (w : World) (unique : ℕ) (kept : Kept) → get w.server.kept unique ≡ Some kept → is_current w.server kept.wire ≡ true → counts_out w.server.nodes (files_named w.server kept.wire) ≡ false → is_past (after_again w unique kept) ≡ false
     → Happens w (event.again unique) (event.sent_again unique) (after_again w unique kept)
-sends_again w unique kept there current within =
+sends_again w unique kept there current counts within =
     let outcome = event.sent_again unique in
-    let after = after_again w unique kept in
-    (any_id, tt, ap (sending_again w unique) there ∙ ap (λ (b : Bool). unless (not b) refusal.NoCopy (going outcome after)) current ∙ accepted outcome after within)
+    let after = after_again w unique kept in (
+      any_id,
+      tt,
+      ap (sending_again w unique) there ∙ ap (λ (b : Bool). unless (not b) refusal.NoCopy (unless (counts_out w.server.nodes (files_named w.server kept.wire)) refusal.Exhausted (going outcome after))) current
+          ∙ ap (λ (b : Bool). unless b refusal.Exhausted (going outcome after)) counts ∙ accepted outcome after within,
+    )
 
 pub writes : (w : World) (place : ℕ) (sent : Sent) (took : WriteResult × Kernel) → slice_get w.replies place ≡ Some sent → reply_written w.kernel sent.unique sent.wire ≡ took → is_past (after_write w place sent took) ≡ false
     → Happens w (event.write place) (event.written sent.unique took.0) (after_write w place sent took)
@@ -98,11 +104,11 @@ pub settles : (w : World) (place : ℕ) (result : ReplyResult) (copy : Copy) →
 settles w place result copy there known =
     (any_id, tt, ap (settling w place) there ∙ ap (λ (o : Option Copy). Ok (event.settled result.unique result.result, after_settle w place result o)) known)
 
-pub reads_forgets : (w : World) (n : ℕ) (forgets : List Forget) → read_forgets_refusal w.kernel n ≡ None → first_forgets w.kernel.queues n ≡ Some (w.kernel.queues.next, forgets) → is_past (after_forgets w n forgets) ≡ false
+pub reads_forgets : (w : World) (n : ℕ) (forgets : List Forget) → read_forgets_refusal w.kernel n ≡ None → forgets_read w.kernel n ≡ Some (w.kernel.queues.next, forgets) → is_past (after_forgets w n forgets) ≡ false
     → Happens w (event.read_forgets n) (event.is_read w.kernel.queues.next) (after_forgets w n forgets)
 reads_forgets w n forgets judged first within =
     let after = after_forgets w n forgets in
-    let read = first_forgets w.kernel.queues n in (
+    let read = forgets_read w.kernel n in (
       any_id,
       tt,
       live_judged (not (is_live w.kernel.phase)) (not (nat_eq (length w.kernel.queues.interrupts) 0)) (forgets_refusal w.kernel n read) judged (reading_forgets w n read) (event.is_read w.kernel.queues.next, after)

@@ -15,7 +15,7 @@ use Rattle.fuse_spec.specs.Events as event
 use Rattle.fuse_spec.specs.Steps.{Stepped, going, is_past, unless, reading_interrupt, signalling, Happens, IsRefused}
 use Rattle.fk_kernel.specs.Refused.{is_past_end}
 use Rattle.fk_kernel.specs.RefusedSignals.{standing_refusal, signal_refusal, IsSignalled, oldest_refusal, read_interrupt_refusal, abort_refusal}
-use Rattle.fw_world.proofs.Counters.{server_past, some_past}
+use Rattle.fw_world.proofs.Counters.{past_by_kernel}
 use Rattle.fw_world.proofs.Happening.{accepted}
 use Rattle.fw_world.proofs.Refusing.{is_exhausted}
 
@@ -57,7 +57,7 @@ standing w call fatal (Some state) r e = by (is_past_end moved.1) refl e
     after = record w { kernel = moved.1 }
 
     by : (past : Bool) → is_past_end moved.1 ≡ past → ◌≡◌ {A = Option Refusal} (cond past (Some refusal.Exhausted) None) (Some r) → signalling w call fatal (Some state) ≡ Err r
-    by true past is = is_exhausted (event.interrupted call moved.0) after (some_past (nat_lt counter_end moved.1.queues.next) (nat_lt counter_end moved.1.vfs.next_call) (server_past w.server) past) ∙ cc is
+    by true past is = is_exhausted (event.interrupted call moved.0) after (past_by_kernel after past) ∙ cc is
     by false past is = absurd (cc is)
 
 pub signal_refused : (w : World) (call : ℕ) (fatal : Bool) (r : Refusal) → signal_refusal w.kernel call fatal ≡ Some r → IsRefused w (event.intr call fatal) r

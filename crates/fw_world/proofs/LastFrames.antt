@@ -21,8 +21,8 @@ pub last_copy : (w : World) (copies : List Sent) (sent : Sent) (bytes : List ℕ
 last_copy w copies sent bytes same is_last frame = of_reply sent (subst (λ (ss : List Sent). slice_get ss (length ss - 1) ≡ Some sent) same is_last) frame
 
 -- What a copy's bytes are, as they are read off it.
-pub copy_frame : (bytes : List ℕ) (sent : Sent) → (opcode : Opcode) × (flags : ℕ) × IsReplyFrame opcode bytes (record { unique = sent.unique; wire = sent.wire; flags = flags }) → IsCopyFrame bytes sent
-copy_frame bytes sent written = record { opcode = written.0; flags = written.1; written = written.2 }
+pub copy_frame : (bytes : List ℕ) (sent : Sent) → (opcode : Opcode) × IsReplyFrame opcode bytes (record { unique = sent.unique; wire = sent.wire }) → IsCopyFrame bytes sent
+copy_frame bytes sent written = record { opcode = written.0; written = written.1 }
 
 -- What was appended stands last.
 appended_last : {X : Type 0} (xs : List X) (x : X) → slice_get (xs ++ x ∷ []) (length (xs ++ x ∷ []) - 1) ≡ Some x

@@ -3,6 +3,7 @@ use Rattle.std.proofs.Common.{◌≡◌, ◌≤◌, ℕ, ◌+◌, Bool, true, fa
 use Rattle.std.specs.List.{remove as without}
 use Rattle.std.proofs.lemmas.Bool.{le-ltb}
 use Rattle.std.proofs.lemmas.Option.{none-some, same_Some}
+use Rattle.fuse_spec.specs.declared.Minor.{Minor}
 use Rattle.fuse_spec.specs.declared.Counted.{Counted}
 use Rattle.fuse_spec.specs.declared.IntrEffect.{IntrEffect}
 use Rattle.fuse_spec.specs.declared.ReplyResult.{ReplyResult}
@@ -12,9 +13,10 @@ use Rattle.fuse_spec.specs.Maps.{get, remove_name}
 use Rattle.fuse_spec.specs.Numbers.{max_validity}
 use Rattle.fuse_spec.specs.Operations.{errno_of}
 use Rattle.fuse_spec.specs.Messages.{Request, WireReply}
-use Rattle.fuse_spec.specs.Kernel.{Kernel, call_begun, kernel_aborted, kernel_mounted, evicted}
+use Rattle.fuse_spec.specs.Kernel as kernel_specs
+use Rattle.fuse_spec.specs.Kernel.{Kernel, call_put, kernel_aborted, kernel_mounted, evicted}
 use Rattle.fuse_spec.specs.QueueCalls as queues
-use Rattle.fuse_spec.specs.QueueCalls.{after_read_pending, first_forgets, after_read_forgets}
+use Rattle.fuse_spec.specs.QueueCalls.{after_read_pending, after_read_forgets}
 use Rattle.fuse_spec.specs.Uniques.{interrupt_number}
 use Rattle.fuse_spec.specs.Replies.{reply_written}
 use Rattle.fuse_spec.specs.Server.{Server}
@@ -67,13 +69,13 @@ module _ (w : World) (sound : IsReached w) (kernel : Kernel) (server : Server) (
   made_by : (e : Event) (o : Outcome) (after : World) → made ≡ after → Happens w e o after → Made e o
   made_by e o after is happens = (happens_so w e o after made is happens, subst IsReached (sym is) (reached_next w sound e o after happens))
 
-  pub mounted : (found_ms missing_ms : ℕ) → found_ms ≤ max_validity → missing_ms ≤ max_validity → mount_refusal w.kernel ≡ None → kernel ≡ kernel_mounted w.kernel
-      → server ≡ remounted w.server (record { found_ms = found_ms; missing_ms = missing_ms }) → requests ≡ [] → replies ≡ [] → results ≡ [] → Made (event.mount found_ms missing_ms) event.mounted
-  mounted found_ms missing_ms f m judged k s a b c =
-      let after = after_mount w found_ms missing_ms in
-      made_by (event.mount found_ms missing_ms) event.mounted after (is_made after kernel server requests replies results k s a b c) (mounts w found_ms missing_ms (day_at_most found_ms missing_ms f m) judged)
+  pub mounted : (found_ms missing_ms : ℕ) (minor : Minor) → found_ms ≤ max_validity → missing_ms ≤ max_validity → mount_refusal w.kernel ≡ None → kernel ≡ kernel_mounted w.kernel
+      → server ≡ remounted w.server (record { found_ms = found_ms; missing_ms = missing_ms }) minor → requests ≡ [] → replies ≡ [] → results ≡ [] → Made (event.mount found_ms missing_ms minor) event.mounted
+  mounted found_ms missing_ms minor f m judged k s a b c =
+      let after = after_mount w found_ms missing_ms minor in
+      made_by (event.mount found_ms missing_ms minor) event.mounted after (is_made after kernel server requests replies results k s a b c) (mounts w found_ms missing_ms minor (day_at_most found_ms missing_ms f m) judged)
 
-  pub called : (call : Call) (number : ℕ) → begin_refusal w.kernel call ≡ None → number ≡ w.kernel.vfs.next_call → kernel ≡ call_begun w.kernel call → server ≡ w.server → requests ≡ w.requests → replies ≡ w.replies → results ≡ w.results → Within
+  pub called : (call : Call) (number : ℕ) → begin_refusal w.kernel call ≡ None → number ≡ w.kernel.vfs.next_call → kernel ≡ call_put w.kernel call → server ≡ w.server → requests ≡ w.requests → replies ≡ w.replies → results ≡ w.results → Within
       → Made (event.call call) (event.begun number)
   called call number judged is k s a b c within =
       let after = after_call w call in
@@ -92,7 +94,7 @@ module _ (w : World) (sound : IsReached w) (kernel : Kernel) (server : Server) (
   forgets_read n unique request judged frame is k s a b c within =
       let forgets = frame.forgets in
       let number : request.unique ≡ w.kernel.queues.next = ap (λ (r : Request). r.unique) frame.is in
-      let first : first_forgets w.kernel.queues n ≡ Some (w.kernel.queues.next, forgets) = frame.first ∙ ap (λ (u : ℕ). Some (u, forgets)) number in
+      let first : kernel_specs.forgets_read w.kernel n ≡ Some (w.kernel.queues.next, forgets) = frame.first ∙ ap (λ (u : ℕ). Some (u, forgets)) number in
       let after = worlds.after_read_forgets w n forgets in
       let sent : requests ≡ after.requests = a ∙ ap (λ (r : Request). w.requests ++ r ∷ []) frame.is in
       subst (λ (u : ℕ). Made (event.read_forgets n) (event.is_read u)) (sym (is ∙ number))
@@ -126,7 +128,7 @@ module _ (w : World) (sound : IsReached w) (kernel : Kernel) (server : Server) (
       let outcome_is : event.performed unique (errno_of did.wire) w.server.aborted ≡ event.performed unique errno false = (λ i. event.performed unique (sym does.errno_is i) (serving i)) in
       let may = subst (MayChooseFor does.choice w) (sym does.there) does.may in
       subst (Made (event.perform unique)) outcome_is
-      (made_by (event.perform unique) (event.performed unique (errno_of did.wire) w.server.aborted) (after_perform w unique did) is (performs does.choice w unique does.held does.there may did refl past))
+      (made_by (event.perform unique) (event.performed unique (errno_of did.wire) w.server.aborted) (after_perform w unique did) is (performs does.choice w unique does.held does.there does.counts may did refl past))
 
   -- The same after an abort, where no copy is sent.
   pub lost : (unique errno : ℕ) → PerformsHeld w.server unique errno None server → kernel ≡ w.kernel → requests ≡ w.requests → replies ≡ w.replies → results ≡ w.results → Within → Made (event.perform unique) (event.performed unique errno true)
@@ -140,13 +142,13 @@ module _ (w : World) (sound : IsReached w) (kernel : Kernel) (server : Server) (
       let outcome_is : event.performed unique (errno_of did.wire) w.server.aborted ≡ event.performed unique errno true = (λ i. event.performed unique (sym does.errno_is i) (gone i)) in
       let may = subst (MayChooseFor does.choice w) (sym does.there) does.may in
       subst (Made (event.perform unique)) outcome_is
-      (made_by (event.perform unique) (event.performed unique (errno_of did.wire) w.server.aborted) (after_perform w unique did) is (performs does.choice w unique does.held does.there may did refl past))
+      (made_by (event.perform unique) (event.performed unique (errno_of did.wire) w.server.aborted) (after_perform w unique did) is (performs does.choice w unique does.held does.there does.counts may did refl past))
 
   pub copied : (unique : ℕ) (copy : Sent) → SendsAgain w.server unique copy server → kernel ≡ w.kernel → requests ≡ w.requests → replies ≡ w.replies ++ copy ∷ [] → results ≡ w.results → Within → Made (event.again unique) (event.sent_again unique)
   copied unique copy does k a b c within =
       let after = after_again w unique does.kept in
       made_by (event.again unique) (event.sent_again unique) after (is_made after kernel server requests replies results k does.after a (b ∙ ap (λ (x : Sent). w.replies ++ x ∷ []) does.copy_is) c)
-      (sends_again w unique does.kept does.there does.current (within after (sym k) (sym does.after)))
+      (sends_again w unique does.kept does.there does.current does.counts (within after (sym k) (sym does.after)))
 
   pub wrote : (place : ℕ) (sent : Sent) (result : WriteResult) → slice_get w.replies place ≡ Some sent → reply_written w.kernel sent.unique sent.wire ≡ (result, kernel) → server ≡ w.server → requests ≡ w.requests → replies ≡ without w.replies place
       → results ≡ w.results ++ record { number = sent.number; unique = sent.unique; result = result } ∷ [] → Within → Made (event.write place) (event.written sent.unique result)

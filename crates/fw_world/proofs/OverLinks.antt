@@ -37,10 +37,10 @@ no_call : (mid : World) (e : Event) (o : Outcome) (w : World) (carries : Traffic
 no_call mid e o w carries before now happens lost = by_case e o mid (happened happens.0 w o mid e happens.2) lost
   where
     by_case : (e : Event) (o : Outcome) (mid : World) → Happened happens.0 w e o mid → IsLostOn mid o carries before now → begins_call e ≡ false
-    by_case e o mid (by_mount f m idle) lost = refl
+    by_case e o mid (by_mount f m minor idle) lost = refl
     by_case e o mid (by_call call ready room within) lost = absurd lost
     by_case e o mid (by_read_interrupt original rest live there within) lost = refl
-    by_case e o mid (by_read_forgets n live free can within) lost = refl
+    by_case e o mid (by_read_forgets n live free can within few) lost = refl
     by_case e o mid (by_read_pending k unique kept body live free there says within) lost = refl
     by_case e o mid (by_take k q there within) lost = refl
     by_case e o mid (by_perform unique t there within) lost = refl

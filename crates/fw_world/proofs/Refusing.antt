@@ -1,5 +1,6 @@
 -- An event that kernel or server refused is refused so in the machine, or memory was wanting.
 use Rattle.std.proofs.Common.{◌≡◌, ◌≢◌, ℕ, ◌+◌, ◌||◌, Bool, true, false, cond, not, List, Option, Some, None, Ok, Err, inl, nat_eq, nat_lt, nat_le, max, length, slice_get, refl, ap, sym, subst, ◌∙◌}
+use Rattle.fuse_spec.specs.declared.Minor.{Minor}
 use Rattle.fuse_spec.specs.declared.Binding.{Binding}
 use Rattle.fuse_spec.specs.declared.Counted.{Counted}
 use Rattle.fuse_spec.specs.declared.Refusal.{Refusal}
@@ -11,15 +12,17 @@ use Rattle.fuse_spec.specs.Numbers.{max_validity, max_calls, counter_end, clock_
 use Rattle.fuse_spec.specs.Operations.{errno_of}
 use Rattle.fuse_spec.specs.Calls.{Call}
 use Rattle.fuse_spec.specs.Messages.{Forget, RequestBody, WireReply}
-use Rattle.fuse_spec.specs.Kernel.{is_live, is_pinned, is_bound, body_of, call_begun}
-use Rattle.fuse_spec.specs.QueueCalls.{pending_at, first_forgets, after_read_forgets}
+use Rattle.fuse_spec.specs.Kernel.{is_live, is_pinned, is_bound, body_of, call_put, forgets_read}
+use Rattle.fuse_spec.specs.QueueCalls.{pending_at, after_read_forgets}
 use Rattle.fuse_spec.specs.Replies.{reply_written}
-use Rattle.fuse_spec.specs.Performs.{served}
+use Rattle.fuse_spec.specs.Copies.{files_named}
+use Rattle.fuse_spec.specs.Nodes.{counts_out}
+use Rattle.fuse_spec.specs.Performs.{served, files_given}
 use Rattle.fuse_spec.specs.Worlds as worlds
 use Rattle.fuse_spec.specs.Worlds.{World, Sent, after_mount, after_call, after_take, after_perform, after_again, after_write, after_tick, after_drop}
 use Rattle.fuse_spec.specs.Events.{Event, Outcome}
 use Rattle.fuse_spec.specs.Events as event
-use Rattle.fuse_spec.specs.Steps.{Stepped, going, is_past, is_busy, is_ready, unless, reading_body, reading_pending, reading_forgets, taking_request, performing_held, sending_again, writing_copy, settling, dropping, evicting, MayChooseFor, IsRefused, RefusedWith}
+use Rattle.fuse_spec.specs.Steps.{Stepped, going, is_past, is_busy, is_ready, unless, reading_body, reading_pending, reading_forgets, taking_request, performed_as, performing_held, sending_again, writing_copy, settling, dropping, evicting, MayChooseFor, IsRefused, RefusedWith}
 use Rattle.std.specs.Prelude.{Result, IfErr}
 use Rattle.std.specs.Option.{unwrap_or}
 use Rattle.fuse_theorem.proofs.Queuing.{All-at}
@@ -28,9 +31,9 @@ use Rattle.fk_kernel.specs.Refused as kernel
 use Rattle.fs_server.specs.Effects as server
 use Rattle.fuse_theorem.specs.Reached.{IsReached}
 use Rattle.fk_kernel.specs.RefusedUpkeep.{read_forgets_refusal, forgets_refusal, tick_refusal, name_refusal, drop_refusal, counted_refusal, evict_refusal}
-use Rattle.fs_server.specs.Effects.{RefusesHeld, not_held, exhausted, RefusesAgain, not_kept, not_current, no_number, RefusesFrame}
+use Rattle.fs_server.specs.Effects.{RefusesHeld, not_held, told_too_often, exhausted, RefusesAgain, not_kept, not_current, copied_too_often, no_number, RefusesFrame}
 use Rattle.fs_server.specs.Effects.{fault_or, past_or_memory}
-use Rattle.fw_world.proofs.Counters.{server_past, as_judged, some_past}
+use Rattle.fw_world.proofs.Counters.{past_by_kernel, past_by_server, past_by_all}
 
 pub is_exhausted : (o : Outcome) (after : World) → is_past after ≡ true → going o after ≡ Err refusal.Exhausted
 is_exhausted o after past = ap (λ (b : Bool). cond b (Err refusal.Exhausted) (Ok (o, after))) past
@@ -41,8 +44,8 @@ mount_as : (busy : Bool) (s : Stepped) (r : Refusal) → ◌≡◌ {A = Option R
 mount_as true s r e = cc e
 mount_as false s r e = absurd (cc e)
 
-pub mount_refused : (w : World) (found_ms missing_ms : ℕ) → nat_lt max_validity (max found_ms missing_ms) ≡ false → (r : Refusal) → mount_refusal w.kernel ≡ Some r → IsRefused w (event.mount found_ms missing_ms) r
-mount_refused w found_ms missing_ms day r judged choice may = rw day (mount_as (is_busy w.kernel) (Ok (event.mounted, after_mount w found_ms missing_ms)) r judged)
+pub mount_refused : (w : World) (found_ms missing_ms : ℕ) (minor : Minor) → nat_lt max_validity (max found_ms missing_ms) ≡ false → (r : Refusal) → mount_refusal w.kernel ≡ Some r → IsRefused w (event.mount found_ms missing_ms minor) r
+mount_refused w found_ms missing_ms minor day r judged choice may = rw day (mount_as (is_busy w.kernel) (Ok (event.mounted, after_mount w found_ms missing_ms minor)) r judged)
 
 -- ---- a call
 
@@ -56,8 +59,8 @@ call_as false false false s r e h = absurd (cc e)
 pub call_refused : (w : World) (call : Call) (r : Refusal) → begin_refusal w.kernel call ≡ Some r → IsRefused w (event.call call) r
 call_refused w call r judged choice may =
     let after = after_call w call in
-    call_as (not (is_ready w.kernel.phase)) (nat_le max_calls (length w.kernel.vfs.calls)) (is_past_end (call_begun w.kernel call)) (going (event.begun w.kernel.vfs.next_call) after) r judged
-    (λ past. is_exhausted (event.begun w.kernel.vfs.next_call) after (some_past (nat_lt counter_end after.kernel.queues.next) (nat_lt counter_end after.kernel.vfs.next_call) (server_past w.server) past))
+    call_as (not (is_ready w.kernel.phase)) (nat_le max_calls (length w.kernel.vfs.calls)) (is_past_end (call_put w.kernel call)) (going (event.begun w.kernel.vfs.next_call) after) r judged
+    (λ past. is_exhausted (event.begun w.kernel.vfs.next_call) after (past_by_kernel after past))
 
 -- ---- a read
 
@@ -97,10 +100,10 @@ forgets_as w n false false (Some x) r e over = by (is_past_end (record w.kernel 
 
 pub forgets_refused : (w : World) (n : ℕ) (r : Refusal) → read_forgets_refusal w.kernel n ≡ Some r → IsRefused w (event.read_forgets n) r
 forgets_refused w n r judged choice may =
-    forgets_as w n (not (is_live w.kernel.phase)) (not (nat_eq (length w.kernel.queues.interrupts) 0)) (first_forgets w.kernel.queues n) r judged
+    forgets_as w n (not (is_live w.kernel.phase)) (not (nat_eq (length w.kernel.queues.interrupts) 0)) (forgets_read w.kernel n) r judged
     (λ x past.
     let after = worlds.after_read_forgets w n x.1 in
-    is_exhausted (event.is_read x.0) after (some_past (nat_lt counter_end after.kernel.queues.next) (nat_lt counter_end after.kernel.vfs.next_call) (server_past w.server) past))
+    is_exhausted (event.is_read x.0) after (past_by_kernel after past))
 
 -- ---- the time, names and nodes
 
@@ -133,24 +136,27 @@ evict_refused w node r judged choice may = evict_as w node (not (is_live w.kerne
 
 -- ---- a request performed
 
-past_by_server : (a b c : Bool) → c ≡ true → (a || (b || c)) ≡ true
-past_by_server true b c e = refl
-past_by_server false true c e = refl
-past_by_server false false c e = e
-
 sent_server : (w : World) (number unique : ℕ) (wire : Option WireReply) → (worlds.replying w number unique wire).server ≡ w.server
 sent_server w number unique None = refl
 sent_server w number unique (Some wire) = refl
 
+-- Refused for a count or for a number, it is refused alike.
+either_way : (b : Bool) → unless b refusal.Exhausted (Err refusal.Exhausted) ≡ Err refusal.Exhausted
+either_way true = refl
+either_way false = refl
+
 pub perform_refused : (w : World) (unique : ℕ) (r : Refusal) → RefusesHeld w.server unique r → IsRefused w (event.perform unique) r
 perform_refused w unique r (not_held none) choice may = ap (performing_held choice w unique) none
+perform_refused w unique r (told_too_often held there out) choice may =
+    ap (performing_held choice w unique) there ∙ ap (λ (b : Bool). unless b refusal.Exhausted (performed_as w unique (served choice w.server unique held))) out
 perform_refused w unique r (exhausted held there past) choice may =
     let did = served choice w.server unique held in
     let after = after_perform w unique did in
     let same : after.server ≡ did.server = sent_server (record w { server = did.server }) w.server.next_copy unique (cond w.server.aborted None (Some did.wire)) in
-    let over : server_past after.server ≡ true = sym (as_judged after.server) ∙ ap server.is_past_end same ∙ past choice (subst (MayChooseFor choice w) there may) in
+    let over : server.is_past_end after.server ≡ true = ap server.is_past_end same ∙ past choice (subst (MayChooseFor choice w) there may) in
     ap (performing_held choice w unique) there
-    ∙ is_exhausted (event.performed unique (errno_of did.wire) w.server.aborted) after (past_by_server (nat_lt counter_end after.kernel.queues.next) (nat_lt counter_end after.kernel.vfs.next_call) (server_past after.server) over)
+    ∙ ap (unless (counts_out w.server.nodes (files_given w.server held)) refusal.Exhausted) (is_exhausted (event.performed unique (errno_of did.wire) w.server.aborted) after (past_by_server after over))
+    ∙ either_way (counts_out w.server.nodes (files_given w.server held))
 
 -- Where memory is not wanting.
 pub refused_with : {X : Type 0} (w : World) (e : Event) (r : Result X Refusal) → IfErr r (IsRefused w e) → IfErr r (RefusedWith w e)
@@ -162,22 +168,27 @@ refused_with w e (Err refusal) h = inl h
 pub again_refused : (w : World) (unique : ℕ) (r : Refusal) → RefusesAgain w.server unique r → IsRefused w (event.again unique) r
 again_refused w unique r (not_kept none) choice may = ap (sending_again w unique) none
 again_refused w unique r (not_current kept there stale) choice may =
-    ap (sending_again w unique) there ∙ ap (λ (b : Bool). unless (not b) refusal.NoCopy (going (event.sent_again unique) (after_again w unique kept))) stale
+    ap (sending_again w unique) there
+    ∙ ap (λ (b : Bool). unless (not b) refusal.NoCopy (unless (counts_out w.server.nodes (files_named w.server kept.wire)) refusal.Exhausted (going (event.sent_again unique) (after_again w unique kept)))) stale
+again_refused w unique r (copied_too_often kept there current out) choice may =
+    ap (sending_again w unique) there
+    ∙ ap (λ (b : Bool). unless (not b) refusal.NoCopy (unless (counts_out w.server.nodes (files_named w.server kept.wire)) refusal.Exhausted (going (event.sent_again unique) (after_again w unique kept)))) current
+    ∙ ap (λ (b : Bool). unless b refusal.Exhausted (going (event.sent_again unique) (after_again w unique kept))) out
 again_refused w unique r (no_number kept there current past) choice may =
     let outcome = event.sent_again unique in
     let after = after_again w unique kept in
-    let over : server_past after.server ≡ true = sym (as_judged after.server) ∙ past in
-    ap (sending_again w unique) there ∙ ap (λ (b : Bool). unless (not b) refusal.NoCopy (going outcome after)) current
-    ∙ is_exhausted outcome after (past_by_server (nat_lt counter_end after.kernel.queues.next) (nat_lt counter_end after.kernel.vfs.next_call) (server_past after.server) over)
+    ap (sending_again w unique) there ∙ ap (λ (b : Bool). unless (not b) refusal.NoCopy (unless (counts_out w.server.nodes (files_named w.server kept.wire)) refusal.Exhausted (going outcome after))) current
+    ∙ ap (unless (counts_out w.server.nodes (files_named w.server kept.wire)) refusal.Exhausted) (is_exhausted outcome after (past_by_server after past))
+    ∙ either_way (counts_out w.server.nodes (files_named w.server kept.wire))
 
 -- ---- a copy written
 
-pub past_written : (w : World) (place : ℕ) (sent : Sent) → slice_get w.replies place ≡ Some sent → is_past_end (reply_written w.kernel sent.unique sent.wire).1 ≡ true → IsRefused w (event.write place) refusal.Exhausted
+pub past_written : (w : World) (place : ℕ) (sent : Sent) → slice_get w.replies place ≡ Some sent → kernel.is_past (reply_written w.kernel sent.unique sent.wire).1 ≡ true → IsRefused w (event.write place) refusal.Exhausted
 past_written w place sent there past choice may =
     let took = reply_written w.kernel sent.unique sent.wire in
     let after = after_write w place sent took in
     ap (writing_copy w place) there
-    ∙ is_exhausted (event.written sent.unique took.0) after (some_past (nat_lt counter_end after.kernel.queues.next) (nat_lt counter_end after.kernel.vfs.next_call) (server_past w.server) past)
+    ∙ is_exhausted (event.written sent.unique took.0) after (past_by_all after past)
 
 -- ---- nothing stands at a place
 

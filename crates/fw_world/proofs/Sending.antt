@@ -42,7 +42,7 @@ request_whole bytes request frame =
 
 pub reply_whole : (bytes : List ℕ) (sent : Sent) (number : ℕ) → number < 2 ^ 64 → IsCopyFrame bytes sent → IsEnvelope 1 number bytes
 reply_whole bytes sent number small frame =
-    let told = says frame.opcode bytes (record { unique = sent.unique; wire = sent.wire; flags = frame.flags }) frame.written in
+    let told = says frame.opcode bytes (record { unique = sent.unique; wire = sent.wire }) frame.written in
     let said = told.spells in
     let long = within 16 (reply_body told.message.content) bytes said.5.1.1.1 in
     record { kind_known = omega arith; copy_fits = small; no_shorter = omega arith; no_longer = said.0; len_stated = stated bytes said.5.0 }
@@ -66,7 +66,7 @@ performed_out w unique did = by w.server.aborted
 
 -- An INTERRUPT that is answered EAGAIN has a copy of that reply go out.
 taken_out : (w : World) (k unique : ℕ) (body : RequestBody) → IsOut (after_take w k unique (taking w.server unique body)) (taken unique (taking w.server unique body).word)
-taken_out w k unique init = tt
+taken_out w k unique (init flags) = tt
 taken_out w k unique (asks operation) = tt
 taken_out w k unique (release o) = tt
 taken_out w k unique (forget f) = tt
@@ -80,14 +80,14 @@ taken_out w k unique (interrupt original) = by (get w.server.held original) (get
 
 -- An event that sends puts what it sends on a link.
 pub led_out : (choice : ℕ → ℕ) (w : World) (e : Event) (o : Outcome) (after : World) → Leads choice w e o after → IsOut after o
-led_out choice w e o after (mounts f m le free) = tt
+led_out choice w e o after (mounts f m minor le free) = tt
 led_out choice w e o after (calls call ready less) = tt
 led_out choice w e o after (reads_interrupt original rest live is) = put_last w.requests _
 led_out choice w e o after (reads_forgets n unique forgets may is) = put_last w.requests _
 led_out choice w e o after (reads_pending k unique purpose body may at says) = put_last w.requests _
 led_out choice w e o after (takes k request at) = taken_out w k request.unique request.body
-led_out choice w e o after (performs unique held at) = performed_out w unique (served choice w.server unique held)
-led_out choice w e o after (sends_again unique kept at current) = put_last w.replies _
+led_out choice w e o after (performs unique held at counts) = performed_out w unique (served choice w.server unique held)
+led_out choice w e o after (sends_again unique kept at current counts) = put_last w.replies _
 led_out choice w e o after (writes k sent at) = put_last w.results _
 led_out choice w e o after (settles k result at) = tt
 led_out choice w e o after (signals call fatal state live at) = tt

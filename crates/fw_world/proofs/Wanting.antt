@@ -1,14 +1,19 @@
 -- Where memory was wanting, nothing else refuses the event.
 use Rattle.std.proofs.Common.{◌≡◌, ℕ, ◌||◌, Bool, true, false, true≢false, cond, not, List, [], ◌∷◌, Option, Some, None, inl, inr, nat_eq, nat_lt, nat_le, max, length, slice_get, take, refl, ap, sym, subst, ◌∙◌}
-use Rattle.std.specs.Prelude.{◌⊎◌, IfSome, IfNone}
+use Rattle.std.specs.Prelude.{◌⊎◌, ◌&&◌, IfSome, IfNone}
 use Rattle.std.specs.Option.{unwrap_or, option_map_or}
+use Rattle.fuse_spec.specs.declared.Minor.{Minor}
 use Rattle.fuse_spec.specs.declared.Purpose.{Purpose}
 use Rattle.fuse_spec.specs.declared.Refusal.{Refusal}
 use Rattle.fuse_spec.specs.declared.Refusal.TheVariants as refusal
-use Rattle.fuse_spec.specs.Calls.{Call}
+use Rattle.fuse_spec.specs.Calls.{Call, spoken}
 use Rattle.fuse_spec.specs.Events.{Event, Outcome}
 use Rattle.fuse_spec.specs.Events as event
-use Rattle.fuse_spec.specs.Kernel.{Kernel, is_live, body_of, call_begun}
+use Rattle.fuse_spec.specs.Kernel.{Kernel, is_live, is_aborted, body_of, call_begun, call_put, forgets_read, forgets_singly, advanced, asking_for, released, closed_by, closing_of}
+use Rattle.fuse_spec.specs.Maps.{get, put}
+use Rattle.fuse_spec.specs.Vfs.{Advance, begun}
+use Rattle.fuse_spec.specs.Operations.{Operation}
+use Rattle.fuse_spec.specs.declared.Opened.{Opened}
 use Rattle.fuse_spec.specs.Messages.{Forget, Request, RequestBody, WireReply}
 use Rattle.fuse_spec.specs.Numbers.{counter_end, max_calls, max_validity}
 use Rattle.fuse_spec.specs.Operations.{errno_of}
@@ -17,9 +22,9 @@ use Rattle.fuse_spec.specs.declared.Mark.{Mark}
 use Rattle.fuse_spec.specs.declared.Mark.TheVariants as mark
 use Rattle.fuse_spec.specs.declared.QueuedRequest.{QueuedRequest}
 use Rattle.fuse_spec.specs.Queues.{pending}
-use Rattle.fuse_spec.specs.QueueCalls.{after_reading, pending_at, first_forgets, can_read_forgets, after_read_forgets}
+use Rattle.fuse_spec.specs.QueueCalls.{after_reading, pending_at, can_read_forgets, after_read_forgets}
 use Rattle.fuse_spec.specs.Server.{Server}
-use Rattle.fuse_spec.specs.Steps.{is_past, is_ready, takes_memory, IsRefused, MayChooseFor, RefusedWith, Happens}
+use Rattle.fuse_spec.specs.Steps.{is_past, is_counted_out, is_ready, takes_memory, IsRefused, MayChooseFor, RefusedWith, Happens}
 use Rattle.fuse_spec.specs.Worlds as worlds
 use Rattle.fuse_spec.specs.Taking.{taking}
 use Rattle.std.specs.List.{remove as without}
@@ -47,7 +52,7 @@ use Rattle.fuse_spec.specs.Steps.{taking_request}
 use Rattle.fs_server.specs.Steps.{CanPerform}
 use Rattle.fuse_spec.specs.Copies.{sent_again}
 use Rattle.fs_server.proofs.Performable.{performs_within, copies_within}
-use Rattle.fw_world.proofs.Counters.{server_past, as_judged, world_within}
+use Rattle.fw_world.proofs.Counters.{kernel_low, server_low, count_low, past_by_server, world_within}
 use Rattle.fw_world.proofs.Happening.{mounts, calls, reads, reads_forgets, takes, performs, sends_again}
 use Rattle.fw_world.proofs.Interrupts.{reads_interrupt}
 
@@ -72,38 +77,42 @@ module _ (w : World) (e : Event) (Refuses : Refusal → Type 0) (Can : Type 0) (
 
 -- ---- counters
 
-last_or : (a b c : Bool) → (a || (b || c)) ≡ false → c ≡ false
-last_or true b c e = absurd (cc e)
-last_or false true c e = absurd (cc e)
-last_or false false c e = e
+-- A call that begins counts no node.
+begun_counts : (k : Kernel) (call : Call) → is_counted_out (call_begun k call) ≡ is_counted_out k
+begun_counts k call = ends (cond (is_aborted k.phase) None (closed_by k.vfs.opens call)) ∙ asks begins.operation
+  where
+    begins : Advance Opened
+    begins = begun (is_aborted k.phase) k.vfs call
 
-first_two : (a b c : Bool) → (a || (b || c)) ≡ false → (a || b) ≡ false
-first_two true b c e = absurd (cc e)
-first_two false true c e = absurd (cc e)
-first_two false false c e = refl
+    next : Kernel
+    next = advanced k k.vfs.next_call begins
 
--- The counters of the kernel, where no counter is past its end, and one that went past it.
-pub kernel_low : (w : World) → is_past w ≡ false → is_past_end w.kernel ≡ false
-kernel_low w within = first_two (nat_lt counter_end w.kernel.queues.next) (nat_lt counter_end w.kernel.vfs.next_call) (server_past w.server) within
+    asks : (o : Option (Operation ℕ Opened)) → is_counted_out (asking_for (record k { vfs = begins.vfs }) k.vfs.next_call o) ≡ is_counted_out k
+    asks None = refl
+    asks (Some operation) = refl
 
-some_of : (a b c : Bool) → (a || (b || c)) ≡ true → c ≡ false → (a || b) ≡ true
-some_of true b c e low = refl
-some_of false true c e low = refl
-some_of false false c e low = absurd (true≢false (sym e ∙ low))
+    freed : (q : Kernel) (handle : ℕ) (o : Option Opened) → is_counted_out (released q handle o) ≡ is_counted_out q
+    freed q handle None = refl
+    freed q handle (Some opened) = refl
 
-pub kernel_past : (w : World) (k : Kernel) → is_past w ≡ false → (nat_lt counter_end k.queues.next || (nat_lt counter_end k.vfs.next_call || server_past w.server)) ≡ true → is_past_end k ≡ true
-kernel_past w k within past =
-    some_of (nat_lt counter_end k.queues.next) (nat_lt counter_end k.vfs.next_call) (server_past w.server) past (last_or (nat_lt counter_end w.kernel.queues.next) (nat_lt counter_end w.kernel.vfs.next_call) (server_past w.server) within)
+    ends : (o : Option (ℕ × Opened)) → is_counted_out (closing_of next o) ≡ is_counted_out next
+    ends None = refl
+    ends (Some file) =
+        let closing = put next.closing file.0 file.1 in
+        freed (record next { closing = closing }) file.0 (get closing file.0)
 
 module _ (w : World) (within : is_past w ≡ false) where
   kernel_within : is_past_end w.kernel ≡ false
-  kernel_within = first_two (nat_lt counter_end w.kernel.queues.next) (nat_lt counter_end w.kernel.vfs.next_call) (server_past w.server) within
+  kernel_within = kernel_low w within
+
+  none_out : is_counted_out w.kernel ≡ false
+  none_out = count_low w within
 
   pub server_within : server.is_past_end w.server ≡ false
-  server_within = as_judged w.server ∙ last_or (nat_lt counter_end w.kernel.queues.next) (nat_lt counter_end w.kernel.vfs.next_call) (server_past w.server) within
+  server_within = server_low w within
 
-  past_by : (k : Kernel) → is_past_end k ≡ false → (v : World) → v.kernel ≡ k → v.server ≡ w.server → is_past v ≡ false
-  past_by k low v kernel_is server_is = world_within k w.server low server_within v kernel_is server_is
+  past_by : (k : Kernel) → is_past_end k ≡ false → is_counted_out k ≡ false → (v : World) → v.kernel ≡ k → v.server ≡ w.server → is_past v ≡ false
+  past_by k low none v kernel_is server_is = world_within k w.server low none server_within v kernel_is server_is
 
   -- ---- a call
 
@@ -113,10 +122,13 @@ module _ (w : World) (within : is_past w ≡ false) where
   third false false true e = absurd (cc e)
   third false false false e = refl
 
+  same_counts : (call : Call) → is_counted_out (call_put w.kernel call) ≡ false
+  same_counts call = begun_counts w.kernel (spoken w.kernel.lists_files call) ∙ none_out
+
   pub call_wanting : (call : Call) → begin_refusal w.kernel call ≡ None → (given : Refusal) → given ≡ refusal.NoMemory → RefusedWith w (event.call call) given
   call_wanting call none given is =
-      let begun = third (not (is_ready w.kernel.phase)) (nat_le max_calls (length w.kernel.vfs.calls)) (is_past_end (call_begun w.kernel call)) none in
-      wanting w (event.call call) (event.begun w.kernel.vfs.next_call) (after_call w call) refl (calls w call none (world_within (call_begun w.kernel call) w.server begun server_within (after_call w call) refl refl)) given is
+      let begun = third (not (is_ready w.kernel.phase)) (nat_le max_calls (length w.kernel.vfs.calls)) (is_past_end (call_put w.kernel call)) none in
+      wanting w (event.call call) (event.begun w.kernel.vfs.next_call) (after_call w call) refl (calls w call none (past_by (call_put w.kernel call) begun (same_counts call) (after_call w call) refl refl)) given is
 
   -- ---- reads
 
@@ -146,7 +158,7 @@ module _ (w : World) (within : is_past w ≡ false) where
           let request : Request = record { unique = unique; body = body } in
           let after = worlds.after_read_pending w place unique body in
           let low : is_past_end after.kernel ≡ false = ap (λ (n : ℕ). nat_lt counter_end n || nat_lt counter_end w.kernel.vfs.next_call) (next_read (slice_get (pending w.kernel.queues) place)) ∙ kernel_within in
-          wanting w (event.read_pending place) (event.is_read unique) after refl (reads w place request none (record { purpose = purpose; pending = at; body = there }) (past_by after.kernel low after refl refl)) given is
+          wanting w (event.read_pending place) (event.is_read unique) after refl (reads w place request none (record { purpose = purpose; pending = at; body = there }) (past_by after.kernel low none_out after refl refl)) given is
 
       by : (o : Option (ℕ × Purpose)) → pending_at w.kernel.queues place ≡ o → place_refusal w.kernel o ≡ None → RefusedWith w (event.read_pending place) given
       by None at e = absurd (cc e)
@@ -154,23 +166,24 @@ module _ (w : World) (within : is_past w ≡ false) where
 
   pub forgets_wanting : (n : ℕ) → read_forgets_refusal w.kernel n ≡ None → (given : Refusal) → given ≡ refusal.NoMemory → RefusedWith w (event.read_forgets n) given
   forgets_wanting n none given is =
-      by (first_forgets w.kernel.queues n) refl (last_cond (not (is_live w.kernel.phase)) (not (nat_eq (length w.kernel.queues.interrupts) 0)) (forgets_refusal w.kernel n (first_forgets w.kernel.queues n)) none)
+      by (forgets_read w.kernel n) refl (last_cond (not (is_live w.kernel.phase)) (not (nat_eq (length w.kernel.queues.interrupts) 0)) (forgets_refusal w.kernel n (forgets_read w.kernel n)) none)
     where
       low : (past : Bool) → ◌≡◌ {A = Option Refusal} (cond past (Some refusal.Exhausted) None) None → past ≡ false
       low true e = absurd (cc e)
       low false e = refl
 
-      next_of : (c : Bool) (read : ℕ × List Forget) → cond c (Some (w.kernel.queues.next, take n w.kernel.queues.forgets)) None ≡ Some read → read ≡ (w.kernel.queues.next, read.1)
-      next_of true read e = let is : ◌≡◌ {A = ℕ × List Forget} read (w.kernel.queues.next, take n w.kernel.queues.forgets) = sym (cc e) in ap (λ (u : ℕ). (u, read.1)) (ap (λ (x : ℕ × List Forget). x.0) is)
-      next_of false read e = absurd (cc e)
+      next_of : (single c : Bool) (read : ℕ × List Forget) → cond single None (cond c (Some (w.kernel.queues.next, take n w.kernel.queues.forgets)) None) ≡ Some read → read ≡ (w.kernel.queues.next, read.1)
+      next_of true c read e = absurd (cc e)
+      next_of false true read e = let is : ◌≡◌ {A = ℕ × List Forget} read (w.kernel.queues.next, take n w.kernel.queues.forgets) = sym (cc e) in ap (λ (u : ℕ). (u, read.1)) (ap (λ (x : ℕ × List Forget). x.0) is)
+      next_of false false read e = absurd (cc e)
 
-      by : (o : Option (ℕ × List Forget)) → first_forgets w.kernel.queues n ≡ o → forgets_refusal w.kernel n o ≡ None → RefusedWith w (event.read_forgets n) given
+      by : (o : Option (ℕ × List Forget)) → forgets_read w.kernel n ≡ o → forgets_refusal w.kernel n o ≡ None → RefusedWith w (event.read_forgets n) given
       by None at e = absurd (cc e)
       by (Some read) at e =
-          let number : read ≡ (w.kernel.queues.next, read.1) = next_of (can_read_forgets w.kernel.queues n) read at in
+          let number : read ≡ (w.kernel.queues.next, read.1) = next_of (forgets_singly w.kernel.minor && nat_lt 1 n) (can_read_forgets w.kernel.queues n) read at in
           let after = worlds.after_read_forgets w n read.1 in
           wanting w (event.read_forgets n) (event.is_read w.kernel.queues.next) after refl
-          (reads_forgets w n read.1 none (at ∙ ap Some number) (past_by (record w.kernel { queues = after_read_forgets w.kernel.queues n }) (low (is_past_end (record w.kernel { queues = after_read_forgets w.kernel.queues n })) e) after refl refl)) given is
+          (reads_forgets w n read.1 none (at ∙ ap Some number) (past_by (record w.kernel { queues = after_read_forgets w.kernel.queues n }) (low (is_past_end (record w.kernel { queues = after_read_forgets w.kernel.queues n })) e) none_out after refl refl)) given is
 
   pub interrupt_wanting : read_interrupt_refusal w.kernel ≡ None → (given : Refusal) → given ≡ refusal.NoMemory → RefusedWith w event.read_interrupt given
   interrupt_wanting none given is = by w.kernel.queues.interrupts refl (rest (not (is_live w.kernel.phase)) (oldest_refusal w.kernel.queues.interrupts) none)
@@ -186,7 +199,7 @@ module _ (w : World) (within : is_past w ≡ false) where
   -- ---- a request performed, and one more copy
 
   past_of : (s : Server) → server.is_past_end s ≡ false → (v : World) → v.kernel ≡ w.kernel → v.server ≡ s → is_past v ≡ false
-  past_of s low v kernel_is server_is = world_within w.kernel s kernel_within low v kernel_is server_is
+  past_of s low v kernel_is server_is = world_within w.kernel s kernel_within none_out low v kernel_is server_is
 
   same_kernel : (v : World) (number unique : ℕ) (wire : Option WireReply) → (worlds.replying v number unique wire).kernel ≡ v.kernel
   same_kernel v number unique None = refl
@@ -205,19 +218,19 @@ module _ (w : World) (within : is_past w ≡ false) where
       let reply = cond w.server.aborted None (Some did.wire) in
       let low = performs_within w.server unique can.held can.there can server_within some.0 may in
       wanting w (event.perform unique) (event.performed unique (errno_of did.wire) w.server.aborted) after refl
-      (performs some.0 w unique can.held can.there some.1 did refl
+      (performs some.0 w unique can.held can.there can.counts some.1 did refl
       (past_of did.server low after (same_kernel (record w { server = did.server }) w.server.next_copy unique reply) (same_server (record w { server = did.server }) w.server.next_copy unique reply))) given is
 
   pub again_wanting : (unique : ℕ) → CanSendAgain w.server unique → (given : Refusal) → given ≡ refusal.NoMemory → RefusedWith w (event.again unique) given
   again_wanting unique can given is =
       let after = after_again w unique can.kept in
       wanting w (event.again unique) (event.sent_again unique) after refl
-      (sends_again w unique can.kept can.there can.current (past_of (sent_again w.server unique can.kept) (copies_within w.server unique can.kept can.number server_within) after refl refl)) given is
+      (sends_again w unique can.kept can.there can.current can.counts (past_of (sent_again w.server unique can.kept) (copies_within w.server unique can.kept can.number server_within) after refl refl)) given is
 
 -- ---- a mount
 
-pub mount_wanting : (w : World) (found_ms missing_ms : ℕ) → nat_lt max_validity (max found_ms missing_ms) ≡ false → mount_refusal w.kernel ≡ None → (given : Refusal) → given ≡ refusal.NoMemory → RefusedWith w (event.mount found_ms missing_ms) given
-mount_wanting w found_ms missing_ms day none given is = wanting w (event.mount found_ms missing_ms) event.mounted (worlds.after_mount w found_ms missing_ms) refl (mounts w found_ms missing_ms day none) given is
+pub mount_wanting : (w : World) (found_ms missing_ms : ℕ) (minor : Minor) → nat_lt max_validity (max found_ms missing_ms) ≡ false → mount_refusal w.kernel ≡ None → (given : Refusal) → given ≡ refusal.NoMemory → RefusedWith w (event.mount found_ms missing_ms minor) given
+mount_wanting w found_ms missing_ms minor day none given is = wanting w (event.mount found_ms missing_ms minor) event.mounted (worlds.after_mount w found_ms missing_ms minor) refl (mounts w found_ms missing_ms minor day none) given is
 
 -- ---- a request taken
 
@@ -246,11 +259,6 @@ take_wanting w within place request bytes there frame can given is =
     wanting w (event.take place) (event.taken request.unique took.word) after refl
     (takes w place request there (past_of w within took.server low after (taken_kernel w place request) (taken_server w place request))) given is
 
-past_server : (a b c : Bool) → c ≡ true → (a || (b || c)) ≡ true
-past_server true b c e = refl
-past_server false true c e = refl
-past_server false false c e = e
-
 -- A request on the link has no fault; so it is refused for want of a number, or of memory where nothing else refuses it.
 pub take_refused : (w : World) → is_past w ≡ false → IsReached w → (place : ℕ) (request : Request) (bytes : List ℕ) (fault : ServerFault) → slice_get w.requests place ≡ Some request → IsRequestFrame bytes request → RefusesFrame w.server bytes fault
     → (fault ≡ Memory → CanTake w.server bytes) → RefusedWith w (event.take place) (refusal_for fault)
@@ -266,11 +274,11 @@ take_refused w within here place request bytes fault there frame refuses can =
     by true past is =
         let did = taking w.server request.unique request.body in
         let after = after_take w place request.unique did in
-        let over : server_past after.server ≡ true = sym (as_judged after.server) ∙ ap server.is_past_end (taken_server w place request) ∙ past in
+        let over : server.is_past_end after.server ≡ true = ap server.is_past_end (taken_server w place request) ∙ past in
         inl
         (λ choice may.
         ap (taking_request w place) there
-        ∙ is_exhausted (event.taken request.unique did.word) after (past_server (nat_lt counter_end after.kernel.queues.next) (nat_lt counter_end after.kernel.vfs.next_call) (server_past after.server) over))
+        ∙ is_exhausted (event.taken request.unique did.word) after (past_by_server after over))
     by false past is = take_wanting w within place request bytes there frame (can is) refusal.NoMemory refl
 
 -- The copy with which a frame is taken, if it is answered at once, has the room that was made for it.

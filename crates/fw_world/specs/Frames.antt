@@ -12,9 +12,7 @@ use Rattle.fw_world.specs.declared.event.Outcome.TheVariants as outcome
 -- The bytes are the one frame in which this copy of a reply is written.
 pub record IsCopyFrame (bytes : List ℕ) (sent : Sent) : Type 0 where
   pub opcode : Opcode
-  -- those that an answer to INIT takes up
-  pub flags : ℕ
-  pub written : IsReplyFrame opcode bytes (record { unique = sent.unique; wire = sent.wire; flags = flags })
+  pub written : IsReplyFrame opcode bytes (record { unique = sent.unique; wire = sent.wire })
 
 -- The bytes are the frame of the last request on the request link, or of the last copy on the reply link.
 pub data IsLastFrame (w : World) (bytes : List ℕ) : Type 0 where

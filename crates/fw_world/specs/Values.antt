@@ -27,7 +27,7 @@ read_of (pick.Pending place) = event.read_pending place
 
 -- the event of the definitions
 abbrev pub event_of : Event → event.Event
-event_of (Mount found_ms missing_ms) = event.mount found_ms missing_ms
+event_of (Mount found_ms missing_ms minor) = event.mount found_ms missing_ms minor
 event_of (Call call) = event.call (call_of call)
 event_of (Read pick) = read_of pick
 event_of (Take place) = event.take place

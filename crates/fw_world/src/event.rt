@@ -2,7 +2,7 @@
 
 use fk_kernel::Call;
 use fk_wire::Opcode;
-use fuse_spec::{IntrEffect, Taken, WriteResult};
+use fuse_spec::{IntrEffect, Minor, Taken, WriteResult};
 
 /// What is read from the kernel's lists, and goes into the request link.
 #[derive(Clone, Copy, Debug, PartialEq, Eq)]
@@ -18,8 +18,12 @@ pub enum Pick {
 /// One event: an atomic step of the world. Paths are lent.
 #[derive(Clone, Copy, Debug)]
 pub enum Event<'a> {
-    /// The kernel mounts, and the server with these validities of found and of missing names, in milliseconds.
-    Mount { found_ms: u64, missing_ms: u64 },
+    /// The kernel mounts, and the server, which speaks this minor, with these validities of found and of missing names, in milliseconds.
+    Mount {
+        found_ms: u64,
+        missing_ms: u64,
+        minor: Minor,
+    },
     /// A system call begins.
     Call(Call<'a>),
     /// A request is read from the kernel, and goes into the request link.
@@ -35,11 +39,17 @@ pub enum Event<'a> {
     /// The server takes the result at a place of the result link.
     Settle(u64),
     /// An unanswered call is signalled, fatally or not.
-    Interrupt { call: u64, fatal: bool },
+    Interrupt {
+        call: u64,
+        fatal: bool,
+    },
     /// So many milliseconds pass.
     Tick(u64),
     /// The name of a directory, which is a node, is in force no longer.
-    DropName { directory: u64, name: &'a [u8] },
+    DropName {
+        directory: u64,
+        name: &'a [u8],
+    },
     /// The kernel gives a node up, and its whole lookup count is to be forgotten.
     Evict(u64),
     /// The connection is aborted: every unanswered call is answered ECONNABORTED, and the links are emptied.

@@ -25,7 +25,7 @@ use fk_kernel::{Answer, Call, Kernel};
 use fk_wire::Opcode;
 use fs_server::{Server, ServerFault};
 use fuse_frames::{ReplyCopy, RequestFrame};
-use fuse_spec::{Refusal, ReplyResult, Taken};
+use fuse_spec::{Minor, Refusal, ReplyResult, Taken};
 use std::alloc::{Allocator, Global};
 use std::marker::Model;
 
@@ -120,7 +120,8 @@ impl<A: Allocator + Copy> WorldIn<A> {
             Event::Mount {
                 found_ms,
                 missing_ms,
-            } => self.mount(*found_ms, *missing_ms),
+                minor,
+            } => self.mount(*found_ms, *missing_ms, *minor),
             Event::Call(call) => self.call(call),
             Event::Read(pick) => self.read(*pick),
             Event::Take(place) => self.take(*place),
@@ -239,10 +240,10 @@ impl<A: Allocator + Copy> WorldIn<A> {
         }
     }
 
-    fn mount(&mut self, found_ms: u64, missing_ms: u64) -> Result<Outcome, Refusal>
+    fn mount(&mut self, found_ms: u64, missing_ms: u64, minor: Minor) -> Result<Outcome, Refusal>
         ensures err { OnErr result (self.new ≡ self.old) }
-        ensures refusal { IfErr result (RefusedWith self.old (event.mount found_ms missing_ms)) }
-        ensures happens { IfOk result (λ outcome. Happens self.old (event.mount found_ms missing_ms) (outcome_of outcome) self.new) }
+        ensures refusal { IfErr result (RefusedWith self.old (event.mount found_ms missing_ms minor)) }
+        ensures happens { IfOk result (λ outcome. Happens self.old (event.mount found_ms missing_ms minor) (outcome_of outcome) self.new) }
         ensures shows { IfOk result (IsShown self.new) }
     {
         if found_ms > MAX_VALIDITY || missing_ms > MAX_VALIDITY {
@@ -251,7 +252,7 @@ impl<A: Allocator + Copy> WorldIn<A> {
         if let Err(refusal) = self.kernel.mount() {
             return Err(refusal);
         }
-        self.server.remount(found_ms, missing_ms);
+        self.server.remount(found_ms, missing_ms, minor);
         clear_links(&mut self.requests, &mut self.replies, &mut self.results);
         Ok(Outcome::Mounted)
     }
@@ -669,6 +670,7 @@ fn within<A: Allocator + Copy>(kernel: &Kernel<A>, server: &Server<A>)
     ensures { (world : WorldState) → world.kernel ≡ kernel.now → world.server ≡ server.now → is_past world ≡ false }
 {
     kernel.within();
+    kernel.counts_within();
     server.within();
 }
 

@@ -3,9 +3,9 @@
 use crate::tests::tried::{Outcome, Tried, judged, run};
 use fail_at::FailAt;
 use fk_wire::{Request, RequestBody, write_request};
-use fs_server::{Server, ServerFault, fault_reply};
+use fs_server::{Server, ServerFault, fault_reply_at};
 use fuse_frames::ReplyCopy;
-use fuse_spec::{Refusal, ReplyResult, Taken, WriteResult};
+use fuse_spec::{Minor, Refusal, ReplyResult, Taken, WriteResult};
 use std::alloc::{AllocError, Allocator, Global};
 use std::process::Abort;
 
@@ -32,6 +32,7 @@ pub enum Asks {
     Release(u64),
     /// The offset and the size.
     Readdir(u64, u32),
+    Readdirplus(u64, u32),
 }
 
 /// A step, and what it must give. Frames are in hexadecimal digits; spaces are for reading alone.
@@ -39,6 +40,8 @@ pub enum Asks {
 pub enum Row {
     /// A mount: how long found and missing names are valid, in milliseconds.
     Mount(u64, u64),
+    /// The same of a server that speaks minor 15.
+    Mount15(u64, u64),
     Abort,
     /// A request is held: its unique, its node and what it asks.
     Holds(u64, u64, Asks),
@@ -103,6 +106,7 @@ fn body_of(asks: Asks) -> RequestBody<'static> {
         },
         Asks::Release(fh) => RequestBody::Release { fh },
         Asks::Readdir(offset, size) => RequestBody::Readdir { offset, size },
+        Asks::Readdirplus(offset, size) => RequestBody::Readdirplus { offset, size },
     }
 }
 
@@ -188,12 +192,18 @@ fn answers<A: Allocator + Copy>(
     }
 }
 
-/// Whether the error reply to a faulty frame is this one, or there is none.
-fn is_fault_reply(alloc: Global, frame: &[u8], fault: ServerFault, text: Option<&str>) -> bool {
+/// Whether the error reply to a faulty frame is this one at a minor, or there is none.
+fn is_fault_reply(
+    alloc: Global,
+    minor: Minor,
+    frame: &[u8],
+    fault: ServerFault,
+    text: Option<&str>,
+) -> bool {
     let Ok(mut out) = Vec::with_capacity(alloc, 16) else {
         return false;
     };
-    let replied = fault_reply(frame, fault, &mut out);
+    let replied = fault_reply_at(minor, frame, fault, &mut out);
     match text {
         Some(text) => replied && spells(alloc, &out, text),
         None => !replied && out.is_empty(),
@@ -207,9 +217,10 @@ fn refuses<A: Allocator + Copy>(
     fault: ServerFault,
     text: Option<&str>,
 ) -> Outcome {
+    let minor = server.minor();
     match server.take(frame) {
         Ok(_) => Outcome::Wrong,
-        Err(given) => judged(given == fault && is_fault_reply(alloc, frame, fault, text)),
+        Err(given) => { judged(given == fault && is_fault_reply(alloc, minor, frame, fault, text)) }
     }
 }
 
@@ -255,12 +266,17 @@ fn lists<A: Allocator + Copy>(server: &Server<A>, heap: A, nodes: &[(u64, u64, u
     }
 }
 
-fn mounts<A: Allocator + Copy>(server: &mut Server<A>, found_ms: u64, missing_ms: u64) -> bool {
+fn mounts<A: Allocator + Copy>(
+    server: &mut Server<A>,
+    found_ms: u64,
+    missing_ms: u64,
+    minor: Minor,
+) -> bool {
     if found_ms > MAX_VALIDITY || missing_ms > MAX_VALIDITY {
         return false;
     }
-    server.remount(found_ms, missing_ms);
-    !server.is_aborted()
+    server.remount(found_ms, missing_ms, minor);
+    !server.is_aborted() && server.minor() == minor
 }
 
 fn aborts<A: Allocator + Copy>(server: &mut Server<A>) -> bool {
@@ -323,7 +339,12 @@ fn settled(number: u64, unique: u64, written: WriteResult) -> ReplyResult {
 impl<A: Allocator + Copy> Tried<A, Row> for Server<A> {
     fn attempt(&mut self, heap: A, alloc: Global, row: Row) -> Outcome {
         match row {
-            Row::Mount(found_ms, missing_ms) => judged(mounts(self, found_ms, missing_ms)),
+            Row::Mount(found_ms, missing_ms) => {
+                judged(mounts(self, found_ms, missing_ms, Minor::M31))
+            }
+            Row::Mount15(found_ms, missing_ms) => {
+                judged(mounts(self, found_ms, missing_ms, Minor::M15))
+            }
             Row::Abort => judged(aborts(self)),
             Row::Holds(unique, nodeid, asks) => holds(self, alloc, unique, nodeid, asks),
             Row::Takes(digits, _) => take_digits(self, alloc, digits, row),
@@ -343,6 +364,29 @@ impl<A: Allocator + Copy> Tried<A, Row> for Server<A> {
             Row::Nodes(nodes) => lists(self, heap, nodes),
         }
     }
+}
+
+/// A server, which is made again where a growth of it was refused.
+fn made<A: Allocator + Copy>(heap: A) -> Result<Server<A>, AllocError> {
+    match Server::new(heap) {
+        Ok(server) => Ok(server),
+        Err(AllocError) => Server::new(heap),
+    }
+}
+
+/// Tries the rows of two lists on a new server, whose heap may refuse a growth.
+pub fn run_refused<A: Allocator + Copy>(
+    rt: &impl Abort,
+    heap: A,
+    refusing: &FailAt<Global>,
+    alloc: Global,
+    first: &[Row],
+    rows: &[Row],
+    name: &str,
+) -> Result<(), AllocError> {
+    let server = made(heap)?;
+    run(rt, server, heap, refusing, alloc, first, rows, name);
+    Ok(())
 }
 
 /// Tries the rows of two lists on a new server, and refuses no growth.

@@ -15,7 +15,7 @@ static START: [Row; 6] = [
     Row::Performs(
         2,
         0,
-        "50000000 00000000 0200000000000000 07000000 1f000000 00000000 01000400 0000 0000 00100000 01000000 0000 0000 00000000 00000000 00000000 00000000 00000000 00000000 00000000 00000000",
+        "50000000 00000000 0200000000000000 07000000 1f000000 00000000 01200400 0000 0000 00100000 01000000 0000 0000 00000000 00000000 00000000 00000000 00000000 00000000 00000000 00000000",
     ),
     Row::Settles(1, 2, WriteResult::Accepted),
     Row::Holds(4, 1, Asks::Mkdir("a")),
@@ -27,7 +27,7 @@ static START: [Row; 6] = [
 ];
 
 /// Faulty frames, and the replies to them. They change nothing.
-static FAULTY: [Row; 16] = [
+static FAULTY: [Row; 17] = [
     Row::Settles(2, 4, WriteResult::Accepted),
     // a frame of 39 bytes
     Row::Refuses(
@@ -41,11 +41,11 @@ static FAULTY: [Row; 16] = [
         ServerFault::Wire,
         Some("10000000 daffffff 6400000000000000"),
     ),
-    // a READDIRPLUS, which is not known so far
+    // a READDIRPLUS without its last eight bytes
     Row::Refuses(
-        "50000000 2c000000 6400000000000000 0100000000000000 00000000 00000000 00000000 00000000 0000000000000000 0000000000000000 00100000 00000000 0000000000000000 00000000 00000000",
+        "48000000 2c000000 6400000000000000 0100000000000000 00000000 00000000 00000000 00000000 0000000000000000 0000000000000000 00100000 00000000 0000000000000000",
         ServerFault::Wire,
-        Some("10000000 daffffff 6400000000000000"),
+        Some("10000000 fbffffff 6400000000000000"),
     ),
     // a LOOKUP of no name, and one whose length is not its own
     Row::Refuses(
@@ -72,6 +72,11 @@ static FAULTY: [Row; 16] = [
     // a node that is not held, also as the second one that a RENAME or a LINK names
     Row::Refuses(
         "2a000000 01000000 6400000000000000 0900000000000000 00000000 00000000 00000000 00000000 6100",
+        ServerFault::UnknownNode,
+        Some("10000000 fbffffff 6400000000000000"),
+    ),
+    Row::Refuses(
+        "50000000 2c000000 6400000000000000 0900000000000000 00000000 00000000 00000000 00000000 0000000000000000 0000000000000000 00100000 00000000 0000000000000000 00000000 00000000",
         ServerFault::UnknownNode,
         Some("10000000 fbffffff 6400000000000000"),
     ),

@@ -1,26 +1,22 @@
 //! The reply to each operation, byte for byte (linux/fuse.h), also with each growth refused in turn.
 
-use crate::tests::frames::{Asks, Row};
-use crate::tests::tried::run;
+use crate::tests::frames::{Asks, Row, run_refused};
 use fail_at::FailAt;
-use fs_server::Server;
 use fuse_spec::{Taken, WriteResult};
-use std::alloc::{AllocError, Allocator, Global};
-use std::process::Abort;
 use std::test::Fail;
 
 /// Each operation, under validities of 1.5 and 0.25 seconds. Each copy is settled.
 static REPLIES: [Row; 65] = [
     Row::Mount(1500, 250),
-    // INIT offers what no server knows beside the two flags
+    // INIT offers what no server knows beside the three flags
     Row::Takes(
-        "38000000 1a000000 0200000000000000 0000000000000000 00000000 00000000 00000000 00000000 07000000 1f000000 00000000 01200400",
+        "38000000 1a000000 0200000000000000 0000000000000000 00000000 00000000 00000000 00000000 07000000 1f000000 00000000 03200400",
         Taken::Held,
     ),
     Row::Performs(
         2,
         0,
-        "50000000 00000000 0200000000000000 07000000 1f000000 00000000 01000400 0000 0000 00100000 01000000 0000 0000 00000000 00000000 00000000 00000000 00000000 00000000 00000000 00000000",
+        "50000000 00000000 0200000000000000 07000000 1f000000 00000000 01200400 0000 0000 00100000 01000000 0000 0000 00000000 00000000 00000000 00000000 00000000 00000000 00000000 00000000",
     ),
     Row::Settles(1, 2, WriteResult::Accepted),
     Row::Holds(4, 1, Asks::Lookup("d")),
@@ -159,34 +155,12 @@ static COPIES: [Row; 16] = [
     Row::Lost(52, 0),
 ];
 
-/// A server, which is made again where a growth of it was refused.
-fn made<A: Allocator + Copy>(heap: A) -> Result<Server<A>, AllocError> {
-    match Server::new(heap) {
-        Ok(server) => Ok(server),
-        Err(AllocError) => Server::new(heap),
-    }
-}
-
-/// Both on a new server.
-fn run_replies<A: Allocator + Copy>(
-    rt: &impl Abort,
-    heap: A,
-    refusing: &FailAt<Global>,
-    alloc: Global,
-) -> Result<(), AllocError> {
-    let server = made(heap)?;
-    run(
-        rt, server, heap, refusing, alloc, &REPLIES, &COPIES, "replies",
-    );
-    Ok(())
-}
-
 #[test]
 fn each_growth_refused(rt: HostRuntime) -> Result<(), Fail> {
     let heap = FailAt::new(rt.alloc());
     let mut runs = 0;
     for n in heap.each_growth(400) {
-        run_replies(&rt, &heap, &heap, rt.alloc())?;
+        run_refused(&rt, &heap, &heap, rt.alloc(), &REPLIES, &COPIES, "replies")?;
         runs = n;
     }
     assert!(rt; 40 < runs && runs < 400, "{runs}");

@@ -1,4 +1,5 @@
 -- A worked run: abort after do and remount.
+use Rattle.fuse_spec.specs.declared.Minor.TheVariants as minor
 use Rattle.std.specs.Prelude.{◌≡◌, List, [], ◌∷◌, codes, false}
 use Rattle.fuse_spec.specs.Events.{Event}
 use Rattle.fuse_spec.specs.Events as event
@@ -14,7 +15,7 @@ use Rattle.fuse_spec.specs.declared.Kind.TheVariants as kind
 -- The events of the run, what both worlds have to record of them, and both worlds after them. (this project's rule)
 abbrev pub events_0 : List Event
 events_0 =
-    event.mount 1000 0 ∷
+    event.mount 1000 0 minor.M31 ∷
     event.read_pending 0 ∷
     event.take 0 ∷
     event.perform 2 ∷
@@ -30,7 +31,7 @@ events_0 =
     event.read_pending 0 ∷
     event.write 0 ∷
     event.again 4 ∷
-    event.mount 1000 0 ∷
+    event.mount 1000 0 minor.M31 ∷
     event.read_pending 0 ∷
     event.take 0 ∷
     event.perform 2 ∷

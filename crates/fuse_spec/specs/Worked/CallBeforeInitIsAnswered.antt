@@ -1,4 +1,5 @@
 -- A worked run: call before init is answered.
+use Rattle.fuse_spec.specs.declared.Minor.TheVariants as minor
 use Rattle.std.specs.Prelude.{List, [], ◌∷◌, codes}
 use Rattle.fuse_spec.specs.Events.{Event}
 use Rattle.fuse_spec.specs.Events as event
@@ -10,7 +11,7 @@ use Rattle.fuse_spec.specs.declared.Refusal.TheVariants as refusal
 -- The events of the run, what both worlds have to record of them, and both worlds after them. (this project's rule)
 abbrev pub events_0 : List Event
 events_0 =
-    event.mount 1000 0 ∷
+    event.mount 1000 0 minor.M31 ∷
     event.call (call.stat (codes "/a")) ∷
     []
 

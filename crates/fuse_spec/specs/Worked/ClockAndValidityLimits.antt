@@ -1,4 +1,5 @@
 -- A worked run: clock and validity limits.
+use Rattle.fuse_spec.specs.declared.Minor.TheVariants as minor
 use Rattle.std.specs.Prelude.{List, [], ◌∷◌}
 use Rattle.fuse_spec.specs.Events.{Event}
 use Rattle.fuse_spec.specs.Events as event
@@ -9,7 +10,7 @@ use Rattle.fuse_spec.specs.declared.Refusal.TheVariants as refusal
 -- The events of the run, what both worlds have to record of them, and both worlds after them. (this project's rule)
 abbrev pub events_0 : List Event
 events_0 =
-    event.mount 86400001 0 ∷
+    event.mount 86400001 0 minor.M31 ∷
     event.tick 9007199254740992 ∷
     event.tick 9007199254740991 ∷
     event.tick 1 ∷

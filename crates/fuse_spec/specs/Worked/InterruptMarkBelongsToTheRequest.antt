@@ -1,4 +1,5 @@
 -- A worked run: interrupt mark belongs to the request.
+use Rattle.fuse_spec.specs.declared.Minor.TheVariants as minor
 use Rattle.std.specs.Prelude.{List, [], ◌∷◌, codes, false}
 use Rattle.fuse_spec.specs.Events.{Event}
 use Rattle.fuse_spec.specs.Events as event
@@ -13,7 +14,7 @@ use Rattle.fuse_spec.specs.declared.IntrEffect.TheVariants as effect
 -- The events of the run, what both worlds have to record of them, and both worlds after them. (this project's rule)
 abbrev pub events_0 : List Event
 events_0 =
-    event.mount 1000 0 ∷
+    event.mount 1000 0 minor.M31 ∷
     event.read_pending 0 ∷
     event.take 0 ∷
     event.perform 2 ∷

@@ -28,7 +28,7 @@ static UNKNOWN_EVENT: [&[u8]; 18] = [
 ];
 
 /// Too few words or too many, an empty one, or no signal in its place, whatever else is wrong.
-static WRONG_WORDS: [&[u8]; 41] = [
+static WRONG_WORDS: [&[u8]; 42] = [
     b"call stat",
     b"call stat ",
     b"call stat /a b",
@@ -37,7 +37,8 @@ static WRONG_WORDS: [&[u8]; 41] = [
     b"mount",
     b"mount 1",
     b"mount 1  0",
-    b"mount 1 0 0",
+    b"mount 1 0 15 15",
+    b"mount 1 0 ",
     b"read p",
     b"read i 0",
     b"read i ",
@@ -73,8 +74,12 @@ static WRONG_WORDS: [&[u8]; 41] = [
 ];
 
 /// A number is none, whatever else is wrong.
-static BAD_NUMBER: [&[u8]; 24] = [
+static BAD_NUMBER: [&[u8]; 28] = [
     b"mount x 0",
+    b"mount 1000 0 0",
+    b"mount 1000 0 22",
+    b"mount 1000 0 031",
+    b"mount 1000 0 x",
     b"mount 1000 0x0",
     b"mount 01000 0",
     b"mount 0 00",

@@ -158,8 +158,8 @@ static SECOND: [Row; 8] = [
         script: "mount 1000 0\nread p 0\ntake 0\ndo 2\nwrite 0\nsettle 0\ncall stat /a\nread p 0\n",
         output: "mounted\nread 2 INIT 56\n\
             frame 380000001a0000000200000000000000000000000000000000000000000000000000000000000000070000001f00000000\
-            00000001000400\ntaken 2 held\ndone 2 0 80\n\
-            frame 50000000000000000200000000000000070000001f00000000000000010004000000000000100000010000000000000000\
+            00000001200400\ntaken 2 held\ndone 2 0 80\n\
+            frame 50000000000000000200000000000000070000001f00000000000000012004000000000000100000010000000000000000\
             00000000000000000000000000000000000000000000000000000000000000\nwritten 2 0\nsettled 2 0\ncall 1\n\
             read 4 LOOKUP 42\n\
             frame 2a0000000100000004000000000000000100000000000000000000000000000000000000000000006100\n",
@@ -323,6 +323,106 @@ static FOURTH: [Row; 7] = [
             taken 6 held\ndone 6 27 16\nwritten 6 0\nanswer 2 27\nsettled 6 0\n",
     },
 ];
+
+static FIFTH: [Row; 3] = [
+    Row {
+        name: "listplus-counts-and-binds-each-name",
+        script: "mount 1000 0\nread p 0\ntake 0\ndo 2\nwrite 0\nsettle 0\ncall mkdir /a\nread p 0\ntake 0\ndo 4\n\
+            write 0\nsettle 0\ncall create /bb\nread p 0\ntake 0\ndo 6\nwrite 0\nsettle 0\ntick 1000\n\
+            call listplus / 0\nread p 0\ntake 0\ndo 8\nwrite 0\nsettle 0\nshow\ncall stat /bb\nread p 0\ntake 0\n\
+            do 10\nwrite 0\nsettle 0\n",
+        output: "mounted\nread 2 INIT 56\ntaken 2 held\ndone 2 0 80\nwritten 2 0\nsettled 2 0\ncall 1\n\
+            read 4 MKDIR 50\ntaken 4 held\ndone 4 0 144\nwritten 4 0\nanswer 1 0\nsettled 4 0\ncall 2\n\
+            read 6 CREATE 59\ntaken 6 held\ndone 6 0 160\nwritten 6 0\nanswer 2 0\nsettled 6 0\nnow 1000\ncall 3\n\
+            read 8 READDIRPLUS 80\ntaken 8 held\ndone 8 0 336\nwritten 8 0\nanswer 3 0 a:1:dir bb:2:file\n\
+            settled 8 0\nkernel 2:1:2 3:2:2\nserver 2:1:2 3:2:2\ncall 4\nread 10 GETATTR 56\ntaken 10 held\n\
+            done 10 0 120\nwritten 10 0\nanswer 4 0 file 3 0 1\nsettled 10 0\n",
+    },
+    Row {
+        name: "listplus-one-file-under-two-names",
+        script: "mount 1000 0\nread p 0\ntake 0\ndo 2\nwrite 0\nsettle 0\ncall create /a\nread p 0\ntake 0\ndo 4\n\
+            write 0\nsettle 0\ncall link /a /b\nread p 0\ntake 0\ndo 6\nwrite 0\nsettle 0\ncall listplus / 0\n\
+            read p 0\ntake 0\ndo 8\nwrite 0\nsettle 0\nshow\n",
+        output: "mounted\nread 2 INIT 56\ntaken 2 held\ndone 2 0 80\nwritten 2 0\nsettled 2 0\ncall 1\n\
+            read 4 CREATE 58\ntaken 4 held\ndone 4 0 160\nwritten 4 0\nanswer 1 0\nsettled 4 0\ncall 2\n\
+            read 6 LINK 50\ntaken 6 held\ndone 6 0 144\nwritten 6 0\nanswer 2 0\nsettled 6 0\ncall 3\n\
+            read 8 READDIRPLUS 80\ntaken 8 held\ndone 8 0 336\nwritten 8 0\nanswer 3 0 a:1:file b:2:file\n\
+            settled 8 0\nkernel 2:1:4\nserver 2:1:4\n",
+    },
+    Row {
+        name: "listplus-refused-copy-gives-every-count-back",
+        script: "mount 1000 0\nread p 0\ntake 0\ndo 2\nwrite 0\nsettle 0\ncall mkdir /a\nread p 0\ntake 0\ndo 4\n\
+            write 0\nsettle 0\ncall create /bb\nread p 0\ntake 0\ndo 6\nwrite 0\nsettle 0\ntick 1000\n\
+            call listplus / 0\nread p 0\ntake 0\ndo 8\nagain 8\nwrite 0\nwrite 0\nsettle 0\nshow\nsettle 0\nshow\n",
+        output: "mounted\nread 2 INIT 56\ntaken 2 held\ndone 2 0 80\nwritten 2 0\nsettled 2 0\ncall 1\n\
+            read 4 MKDIR 50\ntaken 4 held\ndone 4 0 144\nwritten 4 0\nanswer 1 0\nsettled 4 0\ncall 2\n\
+            read 6 CREATE 59\ntaken 6 held\ndone 6 0 160\nwritten 6 0\nanswer 2 0\nsettled 6 0\nnow 1000\ncall 3\n\
+            read 8 READDIRPLUS 80\ntaken 8 held\ndone 8 0 336\nagain 8 336\nwritten 8 0\n\
+            answer 3 0 a:1:dir bb:2:file\nwritten 8 2\nsettled 8 0\nkernel 2:1:2 3:2:2\nserver 2:1:3 3:2:3\n\
+            settled 8 2\nkernel 2:1:2 3:2:2\nserver 2:1:2 3:2:2\n",
+    },
+];
+
+static SIXTH: [Row; 1] = [Row {
+    name: "listplus-of-thirty-names-in-two-replies",
+    script: "mount 1000 0\nread p 0\ntake 0\ndo 2\nwrite 0\nsettle 0\ncall mkdir /d00\nread p 0\ntake 0\ndo 4\n\
+            write 0\nsettle 0\ncall mkdir /d01\nread p 0\ntake 0\ndo 6\nwrite 0\nsettle 0\ncall mkdir /d02\n\
+            read p 0\ntake 0\ndo 8\nwrite 0\nsettle 0\ncall mkdir /d03\nread p 0\ntake 0\ndo 10\nwrite 0\nsettle 0\n\
+            call mkdir /d04\nread p 0\ntake 0\ndo 12\nwrite 0\nsettle 0\ncall mkdir /d05\nread p 0\ntake 0\ndo 14\n\
+            write 0\nsettle 0\ncall mkdir /d06\nread p 0\ntake 0\ndo 16\nwrite 0\nsettle 0\ncall mkdir /d07\n\
+            read p 0\ntake 0\ndo 18\nwrite 0\nsettle 0\ncall mkdir /d08\nread p 0\ntake 0\ndo 20\nwrite 0\nsettle 0\n\
+            call mkdir /d09\nread p 0\ntake 0\ndo 22\nwrite 0\nsettle 0\ncall mkdir /d10\nread p 0\ntake 0\ndo 24\n\
+            write 0\nsettle 0\ncall mkdir /d11\nread p 0\ntake 0\ndo 26\nwrite 0\nsettle 0\ncall mkdir /d12\n\
+            read p 0\ntake 0\ndo 28\nwrite 0\nsettle 0\ncall mkdir /d13\nread p 0\ntake 0\ndo 30\nwrite 0\nsettle 0\n\
+            call mkdir /d14\nread p 0\ntake 0\ndo 32\nwrite 0\nsettle 0\ncall mkdir /d15\nread p 0\ntake 0\ndo 34\n\
+            write 0\nsettle 0\ncall mkdir /d16\nread p 0\ntake 0\ndo 36\nwrite 0\nsettle 0\ncall mkdir /d17\n\
+            read p 0\ntake 0\ndo 38\nwrite 0\nsettle 0\ncall mkdir /d18\nread p 0\ntake 0\ndo 40\nwrite 0\nsettle 0\n\
+            call mkdir /d19\nread p 0\ntake 0\ndo 42\nwrite 0\nsettle 0\ncall mkdir /d20\nread p 0\ntake 0\ndo 44\n\
+            write 0\nsettle 0\ncall mkdir /d21\nread p 0\ntake 0\ndo 46\nwrite 0\nsettle 0\ncall mkdir /d22\n\
+            read p 0\ntake 0\ndo 48\nwrite 0\nsettle 0\ncall mkdir /d23\nread p 0\ntake 0\ndo 50\nwrite 0\nsettle 0\n\
+            call mkdir /d24\nread p 0\ntake 0\ndo 52\nwrite 0\nsettle 0\ncall mkdir /d25\nread p 0\ntake 0\ndo 54\n\
+            write 0\nsettle 0\ncall mkdir /d26\nread p 0\ntake 0\ndo 56\nwrite 0\nsettle 0\ncall mkdir /d27\n\
+            read p 0\ntake 0\ndo 58\nwrite 0\nsettle 0\ncall mkdir /d28\nread p 0\ntake 0\ndo 60\nwrite 0\nsettle 0\n\
+            call mkdir /d29\nread p 0\ntake 0\ndo 62\nwrite 0\nsettle 0\ncall listplus / 0\nread p 0\ntake 0\ndo 64\n\
+            write 0\nsettle 0\ncall listplus / 25\nread p 0\ntake 0\ndo 66\nwrite 0\nsettle 0\ncall listplus / 30\n\
+            read p 0\ntake 0\ndo 68\nwrite 0\nsettle 0\n",
+    output: "mounted\nread 2 INIT 56\ntaken 2 held\ndone 2 0 80\nwritten 2 0\nsettled 2 0\ncall 1\n\
+            read 4 MKDIR 52\ntaken 4 held\ndone 4 0 144\nwritten 4 0\nanswer 1 0\nsettled 4 0\ncall 2\n\
+            read 6 MKDIR 52\ntaken 6 held\ndone 6 0 144\nwritten 6 0\nanswer 2 0\nsettled 6 0\ncall 3\n\
+            read 8 MKDIR 52\ntaken 8 held\ndone 8 0 144\nwritten 8 0\nanswer 3 0\nsettled 8 0\ncall 4\n\
+            read 10 MKDIR 52\ntaken 10 held\ndone 10 0 144\nwritten 10 0\nanswer 4 0\nsettled 10 0\ncall 5\n\
+            read 12 MKDIR 52\ntaken 12 held\ndone 12 0 144\nwritten 12 0\nanswer 5 0\nsettled 12 0\ncall 6\n\
+            read 14 MKDIR 52\ntaken 14 held\ndone 14 0 144\nwritten 14 0\nanswer 6 0\nsettled 14 0\ncall 7\n\
+            read 16 MKDIR 52\ntaken 16 held\ndone 16 0 144\nwritten 16 0\nanswer 7 0\nsettled 16 0\ncall 8\n\
+            read 18 MKDIR 52\ntaken 18 held\ndone 18 0 144\nwritten 18 0\nanswer 8 0\nsettled 18 0\ncall 9\n\
+            read 20 MKDIR 52\ntaken 20 held\ndone 20 0 144\nwritten 20 0\nanswer 9 0\nsettled 20 0\ncall 10\n\
+            read 22 MKDIR 52\ntaken 22 held\ndone 22 0 144\nwritten 22 0\nanswer 10 0\nsettled 22 0\ncall 11\n\
+            read 24 MKDIR 52\ntaken 24 held\ndone 24 0 144\nwritten 24 0\nanswer 11 0\nsettled 24 0\ncall 12\n\
+            read 26 MKDIR 52\ntaken 26 held\ndone 26 0 144\nwritten 26 0\nanswer 12 0\nsettled 26 0\ncall 13\n\
+            read 28 MKDIR 52\ntaken 28 held\ndone 28 0 144\nwritten 28 0\nanswer 13 0\nsettled 28 0\ncall 14\n\
+            read 30 MKDIR 52\ntaken 30 held\ndone 30 0 144\nwritten 30 0\nanswer 14 0\nsettled 30 0\ncall 15\n\
+            read 32 MKDIR 52\ntaken 32 held\ndone 32 0 144\nwritten 32 0\nanswer 15 0\nsettled 32 0\ncall 16\n\
+            read 34 MKDIR 52\ntaken 34 held\ndone 34 0 144\nwritten 34 0\nanswer 16 0\nsettled 34 0\ncall 17\n\
+            read 36 MKDIR 52\ntaken 36 held\ndone 36 0 144\nwritten 36 0\nanswer 17 0\nsettled 36 0\ncall 18\n\
+            read 38 MKDIR 52\ntaken 38 held\ndone 38 0 144\nwritten 38 0\nanswer 18 0\nsettled 38 0\ncall 19\n\
+            read 40 MKDIR 52\ntaken 40 held\ndone 40 0 144\nwritten 40 0\nanswer 19 0\nsettled 40 0\ncall 20\n\
+            read 42 MKDIR 52\ntaken 42 held\ndone 42 0 144\nwritten 42 0\nanswer 20 0\nsettled 42 0\ncall 21\n\
+            read 44 MKDIR 52\ntaken 44 held\ndone 44 0 144\nwritten 44 0\nanswer 21 0\nsettled 44 0\ncall 22\n\
+            read 46 MKDIR 52\ntaken 46 held\ndone 46 0 144\nwritten 46 0\nanswer 22 0\nsettled 46 0\ncall 23\n\
+            read 48 MKDIR 52\ntaken 48 held\ndone 48 0 144\nwritten 48 0\nanswer 23 0\nsettled 48 0\ncall 24\n\
+            read 50 MKDIR 52\ntaken 50 held\ndone 50 0 144\nwritten 50 0\nanswer 24 0\nsettled 50 0\ncall 25\n\
+            read 52 MKDIR 52\ntaken 52 held\ndone 52 0 144\nwritten 52 0\nanswer 25 0\nsettled 52 0\ncall 26\n\
+            read 54 MKDIR 52\ntaken 54 held\ndone 54 0 144\nwritten 54 0\nanswer 26 0\nsettled 54 0\ncall 27\n\
+            read 56 MKDIR 52\ntaken 56 held\ndone 56 0 144\nwritten 56 0\nanswer 27 0\nsettled 56 0\ncall 28\n\
+            read 58 MKDIR 52\ntaken 58 held\ndone 58 0 144\nwritten 58 0\nanswer 28 0\nsettled 58 0\ncall 29\n\
+            read 60 MKDIR 52\ntaken 60 held\ndone 60 0 144\nwritten 60 0\nanswer 29 0\nsettled 60 0\ncall 30\n\
+            read 62 MKDIR 52\ntaken 62 held\ndone 62 0 144\nwritten 62 0\nanswer 30 0\nsettled 62 0\ncall 31\n\
+            read 64 READDIRPLUS 80\ntaken 64 held\ndone 64 0 4016\nwritten 64 0\n\
+            answer 31 0 d00:1:dir d01:2:dir d02:3:dir d03:4:dir d04:5:dir d05:6:dir d06:7:dir d07:8:dir d08:9:dir d09:10:dir d10:11:dir d11:12:dir d12:13:dir d13:14:dir d14:15:dir d15:16:dir d16:17:dir d17:18:dir d18:19:dir d19:20:dir d20:21:dir d21:22:dir d22:23:dir d23:24:dir d24:25:dir\n\
+            settled 64 0\ncall 32\nread 66 READDIRPLUS 80\ntaken 66 held\ndone 66 0 816\nwritten 66 0\n\
+            answer 32 0 d25:26:dir d26:27:dir d27:28:dir d28:29:dir d29:30:dir\nsettled 66 0\ncall 33\n\
+            read 68 READDIRPLUS 80\ntaken 68 held\ndone 68 0 16\nwritten 68 0\nanswer 33 0\nsettled 68 0\n",
+}];
 
 static LONG: [Row; 2] = [
     Row {
@@ -494,12 +594,41 @@ static LONG: [Row; 2] = [
     },
 ];
 
-/// The rows but the two with hundreds of lines.
-pub(super) fn short_lists() -> [&'static [Row]; 4] {
-    [&FIRST, &SECOND, &THIRD, &FOURTH]
+static SEVENTH: [Row; 2] = [
+    Row {
+        name: "minor15-forgets-one-by-one",
+        script: "mount 1000 0 15\nread p 0\ntake 0\ndo 2\nwrite 0\nsettle 0\ncall mkdir /a\nread p 0\ntake 0\ndo 4\n\
+            write 0\nsettle 0\ncall mkdir /b\nread p 0\ntake 0\ndo 6\nwrite 0\nsettle 0\ndrop 1 a\ndrop 1 b\nevict 2\n\
+            evict 3\nread f 2\nread f 1\nread f 1\ntake 0\ntake 0\nshow\n",
+        output: "mounted\nread 2 INIT 56\ntaken 2 held\ndone 2 0 40\nwritten 2 0\nsettled 2 0\ncall 1\n\
+            read 4 MKDIR 50\ntaken 4 held\ndone 4 0 144\nwritten 4 0\nanswer 1 0\nsettled 4 0\ncall 2\n\
+            read 6 MKDIR 50\ntaken 6 held\ndone 6 0 144\nwritten 6 0\nanswer 2 0\nsettled 6 0\ndropped\ndropped\n\
+            evicted 2 1\nevicted 3 1\nrefused 2 NoSuch\nread 8 FORGET 48\nread 10 FORGET 48\ntaken 8 forgot\n\
+            taken 10 forgot\nkernel\nserver\n",
+    },
+    Row {
+        name: "minor15-listplus-sends-readdir-then-minor31",
+        script: "mount 1000 0 15\nread p 0\ntake 0\ndo 2\nwrite 0\nsettle 0\ncall mkdir /a\nread p 0\ntake 0\ndo 4\n\
+            write 0\nsettle 0\ncall listplus / 0\nread p 0\ntake 0\ndo 6\nwrite 0\nsettle 0\nshow\nmount 1000 0\n\
+            read p 0\ntake 0\ndo 2\nwrite 0\nsettle 0\ncall listplus / 0\nread p 0\ntake 0\ndo 4\nwrite 0\nsettle 0\n\
+            show\n",
+        output: "mounted\nread 2 INIT 56\ntaken 2 held\ndone 2 0 40\nwritten 2 0\nsettled 2 0\ncall 1\n\
+            read 4 MKDIR 50\ntaken 4 held\ndone 4 0 144\nwritten 4 0\nanswer 1 0\nsettled 4 0\ncall 2\n\
+            read 6 READDIR 80\ntaken 6 held\ndone 6 0 48\nwritten 6 0\nanswer 2 0 a:1:dir\nsettled 6 0\nkernel 2:1:1\n\
+            server 2:1:1\nmounted\nread 2 INIT 56\ntaken 2 held\ndone 2 0 80\nwritten 2 0\nsettled 2 0\ncall 3\n\
+            read 4 READDIRPLUS 80\ntaken 4 held\ndone 4 0 176\nwritten 4 0\nanswer 3 0 a:1:dir\nsettled 4 0\n\
+            kernel 2:2:1\nserver 2:2:1\n",
+    },
+];
+
+/// The rows but the three with more than a hundred lines.
+pub(super) fn short_lists() -> [&'static [Row]; 6] {
+    [&FIRST, &SECOND, &THIRD, &FOURTH, &FIFTH, &SEVENTH]
 }
 
 /// The rows, in several lists: of a long one the check runs out of steps.
-pub(super) fn lists() -> [&'static [Row]; 5] {
-    [&FIRST, &SECOND, &THIRD, &FOURTH, &LONG]
+pub(super) fn lists() -> [&'static [Row]; 8] {
+    [
+        &FIRST, &SECOND, &THIRD, &FOURTH, &FIFTH, &SIXTH, &SEVENTH, &LONG,
+    ]
 }

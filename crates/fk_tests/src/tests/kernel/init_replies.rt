@@ -1,4 +1,4 @@
-//! Replies to INIT that agree on nothing: the mount is aborted.
+//! Replies to INIT: by one that agrees on nothing the mount is aborted, and one of 7.15 makes it ready.
 
 use super::{Reads, Row, Told, Written, run_on_new};
 use fk_kernel::Call;
@@ -96,7 +96,77 @@ static EARLY: [Row; 4] = [
     ),
 ];
 
-/// Replies that agree on nothing. 7.15 is not spoken so far.
+/// A reply of 7.15: a call is not answered, names are listed without their files, whatever flags are taken up, and the next mount
+/// offers 7.31 again, of which a reply may leave out FUSE_DO_READDIRPLUS.
+static OF_MINOR_15: [Row; 22] = [
+    Row::Write(
+        Written::Whole(
+            "28000000 00000000 0200000000000000 07000000 0f000000 00000000 01200400 0000 0000 00100000",
+        ),
+        WriteResult::Accepted,
+    ),
+    Row::Begin(Call::Stat { path: b"/" }, Ok(1)),
+    Row::Unanswered(1),
+    Row::Read(0, Reads::Head(4, Opcode::Getattr)),
+    Row::Begin(
+        Call::ListPlus {
+            path: b"/",
+            after: 0,
+        },
+        Ok(2),
+    ),
+    Row::Read(
+        0,
+        Reads::Frame(
+            "50000000 1c000000 0600000000000000 0100000000000000 00000000 00000000 00000000 00000000 0000000000000000 0000000000000000 00100000 00000000 0000000000000000 00000000 00000000",
+        ),
+    ),
+    Row::Abort(Ok(())),
+    Row::Answered(1, Told::Errno(103)),
+    Row::Answered(2, Told::Errno(103)),
+    Row::Mount(Ok(())),
+    Row::Read(
+        0,
+        Reads::Frame(
+            "38000000 1a000000 0200000000000000 0000000000000000 00000000 00000000 00000000 00000000 07000000 1f000000 00000000 01200400",
+        ),
+    ),
+    Row::Write(
+        Written::Whole(
+            "50000000 00000000 0200000000000000 07000000 1f000000 00000000 01000400 0000 0000 00100000 01000000 0000 0000 00000000 00000000 00000000 00000000 00000000 00000000 00000000 00000000",
+        ),
+        WriteResult::Accepted,
+    ),
+    Row::Begin(
+        Call::ListPlus {
+            path: b"/",
+            after: 0,
+        },
+        Ok(3),
+    ),
+    Row::Read(0, Reads::Head(4, Opcode::Readdir)),
+    Row::Abort(Ok(())),
+    Row::Answered(3, Told::Errno(103)),
+    Row::Mount(Ok(())),
+    Row::Read(0, Reads::Head(2, Opcode::Init)),
+    Row::Write(
+        Written::Whole(
+            "50000000 00000000 0200000000000000 07000000 1f000000 00000000 01200400 0000 0000 00100000 01000000 0000 0000 00000000 00000000 00000000 00000000 00000000 00000000 00000000 00000000",
+        ),
+        WriteResult::Accepted,
+    ),
+    Row::Begin(
+        Call::ListPlus {
+            path: b"/",
+            after: 0,
+        },
+        Ok(4),
+    ),
+    Row::Read(0, Reads::Head(4, Opcode::Readdirplus)),
+    Row::Unanswered(1),
+];
+
+/// Replies that agree on nothing.
 static CASES: [Case; 11] = [
     (
         "an error, here ENXIO",
@@ -130,17 +200,17 @@ static CASES: [Case; 11] = [
     ),
     (
         "7.22 in 24 bytes",
-        "28000000 00000000 0200000000000000 07000000 16000000 00000000 01000400 0000 0000 00100000",
+        "28000000 00000000 0200000000000000 07000000 16000000 00000000 01200400 0000 0000 00100000",
         WriteResult::Invalid,
     ),
     (
         "7.15 in 64 bytes",
-        "50000000 00000000 0200000000000000 07000000 0f000000 00000000 01000400 0000 0000 00100000 01000000 0000 0000 00000000 00000000 00000000 00000000 00000000 00000000 00000000 00000000",
+        "50000000 00000000 0200000000000000 07000000 0f000000 00000000 01200400 0000 0000 00100000 01000000 0000 0000 00000000 00000000 00000000 00000000 00000000 00000000 00000000 00000000",
         WriteResult::Invalid,
     ),
     (
-        "7.15 in 24 bytes, which is not spoken so far",
-        "28000000 00000000 0200000000000000 07000000 0f000000 00000000 01000400 0000 0000 00100000",
+        "7.22 in 64 bytes",
+        "50000000 00000000 0200000000000000 07000000 16000000 00000000 01200400 0000 0000 00100000 01000000 0000 0000 00000000 00000000 00000000 00000000 00000000 00000000 00000000 00000000",
         WriteResult::Accepted,
     ),
     (
@@ -168,6 +238,7 @@ fn check_case(rt: &impl Abort, alloc: Global, case: &Case) -> Result<(), AllocEr
 fn replies_to_init(rt: HostRuntime) -> Result<(), Fail> {
     run_on_new(&rt, rt.alloc(), &READ, &WAITS, "waits");
     run_on_new(&rt, rt.alloc(), &EARLY, &[], "early");
+    run_on_new(&rt, rt.alloc(), &READ, &OF_MINOR_15, "7.15 in 24 bytes");
     for case in &CASES {
         check_case(&rt, rt.alloc(), case)?;
     }

@@ -1,17 +1,13 @@
 use Rattle.fuse_spec.specs.Copies.{row_back}
-use Rattle.fs_server.proofs.Sweeps.{but_row_back, sweeps_from, sweeps_none}
+use Rattle.fs_server.proofs.Sweeps.{but_row_back, sweeps_from}
 use Rattle.fs_server.proofs.settling.entry_back.Goals as goal
-
-pub returns-in_default : goal.returns-in_default
-returns-in_default g c = rw c.in_default.is (sweeps_none c.args.files.now c.requires)
 
 pub discard_unheld-requires : goal.discard_unheld-requires
 discard_unheld-requires g c =
-    but_row_back c.args.files.now c.give_back.new.self c.requires c.give_back.ensures.tree c.counted_file-loose.result c.nodes.result.now.table c.in-Some.entry c.nodes.ensures c.counted_file-loose.ensures c.give_back.ensures.nodes c.give_back.ensures.handles
+    but_row_back c.args.files.now c.give_back.new.self c.requires c.give_back.ensures.tree c.counted_file-loose.result c.nodes.result.now.table c.args.entry.now c.nodes.ensures c.counted_file-loose.ensures c.give_back.ensures.nodes c.give_back.ensures.handles
 
 pub returns : goal.returns
 returns g c =
     let old = c.args.files.now in
     let swept = c.discard_unheld.ensures in
-    rw c.in-Some.is
-    (sweeps_from old c.give_back.new.self c.discard_unheld.new.self (row_back old.nodes c.in-Some.entry) old.handles c.give_back.ensures.tree c.give_back.ensures.nodes c.give_back.ensures.handles swept.tree swept.nodes swept.handles swept.named)
+    sweeps_from old c.give_back.new.self c.discard_unheld.new.self (row_back old.nodes c.args.entry.now) old.handles c.give_back.ensures.tree c.give_back.ensures.nodes c.give_back.ensures.handles swept.tree swept.nodes swept.handles swept.named

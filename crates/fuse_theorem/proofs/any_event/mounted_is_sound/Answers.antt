@@ -2,4 +2,4 @@ use Rattle.fuse_theorem.proofs.Fresh.{mounted_numbered, mounted_one_id, mounted_
 use Rattle.fuse_theorem.proofs.any_event.mounted_is_sound.Goals as goal
 
 pub returns : goal.returns
-returns g = λ w found_ms missing_ms. (mounted_numbered w found_ms missing_ms, mounted_one_id w found_ms missing_ms, mounted_known w found_ms missing_ms, mounted_tables w found_ms missing_ms)
+returns g = λ w found_ms missing_ms minor. (mounted_numbered w found_ms missing_ms minor, mounted_one_id w found_ms missing_ms minor, mounted_known w found_ms missing_ms minor, mounted_tables w found_ms missing_ms minor)

@@ -15,7 +15,7 @@ none_serves : (choice : ℕ → ℕ) → CanServe choice with_a_late_request fir
 none_serves choice (performs operation can aborted tables one known may) = true≢false (sym can.still)
 none_serves choice (performs_unheard operation can aborted one) = true≢false (sym can.still)
 none_serves choice (declines operation can) = true≢false (sym can.marked)
-none_serves choice (initiates body unmarked still) = cc (body)
+none_serves choice (initiates flags body unmarked still) = cc (body)
 none_serves choice (releases o can one held opens) = cc (can.body_is)
 
 pub returns : goal.returns

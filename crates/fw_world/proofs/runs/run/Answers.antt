@@ -1,4 +1,5 @@
 use Rattle.fw_world.specs.declared.event.Event.TheVariants.{Mount}
+use Rattle.fuse_spec.specs.declared.Minor.TheVariants.{M15}
 use Rattle.fw_world.proofs.Recording.{none_ran, one_more, all_ran, comes_to, comes_as_before}
 use Rattle.std.proofs.Common.{◌+◌, ◌*◌, ◌<◌, length, take, arith}
 use Rattle.std.specs.Vec.{vec_len, vec_capacity}
@@ -10,7 +11,7 @@ loop-k-init g c = (none_ran c.args.world.now c.args.events.now c.args.records.no
 
 pub loop-k-preserved : goal.loop-k-preserved
 loop-k-preserved g c = (
-  one_more c.args.world.now c.args.events.now c.args.records.now.items c.loop-k.world c.loop-k.records.items c.loop-k.k (Mount 0 0) c.run_one.new.world c.run_one.new.records.items c.loop-k-test.true c.loop-k.invariant.0 (c.run_one.ensures.ran c.if-not-run_one.false),
+  one_more c.args.world.now c.args.events.now c.args.records.now.items c.loop-k.world c.loop-k.records.items c.loop-k.k (Mount 0 0 M15) c.run_one.new.world c.run_one.new.records.items c.loop-k-test.true c.loop-k.invariant.0 (c.run_one.ensures.ran c.if-not-run_one.false),
   omega (arith, c.loop-k.invariant.1, c.run_one.ensures.room c.if-not-run_one.false),
 )
 

@@ -1,5 +1,5 @@
 use Rattle.std.proofs.Common.{arith}
-use Rattle.fk_kernel.proofs.Nodes.{answer_counted}
+use Rattle.fk_kernel.proofs.Nodes.{still_counted}
 use Rattle.fk_kernel.proofs.kernel.KernelOf.answer_call.Goals as goal
 
 pub invariant_of-self : goal.invariant_of-self
@@ -13,6 +13,6 @@ invariant_of-self g c =
       sorted = old.sorted;
       files = old.files;
       releases = omega (arith, old.releases, c.answer-kept.ensures.room.requests);
-      nodes = answer_counted k.nodes (g.Q.QueueTable.state k.queues) (g.Q.QueueTable.room k.queues).forgets (g.Q.QueueTable.room c.answer-kept.new.self).forgets old.nodes c.answer-kept.ensures.room.forgets c.args.unique;
+      nodes = still_counted k.nodes (g.Q.QueueTable.room k.queues).forgets (g.Q.QueueTable.room c.answer-kept.new.self).forgets old.nodes c.answer-kept.ensures.room.forgets;
       clock_low = old.clock_low;
     })

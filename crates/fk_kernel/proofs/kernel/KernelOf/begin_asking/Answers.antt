@@ -3,7 +3,7 @@ use Rattle.fuse_spec.specs.Kernel.{is_aborted}
 use Rattle.fuse_spec.specs.Steps.{is_ready}
 use Rattle.fk_kernel.proofs.Phases.{live_if}
 use Rattle.fk_kernel.proofs.Sound.{sound_begun_asking}
-use Rattle.fk_kernel.proofs.Nodes.{request_queued, sorted_put, still_counted}
+use Rattle.fk_kernel.proofs.Nodes.{still_counted, sorted_put}
 use Rattle.fk_kernel.proofs.Files.{asking_files}
 use Rattle.fk_kernel.proofs.kernel.KernelOf.begin_asking.Goals as goal
 
@@ -19,11 +19,11 @@ invariant_of-self-2 g c =
     let live = live_if k.phase ready going in
     let old = c.self.invariant in
     rw (c.put.ensures.entries, c.in-Ok-reserve.ensures.entries, c.in-Ok.ensures.entries)
-    (record { numbers = sound_begun_asking k.calls.entries k.answers.entries k.answers.room k.next_call old.numbers c.args.state c.reserve.new.self.room low room; idle = λ down. absurd (true≢false (sym live ∙ down)); sorted = sorted_put k.calls.entries k.next_call c.args.state old.sorted; nodes = rw (c.enqueue-unique.ensures.state, c.reserve-3.ensures.state) (request_queued k.nodes (g.Q.QueueTable.state k.queues) (g.Q.QueueTable.room k.queues).forgets (g.Q.QueueTable.room c.enqueue-unique.new.self).forgets old.nodes (omega (arith, c.reserve-3.ensures.kept.forgets, c.enqueue-unique.ensures.forgets_room)) _); files = asking_files k.calls.entries k.opens.entries k.closing.entries k.next_call old.files c.args.state; releases = omega (arith, c.in-Ok-reserve-2.ensures.requests, c.enqueue-unique.ensures.requests_room, c.in-Some.ensures, c.len.ensures); clock_low = old.clock_low })
+    (record { numbers = sound_begun_asking k.calls.entries k.answers.entries k.answers.room k.next_call old.numbers c.args.state c.reserve.new.self.room low room; idle = λ down. absurd (true≢false (sym live ∙ down)); sorted = sorted_put k.calls.entries k.next_call c.args.state old.sorted; nodes = still_counted k.nodes (g.Q.QueueTable.room k.queues).forgets (g.Q.QueueTable.room c.enqueue-unique.new.self).forgets old.nodes (omega (arith, c.reserve-3.ensures.kept.forgets, c.enqueue-unique.ensures.forgets_room)); files = asking_files k.calls.entries k.opens.entries k.closing.entries k.next_call old.files c.args.state; releases = omega (arith, c.in-Ok-reserve-2.ensures.requests, c.enqueue-unique.ensures.requests_room, c.in-Some.ensures, c.len.ensures); clock_low = old.clock_low })
 
 pub invariant_of-self-in_default-reserve-2 : goal.invariant_of-self-in_default-reserve-2
 invariant_of-self-in_default-reserve-2 g c =
     let k = c.self.inside in
     let old = c.self.invariant in
     rw (c.reserve-3.ensures.state, c.reserve-2.ensures.entries, c.reserve.ensures.entries)
-    (record { numbers = record { calls_below = old.numbers.calls_below; answers_below = old.numbers.answers_below; apart = old.numbers.apart; room = omega (arith, old.numbers.room, c.reserve.ensures.kept); next = old.numbers.next }; idle = old.idle; sorted = old.sorted; files = old.files; releases = omega (arith, old.releases, c.reserve-3.ensures.kept.requests); nodes = still_counted k.nodes (g.Q.QueueTable.state k.queues) (g.Q.QueueTable.state k.queues) (g.Q.QueueTable.room k.queues).forgets (g.Q.QueueTable.room c.reserve-3.new.self).forgets old.nodes (omega arith) c.reserve-3.ensures.kept.forgets; clock_low = old.clock_low })
+    (record { numbers = record { calls_below = old.numbers.calls_below; answers_below = old.numbers.answers_below; apart = old.numbers.apart; room = omega (arith, old.numbers.room, c.reserve.ensures.kept); next = old.numbers.next }; idle = old.idle; sorted = old.sorted; files = old.files; releases = omega (arith, old.releases, c.reserve-3.ensures.kept.requests); nodes = still_counted k.nodes (g.Q.QueueTable.room k.queues).forgets (g.Q.QueueTable.room c.reserve-3.new.self).forgets old.nodes c.reserve-3.ensures.kept.forgets; clock_low = old.clock_low })

@@ -1,7 +1,12 @@
 use Rattle.std.proofs.Common.{rules, ◌≡◌, ℕ, false, Some, ap, sym, subst, ◌∙◌}
 use Rattle.fuse_spec.specs.Maps.{get}
 use Rattle.fuse_spec.specs.Operations.{Operation}
-use Rattle.fuse_spec.specs.Replies.{goes_with}
+use Rattle.fuse_spec.specs.Replies.{goes_with, reply_written}
+use Rattle.fuse_spec.specs.Messages.{WireReply}
+use Rattle.fk_nodes.specs.Learning.{is_out}
+use Rattle.fk_nodes.proofs.Outs.{or_none}
+use Rattle.fk_kernel.specs.Refused.{is_past_end}
+use Rattle.fk_kernel.proofs.CountsHeard.{said_few, wrong_nodes}
 use Rattle.fuse_spec.specs.Vfs.{using, asked}
 use Rattle.fuse_spec.specs.declared.Opened.{Opened}
 use Rattle.fk_syscalls.specs.States.{StandsAt}
@@ -28,6 +33,9 @@ returns-then-ends_past-clause-past g c = λ ended.
     let stands : StandsAt p.operation (using p.handle p.operation) = subst (λ (o : Operation ℕ Opened). StandsAt o (using p.handle p.operation)) one (subst (StandsAt operation) same c.asks.ensures.stands) in
     record { opcode = opcode_of operation; judged = judged_op operation; awaits = awaits; past = λ wire means. ends_over now c.args.unique c.args.call c.requires.even c.requires.waits p stands wire }
 
+pub said_past-requires-clause-few : goal.said_past-requires-clause-few
+said_past-requires-clause-few g c = said_few c.asks.result (wire_of c.in-Some-said.said) c.in-Some-said.ensures.said.goes
+
 pub returns-in-Some-said-clause-past : goal.returns-in-Some-said-clause-past
 returns-in-Some-said-clause-past g c = λ past.
     let k = c.self.inside in
@@ -37,7 +45,7 @@ returns-in-Some-said-clause-past g c = λ past.
     let at : get k.calls.entries c.args.call ≡ Some state = search rules in
     let here : get now.vfs.calls c.args.call ≡ Some state = rw (← c.self.view_is) at in
     let awaits : awaited_by_call (get now.vfs.calls c.args.call) ≡ reply_to (opcode_of operation) = ap awaited_by_call here ∙ ap (λ (o : Operation ℕ Opened). reply_to (opcode_of o)) (sym c.asks.ensures.operation) in
-    rw awaits (passes now c.args.unique c.args.bytes.now (opcode_of operation) (judged_op operation) (wire_of c.in-Some-said.said) c.in-Some-said.ensures.said.says (c.walks_past.ensures.past past))
+    rw awaits (passes now c.args.unique c.args.bytes.now (opcode_of operation) (judged_op operation) (wire_of c.in-Some-said.said) c.in-Some-said.ensures.said.says (c.said_past.ensures.past past))
 
 pub returns-in-Some-said-clause-within : goal.returns-in-Some-said-clause-within
 returns-in-Some-said-clause-within g c = λ within.
@@ -48,7 +56,7 @@ returns-in-Some-said-clause-within g c = λ within.
     let at : get k.calls.entries c.args.call ≡ Some state = search rules in
     let here : get now.vfs.calls c.args.call ≡ Some state = rw (← c.self.view_is) at in
     let awaits : awaited_by_call (get now.vfs.calls c.args.call) ≡ reply_to (opcode_of operation) = ap awaited_by_call here ∙ ap (λ (o : Operation ℕ Opened). reply_to (opcode_of o)) (sym c.asks.ensures.operation) in
-    rw awaits (said_passes now c.args.unique c.args.bytes.now (opcode_of operation) (wire_of c.in-Some-said.said) c.in-Some-said.ensures.said.says (c.walks_past.ensures.within within))
+    rw awaits (said_passes now c.args.unique c.args.bytes.now (opcode_of operation) (wire_of c.in-Some-said.said) c.in-Some-said.ensures.said.says (c.said_past.ensures.stays within))
 
 pub returns-in-None-clause-within : goal.returns-in-None-clause-within
 returns-in-None-clause-within g c = λ within.
@@ -61,7 +69,9 @@ returns-in-None-clause-within g c = λ within.
     let same : operation ≡ asked state = c.asks.ensures.operation in
     let awaits : awaited_by_call (get now.vfs.calls c.args.call) ≡ reply_to (opcode_of operation) = ap awaited_by_call here ∙ ap (λ (o : Operation ℕ Opened). reply_to (opcode_of o)) (sym same) in
     let ends = c.ends_past.ensures.within c.if-ends_past.false in
-    let stays = wrong_within now c.args.unique c.args.call c.requires.even c.requires.waits c.within.ensures ends state here in
+    let stays = λ (wire : WireReply) (other : goes_with (asked state) wire ≡ false). or_none (is_past_end (reply_written now c.args.unique wire).1) (is_out (reply_written now c.args.unique wire).1.nodes)
+    (wrong_within now c.args.unique c.args.call c.requires.even c.requires.waits c.within.ensures ends state here wire other)
+    (ap is_out (wrong_nodes now c.args.unique c.args.call c.requires.even c.requires.waits state here wire other) ∙ c.counts_within.ensures.none_out) in
     rw awaits
     (none_passes now c.args.unique c.args.bytes.now (opcode_of operation) (λ wire says. stays wire (subst (λ (o : Operation ℕ Opened). goes_with o wire ≡ false) same (c.in-None.ensures.none wire says)))
     (stays (wrong_body_to (opcode_of operation)) (subst (λ (o : Operation ℕ Opened). goes_with o (wrong_body_to (opcode_of operation)) ≡ false) same (wrong_to_call operation))))

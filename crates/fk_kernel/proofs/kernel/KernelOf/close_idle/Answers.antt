@@ -4,7 +4,7 @@ use Rattle.fuse_spec.specs.Maps.{get}
 use Rattle.fuse_spec.specs.Uniques.{numbers_left_from}
 use Rattle.fk_kernel.proofs.Closes.{closes_idle, idle_refusal}
 use Rattle.fk_kernel.proofs.Files.{some_not_none, shut_files, numbered_files}
-use Rattle.fk_kernel.proofs.Nodes.{request_queued}
+use Rattle.fk_kernel.proofs.Nodes.{still_counted}
 use Rattle.fk_kernel.proofs.Sound.{sound_begun_answered, gone_absent}
 use Rattle.fk_kernel.proofs.kernel.KernelOf.close_idle.Goals as goal
 
@@ -38,7 +38,7 @@ invariant_of-self-2 g c =
       sorted = old.sorted;
       files = numbered_files k.calls.entries _ k.closing.entries k.next_call (shut_files k.calls.entries k.opens.entries k.closing.entries k.next_call old.files c.args.handle);
       releases = omega (arith, c.in-Ok-reserve.ensures.requests, c.enqueue-unique.ensures.requests_room, c.in-Some.ensures, c.len.ensures);
-      nodes = request_queued k.nodes s (g.Q.QueueTable.room k.queues).forgets (g.Q.QueueTable.room c.enqueue-unique.new.self).forgets old.nodes (omega (arith, c.reserve-2.ensures.kept.forgets, c.enqueue-unique.ensures.forgets_room)) _;
+      nodes = still_counted k.nodes (g.Q.QueueTable.room k.queues).forgets (g.Q.QueueTable.room c.enqueue-unique.new.self).forgets old.nodes (omega (arith, c.reserve-2.ensures.kept.forgets, c.enqueue-unique.ensures.forgets_room));
       clock_low = old.clock_low;
     })
 

@@ -81,7 +81,7 @@ invariant_of-self-2 g c =
       sorted = old.sorted;
       files = numbered_files k.calls.entries _ _ k.next_call (closed_files k.calls.entries k.opens.entries k.closing.entries k.next_call old.files c.args.handle c.args.opened there);
       releases = omega (arith, long, c.in-Ok-reserve-2.ensures.requests, c.in-Some.ensures, closed);
-      nodes = still_counted k.nodes s s (g.Q.QueueTable.room k.queues).forgets (g.Q.QueueTable.room c.reserve-3.new.self).forgets old.nodes (omega arith) c.reserve-3.ensures.kept.forgets;
+      nodes = still_counted k.nodes (g.Q.QueueTable.room k.queues).forgets (g.Q.QueueTable.room c.reserve-3.new.self).forgets old.nodes c.reserve-3.ensures.kept.forgets;
       clock_low = old.clock_low;
     })
 

@@ -1,7 +1,7 @@
 use Rattle.std.proofs.Common.{◌≡◌, true, arith}
 use Rattle.std.specs.Prelude.{is_some}
 use Rattle.fuse_spec.specs.QueueCalls.{waiting}
-use Rattle.fk_kernel.proofs.Nodes.{answer_counted, answered_is}
+use Rattle.fk_kernel.proofs.Nodes.{still_counted, answered_is}
 use Rattle.fk_kernel.proofs.kernel.KernelOf.end_call.Goals as goal
 
 pub invariant_of-self : goal.invariant_of-self
@@ -15,7 +15,7 @@ invariant_of-self g c =
       sorted = old.sorted;
       files = old.files;
       releases = omega (arith, old.releases, c.answer-kept.ensures.room.requests);
-      nodes = answer_counted k.nodes (g.Q.QueueTable.state k.queues) (g.Q.QueueTable.room k.queues).forgets (g.Q.QueueTable.room c.answer-kept.new.self).forgets old.nodes c.answer-kept.ensures.room.forgets c.args.unique;
+      nodes = still_counted k.nodes (g.Q.QueueTable.room k.queues).forgets (g.Q.QueueTable.room c.answer-kept.new.self).forgets old.nodes c.answer-kept.ensures.room.forgets;
       clock_low = old.clock_low;
     })
 

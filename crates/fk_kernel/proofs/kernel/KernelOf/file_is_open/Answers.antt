@@ -5,7 +5,7 @@ use Rattle.fuse_spec.specs.Operations.{opening}
 use Rattle.fuse_spec.specs.QueueCalls.{waiting}
 use Rattle.fuse_spec.specs.Vfs.{doing}
 use Rattle.fk_kernel.proofs.Files.{some_not_none, opened_files}
-use Rattle.fk_kernel.proofs.Nodes.{answer_counted, answered_is, sorted_gone}
+use Rattle.fk_kernel.proofs.Nodes.{still_counted, answered_is, sorted_gone}
 use Rattle.fk_kernel.proofs.Replied.{open_done}
 use Rattle.fk_kernel.proofs.Sound.{sound_answered}
 use Rattle.fk_kernel.proofs.kernel.KernelOf.file_is_open.Goals as goal
@@ -24,7 +24,7 @@ invariant_of-self-2 g c =
       sorted = sorted_gone k.calls.entries c.args.call old.sorted;
       files = opened_files k.calls.entries k.opens.entries k.closing.entries k.next_call old.files old.numbers.calls_below c.args.call (record { nodeid = c.node_opened-nodeid.result; fh = c.args.fh }) there;
       releases = omega (arith, old.releases, c.answer-kept.ensures.room.requests);
-      nodes = answer_counted k.nodes s (g.Q.QueueTable.room k.queues).forgets (g.Q.QueueTable.room c.answer-kept.new.self).forgets old.nodes c.answer-kept.ensures.room.forgets c.args.unique;
+      nodes = still_counted k.nodes (g.Q.QueueTable.room k.queues).forgets (g.Q.QueueTable.room c.answer-kept.new.self).forgets old.nodes c.answer-kept.ensures.room.forgets;
       clock_low = old.clock_low;
     })
 

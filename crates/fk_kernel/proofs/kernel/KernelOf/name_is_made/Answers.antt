@@ -23,6 +23,7 @@ invariant_of-self-2 g c =
     let reserved = c.in-Ok.ensures.forgets in
     let most = c.most.ensures in
     let room : length k.nodes + 1 ≤ (g.Q.QueueTable.room c.answer-kept.new.self).forgets = omega (arith, c.in-Some.ensures) in
+    let fits = rw (← c.self.view_is) at c.requires.fits in
     rw (c.answer-kept.ensures.state, c.reserve.ensures.state, c.in-Ok-bind_entry.ensures.nodes)
     (record {
       numbers = old.numbers;
@@ -30,7 +31,7 @@ invariant_of-self-2 g c =
       sorted = old.sorted;
       files = old.files;
       releases = omega (arith, old.releases, c.reserve.ensures.kept.requests, c.answer-kept.ensures.room.requests);
-      nodes = learnt_counted k.nodes s (g.Q.QueueTable.room k.queues).forgets (g.Q.QueueTable.room c.answer-kept.new.self).forgets old.nodes room c.args.unique waits c.args.entry.now;
+      nodes = learnt_counted k.nodes (g.Q.QueueTable.room k.queues).forgets (g.Q.QueueTable.room c.answer-kept.new.self).forgets old.nodes room c.args.entry.now fits;
       clock_low = old.clock_low;
     })
 
@@ -47,3 +48,8 @@ returns-clause-ok g c =
     let names = c.in-Ok-bind_entry.ensures.names (doing makes.operation) makes.place here (makes_place makes.operation makes.place makes.makes) in
     rw (c.finish.ensures, c.answer-kept.ensures.state, c.reserve.ensures.state, answered_is s c.args.unique waits, names, until, c.in-Ok-bind_entry.ensures.nodes, ← c.self.view_is)
     (rw (← c.self.view_is) at (made_found c.args.self.now c.args.unique c.args.call c.requires.even c.requires.waits makes.operation makes.place makes.makes makes.is c.args.entry.now c.args.valid_ms c.requires.usable))
+
+pub bind_entry-requires-clause-fits : goal.bind_entry-requires-clause-fits
+bind_entry-requires-clause-fits g c = λ x at.
+    let low = c.self.invariant.nodes.below.below c.args.entry.now.nodeid x at in
+    omega (arith, low)

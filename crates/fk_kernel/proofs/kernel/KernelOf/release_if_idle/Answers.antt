@@ -7,7 +7,7 @@ use Rattle.fuse_spec.specs.Vfs.{CallState}
 use Rattle.fuse_spec.specs.declared.Opened.{Opened}
 use Rattle.fk_kernel.proofs.Closes.{released_used, released_none, released_some}
 use Rattle.fk_kernel.proofs.Files.{some_not_none, released_files}
-use Rattle.fk_kernel.proofs.Nodes.{request_queued}
+use Rattle.fk_kernel.proofs.Nodes.{still_counted}
 use Rattle.fk_kernel.proofs.Sound.{gone_absent, length_gone}
 use Rattle.fk_kernel.proofs.kernel.KernelOf.release_if_idle.Goals as goal
 
@@ -68,7 +68,7 @@ invariant_of-self-2 g c =
       sorted = old.sorted;
       files = released_files k.calls.entries k.opens.entries k.closing.entries k.next_call old.files c.args.handle;
       releases = omega (arith, old.releases, shorter, c.enqueue-unique.ensures.requests_room);
-      nodes = request_queued k.nodes (g.Q.QueueTable.state k.queues) (g.Q.QueueTable.room k.queues).forgets (g.Q.QueueTable.room c.enqueue-unique.new.self).forgets old.nodes c.enqueue-unique.ensures.forgets_room _;
+      nodes = still_counted k.nodes (g.Q.QueueTable.room k.queues).forgets (g.Q.QueueTable.room c.enqueue-unique.new.self).forgets old.nodes c.enqueue-unique.ensures.forgets_room;
       clock_low = old.clock_low;
     })
 

@@ -1,7 +1,7 @@
 use Rattle.std.proofs.Common.{◌≡◌, ◌≤◌, ◌+◌, [], ◌∷◌, length, true, false, Some, refl, ap, sym, subst, ◌∙◌, arith}
 use Rattle.std.specs.Prelude.{is_some}
 use Rattle.fuse_spec.specs.Maps.{get}
-use Rattle.fuse_spec.specs.QueueCalls.{waiting, without, after_answer}
+use Rattle.fuse_spec.specs.QueueCalls.{waiting, without}
 use Rattle.fuse_spec.specs.Kernel.{Kernel, advanced}
 use Rattle.fuse_spec.specs.Replies.{learnt}
 use Rattle.fuse_spec.specs.Answers.{failed}
@@ -13,7 +13,7 @@ use Rattle.fuse_spec.specs.Vfs.{Vfs, Advance, walking, walks_on, bound, asking, 
 use Rattle.fuse_spec.specs.declared.Opened.{Opened}
 use Rattle.fuse_spec.proofs.Tables.{get_gone_here}
 use Rattle.fk_kernel.specs.Refused.{is_past_end}
-use Rattle.fk_kernel.proofs.Nodes.{learnt_counted, answered_is, request_queued, put_gone, length_again, sorted_put, sorted_gone}
+use Rattle.fk_kernel.proofs.Nodes.{learnt_counted, answered_is, still_counted, put_gone, length_again, sorted_put, sorted_gone}
 use Rattle.fk_kernel.proofs.Replied.{lookup_found}
 use Rattle.fk_kernel.proofs.Sound.{sound_answered, sound_walks, there_is}
 use Rattle.fk_kernel.proofs.Walking.{asked_left}
@@ -84,7 +84,8 @@ invariant_of-self-in-Waits g c =
     let queued = c.enqueue-unique.ensures.forgets_room in
     let most = c.most.ensures in
     let room : length k.nodes + 1 ≤ (g.Q.QueueTable.room c.answer-kept.new.self).forgets = omega (arith, c.in-Some.ensures) in
-    let counted = learnt_counted k.nodes s (g.Q.QueueTable.room k.queues).forgets (g.Q.QueueTable.room c.answer-kept.new.self).forgets old.nodes room c.args.unique waits c.args.entry.now in
+    let fits = rw (← c.self.view_is) at c.requires.fits in
+    let counted = learnt_counted k.nodes (g.Q.QueueTable.room k.queues).forgets (g.Q.QueueTable.room c.answer-kept.new.self).forgets old.nodes room c.args.entry.now fits in
     rw (c.enqueue-unique.ensures.state, c.answer-kept.ensures.state, c.reserve.ensures.state, c.in-Ok-bind_entry.ensures.nodes, c.put.ensures.entries, c.remove.ensures.entries, put_gone k.calls.entries c.args.call c.in-Waits.state old.sorted)
     (record {
       numbers = sound_walks k.calls.entries k.answers.entries k.answers.room k.next_call old.numbers c.args.call c.in-Waits.state there (length_again k.calls.entries c.args.call c.in-Waits.state old.sorted some);
@@ -92,7 +93,7 @@ invariant_of-self-in-Waits g c =
       sorted = sorted_put k.calls.entries c.args.call c.in-Waits.state old.sorted;
       files = walking_files k.calls.entries k.opens.entries k.closing.entries k.next_call old.files c.args.call c.in-Waits.state there;
       releases = omega (arith, c.in-Ok.ensures.requests, c.answer-kept.ensures.room.requests, c.enqueue-unique.ensures.requests_room, c.in-Some-checked_add.ensures, c.len.ensures);
-      nodes = request_queued _ (after_answer s c.args.unique) (g.Q.QueueTable.room c.answer-kept.new.self).forgets (g.Q.QueueTable.room c.enqueue-unique.new.self).forgets counted queued _;
+      nodes = still_counted _ (g.Q.QueueTable.room c.answer-kept.new.self).forgets (g.Q.QueueTable.room c.enqueue-unique.new.self).forgets counted queued;
       clock_low = old.clock_low;
     })
 
@@ -109,6 +110,7 @@ invariant_of-self-in-Answered g c =
     let reserved = c.in-Ok.ensures.forgets in
     let most = c.most.ensures in
     let room : length k.nodes + 1 ≤ (g.Q.QueueTable.room c.answer-kept.new.self).forgets = omega (arith, c.in-Some.ensures) in
+    let fits = rw (← c.self.view_is) at c.requires.fits in
     rw (c.answer-kept.ensures.state, c.reserve.ensures.state, c.in-Ok-bind_entry.ensures.nodes, c.put-in-Answered.ensures.entries, c.remove.ensures.entries)
     (record {
       numbers = sound_answered k.calls.entries k.answers.entries k.answers.room k.next_call old.numbers c.args.call _ c.put-in-Answered.new.self.room there c.put-in-Answered.ensures.room;
@@ -116,7 +118,7 @@ invariant_of-self-in-Answered g c =
       sorted = sorted_gone k.calls.entries c.args.call old.sorted;
       files = answered_files k.calls.entries k.opens.entries k.closing.entries k.next_call old.files c.args.call;
       releases = omega (arith, old.releases, c.reserve.ensures.kept.requests, c.answer-kept.ensures.room.requests);
-      nodes = learnt_counted k.nodes s (g.Q.QueueTable.room k.queues).forgets (g.Q.QueueTable.room c.answer-kept.new.self).forgets old.nodes room c.args.unique waits c.args.entry.now;
+      nodes = learnt_counted k.nodes (g.Q.QueueTable.room k.queues).forgets (g.Q.QueueTable.room c.answer-kept.new.self).forgets old.nodes room c.args.entry.now fits;
       clock_low = old.clock_low;
     })
 
@@ -159,3 +161,8 @@ returns-in-Answered-clause-ok g c =
     lookup_found now c.args.unique c.args.call c.requires.even c.requires.waits stands.directory stands.word stands.words stands.plan stands.is c.args.entry.now c.args.valid_ms c.requires.usable
     ∙ ap (λ (a : Advance Opened). (Accepted, advanced (record now { queues = without now.queues c.args.unique; nodes = learnt now.nodes (c.args.entry.now ∷ []) }) c.args.call a)) comes
     ∙ rw (← c.self.view_is, c.answer-kept.ensures.state, c.reserve.ensures.state, answered_is s c.args.unique waits, names, until, c.in-Ok-bind_entry.ensures.nodes, c.put-in-Answered.ensures.entries, c.new.ensures, c.remove.ensures.entries) refl
+
+pub bind_entry-requires-clause-fits : goal.bind_entry-requires-clause-fits
+bind_entry-requires-clause-fits g c = λ x at.
+    let low = c.self.invariant.nodes.below.below c.args.entry.now.nodeid x at in
+    omega (arith, low)

@@ -8,6 +8,9 @@ use Rattle.fk_kernel.specs.Said.{Awaited, head_unique}
 use Rattle.fk_kernel.proofs.Heads.{no_head, has_head}
 use Rattle.fk_kernel.proofs.PastEnds.{nothing_passes, odd_passes, init_passes, release_passes}
 use Rattle.fk_kernel.proofs.Taken.{odd_test, even_test, awaited_even}
+use Rattle.fk_nodes.specs.Learning.{is_out}
+use Rattle.fk_nodes.proofs.Outs.{or_none}
+use Rattle.fk_kernel.specs.Refused.{is_past_end}
 use Rattle.fk_kernel.proofs.kernel.KernelOf.write_refusal.Goals as goal
 
 pub returns-in_default-clause-none : goal.returns-in_default-clause-none
@@ -18,7 +21,7 @@ returns-in_default-clause-none g c = λ p.
 pub returns-then-unique-eq1-clause-none : goal.returns-then-unique-eq1-clause-none
 returns-then-unique-eq1-clause-none g c = λ p.
     let unique = head_unique c.args.bytes.now in
-    odd_passes c.args.self.now unique c.args.bytes.now c.within.ensures (odd_test c.in-Ok.unique unique c.in-Ok.ensures.ok.3 c.if-unique-eq1.true) p.1
+    odd_passes c.args.self.now unique c.args.bytes.now (or_none (is_past_end c.args.self.now) (is_out c.args.self.now.nodes) c.within.ensures c.counts_within.ensures.none_out) (odd_test c.in-Ok.unique unique c.in-Ok.ensures.ok.3 c.if-unique-eq1.true) p.1
 
 pub returns-in_default-waiting-clause-none : goal.returns-in_default-waiting-clause-none
 returns-in_default-waiting-clause-none g c = λ p.
@@ -41,7 +44,7 @@ returns-in-Init-clause-none g c = λ p.
     let waits : waiting now.queues unique ≡ Some Init = rw (← c.self.view_is) (ap (waiting queues) (sym same) ∙ at ∙ ap Some c.in-Init.is) in
     let even = even_test c.in-Ok.unique unique same c.if-unique-eq1.false in
     let awaits = awaited_even now unique even (Some Init) waits in
-    init_passes now unique c.args.bytes.now c.within.ensures even waits (subst (λ (a : Awaited). PassesEnd now unique c.args.bytes.now a) awaits p.1)
+    init_passes now unique c.args.bytes.now (or_none (is_past_end c.args.self.now) (is_out c.args.self.now.nodes) c.within.ensures c.counts_within.ensures.none_out) even waits (subst (λ (a : Awaited). PassesEnd now unique c.args.bytes.now a) awaits p.1)
 
 pub returns-in-Release-clause-none : goal.returns-in-Release-clause-none
 returns-in-Release-clause-none g c = λ p.
@@ -53,7 +56,7 @@ returns-in-Release-clause-none g c = λ p.
     let waits : waiting now.queues unique ≡ Some (Release c.in-Release.field-0) = rw (← c.self.view_is) (ap (waiting queues) (sym same) ∙ at ∙ ap Some c.in-Release.is) in
     let even = even_test c.in-Ok.unique unique same c.if-unique-eq1.false in
     let awaits = awaited_even now unique even (Some (Release c.in-Release.field-0)) waits in
-    release_passes now unique c.args.bytes.now c.within.ensures even c.in-Release.field-0 waits (subst (λ (a : Awaited). PassesEnd now unique c.args.bytes.now a) awaits p.1)
+    release_passes now unique c.args.bytes.now (or_none (is_past_end c.args.self.now) (is_out c.args.self.now.nodes) c.within.ensures c.counts_within.ensures.none_out) even c.in-Release.field-0 waits (subst (λ (a : Awaited). PassesEnd now unique c.args.bytes.now a) awaits p.1)
 
 pub returns-then-call_passes_end-clause-refused : goal.returns-then-call_passes_end-clause-refused
 returns-then-call_passes_end-clause-refused g c =

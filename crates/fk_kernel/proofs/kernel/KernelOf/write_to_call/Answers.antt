@@ -13,8 +13,9 @@ use Rattle.fk_kernel.specs.Refused.{IsWriteRefusal, PassesEnd, no_memory, exhaus
 use Rattle.fk_said.specs.ReplySaid.{wire_of}
 use Rattle.fk_kernel.specs.Said.{reply_to, gone, awaited_by_call, opcode_of}
 use Rattle.fk_kernel.proofs.PastEnds.{passes, said_passes}
-use Rattle.fk_kernel.proofs.Nodes.{answer_counted, answered_is}
+use Rattle.fk_kernel.proofs.Nodes.{still_counted, answered_is}
 use Rattle.fk_kernel.proofs.Replied.{ends_over, judged_op}
+use Rattle.fk_kernel.proofs.CountsHeard.{said_few}
 use Rattle.fk_said.proofs.Sayings.{says_one}
 use Rattle.fk_kernel.proofs.Taken.{taken_judged, taken_gone}
 use Rattle.fk_kernel.proofs.kernel.KernelOf.write_to_call.Goals as goal
@@ -30,7 +31,7 @@ invariant_of-self g c =
       sorted = old.sorted;
       files = old.files;
       releases = omega (arith, old.releases, c.answer-kept.ensures.room.requests);
-      nodes = answer_counted k.nodes (g.Q.QueueTable.state k.queues) (g.Q.QueueTable.room k.queues).forgets (g.Q.QueueTable.room c.answer-kept.new.self).forgets old.nodes c.answer-kept.ensures.room.forgets c.args.unique;
+      nodes = still_counted k.nodes (g.Q.QueueTable.room k.queues).forgets (g.Q.QueueTable.room c.answer-kept.new.self).forgets old.nodes c.answer-kept.ensures.room.forgets;
       clock_low = old.clock_low;
     })
 
@@ -57,6 +58,12 @@ returns-then-ends_past-clause-refusal g c =
     let stands : StandsAt p.operation (using p.handle p.operation) = subst (λ (o : Operation ℕ Opened). StandsAt o (using p.handle p.operation)) one (subst (StandsAt operation) same c.asks.ensures.stands) in
     exhausted (record { opcode = opcode_of operation; judged = judged_op operation; awaits = awaits; past = λ wire means. ends_over now c.args.unique c.args.call c.requires.even c.requires.waits p stands wire })
 
+pub said_past-requires-clause-few : goal.said_past-requires-clause-few
+said_past-requires-clause-few g c = said_few c.asks.result (wire_of c.in-Some-said.said) (rw c.in-Some-said.is at c.said_to-said.ensures.said).goes
+
+pub replied-requires-clause-few : goal.replied-requires-clause-few
+replied-requires-clause-few g c = said_few c.asks.result (wire_of c.in-Some-said.said) (rw c.in-Some-said.is at c.said_to-said.ensures.said).goes
+
 pub replied-requires-clause-ends : goal.replied-requires-clause-ends
 replied-requires-clause-ends g c = c.ends_past.ensures.within c.if-ends_past.false
 
@@ -79,8 +86,8 @@ returns-in-Ok-clause-taken g c =
     rw (awaits, told)
     (taken_judged now c.args.unique bytes _ _ o (judged_op operation) (λ wire other. ap (reply_written now c.args.unique) (says_one o bytes wire said other says) ∙ ok) (λ none. absurd (none said says)))
 
-pub returns-then-walks_past-clause-refusal : goal.returns-then-walks_past-clause-refusal
-returns-then-walks_past-clause-refusal g c =
+pub returns-then-said_past-clause-refusal : goal.returns-then-said_past-clause-refusal
+returns-then-said_past-clause-refusal g c =
     let k = c.self.inside in
     let now = c.args.self.now in
     let state = c.in-Some.waiting.now in
@@ -88,7 +95,7 @@ returns-then-walks_past-clause-refusal g c =
     let at : get k.calls.entries c.args.call ≡ Some state = search rules in
     let here : get now.vfs.calls c.args.call ≡ Some state = rw (← c.self.view_is) at in
     let awaits : awaited_by_call (get now.vfs.calls c.args.call) ≡ reply_to (opcode_of operation) = ap awaited_by_call here ∙ ap (λ (o : Operation ℕ Opened). reply_to (opcode_of o)) (sym c.asks.ensures.operation) in
-    rw awaits (exhausted (passes now c.args.unique c.args.bytes.now (opcode_of operation) (judged_op operation) (wire_of c.in-Some-said.said) (rw c.in-Some-said.is at c.said_to-said.ensures.said).says (c.walks_past.ensures.past c.if-walks_past.true)))
+    rw awaits (exhausted (passes now c.args.unique c.args.bytes.now (opcode_of operation) (judged_op operation) (wire_of c.in-Some-said.said) (rw c.in-Some-said.is at c.said_to-said.ensures.said).says (c.said_past.ensures.past c.if-said_past.true)))
 
 pub returns-in-Err-clause-refusal : goal.returns-in-Err-clause-refusal
 returns-in-Err-clause-refusal g c =
@@ -101,7 +108,7 @@ returns-in-Err-clause-refusal g c =
     let awaits : awaited_by_call (get now.vfs.calls c.args.call) ≡ reply_to (opcode_of operation) = ap awaited_by_call here ∙ ap (λ (o : Operation ℕ Opened). reply_to (opcode_of o)) (sym c.asks.ensures.operation) in
     let standing = awaited_by_call (get now.vfs.calls c.args.call) in
     let within : PassesEnd now c.args.unique c.args.bytes.now standing → ⊥ =
-    rw awaits (said_passes now c.args.unique c.args.bytes.now (opcode_of operation) (wire_of c.in-Some-said.said) (rw c.in-Some-said.is at c.said_to-said.ensures.said).says (c.walks_past.ensures.within c.if-walks_past.false)) in
+    rw awaits (said_passes now c.args.unique c.args.bytes.now (opcode_of operation) (wire_of c.in-Some-said.said) (rw c.in-Some-said.is at c.said_to-said.ensures.said).says (c.said_past.ensures.stays c.if-said_past.false)) in
     subst (IsWriteRefusal now c.args.unique c.args.bytes.now standing) (sym c.in-Err.ensures.refusal) (no_memory within)
 
 pub returns-in-Err-clause-memory : goal.returns-in-Err-clause-memory
@@ -113,4 +120,4 @@ returns-in-Err-clause-memory g c = λ is.
     let at : get k.calls.entries c.args.call ≡ Some state = search rules in
     let here : get now.vfs.calls c.args.call ≡ Some state = rw (← c.self.view_is) at in
     let awaits : awaited_by_call (get now.vfs.calls c.args.call) ≡ reply_to (opcode_of operation) = ap awaited_by_call here ∙ ap (λ (o : Operation ℕ Opened). reply_to (opcode_of o)) (sym c.asks.ensures.operation) in
-    rw awaits (said_passes now c.args.unique c.args.bytes.now (opcode_of operation) (wire_of c.in-Some-said.said) (rw c.in-Some-said.is at c.said_to-said.ensures.said).says (c.walks_past.ensures.within c.if-walks_past.false))
+    rw awaits (said_passes now c.args.unique c.args.bytes.now (opcode_of operation) (wire_of c.in-Some-said.said) (rw c.in-Some-said.is at c.said_to-said.ensures.said).says (c.said_past.ensures.stays c.if-said_past.false))

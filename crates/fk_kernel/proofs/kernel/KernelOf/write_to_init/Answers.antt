@@ -4,7 +4,7 @@ use Rattle.fk_wire.specs.declared.opcode.Opcode.TheVariants as op
 use Rattle.fuse_spec.specs.QueueCalls.{waiting}
 use Rattle.fuse_spec.specs.Replies.{reply_written, is_agreement}
 use Rattle.fk_said.specs.Said.{init_wire}
-use Rattle.fk_kernel.proofs.Nodes.{answer_counted, answered_is}
+use Rattle.fk_kernel.proofs.Nodes.{still_counted, answered_is}
 use Rattle.fk_kernel.proofs.Replied.{init_agreed, init_aborts, init_unsaid}
 use Rattle.fk_said.proofs.Sayings.{says_one, init_reply_said}
 use Rattle.fk_kernel.proofs.kernel.KernelOf.write_to_init.Goals as goal
@@ -12,7 +12,7 @@ use Rattle.fk_kernel.proofs.kernel.KernelOf.write_to_init.Goals as goal
 pub invariant_of-self : goal.invariant_of-self
 invariant_of-self g c =
     let old = c.self.invariant in
-    rw c.answer-kept.ensures.state (record { numbers = old.numbers; idle = λ e. absurd (true≢false e); sorted = old.sorted; nodes = answer_counted c.self.inside.nodes (g.Q.QueueTable.state c.self.inside.queues) (g.Q.QueueTable.room c.self.inside.queues).forgets (g.Q.QueueTable.room c.answer-kept.new.self).forgets old.nodes c.answer-kept.ensures.room.forgets c.args.unique; files = old.files; releases = omega (arith, old.releases, c.answer-kept.ensures.room.requests); clock_low = old.clock_low })
+    rw c.answer-kept.ensures.state (record { numbers = old.numbers; idle = λ e. absurd (true≢false e); sorted = old.sorted; nodes = still_counted c.self.inside.nodes (g.Q.QueueTable.room c.self.inside.queues).forgets (g.Q.QueueTable.room c.answer-kept.new.self).forgets old.nodes c.answer-kept.ensures.room.forgets; files = old.files; releases = omega (arith, old.releases, c.answer-kept.ensures.room.requests); clock_low = old.clock_low })
 
 pub returns-in_default-clause-said : goal.returns-in_default-clause-said
 returns-in_default-clause-said g c = λ wire says. absurd (c.in_default.ensures wire says)
@@ -28,7 +28,7 @@ returns-then-agrees-clause-said g c = λ wire says.
     let agreed : is_agreement (init_wire c.in-Some.said) ≡ true = sym c.agrees.ensures ∙ c.if-agrees.true in
     ap (reply_written k c.args.unique) (says_one op.Init c.args.bytes.now wire (init_wire c.in-Some.said) says c.in-Some.ensures)
     ∙ init_agreed k c.args.unique c.requires.even c.requires.waits (init_wire c.in-Some.said) (init_reply_said c.in-Some.said) agreed
-    ∙ rw (← c.self.view_is, c.answer-kept.ensures.state, answered_is s c.args.unique waits) refl
+    ∙ rw (← c.self.view_is, c.answer-kept.ensures.state, c.minor_agreed-self-inside.ensures, c.files_agreed-self-inside.ensures, answered_is s c.args.unique waits) refl
 
 pub returns-else-agrees-clause-said : goal.returns-else-agrees-clause-said
 returns-else-agrees-clause-said g c = λ wire says.

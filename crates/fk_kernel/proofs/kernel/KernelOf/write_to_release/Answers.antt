@@ -3,7 +3,7 @@ use Rattle.std.specs.Prelude.{is_some}
 use Rattle.fk_wire.specs.declared.opcode.Opcode.TheVariants as op
 use Rattle.fuse_spec.specs.QueueCalls.{waiting}
 use Rattle.fk_kernel.specs.Said.{wrong_body}
-use Rattle.fk_kernel.proofs.Nodes.{answer_counted, answered_is}
+use Rattle.fk_kernel.proofs.Nodes.{still_counted, answered_is}
 use Rattle.fk_kernel.proofs.Replied.{release_is}
 use Rattle.fk_said.proofs.ReplyCases.{says_to_release}
 use Rattle.fk_said.proofs.Sayings.{says_read, says_nothing}
@@ -20,7 +20,7 @@ invariant_of-self g c =
       sorted = old.sorted;
       files = old.files;
       releases = omega (arith, old.releases, c.answer-kept.ensures.room.requests);
-      nodes = answer_counted k.nodes (g.Q.QueueTable.state k.queues) (g.Q.QueueTable.room k.queues).forgets (g.Q.QueueTable.room c.answer-kept.new.self).forgets old.nodes c.answer-kept.ensures.room.forgets c.args.unique;
+      nodes = still_counted k.nodes (g.Q.QueueTable.room k.queues).forgets (g.Q.QueueTable.room c.answer-kept.new.self).forgets old.nodes c.answer-kept.ensures.room.forgets;
       clock_low = old.clock_low;
     })
 
@@ -35,7 +35,7 @@ invariant_of-self-2 g c =
       sorted = old.sorted;
       files = old.files;
       releases = omega (arith, old.releases, c.answer-kept.ensures.room.requests);
-      nodes = answer_counted k.nodes (g.Q.QueueTable.state k.queues) (g.Q.QueueTable.room k.queues).forgets (g.Q.QueueTable.room c.answer-kept.new.self).forgets old.nodes c.answer-kept.ensures.room.forgets c.args.unique;
+      nodes = still_counted k.nodes (g.Q.QueueTable.room k.queues).forgets (g.Q.QueueTable.room c.answer-kept.new.self).forgets old.nodes c.answer-kept.ensures.room.forgets;
       clock_low = old.clock_low;
     })
 

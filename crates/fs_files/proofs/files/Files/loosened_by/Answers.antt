@@ -2,14 +2,14 @@ use Rattle.std.proofs.Common.{ℕ, Option, sym, ap, subst, ◌∙◌}
 use Rattle.fuse_spec.specs.TreeShape.{IsShaped}
 use Rattle.fs_files.specs.Bounds.{AreKnown, AreNamedBut}
 use Rattle.fs_files.specs.Performing.{handles_said, loosened, tree_said}
-use Rattle.fs_files.specs.Values.{FilesState, server_of}
+use Rattle.fs_files.specs.Values.{FilesState, server_at}
 use Rattle.fs_files.proofs.StaysNamed.{named_said}
 use Rattle.fs_files.proofs.files.Files.loosened_by.Goals as goal
 
 pub returns-clause-others : goal.returns-clause-others
-returns-clause-others g c v named =
+returns-clause-others g c v m named =
     let files = c.args.self.now in
     let held = c.args.held.now in
     let known = subst (λ (f : FilesState). AreKnown f.tree f.nodes f.handles) c.self.view_is c.self.invariant in
     let shaped = subst (λ (f : FilesState). IsShaped f.tree) c.self.view_is c.keeps_shape.ensures in
-    subst (λ (o : Option ℕ). AreNamedBut o (tree_said (server_of files v) held) files.nodes (handles_said (server_of files v) held)) (sym (c.loosened.ensures v ∙ ap (loosened (server_of files v)) c.body.ensures)) (named_said files v known shaped named held)
+    subst (λ (o : Option ℕ). AreNamedBut o (tree_said (server_at m files v) held) files.nodes (handles_said (server_at m files v) held)) (sym (c.loosened.ensures v m ∙ ap (loosened (server_at m files v)) c.body.ensures)) (named_said files v m known shaped named held)

@@ -1,4 +1,9 @@
 use Rattle.fs_files.proofs.Told.{tells_found, tells_created, tells_opened, tells_plain}
+use Rattle.std.proofs.Common.{◌≤◌, ◌^◌, ℕ, List, [], subst}
+use Rattle.fs_files.specs.Giving.{generations_after}
+use Rattle.fs_files.specs.Listed.{names_in}
+use Rattle.fs_files.proofs.Giving.{generation_left, holds_sorted}
+use Rattle.fs_files.proofs.ToldList.{same_files, tells_listed}
 use Rattle.fs_files.proofs.files.Files.tell.Goals as goal
 
 pub returns-in-Found-clause-tells : goal.returns-in-Found-clause-tells
@@ -15,3 +20,19 @@ returns-in-Opened-clause-tells g c = rw c.in-Opened.is (tells_opened c.args.self
 
 pub returns-in-Plain-clause-tells : goal.returns-in-Plain-clause-tells
 returns-in-Plain-clause-tells g c = rw c.in-Plain.is (tells_plain c.args.self.now c.in-Plain.reply)
+
+pub returns-in-ListedPlus-clause-tells : goal.returns-in-ListedPlus-clause-tells
+returns-in-ListedPlus-clause-tells g c =
+    rw c.in-ListedPlus.is
+    (tells_listed c.args.self.now c.list.new.self c.args.found_ms c.in-ListedPlus.records.items c.list.result c.list.ensures.given c.list.ensures.sound c.list.ensures.entries c.list.ensures.records c.list.ensures.valid c.list.ensures.tree
+    c.list.ensures.handles)
+
+pub give-requires-clause-generation : goal.give-requires-clause-generation
+give-requires-clause-generation g c = generation_left c.args.self.now.nodes c.in-Found.file [] (holds_sorted c.args.self.now.nodes c.keeps_sound.ensures) (rw c.in-Found.is at c.requires.generations)
+
+pub give-entry-requires-clause-generation : goal.give-entry-requires-clause-generation
+give-entry-requires-clause-generation g c = generation_left c.args.self.now.nodes c.in-Created.file [] (holds_sorted c.args.self.now.nodes c.keeps_sound.ensures) (rw c.in-Created.is at c.requires.generations)
+
+pub list-requires-clause-generations : goal.list-requires-clause-generations
+list-requires-clause-generations g c =
+    subst (λ (files : List ℕ). generations_after c.args.self.now.nodes files ≤ 2 ^ 62) (same_files c.args.found_ms (names_in c.in-ListedPlus.records.items)) (rw c.in-ListedPlus.is at c.requires.generations)

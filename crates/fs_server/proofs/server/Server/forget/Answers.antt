@@ -16,4 +16,4 @@ returns g c =
     let s = c.self.inside in
     let fs = forgets_in c.args.request.now.nodeid (request_content c.args.request.now.body) in
     rw (← c.self.view_is)
-    (forgets_so s.files c.forget.new.files s.held.entries s.kept.entries s.copies.entries s.next_copy s.validity s.is_aborted fs (as_forgets s.files c.forget.new.files fs c.forget.ensures))
+    (forgets_so s.files c.forget.new.files s.held.entries s.kept.entries s.copies.entries s.next_copy s.validity s.minor s.is_aborted fs (as_forgets s.files c.forget.new.files fs c.forget.ensures))

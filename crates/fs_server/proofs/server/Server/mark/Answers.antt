@@ -30,4 +30,4 @@ returns g c h is =
     let was : get s.held.entries c.args.original ≡ Some h = rw (← c.self.view_is) at is in
     let same : c.in-Some.held ≡ h = same_Some c.in-Some.held h (sym c.in-Some.is ∙ c.remove.ensures.value ∙ was) in
     rw (← c.self.view_is, c.put.ensures.entries, c.remove.ensures.entries, put_gone s.held.entries c.args.original c.mark.new.self c.remove.ensures.sorted, c.mark.ensures)
-    (ap (λ (x : HeldRequest). server_with s.files (put s.held.entries c.args.original (record x { marked = true })) s.kept.entries s.copies.entries s.next_copy s.validity s.is_aborted) same)
+    (ap (λ (x : HeldRequest). server_with s.files (put s.held.entries c.args.original (record x { marked = true })) s.kept.entries s.copies.entries s.next_copy s.validity s.minor s.is_aborted) same)

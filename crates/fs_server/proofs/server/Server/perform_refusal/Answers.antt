@@ -16,7 +16,10 @@ returns-then-self-ge-COUNTER_END-clause-refuses g c =
     let s = c.self.inside in
     let h = c.in-Some.held.now in
     let there : get s.held.entries c.args.unique ≡ Some h = search rules in
-    rw (← c.self.view_is, c.if-not-self.true) (no_copy s.files s.held.entries s.kept.entries s.copies.entries s.next_copy s.validity c.args.unique h there c.if-self-ge-COUNTER_END.true)
+    rw (← c.self.view_is, c.if-not-self.true) (no_copy s.files s.held.entries s.kept.entries s.copies.entries s.next_copy s.validity s.minor c.args.unique h there c.if-self-ge-COUNTER_END.true)
+
+pub has_numbers-requires : goal.has_numbers-requires
+has_numbers-requires g c = c.self.invariant.below
 
 pub returns-then-not-has_numbers-clause-refuses : goal.returns-then-not-has_numbers-clause-refuses
 returns-then-not-has_numbers-clause-refuses g c =
@@ -24,7 +27,7 @@ returns-then-not-has_numbers-clause-refuses g c =
     let h = c.in-Some.held.now in
     let there : get s.held.entries c.args.unique ≡ Some h = search rules in
     rw (← c.self.view_is)
-    (lacking s.files s.held.entries s.kept.entries s.copies.entries s.next_copy s.validity c.args.unique h there s.is_aborted (c.has_numbers.ensures.lacks s.validity c.if-not-has_numbers.true))
+    (lacking s.files s.held.entries s.kept.entries s.copies.entries s.next_copy s.validity s.minor c.args.unique h there s.is_aborted c.self.invariant.named.rows (c.has_numbers.ensures.lacks s.validity s.minor c.if-not-has_numbers.true))
 
 pub returns-clause-none : goal.returns-clause-none
 returns-clause-none g c =
@@ -37,4 +40,4 @@ returns-clause-none g c =
       | else-not-self-via-else-not-self w ↦ λ up. absurd (true≢false (sym w.if-not-self.false ∙ up))
     ] in
     rw (← c.self.view_is)
-    (can s.files s.held.entries s.kept.entries s.copies.entries s.next_copy s.validity c.args.unique h there s.is_aborted copy (c.has_numbers.ensures.has s.validity c.if-not-has_numbers.false))
+    (can s.files s.held.entries s.kept.entries s.copies.entries s.next_copy s.validity s.minor c.args.unique h there s.is_aborted c.self.invariant.named.rows c.self.invariant.below copy (c.has_numbers.ensures.has s.validity s.minor c.if-not-has_numbers.false))

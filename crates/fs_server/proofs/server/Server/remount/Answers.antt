@@ -10,7 +10,7 @@ invariant_of-self g c =
     let s = c.self.inside in
     let v : Validity = record { found_ms = c.args.found_ms; missing_ms = c.args.missing_ms } in
     let clear = cleared s.files s.held.entries s.kept.entries s.copies.entries s.next_copy s.validity c.self.invariant c.clear.new.self c.clear.ensures.nodes c.clear.ensures.handles c.clear.ensures.named in
-    rw (c.clear-2.ensures.entries, c.clear-3.ensures.entries, c.clear-4.ensures.entries) (first_again c.clear.new.self s.next_copy s.validity v clear.counted clear.used clear.named clear.numbers c.requires.found c.requires.missing)
+    rw (c.clear-2.ensures.entries, c.clear-3.ensures.entries, c.clear-4.ensures.entries) (first_again c.clear.new.self s.next_copy s.validity v clear.below clear.used clear.named clear.numbers c.requires.found c.requires.missing)
 
 pub returns : goal.returns
 returns g c =
@@ -18,4 +18,4 @@ returns g c =
     let v : Validity = record { found_ms = c.args.found_ms; missing_ms = c.args.missing_ms } in
     let mid : FilesState = record c.clear.new.self { tree = s.files.tree } in
     rw (← c.self.view_is, c.clear-2.ensures.entries, c.clear-3.ensures.entries, c.clear-4.ensures.entries)
-    (remounts s.files c.clear.new.self s.held.entries s.kept.entries s.copies.entries s.next_copy s.validity s.is_aborted mid v refl c.clear.ensures.nodes c.clear.ensures.handles (record { tree = c.clear.ensures.tree; nodes = refl; handles = refl }))
+    (remounts s.files c.clear.new.self s.held.entries s.kept.entries s.copies.entries s.next_copy s.validity s.minor s.is_aborted mid v c.args.minor refl c.clear.ensures.nodes c.clear.ensures.handles (record { tree = c.clear.ensures.tree; nodes = refl; handles = refl }))

@@ -30,4 +30,4 @@ returns-clause-effect g c =
     let copy = c.in-Some.copy in
     let there : get s.copies.entries c.args.settled.number ≡ Some copy = sym c.remove.ensures.value ∙ c.in-Some.is in
     rw (← c.self.view_is, c.remove.ensures.entries, c.drop_kept.ensures)
-    (settles s.files c.settle_files.new.files s.held.entries s.kept.entries s.copies.entries s.next_copy s.validity s.is_aborted c.args.settled copy there (rw c.reply.ensures c.settle_files.ensures.settles))
+    (settles s.files c.settle_files.new.files s.held.entries s.kept.entries s.copies.entries s.next_copy s.validity s.minor s.is_aborted c.args.settled copy there (rw c.reply.ensures c.settle_files.ensures.settles))

@@ -1,9 +1,10 @@
 use Rattle.std.proofs.Common.{rules, ap, sym}
 use Rattle.fuse_spec.specs.Operations.{listed}
+use Rattle.fs_tree.proofs.Leads.{names-listed}
 use Rattle.fs_tree.proofs.tree.Tree.readdir.Goals as goal
 
 pub returns-clause-ok : goal.returns-clause-ok
 returns-clause-ok g c =
     let room = c.min-room.ensures in
-    let records = c.in_ok-list.ensures in
-    (rw (← c.is_directory.ensures) (search rules), λ valid. ap listed (rw (← c.self.view_is) (sym (rw room at records))))
+    let records = rw room at c.in_ok-list.ensures in
+    (rw (← c.is_directory.ensures) (search rules), λ valid. ap listed (rw (← c.self.view_is) (sym (names-listed c.self.inside.files c.args.directory c.args.offset _ c.self.inside.names _ records))))

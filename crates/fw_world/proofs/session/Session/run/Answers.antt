@@ -1,6 +1,7 @@
 use Rattle.std.proofs.Common.{◌+◌, ◌*◌, ◌<◌, length, take, arith}
 use Rattle.std.specs.Vec.{vec_len, vec_capacity}
 use Rattle.fw_world.specs.declared.event.Event.TheVariants.{Mount}
+use Rattle.fuse_spec.specs.declared.Minor.TheVariants.{M15}
 use Rattle.fw_world.specs.OverLinks.{session_of}
 use Rattle.fw_world.proofs.OverLinks.{all_over, comes_over, none_ran, one_more, ran_as_before, room_for_all}
 use Rattle.fw_world.proofs.session.Session.run.Goals as goal
@@ -11,7 +12,7 @@ loop-k-init g c = (none_ran g.L.Link.carries g.L.Link.failed (session_of c.args.
 pub loop-k-preserved : goal.loop-k-preserved
 loop-k-preserved g c = (
   one_more g.L.Link.carries g.L.Link.failed (session_of c.args.self.now.world c.args.self.now.is_lost) c.args.self.now.link c.args.events.now c.args.records.now.items (session_of c.loop-k.self.world c.loop-k.self.is_lost) c.loop-k.self.link c.loop-k.records.items c.loop-k.k
-      (Mount 0 0) (session_of c.run_one.new.self.world c.run_one.new.self.is_lost) c.run_one.new.self.link c.run_one.new.records.items c.loop-k-test.true c.loop-k.invariant.0 (c.run_one.ensures.ran c.if-not-run_one.false),
+      (Mount 0 0 M15) (session_of c.run_one.new.self.world c.run_one.new.self.is_lost) c.run_one.new.self.link c.run_one.new.records.items c.loop-k-test.true c.loop-k.invariant.0 (c.run_one.ensures.ran c.if-not-run_one.false),
   omega (arith, c.loop-k.invariant.1, c.run_one.ensures.room c.if-not-run_one.false),
 )
 

@@ -1,0 +1,2 @@
+mod Answering
+mod Delivering

@@ -1,0 +1,12 @@
+use Rattle.std.proofs.Common.{refl}
+use Rattle.fk_wire.specs.Opcodes.{knows, served}
+use Rattle.fk_wire.specs.Requests.{opcode_of, request_content}
+use Rattle.fk_wire.specs.Replies.{kind_of}
+use Rattle.callers.proofs.Answering.{kind_there}
+use Rattle.callers.proofs.server.reply_to.Goals as goal
+
+pub returns-in_default : goal.returns-in_default
+returns-in_default c =
+    let opcode = opcode_of (request_content c.args.request.now.body) in
+    let there = kind_there (knows served opcode) (kind_of opcode) c.requires.known c.requires.replies in
+    record { unique = refl; goes = (there.0, there.1, refl) }

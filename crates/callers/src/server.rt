@@ -1,0 +1,77 @@
+//! A FUSE server whose files are one empty directory: it reads request frames and writes replies.
+
+ghost use Rattle.std.specs.Prelude.{◌≡◌, true, OnOk, OnErr, IsTrue, is_some};
+ghost use Rattle.fk_wire.specs.Opcodes.{knows, served};
+ghost use Rattle.fk_wire.specs.Requests.{opcode_of, request_content};
+ghost use Rattle.fk_wire.specs.Replies.{GoesWith, kind_of, reply_message};
+ghost use Rattle.callers.specs.Answered.{Answers};
+
+use fk_wire::{
+    Attr, InitFlags, Reply, ReplyBody, Request, RequestBody, WireFault, read_request, write_reply,
+};
+use std::alloc::Allocator;
+
+const ENOSYS: i32 = 38;
+
+/// Appends the reply to a request frame, which may be any bytes. A FORGET and a BATCH_FORGET have none.
+pub fn answer<A: Allocator>(frame: &[u8], out: &mut Vec<u8, A>) -> Result<(), WireFault>
+    // What is appended is a frame that spells a reply to the request, under its number.
+    ensures answered { OnOk result (Answers frame.now out.old.items out.new.items) }
+    ensures refused { OnErr result (out.new.items ≡ out.old.items) }
+{
+    let request = read_request(frame)?;
+    if has_reply(&request.body) {
+        let reply = reply_to(&request);
+        write_reply(out, &reply)
+    } else {
+        Ok(())
+    }
+}
+
+/// Whether a request has a reply.
+fn has_reply(body: &RequestBody<'_>) -> bool
+    ensures { result ≡ is_some (kind_of (opcode_of (request_content body.now))) }
+{
+    !matches!(
+        body,
+        RequestBody::Forget { .. } | RequestBody::BatchForget { .. }
+    )
+}
+
+/// The reply to a request: an agreement on 7.31, the attributes of the root, and for all else that it is not served.
+fn reply_to(request: &Request<'_>) -> Reply<'static>
+    requires known { IsTrue (knows served (opcode_of (request_content request.now.body))) }
+    requires replies { is_some (kind_of (opcode_of (request_content request.now.body))) ≡ true }
+    ensures unique { result.unique ≡ request.now.unique }
+    ensures goes { GoesWith served (opcode_of (request_content request.now.body)) (reply_message result) }
+{
+    let unique = request.unique;
+    match request.body {
+        RequestBody::Init { .. } => Reply {
+            unique,
+            error: 0,
+            body: ReplyBody::Init {
+                major: 7,
+                minor: 31,
+                flags: InitFlags::ASYNC_READ,
+            },
+        },
+        RequestBody::Getattr => Reply {
+            unique,
+            error: 0,
+            body: ReplyBody::Attr {
+                attr: Attr {
+                    ino: 1,
+                    size: 0,
+                    mode: 0o040755,
+                    nlink: 1,
+                },
+            },
+        },
+        _ => Reply {
+            unique,
+            error: -ENOSYS,
+            body: ReplyBody::Empty,
+        },
+    }
+}

@@ -1,0 +1,127 @@
+-- The counted nodes after a reply to the request of a call.
+use Rattle.std.proofs.Common.{◌≡◌, ℕ, ◌≤◌, ◌<◌, ◌%◌, Bool, true, false, true≢false, List, [], ◌∷◌, length, Option, Some, None, T, nat_eq, refl, ap, sym, subst, ◌∙◌, arith}
+use Rattle.std.specs.Prelude.{nat_le, sum_by}
+use Rattle.std.specs.FinMap.{is_sorted}
+use Rattle.std.specs.Ordering.{nat_cmp}
+use Rattle.std.proofs.lemmas.Bool.Decides.{nat_tests}
+use Rattle.std.proofs.lemmas.List.Sums.{sum_by-cons}
+use Rattle.fuse_spec.specs.declared.Counted.{Counted}
+use Rattle.fuse_spec.specs.declared.Entry.{Entry}
+use Rattle.fuse_spec.specs.declared.Opened.{Opened}
+use Rattle.fuse_spec.specs.declared.Purpose.TheVariants.{Call}
+use Rattle.fuse_spec.specs.declared.WriteResult.{WriteResult}
+use Rattle.fuse_spec.specs.Answers as answer
+use Rattle.fuse_spec.specs.Kernel.{Kernel, asking_for, after_use, released}
+use Rattle.fuse_spec.specs.Maps.{Map, get}
+use Rattle.fuse_spec.specs.Messages.{WireReply}
+use Rattle.fuse_spec.specs.Numbers.{counter_end}
+use Rattle.fuse_spec.specs.Operations as reply
+use Rattle.fuse_spec.specs.Operations.{Operation, DirentPlus, files_in_reply, files_told}
+use Rattle.fuse_spec.specs.QueueCalls.{waiting, without}
+use Rattle.fuse_spec.specs.Replies.{Use, usable, useless, stale, first_use, use_of, counted_more, learnt, judged, heard, goes_with, reply_judged, use_of_reply, without_stale, reply_written}
+use Rattle.fuse_spec.specs.Trees.{pair_length}
+use Rattle.fuse_spec.specs.Vfs.{CallState, walking, doing, using, asked}
+use Rattle.fuse_spec.proofs.Tables.{get_put_here}
+use Rattle.fk_syscalls.specs.Values.{operation_of}
+use Rattle.fk_syscalls.specs.declared.call.Asked.{Asked}
+use Rattle.fk_syscalls.specs.declared.call.Asked.TheVariants as asks
+use Rattle.fk_nodes.specs.Learning.{learnt_from, is_out, AreBelow, SomeOut}
+use Rattle.fk_nodes.proofs.Judged.{learnt_is}
+use Rattle.fk_nodes.proofs.Outs.{out_below, some_out, none_out, one_below, sorted_from}
+use Rattle.fk_kernel.specs.Entries.{Awaits, IsFew, learnt_by_all, nodes_heard}
+use Rattle.fk_kernel.proofs.Replied.{goes_is, wrong_is, ended}
+
+-- ---- what leaves the counts as they are
+
+released_nodes : (k : Kernel) (handle : ℕ) (o : Option Opened) → (released k handle o).nodes ≡ k.nodes
+released_nodes k handle None = refl
+released_nodes k handle (Some opened) = refl
+
+pub use_nodes : (k : Kernel) (state : CallState Opened) → (after_use k state).nodes ≡ k.nodes
+use_nodes k (walking d w ws p) = refl
+use_nodes k (doing operation) = refl
+use_nodes k (using handle operation) = released_nodes k handle (get k.closing handle)
+
+asking_nodes : (k : Kernel) (call : ℕ) (o : Option (Operation ℕ Opened)) → (asking_for k call o).nodes ≡ k.nodes
+asking_nodes k call None = refl
+asking_nodes k call (Some operation) = refl
+
+-- ---- what a reply makes of them
+
+judged_nodes : (k : Kernel) (call : ℕ) (state : CallState Opened) (wire : WireReply) (u : Use) → (judged k call state wire u).nodes ≡ learnt_by_all k.nodes (files_in_reply wire) u
+judged_nodes k call state wire usable = asking_nodes _ call _
+judged_nodes k call state wire useless = refl
+judged_nodes k call state wire (stale node) = refl
+
+module _ (k : Kernel) (unique call : ℕ) (even : nat_eq (unique % 2) 1 ≡ false) (waits : waiting k.queues unique ≡ Some (Call call)) where
+  pub goes_nodes : (wire : WireReply) (aw : Awaits (get k.vfs.calls call) wire) → (reply_written k unique wire).1.nodes ≡ nodes_heard k.nodes wire
+  goes_nodes wire aw =
+      let ended_so : Kernel = record k { queues = without k.queues unique } in
+      ap (λ (r : WriteResult × Kernel). r.1.nodes) (goes_is k unique call even waits wire aw)
+      ∙ use_nodes (heard ended_so call aw.state wire) aw.state
+      ∙ judged_nodes (without_stale ended_so wire) call aw.state (reply_judged k.nodes wire) (use_of_reply k.nodes wire)
+
+  -- a body that does not go with what was asked
+  pub wrong_nodes : (state : CallState Opened) → get k.vfs.calls call ≡ Some state → (wire : WireReply) → goes_with (asked state) wire ≡ false → (reply_written k unique wire).1.nodes ≡ k.nodes
+  wrong_nodes state at wire other =
+      ap (λ (r : WriteResult × Kernel). r.1.nodes) (wrong_is k unique call even waits state at wire other) ∙ use_nodes (ended k unique k.vfs call (answer.failed 5)) state
+
+-- ---- whether a count comes to its end
+
+-- an entry that can be used
+pub one_out : (nodes : Map Counted) (g : Entry) → T (is_sorted nat_cmp nodes) → T (is_sorted nat_cmp (learnt nodes (g ∷ []))) → AreBelow nodes → (b : Bool) → nat_le counter_end (counted_more g (get nodes g.nodeid)).count ≡ b → is_out (learnt nodes (g ∷ [])) ≡ b
+one_out nodes g sorted after below true out =
+    let most : counter_end ≤ (counted_more g (get nodes g.nodeid)).count = at_least counter_end _ out in
+    some_out (learnt nodes (g ∷ [])) g.nodeid (counted_more g (get nodes g.nodeid)) (get_put_here nodes g.nodeid (counted_more g (get nodes g.nodeid))) most
+  where
+    at_least : (m n : ℕ) → nat_le m n ≡ true → m ≤ n
+    at_least m n is = grind (arith, nat_tests)
+one_out nodes g sorted after below false within =
+    let less : (counted_more g (get nodes g.nodeid)).count < counter_end = at_most counter_end _ within in
+    none_out (learnt nodes (g ∷ [])) after (one_below nodes g below less)
+  where
+    at_most : (m n : ℕ) → nat_le m n ≡ false → n < m
+    at_most m n is = grind (arith, nat_tests)
+
+fits_at : (nodes : Map Counted) (g : Entry) → is_out (learnt nodes (g ∷ [])) ≡ false → (counted_more g (get nodes g.nodeid)).count < counter_end
+fits_at nodes g none = (out_below (learnt nodes (g ∷ [])) none).below g.nodeid (counted_more g (get nodes g.nodeid)) (get_put_here nodes g.nodeid (counted_more g (get nodes g.nodeid)))
+
+-- Where no count comes to its end, one lookup more of the node of a usable entry fits.
+pub entry_fits : (nodes : Map Counted) (g : Entry) → use_of nodes g ≡ usable → is_out (learnt_by_all nodes (g ∷ []) (first_use (use_of nodes g) usable)) ≡ false → (counted_more g (get nodes g.nodeid)).count < counter_end
+entry_fits nodes g is none = fits_at nodes g (subst (λ (u : Use). is_out (learnt_by_all nodes (g ∷ []) (first_use u usable)) ≡ false) is none)
+
+-- The names of a list.
+pub pairs_below : (nodes : Map Counted) (pairs : List (DirentPlus Entry)) → is_out (nodes_heard nodes (reply.listed_plus pairs)) ≡ false → AreBelow (learnt_from nodes pairs)
+pairs_below nodes pairs none = out_below (learnt_from nodes pairs) (subst (λ (m : Map Counted). is_out m ≡ false) (learnt_is nodes pairs) none)
+
+-- whether one of them brings a count to its end
+pub pairs_out : (nodes : Map Counted) (pairs : List (DirentPlus Entry)) → T (is_sorted nat_cmp nodes) → (b : Bool) → (b ≡ true → SomeOut (learnt_from nodes pairs)) → (b ≡ false → AreBelow (learnt_from nodes pairs))
+    → b ≡ is_out (nodes_heard nodes (reply.listed_plus pairs))
+pairs_out nodes pairs sorted true out within =
+    let past = out refl in
+    sym (ap is_out (learnt_is nodes pairs) ∙ some_out (learnt_from nodes pairs) past.id past.counted past.at past.out)
+pairs_out nodes pairs sorted false out within = sym (ap is_out (learnt_is nodes pairs) ∙ none_out (learnt_from nodes pairs) (sorted_from pairs nodes sorted) (within refl))
+
+-- ---- a list with files has few names
+
+few_long : (pairs : List (DirentPlus Entry)) → length pairs ≤ sum_by pair_length pairs
+few_long [] = omega arith
+few_long (pair ∷ pairs) =
+    let rest = few_long pairs in
+    let sum = sum_by-cons pair_length pair pairs in
+    omega (arith, rest, sum)
+
+few_within : (pairs : List (DirentPlus Entry)) → nat_le (sum_by pair_length pairs) 4096 ≡ true → length pairs < counter_end
+few_within pairs goes =
+    let long = few_long pairs in
+    let most : sum_by pair_length pairs ≤ 4096 = at_most (sum_by pair_length pairs) 4096 goes in
+    omega (arith, long, most)
+  where
+    at_most : (m n : ℕ) → nat_le m n ≡ true → m ≤ n
+    at_most m n is = grind (arith, nat_tests)
+
+pub said_few : (a : Asked) (wire : WireReply) → goes_with (operation_of a) wire ≡ true → IsFew wire
+said_few (asks.Readdirplus directory after) (reply.listed_plus pairs) goes = few_within pairs goes
+said_few (asks.Lookup directory name) (reply.listed_plus pairs) goes = absurd (true≢false (sym goes))
+said_few a (reply.listed_plus pairs) goes = absurd (true≢false (sym goes))
+said_few a wire goes = tt

@@ -1,4 +1,0 @@
-use Rattle.fk_kernel.proofs.counted_nodes.CountedNodes.list.Goals as goal
-
-pub returns : goal.returns
-returns g c = rw (← c.self.view_is) c.nodes.ensures

@@ -1,0 +1,60 @@
+use Rattle.std.proofs.Common.{◌≡◌, ℕ, ◌+◌, ◌≤◌, true, length, Some, ap, sym, subst, ◌∙◌, arith}
+use Rattle.std.specs.Prelude.{is_some}
+use Rattle.fuse_spec.specs.Maps.{get}
+use Rattle.fuse_spec.specs.Operations as reply
+use Rattle.fuse_spec.specs.Operations.{Operation, readdirplus}
+use Rattle.fuse_spec.specs.QueueCalls.{waiting}
+use Rattle.fuse_spec.specs.Replies.{each_forgotten, goes_with}
+use Rattle.fuse_spec.specs.Vfs.{doing, asked}
+use Rattle.fuse_spec.specs.declared.Opened.{Opened}
+use Rattle.fk_nodes.specs.Learning.{learnt_from, stale_by}
+use Rattle.fk_nodes.specs.Told.{pairs_in}
+use Rattle.fk_kernel.proofs.CountsHeard.{pairs_below}
+use Rattle.fk_kernel.proofs.Nodes.{answered_is, listed_counted}
+use Rattle.fk_kernel.proofs.Replied.{list_done}
+use Rattle.fk_kernel.proofs.Standing.{asked_is, lists_from}
+use Rattle.fk_kernel.proofs.kernel.KernelOf.pairs_listed.Goals as goal
+
+pub learn_and_bind-requires-clause-below : goal.learn_and_bind-requires-clause-below
+learn_and_bind-requires-clause-below g c = rw (← c.self.view_is) at (pairs_below c.args.self.now.nodes (pairs_in c.args.pairs) c.requires.counts)
+
+pub invariant_of-self-2 : goal.invariant_of-self-2
+invariant_of-self-2 g c =
+    let k = c.self.inside in
+    let old = c.self.invariant in
+    let pairs = pairs_in c.args.pairs in
+    let below = rw (← c.self.view_is) at (pairs_below c.args.self.now.nodes pairs c.requires.counts) in
+    let kept = c.answer-kept.ensures.room.forgets in
+    let given = c.forget_stale.ensures.forgets in
+    let reserved = c.in-Ok-reserve.ensures.forgets in
+    let most = c.most.ensures in
+    let room : length k.nodes + length pairs ≤ (g.Q.QueueTable.room c.answer-kept.new.self).forgets = omega (arith, c.in-Some.ensures, c.pair_count.ensures) in
+    rw c.in-Ok-learn_and_bind.ensures.nodes
+    (record {
+      numbers = old.numbers;
+      idle = old.idle;
+      sorted = old.sorted;
+      files = old.files;
+      releases = omega (arith, old.releases, c.reserve.ensures.kept.requests, c.forget_stale.ensures.requests, c.answer-kept.ensures.room.requests);
+      nodes = listed_counted k.nodes (g.Q.QueueTable.room c.answer-kept.new.self).forgets pairs below room;
+      clock_low = old.clock_low;
+    })
+
+pub returns-clause-ok : goal.returns-clause-ok
+returns-clause-ok g c =
+    let k = c.self.inside in
+    let s = g.Q.QueueTable.state k.queues in
+    let now = c.args.self.now in
+    let pairs = pairs_in c.args.pairs in
+    let aw = c.requires.awaits in
+    let lists = lists_from aw.operation aw.state pairs aw.stands aw.goes in
+    let asks : Operation ℕ Opened = readdirplus lists.directory lists.after lists.size in
+    let at : get now.vfs.calls c.args.call ≡ Some (doing asks) = aw.at ∙ lists.is in
+    let state : aw.state ≡ doing asks = cc (lists.is) in
+    let same : aw.operation ≡ asks = sym (asked_is aw.operation aw.state aw.stands) ∙ ap asked state in
+    let goes : goes_with asks (reply.listed_plus pairs) ≡ true = subst (λ (o : Operation ℕ Opened). goes_with o (reply.listed_plus pairs) ≡ true) same aw.goes in
+    let directory : c.directory_listed-directory.result ≡ lists.directory = c.directory_listed-directory.ensures lists.directory lists.after lists.size at in
+    let waits : is_some (waiting s c.args.unique) ≡ true = rw (← c.self.view_is) at (ap is_some c.requires.waits) in
+    let stale = stale_by (learnt_from k.nodes pairs) pairs in
+    rw (c.finish.ensures, c.answer-kept.ensures.state, c.forget_stale.ensures.state, c.reserve.ensures.state, c.in-Ok-learn_and_bind.ensures.names, c.in-Ok-learn_and_bind.ensures.nodes, answered_is (each_forgotten s stale) c.args.unique waits, directory, c.in-Ok.ensures, ← c.self.view_is)
+    (rw (← c.self.view_is) at (list_done now c.args.unique c.args.call c.requires.even c.requires.waits lists.directory pairs lists.after lists.size at goes))

@@ -1,0 +1,72 @@
+//! How the names of a list with their files are taken.
+
+ghost use Rattle.std.specs.Prelude.{◌≡◌, ◌%◌, ℕ, Some, OnOk, OnErr, IfErr, false, nat_eq};
+ghost use Rattle.fuse_spec.specs.Maps.{get};
+ghost use Rattle.fuse_spec.specs.Operations as reply;
+ghost use Rattle.fuse_spec.specs.Operations.{readdirplus};
+ghost use Rattle.fuse_spec.specs.QueueCalls.{waiting};
+ghost use Rattle.fuse_spec.specs.Replies.{reply_written};
+ghost use Rattle.fuse_spec.specs.Vfs.{doing};
+ghost use Rattle.fk_kernel.specs.Entries.{Awaits, ListsPlus, IsFew, nodes_heard};
+ghost use Rattle.fk_nodes.specs.Learning.{is_out};
+ghost use Rattle.fk_nodes.specs.Told.{pairs_in};
+
+use crate::kernel::KernelOf;
+use fk_nodes::{forget_stale, learn_and_bind, names_listed, pair_count};
+use fk_queues::QueueTable;
+use fk_syscalls::{Answer, Asked};
+use fk_wire::RecordsPlus;
+use fuse_spec::{Purpose, Refusal, WriteResult};
+
+impl<Q: QueueTable<Purpose> + Drop> KernelOf<Q> {
+    /// The call is answered the names that a directory lists with their files. Each is counted and in force from now on, but for
+    /// those that tell no file, the root, or a node that is counted under another generation, of which one lookup is forgotten.
+    pub(crate) fn pairs_listed(
+        &mut self,
+        unique: u64,
+        call: u64,
+        pairs: RecordsPlus<'_>,
+    ) -> Result<(), Refusal>
+        requires even { nat_eq (unique % 2) 1 ≡ false }
+        requires waits { waiting self.old.queues unique ≡ Some (Purpose.Call call) }
+        requires awaits { Awaits (get self.old.vfs.calls call) (reply.listed_plus (pairs_in pairs)) }
+        requires few { IsFew (reply.listed_plus (pairs_in pairs)) }
+        requires counts { is_out (nodes_heard self.old.nodes (reply.listed_plus (pairs_in pairs))) ≡ false }
+        ensures err { OnErr result (self.new ≡ self.old) }
+        ensures refusal { IfErr result (λ refusal. refusal ≡ Refusal.NoMemory) }
+        ensures ok { OnOk result (reply_written self.old unique (reply.listed_plus (pairs_in pairs.entry)) ≡ (WriteResult.Accepted, self.new)) }
+    {
+        let directory = self.directory_listed(call);
+        let Ok(listed) = names_listed(self.alloc, pairs) else {
+            return Err(Refusal::NoMemory);
+        };
+        // A forget of each name that is stale, and of each node that is new.
+        let Some(forgets) = self.nodes.most().checked_add(2 * pair_count(pairs)) else {
+            return Err(Refusal::NoMemory);
+        };
+        let Ok(()) = self.queues.reserve(0, forgets) else {
+            return Err(Refusal::NoMemory);
+        };
+        let (names, nodes) = (&mut self.names, &mut self.nodes);
+        let Ok(()) = learn_and_bind(names, nodes, directory, self.clock, pairs) else {
+            return Err(Refusal::NoMemory);
+        };
+        forget_stale(&mut self.queues, &self.nodes, pairs);
+        let _kept = self.queues.answer(unique);
+        self.finish(call, Answer::Listing(listed));
+        Ok(())
+    }
+
+    /// The directory that a call lists with its names' files.
+    fn directory_listed(&self, call: u64) -> u64
+        ensures { (directory after size : ℕ) → get self.now.vfs.calls call ≡ Some (doing (readdirplus directory after size)) → result ≡ directory }
+    {
+        let Some(waiting) = self.calls.get(call) else {
+            return 0;
+        };
+        let Asked::Readdirplus { directory, .. } = waiting.asks() else {
+            return 0;
+        };
+        directory
+    }
+}

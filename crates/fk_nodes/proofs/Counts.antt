@@ -1,0 +1,74 @@
+-- The counted nodes as the kernel's state has them: how one lookup more is counted, and how many nodes there are then.
+use Rattle.std.proofs.Common.{◌≡◌, ◌≢◌, ℕ, ◌+◌, ◌-◌, ◌≤◌, true≢false, true, cond, [], ◌∷◌, length, Option, Some, None, T, refl, ap, sym, ◌∙◌, arith}
+use Rattle.std.specs.Prelude.{option_map, is_some}
+use Rattle.std.specs.Ordering.{nat_cmp}
+use Rattle.std.specs.Cmp.{nat_cmp_total}
+use Rattle.std.specs.FinMap.{FinMap, entries, entries_sorted, is_sorted}
+use Rattle.std.specs.FinMap.Entries.{length-put}
+use Rattle.fuse_spec.specs.declared.Counted.{Counted}
+use Rattle.fuse_spec.specs.declared.Entry.{Entry}
+use Rattle.fuse_spec.specs.Maps.{Map, get, put, remove}
+use Rattle.fuse_spec.specs.Replies as replies
+use Rattle.fk_lookup_count.specs.declared.forget.Forget.{Forget}
+use Rattle.fk_lookup_count.specs.CountedNodes.{IsUnlike, learnt, forget_of, generation_at}
+use Rattle.fk_lookup_count.specs.Slots.{nodes_in, is_node}
+use Rattle.fk_lookup_count.proofs.NumberMaps.{sorted-filter}
+use Rattle.fk_nodes.proofs.Lengths.{length_put, length_gone}
+
+pub sorted_nodes : (slots : FinMap nat_cmp Counted) → T (is_sorted nat_cmp (nodes_in slots))
+sorted_nodes slots = sorted-filter is_node (entries slots) (entries_sorted slots)
+
+-- the forget of a node has its whole count
+pub count_of_forget : (id : ℕ) (o : Option Counted) → option_map (λ (f : Forget). f.nlookup) (forget_of id o) ≡ option_map (λ (c : Counted). c.count) o
+count_of_forget id None = refl
+count_of_forget id (Some node) = refl
+
+pub generation_is : (o : Option Counted) → generation_at o ≡ option_map (λ (c : Counted). c.generation) o
+generation_is None = refl
+generation_is (Some node) = refl
+
+-- one node fewer is counted
+pub fewer : (m : Map Counted) (most id : ℕ) (f : Forget) → length m ≤ most → Some f ≡ forget_of id (get m id) → length (remove m id) ≤ most - 1
+fewer m most id f within is =
+    let shorter = length_gone m id (there_was (get m id) is) in
+    omega arith
+  where
+    there_was : (o : Option Counted) → Some f ≡ forget_of id o → o ≢ None
+    there_was None is =
+        let no : ◌≡◌ {A = Option Forget} (Some f) None = is in
+        cc
+    there_was (Some node) is = λ none.
+        let no : ◌≡◌ {A = Option Counted} (Some node) None = none in
+        cc
+
+module _ (m : Map Counted) (g : Entry) where
+  learnt_by : (o : Option Counted) → learnt m g.nodeid g.generation o ≡ put m g.nodeid (replies.counted_more g o)
+  learnt_by None = refl
+  learnt_by (Some node) = refl
+
+  -- one lookup more is counted, of a node that may be new
+  pub learnt_is : learnt m g.nodeid g.generation (get m g.nodeid) ≡ replies.learnt m (g ∷ [])
+  learnt_is = learnt_by (get m g.nodeid)
+
+  unlike_by : (o : Option Counted) → ((c : Counted) → o ≡ Some c → c.generation ≡ g.generation) → IsUnlike o g.generation → ⊥
+  unlike_by None alike other = other
+  unlike_by (Some node) alike other = other (alike node refl)
+
+  -- under the generation under which a node is counted it is not unlike
+  pub not_unlike : ((c : Counted) → get m g.nodeid ≡ Some c → c.generation ≡ g.generation) → IsUnlike (get m g.nodeid) g.generation → ⊥
+  not_unlike = unlike_by (get m g.nodeid)
+
+  pub one_more : (most : ℕ) → length m ≤ most → length (replies.learnt m (g ∷ [])) ≤ most + 1
+  one_more most within =
+      let long = length_put m g.nodeid (replies.counted_more g (get m g.nodeid)) in
+      omega arith
+
+  -- of one that is not new
+  pub as_many : (most : ℕ) → length m ≤ most → is_some (generation_at (get m g.nodeid)) ≡ true → T (is_sorted nat_cmp m) → length (replies.learnt m (g ∷ [])) ≤ most
+  as_many most within known sorted =
+      let long = length-put nat_cmp nat_cmp_total g.nodeid (replies.counted_more g (get m g.nodeid)) m sorted ∙ ap (λ b. cond b (length m) (length m + 1)) (known_there (get m g.nodeid) known) in
+      omega arith
+    where
+      known_there : (o : Option Counted) → is_some (generation_at o) ≡ true → is_some o ≡ true
+      known_there None known = absurd (true≢false (sym known))
+      known_there (Some node) known = refl

@@ -1,0 +1,25 @@
+use Rattle.std.proofs.Common.{List, ap, map, subst, sym, ◌∙◌}
+use Rattle.fuse_frames.specs.ReplyTies.{pair_in}
+use Rattle.fuse_spec.specs.Maps.{NameMap}
+use Rattle.fuse_spec.specs.Operations.{DirentPlus}
+use Rattle.fuse_spec.specs.declared.Binding.{Binding}
+use Rattle.fuse_spec.specs.declared.Entry.{Entry}
+use Rattle.fk_nodes.specs.Told.{pairs_in, HaveToldRoom, names_judged}
+use Rattle.fk_nodes.proofs.Rooms.{kept_rooms}
+use Rattle.fk_nodes.proofs.listed.bind_listed.Goals as goal
+
+pub loop-pair-preserved : goal.loop-pair-preserved
+loop-pair-preserved g c =
+    let left = ap (map pair_in) c.in-Some.ensures.steps in
+    let clock = c.args.clock in
+    let directory = c.args.directory in
+    let nodes = c.args.nodes.now in
+    let rest = pairs_in c.next.new.self in
+    let rooms = subst (HaveToldRoom c.loop-pair.names directory) left c.loop-pair.invariant.room in
+    record {
+      bound =
+          ap (λ (n : NameMap Binding). names_judged clock directory nodes n rest) c.bind_name.ensures.names
+          ∙ sym (ap (λ (ps : List (DirentPlus Entry)). names_judged clock directory nodes c.loop-pair.names.names ps) left)
+          ∙ c.loop-pair.invariant.bound;
+      room = kept_rooms c.loop-pair.names c.bind_name.new.names directory rest c.bind_name.ensures.kept rooms.1;
+    }

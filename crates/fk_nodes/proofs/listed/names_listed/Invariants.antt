@@ -1,0 +1,10 @@
+use Rattle.std.proofs.Common.{◌≡◌, ◌++◌, map}
+use Rattle.fuse_spec.specs.declared.Entry.{Entry}
+use Rattle.fuse_spec.specs.Operations.{DirentPlus}
+use Rattle.fk_syscalls.specs.Values.{dirent_of}
+use Rattle.fk_nodes.specs.Told.{pairs_in}
+use Rattle.fk_nodes.proofs.listed.names_listed.Given as goal
+
+abbrev pub invariant-loop-pair : goal.invariant-loop-pair
+invariant-loop-pair g l =
+    map dirent_of l.names.items ++ map (λ (pair : DirentPlus Entry). pair.dirent) (pairs_in l.pair-iterator) ≡ map (λ (pair : DirentPlus Entry). pair.dirent) (pairs_in l.fn.pairs)

@@ -1,0 +1,64 @@
+-- How the names of a list with their files are judged and learnt.
+use Rattle.std.specs.Prelude.{◌≡◌, ◌<◌, ◌≤◌, ℕ, suc, Bool, false, ◌&&◌, cond, List, [], ◌∷◌, ◌++◌, Option, Some, None, nat_eq, nat_le, nat_lt, ◌+◌}
+use Rattle.std.specs.List.{list_any}
+use Rattle.fuse_spec.specs.declared.Counted.{Counted}
+use Rattle.fuse_spec.specs.declared.Entry.{Entry}
+use Rattle.fuse_spec.specs.Maps.{Map, get, put, values}
+use Rattle.fuse_spec.specs.Numbers.{counter_end}
+use Rattle.fuse_spec.specs.Operations.{DirentPlus, told_by}
+use Rattle.fuse_spec.specs.Replies.{Use, usable, useless, stale, use_of, use_of_told, pair_judged, counted_more, stale_in}
+
+-- The counts after an entry that is judged so.
+abbrev pub learnt_by_use : Map Counted → Entry → Use → Map Counted
+learnt_by_use nodes g usable = put nodes g.nodeid (counted_more g (get nodes g.nodeid))
+learnt_by_use nodes g useless = nodes
+learnt_by_use nodes g (stale node) = nodes
+
+-- The counts after a name that tells this file, or none.
+abbrev pub learnt_told : Map Counted → Option Entry → Map Counted
+learnt_told nodes None = nodes
+learnt_told nodes (Some g) = learnt_by_use nodes g (use_of nodes g)
+
+-- The counts after the names of a list.
+abbrev pub learnt_from : Map Counted → List (DirentPlus Entry) → Map Counted
+learnt_from nodes [] = nodes
+learnt_from nodes (pair ∷ pairs) = learnt_from (learnt_told nodes (told_by pair)) pairs
+
+-- A name of a list, judged by these counts.
+abbrev pub judged_in : Map Counted → DirentPlus Entry → DirentPlus Entry
+judged_in nodes pair = pair_judged pair (use_of_told nodes (told_by pair))
+
+-- The nodes that names of a list tell under another generation than these counts have.
+abbrev pub stale_by : Map Counted → List (DirentPlus Entry) → List ℕ
+stale_by nodes [] = []
+stale_by nodes (pair ∷ pairs) = stale_in (use_of_told nodes (told_by pair)) ++ stale_by nodes pairs
+
+-- Whether a name tells this node under this generation.
+abbrev pub tells : (id generation : ℕ) → Option Entry → Bool
+tells id generation None = false
+tells id generation (Some g) = nat_eq g.nodeid id && nat_eq g.generation generation
+
+-- How many names of a list do.
+abbrev pub times_told : (id generation : ℕ) → List (DirentPlus Entry) → ℕ
+times_told id generation [] = 0
+times_told id generation (pair ∷ pairs) = cond (tells id generation (told_by pair)) (suc (times_told id generation pairs)) (times_told id generation pairs)
+
+-- No node's count has come to the end of counters.
+pub record AreBelow (nodes : Map Counted) : Type 0 where
+  pub below : (id : ℕ) (counted : Counted) → get nodes id ≡ Some counted → counted.count < counter_end
+
+-- Some node's count has.
+pub record SomeOut (nodes : Map Counted) : Type 0 where
+  pub id : ℕ
+  pub counted : Counted
+  pub at : get nodes id ≡ Some counted
+  pub out : counter_end ≤ counted.count
+
+-- Whether some node's count has come to the end of counters.
+abbrev pub is_out : Map Counted → Bool
+is_out nodes = list_any (λ (node : Counted). nat_le counter_end node.count) (values nodes)
+
+-- Where this name tells a counted node under its generation, all of these names that tell it so leave its count below the end.
+abbrev pub LeavesBelow : Map Counted → List (DirentPlus Entry) → Option Entry → Type 0
+LeavesBelow nodes pairs None = Unit {0}
+LeavesBelow nodes pairs (Some g) = (c : Counted) → nat_lt g.nodeid 2 ≡ false → get nodes g.nodeid ≡ Some c → c.generation ≡ g.generation → c.count + times_told g.nodeid g.generation pairs < counter_end

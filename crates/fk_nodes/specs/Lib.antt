@@ -1,0 +1,4 @@
+pub mod Learning
+pub mod Rooms
+pub mod Told
+pub mod Uses

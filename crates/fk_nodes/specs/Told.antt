@@ -1,0 +1,31 @@
+-- The names of a list with their files, as a frame has them, and what they make of the kernel's tables.
+use Rattle.std.specs.Prelude.{ℕ, List, [], ◌∷◌, Option, Some, None, map}
+use Rattle.fuse_frames.specs.ReplyTies.{pair_in}
+use Rattle.fuse_spec.specs.declared.Binding.{Binding}
+use Rattle.fuse_spec.specs.declared.Entry.{Entry}
+use Rattle.fuse_spec.specs.Maps.{NameMap, Map}
+use Rattle.fuse_spec.specs.declared.Counted.{Counted}
+use Rattle.fuse_spec.specs.CallReplies.{names_told}
+use Rattle.fuse_spec.specs.Operations.{DirentPlus, told_by, pair_with}
+use Rattle.fk_dentry.specs.NamesInForce.{NamesInForce, HasRoom}
+use Rattle.fk_nodes.specs.Learning.{judged_in}
+use Rattle.fk_wire.specs.declared.records_plus.RecordsPlus.{RecordsPlus}
+use Rattle.fk_wire.specs.Records.{pluses_in}
+
+-- The names that are left in an iterator.
+abbrev pub pairs_in : RecordsPlus → List (DirentPlus Entry)
+pairs_in records = map pair_in (pluses_in records)
+
+-- A name that tells a file has room.
+abbrev pub HasToldRoom : NamesInForce → (directory : ℕ) → DirentPlus Entry → Option Entry → Type 0
+HasToldRoom names directory pair None = Unit {0}
+HasToldRoom names directory pair (Some g) = HasRoom names (directory, pair.dirent.name)
+
+-- Each name of a list that tells a file has room.
+abbrev pub HaveToldRoom : NamesInForce → (directory : ℕ) → List (DirentPlus Entry) → Type 0
+HaveToldRoom names directory [] = Unit {0}
+HaveToldRoom names directory (pair ∷ pairs) = HasToldRoom names directory pair (told_by pair) × HaveToldRoom names directory pairs
+
+-- The names in force once those of a list are, each judged by these counts.
+abbrev pub names_judged : (now directory : ℕ) → Map Counted → NameMap Binding → List (DirentPlus Entry) → NameMap Binding
+names_judged now directory nodes names pairs = names_told now directory names (map (pair_with (λ (g : Entry). g.nodeid)) (map (judged_in nodes) pairs))

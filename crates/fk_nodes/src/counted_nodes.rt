@@ -1,0 +1,240 @@
+//! The nodes that the kernel counts.
+
+ghost use Rattle.std.specs.Prelude.{◌≡◌, ◌≤◌, ◌<◌, ◌+◌, ◌^◌, [], ◌∷◌, length, map, nat_le, option_map, OnOk, OnErr, IfOk, T, true, false};
+ghost use Rattle.std.specs.Option.{ForSome};
+ghost use Rattle.fuse_spec.specs.Maps.{get, remove};
+ghost use Rattle.fuse_spec.specs.Numbers.{counter_end};
+ghost use Rattle.fuse_spec.specs.Replies.{counted_more, learnt, use_of};
+ghost use Rattle.std.specs.FinMap.{is_sorted};
+ghost use Rattle.std.specs.Ordering.{nat_cmp};
+ghost use Rattle.fk_wire.specs.Records.{direntplus_content};
+ghost use Rattle.fuse_frames.specs.ReplyTies.{pair_in};
+ghost use Rattle.fuse_spec.specs.Operations.{told_by};
+ghost use Rattle.fk_nodes.specs.Learning.{learnt_from, LeavesBelow, AreBelow, SomeOut};
+ghost use Rattle.fk_nodes.specs.Told.{pairs_in};
+ghost use Rattle.fk_nodes.specs.Uses.{use_meant};
+
+use crate::entry_use::EntryUse;
+use crate::learning::{count_all, reserve_nodes, tell_more};
+use crate::told::told;
+use fk_lookup_count::{CountTable, KernelNodes};
+use fk_wire::{DirentPlus, RecordsPlus};
+use fuse_spec::{Counted, Entry};
+use std::alloc::{AllocError, Allocator, Global};
+use std::marker::Model;
+
+/// The end of counters (this project's rule): a node's lookups are fewer.
+const COUNTER_END: u64 = 0x4000_0000_0000_0000;
+
+/// Nodes stay fewer than this, so that those of a list can be counted beside them.
+const MOST: usize = 0x4000_0000_0000_0000;
+
+/// The counted nodes: each node id with its generation and its lookup count.
+#[derive(Drop)]
+pub struct CountedNodes<A: Allocator + Copy = Global> {
+    table: KernelNodes<A>,
+    /// At least as many as are counted.
+    most: usize,
+}
+
+impl<A: Allocator + Copy> Model for CountedNodes<A> {
+    ghost use Rattle.std.specs.Coded.{codes};
+    ghost use Rattle.fuse_spec.specs.Maps.{Map};
+    ghost use Rattle.fuse_spec.specs.declared.Counted.{Counted};
+    ghost use Rattle.fuse_spec.specs.contracts.Counted as counted_row;
+    ghost use Rattle.std.specs.Prelude.{◌≤◌, length};
+    ghost use Rattle.fk_lookup_count.specs.Slots.{nodes_in};
+
+    ghost Value = { Map Counted };
+
+    ghost coded = { Prim.hlevel (codes, counted_row.the_row.coded) };
+
+    ghost view = { λ t. nodes_in t.table.slots };
+
+    ghost invariant = { λ t. length (nodes_in t.table.slots) ≤ t.most };
+}
+
+impl<A: Allocator + Copy> CountedNodes<A> {
+    pub fn new(alloc: A) -> Self
+        ensures { result ≡ [] }
+    {
+        CountedNodes {
+            table: KernelNodes::new(alloc),
+            most: 0,
+        }
+    }
+
+    /// No more nodes are counted than this.
+    pub fn most(&self) -> usize
+        ensures { length self.now ≤ result }
+    {
+        self.most
+    }
+
+    /// The generation under which a node is counted.
+    pub fn generation_of(&self, id: u64) -> Option<u64>
+        ensures { result ≡ option_map (λ counted. counted.generation) (get self.now id) }
+    {
+        let _ = &self.most;
+        self.table.generation_of(id)
+    }
+
+    /// Nodes stand in rising id. A call without effect, made where a proof rests on that.
+    pub fn are_sorted(&self)
+        ensures { T (is_sorted nat_cmp self.now) }
+    {
+        // A field is touched so that the type's invariant is at hand.
+        let _ = &self.most;
+    }
+
+    /// Whether an entry can be used.
+    pub fn use_of(&self, entry: &Entry) -> EntryUse
+        ensures { use_meant entry.now.nodeid result ≡ use_of self.now entry.now }
+    {
+        if entry.nodeid < 2 {
+            return EntryUse::Useless;
+        }
+        match self.generation_of(entry.nodeid) {
+            Some(generation) if generation != entry.generation => EntryUse::Stale,
+            _ => EntryUse::Usable,
+        }
+    }
+
+    /// Whether one lookup more brings the count of the entry's node to the end of counters.
+    pub fn counts_out(&self, entry: &Entry) -> bool
+        ensures { result ≡ nat_le counter_end (counted_more entry.now (get self.now entry.now.nodeid)).count }
+    {
+        let _ = &self.most;
+        self.table.count_of(entry.nodeid) >= COUNTER_END - 1
+    }
+
+    /// Counts one lookup more of the node that an entry names.
+    ///
+    /// # Errors
+    ///
+    /// Memory was wanting. Nothing changed.
+    pub fn learn(&mut self, entry: &Entry) -> Result<(), AllocError>
+        requires alike { ForSome (get self.old entry.now.nodeid) (λ counted. counted.generation ≡ entry.now.generation) }
+        requires fits { ForSome (get self.old entry.now.nodeid) (λ counted. counted.count + 1 < 2 ^ 64) }
+        ensures ok { OnOk result (self.new ≡ learnt self.old (entry.now ∷ [])) }
+        ensures err { OnErr result (self.new ≡ self.old) }
+    {
+        let Some(more) = self.most.checked_add(1) else {
+            return Err(AllocError);
+        };
+        self.table.reserve(entry.nodeid)?;
+        let is_new = self.table.generation_of(entry.nodeid).is_none();
+        match self.table.learn(entry.nodeid, entry.generation) {
+            Ok(()) => {
+                if is_new {
+                    self.most = more;
+                }
+                Ok(())
+            }
+            // Ruled out: it is counted under this generation.
+            Err(_) => Ok(()),
+        }
+    }
+
+    /// How a node is counted.
+    fn counted(&self, id: u64) -> Option<Counted>
+        ensures { result ≡ get self.now id }
+    {
+        let _ = &self.most;
+        match self.table.generation_of(id) {
+            Some(generation) => Some(Counted {
+                generation,
+                count: self.table.count_of(id),
+            }),
+            None => None,
+        }
+    }
+
+    /// Whether the names of a list that tell the node that this one tells, under the same generation, bring its count to the end of
+    /// counters, where it is counted under that generation.
+    fn brings_out(&self, pair: &DirentPlus<'_>, pairs: RecordsPlus<'_>) -> bool
+        requires { AreBelow self.now }
+        ensures out { result ≡ true → SomeOut (learnt_from self.now (pairs_in pairs.entry)) }
+        ensures within { result ≡ false → LeavesBelow self.now (pairs_in pairs.entry) (told_by (pair_in (direntplus_content pair.now))) }
+    {
+        let Some(entry) = told(pair) else {
+            return false;
+        };
+        if entry.nodeid < 2 {
+            return false;
+        }
+        let Some(counted) = self.counted(entry.nodeid) else {
+            return false;
+        };
+        if counted.generation != entry.generation {
+            return false;
+        }
+        let left = COUNTER_END - 1 - counted.count;
+        tell_more(pairs, entry.nodeid, entry.generation, left)
+    }
+
+    /// Whether a node's count comes to the end of counters once the names of a list are counted, each judged by the counts that
+    /// those before it left. Takes no memory.
+    pub fn listed_count_out(&self, pairs: RecordsPlus<'_>) -> bool
+        requires below { AreBelow self.now }
+        requires few { length (pairs_in pairs) < counter_end }
+        ensures out { result ≡ true → SomeOut (learnt_from self.now (pairs_in pairs.entry)) }
+        ensures within { result ≡ false → AreBelow (learnt_from self.now (pairs_in pairs.entry)) }
+    {
+        for pair in pairs {
+            if self.brings_out(&pair, pairs) {
+                return true;
+            }
+        }
+        false
+    }
+
+    /// Counts the names of a list that tell files, each judged by the counts that those before it left.
+    ///
+    /// # Errors
+    ///
+    /// Memory was wanting. Nothing changed.
+    pub fn learn_listed(&mut self, pairs: RecordsPlus<'_>) -> Result<(), AllocError>
+        requires few { length (pairs_in pairs) < counter_end }
+        requires below { AreBelow (learnt_from self.old (pairs_in pairs)) }
+        ensures ok { OnOk result (self.new ≡ learnt_from self.old (pairs_in pairs.entry)) }
+        ensures err { OnErr result (self.new ≡ self.old) }
+    {
+        if self.most >= MOST {
+            // no memory holds so many nodes
+            return Err(AllocError);
+        }
+        reserve_nodes(&mut self.table, pairs)?;
+        self.most = count_all(&mut self.table, self.most, pairs);
+        Ok(())
+    }
+
+    /// Gives a node up, and gives its whole count, if it is counted.
+    pub fn evict(&mut self, id: u64) -> Option<u64>
+        ensures count { result ≡ option_map (λ counted. counted.count) (get self.old id) }
+        ensures nodes { self.new ≡ remove self.old id }
+    {
+        let forget = self.table.evict(id)?;
+        self.most -= 1;
+        Some(forget.nlookup)
+    }
+
+    pub fn clear(&mut self)
+        ensures { self.new ≡ [] }
+    {
+        self.table.clear();
+        self.most = 0;
+    }
+
+    /// Id, generation and lookup count of each counted node, in rising id.
+    ///
+    /// # Errors
+    ///
+    /// Memory was wanting for the list.
+    pub fn list(&self, alloc: A) -> Result<Vec<(u64, u64, u64), A>, AllocError>
+        ensures { IfOk result (λ nodes. nodes.items ≡ map (λ e. (e.0, e.1.generation, e.1.count)) self.now) }
+    {
+        let _ = &self.most;
+        self.table.nodes(alloc)
+    }
+}

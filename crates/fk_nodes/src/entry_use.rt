@@ -1,0 +1,11 @@
+//! Whether entries can be used.
+
+/// Whether an entry can be used.
+#[derive(Clone, Copy)]
+pub enum EntryUse {
+    Usable,
+    /// It names the root or no node.
+    Useless,
+    /// Its node is counted under another generation.
+    Stale,
+}

@@ -1,0 +1,12 @@
+//! The nodes that the kernel counts, and how the names of a list with their files are judged, counted and put in force.
+#![tactic(auto)]
+
+mod counted_nodes;
+mod entry_use;
+mod learning;
+mod listed;
+mod told;
+
+pub use counted_nodes::CountedNodes;
+pub use entry_use::EntryUse;
+pub use listed::{forget_stale, learn_and_bind, names_listed, pair_count};

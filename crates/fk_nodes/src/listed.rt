@@ -1,0 +1,206 @@
+//! What the names of a list with their files make of the names in force and of the queues.
+
+ghost use Rattle.std.specs.Prelude.{◌≡◌, ◌≤◌, ◌<◌, ◌+◌, ◌^◌, ℕ, length, map, None, OnOk, OnErr, IfOk};
+ghost use Rattle.fuse_frames.specs.ReplyTies.{pair_in};
+ghost use Rattle.fk_wire.specs.Records.{direntplus_content};
+ghost use Rattle.fuse_spec.specs.CallReplies.{name_told};
+ghost use Rattle.fuse_spec.specs.Maps.{Place};
+ghost use Rattle.fuse_spec.specs.Numbers.{counter_end, max_validity};
+ghost use Rattle.fuse_spec.specs.Operations.{told_by, pair_with};
+ghost use Rattle.fuse_spec.specs.Replies.{each_forgotten, stale_in, use_of_told};
+ghost use Rattle.fuse_spec.specs.declared.Entry.{Entry as NodeEntry};
+ghost use Rattle.fk_dentry.specs.NamesInForce.{HasRoom};
+ghost use Rattle.fk_syscalls.specs.Values.{dirent_of};
+ghost use Rattle.fk_nodes.specs.Learning.{judged_in, learnt_from, stale_by, AreBelow};
+ghost use Rattle.fk_nodes.specs.Told.{pairs_in, HasToldRoom, HaveToldRoom, names_judged};
+
+use crate::counted_nodes::CountedNodes;
+use crate::entry_use::EntryUse;
+use crate::told::{told, valid_ms};
+use fk_dentry::Bindings;
+use fk_queues::QueueTable;
+use fk_syscalls::ListedName;
+use fk_wire::{DirentPlus, RecordsPlus};
+use fuse_frames::kind_of_type;
+use fuse_spec::Purpose;
+use std::alloc::{AllocError, Allocator};
+
+/// Makes room for a name that tells a file.
+fn reserve_name<A: Allocator + Copy>(
+    names: &mut Bindings<A>,
+    directory: u64,
+    pair: &DirentPlus<'_>,
+) -> Result<(), AllocError>
+    ensures names { names.new.names ≡ names.old.names }
+    ensures room { OnOk result (HasToldRoom names.new directory (pair_in (direntplus_content pair.now)) (told_by (pair_in (direntplus_content pair.now)))) }
+    ensures kept { (other : Place) → HasRoom names.old other → HasRoom names.new other }
+{
+    match told(pair) {
+        Some(_) => names.reserve(directory, pair.dirent.name),
+        None => Ok(()),
+    }
+}
+
+/// Makes room for each name of a list that tells a file.
+///
+/// # Errors
+///
+/// Memory was wanting. The names are as before.
+fn reserve_listed<A: Allocator + Copy>(
+    names: &mut Bindings<A>,
+    directory: u64,
+    pairs: RecordsPlus<'_>,
+) -> Result<(), AllocError>
+    ensures names { names.new.names ≡ names.old.names }
+    ensures room { OnOk result (HaveToldRoom names.new directory (pairs_in pairs.entry)) }
+{
+    for pair in pairs {
+        reserve_name(names, directory, &pair)?;
+    }
+    Ok(())
+}
+
+/// A name leads to the file that it tells, if its entry can be used.
+fn bind_name<A: Allocator + Copy>(
+    names: &mut Bindings<A>,
+    nodes: &CountedNodes<A>,
+    directory: u64,
+    clock: u64,
+    pair: &DirentPlus<'_>,
+)
+    requires room { HasToldRoom names.old directory (pair_in (direntplus_content pair.now)) (told_by (pair_in (direntplus_content pair.now))) }
+    requires clock { clock + max_validity < 2 ^ 64 }
+    ensures names { names.new.names ≡ name_told clock directory names.old.names (pair_with (λ (g : NodeEntry). g.nodeid) (judged_in nodes.now (pair_in (direntplus_content pair.now)))) (told_by (pair_with (λ (g : NodeEntry). g.nodeid) (judged_in nodes.now (pair_in (direntplus_content pair.now))))) }
+    ensures kept { (other : Place) → HasRoom names.old other → HasRoom names.new other }
+{
+    let Some(entry) = told(pair) else {
+        return;
+    };
+    match nodes.use_of(&entry) {
+        EntryUse::Usable => {
+            let until = clock + valid_ms(&pair.entry_out);
+            names.put(directory, pair.dirent.name, Some(entry.nodeid), until);
+        }
+        EntryUse::Useless => {}
+        EntryUse::Stale => {}
+    }
+}
+
+/// Puts the names of a list in force that tell a file of which the entry can be used. Takes no memory.
+fn bind_listed<A: Allocator + Copy>(
+    names: &mut Bindings<A>,
+    nodes: &CountedNodes<A>,
+    directory: u64,
+    clock: u64,
+    pairs: RecordsPlus<'_>,
+)
+    requires room { HaveToldRoom names.old directory (pairs_in pairs) }
+    requires clock { clock + max_validity < 2 ^ 64 }
+    ensures { names.new.names ≡ names_judged clock directory nodes.now names.old.names (pairs_in pairs.entry) }
+{
+    for pair in pairs {
+        bind_name(names, nodes, directory, clock, &pair);
+    }
+}
+
+/// Queues a forget of one lookup of the node that a name tells under another generation than it is counted.
+fn forget_one<Q: QueueTable<Purpose>>(
+    queues: &mut Q,
+    nodes: &CountedNodes<Q::Heap>,
+    pair: &DirentPlus<'_>,
+)
+    requires { 0 < (Q.room queues.old).forgets }
+    ensures state { Q.state queues.new ≡ each_forgotten (Q.state queues.old) (stale_in (use_of_told nodes.now (told_by (pair_in (direntplus_content pair.now))))) }
+    ensures requests { (Q.room queues.old).requests ≤ (Q.room queues.new).requests }
+    ensures forgets { (Q.room queues.old).forgets ≤ (Q.room queues.new).forgets + 1 }
+{
+    let Some(entry) = told(pair) else {
+        return;
+    };
+    match nodes.use_of(&entry) {
+        EntryUse::Stale => queues.forget(entry.nodeid, 1),
+        EntryUse::Useless => {}
+        EntryUse::Usable => {}
+    }
+}
+
+/// Queues a forget of one lookup of each node that a name of a list tells under another generation than it is counted (this
+/// project's rule). Takes no memory.
+pub fn forget_stale<Q: QueueTable<Purpose>>(
+    queues: &mut Q,
+    nodes: &CountedNodes<Q::Heap>,
+    pairs: RecordsPlus<'_>,
+)
+    requires { length (pairs_in pairs) ≤ (Q.room queues.old).forgets }
+    ensures state { Q.state queues.new ≡ each_forgotten (Q.state queues.old) (stale_by nodes.now (pairs_in pairs.entry)) }
+    ensures requests { (Q.room queues.old).requests ≤ (Q.room queues.new).requests }
+    ensures forgets { (Q.room queues.old).forgets ≤ (Q.room queues.new).forgets + length (pairs_in pairs.entry) }
+{
+    for pair in pairs {
+        forget_one(queues, nodes, &pair);
+    }
+}
+
+/// A copy of the names of a list.
+///
+/// # Errors
+///
+/// Memory was wanting.
+pub fn names_listed<A: Allocator + Copy>(
+    alloc: A,
+    pairs: RecordsPlus<'_>,
+) -> Result<Vec<ListedName<A>, A>, AllocError>
+    ensures { IfOk result (λ names. map dirent_of names.items ≡ map (λ pair. pair.dirent) (pairs_in pairs.entry)) }
+{
+    let mut names = Vec::new(alloc);
+    for pair in pairs {
+        let record = pair.dirent;
+        let name = record.name.to_vec(alloc)?;
+        names.push(ListedName {
+            ino: record.ino,
+            offset: record.off,
+            kind: kind_of_type(record.kind),
+            name,
+        })?;
+    }
+    Ok(names)
+}
+
+/// How many names a list has.
+pub fn pair_count(pairs: RecordsPlus<'_>) -> usize
+    requires { length (pairs_in pairs) < counter_end }
+    ensures { result ≡ length (pairs_in pairs.entry) }
+{
+    let mut count = 0;
+    for _pair in pairs {
+        count += 1;
+    }
+    count
+}
+
+/// Counts the names of a list that tell files, and puts those in force of which the entry can be used, from this time in
+/// milliseconds on.
+///
+/// # Errors
+///
+/// Memory was wanting. Nothing changed.
+pub fn learn_and_bind<A: Allocator + Copy>(
+    names: &mut Bindings<A>,
+    nodes: &mut CountedNodes<A>,
+    directory: u64,
+    clock: u64,
+    pairs: RecordsPlus<'_>,
+) -> Result<(), AllocError>
+    requires clock { clock + max_validity < 2 ^ 64 }
+    requires few { length (pairs_in pairs) < counter_end }
+    requires below { AreBelow (learnt_from nodes.old (pairs_in pairs)) }
+    ensures err_names { OnErr result (names.new.names ≡ names.old.names) }
+    ensures err_nodes { OnErr result (nodes.new ≡ nodes.old) }
+    ensures nodes { OnOk result (nodes.new ≡ learnt_from nodes.old (pairs_in pairs.entry)) }
+    ensures names { OnOk result (names.new.names ≡ names_judged clock directory (learnt_from nodes.old (pairs_in pairs.entry)) names.old.names (pairs_in pairs.entry)) }
+{
+    reserve_listed(names, directory, pairs)?;
+    nodes.learn_listed(pairs)?;
+    bind_listed(names, nodes, directory, clock, pairs);
+    Ok(())
+}

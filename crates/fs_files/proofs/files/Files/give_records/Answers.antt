@@ -1,0 +1,115 @@
+use Rattle.std.proofs.Common.{◌-◌, List, [], ◌∷◌, map, refl, sym, subst, ◌∙◌}
+use Rattle.fuse_spec.specs.Operations.{Dirent, files_told}
+use Rattle.fuse_spec.specs.Trees.{Tree}
+use Rattle.fk_wire.specs.Dirents.{DirentContent}
+use Rattle.fk_wire.specs.Records.{dirent_content}
+use Rattle.fuse_frames.specs.ReplyTies.{dirent_in}
+use Rattle.fs_files.specs.Bounds.{IsThere}
+use Rattle.fs_files.specs.Listed.{listed_in, pair_listed}
+use Rattle.fs_files.proofs.ToldNames.{StillTold, told_counted, told_first, told_generations, told_listable, told_next, told_room}
+use Rattle.fs_files.proofs.files.Files.give_records.Goals as goal
+
+pub records-init : goal.records-init
+records-init g c =
+    let s = c.args.self.now in
+    rw c.into_iter-record-iterator.ensures.into_iter_gives
+    (tt, tt, told_first s.tree s.nodes s.node_room (listed_in c.args.records) c.requires.listable c.requires.few c.requires.room c.requires.generations c.requires.counted, refl, refl)
+
+pub overflow_sub-record : goal.overflow_sub-record
+overflow_sub-record g c =
+    let old = c.args.self.now in
+    let now = c.records.self in
+    let all = files_told (map (pair_listed 0) (listed_in c.args.records)) in
+    let d : Dirent = dirent_in (dirent_content c.in-Some.record) in
+    let ds : List Dirent = listed_in c.next.new.self in
+    let still : StillTold old.tree old.nodes all now.nodes now.node_room (d ∷ ds) =
+    subst (λ (xs : List DirentContent). StillTold old.tree old.nodes all now.nodes now.node_room (map dirent_in xs)) c.in-Some.ensures.steps c.records.invariant.2 in
+    (told_listable old.tree old.nodes all now.nodes now.node_room d ds still).0
+
+pub give_named-requires-clause-file : goal.give_named-requires-clause-file
+give_named-requires-clause-file g c =
+    let old = c.args.self.now in
+    let now = c.records.self in
+    let all = files_told (map (pair_listed 0) (listed_in c.args.records)) in
+    let d : Dirent = dirent_in (dirent_content c.in-Some.record) in
+    let ds : List Dirent = listed_in c.next.new.self in
+    let still : StillTold old.tree old.nodes all now.nodes now.node_room (d ∷ ds) =
+    subst (λ (xs : List DirentContent). StillTold old.tree old.nodes all now.nodes now.node_room (map dirent_in xs)) c.in-Some.ensures.steps c.records.invariant.2 in
+    (told_listable old.tree old.nodes all now.nodes now.node_room d ds still).1
+
+pub give_named-requires-clause-there : goal.give_named-requires-clause-there
+give_named-requires-clause-there g c =
+    let old = c.args.self.now in
+    let now = c.records.self in
+    let all = files_told (map (pair_listed 0) (listed_in c.args.records)) in
+    let d : Dirent = dirent_in (dirent_content c.in-Some.record) in
+    let ds : List Dirent = listed_in c.next.new.self in
+    let still : StillTold old.tree old.nodes all now.nodes now.node_room (d ∷ ds) =
+    subst (λ (xs : List DirentContent). StillTold old.tree old.nodes all now.nodes now.node_room (map dirent_in xs)) c.in-Some.ensures.steps c.records.invariant.2 in
+    subst (λ (t : Tree). IsThere t (d.ino - 1)) (sym c.records.invariant.3) (told_listable old.tree old.nodes all now.nodes now.node_room d ds still).2
+
+pub give_named-requires-clause-room : goal.give_named-requires-clause-room
+give_named-requires-clause-room g c =
+    let old = c.args.self.now in
+    let now = c.records.self in
+    let all = files_told (map (pair_listed 0) (listed_in c.args.records)) in
+    let d : Dirent = dirent_in (dirent_content c.in-Some.record) in
+    let ds : List Dirent = listed_in c.next.new.self in
+    let still : StillTold old.tree old.nodes all now.nodes now.node_room (d ∷ ds) =
+    subst (λ (xs : List DirentContent). StillTold old.tree old.nodes all now.nodes now.node_room (map dirent_in xs)) c.in-Some.ensures.steps c.records.invariant.2 in
+    told_room old.tree old.nodes all now.nodes now.node_room d ds still
+
+pub give_named-requires-clause-generations : goal.give_named-requires-clause-generations
+give_named-requires-clause-generations g c =
+    let old = c.args.self.now in
+    let now = c.records.self in
+    let all = files_told (map (pair_listed 0) (listed_in c.args.records)) in
+    let d : Dirent = dirent_in (dirent_content c.in-Some.record) in
+    let ds : List Dirent = listed_in c.next.new.self in
+    let still : StillTold old.tree old.nodes all now.nodes now.node_room (d ∷ ds) =
+    subst (λ (xs : List DirentContent). StillTold old.tree old.nodes all now.nodes now.node_room (map dirent_in xs)) c.in-Some.ensures.steps c.records.invariant.2 in
+    told_generations old.tree old.nodes all now.nodes now.node_room d ds still
+
+pub give_named-requires-clause-counted : goal.give_named-requires-clause-counted
+give_named-requires-clause-counted g c =
+    let old = c.args.self.now in
+    let now = c.records.self in
+    let all = files_told (map (pair_listed 0) (listed_in c.args.records)) in
+    let d : Dirent = dirent_in (dirent_content c.in-Some.record) in
+    let ds : List Dirent = listed_in c.next.new.self in
+    let still : StillTold old.tree old.nodes all now.nodes now.node_room (d ∷ ds) =
+    subst (λ (xs : List DirentContent). StillTold old.tree old.nodes all now.nodes now.node_room (map dirent_in xs)) c.in-Some.ensures.steps c.records.invariant.2 in
+    told_counted old.tree old.nodes all now.nodes now.node_room d ds still
+
+pub records-preserved : goal.records-preserved
+records-preserved g c =
+    let old = c.args.self.now in
+    let now = c.records.self in
+    let all = files_told (map (pair_listed 0) (listed_in c.args.records)) in
+    let d : Dirent = dirent_in (dirent_content c.in-Some.record) in
+    let ds : List Dirent = listed_in c.next.new.self in
+    let still : StillTold old.tree old.nodes all now.nodes now.node_room (d ∷ ds) =
+    subst (λ (xs : List DirentContent). StillTold old.tree old.nodes all now.nodes now.node_room (map dirent_in xs)) c.in-Some.ensures.steps c.records.invariant.2 in
+    let next = c.give_named.new.self in
+    let does = c.give_named.ensures in (
+      tt,
+      tt,
+      told_next old.tree old.nodes all now.nodes now.node_room d ds still next.nodes next.node_room does.given does.generations does.room,
+      does.tree ∙ c.records.invariant.3,
+      does.handles ∙ c.records.invariant.4,
+    )
+
+pub returns-clause-given : goal.returns-clause-given
+returns-clause-given g c =
+    let old = c.args.self.now in
+    let now = c.records.self in
+    let all = files_told (map (pair_listed 0) (listed_in c.args.records)) in
+    let still : StillTold old.tree old.nodes all now.nodes now.node_room [] =
+    subst (λ (xs : List DirentContent). StillTold old.tree old.nodes all now.nodes now.node_room (map dirent_in xs)) c.in-None.ensures.steps.0 c.records.invariant.2 in
+    still.goes now.nodes refl
+
+pub returns-clause-tree : goal.returns-clause-tree
+returns-clause-tree g c = c.records.invariant.3
+
+pub returns-clause-handles : goal.returns-clause-handles
+returns-clause-handles g c = c.records.invariant.4

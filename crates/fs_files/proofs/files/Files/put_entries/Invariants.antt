@@ -1,0 +1,18 @@
+use Rattle.std.proofs.Common.{◌≡◌, ◌≤◌, ◌+◌, ◌++◌, All, length, map, vec_capacity}
+use Rattle.fuse_spec.specs.Operations.{files_told}
+use Rattle.fk_wire.specs.Records.{records_in}
+use Rattle.fuse_frames.specs.ReplyTies.{dirent_in}
+use Rattle.fs_files.specs.Listed.{names_in}
+use Rattle.fs_files.specs.Replies.{IsListable}
+use Rattle.fs_files.specs.Telling.{entries_named, entry_named}
+use Rattle.fs_files.proofs.files.Files.put_entries.Given as goal
+
+abbrev pub invariant-records : goal.invariant-records
+invariant-records g l =
+    (goal.iterator-records g).can_next l.record-iterator
+    × (goal.iterator-records g).is_finite l.record-iterator
+    × All (IsListable l.fn.self.tree) (map dirent_in (records_in l.record-iterator))
+    × (l.entries.items ++ map (entry_named l.fn.self.tree l.fn.self.nodes) (map dirent_in (records_in l.record-iterator)) ≡ map (entry_named l.fn.self.tree l.fn.self.nodes) (names_in l.fn.records))
+    × (l.told.items ++ files_told (entries_named l.fn.self.tree l.fn.self.nodes (map dirent_in (records_in l.record-iterator))) ≡ files_told (entries_named l.fn.self.tree l.fn.self.nodes (names_in l.fn.records)))
+    × (length l.entries.items + length (map dirent_in (records_in l.record-iterator)) ≤ vec_capacity l.entries)
+    × (length l.told.items + length (map dirent_in (records_in l.record-iterator)) ≤ vec_capacity l.told)

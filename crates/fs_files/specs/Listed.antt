@@ -1,0 +1,33 @@
+-- The names that the bytes of records list.
+use Rattle.std.specs.Prelude.{◌≡◌, ◌-◌, ℕ, List, Some, false, length, map}
+use Rattle.fuse_spec.specs.Operations.{Dirent, DirentPlus}
+use Rattle.fuse_spec.specs.declared.Entry.{Entry}
+use Rattle.fk_wire.specs.Decoded.{count_from}
+use Rattle.fk_wire.specs.Dirents.{DirentContent, dirents_from}
+use Rattle.fk_wire.specs.Records.{AreRecords, records_in}
+use Rattle.fk_wire.specs.declared.records.Records.{Records}
+use Rattle.fuse_frames.specs.ReplyTies.{dirent_in, dirent_of, pairs_told}
+
+-- the records that these bytes are, if they are any
+abbrev pub dirents_in : List ℕ → List DirentContent
+dirents_in bytes = dirents_from (count_from (length bytes) false 0 bytes) 0 bytes
+
+-- These bytes are records, whose types are those of kinds.
+abbrev pub AreRecordBytes : List ℕ → Type 0
+AreRecordBytes bytes = AreRecords 0 bytes (dirents_in bytes) × (map dirent_of (map dirent_in (dirents_in bytes)) ≡ dirents_in bytes)
+
+-- a name with the file that its inode number tells, valid for so many milliseconds
+abbrev pub pair_listed : (valid : ℕ) → Dirent → DirentPlus ℕ
+pair_listed valid d = record { file = Some (d.ino - 1); valid = valid; dirent = d }
+
+-- the names that these bytes list
+abbrev pub names_in : List ℕ → List Dirent
+names_in bytes = map dirent_in (dirents_in bytes)
+
+-- the names that these bytes list, each with the file of an entry
+abbrev pub listed_pairs : (valid : ℕ) → List Entry → List ℕ → List (DirentPlus Entry)
+listed_pairs valid entries bytes = pairs_told valid entries (names_in bytes)
+
+-- the names of the records that are left
+abbrev pub listed_in : Records → List Dirent
+listed_in records = map dirent_in (records_in records)

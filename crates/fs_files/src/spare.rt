@@ -1,0 +1,92 @@
+//! Room for what replies say, and what is put into it.
+
+ghost use Rattle.std.specs.Prelude.{◌≡◌, ◌≤◌, ◌+◌, ◌*◌, length};
+ghost use Rattle.fuse_spec.specs.Operations as reply;
+ghost use Rattle.fuse_spec.specs.Operations.{files_told};
+
+use crate::listed_names::ListedNames;
+use fk_wire::Records;
+use fuse_frames::{ReplyFrame, ReplyRoom};
+use fuse_spec::Entry;
+use std::alloc::{AllocError, Allocator};
+
+/// Room for what a reply says that is of no fixed length: its bytes, and the entries of names.
+#[derive(Drop)]
+pub struct ReplySpare<A: Allocator> {
+    pub(crate) bytes: Vec<u8, A>,
+    pub(crate) entries: Vec<Entry, A>,
+    pub(crate) told: Vec<Entry, A>,
+}
+
+impl<A: Allocator + Copy> ReplySpare<A> {
+    ghost use Rattle.std.specs.Prelude.{IfOk};
+    ghost use Rattle.fs_files.specs.Replies.{HasSpare};
+
+    /// Room for so many bytes and names.
+    pub fn new(alloc: A, len: usize, names: usize) -> Result<Self, AllocError>
+        ensures { IfOk result (λ spare. HasSpare spare len names) }
+    {
+        Ok(ReplySpare {
+            bytes: Vec::with_capacity(alloc, len)?,
+            entries: Vec::with_capacity(alloc, names)?,
+            told: Vec::with_capacity(alloc, names)?,
+        })
+    }
+}
+
+impl<A: Allocator> ListedNames<A> {
+    ghost use Rattle.std.specs.Prelude.{◌≡◌, ◌≤◌, ◌+◌, ◌*◌, length};
+    ghost use Rattle.fs_files.specs.Listed.{listed_pairs};
+    ghost use Rattle.fs_files.specs.Replies.{HasSpare};
+
+    /// The entries of the names that tell a file.
+    pub fn told(&self) -> &[Entry]
+        ensures { result.now ≡ files_told (listed_pairs self.now.found_ms self.now.entries.items self.now.records.items) }
+    {
+        &self.told
+    }
+
+    /// How many names it lists.
+    pub fn names(&self) -> usize
+        ensures { result ≡ length self.now.entries.items }
+    {
+        self.entries.len()
+    }
+
+    /// How long its pairs are.
+    pub fn len(&self) -> usize
+        ensures { result ≡ 128 * length self.now.entries.items + length self.now.records.items }
+    {
+        128 * self.entries.len() + self.records.len()
+    }
+
+    /// The same names once more, in room that is there.
+    pub fn copied(&self, spare: ReplySpare<A>) -> ListedNames<A>
+        requires { HasSpare spare (length self.now.records.items) (length self.now.entries.items) }
+        ensures { listed_pairs result.found_ms result.entries.items result.records.items ≡ listed_pairs self.now.found_ms self.now.entries.items self.now.records.items }
+    {
+        let ReplySpare {
+            mut bytes,
+            mut entries,
+            mut told,
+        } = spare;
+        bytes.extend_from_slice(&self.records).unwrap();
+        entries.extend_from_slice(&self.entries).unwrap();
+        told.extend_from_slice(&self.told).unwrap();
+        ListedNames {
+            records: bytes,
+            entries,
+            told,
+            found_ms: self.found_ms,
+        }
+    }
+
+    /// Its frame.
+    pub fn framed(&self, room: ReplyRoom<A>, unique: u64) -> ReplyFrame<A>
+        requires { 16 + (128 * length self.now.entries.items + length self.now.records.items) ≤ room }
+        ensures { result ≡ record { unique = unique; wire = reply.listed_plus (listed_pairs self.now.found_ms self.now.entries.items self.now.records.items) } }
+    {
+        let records = Records::over(&self.records).unwrap();
+        room.listed_plus(unique, &self.entries, records, self.found_ms)
+    }
+}

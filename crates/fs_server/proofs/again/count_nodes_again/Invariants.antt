@@ -1,0 +1,12 @@
+use Rattle.std.proofs.Common.{◌≡◌, drop}
+use Rattle.fuse_spec.specs.Copies.{rows_counted}
+use Rattle.fs_files.specs.Giving.{files_of}
+use Rattle.fs_files.proofs.HeldBelow.{IsWithin}
+use Rattle.fs_server.proofs.again.count_nodes_again.Given as goal
+
+abbrev pub invariant-loop-entry : goal.invariant-loop-entry
+invariant-loop-entry g l =
+    (rows_counted l.files.nodes (drop l.entry-index l.told) ≡ rows_counted l.fn.files.nodes l.told)
+    × IsWithin l.files.nodes (files_of l.files.nodes (drop l.entry-index l.told))
+    × (l.files.tree ≡ l.fn.files.tree)
+    × (l.files.handles ≡ l.fn.files.handles)

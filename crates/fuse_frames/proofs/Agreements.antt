@@ -1,0 +1,15 @@
+-- The flags that an answer to INIT takes up, of those that were offered.
+use Rattle.std.proofs.Common.{◌≡◌, ℕ, sym, ap, ◌∙◌}
+use Rattle.std.specs.Int.RustNames.{bit_and}
+use Rattle.std.proofs.lemmas.Nat.{and_assoc}
+use Rattle.fk_wire.specs.Requests.{known_flags}
+use Rattle.fk_wire.proofs.Masks.{and_again}
+use Rattle.fuse_spec.specs.Numbers.{async_read, init_flags}
+
+-- the flags that 7.31 knows
+pub known_again : (x : ℕ) → bit_and (bit_and x known_flags) init_flags ≡ bit_and x known_flags
+known_again x = and_again x known_flags
+
+-- the one flag that 7.15 knows
+pub read_alone : (x : ℕ) → bit_and (bit_and x known_flags) async_read ≡ bit_and (bit_and x async_read) known_flags
+read_alone x = and_assoc async_read x known_flags ∙ sym (and_assoc known_flags x async_read)

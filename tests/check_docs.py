@@ -1,0 +1,95 @@
+#!/usr/bin/env python3
+"""Whether what README.md and docs/ name is there: files, crates, rows, edits, definitions and functions.
+
+In the tables whose second column is "Definition", each rule has to lead to a definition, a function and a test.
+Prints a line for each name that leads nowhere, and ends with status 1 where there is one.
+"""
+import re
+import sys
+from pathlib import Path
+
+TOP = Path(__file__).resolve().parent.parent
+PAGES = [TOP / "README.md", *sorted((TOP / "docs").glob("*.md"))]
+CRATES = {folder.name for folder in (TOP / "crates").iterdir() if (folder / "src").is_dir()}
+CODE = {crate: "\n".join(file.read_text() for file in (TOP / "crates" / crate / "src").rglob("*.rt")) for crate in CRATES}
+EDITS = {(file.parts[-3], file.stem) for file in TOP.glob("crates/*/must-fail/*.edit")}
+ROWS = {file.stem for file in TOP.glob("tests/rows/*.script")}
+# Words with a hyphen that are no rows and no edits.
+WORDS = {"must-fail", "not-run"}
+MODULES = {}
+for file in [*TOP.glob("crates/*/specs/**/*.antt"), *TOP.glob("crates/*/proofs/*.antt")]:
+    MODULES[file.stem] = MODULES.get(file.stem, "") + file.read_text()
+
+def has_word(text, word):
+    return re.search(rf"(?<![\w-]){re.escape(word)}(?![\w-])", text) is not None
+
+def declares(text, name):
+    return re.search(rf"\b(record|data) {re.escape(name)}\b", text) is not None
+
+def is_item(code, name):
+    return re.search(rf"\b(fn|struct|enum|trait|type|mod|const|static|ghost) {re.escape(name)}\b", code) is not None
+
+def leads(token):
+    """Whether a name leads somewhere; None where it is none of those that are looked up."""
+    if re.fullmatch(r"(crates|tests|docs)/[\w./-]+", token):
+        return "/out/" in token or (TOP / token).exists()
+    if match := re.fullmatch(r"(\w+)\.(antt|md)", token):
+        return match[1] in MODULES if match[2] == "antt" else any(TOP.glob(f"**/{token}"))
+    if re.fullmatch(r"[a-z0-9]+(-[a-z0-9]+)+", token):
+        return token in ROWS | WORDS or any(edit == token for _, edit in EDITS)
+    if match := re.fullmatch(r"(\w+)/([a-z0-9-]+)", token):
+        return match.groups() in EDITS
+    if match := re.fullmatch(r"([A-Z]\w*)\.(\w+)", token):
+        where = [MODULES[match[1]]] if match[1] in MODULES else [text for text in MODULES.values() if declares(text, match[1])]
+        return any(has_word(text, match[2]) for text in where)
+    if re.fullmatch(r"\w+(::\w+)+", token):
+        first, *rest = token.split("::")
+        code = [CODE[first]] if first in CRATES else [code for code in CODE.values() if is_item(code, first)]
+        return any(all(is_item(text, name) for name in rest) for text in code)
+    return None
+
+def names(cell):
+    return re.findall(r"`([^`]+)`", cell)
+
+def rule_is_whole(definitions, code, shown):
+    """Whether a rule's row leads to a definition, a function and what shows it."""
+    crate = "fuse_spec"
+    defined = []
+    for name in names(definitions):
+        if name in CRATES:
+            crate = name
+        elif "." not in name:
+            defined.append(any(has_word(file.read_text(), name) for file in (TOP / "crates" / crate / "specs").rglob("*.antt")))
+    here = None
+    functions = []
+    for name in names(code):
+        if name in CRATES:
+            here = name
+        else:
+            functions.append(here is not None and all(is_item(CODE[here], part) for part in name.split("::")))
+    return all(defined) and functions and all(functions) and (shown.strip() != "")
+
+def main():
+    wrong = []
+    for page in PAGES:
+        in_rules = False
+        for number, line in enumerate(page.read_text().split("\n"), 1):
+            place = f"{page.relative_to(TOP)}:{number}"
+            for link in re.findall(r"\]\(([^)#:]+)\)", line):
+                if not (page.parent / link).exists():
+                    wrong.append(f"{place}: {link}")
+            for name in names(line):
+                if leads(name) is False:
+                    wrong.append(f"{place}: {name}")
+            cells = line.split("|")[1:-1]
+            if len(cells) > 1 and cells[1].strip() == "Definition":
+                in_rules = True
+            elif not cells:
+                in_rules = False
+            elif in_rules and "---" not in line and not rule_is_whole(*cells[1:4]):
+                wrong.append(f"{place}: the rule {cells[0].strip()}")
+    for fault in wrong:
+        print(fault)
+    return 1 if wrong else 0
+
+sys.exit(main())
