@@ -1,8 +1,9 @@
 //! A kernel that hands system calls to a server: it mounts, begins calls, reads their requests and writes what the server replies.
 
 ghost use Rattle.std.specs.Prelude.{◌≡◌, ◌≢◌, [], None, OnOk, IfOk};
-ghost use Rattle.fuse_spec.specs.Kernel.{call_begun};
+ghost use Rattle.fuse_spec.specs.Kernel.{call_put};
 ghost use Rattle.fuse_spec.specs.Messages.{init as asks_init};
+ghost use Rattle.fuse_spec.specs.Numbers.{init_flags};
 ghost use Rattle.fk_syscalls.specs.Values.{call_of};
 ghost use Rattle.fk_kernel.specs.Refused.{IsPendingRequest};
 ghost use Rattle.fk_kernel.specs.Said.{HasReplyHead, awaited, head_unique, nothing};
@@ -15,7 +16,7 @@ use std::alloc::Allocator;
 /// Mounts, and reads the first request of the mount, whose bytes go to the server.
 pub fn mount<A: Allocator + Copy>(kernel: &mut Kernel<A>) -> Result<RequestFrame<A>, Refusal>
     // It is INIT, under number 2.
-    ensures { IfOk result (λ frame. frame ≡ record { unique = 2; body = asks_init }) }
+    ensures { IfOk result (λ frame. frame ≡ record { unique = 2; body = asks_init init_flags }) }
 {
     kernel.mount()?;
     kernel.read_pending(0)
@@ -26,7 +27,7 @@ pub fn ask<A: Allocator + Copy>(
     kernel: &mut Kernel<A>,
     call: &Call<'_>,
 ) -> Result<RequestFrame<A>, Refusal>
-    ensures { IfOk result (λ frame. IsPendingRequest (call_begun kernel.old (call_of call.now)) 0 frame) }
+    ensures { IfOk result (λ frame. IsPendingRequest (call_put kernel.old (call_of call.now)) 0 frame) }
 {
     kernel.begin(call)?;
     kernel.read_pending(0)
