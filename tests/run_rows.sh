@@ -103,7 +103,7 @@ stat-of-missing-name|read 4 LOOKUP 42|0|2a00000001000000040000000000000001000000
 counts-of-two-lookups-and-exact-forget|read 14 FORGET 48|0|30000000020000000e000000000000000200000000000000000000000000000000000000000000000300000000000000
 soft-signal-and-eagain|read 5 INTERRUPT 48|0|300000002400000005000000000000000000000000000000000000000000000000000000000000000400000000000000
 list-and-list-from-an-offset|done 8 0 80|16|0200000000000000010000000000000001000000040000006100000000000000
-stat-of-root|read 2 INIT 56|40|070000001f0000000000000001000400
+stat-of-root|read 2 INIT 56|40|070000001f0000000000000001200400
 END
 
 # The script on standard input.
@@ -147,13 +147,15 @@ OPEN 14 2 48 $(zeros 8)
 READ 15 2 80 range:10:
 WRITE 16 2 82 range:2:6869
 RELEASE 18 2 64 $(low64 1)$(zeros 16)
-INIT 26 0 56 $(low32 7)$(low32 31)$(zeros 4)01000400
+INIT 26 0 56 $(low32 7)$(low32 31)$(zeros 4)01200400
 READDIR 28 2 80 range:4096:
 CREATE 35 2 58 $(zeros 4)$(low32 33188)$(zeros 8)6100
 INTERRUPT 36 0 48 $(low64 4)
 BATCH_FORGET 42 0 80 $(low32 2)$(zeros 4)$(low64 2)$(low64 1)$(low64 3)$(low64 1)
+READDIRPLUS 44 2 80 range:4096:
 END
-expect frame-of-readdirplus 0 "fault 3 Opcode$newline" "" frame "$(low32 80)$(low32 44)$(low64 4)$(low64 2)$(zeros 16)$(range 4096)"
+# FALLOCATE, which is not served.
+expect frame-of-fallocate 0 "fault 3 Opcode$newline" "" frame "$(low32 80)$(low32 43)$(low64 4)$(low64 2)$(zeros 16)$(range 4096)"
 
 # Scripts that are not run.
 printf 'call stat' > "$work/script"
