@@ -5,6 +5,6 @@ use Rattle.fk_nodes.proofs.learning.reserve_nodes.Given as goal
 
 abbrev pub invariant-loop-pair : goal.invariant-loop-pair
 invariant-loop-pair g l = record {
-  counted : g.C.counted l.table ≡ g.C.counted l.fn.table;
-  room : RoomBehind (g.C.has_room l.table) (pairs_in l.fn.pairs) (pairs_in l.pair-iterator);
+  counted : g.C.CountTable.counted l.table ≡ g.C.CountTable.counted l.fn.table;
+  room : RoomBehind (g.C.CountTable.has_room l.table) (pairs_in l.fn.pairs) (pairs_in l.pair-iterator);
 }
