@@ -117,11 +117,11 @@ impl<C: CountTable> CountedNodes<C> {
         ensures ok { OnOk result (self.new ≡ learnt self.old (entry.now ∷ [])) }
         ensures err { OnErr result (self.new ≡ self.old) }
     {
+        self.table.are_sorted();
         let Some(more) = self.most.checked_add(1) else {
             return Err(AllocError);
         };
         self.table.reserve(entry.nodeid)?;
-        self.table.are_sorted();
         let is_new = self.table.generation_of(entry.nodeid).is_none();
         match self.table.learn(entry.nodeid, entry.generation) {
             Ok(()) => {
