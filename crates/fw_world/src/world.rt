@@ -679,7 +679,7 @@ fn put_reply<A: Allocator>(replies: &mut Vec<ReplyCopy<A>, A>, copy: ReplyCopy<A
 }
 
 /// No counter of a world with this kernel and this server is past its end.
-fn within<Q: QueueTable<Purpose>, C: CountTable<Heap = Q::Heap>, S: NodeStore>(
+fn within<Q: QueueTable<Purpose> + Drop, C: CountTable<Heap = Q::Heap> + Drop, S: NodeStore>(
     kernel: &KernelOf<Q, C>,
     server: &ServerOf<S>,
 )
