@@ -22,6 +22,7 @@ ghost use Rattle.fk_nodes.specs.Uses.{use_meant};
 use crate::kernel::KernelOf;
 use fk_calls::{StoredAnswer, bind_missing};
 use fk_dentry::Bindings;
+use fk_lookup_count::CountTable;
 use fk_nodes::{CountedNodes, EntryUse};
 use fk_queues::QueueTable;
 use fk_syscalls::{Answer, Asked, CallState, Next};
@@ -34,10 +35,10 @@ const ENOENT: u32 = 2;
 const EIO: u32 = 5;
 
 /// The word or name that a call asks for leads to the node of an entry until a time, and one lookup more of the node is counted.
-fn bind_entry<A: Allocator + Copy>(
+fn bind_entry<A: Allocator + Copy, C: CountTable>(
     calls: &Table<CallState<A>, A>,
     names: &mut Bindings<A>,
-    nodes: &mut CountedNodes<A>,
+    nodes: &mut CountedNodes<C>,
     call: u64,
     entry: &Entry,
     until: u64,
@@ -70,7 +71,7 @@ fn bind_entry<A: Allocator + Copy>(
     Ok(())
 }
 
-impl<Q: QueueTable<Purpose> + Drop> KernelOf<Q> {
+impl<Q: QueueTable<Purpose> + Drop, C: CountTable<Heap = Q::Heap> + Drop> KernelOf<Q, C> {
     /// What a reply with an entry says reaches the call: it has to name a file that can be used.
     pub(crate) fn entry_found(
         &mut self,

@@ -11,12 +11,13 @@ ghost use Rattle.fk_kernel.specs.RefusedUpkeep.{evict_refusal, read_forgets_refu
 use crate::kernel::KernelOf;
 use crate::open_files::is_releasing;
 use fk_calls::is_node_in_use;
+use fk_lookup_count::CountTable;
 use fk_queues::{Forgets, QueueTable};
 use fuse_frames::RequestFrame;
 use fuse_spec::{Minor, Purpose, Refusal};
 use std::alloc::AllocError;
 
-impl<Q: QueueTable<Purpose> + Drop> KernelOf<Q> {
+impl<Q: QueueTable<Purpose> + Drop, C: CountTable<Heap = Q::Heap> + Drop> KernelOf<Q, C> {
     /// Why a node cannot be given up: `NotReady` where the mount is not live, `NoSuch` where the node is not counted,
     /// `Busy` where it is pinned or a name in force, valid or not, names it.
     pub fn evict_refusal(&self, node: u64) -> Option<Refusal>

@@ -12,13 +12,14 @@ ghost use Rattle.fk_nodes.specs.Learning.{is_out};
 ghost use Rattle.fk_nodes.specs.Told.{pairs_in};
 
 use crate::kernel::KernelOf;
+use fk_lookup_count::CountTable;
 use fk_nodes::{forget_stale, learn_and_bind, names_listed, pair_count};
 use fk_queues::QueueTable;
 use fk_syscalls::{Answer, Asked};
 use fk_wire::RecordsPlus;
 use fuse_spec::{Purpose, Refusal, WriteResult};
 
-impl<Q: QueueTable<Purpose> + Drop> KernelOf<Q> {
+impl<Q: QueueTable<Purpose> + Drop, C: CountTable<Heap = Q::Heap> + Drop> KernelOf<Q, C> {
     /// The call is answered the names that a directory lists with their files. Each is counted and in force from now on, but for
     /// those that tell no file, the root, or a node that is counted under another generation, of which one lookup is forgotten.
     pub(crate) fn pairs_listed(

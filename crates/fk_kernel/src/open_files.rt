@@ -17,6 +17,7 @@ ghost use Rattle.fk_kernel.specs.Refused.{begun_refusal, or_no_memory};
 
 use crate::kernel::KernelOf;
 use fk_calls::{MAX_CALLS, StoredAnswer, is_in_other_use, is_in_use};
+use fk_lookup_count::CountTable;
 use fk_queues::QueueTable;
 use fk_syscalls::Answer;
 use fuse_spec::{Opened, Purpose, Refusal};
@@ -55,7 +56,7 @@ pub(crate) fn is_releasing<Q: QueueTable<Purpose>>(queues: &Q, node: u64) -> boo
     false
 }
 
-impl<Q: QueueTable<Purpose> + Drop> KernelOf<Q> {
+impl<Q: QueueTable<Purpose> + Drop, C: CountTable<Heap = Q::Heap> + Drop> KernelOf<Q, C> {
     /// A call of the next number closes an open file: it is answered at once. The RELEASE is queued unless a read or write of
     /// the file is unanswered.
     pub(crate) fn begin_close(&mut self, handle: u64) -> Result<u64, Refusal>

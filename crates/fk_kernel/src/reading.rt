@@ -9,6 +9,7 @@ ghost use Rattle.fk_kernel.specs.Refused.{or_no_memory, read_refusal, IsPendingR
 ghost use Rattle.fuse_spec.specs.QueueCalls.{after_read_pending, waiting};
 
 use crate::kernel::KernelOf;
+use fk_lookup_count::CountTable;
 use fk_queues::QueueTable;
 use fk_syscalls::Asked;
 use fuse_frames::RequestFrame;
@@ -18,7 +19,7 @@ use std::alloc::{AllocError, Allocator};
 /// A READDIR asks for at most so many bytes.
 const MAX_TRANSFER: u32 = 4_096;
 
-impl<Q: QueueTable<Purpose> + Drop> KernelOf<Q> {
+impl<Q: QueueTable<Purpose> + Drop, C: CountTable<Heap = Q::Heap> + Drop> KernelOf<Q, C> {
     /// Whether a request has something to ask: that of a call has while the call is unanswered.
     fn asks(&self, purpose: Purpose) -> bool
         ensures { result ≡ is_some (body_of self.now purpose) }

@@ -13,6 +13,7 @@ ghost use Rattle.fk_said.specs.ReplySaid.{wire_of, LastsADay};
 ghost use Rattle.fk_kernel.specs.Said.{awaited_by_call};
 
 use crate::kernel::KernelOf;
+use fk_lookup_count::CountTable;
 use fk_nodes::EntryUse;
 use fk_queues::QueueTable;
 use fk_said::{ReplySaid, said_to};
@@ -20,7 +21,7 @@ use fk_syscalls::{Asked, NewName};
 use fk_wire::read_reply_head;
 use fuse_spec::{Entry, Purpose, Refusal};
 
-impl<Q: QueueTable<Purpose> + Drop> KernelOf<Q> {
+impl<Q: QueueTable<Purpose> + Drop, C: CountTable<Heap = Q::Heap> + Drop> KernelOf<Q, C> {
     /// Why `write` would refuse these bytes, want of memory aside: `Exhausted` where no number is left for the request that
     /// they would have queued, or a node's count would come to the end of counters. Takes no memory.
     pub fn write_refusal(&self, bytes: &[u8]) -> Option<Refusal>

@@ -18,6 +18,7 @@ ghost use Rattle.fuse_spec.specs.Numbers.{max_validity};
 
 use crate::kernel::KernelOf;
 use fk_calls::{result_of, unbind};
+use fk_lookup_count::CountTable;
 use fk_queues::QueueTable;
 use fk_said::{ReplySaid, names_listed, said_to};
 use fk_syscalls::Answer;
@@ -26,7 +27,7 @@ use fuse_spec::{Purpose, Refusal, WriteResult};
 
 const EIO: u32 = 5;
 
-impl<Q: QueueTable<Purpose> + Drop> KernelOf<Q> {
+impl<Q: QueueTable<Purpose> + Drop, C: CountTable<Heap = Q::Heap> + Drop> KernelOf<Q, C> {
     /// A reply to the request of a call. Bytes that do not go with what it asked answer it EIO. Where the call is not
     /// unanswered, its request just ends.
     pub(crate) fn write_to_call(

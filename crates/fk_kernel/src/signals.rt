@@ -12,6 +12,7 @@ ghost use Rattle.fk_kernel.specs.RefusedSignals.{signal_refusal, IsSignalled, re
 
 use crate::kernel::KernelOf;
 use fk_calls::is_interrupted;
+use fk_lookup_count::CountTable;
 use fk_queues::QueueTable;
 use fk_syscalls::Answer;
 use fk_unique::interrupt_of;
@@ -45,7 +46,7 @@ fn request_for<Q: QueueTable<Purpose>>(queues: &Q, call: u64) -> Option<u64>
     None
 }
 
-impl<Q: QueueTable<Purpose> + Drop> KernelOf<Q> {
+impl<Q: QueueTable<Purpose> + Drop, C: CountTable<Heap = Q::Heap> + Drop> KernelOf<Q, C> {
     /// Signals an unanswered call, fatally or not (fuse.rst). Where its request is unread and the signal is fatal, the request
     /// goes and the call is answered EINTR; a closed file that it would have read or written last is released. Takes no memory:
     /// the answer has its room since the call began, an INTERRUPT since its request was queued, and a RELEASE since the close.

@@ -8,6 +8,7 @@ ghost use Rattle.fk_kernel.specs.Refused.{WriteRefused, WritePasses};
 ghost use Rattle.fuse_spec.specs.QueueCalls.{after_interrupt_reply, waiting};
 
 use crate::kernel::KernelOf;
+use fk_lookup_count::CountTable;
 use fk_queues::QueueTable;
 use fk_said::{InterruptSaid, agrees, files_agreed, minor_agreed, said_to_init, said_to_interrupt};
 use fk_wire::{Opcode, read_reply_head};
@@ -17,7 +18,7 @@ const EAGAIN: u32 = 11;
 
 const ENOSYS: u32 = 38;
 
-impl<Q: QueueTable<Purpose> + Drop> KernelOf<Q> {
+impl<Q: QueueTable<Purpose> + Drop, C: CountTable<Heap = Q::Heap> + Drop> KernelOf<Q, C> {
     /// Takes any bytes as a reply.
     ///
     /// # Errors

@@ -110,6 +110,8 @@ impl<S: Slots> CountTable for CountsOf<S> {
         })
     }
 
+    fn are_sorted(&self) {}
+
     fn clear(&mut self) {
         self.slots.clear();
     }

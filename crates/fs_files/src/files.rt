@@ -14,22 +14,22 @@ ghost use Rattle.fs_files.specs.Values.{no_nodes, no_handles, server_of};
 
 use crate::known::KnownFiles;
 use crate::nodes::Nodes;
-use fs_nodes::NodeTable;
+use fs_nodes::NodeStore;
 use fs_tree::Tree;
 use fuse_spec::Entry;
-use std::alloc::{AllocError, Allocator, Global};
+use std::alloc::AllocError;
 use std::marker::Model;
 
 /// The files that are served: the tree, and the nodes and open numbers by which the kernel knows its files. Contracts see beside
 /// these how many more files can be told with no memory.
 #[derive(Drop)]
-pub struct Files<A: Allocator + Copy = Global> {
-    pub(crate) alloc: A,
-    pub(crate) tree: Tree<A>,
-    pub(crate) known: KnownFiles<A>,
+pub struct Files<S: NodeStore> {
+    pub(crate) alloc: S::Heap,
+    pub(crate) tree: Tree<S::Heap>,
+    pub(crate) known: KnownFiles<S>,
 }
 
-impl<A: Allocator + Copy> Model for Files<A> {
+impl<S: NodeStore> Model for Files<S> {
     ghost use Rattle.std.specs.Coded.{codes};
     ghost use Rattle.fs_files.specs.Bounds.{AreKnown};
     ghost use Rattle.fs_files.specs.Values.{FilesState};
@@ -43,9 +43,9 @@ impl<A: Allocator + Copy> Model for Files<A> {
     ghost invariant = { λ f. AreKnown f.tree f.known.nodes f.known.handles };
 }
 
-impl<A: Allocator + Copy> Files<A> {
+impl<S: NodeStore> Files<S> {
     /// The root alone, and nothing known.
-    pub fn new(alloc: A) -> Result<Self, AllocError>
+    pub fn new(alloc: S::Heap) -> Result<Self, AllocError>
         ensures tree { IfOk result (λ files. files.tree ≡ only_root) }
         ensures nodes { IfOk result (λ files. files.nodes ≡ no_nodes) }
         ensures handles { IfOk result (λ files. files.handles ≡ no_handles) }
@@ -91,7 +91,7 @@ impl<A: Allocator + Copy> Files<A> {
     }
 
     /// The nodes that are held.
-    pub fn nodes(&self) -> &Nodes<NodeTable<A>>
+    pub fn nodes(&self) -> &Nodes<S>
         ensures { result.now.table ≡ self.now.nodes }
     {
         &self.known.nodes

@@ -12,8 +12,9 @@ ghost use Rattle.fs_server.specs.Interrupts.{AsksAgain, Interrupts};
 ghost use Rattle.fs_server.specs.Taking.{answers};
 
 use crate::replies::SentCopy;
-use crate::server::{Server, ServerFault, Took};
+use crate::server::{ServerFault, ServerOf, Took};
 use fs_files::{PlainReply, SentReply};
+use fs_nodes::NodeStore;
 use fuse_frames::{ReplyCopy, ReplyRoom};
 use fuse_spec::Taken;
 use std::alloc::Allocator;
@@ -21,13 +22,17 @@ use std::alloc::Allocator;
 /// EAGAIN, to an INTERRUPT of a request that is not known.
 const EAGAIN: u32 = 11;
 
-impl<A: Allocator + Copy> Server<A> {
+impl<S: NodeStore> ServerOf<S> {
     /// Takes an INTERRUPT: it marks a request that is held, is ignored while the request's reply is kept, and else is answered EAGAIN.
     ///
     /// # Errors
     ///
     /// `Memory` where it is answered; the server is as before.
-    pub(crate) fn interrupt(&mut self, unique: u64, original: u64) -> Result<Took<A>, ServerFault>
+    pub(crate) fn interrupt(
+        &mut self,
+        unique: u64,
+        original: u64,
+    ) -> Result<Took<S::Heap>, ServerFault>
         requires { answers self.old (content original) ≡ true → self.old.next_copy < 2 ^ 62 }
         ensures refused { OnErr result (self.new ≡ self.old) }
         ensures fault { IfErr result (λ fault. fault ≡ MemoryFault) }
@@ -57,7 +62,7 @@ impl<A: Allocator + Copy> Server<A> {
     }
 
     /// Answers an INTERRUPT with EAGAIN. The reply is not kept.
-    fn ask_again(&mut self, unique: u64) -> Result<Took<A>, ServerFault>
+    fn ask_again(&mut self, unique: u64) -> Result<Took<S::Heap>, ServerFault>
         requires { self.old.next_copy < 2 ^ 62 }
         ensures refused { OnErr result (self.new ≡ self.old) }
         ensures fault { IfErr result (λ fault. fault ≡ MemoryFault) }

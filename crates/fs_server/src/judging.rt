@@ -11,14 +11,13 @@ ghost use Rattle.fs_server.specs.declared.server.ServerFault.TheVariants.{Memory
 ghost use Rattle.fs_server.specs.Effects.{AnswersFrame, CanTake, RefusesFrame, request_fault};
 ghost use Rattle.fs_server.specs.Taking.{IsFaultless, IsTakeable, answers, forgets_too_many, is_spoken, knows};
 
-use crate::server::{COUNTER_END, Server, ServerFault};
+use crate::server::{COUNTER_END, ServerFault, ServerOf};
 use fk_wire::{Pairs, Request, RequestBody, read_request};
 use fs_files::Nodes;
 use fs_nodes::NodeStore;
 use fuse_spec::Minor;
-use std::alloc::Allocator;
 
-impl<A: Allocator + Copy> Server<A> {
+impl<S: NodeStore> ServerOf<S> {
     /// Why `take` refuses a frame, want of memory aside. Where it gives none, only memory can be wanting.
     pub fn take_refusal(&self, bytes: &[u8]) -> Option<ServerFault>
         ensures refuses { IfSome result (RefusesFrame self.now bytes.now) }

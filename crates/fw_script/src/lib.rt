@@ -21,5 +21,5 @@ pub use hex_text::{HexFault, read_hex, write_hex};
 pub use line::{Line, LineFault, read_line};
 pub use number::read_number;
 pub use records::write_record;
-pub use script::{Script, run_over, run_script};
+pub use script::{Script, run_lists, run_over, run_script};
 pub use stop::{cannot_read, no_memory, socket_failed};
