@@ -5,7 +5,7 @@ use Rattle.fw_script.proofs.Writes.{Appends-nil, Appends-append, OnOk-map}
 use Rattle.fw_script.proofs.hex_text.write_hex.Goals as goal
 
 pub loop-written-init : goal.loop-written-init
-loop-written-init g c = record { within = omega arith; wrote = rw encode_lower-nil (Appends-nil (g.W.Write.contents c.args.out.now)); }
+loop-written-init g c = record { within = omega arith; wrote = rw encode_lower-nil (Appends-nil (g.W.Write.contents c.args.out.now)) }
 
 pub loop-written-preserved : goal.loop-written-preserved
 loop-written-preserved g c =

@@ -7,7 +7,7 @@ returns-then-has_needless_start-clause-each c n small e =
     let well = decimal_starts_well n c.args.word.now small e in
     absurd
     (elim (c.if-has_needless_start.ensures.0 refl) [
-        | inl none ↦ omega (arith, none, well.0)
+      | inl none ↦ omega (arith, none, well.0)
       | inr zero ↦ let one = well.1 zero.0 in omega (arith, one, zero.1)
     ])
 
