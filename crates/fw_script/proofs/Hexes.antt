@@ -1,8 +1,9 @@
 -- Lower-case hex, read and written.
-use Rattle.std.proofs.Common.{◌≡◌, ◌+◌, ◌-◌, ◌*◌, ◌/◌, ◌%◌, ◌<◌, ◌≤◌, ◌==◌, ◌&&◌, ◌++◌, ℕ, zero, suc, Bool, true, if◌then◌else◌, nat_lt, List, [], ◌∷◌, length, take, slice_index, Ok, Some, arith, refl, sym, ap, subst, ◌∙◌, inl, inr}
+use Rattle.std.proofs.Common.{◌≡◌, ◌+◌, ◌-◌, ◌*◌, ◌/◌, ◌%◌, ◌<◌, ◌≤◌, ◌==◌, ◌&&◌, ◌++◌, ℕ, zero, suc, Bool, true, if◌then◌else◌, nat_lt, List, [], ◌∷◌, length, take, drop, slice_index, Ok, Some, arith, refl, sym, ap, subst, ◌∙◌, inl, inr}
 use Rattle.std.specs.Prelude.{All, MatchResult, Result, Err}
 use Rattle.std.proofs.lemmas.Bool.{and_parts, cases_lt, eqb-true, le-ltb, lt-ltb}
-use Rattle.std.proofs.lemmas.List.{take_more}
+use Rattle.std.proofs.Math.Seq.{take-add}
+use Rattle.std.proofs.lemmas.List.{take_all}
 use Rattle.std.proofs.lemmas.List.Elements.{All-cons, All-nil, All-tail}
 use Rattle.hex.specs.Hex.{IsBytes, decode_of, decode_pairs, decode_sized, digit_or_error, hex_digit_value, encode_lower, encode_with, lower_digits, pair_value, value_at}
 use Rattle.hex.proofs.HexLemmas.{IsDigits-lower_digits, decode_of-even, length-encode_with}
@@ -142,10 +143,17 @@ unfolding encode_with
 encode_lower-append [] ys = refl
 encode_lower-append (x ∷ xs) ys = rw (encode_lower-append xs ys) refl
 
--- one byte more
-pub encode_lower-take : (bytes : List ℕ) (i : ℕ) → i < length bytes
-    → encode_lower (take (i + 1) bytes) ≡ encode_lower (take i bytes) ++ encode_lower (slice_index bytes i ∷ [])
-encode_lower-take bytes i h = ap encode_lower (take_more bytes i 0 h) ∙ encode_lower-append (take i bytes) (slice_index bytes i ∷ [])
+-- a part more
+pub encode_lower-part : (bytes : List ℕ) (i j : ℕ) → i ≤ j → encode_lower (take j bytes) ≡ encode_lower (take i bytes) ++ encode_lower (take (j - i) (drop i bytes))
+encode_lower-part bytes i j h =
+    let whole : i + (j - i) ≡ j = omega arith in
+    let parts : take j bytes ≡ take i bytes ++ take (j - i) (drop i bytes) = ap (λ n. take n bytes) (sym whole) ∙ take-add i (j - i) bytes in
+    ap encode_lower parts ∙ encode_lower-append (take i bytes) (take (j - i) (drop i bytes))
+
+-- and all that is left
+pub encode_lower-rest : (bytes : List ℕ) (i : ℕ) → i ≤ length bytes
+    → encode_lower bytes ≡ encode_lower (take i bytes) ++ encode_lower (take (length bytes - i) (drop i bytes))
+encode_lower-rest bytes i h = ap encode_lower (sym (take_all (length bytes) bytes (omega arith))) ∙ encode_lower-part bytes i (length bytes) h
 
 pub encode_lower-nil : encode_lower [] ≡ []
 unfolding encode_with

@@ -1,7 +1,6 @@
 pub mod Hexes
 pub mod Mounts
 pub mod Decimals
-pub mod Forms
 pub mod Numbering
 pub mod Splitting
 pub mod Statuses

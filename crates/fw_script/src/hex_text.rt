@@ -1,6 +1,6 @@
 //! Bytes as lower-case hex, two digits a byte.
 
-ghost use Rattle.std.specs.Prelude.{◌≡◌, ◌↔◌, ◌∷◌, [], ℕ, List, All, Err, IfOk, IsTrue, OnOk};
+ghost use Rattle.std.specs.Prelude.{◌≡◌, ◌↔◌, ◌≤◌, ℕ, List, All, Err, IfOk, IsTrue, OnOk, length};
 ghost use Rattle.std.specs.Io.KnownBytes.{Appends};
 ghost use Rattle.hex.specs.Hex.{IsBytes, encode_lower};
 ghost use Rattle.fw_script.specs.HexTexts.{IsHex, IsHexOrNone, IsLowerDigit, SpellsHex, hex_or_none};
@@ -17,8 +17,6 @@ pub enum HexFault {
     BadHex,
     NoMemory,
 }
-
-const DIGITS: &[u8; 16] = b"0123456789abcdef";
 
 /// Whether a text is made of lower-case hex digits.
 fn is_lower_hex(text: &[u8]) -> bool
@@ -74,24 +72,30 @@ pub(crate) fn read_hex_or_none<A: Allocator>(
     Ok(())
 }
 
-/// The two digits of a byte.
-#[tactic(auto, unfolding(hex::specs::Hex::encode_with))]
-fn digits_of(byte: u8) -> [u8; 2]
-    ensures { result ≡ encode_lower (byte ∷ []) }
+/// How many bytes are spelled at once.
+const BLOCK: usize = 32;
+
+/// Writes no more bytes than a block as lower-case hex, in one write.
+fn write_block<W: Write>(out: &mut W, bytes: &[u8]) -> io::Result<()>
+    requires { length bytes.now ≤ 32 }
+    ensures { OnOk result (Appends (W.contents out.old) (W.contents out.new) (encode_lower bytes.now)) }
 {
-    let high = byte / 16;
-    let low = byte % 16;
-    [DIGITS[high as usize], DIGITS[low as usize]]
+    let mut digits = [0; 2 * BLOCK];
+    let text = &mut digits[..2 * bytes.len()];
+    let _encoded = hex::encode_to_slice(bytes, text);
+    out.write_all(text)
 }
 
 /// Writes bytes as lower-case hex.
 pub fn write_hex<W: Write>(out: &mut W, bytes: &[u8]) -> io::Result<()>
     ensures { OnOk result (Appends (W.contents out.old) (W.contents out.new) (encode_lower bytes.now)) }
 {
-    for byte in bytes {
-        out.write_all(&digits_of(*byte))?;
+    let mut written = 0;
+    while bytes.len() - written > BLOCK {
+        write_block(out, &bytes[written..written + BLOCK])?;
+        written += BLOCK;
     }
-    Ok(())
+    write_block(out, &bytes[written..])
 }
 
 /// Writes bytes as lower-case hex, `-` for none.
