@@ -20,6 +20,7 @@ static PATHS: [&[u8]; 10] = [
 static NAMES: [&[u8]; 3] = [b"a", b"b", b"cc"];
 
 /// Numbers that look drawn, the same ones in each run of the tests (splitmix64).
+#[derive(Drop)]
 struct Drawn {
     state: u64,
 }
@@ -50,6 +51,7 @@ impl Drawn {
 }
 
 /// What a list has come to, so that events are drawn which name what may be there.
+#[derive(Drop)]
 struct Seen {
     /// The number of the last request that was read.
     unique: u64,
