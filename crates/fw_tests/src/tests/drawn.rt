@@ -13,6 +13,20 @@ const EVENTS: u64 = 200;
 /// At least so many of all their events are to be accepted, so that the lists lead somewhere.
 const ACCEPTED: u64 = 150_000;
 
+/// A mount, and INIT with its reply.
+static START: [Event<'static>; 6] = [
+    Event::Mount {
+        found_ms: 1000,
+        missing_ms: 500,
+        minor: Minor::M31,
+    },
+    Event::Read(Pick::Pending(0)),
+    Event::Take(0),
+    Event::Do(2),
+    Event::Write(0),
+    Event::Settle(0),
+];
+
 static PATHS: [&[u8]; 10] = [
     b"/", b"/a", b"/b", b"/cc", b"/a/b", b"/a/a", b"/b/a", b"/a/b/cc", b"/a/b/a", b"/a//b",
 ];
@@ -213,8 +227,11 @@ fn runs_alike(
     let mut listed = Vec::new(alloc);
     let mut out = Vec::new(alloc);
     let mut other = Vec::new(alloc);
-    for _ in 0..EVENTS {
-        let event = event(drawn, seen);
+    for place in 0..EVENTS {
+        let event = match START.get(place as usize) {
+            Some(event) => *event,
+            None => event(drawn, seen),
+        };
         if !print_event(maps, &event, &mut records, &mut out)
             || !print_event(lists, &event, &mut listed, &mut other)
         {
