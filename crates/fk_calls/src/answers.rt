@@ -11,11 +11,10 @@ ghost use Rattle.fk_syscalls.specs.Values.{answer_of};
 
 use crate::stored_answer::StoredAnswer;
 use fk_syscalls::{Answer, CallState};
+use fuse_spec::errno::ECONNABORTED;
 use fuse_spec::{IntrEffect, WriteResult};
 use fuse_tables::Table;
 use std::alloc::Allocator;
-
-const ECONNABORTED: u32 = 103;
 
 /// A call is answered: it waits no longer, and its answer is there to be collected. Takes no memory.
 pub fn answer<A: Allocator + Copy>(

@@ -11,16 +11,13 @@ ghost use Rattle.fk_kernel.specs.Refused.{or_no_memory, begin_refusal, begun_ref
 ghost use Rattle.fuse_spec.specs.QueueCalls.{after_enqueue};
 
 use crate::kernel::KernelOf;
-use fk_calls::{MAX_CALLS, StoredAnswer, is_full};
+use fk_calls::{StoredAnswer, is_full};
 use fk_lookup_count::CountTable;
 use fk_queues::QueueTable;
 use fk_syscalls::{Answer, Call, CallState, Next, begin};
+use fuse_spec::errno::ENOTCONN;
+use fuse_spec::limits::{COUNTER_END, MAX_CALLS};
 use fuse_spec::{Purpose, Refusal};
-
-/// No counter gives a number from here on.
-const COUNTER_END: u64 = 0x4000_0000_0000_0000;
-
-const ENOTCONN: u32 = 107;
 
 impl<Q: QueueTable<Purpose> + Drop, C: CountTable<Heap = Q::Heap> + Drop> KernelOf<Q, C> {
     /// Begins a call and gives its number. It is answered at once, or its first request is queued. Where files may not be listed

@@ -26,13 +26,10 @@ use fk_lookup_count::CountTable;
 use fk_nodes::{CountedNodes, EntryUse};
 use fk_queues::QueueTable;
 use fk_syscalls::{Answer, Asked, CallState, Next};
+use fuse_spec::errno::{EIO, ENOENT};
 use fuse_spec::{Entry, Opened, Purpose, Refusal, WriteResult};
 use fuse_tables::Table;
 use std::alloc::{AllocError, Allocator};
-
-const ENOENT: u32 = 2;
-
-const EIO: u32 = 5;
 
 /// The word or name that a call asks for leads to the node of an entry until a time, and one lookup more of the node is counted.
 fn bind_entry<A: Allocator + Copy, C: CountTable>(

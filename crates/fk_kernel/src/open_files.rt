@@ -16,13 +16,13 @@ ghost use Rattle.fk_kernel.specs.Entries.{EndsWithin, EndsPast};
 ghost use Rattle.fk_kernel.specs.Refused.{begun_refusal, or_no_memory};
 
 use crate::kernel::KernelOf;
-use fk_calls::{MAX_CALLS, StoredAnswer, is_in_other_use, is_in_use};
+use fk_calls::{StoredAnswer, is_in_other_use, is_in_use};
 use fk_lookup_count::CountTable;
 use fk_queues::QueueTable;
 use fk_syscalls::Answer;
+use fuse_spec::errno::EBADF;
+use fuse_spec::limits::MAX_CALLS;
 use fuse_spec::{Opened, Purpose, Refusal};
-
-const EBADF: u32 = 9;
 
 /// Whether an open file is of a node.
 fn is_of(opened: &Opened, node: u64) -> bool

@@ -8,10 +8,8 @@ ghost use Rattle.fk_kernel.specs.RefusedUpkeep.{tick_refusal, drop_refusal};
 use crate::kernel::KernelOf;
 use fk_lookup_count::CountTable;
 use fk_queues::QueueTable;
+use fuse_spec::limits::CLOCK_END;
 use fuse_spec::{Purpose, Refusal};
-
-/// The time stays below this, in milliseconds.
-const CLOCK_END: u64 = 0x20_0000_0000_0000;
 
 impl<Q: QueueTable<Purpose> + Drop, C: CountTable<Heap = Q::Heap> + Drop> KernelOf<Q, C> {
     /// The clock goes on so many milliseconds. Gives the new time. Takes no memory.

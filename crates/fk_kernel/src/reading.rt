@@ -13,11 +13,9 @@ use fk_lookup_count::CountTable;
 use fk_queues::QueueTable;
 use fk_syscalls::Asked;
 use fuse_frames::RequestFrame;
+use fuse_spec::limits::MAX_TRANSFER;
 use fuse_spec::{Purpose, Refusal};
 use std::alloc::{AllocError, Allocator};
-
-/// A READDIR asks for at most so many bytes.
-const MAX_TRANSFER: u32 = 4_096;
 
 impl<Q: QueueTable<Purpose> + Drop, C: CountTable<Heap = Q::Heap> + Drop> KernelOf<Q, C> {
     /// Whether a request has something to ask: that of a call has while the call is unanswered.

@@ -23,9 +23,8 @@ use fk_queues::QueueTable;
 use fk_said::{ReplySaid, names_listed, said_to};
 use fk_syscalls::Answer;
 use fk_wire::{Opcode, Records, read_reply};
+use fuse_spec::errno::EIO;
 use fuse_spec::{Purpose, Refusal, WriteResult};
-
-const EIO: u32 = 5;
 
 impl<Q: QueueTable<Purpose> + Drop, C: CountTable<Heap = Q::Heap> + Drop> KernelOf<Q, C> {
     /// A reply to the request of a call. Bytes that do not go with what it asked answer it EIO. Where the call is not

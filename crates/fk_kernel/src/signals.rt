@@ -17,9 +17,8 @@ use fk_queues::QueueTable;
 use fk_syscalls::Answer;
 use fk_unique::interrupt_of;
 use fuse_frames::RequestFrame;
+use fuse_spec::errno::EINTR;
 use fuse_spec::{IntrEffect, Purpose, Refusal};
-
-const EINTR: u32 = 4;
 
 /// Whether a request serves this call.
 fn serves(purpose: Purpose, call: u64) -> bool

@@ -12,11 +12,8 @@ use fk_lookup_count::CountTable;
 use fk_queues::QueueTable;
 use fk_said::{InterruptSaid, agrees, files_agreed, minor_agreed, said_to_init, said_to_interrupt};
 use fk_wire::{Opcode, read_reply_head};
+use fuse_spec::errno::{EAGAIN, ENOSYS};
 use fuse_spec::{Phase, Purpose, Refusal, WriteResult};
-
-const EAGAIN: u32 = 11;
-
-const ENOSYS: u32 = 38;
 
 impl<Q: QueueTable<Purpose> + Drop, C: CountTable<Heap = Q::Heap> + Drop> KernelOf<Q, C> {
     /// Takes any bytes as a reply.

@@ -19,12 +19,10 @@ use crate::learning::{count_all, reserve_nodes, tell_more};
 use crate::told::told;
 use fk_lookup_count::CountTable;
 use fk_wire::{DirentPlus, RecordsPlus};
+use fuse_spec::limits::COUNTER_END;
 use fuse_spec::{Counted, Entry};
 use std::alloc::AllocError;
 use std::marker::Model;
-
-/// The end of counters (this project's rule): a node's lookups are fewer.
-const COUNTER_END: u64 = 0x4000_0000_0000_0000;
 
 /// Nodes stay fewer than this, so that those of a list can be counted beside them.
 const MOST: usize = 0x4000_0000_0000_0000;

@@ -15,19 +15,14 @@ ghost use Rattle.fk_syscalls.specs.Values.{call_of, comes_to, ClosesNone, IsBegu
 use crate::call::Call;
 use crate::path::{first_word, parent_of};
 use crate::plan::{Change, LentOperation, LentPlan};
-use crate::state::{CallState, ENOENT, Next, ROOT};
+use crate::state::{CallState, Next, ROOT};
 use crate::walk::walk;
 use fk_dentry::Bindings;
 use fuse_spec::Opened;
+use fuse_spec::errno::{EBADF, EINVAL, ENOENT};
+use fuse_spec::limits::MAX_FILE;
 use fuse_tables::Table;
 use std::alloc::{AllocError, Allocator};
-
-const EBADF: u32 = 9;
-
-const EINVAL: u32 = 22;
-
-/// A read or write begins at most here.
-const MAX_FILE: u64 = 65_536;
 
 /// A read or write has at most so many bytes.
 const MAX_TRANSFER: u64 = 4_096;

@@ -8,16 +8,8 @@ ghost use Rattle.fuse_spec.specs.Paths.{Name};
 ghost use Rattle.fuse_spec.specs.declared.Opened.{Opened};
 
 use crate::words::word_at;
-
-/// A path has at most so many words.
-const MAX_WORDS: usize = 32;
-
-/// A word has at most so many bytes.
-const MAX_NAME: usize = 255;
-
-const EINVAL: u32 = 22;
-
-const ENAMETOOLONG: u32 = 36;
+use fuse_spec::errno::{EINVAL, ENAMETOOLONG};
+use fuse_spec::limits::{MAX_NAME, MAX_WORDS};
 
 /// The fault of the word at this place of a path, counted from 0: first its place, then what it may not hold, then its length.
 fn word_fault(place: usize, word: &[u8]) -> Option<u32>

@@ -21,13 +21,12 @@ use crate::walk::walk;
 use crate::words::{next_place, word_at};
 use fk_dentry::Bindings;
 use fuse_spec::Opened;
+use fuse_spec::errno::ENOENT;
 use std::alloc::{AllocError, Allocator, Global};
 use std::marker::Model;
 
 /// The root's node.
 pub(crate) const ROOT: u64 = 1;
-
-pub(crate) const ENOENT: u32 = 2;
 
 /// What a call waits for: the end of its walks, or bytes of an open file.
 #[derive(Drop)]

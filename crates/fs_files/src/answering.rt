@@ -17,17 +17,9 @@ use crate::operating::operate;
 use crate::refusing::refusal_of;
 use crate::replies::{Outcome, PlainReply};
 use fs_nodes::NodeStore;
+use fuse_spec::errno::{EBADF, EINTR, EIO};
 use fuse_spec::{Minor, Opened, Validity};
 use std::alloc::{AllocError, Allocator};
-
-/// EINTR, of a request that an INTERRUPT marked.
-const EINTR: u32 = 4;
-
-/// EIO, of a request whose node is gone.
-const EIO: u32 = 5;
-
-/// EBADF, of a request whose open number is none of its node's file.
-const EBADF: u32 = 9;
 
 impl<S: NodeStore> Files<S> {
     /// What a held request comes to, on the tree as it is now; an INIT is answered this minor. Where memory is wanting nothing changes.

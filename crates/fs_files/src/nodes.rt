@@ -13,8 +13,9 @@ ghost use Rattle.fs_files.specs.Giving.{IsCountable, files_of, has_node, new_amo
 ghost use Rattle.fs_files.specs.Values.{no_nodes};
 
 use crate::held::{MOST_NAMES, NamedNode};
-use fs_nodes::{LIMIT, NodeStore};
+use fs_nodes::NodeStore;
 use fuse_spec::Entry;
+use fuse_spec::limits::COUNTER_END;
 use std::alloc::AllocError;
 use std::marker::Model;
 
@@ -223,7 +224,7 @@ impl<S: NodeStore> Nodes<S> {
     {
         self.store.keeps_sound();
         match self.store.id_of(file) {
-            Some(id) => more as u64 >= LIMIT - self.store.count_of(id),
+            Some(id) => more as u64 >= COUNTER_END - self.store.count_of(id),
             None => false,
         }
     }

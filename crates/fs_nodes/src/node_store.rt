@@ -10,9 +10,6 @@ ghost use Rattle.fs_nodes.specs.Sound.{IsSound};
 use crate::too_many::TooMany;
 use std::alloc::{AllocError, Allocator};
 
-/// Generations stay below this.
-pub const LIMIT: u64 = 0x4000_0000_0000_0000;
-
 /// The nodes that a server holds, one nodeid a file. The root, nodeid 1, is always held and never among them.
 ///
 /// Nodeids are from 2 up. A generation is the next of a counter that never goes back, also not at `clear`: so no pair of

@@ -14,10 +14,11 @@ ghost use Rattle.fs_files.specs.Replies.{sent_wire};
 ghost use Rattle.fs_server.specs.Effects.{CanSendAgain, RefusesAgain, SendsAgain};
 
 use crate::replies::SentCopy;
-use crate::server::{COUNTER_END, ServerOf};
+use crate::server::ServerOf;
 use fs_files::{Files, NamedNode, ReplySpare, SentReply};
 use fs_nodes::NodeStore;
 use fuse_frames::{ReplyCopy, ReplyRoom};
+use fuse_spec::limits::COUNTER_END;
 use fuse_spec::{Entry, Refusal};
 use std::alloc::AllocError;
 

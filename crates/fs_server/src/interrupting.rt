@@ -17,10 +17,8 @@ use fs_files::{PlainReply, SentReply};
 use fs_nodes::NodeStore;
 use fuse_frames::{ReplyCopy, ReplyRoom};
 use fuse_spec::Taken;
+use fuse_spec::errno::EAGAIN;
 use std::alloc::Allocator;
-
-/// EAGAIN, to an INTERRUPT of a request that is not known.
-const EAGAIN: u32 = 11;
 
 impl<S: NodeStore> ServerOf<S> {
     /// Takes an INTERRUPT: it marks a request that is held, is ignored while the request's reply is kept, and else is answered EAGAIN.

@@ -11,11 +11,12 @@ ghost use Rattle.fs_server.specs.declared.server.ServerFault.TheVariants.{Memory
 ghost use Rattle.fs_server.specs.Effects.{AnswersFrame, CanTake, RefusesFrame, request_fault};
 ghost use Rattle.fs_server.specs.Taking.{IsFaultless, IsTakeable, answers, forgets_too_many, is_spoken, knows};
 
-use crate::server::{COUNTER_END, ServerFault, ServerOf};
+use crate::server::{ServerFault, ServerOf};
 use fk_wire::{Pairs, Request, RequestBody, read_request};
 use fs_files::Nodes;
 use fs_nodes::NodeStore;
 use fuse_spec::Minor;
+use fuse_spec::limits::COUNTER_END;
 
 impl<S: NodeStore> ServerOf<S> {
     /// Why `take` refuses a frame, want of memory aside. Where it gives none, only memory can be wanting.

@@ -6,11 +6,12 @@ ghost use Rattle.fs_server.specs.Effects.{PerformsHeld, RefusesHeld};
 ghost use Rattle.fs_server.specs.Steps.{CanPerform};
 
 use crate::replies::{KeptReply, SentCopy};
-use crate::server::{COUNTER_END, Done, ServerOf};
+use crate::server::{Done, ServerOf};
 use fs_files::ReplySpare;
 use fs_nodes::NodeStore;
 use fuse_frames::{ReplyCopy, ReplyRoom};
 use fuse_spec::Refusal;
+use fuse_spec::limits::COUNTER_END;
 use std::alloc::AllocError;
 
 impl<S: NodeStore> ServerOf<S> {

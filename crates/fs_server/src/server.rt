@@ -17,9 +17,6 @@ use std::alloc::{AllocError, Allocator, Global};
 use std::marker::Model;
 use thiserror::Error;
 
-/// No counter gives a number from here on.
-pub(crate) const COUNTER_END: u64 = 0x4000_0000_0000_0000;
-
 /// What is wrong with a request frame: the first that applies.
 #[derive(Clone, Copy, Debug, PartialEq, Eq, Error)]
 pub enum ServerFault {

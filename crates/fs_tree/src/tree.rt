@@ -12,14 +12,12 @@ use crate::Kind;
 use crate::error::TreeError;
 use crate::files::{Content, Files};
 use crate::names::Names;
+use fuse_spec::limits::COUNTER_END;
 use std::alloc::{AllocError, Allocator, Global};
 use std::marker::Model;
 
 /// The birth of the root.
 pub const ROOT: u64 = 0;
-
-/// No birth and no serial is drawn from here on.
-const COUNTER_END: u64 = 1 << 62;
 
 /// A tree of files.
 #[derive(Drop)]

@@ -10,10 +10,8 @@ ghost use Rattle.fuse_frames.specs.ReplyTies.{kind_of_type as kind_told};
 ghost use Rattle.fuse_frames.specs.ReplyTies.{milliseconds as milliseconds_in};
 
 use fk_wire::{Attr, DirentPlus};
+use fuse_spec::limits::MAX_VALIDITY;
 use fuse_spec::{Attributes, Entry, Kind};
-
-/// The longest validity of a name, a day in milliseconds (this project's rule).
-const MAX_VALIDITY: u64 = 86_400_000;
 
 /// The kind of a file, by the type bits of its mode.
 fn kind_of(mode: u32) -> Kind

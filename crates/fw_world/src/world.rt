@@ -29,12 +29,10 @@ use fk_wire::Opcode;
 use fs_nodes::NodeStore;
 use fs_server::{ServerFault, ServerOf};
 use fuse_frames::{ReplyCopy, RequestFrame};
+use fuse_spec::limits::MAX_VALIDITY;
 use fuse_spec::{Minor, Purpose, Refusal, ReplyResult, Taken};
 use std::alloc::{Allocator, Global};
 use std::marker::Model;
-
-/// The longest validity of a name, a day in milliseconds (this project's rule).
-const MAX_VALIDITY: u64 = 86_400_000;
 
 /// Which frame the last step put on a link.
 #[derive(Clone, Copy, Debug, PartialEq, Eq)]

@@ -6,12 +6,10 @@ use fk_wire::{Request, RequestBody, write_request};
 use fs_nodes::{ListNodes, NodeStore, NodeTable};
 use fs_server::{ServerFault, ServerOf, fault_reply_at};
 use fuse_frames::ReplyCopy;
+use fuse_spec::limits::MAX_VALIDITY;
 use fuse_spec::{Minor, Refusal, ReplyResult, Taken, WriteResult};
 use std::alloc::{AllocError, Allocator, Global};
 use std::process::Abort;
-
-/// The longest validity, in milliseconds.
-const MAX_VALIDITY: u64 = 86_400_000;
 
 /// What a request asks, with names and bytes as text.
 #[derive(Clone, Copy)]
