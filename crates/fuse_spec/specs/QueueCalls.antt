@@ -3,6 +3,7 @@ use Rattle.std.specs.Prelude.{ℕ, ◌+◌, Bool, true, not, if◌then◌else◌
 use Rattle.std.specs.List.{list_any}
 use Rattle.std.specs.Option.{option_map_or}
 use Rattle.std.specs.Map.{remove_entry}
+use Rattle.fuse_spec.specs.Numbers.{max_forgets}
 use Rattle.fuse_spec.specs.Queues.{QueueState, is_unread, pending, request_under, mark_under}
 use Rattle.fuse_spec.specs.Signals.{signal_effect, reply_effect}
 use Rattle.fuse_spec.specs.declared.Mark.{Mark}
@@ -61,9 +62,9 @@ module _ {W : Type 0} where
   abbrev pub after_read_interrupt : QueueState W → QueueState W
   after_read_interrupt s = record s { interrupts = drop 1 s.interrupts }
 
-  -- Whether so many forgets can be read as one frame: it has room for 1 to 64, and so many have to be queued. (this project's rule)
+  -- Whether so many forgets can be read as one frame: it has room for 1 to `max_forgets`, and so many have to be queued. (this project's rule)
   abbrev pub can_read_forgets : QueueState W → ℕ → Bool
-  can_read_forgets s count = nat_lt 0 count && (nat_le count 64 && nat_le count (length s.forgets))
+  can_read_forgets s count = nat_lt 0 count && (nat_le count max_forgets && nat_le count (length s.forgets))
 
   -- The number that the frame of so many forgets draws as it is read, and these forgets, the oldest first. (this project's rule)
   abbrev pub first_forgets : QueueState W → ℕ → Option (ℕ × List (ℕ × ℕ))

@@ -1,5 +1,5 @@
 -- In the mount of a server that speaks 7.15 the kernel speaks it too, whatever the event.
-use Rattle.fuse_spec.specs.Numbers.{init_flags}
+use Rattle.fuse_spec.specs.Numbers.{init_flags, max_forgets}
 use Rattle.std.proofs.Common.{◌≡◌, ℕ, ◌-◌, Bool, true, false, true≢false, cond, ◌&&◌, List, [], ◌∷◌, Option, Some, None, take, length, nat_eq, slice_get, refl, ap, sym, subst, ◌∙◌, arith, All}
 use Rattle.std.specs.Prelude.{◌%◌, nat_lt, nat_le}
 use Rattle.std.specs.List.{remove as without_at}
@@ -91,7 +91,7 @@ purpose_asks k each (purpose.Call call) body is = by (get k.vfs.calls call) refl
     by (Some state) there e = let same : asks (asked state) ≡ body = cc (e) in subst (λ (b : RequestBody). knows M15 b ≡ true) same (state_asks state (each call state there))
 
 -- one forget at a time
-one_forget : (fs : List Forget) (n : ℕ) → (nat_lt 0 n && (nat_le n 64 && nat_le n (length fs))) ≡ true → nat_lt 1 n ≡ false → knows M15 (forget_body (take n fs)) ≡ true
+one_forget : (fs : List Forget) (n : ℕ) → (nat_lt 0 n && (nat_le n max_forgets && nat_le n (length fs))) ≡ true → nat_lt 1 n ≡ false → knows M15 (forget_body (take n fs)) ≡ true
 one_forget fs n can few = by n (one n (both_first (nat_lt 0 n) _ can) few) can
   where
     both_first : (a b : Bool) → (a && b) ≡ true → a ≡ true
