@@ -3,10 +3,10 @@
 ghost use Rattle.std.specs.Prelude.{◌≡◌, ◌≢◌, ◌+◌, ◌<◌, ◌≤◌, ◌↔◌, ℕ, IsTrue, None, T, cond, length};
 ghost use Rattle.std.specs.FinMap.{is_sorted};
 ghost use Rattle.std.specs.Ordering.{nat_cmp};
-ghost use Rattle.fuse_spec.specs.Answers.{failed};
-ghost use Rattle.fuse_spec.specs.Maps.{get, put, remove};
-ghost use Rattle.fuse_spec.specs.Numbers.{econnaborted};
-ghost use Rattle.fuse_spec.specs.Vfs.{all_answered};
+ghost use Rattle.fuse_spec.specs.Calls.Answers.{failed};
+ghost use Rattle.fuse_spec.specs.Values.Maps.{get, put, remove};
+ghost use Rattle.fuse_spec.specs.Values.Numbers.{econnaborted};
+ghost use Rattle.fuse_spec.specs.Calls.Vfs.{all_answered};
 ghost use Rattle.fk_syscalls.specs.Values.{answer_of};
 
 use crate::stored_answer::StoredAnswer;

@@ -1,7 +1,7 @@
 //! How many calls may be unanswered.
 
 ghost use Rattle.std.specs.Prelude.{◌≡◌, length, nat_le};
-ghost use Rattle.fuse_spec.specs.Numbers.{max_calls};
+ghost use Rattle.fuse_spec.specs.Values.Numbers.{max_calls};
 
 use fk_syscalls::CallState;
 use fuse_spec::limits::MAX_CALLS;

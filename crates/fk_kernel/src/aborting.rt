@@ -1,7 +1,7 @@
 //! How a mount is aborted.
 
 ghost use Rattle.std.specs.Prelude.{◌≡◌, Some, None, OnOk, OnErr, IfErr};
-ghost use Rattle.fuse_spec.specs.Kernel.{kernel_aborted};
+ghost use Rattle.fuse_spec.specs.Kernel.Kernel.{kernel_aborted};
 ghost use Rattle.fk_kernel.specs.RefusedSignals.{abort_refusal};
 
 use crate::kernel::KernelOf;

@@ -1,10 +1,10 @@
 //! Answers of calls.
 
 ghost use Rattle.std.specs.Prelude.{length, ◌≡◌, ◌<◌, ◌+◌, Some, None, true, is_some, option_map, slice_get, IfNone, IfSome};
-ghost use Rattle.fuse_spec.specs.Maps.{get, remove};
-ghost use Rattle.fuse_spec.specs.Vfs.{answered};
+ghost use Rattle.fuse_spec.specs.Values.Maps.{get, remove};
+ghost use Rattle.fuse_spec.specs.Calls.Vfs.{answered};
 ghost use Rattle.fk_syscalls.specs.Values.{answer_of};
-ghost use Rattle.fuse_spec.specs.QueueCalls.{waiting, without};
+ghost use Rattle.fuse_spec.specs.Kernel.QueueCalls.{waiting, without};
 
 use crate::kernel::KernelOf;
 use fk_lookup_count::CountTable;

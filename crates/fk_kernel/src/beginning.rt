@@ -1,14 +1,14 @@
 //! How a call begins.
 
 ghost use Rattle.std.specs.Prelude.{length, ◌≡◌, ◌<◌, ◌^◌, ◌+◌, None, Ok, OnOk, OnErr, IfOk, IfErr, true, false, cond, nat_eq};
-ghost use Rattle.fuse_spec.specs.Uniques.{numbers_left_from};
+ghost use Rattle.fuse_spec.specs.Kernel.Uniques.{numbers_left_from};
 ghost use Rattle.fuse_spec.specs.declared.Opened.{Opened};
-ghost use Rattle.fuse_spec.specs.Kernel.{is_aborted, call_begun, call_put};
-ghost use Rattle.fuse_spec.specs.Steps.{is_ready};
-ghost use Rattle.fuse_spec.specs.Vfs.{CallState as State, begun, asking, answered, numbered};
+ghost use Rattle.fuse_spec.specs.Kernel.Kernel.{is_aborted, call_begun, call_put};
+ghost use Rattle.fuse_spec.specs.World.Steps.{is_ready};
+ghost use Rattle.fuse_spec.specs.Calls.Vfs.{CallState as State, begun, asking, answered, numbered};
 ghost use Rattle.fk_syscalls.specs.Values.{comes_to, call_of, answer_of, ClosesNone};
 ghost use Rattle.fk_kernel.specs.Refused.{or_no_memory, begin_refusal, begun_refusal};
-ghost use Rattle.fuse_spec.specs.QueueCalls.{after_enqueue};
+ghost use Rattle.fuse_spec.specs.Kernel.QueueCalls.{after_enqueue};
 
 use crate::kernel::KernelOf;
 use fk_calls::{StoredAnswer, is_full};

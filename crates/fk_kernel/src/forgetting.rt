@@ -1,9 +1,9 @@
 //! How nodes are given up, and forgets are read.
 
 ghost use Rattle.std.specs.Prelude.{◌≡◌, Some, None, OnOk, OnErr, IfOk, IfErr, map};
-ghost use Rattle.fuse_spec.specs.Kernel.{evicted, forgets_read};
-ghost use Rattle.fuse_spec.specs.Maps.{get};
-ghost use Rattle.fuse_spec.specs.QueueCalls.{after_read_forgets};
+ghost use Rattle.fuse_spec.specs.Kernel.Kernel.{evicted, forgets_read};
+ghost use Rattle.fuse_spec.specs.Values.Maps.{get};
+ghost use Rattle.fuse_spec.specs.Kernel.QueueCalls.{after_read_forgets};
 ghost use Rattle.fuse_spec.specs.declared.Counted.{Counted};
 ghost use Rattle.fk_kernel.specs.Refused.{or_no_memory};
 ghost use Rattle.fk_kernel.specs.RefusedUpkeep.{evict_refusal, read_forgets_refusal, IsForgetFrame};

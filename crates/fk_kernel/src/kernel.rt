@@ -1,12 +1,12 @@
 //! The kernel.
 
 ghost use Rattle.std.specs.Prelude.{◌≡◌, ◌<◌, ◌+◌, [], None, Ok, OnOk, OnErr, IfErr, T, false};
-ghost use Rattle.fuse_spec.specs.Kernel.{is_live, is_aborted, kernel_mounted};
-ghost use Rattle.fuse_spec.specs.Steps.{is_ready, is_busy, is_counted_out};
+ghost use Rattle.fuse_spec.specs.Kernel.Kernel.{is_live, is_aborted, kernel_mounted};
+ghost use Rattle.fuse_spec.specs.World.Steps.{is_ready, is_busy, is_counted_out};
 ghost use Rattle.fk_nodes.specs.Learning.{AreBelow};
 ghost use Rattle.std.specs.FinMap.{is_sorted};
 ghost use Rattle.std.specs.Ordering.{nat_cmp};
-ghost use Rattle.fuse_spec.specs.Worlds.{first_kernel};
+ghost use Rattle.fuse_spec.specs.World.Worlds.{first_kernel};
 ghost use Rattle.fk_kernel.specs.Refused.{is_past_end, or_no_memory, mount_refusal};
 
 use fk_calls::StoredAnswer;
@@ -51,7 +51,7 @@ pub type ListKernel<A = Global> = KernelOf<ListQueues<Purpose, A>, ListCounts<A>
 
 impl<Q: QueueTable<Purpose>, C: CountTable<Heap = Q::Heap>> Model for KernelOf<Q, C> {
     ghost use Rattle.std.specs.Coded.{codes};
-    ghost use Rattle.fuse_spec.specs.Kernel.{Kernel as KernelState};
+    ghost use Rattle.fuse_spec.specs.Kernel.Kernel.{Kernel as KernelState};
     ghost use Rattle.fk_kernel.specs.Soundness.{IsSoundKernel};
 
     ghost Value = { KernelState };

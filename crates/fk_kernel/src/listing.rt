@@ -1,12 +1,12 @@
 //! How the names of a list with their files are taken.
 
 ghost use Rattle.std.specs.Prelude.{◌≡◌, ◌%◌, ℕ, Some, OnOk, OnErr, IfErr, false, nat_eq};
-ghost use Rattle.fuse_spec.specs.Maps.{get};
-ghost use Rattle.fuse_spec.specs.Operations as reply;
-ghost use Rattle.fuse_spec.specs.Operations.{readdirplus};
-ghost use Rattle.fuse_spec.specs.QueueCalls.{waiting};
-ghost use Rattle.fuse_spec.specs.Replies.{reply_written};
-ghost use Rattle.fuse_spec.specs.Vfs.{doing};
+ghost use Rattle.fuse_spec.specs.Values.Maps.{get};
+ghost use Rattle.fuse_spec.specs.Files.Operations as reply;
+ghost use Rattle.fuse_spec.specs.Files.Operations.{readdirplus};
+ghost use Rattle.fuse_spec.specs.Kernel.QueueCalls.{waiting};
+ghost use Rattle.fuse_spec.specs.Kernel.Replies.{reply_written};
+ghost use Rattle.fuse_spec.specs.Calls.Vfs.{doing};
 ghost use Rattle.fk_kernel.specs.Entries.{Awaits, ListsPlus, IsFew, nodes_heard};
 ghost use Rattle.fk_nodes.specs.Learning.{is_out};
 ghost use Rattle.fk_nodes.specs.Told.{pairs_in};

@@ -2,14 +2,14 @@
 
 ghost use Rattle.std.specs.Prelude.{◌≡◌, ◌<◌, ◌^◌, None, Some, true, false, is_some, length, OnOk, OnErr, IfOk, IfErr, nat_eq};
 ghost use Rattle.std.specs.List.{list_any};
-ghost use Rattle.fuse_spec.specs.Calls as call;
+ghost use Rattle.fuse_spec.specs.Calls.Calls as call;
 ghost use Rattle.fuse_spec.specs.declared.Opened.{Opened as OpenedFile};
-ghost use Rattle.fuse_spec.specs.Kernel.{is_aborted, is_used, released_if_idle, after_use, call_begun, is_released_by};
-ghost use Rattle.fuse_spec.specs.Maps.{get};
-ghost use Rattle.fuse_spec.specs.QueueCalls.{waiting, without};
-ghost use Rattle.fuse_spec.specs.Steps.{is_ready};
-ghost use Rattle.fuse_spec.specs.Uniques.{numbers_left_from};
-ghost use Rattle.fuse_spec.specs.Vfs.{CallState as State, answered};
+ghost use Rattle.fuse_spec.specs.Kernel.Kernel.{is_aborted, is_used, released_if_idle, after_use, call_begun, is_released_by};
+ghost use Rattle.fuse_spec.specs.Values.Maps.{get};
+ghost use Rattle.fuse_spec.specs.Kernel.QueueCalls.{waiting, without};
+ghost use Rattle.fuse_spec.specs.World.Steps.{is_ready};
+ghost use Rattle.fuse_spec.specs.Kernel.Uniques.{numbers_left_from};
+ghost use Rattle.fuse_spec.specs.Calls.Vfs.{CallState as State, answered};
 ghost use Rattle.fk_syscalls.specs.States.{used_by};
 ghost use Rattle.fk_syscalls.specs.Values.{answer_of};
 ghost use Rattle.fk_kernel.specs.Entries.{EndsWithin, EndsPast};

@@ -1,8 +1,8 @@
 //! How time passes, and names go.
 
 ghost use Rattle.std.specs.Prelude.{◌≡◌, ◌+◌, Some, None, OnOk, OnErr, IfOk, IfErr};
-ghost use Rattle.fuse_spec.specs.Maps.{remove_name};
-ghost use Rattle.fuse_spec.specs.Vfs.{later};
+ghost use Rattle.fuse_spec.specs.Values.Maps.{remove_name};
+ghost use Rattle.fuse_spec.specs.Calls.Vfs.{later};
 ghost use Rattle.fk_kernel.specs.RefusedUpkeep.{tick_refusal, drop_refusal};
 
 use crate::kernel::KernelOf;

@@ -1,12 +1,12 @@
 //! How requests are read.
 
 ghost use Rattle.std.specs.Prelude.{◌≡◌, ◌<◌, ◌+◌, Some, None, Ok, OnOk, OnErr, IfOk, IfErr, true, ◌≢◌, is_some};
-ghost use Rattle.fuse_spec.specs.Messages.{asks};
-ghost use Rattle.fuse_spec.specs.Kernel.{is_live, body_of};
-ghost use Rattle.fuse_spec.specs.Maps.{get};
+ghost use Rattle.fuse_spec.specs.Kernel.Messages.{asks};
+ghost use Rattle.fuse_spec.specs.Kernel.Kernel.{is_live, body_of};
+ghost use Rattle.fuse_spec.specs.Values.Maps.{get};
 ghost use Rattle.fk_syscalls.specs.Values.{operation_of};
 ghost use Rattle.fk_kernel.specs.Refused.{or_no_memory, read_refusal, IsPendingRequest};
-ghost use Rattle.fuse_spec.specs.QueueCalls.{after_read_pending, waiting};
+ghost use Rattle.fuse_spec.specs.Kernel.QueueCalls.{after_read_pending, waiting};
 
 use crate::kernel::KernelOf;
 use fk_lookup_count::CountTable;

@@ -1,11 +1,11 @@
 //! Whether a reply would have a request queued for which no number is left, or bring a node's count to the end of counters.
 
 ghost use Rattle.std.specs.Prelude.{◌≡◌, ◌≤◌, ◌%◌, [], ◌∷◌, Some, IfSome, IfNone, true, false, nat_eq};
-ghost use Rattle.fuse_spec.specs.Maps.{get};
-ghost use Rattle.fuse_spec.specs.Numbers.{max_validity};
-ghost use Rattle.fuse_spec.specs.Operations as reply;
-ghost use Rattle.fuse_spec.specs.QueueCalls.{waiting};
-ghost use Rattle.fuse_spec.specs.Replies.{usable, first_use, use_of, reply_written};
+ghost use Rattle.fuse_spec.specs.Values.Maps.{get};
+ghost use Rattle.fuse_spec.specs.Values.Numbers.{max_validity};
+ghost use Rattle.fuse_spec.specs.Files.Operations as reply;
+ghost use Rattle.fuse_spec.specs.Kernel.QueueCalls.{waiting};
+ghost use Rattle.fuse_spec.specs.Kernel.Replies.{usable, first_use, use_of, reply_written};
 ghost use Rattle.fk_kernel.specs.Entries.{Awaits, EndsWithin, LooksUp, IsFew, learnt_by_all, nodes_heard};
 ghost use Rattle.fk_nodes.specs.Learning.{is_out};
 ghost use Rattle.fk_kernel.specs.Refused.{is_past, is_past_end, PassesEnd, WritePasses};

@@ -1,10 +1,10 @@
 //! How the reply to a call's request is taken.
 
 ghost use Rattle.std.specs.Prelude.{◌≡◌, ◌≤◌, ◌%◌, ℕ, map, Some, OnOk, OnErr, IfOk, IfErr, true, false, nat_eq};
-ghost use Rattle.fuse_spec.specs.Maps.{get};
-ghost use Rattle.fuse_spec.specs.Operations as reply;
-ghost use Rattle.fuse_spec.specs.QueueCalls.{waiting};
-ghost use Rattle.fuse_spec.specs.Replies.{reply_written};
+ghost use Rattle.fuse_spec.specs.Values.Maps.{get};
+ghost use Rattle.fuse_spec.specs.Files.Operations as reply;
+ghost use Rattle.fuse_spec.specs.Kernel.QueueCalls.{waiting};
+ghost use Rattle.fuse_spec.specs.Kernel.Replies.{reply_written};
 ghost use Rattle.fuse_spec.specs.declared.Opened.{Opened as OpenedFile};
 ghost use Rattle.fk_kernel.specs.Entries.{Awaits, EndsWithin, IsFew, nodes_heard};
 ghost use Rattle.fk_nodes.specs.Learning.{is_out};
@@ -13,8 +13,8 @@ ghost use Rattle.fk_said.specs.ReplySaid.{wire_of, LastsADay};
 ghost use Rattle.fk_kernel.specs.Said.{Says, SaysNothing, awaited_by_call, wrong_body, IsTaken};
 ghost use Rattle.fk_wire.specs.Records.{records_in};
 ghost use Rattle.fuse_frames.specs.ReplyTies.{dirent_in};
-ghost use Rattle.fuse_spec.specs.Messages.{WireReply};
-ghost use Rattle.fuse_spec.specs.Numbers.{max_validity};
+ghost use Rattle.fuse_spec.specs.Kernel.Messages.{WireReply};
+ghost use Rattle.fuse_spec.specs.Values.Numbers.{max_validity};
 
 use crate::kernel::KernelOf;
 use fk_calls::{result_of, unbind};

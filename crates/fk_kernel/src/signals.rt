@@ -1,10 +1,10 @@
 //! How calls are signalled, and INTERRUPTs are read.
 
 ghost use Rattle.std.specs.Prelude.{◌≡◌, ℕ, Some, None, OnOk, OnErr, IfOk, IfErr, true, false, is_some, find, option_map};
-ghost use Rattle.fuse_spec.specs.Kernel.{call_signalled, is_for, request_of};
-ghost use Rattle.fuse_spec.specs.Maps.{get};
-ghost use Rattle.fuse_spec.specs.QueueCalls.{after_read_interrupt, interrupt_effect};
-ghost use Rattle.fuse_spec.specs.Vfs.{CallState as State};
+ghost use Rattle.fuse_spec.specs.Kernel.Kernel.{call_signalled, is_for, request_of};
+ghost use Rattle.fuse_spec.specs.Values.Maps.{get};
+ghost use Rattle.fuse_spec.specs.Kernel.QueueCalls.{after_read_interrupt, interrupt_effect};
+ghost use Rattle.fuse_spec.specs.Calls.Vfs.{CallState as State};
 ghost use Rattle.fuse_spec.specs.declared.Opened.{Opened};
 ghost use Rattle.fk_kernel.specs.Entries.{EndsPast, EndsWithin};
 ghost use Rattle.fk_kernel.specs.Refused.{or_no_memory};

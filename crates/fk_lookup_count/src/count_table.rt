@@ -3,7 +3,7 @@ ghost use Rattle.std.specs.Prelude.{◌≡◌, ◌≢◌, ℕ, ◌+◌, ◌^◌,
 ghost use Rattle.std.specs.FinMap.{is_sorted};
 ghost use Rattle.std.specs.Ordering.{nat_cmp};
 ghost use Rattle.std.specs.Option.{ForSome};
-ghost use Rattle.fuse_spec.specs.Maps.{Map, get, remove};
+ghost use Rattle.fuse_spec.specs.Values.Maps.{Map, get, remove};
 ghost use Rattle.fuse_spec.specs.declared.Counted.{Counted};
 ghost use Rattle.fk_lookup_count.specs.CountedNodes.{count_at, generation_at, IsUnlike, learnt, forget_of, listed};
 

@@ -7,8 +7,8 @@ use Rattle.std.specs.FinMap.{is_sorted}
 use Rattle.std.specs.FinMap.Entries.{length-put}
 use Rattle.fuse_spec.specs.declared.Counted.{Counted}
 use Rattle.fuse_spec.specs.declared.Entry.{Entry}
-use Rattle.fuse_spec.specs.Maps.{Map, get, put, remove}
-use Rattle.fuse_spec.specs.Replies as replies
+use Rattle.fuse_spec.specs.Values.Maps.{Map, get, put, remove}
+use Rattle.fuse_spec.specs.Kernel.Replies as replies
 use Rattle.fk_lookup_count.specs.declared.forget.Forget.{Forget}
 use Rattle.fk_lookup_count.specs.CountedNodes.{IsUnlike, learnt, forget_of, generation_at}
 use Rattle.fk_nodes.proofs.Lengths.{length_put, length_gone}

@@ -1,7 +1,7 @@
 -- Room for the nodes that names of a list tell, made for one after another.
 use Rattle.std.proofs.Common.{◌≡◌, ℕ, List, [], ◌∷◌, ◌++◌, Option, Some, None, append_assoc, append-nil, refl, ap, sym, subst, ◌∙◌}
 use Rattle.fuse_spec.specs.declared.Entry.{Entry}
-use Rattle.fuse_spec.specs.Operations.{DirentPlus, told_by}
+use Rattle.fuse_spec.specs.Files.Operations.{DirentPlus, told_by}
 use Rattle.fk_nodes.specs.Rooms.{HasNodeRoom, HaveNodeRoom}
 
 -- Those of the names behind which the others are left have room for their nodes.

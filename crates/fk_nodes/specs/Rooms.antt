@@ -1,7 +1,7 @@
 -- Room for the nodes that names of a list tell.
 use Rattle.std.specs.Prelude.{◌≡◌, ℕ, false, List, [], ◌∷◌, Option, Some, None, nat_lt}
 use Rattle.fuse_spec.specs.declared.Entry.{Entry}
-use Rattle.fuse_spec.specs.Operations.{DirentPlus, told_by}
+use Rattle.fuse_spec.specs.Files.Operations.{DirentPlus, told_by}
 
 -- The node that is told has room, if it may be counted: to count it takes no memory.
 abbrev pub HasNodeRoom : (HasRoom : ℕ → Type 0) → Option Entry → Type 0

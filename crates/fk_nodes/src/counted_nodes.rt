@@ -2,14 +2,14 @@
 
 ghost use Rattle.std.specs.Prelude.{◌≡◌, ◌≤◌, ◌<◌, ◌+◌, ◌^◌, [], ◌∷◌, length, map, nat_le, option_map, OnOk, OnErr, IfOk, T, true, false};
 ghost use Rattle.std.specs.Option.{ForSome};
-ghost use Rattle.fuse_spec.specs.Maps.{get, remove};
-ghost use Rattle.fuse_spec.specs.Numbers.{counter_end};
-ghost use Rattle.fuse_spec.specs.Replies.{counted_more, learnt, use_of};
+ghost use Rattle.fuse_spec.specs.Values.Maps.{get, remove};
+ghost use Rattle.fuse_spec.specs.Values.Numbers.{counter_end};
+ghost use Rattle.fuse_spec.specs.Kernel.Replies.{counted_more, learnt, use_of};
 ghost use Rattle.std.specs.FinMap.{is_sorted};
 ghost use Rattle.std.specs.Ordering.{nat_cmp};
 ghost use Rattle.fk_wire.specs.Records.{direntplus_content};
 ghost use Rattle.fuse_frames.specs.ReplyTies.{pair_in};
-ghost use Rattle.fuse_spec.specs.Operations.{told_by};
+ghost use Rattle.fuse_spec.specs.Files.Operations.{told_by};
 ghost use Rattle.fk_nodes.specs.Learning.{learnt_from, LeavesBelow, AreBelow, SomeOut};
 ghost use Rattle.fk_nodes.specs.Told.{pairs_in};
 ghost use Rattle.fk_nodes.specs.Uses.{use_meant};
@@ -37,7 +37,7 @@ pub struct CountedNodes<C: CountTable> {
 
 impl<C: CountTable> Model for CountedNodes<C> {
     ghost use Rattle.std.specs.Coded.{codes};
-    ghost use Rattle.fuse_spec.specs.Maps.{Map};
+    ghost use Rattle.fuse_spec.specs.Values.Maps.{Map};
     ghost use Rattle.fuse_spec.specs.declared.Counted.{Counted};
     ghost use Rattle.fuse_spec.specs.contracts.Counted as counted_row;
     ghost use Rattle.std.specs.Prelude.{◌≤◌, length};

@@ -4,9 +4,9 @@ ghost use Rattle.std.specs.Prelude.{◌≡◌, ◌≤◌, ◌<◌, ◌+◌, ◌^
 ghost use Rattle.std.specs.Option.{ForSome};
 ghost use Rattle.fk_wire.specs.Records.{direntplus_content};
 ghost use Rattle.fuse_frames.specs.ReplyTies.{pair_in};
-ghost use Rattle.fuse_spec.specs.Maps.{get};
-ghost use Rattle.fuse_spec.specs.Operations.{told_by};
-ghost use Rattle.fuse_spec.specs.Replies.{learnt};
+ghost use Rattle.fuse_spec.specs.Values.Maps.{get};
+ghost use Rattle.fuse_spec.specs.Files.Operations.{told_by};
+ghost use Rattle.fuse_spec.specs.Kernel.Replies.{learnt};
 ghost use Rattle.fk_nodes.specs.Learning.{learnt_told, learnt_from, tells, times_told, AreBelow};
 ghost use Rattle.fk_nodes.specs.Rooms.{HasNodeRoom, HaveNodeRoom};
 ghost use Rattle.fk_nodes.specs.Told.{pairs_in};

@@ -3,11 +3,11 @@
 ghost use Rattle.std.specs.Prelude.{◌≡◌, ◌≤◌, ◌<◌, ◌+◌, ◌^◌, ℕ, length, map, None, OnOk, OnErr, IfOk};
 ghost use Rattle.fuse_frames.specs.ReplyTies.{pair_in};
 ghost use Rattle.fk_wire.specs.Records.{direntplus_content};
-ghost use Rattle.fuse_spec.specs.CallReplies.{name_told};
-ghost use Rattle.fuse_spec.specs.Maps.{Place};
-ghost use Rattle.fuse_spec.specs.Numbers.{counter_end, max_validity};
-ghost use Rattle.fuse_spec.specs.Operations.{told_by, pair_with};
-ghost use Rattle.fuse_spec.specs.Replies.{each_forgotten, stale_in, use_of_told};
+ghost use Rattle.fuse_spec.specs.Calls.CallReplies.{name_told};
+ghost use Rattle.fuse_spec.specs.Values.Maps.{Place};
+ghost use Rattle.fuse_spec.specs.Values.Numbers.{counter_end, max_validity};
+ghost use Rattle.fuse_spec.specs.Files.Operations.{told_by, pair_with};
+ghost use Rattle.fuse_spec.specs.Kernel.Replies.{each_forgotten, stale_in, use_of_told};
 ghost use Rattle.fuse_spec.specs.declared.Entry.{Entry as NodeEntry};
 ghost use Rattle.fk_dentry.specs.NamesInForce.{HasRoom};
 ghost use Rattle.fk_syscalls.specs.Values.{dirent_of};

@@ -3,8 +3,8 @@ ghost use Rattle.std.specs.Prelude.{◌≡◌, ℕ, ◌+◌, ◌-◌, ◌<◌, �
 ghost use Rattle.std.specs.Map.{lookup, remove_entry};
 ghost use Rattle.std.specs.Option.{option_copied};
 ghost use Rattle.std.specs.VecDeque.{deque_len, deque_capacity};
-ghost use Rattle.fuse_spec.specs.Queues.{QueueState, is_unread, IsSound};
-ghost use Rattle.fuse_spec.specs.QueueCalls.{set_mark};
+ghost use Rattle.fuse_spec.specs.Kernel.Queues.{QueueState, is_unread, IsSound};
+ghost use Rattle.fuse_spec.specs.Kernel.QueueCalls.{set_mark};
 ghost use Rattle.fk_queues.specs.Room.{Room};
 
 use crate::forgets::{ForgetList, Forgets};

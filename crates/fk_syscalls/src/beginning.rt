@@ -1,11 +1,11 @@
 //! How a call begins.
 
 ghost use Rattle.std.specs.Prelude.{◌≡◌, ℕ, false, length, IfOk, OnErr};
-ghost use Rattle.fuse_spec.specs.Begins.{sets_out, whole_path, parent_path, using as using_file};
-ghost use Rattle.fuse_spec.specs.Maps.{get};
-ghost use Rattle.fuse_spec.specs.Operations as op;
-ghost use Rattle.fuse_spec.specs.Vfs.{CallState as State, Vfs, numbered, begun, asking, after_beginning};
-ghost use Rattle.fuse_spec.specs.Walks.{last, rename, link};
+ghost use Rattle.fuse_spec.specs.Calls.Begins.{sets_out, whole_path, parent_path, using as using_file};
+ghost use Rattle.fuse_spec.specs.Values.Maps.{get};
+ghost use Rattle.fuse_spec.specs.Files.Operations as op;
+ghost use Rattle.fuse_spec.specs.Calls.Vfs.{CallState as State, Vfs, numbered, begun, asking, after_beginning};
+ghost use Rattle.fuse_spec.specs.Calls.Walks.{last, rename, link};
 ghost use Rattle.fuse_spec.specs.declared.Opened.{Opened};
 ghost use Rattle.fk_syscalls.specs.Words.{words_from, AreWords};
 ghost use Rattle.fk_syscalls.specs.Plans.{final_change, final_lent, plan_lent, IsSoundLent, IsSoundPlanLent};

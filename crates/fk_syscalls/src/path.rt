@@ -1,10 +1,10 @@
 //! Paths: words between single slashes, behind a leading slash (this project's rule).
 
 ghost use Rattle.std.specs.Prelude.{◌≡◌, ◌≤◌, ℕ, List, Some, Ok, Err, length, IfOk, MatchResult};
-ghost use Rattle.fuse_spec.specs.Paths.{word_fault, first_fault, words_of, parent_and_last};
+ghost use Rattle.fuse_spec.specs.Calls.Paths.{word_fault, first_fault, words_of, parent_and_last};
 ghost use Rattle.fk_syscalls.specs.Words.{words_from, IsWord, AreWords};
-ghost use Rattle.fuse_spec.specs.Begins.{Beginning, faulty, parent_path};
-ghost use Rattle.fuse_spec.specs.Paths.{Name};
+ghost use Rattle.fuse_spec.specs.Calls.Begins.{Beginning, faulty, parent_path};
+ghost use Rattle.fuse_spec.specs.Calls.Paths.{Name};
 ghost use Rattle.fuse_spec.specs.declared.Opened.{Opened};
 
 use crate::words::word_at;

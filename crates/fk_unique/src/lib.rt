@@ -4,7 +4,7 @@
 #![tactic(auto)]
 
 ghost use Rattle.std.specs.Prelude.{◌≡◌, ◌+◌, ◌%◌, ◌<◌, ◌≤◌, IfSome, IsSome, ◌↔◌};
-ghost use Rattle.fuse_spec.specs.Uniques.{first_number, number_limit, numbers_left_from, interrupt_number, original_number, IsNextNumber};
+ghost use Rattle.fuse_spec.specs.Kernel.Uniques.{first_number, number_limit, numbers_left_from, interrupt_number, original_number, IsNextNumber};
 
 use fuse_spec::limits::COUNTER_END;
 use std::marker::Model;
@@ -21,7 +21,7 @@ impl Model for Uniques {
 
     ghost Value = { ℕ };
 
-    ghost use Rattle.fuse_spec.specs.Uniques.{IsNextNumber};
+    ghost use Rattle.fuse_spec.specs.Kernel.Uniques.{IsNextNumber};
 
     ghost view = { λ u. u.next };
 

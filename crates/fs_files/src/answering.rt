@@ -1,10 +1,10 @@
 //! Held requests are performed on the tree.
 
 ghost use Rattle.std.specs.Prelude.{◌≡◌, ◌≤◌, ◌^◌, IfOk, OnErr, OnOk};
-ghost use Rattle.fuse_spec.specs.Messages.{asks, release};
-ghost use Rattle.fuse_spec.specs.Nodes.{is_open, file_of};
-ghost use Rattle.fuse_spec.specs.Numbers.{max_validity};
-ghost use Rattle.fuse_spec.specs.Performs.{is_open_for, is_still_held};
+ghost use Rattle.fuse_spec.specs.Kernel.Messages.{asks, release};
+ghost use Rattle.fuse_spec.specs.Server.Nodes.{is_open, file_of};
+ghost use Rattle.fuse_spec.specs.Values.Numbers.{max_validity};
+ghost use Rattle.fuse_spec.specs.Server.Performs.{is_open_for, is_still_held};
 ghost use Rattle.fuse_spec.specs.declared.Validity.{Validity as ValidityValue};
 ghost use Rattle.fs_files.specs.Performing.{ComesTo, handles_by, handles_said, said, said_by, tree_said, tree_by};
 ghost use Rattle.fs_files.specs.Replies.{IsTellable, outcome_len, outcome_reply};

@@ -1,11 +1,11 @@
 //! The files that are served.
 
 ghost use Rattle.std.specs.Prelude.{◌≡◌, ◌≤◌, ◌<◌, ◌+◌, ◌^◌, [], nat_lt, false, OnOk, IfOk, IfSome, IfNone, None, is_some, option_map, Some};
-ghost use Rattle.fuse_spec.specs.Maps.{get};
+ghost use Rattle.fuse_spec.specs.Values.Maps.{get};
 ghost use Rattle.fuse_spec.specs.declared.Validity.{Validity as ValidityValue};
-ghost use Rattle.fuse_spec.specs.Nodes.{handle_back, handle_more, is_held, row_more, taken_back, OpenNumber};
-ghost use Rattle.fuse_spec.specs.Copies.{row_back};
-ghost use Rattle.fuse_spec.specs.Server.{count_in, is_file_held};
+ghost use Rattle.fuse_spec.specs.Server.Nodes.{handle_back, handle_more, is_held, row_more, taken_back, OpenNumber};
+ghost use Rattle.fuse_spec.specs.Server.Copies.{row_back};
+ghost use Rattle.fuse_spec.specs.Server.Server.{count_in, is_file_held};
 ghost use Rattle.fs_nodes.specs.Rows.{listed};
 ghost use Rattle.fs_nodes.specs.Sound.{IsSound};
 ghost use Rattle.fs_tree.specs.Outcomes.{only_root, without_unheld};

@@ -2,8 +2,8 @@
 
 ghost use Rattle.std.specs.Prelude.{◌≡◌, ◌≤◌, ◌<◌, ◌+◌, ◌^◌, ◌||◌, [], OnOk, nat_eq};
 ghost use Rattle.std.specs.List.{list_any};
-ghost use Rattle.fuse_spec.specs.Maps.{values};
-ghost use Rattle.fuse_spec.specs.Nodes.{HeldNode, OpenNumber};
+ghost use Rattle.fuse_spec.specs.Values.Maps.{values};
+ghost use Rattle.fuse_spec.specs.Server.Nodes.{HeldNode, OpenNumber};
 ghost use Rattle.fs_files.specs.Values.{no_nodes, no_handles};
 
 use crate::nodes::Nodes;

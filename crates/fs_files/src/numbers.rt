@@ -1,8 +1,8 @@
 //! Whether the counters have the numbers that a held request draws.
 
 ghost use Rattle.std.specs.Prelude.{◌≡◌, ◌≤◌, ◌<◌, ◌+◌, ◌^◌, ◌⊎◌, true, false, nat_le};
-ghost use Rattle.fuse_spec.specs.Messages.{asks};
-ghost use Rattle.fuse_spec.specs.Nodes.{counts_out};
+ghost use Rattle.fuse_spec.specs.Kernel.Messages.{asks};
+ghost use Rattle.fuse_spec.specs.Server.Nodes.{counts_out};
 ghost use Rattle.fuse_spec.specs.declared.Minor.{Minor as MinorValue};
 ghost use Rattle.fuse_spec.specs.declared.Validity.{Validity as ValidityValue};
 ghost use Rattle.fs_files.specs.Bounds.{AreHeldBelow};

@@ -1,11 +1,11 @@
 //! Files are told by nodes and open numbers.
 
 ghost use Rattle.std.specs.Prelude.{◌≡◌, ◌≢◌, ◌<◌, ◌≤◌, ◌+◌, ◌*◌, ◌^◌, ◌++◌, [], ℕ, All, IsTrue, List, None, Some, cond, length, map, vec_capacity};
-ghost use Rattle.fuse_spec.specs.Nodes.{IsUnheld, handle_opened};
-ghost use Rattle.fuse_spec.specs.Numbers.{max_transfer, max_validity};
-ghost use Rattle.fuse_spec.specs.Operations.{files_in_reply, files_told, first_told, opens_in_reply};
-ghost use Rattle.fuse_spec.specs.Paths.{is_dots};
-ghost use Rattle.fuse_spec.specs.Performs.{entry_for};
+ghost use Rattle.fuse_spec.specs.Server.Nodes.{IsUnheld, handle_opened};
+ghost use Rattle.fuse_spec.specs.Values.Numbers.{max_transfer, max_validity};
+ghost use Rattle.fuse_spec.specs.Files.Operations.{files_in_reply, files_told, first_told, opens_in_reply};
+ghost use Rattle.fuse_spec.specs.Calls.Paths.{is_dots};
+ghost use Rattle.fuse_spec.specs.Server.Performs.{entry_for};
 ghost use Rattle.fs_nodes.specs.Sound.{IsSound};
 ghost use Rattle.fs_tree.specs.Outcomes.{is_regular};
 ghost use Rattle.fs_files.specs.Bounds.{AreCounted, AreHeldBelow, IsThere};

@@ -4,8 +4,8 @@ ghost use Rattle.std.specs.List.{list_any};
 ghost use Rattle.std.specs.Option.{ForSome};
 ghost use Rattle.indexmap.specs.IndexMap as map;
 ghost use Rattle.indexmap.specs.IndexMap.{spare};
-ghost use Rattle.fuse_spec.specs.Maps.{get, values};
-ghost use Rattle.fuse_spec.specs.Nodes.{OpenNumber, handle_opened, handle_more, handle_back};
+ghost use Rattle.fuse_spec.specs.Values.Maps.{get, values};
+ghost use Rattle.fuse_spec.specs.Server.Nodes.{OpenNumber, handle_opened, handle_more, handle_back};
 ghost use Rattle.fs_handles.specs.Uses.{one_less};
 
 use crate::open_file::OpenFile;

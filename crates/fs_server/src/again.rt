@@ -2,10 +2,10 @@
 
 ghost use Rattle.std.specs.Prelude.{◌≡◌, ◌^◌, ◌⊎◌, ◌&&◌, false, OnErr, IfOk, IfErr, IfSome, IfNone, is_some};
 ghost use Rattle.std.specs.List.{list_all};
-ghost use Rattle.fuse_spec.specs.Maps.{get};
-ghost use Rattle.fuse_spec.specs.Nodes.{counts_out, is_held};
-ghost use Rattle.fuse_spec.specs.Copies.{handles_counted, rows_counted};
-ghost use Rattle.fuse_spec.specs.Operations.{files_in_reply, opens_in_reply};
+ghost use Rattle.fuse_spec.specs.Values.Maps.{get};
+ghost use Rattle.fuse_spec.specs.Server.Nodes.{counts_out, is_held};
+ghost use Rattle.fuse_spec.specs.Server.Copies.{handles_counted, rows_counted};
+ghost use Rattle.fuse_spec.specs.Files.Operations.{files_in_reply, opens_in_reply};
 ghost use Rattle.fuse_spec.specs.declared.Entry.{Entry as ReplyEntry};
 ghost use Rattle.fuse_spec.specs.declared.Refusal.TheVariants.{NoMemory};
 ghost use Rattle.fs_files.specs.Bounds.{AreHeldBelow, AreUsed};

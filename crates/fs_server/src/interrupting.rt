@@ -1,10 +1,10 @@
 //! INTERRUPTs are taken.
 
 ghost use Rattle.std.specs.Prelude.{◌≡◌, ◌<◌, ◌^◌, true, false, None, Some, OnErr, IfErr, IfOk};
-ghost use Rattle.fuse_spec.specs.Maps.{get, put};
-ghost use Rattle.fuse_spec.specs.Messages.{interrupt as asked};
-ghost use Rattle.fuse_spec.specs.Server.{HeldRequest as HeldState};
-ghost use Rattle.fuse_spec.specs.Taking.{taking};
+ghost use Rattle.fuse_spec.specs.Values.Maps.{get, put};
+ghost use Rattle.fuse_spec.specs.Kernel.Messages.{interrupt as asked};
+ghost use Rattle.fuse_spec.specs.Server.Server.{HeldRequest as HeldState};
+ghost use Rattle.fuse_spec.specs.Server.Taking.{taking};
 ghost use Rattle.fuse_spec.specs.declared.Taken.TheVariants.{Again as AgainWord};
 ghost use Rattle.fk_wire.specs.Requests.{interrupt as content};
 ghost use Rattle.fs_server.specs.declared.server.ServerFault.TheVariants.{Memory as MemoryFault};

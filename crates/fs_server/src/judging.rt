@@ -2,8 +2,8 @@
 
 ghost use Rattle.std.specs.Prelude.{◌≡◌, ◌↔◌, ◌||◌, true, false, None, nat_lt, not, is_some, IsTrue, IfErr, IfOk, IfNone, IfSome};
 ghost use Rattle.std.specs.List.{list_all, list_any};
-ghost use Rattle.fuse_spec.specs.Maps.{get};
-ghost use Rattle.fuse_spec.specs.Server.{count_in, forgotten, is_forgettable};
+ghost use Rattle.fuse_spec.specs.Values.Maps.{get};
+ghost use Rattle.fuse_spec.specs.Server.Server.{count_in, forgotten, is_forgettable};
 ghost use Rattle.fk_wire.specs.Pairs.{pairs_in};
 ghost use Rattle.fk_wire.specs.Requests.{request_content, request_message};
 ghost use Rattle.fuse_frames.specs.RequestTies.{body_in};

@@ -1,9 +1,9 @@
 //! The server: its state, and what is true of it.
 
 ghost use Rattle.std.specs.Prelude.{◌≡◌, ◌≤◌, false, IfOk};
-ghost use Rattle.fuse_spec.specs.Numbers.{max_validity};
-ghost use Rattle.fuse_spec.specs.Worlds.{first_server};
-ghost use Rattle.fuse_spec.specs.Copies.{connection_lost, remounted};
+ghost use Rattle.fuse_spec.specs.Values.Numbers.{max_validity};
+ghost use Rattle.fuse_spec.specs.World.Worlds.{first_server};
+ghost use Rattle.fuse_spec.specs.Server.Copies.{connection_lost, remounted};
 ghost use Rattle.fs_nodes.specs.Rows.{listed};
 ghost use Rattle.fs_server.specs.Effects.{is_past_end};
 
@@ -72,7 +72,7 @@ pub type ListServer<A = Global> = ServerOf<ListNodes<A>>;
 
 impl<S: NodeStore> Model for ServerOf<S> {
     ghost use Rattle.std.specs.Coded.{codes};
-    ghost use Rattle.fuse_spec.specs.Server.{Server as ServerState};
+    ghost use Rattle.fuse_spec.specs.Server.Server.{Server as ServerState};
     ghost use Rattle.fs_server.specs.Values.{server_with};
     ghost use Rattle.fs_server.specs.Sound.{IsSound};
 

@@ -1,8 +1,8 @@
 //! Copies are settled by the results of their writes.
 
 ghost use Rattle.std.specs.Prelude.{◌≡◌, ◌∷◌, [], OnErr, MatchResult, option_to_list};
-ghost use Rattle.fuse_spec.specs.Copies.{kept_after};
-ghost use Rattle.fuse_spec.specs.Maps.{get};
+ghost use Rattle.fuse_spec.specs.Server.Copies.{kept_after};
+ghost use Rattle.fuse_spec.specs.Values.Maps.{get};
 ghost use Rattle.fs_files.specs.Bounds.{AreNamed};
 ghost use Rattle.fs_files.specs.Replies.{sent_wire};
 ghost use Rattle.fs_server.specs.Effects.{CountsBack, GivesBack, SettlesFiles, Settles, HasNoCopy, is_of_copy};

@@ -2,8 +2,8 @@
 
 ghost use Rattle.std.specs.Prelude.{◌≡◌, ◌≤◌, ◌∷◌, [], true, false, None, nat_lt, OnErr, OnOk, IfErr, IfOk, MatchResult};
 ghost use Rattle.std.specs.List.{list_any};
-ghost use Rattle.fuse_spec.specs.Maps.{get};
-ghost use Rattle.fuse_spec.specs.Server.{count_in, forgetting, forgotten, holding};
+ghost use Rattle.fuse_spec.specs.Values.Maps.{get};
+ghost use Rattle.fuse_spec.specs.Server.Server.{count_in, forgetting, forgotten, holding};
 ghost use Rattle.fuse_spec.specs.declared.Taken.TheVariants.{Held as HeldWord};
 ghost use Rattle.fk_wire.specs.Pairs.{pairs_in};
 ghost use Rattle.fk_wire.specs.Requests.{request_content};

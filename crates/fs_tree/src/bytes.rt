@@ -1,9 +1,9 @@
 //! Reading and writing the bytes of a file.
 
 ghost use Rattle.std.specs.Prelude.{◌≡◌, ◌+◌, ◌≤◌, ◌<◌, ◌^◌, IfNone, length, take, drop, min, IfErr, OnOk, OnErr, IfOk, None, IsTrue, true, ◌↔◌};
-ghost use Rattle.fuse_spec.specs.Operations.{getattr, opening, read, write, content, attributes};
-ghost use Rattle.fuse_spec.specs.Trees.{attributes_of, overwritten};
-ghost use Rattle.fuse_spec.specs.FileOperations.{refusal, tree_unrefused};
+ghost use Rattle.fuse_spec.specs.Files.Operations.{getattr, opening, read, write, content, attributes};
+ghost use Rattle.fuse_spec.specs.Files.Trees.{attributes_of, overwritten};
+ghost use Rattle.fuse_spec.specs.Files.FileOperations.{refusal, tree_unrefused};
 ghost use Rattle.fs_tree.specs.Outcomes.{IsRefused, IsRefusedBy, IsReply, is_regular};
 
 use crate::error::TreeError;

@@ -1,9 +1,9 @@
 //! Reading a directory.
 
 ghost use Rattle.std.specs.Prelude.{◌≡◌, ◌+◌, ◌*◌, ◌/◌, ◌<◌, ◌^◌, ◌≤◌, map, length, None, IfOk, IfErr};
-ghost use Rattle.fuse_spec.specs.FileOperations.{refusal, reply_unrefused};
-ghost use Rattle.fuse_spec.specs.Operations.{files_in_reply, readdir, readdirplus, listed, listed_plus};
-ghost use Rattle.fuse_spec.specs.Paths.{is_dots};
+ghost use Rattle.fuse_spec.specs.Files.FileOperations.{refusal, reply_unrefused};
+ghost use Rattle.fuse_spec.specs.Files.Operations.{files_in_reply, readdir, readdirplus, listed, listed_plus};
+ghost use Rattle.fuse_spec.specs.Calls.Paths.{is_dots};
 ghost use Rattle.fuse_spec.specs.declared.Validity.{Validity};
 ghost use Rattle.fs_tree.specs.Outcomes.{IsRefused, IsReply};
 ghost use Rattle.fs_tree.specs.Views.{dirent_of, pair_of};

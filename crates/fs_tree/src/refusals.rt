@@ -1,9 +1,9 @@
 //! The first refusal that applies to an operation, if any.
 
 ghost use Rattle.std.specs.Prelude.{◌≡◌, ◌<◌, IfNone, length, find, Some, None};
-ghost use Rattle.fuse_spec.specs.Operations.{mkdir, unlink, rmdir, link, rename, write};
-ghost use Rattle.fuse_spec.specs.FileOperations.{refusal, first_refusal, making};
-ghost use Rattle.fuse_spec.specs.Trees.{is_at};
+ghost use Rattle.fuse_spec.specs.Files.Operations.{mkdir, unlink, rmdir, link, rename, write};
+ghost use Rattle.fuse_spec.specs.Files.FileOperations.{refusal, first_refusal, making};
+ghost use Rattle.fuse_spec.specs.Files.Trees.{is_at};
 ghost use Rattle.fs_tree.specs.Outcomes.{Refuses, replacing};
 
 use crate::bytes::fits;

@@ -3,8 +3,8 @@
 ghost use Rattle.std.specs.Prelude.{◌≡◌};
 ghost use Rattle.fk_wire.specs.Entries.{entry_content};
 ghost use Rattle.fk_wire.specs.Records.{direntplus_content};
-ghost use Rattle.fuse_spec.specs.Operations.{told_by as file_told};
-ghost use Rattle.fuse_spec.specs.Paths.{is_dots as are_dots};
+ghost use Rattle.fuse_spec.specs.Files.Operations.{told_by as file_told};
+ghost use Rattle.fuse_spec.specs.Calls.Paths.{is_dots as are_dots};
 ghost use Rattle.fuse_frames.specs.ReplyTies.{attributes_in, file_in, kind_of_mode, pair_in, valid_in};
 ghost use Rattle.fuse_frames.specs.ReplyTies.{kind_of_type as kind_told};
 ghost use Rattle.fuse_frames.specs.ReplyTies.{milliseconds as milliseconds_in};

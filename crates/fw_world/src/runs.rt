@@ -2,7 +2,7 @@
 
 ghost use Rattle.std.specs.Prelude.{◌≡◌, ◌+◌, ◌*◌, ◌<◌, ◌≤◌, ◌++◌, ◌∷◌, [], false, List, IsTrue, IfErr, IfNone, IfSome, OnErr, ◌^◌, length, map};
 ghost use Rattle.std.specs.Vec.{vec_len, vec_capacity};
-ghost use Rattle.fuse_spec.specs.Records.{answers_of, collected};
+ghost use Rattle.fuse_spec.specs.World.Records.{answers_of, collected};
 ghost use Rattle.fuse_theorem.specs.Recorded.{Recorded};
 ghost use Rattle.fw_world.specs.declared.record.Record.{Record as RecordValue};
 ghost use Rattle.fw_world.specs.Values.{event_of, record_of};

@@ -2,13 +2,13 @@
 
 ghost use Rattle.std.specs.Prelude.{◌≡◌, ◌≤◌, ◌<◌, ◌++◌, ◌∷◌, [], ℕ, List, true, false, OnErr, IfOk, IfErr, IfNone, IfSome, length, option_map, slice_get};
 ghost use Rattle.std.specs.Vec.{vec_len, vec_capacity};
-ghost use Rattle.fuse_spec.specs.Events as event;
-ghost use Rattle.fuse_spec.specs.Maps.{remove};
-ghost use Rattle.fuse_spec.specs.Steps.{Happens, is_past, IsRefused, RefusedWith};
-ghost use Rattle.fuse_spec.specs.Worlds.{World as WorldState, first_world};
-ghost use Rattle.fuse_spec.specs.Counts.{Keeps};
-ghost use Rattle.fuse_spec.specs.Plain.{Plain, first_plain};
-ghost use Rattle.fuse_spec.specs.Runs.{Refines, plain_handed_out};
+ghost use Rattle.fuse_spec.specs.World.Events as event;
+ghost use Rattle.fuse_spec.specs.Values.Maps.{remove};
+ghost use Rattle.fuse_spec.specs.World.Steps.{Happens, is_past, IsRefused, RefusedWith};
+ghost use Rattle.fuse_spec.specs.World.Worlds.{World as WorldState, first_world};
+ghost use Rattle.fuse_spec.specs.Claim.Counts.{Keeps};
+ghost use Rattle.fuse_spec.specs.Reference.Plain.{Plain, first_plain};
+ghost use Rattle.fuse_spec.specs.Claim.Runs.{Refines, plain_handed_out};
 ghost use Rattle.fuse_spec.specs.declared.Refusal.TheVariants.{NoMemory};
 ghost use Rattle.fuse_theorem.specs.Reached.{IsReached};
 ghost use Rattle.fk_syscalls.specs.Values.{call_of, answer_of};
@@ -67,7 +67,7 @@ pub type ListWorldIn<A = Global> = WorldOf<Lists<A>>;
 
 impl<T: Tables> Model for WorldOf<T> {
     ghost use Rattle.std.specs.Coded.{codes};
-    ghost use Rattle.fuse_spec.specs.Worlds.{World as WorldState};
+    ghost use Rattle.fuse_spec.specs.World.Worlds.{World as WorldState};
     ghost use Rattle.fuse_theorem.specs.Reached.{IsReached};
 
     ghost Value = { WorldState };

@@ -2,8 +2,8 @@
 
 ghost use Rattle.std.specs.Prelude.{◌≡◌, [], IfNone, IfSome, Some};
 ghost use Rattle.fuse_frames.specs.RequestTies.{IsRequestFrame};
-ghost use Rattle.fuse_spec.specs.Messages.{Request};
-ghost use Rattle.fuse_spec.specs.Worlds.{Sent};
+ghost use Rattle.fuse_spec.specs.Kernel.Messages.{Request};
+ghost use Rattle.fuse_spec.specs.World.Worlds.{Sent};
 ghost use Rattle.fw_world.specs.Frames.{IsCopyFrame};
 ghost use Rattle.fw_world.specs.Sends.{last_of};
 

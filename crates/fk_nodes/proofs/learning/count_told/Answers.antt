@@ -1,6 +1,6 @@
 use Rattle.std.proofs.Common.{◌≡◌, true, ap, sym}
 use Rattle.std.specs.Prelude.{is_some}
-use Rattle.fuse_spec.specs.Maps.{get}
+use Rattle.fuse_spec.specs.Values.Maps.{get}
 use Rattle.fk_lookup_count.specs.CountedNodes.{generation_at}
 use Rattle.fk_nodes.proofs.Counts.{one_more, as_many}
 use Rattle.fk_nodes.proofs.learning.count_told.Goals as goal

@@ -1,6 +1,6 @@
 use Rattle.std.proofs.Common.{sym, ap, ◌∙◌, arith}
 use Rattle.std.specs.Prelude.{option_map}
-use Rattle.fuse_spec.specs.Maps.{Map, get, remove}
+use Rattle.fuse_spec.specs.Values.Maps.{Map, get, remove}
 use Rattle.fuse_spec.specs.declared.Counted.{Counted}
 use Rattle.fk_lookup_count.specs.declared.forget.Forget.{Forget}
 use Rattle.fk_nodes.proofs.Lengths.{length_kept}

@@ -1,5 +1,5 @@
 use Rattle.std.proofs.Common.{◌∙◌}
-use Rattle.fuse_spec.specs.Maps.{get}
+use Rattle.fuse_spec.specs.Values.Maps.{get}
 use Rattle.fk_nodes.proofs.Counts.{generation_is}
 use Rattle.fk_nodes.proofs.counted_nodes.CountedNodes.generation_of.Goals as goal
 

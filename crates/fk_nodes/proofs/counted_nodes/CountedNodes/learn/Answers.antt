@@ -1,8 +1,8 @@
 use Rattle.std.proofs.Common.{sym, ap, ◌∙◌, ◌≡◌, true, ◌∷◌, [], rules, refl, ◌+◌}
 use Rattle.std.specs.Prelude.{is_some}
-use Rattle.fuse_spec.specs.Maps.{Map, get}
+use Rattle.fuse_spec.specs.Values.Maps.{Map, get}
 use Rattle.fuse_spec.specs.declared.Counted.{Counted}
-use Rattle.fuse_spec.specs.Replies as replies
+use Rattle.fuse_spec.specs.Kernel.Replies as replies
 use Rattle.fk_lookup_count.specs.CountedNodes.{generation_at, learnt}
 use Rattle.fk_nodes.proofs.Counts.{learnt_is, one_more, as_many, not_unlike}
 use Rattle.fk_nodes.proofs.counted_nodes.CountedNodes.learn.Goals as goal

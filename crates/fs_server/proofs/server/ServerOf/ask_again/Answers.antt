@@ -1,6 +1,6 @@
 use Rattle.std.proofs.Common.{refl}
-use Rattle.fuse_spec.specs.Numbers.{eagain}
-use Rattle.fuse_spec.specs.Operations.{failed}
+use Rattle.fuse_spec.specs.Values.Numbers.{eagain}
+use Rattle.fuse_spec.specs.Files.Operations.{failed}
 use Rattle.fs_server.proofs.Stays.{sent_again}
 use Rattle.fs_server.proofs.server.ServerOf.ask_again.Goals as goal
 

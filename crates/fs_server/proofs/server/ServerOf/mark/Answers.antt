@@ -1,7 +1,7 @@
 use Rattle.std.proofs.Common.{◌≡◌, true, Some, sym, ap, ◌∙◌}
 use Rattle.std.proofs.lemmas.Option.{none-some, same_Some}
-use Rattle.fuse_spec.specs.Maps.{get, put}
-use Rattle.fuse_spec.specs.Server.{HeldRequest}
+use Rattle.fuse_spec.specs.Values.Maps.{get, put}
+use Rattle.fuse_spec.specs.Server.Server.{HeldRequest}
 use Rattle.fuse_spec.proofs.Tables.{get_gone_here}
 use Rattle.fs_server.specs.Values.{server_with}
 use Rattle.fs_server.proofs.Marked.{put_gone}

@@ -1,6 +1,6 @@
 use Rattle.std.proofs.Common.{rules, ◌≡◌, ◌≤◌, ◌^◌, false, Some, sym, ap, subst, ◌∙◌, refl, arith}
-use Rattle.fuse_spec.specs.Maps.{get}
-use Rattle.fuse_spec.specs.Server.{Server}
+use Rattle.fuse_spec.specs.Values.Maps.{get}
+use Rattle.fuse_spec.specs.Server.Server.{Server}
 use Rattle.fs_files.specs.Bounds.{AreHeldBelow}
 use Rattle.fs_files.specs.Replies.{outcome_names, outcome_reply, sent_len, sent_names}
 use Rattle.fs_files.specs.Performing.{handles_said, tree_said}

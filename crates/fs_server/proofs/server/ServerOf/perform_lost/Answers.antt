@@ -1,5 +1,5 @@
 use Rattle.std.proofs.Common.{rules, ◌≡◌, true, Some, ◌∙◌}
-use Rattle.fuse_spec.specs.Maps.{get}
+use Rattle.fuse_spec.specs.Values.Maps.{get}
 use Rattle.fs_files.specs.Replies.{outcome_reply}
 use Rattle.fs_server.proofs.Served.{counts_of, numbers_of, performs_lost}
 use Rattle.fs_server.proofs.Outcomes.{errno_said}

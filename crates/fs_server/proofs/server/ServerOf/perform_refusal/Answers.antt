@@ -1,5 +1,5 @@
 use Rattle.std.proofs.Common.{rules, ◌≡◌, ◌<◌, ◌^◌, false, true≢false, Some, None, sym, ◌∙◌}
-use Rattle.fuse_spec.specs.Maps.{get}
+use Rattle.fuse_spec.specs.Values.Maps.{get}
 use Rattle.fs_server.specs.Effects.{not_held}
 use Rattle.fs_server.proofs.Served.{can, lacking, no_copy}
 use Rattle.fs_server.proofs.server.ServerOf.perform_refusal.Goals.{else-not-self-via-then-not-self+else-self-ge-COUNTER_END, else-not-self-via-else-not-self}

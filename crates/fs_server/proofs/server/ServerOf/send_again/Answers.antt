@@ -1,5 +1,5 @@
 use Rattle.std.proofs.Common.{rules, ◌≡◌, Some}
-use Rattle.fuse_spec.specs.Maps.{get}
+use Rattle.fuse_spec.specs.Values.Maps.{get}
 use Rattle.fs_files.specs.Replies.{sent_wire}
 use Rattle.fs_server.proofs.Copied.{counts_so}
 use Rattle.fs_server.proofs.Stays.{sent_again, used_most}

@@ -1,5 +1,5 @@
 use Rattle.std.proofs.Common.{◌≡◌, Some, sym, refl, ◌∙◌}
-use Rattle.fuse_spec.specs.Maps.{get}
+use Rattle.fuse_spec.specs.Values.Maps.{get}
 use Rattle.fuse_tables.proofs.Rows.{absent_is}
 use Rattle.fs_files.specs.Replies.{sent_wire}
 use Rattle.fs_server.proofs.Copied.{settles}

@@ -1,5 +1,5 @@
 use Rattle.std.proofs.Common.{refl, sym, ◌∙◌}
-use Rattle.fuse_spec.specs.Events as event
+use Rattle.fuse_spec.specs.World.Events as event
 use Rattle.fs_server.specs.Effects.{RefusesAgain, CanSendAgain}
 use Rattle.fw_world.proofs.Parts.{world_of, has_room}
 use Rattle.fw_world.proofs.Made.{copied}

@@ -1,5 +1,5 @@
 use Rattle.std.proofs.Common.{refl, sym}
-use Rattle.fuse_spec.specs.Events as event
+use Rattle.fuse_spec.specs.World.Events as event
 use Rattle.fk_syscalls.specs.Values.{call_of}
 use Rattle.fk_kernel.specs.Refused.{begin_refusal}
 use Rattle.fw_world.proofs.Parts.{world_of}

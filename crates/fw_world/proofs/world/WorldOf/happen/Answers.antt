@@ -1,4 +1,4 @@
-use Rattle.fuse_spec.specs.Events as event
+use Rattle.fuse_spec.specs.World.Events as event
 use Rattle.fw_world.proofs.Parts.{world_of}
 use Rattle.fw_world.proofs.Refusing.{refused_with}
 use Rattle.fw_world.proofs.world.WorldOf.happen.Goals as goal

@@ -1,4 +1,4 @@
-use Rattle.fuse_theorem.proofs.Refining.{kept}
+use Rattle.fuse_theorem.proofs.Refining.Refining.{kept}
 use Rattle.fw_world.proofs.Parts.{world_of}
 use Rattle.fw_world.proofs.world.WorldOf.keeps_protocol.Goals as goal
 

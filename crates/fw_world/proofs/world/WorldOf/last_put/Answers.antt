@@ -1,5 +1,5 @@
 use Rattle.std.proofs.Common.{option_copied, ap, sym, ◌∙◌}
-use Rattle.fuse_spec.specs.Worlds.{World}
+use Rattle.fuse_spec.specs.World.Worlds.{World}
 use Rattle.fw_world.proofs.LastFrames.{last_request, last_copy, copy_frame}
 use Rattle.fw_world.proofs.world.WorldOf.last_put.Goals as goal
 

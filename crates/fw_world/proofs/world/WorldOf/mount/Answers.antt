@@ -1,4 +1,4 @@
-use Rattle.fuse_spec.specs.Events as event
+use Rattle.fuse_spec.specs.World.Events as event
 use Rattle.fk_kernel.specs.Refused.{mount_refusal}
 use Rattle.fw_world.proofs.Parts.{world_of}
 use Rattle.fw_world.proofs.Made.{mounted, day_at_most}

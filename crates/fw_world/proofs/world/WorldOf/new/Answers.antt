@@ -1,11 +1,11 @@
 use Rattle.std.proofs.Common.{sym, subst}
-use Rattle.fuse_spec.specs.Worlds.{World, first_world}
-use Rattle.fuse_spec.specs.Plain.{first_plain}
-use Rattle.fuse_spec.specs.Runs.{Refines}
-use Rattle.fuse_theorem.proofs.First.{first_alike}
-use Rattle.fuse_theorem.proofs.PlainAsks.{first_served}
+use Rattle.fuse_spec.specs.World.Worlds.{World, first_world}
+use Rattle.fuse_spec.specs.Reference.Plain.{first_plain}
+use Rattle.fuse_spec.specs.Claim.Runs.{Refines}
+use Rattle.fuse_theorem.proofs.Refining.First.{first_alike}
+use Rattle.fuse_theorem.proofs.PlainWorld.PlainAsks.{first_served}
 use Rattle.fuse_theorem.specs.Reached.{IsReached}
-use Rattle.fuse_theorem.proofs.ReachedWorlds.{first_reached}
+use Rattle.fuse_theorem.proofs.WholeLists.ReachedWorlds.{first_reached}
 use Rattle.fw_world.proofs.Parts.{is_made}
 use Rattle.fw_world.proofs.world.WorldOf.new.Goals as goal
 

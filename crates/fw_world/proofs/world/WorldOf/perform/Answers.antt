@@ -1,6 +1,6 @@
 use Rattle.std.proofs.Common.{refl, sym, ◌∙◌}
 use Rattle.fw_world.proofs.Parts.{world_of, has_room}
-use Rattle.fuse_spec.specs.Events as event
+use Rattle.fuse_spec.specs.World.Events as event
 use Rattle.fs_server.specs.Effects.{RefusesHeld}
 use Rattle.fw_world.proofs.Made.{lost, performed}
 use Rattle.fw_world.proofs.Refusing.{perform_refused}

@@ -1,8 +1,8 @@
 use Rattle.std.proofs.Common.{refl, ap, sym, subst, ◌∙◌}
 use Rattle.std.specs.Option.{unwrap_or}
-use Rattle.fuse_spec.specs.Events as event
-use Rattle.fuse_spec.specs.Steps.{Happens, RefusedWith}
-use Rattle.fuse_spec.specs.Worlds.{World}
+use Rattle.fuse_spec.specs.World.Events as event
+use Rattle.fuse_spec.specs.World.Steps.{Happens, RefusedWith}
+use Rattle.fuse_spec.specs.World.Worlds.{World}
 use Rattle.fuse_spec.specs.declared.Refusal.TheVariants.{NoMemory}
 use Rattle.fk_kernel.specs.RefusedSignals.{read_interrupt_refusal}
 use Rattle.fw_world.proofs.Parts.{world_of}

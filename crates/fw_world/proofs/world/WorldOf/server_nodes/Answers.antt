@@ -1,5 +1,5 @@
 use Rattle.std.proofs.Common.{ap, ◌∙◌}
-use Rattle.fuse_spec.specs.Worlds.{World}
+use Rattle.fuse_spec.specs.World.Worlds.{World}
 use Rattle.fw_world.specs.Values.{held_nodes}
 use Rattle.fw_world.proofs.world.WorldOf.server_nodes.Goals as goal
 
