@@ -2,6 +2,7 @@
 #![tactic(auto)]
 
 mod arguments;
+mod digits;
 mod form;
 mod frame;
 mod hex_text;
