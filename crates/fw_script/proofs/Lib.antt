@@ -1,6 +1,7 @@
 pub mod Hexes
 pub mod Mounts
 pub mod Decimals
+pub mod Names
 pub mod Numbering
 pub mod Splitting
 pub mod Statuses

@@ -1,6 +1,6 @@
 //! Records as the lines that are printed.
 
-ghost use Rattle.std.specs.Prelude.{◌≡◌, ◌++◌, OnOk, codes, decimal, flat_map, map, option_copied};
+ghost use Rattle.std.specs.Prelude.{◌≡◌, ◌++◌, ◌↔◌, All, IsTrue, OnOk, codes, decimal, flat_map, map, option_copied};
 ghost use Rattle.std.specs.Io.KnownBytes.{Appends};
 ghost use Rattle.fw_script.specs.Records.{answer_text, answer_words, attributes_words, event_text, frame_text, listed_words, record_text, refusal_name, refusal_number, shown_byte};
 
@@ -23,10 +23,20 @@ fn shown(byte: u8) -> u8
     }
 }
 
+/// Whether each byte of a name is printed as it is.
+fn is_shown_as_is(name: &[u8]) -> bool
+    ensures { IsTrue result ↔ All (λ byte. shown_byte byte ≡ byte) name.now }
+{
+    name.iter().all(|byte| shown(*byte) == *byte)
+}
+
 /// Writes a name.
 fn write_name<W: Write>(out: &mut W, name: &[u8]) -> io::Result<()>
     ensures { OnOk result (Appends (W.contents out.old) (W.contents out.new) (map shown_byte name.now)) }
 {
+    if is_shown_as_is(name) {
+        return out.write_all(name);
+    }
     for byte in name {
         out.write_all(&[shown(*byte)])?;
     }
