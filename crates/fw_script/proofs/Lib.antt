@@ -1,4 +1,5 @@
 pub mod Hexes
+pub mod Digits
 pub mod Mounts
 pub mod Decimals
 pub mod Names

@@ -18,12 +18,23 @@ pub enum HexFault {
     NoMemory,
 }
 
-/// Whether a text is made of lower-case hex digits.
+/// Whether a byte is a lower-case hex digit.
+fn is_lower_digit(byte: u8) -> bool
+    ensures { IsTrue result ↔ IsLowerDigit byte }
+{
+    matches!(byte, b'0'..=b'9' | b'a'..=b'f')
+}
+
+/// Whether a text is made of lower-case hex digits. It has no way out before the end, so that many bytes are tested at
+/// once.
 fn is_lower_hex(text: &[u8]) -> bool
     ensures { IsTrue result ↔ All IsLowerDigit text.now }
 {
-    text.iter()
-        .all(|byte| matches!(*byte, b'0'..=b'9' | b'a'..=b'f'))
+    let mut is_hex = true;
+    for byte in text {
+        is_hex &= is_lower_digit(*byte);
+    }
+    is_hex
 }
 
 /// Whether a text is one or more pairs of lower-case hex digits.
