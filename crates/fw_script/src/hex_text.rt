@@ -1,8 +1,8 @@
 //! Bytes as lower-case hex, two digits a byte.
 
-ghost use Rattle.std.specs.Prelude.{◌≡◌, ◌↔◌, ◌≤◌, ℕ, List, All, Err, IfOk, IsTrue, OnOk, length};
+ghost use Rattle.std.specs.Prelude.{◌≡◌, ◌↔◌, ◌<◌, ◌≤◌, ◌*◌, ℕ, List, All, Err, IfOk, IsTrue, OnOk, length, slice_index};
 ghost use Rattle.std.specs.Io.KnownBytes.{Appends};
-ghost use Rattle.hex.specs.Hex.{IsBytes, encode_lower};
+ghost use Rattle.hex.specs.Hex.{IsBytes, encode_lower, lower_digits};
 ghost use Rattle.fw_script.specs.HexTexts.{IsHex, IsHexOrNone, IsLowerDigit, SpellsHex, hex_or_none};
 ghost use Rattle.fw_script.specs.declared.hex_text.HexFault.TheVariants.{BadHex, NoMemory};
 
@@ -66,6 +66,29 @@ pub fn read_hex<A: Allocator>(alloc: A, text: &[u8]) -> Result<Vec<u8, A>, HexFa
     }
 }
 
+/// The value of a digit.
+fn digit_value(digit: u8) -> u8
+    requires { IsLowerDigit digit }
+    ensures value { slice_index lower_digits result ≡ digit }
+    ensures fits { result < 16 }
+{
+    if digit <= b'9' {
+        return digit - 48;
+    }
+    digit - 87
+}
+
+/// Reads the byte of each pair of digits.
+fn decode(bytes: &mut [u8], text: &[u8])
+    requires digits { All IsLowerDigit text.now }
+    requires pairs { length text.now ≡ 2 * length bytes.old }
+    ensures { text.now ≡ encode_lower bytes.new }
+{
+    for i in 0..bytes.len() {
+        bytes[i] = 16 * digit_value(text[2 * i]) + digit_value(text[2 * i + 1]);
+    }
+}
+
 /// Reads the bytes of a text, which may be `-` for none, in place of those that stood there.
 pub(crate) fn read_hex_or_none<A: Allocator>(
     bytes: &mut Vec<u8, A>,
@@ -79,7 +102,7 @@ pub(crate) fn read_hex_or_none<A: Allocator>(
         return Ok(());
     }
     bytes.resize(text.len() / 2, 0)?;
-    let _decoded = hex::decode_to_slice(text, bytes.as_mut_slice());
+    decode(bytes.as_mut_slice(), text);
     Ok(())
 }
 
