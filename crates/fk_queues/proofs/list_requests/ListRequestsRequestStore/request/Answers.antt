@@ -13,6 +13,6 @@ returns-in_err-place g c =
 pub returns : goal.returns
 returns g c =
     let es = c.args.self.now.requests.items in
-    let d = c.index-requests-place.result in
+    let d = c.index.result in
     let at : position (λ e. nat_eq c.args.unique e.0) es ≡ Some c.in_ok-place.place = search rules in
     sym (lookup-first c.args.unique d es c.in_ok-place.place (is_first-position c.args.unique d es c.in_ok-place.place at))
