@@ -39,7 +39,8 @@ pub use table::QueueTable;
 /// | `reserve` | nothing where the room is there, else a copy of what grows |
 /// | `abort` | `n` steps, and one for each forget |
 ///
-/// A place among the pending requests is a promise of the contract, so a request that ends leaves no hole: that is what moves.
+/// A place among the pending requests is a promise of the contract, so a request that ends leaves no hole: that is
+/// what moves.
 pub type Queues<W, A = Global> = QueuesOf<MapRequests<W, A>>;
 
 /// The queues, with their requests in a list. A look-up by number goes over the requests.

@@ -12,7 +12,8 @@ use std::alloc::{AllocError, Allocator};
 
 /// Requests under their numbers, read or not, in order of queuing.
 ///
-/// Under a number or at a place that has no such request, a call gives `None` and changes nothing. Only `reserve` takes memory.
+/// Under a number or at a place that has no such request, a call gives `None` and changes nothing. Only
+/// `reserve` takes memory.
 pub trait RequestStore {
     /// Where the room comes from.
     type Heap: Allocator + Copy;
