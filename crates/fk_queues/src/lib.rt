@@ -41,7 +41,7 @@ pub use table::QueueTable;
 ///
 /// A place among the pending requests is a promise of the contract, so a request that ends leaves no hole: that is
 /// what moves.
-pub type Queues<W, A = Global> = QueuesOf<MapRequests<W, A>>;
+pub type Queues<W, A = Global> = QueuesOf<W, MapRequests<W, A>>;
 
 /// The queues, with their requests in a list. A look-up by number goes over the requests.
-pub type ListQueues<W, A = Global> = QueuesOf<ListRequests<W, A>>;
+pub type ListQueues<W, A = Global> = QueuesOf<W, ListRequests<W, A>>;

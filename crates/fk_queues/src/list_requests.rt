@@ -14,10 +14,8 @@ pub struct ListRequests<W, A: Allocator = Global> {
     requests: Vec<(u64, QueuedRequest<W>), A>,
 }
 
-impl<W: Drop, A: Allocator + Copy> RequestStore for ListRequests<W, A> {
+impl<W: Drop, A: Allocator + Copy> RequestStore<W> for ListRequests<W, A> {
     type Heap = A;
-
-    type Kept = W;
 
     ghost entries = { λ s. s.requests.items };
 

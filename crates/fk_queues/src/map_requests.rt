@@ -19,10 +19,8 @@ pub struct MapRequests<W, A: Allocator = Global> {
     requests: IndexMap<u64, QueuedRequest<W>, Builder, A>,
 }
 
-impl<W: Drop, A: Allocator + Copy> RequestStore for MapRequests<W, A> {
+impl<W: Drop, A: Allocator + Copy> RequestStore<W> for MapRequests<W, A> {
     type Heap = A;
-
-    type Kept = W;
 
     ghost entries = { λ s. s.requests.entries };
 

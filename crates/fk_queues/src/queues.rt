@@ -13,14 +13,16 @@ use crate::request_store::RequestStore;
 use crate::table::QueueTable;
 use fk_unique::Uniques;
 use fuse_spec::{IntrEffect, Mark};
+use std::marker::PhantomData;
 
 /// The queues: requests in a store, INTERRUPTs and forgets in lists, and the coming number.
 #[derive(Drop)]
-pub struct QueuesOf<S: RequestStore> {
+pub struct QueuesOf<W: Drop, S: RequestStore<W>> {
     requests: S,
     interrupts: InterruptList<S::Heap>,
     forgets: ForgetList<S::Heap>,
     uniques: Uniques,
+    kept: PhantomData<W>,
     ghost sound: { IsSound (record {
       requests = S.entries requests;
       interrupts = interrupts.numbers.items;
@@ -31,7 +33,7 @@ pub struct QueuesOf<S: RequestStore> {
     ghost fits: { length (S.entries requests) ≤ vec_capacity interrupts.numbers },
 }
 
-impl<S: RequestStore> QueuesOf<S> {
+impl<W: Drop, S: RequestStore<W>> QueuesOf<W, S> {
     /// The mark of the request under a number.
     fn mark_under(&self, unique: u64) -> Option<Mark>
         ensures { result ≡ option_map (λ r. r.mark) (lookup (nat_eq unique) (S.entries self.now.requests)) }
@@ -41,7 +43,7 @@ impl<S: RequestStore> QueuesOf<S> {
     }
 }
 
-impl<S: RequestStore> QueueTable<S::Kept> for QueuesOf<S> {
+impl<W: Drop, S: RequestStore<W>> QueueTable<W> for QueuesOf<W, S> {
     type Heap = S::Heap;
 
     ghost state = { λ q. record {
@@ -63,6 +65,7 @@ impl<S: RequestStore> QueueTable<S::Kept> for QueuesOf<S> {
             interrupts: InterruptList::new(alloc),
             forgets: ForgetList::new(alloc),
             uniques: Uniques::new(),
+            kept: PhantomData,
         }
     }
 
@@ -80,7 +83,7 @@ impl<S: RequestStore> QueueTable<S::Kept> for QueuesOf<S> {
         self.uniques.numbers_left()
     }
 
-    fn enqueue(&mut self, kept: S::Kept) -> u64 {
+    fn enqueue(&mut self, kept: W) -> u64 {
         let unique = self.uniques.next().unwrap();
         self.requests.push(unique, kept);
         unique
@@ -90,7 +93,7 @@ impl<S: RequestStore> QueueTable<S::Kept> for QueuesOf<S> {
         self.forgets.push(node, count);
     }
 
-    fn pending(&self, place: usize) -> Option<(u64, &S::Kept)> {
+    fn pending(&self, place: usize) -> Option<(u64, &W)> {
         let (unique, request) = self.requests.pending(place)?;
         Some((unique, &request.kept))
     }
@@ -136,12 +139,12 @@ impl<S: RequestStore> QueueTable<S::Kept> for QueuesOf<S> {
         self.requests.len()
     }
 
-    fn request_at(&self, place: usize) -> Option<(u64, &S::Kept)> {
+    fn request_at(&self, place: usize) -> Option<(u64, &W)> {
         let (unique, request) = self.requests.request_at(place)?;
         Some((unique, &request.kept))
     }
 
-    fn waiting(&self, unique: u64) -> Option<&S::Kept> {
+    fn waiting(&self, unique: u64) -> Option<&W> {
         let request = self.requests.request(unique)?;
         match request.mark {
             Mark::Unread | Mark::Flagged => None,
@@ -149,7 +152,7 @@ impl<S: RequestStore> QueueTable<S::Kept> for QueuesOf<S> {
         }
     }
 
-    fn answer(&mut self, unique: u64) -> Option<S::Kept> {
+    fn answer(&mut self, unique: u64) -> Option<W> {
         if self.waiting(unique).is_none() {
             return None;
         }

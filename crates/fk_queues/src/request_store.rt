@@ -10,19 +10,16 @@ ghost use Rattle.fuse_spec.specs.QueueCalls.{set_mark};
 use fuse_spec::{Mark, QueuedRequest};
 use std::alloc::{AllocError, Allocator};
 
-/// Requests under their numbers, read or not, in order of queuing.
+/// Requests under their numbers, read or not, in order of queuing. `W` is what the kernel keeps of a request.
 ///
 /// Under a number or at a place that has no such request, a call gives `None` and changes nothing. Only
 /// `reserve` takes memory.
-pub trait RequestStore {
+pub trait RequestStore<W: Drop> {
     /// Where the room comes from.
     type Heap: Allocator + Copy;
 
-    /// What the kernel keeps of a request.
-    type Kept: Drop;
-
     /// The requests in order of queuing, each under its number.
-    ghost entries: { Self → List (ℕ × QueuedRequest Self.Kept) };
+    ghost entries: { Self → List (ℕ × QueuedRequest W) };
 
     /// How many more requests can be pushed with no memory.
     ghost room: { Self → ℕ };
@@ -46,19 +43,19 @@ pub trait RequestStore {
         ensures room { room self.old ≤ room self.new };
 
     /// The request at a place in order of queuing, counted from 0, and its number.
-    fn request_at(&self, place: usize) -> Option<(u64, &QueuedRequest<Self::Kept>)>
+    fn request_at(&self, place: usize) -> Option<(u64, &QueuedRequest<W>)>
         ensures { option_map (λ p. (p.0, p.1.now)) result ≡ slice_get (entries self.now) place };
 
     /// The request at a place among those that were not read, and its number.
-    fn pending(&self, place: usize) -> Option<(u64, &QueuedRequest<Self::Kept>)>
+    fn pending(&self, place: usize) -> Option<(u64, &QueuedRequest<W>)>
         ensures { option_map (λ p. (p.0, p.1.now)) result ≡ slice_get (filter (λ e. is_unread e.1.mark) (entries self.now)) place };
 
     /// The request under a number.
-    fn request(&self, unique: u64) -> Option<&QueuedRequest<Self::Kept>>
+    fn request(&self, unique: u64) -> Option<&QueuedRequest<W>>
         ensures { option_copied result ≡ lookup (nat_eq unique) (entries self.now) };
 
     /// Puts an unread request last, under a number that has none.
-    fn push(&mut self, unique: u64, kept: Self::Kept)
+    fn push(&mut self, unique: u64, kept: W)
         requires room { 0 < room self.old }
         requires absent { lookup (nat_eq unique) (entries self.old) ≡ None }
         ensures entries { entries self.new ≡ entries self.old ++ (unique, record { mark = Unread; kept = kept }) ∷ [] }
@@ -71,7 +68,7 @@ pub trait RequestStore {
         ensures room { room self.old ≤ room self.new };
 
     /// Takes out the request under a number. The others keep their order.
-    fn take(&mut self, unique: u64) -> Option<QueuedRequest<Self::Kept>>
+    fn take(&mut self, unique: u64) -> Option<QueuedRequest<W>>
         ensures value { result ≡ lookup (nat_eq unique) (entries self.old) }
         ensures entries { entries self.new ≡ remove_entry (nat_eq unique) (entries self.old) }
         ensures len { length (entries self.new) ≤ length (entries self.old) }

@@ -1,7 +1,7 @@
 use Rattle.std.proofs.Common.{◌≡◌, ◌+◌, rules}
 use Rattle.fuse_spec.specs.Queues.{QueueState}
 use Rattle.fuse_spec.proofs.QueueSoundness.{IsSound-enqueue, lookup-next}
-use Rattle.fk_queues.proofs.queues.QueuesOfQueueTableKept.enqueue.Goals as goal
+use Rattle.fk_queues.proofs.queues.QueuesOfQueueTable.enqueue.Goals as goal
 
 pub push-requires-clause-absent : goal.push-requires-clause-absent
 push-requires-clause-absent g c =

@@ -2,7 +2,7 @@ use Rattle.std.proofs.Common.{◌≡◌, ◌≤◌, rules, arith, true, Some, le
 use Rattle.fuse_spec.specs.declared.Mark.TheVariants.{Unread, Flagged, Read}
 use Rattle.fuse_spec.specs.Queues.{QueueState, mark_under, is_unread}
 use Rattle.fuse_spec.proofs.QueueSoundness.{interrupts-lt-requests, none_queued, IsSound-dequeue, IsSound-mark, IsSound-mark_interrupted, has_interrupt-unread}
-use Rattle.fk_queues.proofs.queues.QueuesOfQueueTableKept.interrupt.Goals as goal
+use Rattle.fk_queues.proofs.queues.QueuesOfQueueTable.interrupt.Goals as goal
 
 pub invariant_of-self-clause-sound : goal.invariant_of-self-clause-sound
 invariant_of-self-clause-sound g c =

@@ -3,7 +3,7 @@ use Rattle.std.specs.List.{list_any}
 use Rattle.fuse_spec.specs.declared.Mark.TheVariants.{Interrupted}
 use Rattle.fuse_spec.specs.Queues.{QueueState, mark_under}
 use Rattle.fuse_spec.proofs.QueueSoundness.{count_by-absent, interrupts-lt-requests, is_interrupted-marked, IsSound-interrupt}
-use Rattle.fk_queues.proofs.queues.QueuesOfQueueTableKept.again.Goals as goal
+use Rattle.fk_queues.proofs.queues.QueuesOfQueueTable.again.Goals as goal
 
 pub push-requires : goal.push-requires
 push-requires g c =

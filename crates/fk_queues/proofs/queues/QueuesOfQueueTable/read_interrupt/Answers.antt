@@ -1,6 +1,6 @@
 use Rattle.fuse_spec.specs.Queues.{QueueState}
 use Rattle.fuse_spec.proofs.QueueSoundness.{IsSound-read_interrupt}
-use Rattle.fk_queues.proofs.queues.QueuesOfQueueTableKept.read_interrupt.Goals as goal
+use Rattle.fk_queues.proofs.queues.QueuesOfQueueTable.read_interrupt.Goals as goal
 
 pub invariant_of-self-clause-sound : goal.invariant_of-self-clause-sound
 invariant_of-self-clause-sound g c =

@@ -2,7 +2,7 @@ use Rattle.std.proofs.Common.{◌≡◌, ◌≤◌, ◌∙◌, rules, arith, ap,
 use Rattle.fuse_spec.specs.declared.Mark.TheVariants.{Unread, Flagged, Read}
 use Rattle.fuse_spec.specs.Queues.{QueueState, pending, mark_under}
 use Rattle.fuse_spec.proofs.QueueSoundness.{interrupts-lt-requests, none_queued, IsSound-mark, IsSound-mark_interrupted, mark_under-pending}
-use Rattle.fk_queues.proofs.queues.QueuesOfQueueTableKept.read_pending.Goals as goal
+use Rattle.fk_queues.proofs.queues.QueuesOfQueueTable.read_pending.Goals as goal
 
 pub invariant_of-self-clause-sound : goal.invariant_of-self-clause-sound
 invariant_of-self-clause-sound g c =

@@ -1,6 +1,6 @@
 use Rattle.fuse_spec.specs.Queues.{QueueState}
 use Rattle.fuse_spec.proofs.QueueSoundness.{IsSound-without}
-use Rattle.fk_queues.proofs.queues.QueuesOfQueueTableKept.answer.Goals as goal
+use Rattle.fk_queues.proofs.queues.QueuesOfQueueTable.answer.Goals as goal
 
 pub invariant_of-self-clause-sound : goal.invariant_of-self-clause-sound
 invariant_of-self-clause-sound g c =
