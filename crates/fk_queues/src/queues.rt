@@ -13,7 +13,7 @@ use crate::request_store::RequestStore;
 use crate::table::QueueTable;
 use fk_unique::Uniques;
 use fuse_spec::{IntrEffect, Mark};
-use std::marker::PhantomData;
+use std::marker::{Model, PhantomData};
 
 /// The queues: requests in a store, INTERRUPTs and forgets in lists, and the coming number.
 #[derive(Drop)]
@@ -23,20 +23,28 @@ pub struct QueuesOf<W: Drop, S: RequestStore<W>> {
     forgets: ForgetList<S::Heap>,
     uniques: Uniques,
     kept: PhantomData<W>,
-    ghost sound: { IsSound (record {
-      requests = S.entries requests;
-      interrupts = interrupts.numbers.items;
-      forgets = forgets.items.items;
-      next = uniques;
-      interrupts_off = interrupts.off;
-    }) },
-    ghost fits: { length (S.entries requests) ≤ vec_capacity interrupts.numbers },
+}
+
+impl<W: Drop, S: RequestStore<W>> Model for QueuesOf<W, S> {
+    ghost use Rattle.std.specs.Prelude.{◌-◌, length, min, vec_capacity};
+    ghost use Rattle.std.specs.Coded.{codes};
+    ghost use Rattle.std.specs.VecDeque.{deque_capacity, deque_len};
+    ghost use Rattle.fuse_spec.specs.contracts.Mark as mark_row;
+    ghost use Rattle.fk_queues.specs.Room.{QueuesState, IsKept};
+
+    ghost Value = { QueuesState W };
+
+    ghost coded = { Prim.hlevel (codes, W.code, mark_row.the_row.coded) };
+
+    ghost view = { λ q. record { queues = record { requests = S.entries q.requests; interrupts = q.interrupts.numbers.items; forgets = q.forgets.items.items; next = q.uniques; interrupts_off = q.interrupts.off }; room = record { requests = min (S.room q.requests) (vec_capacity q.interrupts.numbers - length (S.entries q.requests)); forgets = deque_capacity q.forgets.items - deque_len q.forgets.items } } };
+
+    ghost invariant = { λ q. IsKept (record { requests = S.entries q.requests; interrupts = q.interrupts.numbers.items; forgets = q.forgets.items.items; next = q.uniques; interrupts_off = q.interrupts.off }) (vec_capacity q.interrupts.numbers) };
 }
 
 impl<W: Drop, S: RequestStore<W>> QueuesOf<W, S> {
     /// The mark of the request under a number.
     fn mark_under(&self, unique: u64) -> Option<Mark>
-        ensures { result ≡ option_map (λ r. r.mark) (lookup (nat_eq unique) (S.entries self.now.requests)) }
+        ensures { result ≡ option_map (λ r. r.mark) (lookup (nat_eq unique) self.now.queues.requests) }
     {
         let request = self.requests.request(unique)?;
         Some(request.mark)
@@ -46,18 +54,9 @@ impl<W: Drop, S: RequestStore<W>> QueuesOf<W, S> {
 impl<W: Drop, S: RequestStore<W>> QueueTable<W> for QueuesOf<W, S> {
     type Heap = S::Heap;
 
-    ghost state = { λ q. record {
-      requests = S.entries q.requests;
-      interrupts = q.interrupts.numbers.items;
-      forgets = q.forgets.items.items;
-      next = q.uniques;
-      interrupts_off = q.interrupts.off;
-    } };
+    ghost state = { λ q. q.queues };
 
-    ghost room = { λ q. record {
-      requests = min (S.room q.requests) (vec_capacity q.interrupts.numbers - length (S.entries q.requests));
-      forgets = deque_capacity q.forgets.items - deque_len q.forgets.items;
-    } };
+    ghost room = { λ q. q.room };
 
     fn new(alloc: S::Heap) -> Self {
         QueuesOf {

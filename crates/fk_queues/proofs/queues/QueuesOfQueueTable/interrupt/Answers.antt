@@ -1,36 +1,50 @@
-use Rattle.std.proofs.Common.{◌≡◌, ◌≤◌, rules, arith, true, Some, length, refl}
+use Rattle.std.proofs.Common.{◌≡◌, ◌≤◌, rules, arith, true, Some, length, refl, ap}
 use Rattle.fuse_spec.specs.declared.Mark.TheVariants.{Unread, Flagged, Read}
 use Rattle.fuse_spec.specs.Queues.{QueueState, mark_under, is_unread}
 use Rattle.fuse_spec.proofs.QueueSoundness.{interrupts-lt-requests, none_queued, IsSound-dequeue, IsSound-mark, IsSound-mark_interrupted, has_interrupt-unread}
+use Rattle.fk_queues.specs.Room.{QueuesState}
 use Rattle.fk_queues.proofs.queues.QueuesOfQueueTable.interrupt.Goals as goal
 
-pub invariant_of-self-clause-sound : goal.invariant_of-self-clause-sound
-invariant_of-self-clause-sound g c =
-    let q = c.args.self.now in
+pub invariant_of-self : goal.invariant_of-self
+invariant_of-self g c =
+    let q = c.self.inside in
     let s : QueueState _ = record { requests = g.S.RequestStore.entries q.requests; interrupts = q.interrupts.numbers.items; forgets = q.forgets.items.items; next = q.uniques; interrupts_off = q.interrupts.off } in
-    let marked : mark_under s c.args.unique ≡ Some c.in-Some.mark = search rules in
+    let view : s ≡ c.args.self.now.queues = ap (λ (v : QueuesState _). v.queues) c.self.view_is in
+    let marked : mark_under s c.args.unique ≡ Some c.in-Some.mark = rw view (search rules) in
     let unread : is_unread c.in-Some.mark ≡ true = search rules in
-    rw c.take-gone.ensures.entries (IsSound-dequeue s c.args.unique c.in-Some.mark q.sound marked (has_interrupt-unread c.in-Some.mark unread))
+    record {
+      sound = rw c.take-gone.ensures.entries (IsSound-dequeue s c.args.unique c.in-Some.mark c.self.invariant.sound marked (has_interrupt-unread c.in-Some.mark unread));
+      fits = omega (arith, c.self.invariant.fits);
+    }
 
-pub invariant_of-self-in-Unread-clause-sound : goal.invariant_of-self-in-Unread-clause-sound
-invariant_of-self-in-Unread-clause-sound g c =
-    let q = c.args.self.now in
+pub invariant_of-self-in-Unread : goal.invariant_of-self-in-Unread
+invariant_of-self-in-Unread g c =
+    let q = c.self.inside in
     let s : QueueState _ = record { requests = g.S.RequestStore.entries q.requests; interrupts = q.interrupts.numbers.items; forgets = q.forgets.items.items; next = q.uniques; interrupts_off = q.interrupts.off } in
-    let marked : mark_under s c.args.unique ≡ Some Unread = search rules in
-    rw c.put_mark.ensures.entries (IsSound-mark s c.args.unique Unread Flagged q.sound marked refl)
+    let view : s ≡ c.args.self.now.queues = ap (λ (v : QueuesState _). v.queues) c.self.view_is in
+    let marked : mark_under s c.args.unique ≡ Some Unread = rw view (search rules) in
+    record {
+      sound = rw c.put_mark.ensures.entries (IsSound-mark s c.args.unique Unread Flagged c.self.invariant.sound marked refl);
+      fits = omega (arith, c.self.invariant.fits);
+    }
 
 pub push-requires : goal.push-requires
 push-requires g c =
-    let q = c.args.self.now in
+    let q = c.self.inside in
     let s : QueueState _ = record { requests = g.S.RequestStore.entries q.requests; interrupts = q.interrupts.numbers.items; forgets = q.forgets.items.items; next = q.uniques; interrupts_off = q.interrupts.off } in
-    let marked : mark_under s c.args.unique ≡ Some Read = search rules in
-    let fewer = interrupts-lt-requests s c.args.unique Read q.sound marked (none_queued s c.args.unique Read q.sound marked refl) in
-    let fits : length s.requests ≤ _ = q.fits in
+    let view : s ≡ c.args.self.now.queues = ap (λ (v : QueuesState _). v.queues) c.self.view_is in
+    let marked : mark_under s c.args.unique ≡ Some Read = rw view (search rules) in
+    let fewer = interrupts-lt-requests s c.args.unique Read c.self.invariant.sound marked (none_queued s c.args.unique Read c.self.invariant.sound marked refl) in
+    let fits : length s.requests ≤ _ = c.self.invariant.fits in
     omega arith
 
-pub invariant_of-self-in-Read-clause-sound : goal.invariant_of-self-in-Read-clause-sound
-invariant_of-self-in-Read-clause-sound g c =
-    let q = c.args.self.now in
+pub invariant_of-self-in-Read : goal.invariant_of-self-in-Read
+invariant_of-self-in-Read g c =
+    let q = c.self.inside in
     let s : QueueState _ = record { requests = g.S.RequestStore.entries q.requests; interrupts = q.interrupts.numbers.items; forgets = q.forgets.items.items; next = q.uniques; interrupts_off = q.interrupts.off } in
-    let marked : mark_under s c.args.unique ≡ Some Read = search rules in
-    rw (c.put_mark-in-Read.ensures.entries, c.push.ensures.numbers, c.push.ensures.off) (IsSound-mark_interrupted s c.args.unique Read q.sound marked refl)
+    let view : s ≡ c.args.self.now.queues = ap (λ (v : QueuesState _). v.queues) c.self.view_is in
+    let marked : mark_under s c.args.unique ≡ Some Read = rw view (search rules) in
+    record {
+      sound = rw (c.put_mark-in-Read.ensures.entries, c.push.ensures.numbers, c.push.ensures.off) (IsSound-mark_interrupted s c.args.unique Read c.self.invariant.sound marked refl);
+      fits = omega (arith, c.self.invariant.fits);
+    }
