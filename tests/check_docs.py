@@ -17,7 +17,7 @@ ROWS = {file.stem for file in TOP.glob("tests/rows/*.script")}
 # Words with a hyphen that are no rows and no edits.
 WORDS = {"must-fail", "not-run"}
 MODULES = {}
-for file in [*TOP.glob("crates/*/specs/**/*.antt"), *TOP.glob("crates/*/proofs/*.antt")]:
+for file in [*TOP.glob("crates/*/specs/**/*.antt"), *TOP.glob("crates/*/proofs/*.antt"), *TOP.glob("crates/fuse_theorem/proofs/*/[A-Z]*.antt")]:
     MODULES[file.stem] = MODULES.get(file.stem, "") + file.read_text()
 
 def has_word(text, word):

@@ -1,14 +1,14 @@
 -- How a reply that is handed over serves a frame.
 use Rattle.std.proofs.Common.{◌≡◌, ◌∙◌, ℕ, List, Option, Some, None, Bool, true, false, sym, ap, subst, true≢false, is_some}
-use Rattle.fuse_spec.specs.Messages.{Request, WireReply}
-use Rattle.fuse_spec.specs.Server.{Server}
-use Rattle.fuse_spec.specs.Worlds.{Sent}
-use Rattle.fuse_spec.specs.Performs.{served}
+use Rattle.fuse_spec.specs.Kernel.Messages.{Request, WireReply}
+use Rattle.fuse_spec.specs.Server.Server.{Server}
+use Rattle.fuse_spec.specs.World.Worlds.{Sent}
+use Rattle.fuse_spec.specs.Server.Performs.{served}
 use Rattle.fuse_frames.specs.ReplyTies.{SaysReply}
 use Rattle.fuse_frames.specs.RequestTies.{SaysRequest}
 use Rattle.fs_server.specs.Effects.{PerformsHeld, TakesFrame, copy_of, first_copy}
 use Rattle.fs_server.specs.declared.server.Took.{Took}
-use Rattle.fuse_spec.specs.Taking.{taking}
+use Rattle.fuse_spec.specs.Server.Taking.{taking}
 use Rattle.callers.specs.declared.virtual_machine.Served.{Served}
 use Rattle.callers.specs.declared.virtual_machine.Served.TheVariants.{Replied, NoReply, NoRoom, Waits, Refused}
 use Rattle.callers.specs.Serving.{IsDelivered, IsServed, RepliesTo, at_once, performed}

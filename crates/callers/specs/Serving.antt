@@ -1,13 +1,13 @@
 -- What a virtual machine host does with a frame of its guest.
 use Rattle.std.specs.Prelude.{◌≡◌, ℕ, List, ◌++◌, Some}
 use Rattle.fk_wire.specs.declared.opcode.Opcode.{Opcode}
-use Rattle.fuse_spec.specs.Maps.{get}
-use Rattle.fuse_spec.specs.Messages.{Request, WireReply}
-use Rattle.fuse_spec.specs.Nodes.{MayChoose}
-use Rattle.fuse_spec.specs.Performs.{served, files_given}
-use Rattle.fuse_spec.specs.Server.{Server, HeldRequest}
-use Rattle.fuse_spec.specs.Taking.{taking}
-use Rattle.fuse_spec.specs.Worlds.{Sent}
+use Rattle.fuse_spec.specs.Values.Maps.{get}
+use Rattle.fuse_spec.specs.Kernel.Messages.{Request, WireReply}
+use Rattle.fuse_spec.specs.Server.Nodes.{MayChoose}
+use Rattle.fuse_spec.specs.Server.Performs.{served, files_given}
+use Rattle.fuse_spec.specs.Server.Server.{Server, HeldRequest}
+use Rattle.fuse_spec.specs.Server.Taking.{taking}
+use Rattle.fuse_spec.specs.World.Worlds.{Sent}
 use Rattle.fuse_frames.specs.ReplyTies.{SaysReply}
 use Rattle.fuse_frames.specs.RequestTies.{SaysRequest}
 use Rattle.fs_server.specs.Effects.{RefusesFrame}

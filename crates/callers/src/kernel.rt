@@ -1,9 +1,9 @@
 //! A kernel that hands system calls to a server: it mounts, begins calls, reads their requests and writes what the server replies.
 
 ghost use Rattle.std.specs.Prelude.{◌≡◌, ◌≢◌, [], None, OnOk, IfOk};
-ghost use Rattle.fuse_spec.specs.Kernel.{call_put};
-ghost use Rattle.fuse_spec.specs.Messages.{init as asks_init};
-ghost use Rattle.fuse_spec.specs.Numbers.{init_flags};
+ghost use Rattle.fuse_spec.specs.Kernel.Kernel.{call_put};
+ghost use Rattle.fuse_spec.specs.Kernel.Messages.{init as asks_init};
+ghost use Rattle.fuse_spec.specs.Values.Numbers.{init_flags};
 ghost use Rattle.fk_syscalls.specs.Values.{call_of};
 ghost use Rattle.fk_kernel.specs.Refused.{IsPendingRequest};
 ghost use Rattle.fk_kernel.specs.Said.{HasReplyHead, awaited, head_unique, nothing};

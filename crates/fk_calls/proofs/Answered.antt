@@ -5,10 +5,10 @@ use Rattle.std.specs.Cmp.{nat_cmp_total}
 use Rattle.std.specs.FinMap.{is_sorted}
 use Rattle.std.specs.Ordering.{nat_cmp, is_eq, eq_by_cmp}
 use Rattle.std.proofs.lemmas.List.{drop_all, take-append-drop}
-use Rattle.fuse_spec.specs.Answers.{Answer, failed}
-use Rattle.fuse_spec.specs.Maps.{Map, get, put}
-use Rattle.fuse_spec.specs.Numbers.{econnaborted}
-use Rattle.fuse_spec.specs.Vfs.{CallState, all_answered}
+use Rattle.fuse_spec.specs.Calls.Answers.{Answer, failed}
+use Rattle.fuse_spec.specs.Values.Maps.{Map, get, put}
+use Rattle.fuse_spec.specs.Values.Numbers.{econnaborted}
+use Rattle.fuse_spec.specs.Calls.Vfs.{CallState, all_answered}
 use Rattle.fuse_spec.specs.declared.Opened.{Opened}
 use Rattle.fuse_spec.proofs.Tables.{cmp_same, get_put}
 use Rattle.fuse_tables.specs.TableState.{TableState}

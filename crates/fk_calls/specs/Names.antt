@@ -2,8 +2,8 @@
 use Rattle.std.specs.Prelude.{ℕ}
 use Rattle.fuse_spec.specs.declared.Binding.{Binding}
 use Rattle.fuse_spec.specs.declared.Opened.{Opened}
-use Rattle.fuse_spec.specs.Maps.{NameMap, remove_name}
-use Rattle.fuse_spec.specs.Operations.{Operation, unlink, rmdir, rename}
+use Rattle.fuse_spec.specs.Values.Maps.{NameMap, remove_name}
+use Rattle.fuse_spec.specs.Files.Operations.{Operation, unlink, rmdir, rename}
 
 -- The names in force once the operation is done.
 abbrev pub names_left : Operation ℕ Opened → NameMap Binding → NameMap Binding

@@ -3,19 +3,18 @@
 ghost use Rattle.std.specs.Prelude.{◌≡◌, ◌≢◌, ◌+◌, ◌<◌, ◌≤◌, ◌↔◌, ℕ, IsTrue, None, T, cond, length};
 ghost use Rattle.std.specs.FinMap.{is_sorted};
 ghost use Rattle.std.specs.Ordering.{nat_cmp};
-ghost use Rattle.fuse_spec.specs.Answers.{failed};
-ghost use Rattle.fuse_spec.specs.Maps.{get, put, remove};
-ghost use Rattle.fuse_spec.specs.Numbers.{econnaborted};
-ghost use Rattle.fuse_spec.specs.Vfs.{all_answered};
+ghost use Rattle.fuse_spec.specs.Calls.Answers.{failed};
+ghost use Rattle.fuse_spec.specs.Values.Maps.{get, put, remove};
+ghost use Rattle.fuse_spec.specs.Values.Numbers.{econnaborted};
+ghost use Rattle.fuse_spec.specs.Calls.Vfs.{all_answered};
 ghost use Rattle.fk_syscalls.specs.Values.{answer_of};
 
 use crate::stored_answer::StoredAnswer;
 use fk_syscalls::{Answer, CallState};
+use fuse_spec::errno::ECONNABORTED;
 use fuse_spec::{IntrEffect, WriteResult};
 use fuse_tables::Table;
 use std::alloc::Allocator;
-
-const ECONNABORTED: u32 = 103;
 
 /// A call is answered: it waits no longer, and its answer is there to be collected. Takes no memory.
 pub fn answer<A: Allocator + Copy>(

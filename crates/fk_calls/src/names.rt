@@ -1,8 +1,8 @@
 //! Which names in force go with a reply, and which come.
 
 ghost use Rattle.std.specs.Prelude.{◌≡◌, ◌+◌, ◌<◌, ◌^◌, Some, None, OnOk, OnErr};
-ghost use Rattle.fuse_spec.specs.Maps.{get, put_name};
-ghost use Rattle.fuse_spec.specs.Vfs.{CallState as State, asked};
+ghost use Rattle.fuse_spec.specs.Values.Maps.{get, put_name};
+ghost use Rattle.fuse_spec.specs.Calls.Vfs.{CallState as State, asked};
 ghost use Rattle.fuse_spec.specs.declared.Opened.{Opened};
 ghost use Rattle.fk_calls.specs.Names.{names_left};
 

@@ -2,8 +2,8 @@
 
 ghost use Rattle.std.specs.Prelude.{◌≡◌, ◌||◌, nat_eq};
 ghost use Rattle.std.specs.List.{list_any};
-ghost use Rattle.fuse_spec.specs.Kernel.{nodes_of_state};
-ghost use Rattle.fuse_spec.specs.Maps.{values};
+ghost use Rattle.fuse_spec.specs.Kernel.Kernel.{nodes_of_state};
+ghost use Rattle.fuse_spec.specs.Values.Maps.{values};
 ghost use Rattle.fuse_spec.specs.declared.Opened.{Opened as OpenedFile};
 ghost use Rattle.fk_dentry.specs.NamesInForce.{names_the_node};
 ghost use Rattle.fk_calls.specs.Pins.{pins};

@@ -15,7 +15,7 @@ pub struct StoredAnswer<A: Allocator> {
 
 impl<A: Allocator> Model for StoredAnswer<A> {
     ghost use Rattle.std.specs.Coded.{codes};
-    ghost use Rattle.fuse_spec.specs.Answers.{Answer};
+    ghost use Rattle.fuse_spec.specs.Calls.Answers.{Answer};
     ghost use Rattle.fk_syscalls.specs.Values.{answer_of};
 
     ghost Value = { Answer };

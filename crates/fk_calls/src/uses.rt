@@ -2,9 +2,9 @@
 
 ghost use Rattle.std.specs.Prelude.{◌≡◌, ◌&&◌, not, ℕ, nat_eq};
 ghost use Rattle.std.specs.List.{list_any};
-ghost use Rattle.fuse_spec.specs.Kernel.{is_using};
-ghost use Rattle.fuse_spec.specs.Maps.{values};
-ghost use Rattle.fuse_spec.specs.Vfs.{CallState as State};
+ghost use Rattle.fuse_spec.specs.Kernel.Kernel.{is_using};
+ghost use Rattle.fuse_spec.specs.Values.Maps.{values};
+ghost use Rattle.fuse_spec.specs.Calls.Vfs.{CallState as State};
 ghost use Rattle.fuse_spec.specs.declared.Opened.{Opened};
 
 use fk_syscalls::CallState;

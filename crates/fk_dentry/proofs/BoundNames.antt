@@ -9,8 +9,8 @@ use Rattle.std.specs.Cmp.{tied_itself}
 use Rattle.std.proofs.lemmas.Bool.{cases_eq, ltb-true, ltb-false, lt-ltb}
 use Rattle.std.proofs.lemmas.List.Sums.{sum_by-cons}
 use Rattle.fuse_spec.specs.declared.Binding.{Binding}
-use Rattle.fuse_spec.specs.Kernel.{leads_to}
-use Rattle.fuse_spec.specs.Maps.{Place, NameMap, place_cmp, get_name, put_name, remove_name}
+use Rattle.fuse_spec.specs.Kernel.Kernel.{leads_to}
+use Rattle.fuse_spec.specs.Values.Maps.{Place, NameMap, place_cmp, get_name, put_name, remove_name}
 use Rattle.fk_dentry.specs.Named.{times, named, named_in, uses}
 use Rattle.fk_dentry.specs.NamesInForce.{names_the_node}
 use Rattle.fk_dentry.specs.Rows.{names_in, bound_in}

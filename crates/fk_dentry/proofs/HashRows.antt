@@ -9,7 +9,7 @@ use Rattle.std.specs.Cmp.Lexicographic.{slice_cmp, texts_ties}
 use Rattle.std.specs.FinMap.{is_sorted}
 use Rattle.std.specs.FinMap.Entries.{is_sorted-put, is_sorted-where_key, find-put, find-where_key, same_entries, length-put}
 use Rattle.fuse_spec.specs.declared.Binding.{Binding}
-use Rattle.fuse_spec.specs.Maps.{Place, place_cmp, get_name, put_name, remove_name}
+use Rattle.fuse_spec.specs.Values.Maps.{Place, place_cmp, get_name, put_name, remove_name}
 use Rattle.fk_dentry.specs.declared.key.NameKey.{NameKey}
 use Rattle.fk_dentry.specs.Keys.{same_place, same_place_equiv, place_of_key, is_of}
 use Rattle.fk_dentry.specs.Rows.{slots_of}

@@ -10,7 +10,7 @@ use Rattle.std.proofs.lemmas.List.Sums.{sum_by-cons, sum_by-set, sum_by-insert, 
 use Rattle.std.proofs.lemmas.Bool.{cases_lt}
 use Rattle.std.proofs.lemmas.Option.{same_Some, slice_get_past, get_or_from_slice_get, none-some}
 use Rattle.fuse_spec.specs.declared.Binding.{Binding}
-use Rattle.fuse_spec.specs.Maps.{Place, place_cmp, get_name, put_name, remove_name}
+use Rattle.fuse_spec.specs.Values.Maps.{Place, place_cmp, get_name, put_name, remove_name}
 use Rattle.fk_dentry.specs.Named.{times, named, named_by, named_in, uses, mentions}
 use Rattle.fk_dentry.proofs.Places.{place_among, IsEntryOf}
 use Rattle.fk_dentry.specs.Rows.{bound_in, IsTable}

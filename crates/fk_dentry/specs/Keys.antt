@@ -5,7 +5,7 @@ use Rattle.std.specs.Cmp.Lexicographic.{pointwise, nat_list_eq_equiv}
 use Rattle.std.specs.Hash as fed
 use Rattle.std.specs.Hash.{Alike, HashWrites, and-Alike, on_Alike, items_Alike, same_Alike}
 use Rattle.std.specs.Cmp.{unsigned_Decides}
-use Rattle.fuse_spec.specs.Maps.{Place}
+use Rattle.fuse_spec.specs.Values.Maps.{Place}
 use Rattle.fk_dentry.specs.declared.key.NameKey.{NameKey}
 
 -- whether two names of directories are one

@@ -1,7 +1,7 @@
 -- The nodes that bindings name, each as often as it is named.
 use Rattle.std.specs.Prelude.{ℕ, List, [], ◌∷◌, Option, Some, None, length, nat_eq, count_by, sum_by}
 use Rattle.fuse_spec.specs.declared.Binding.{Binding}
-use Rattle.fuse_spec.specs.Maps.{Place, NameMap}
+use Rattle.fuse_spec.specs.Values.Maps.{Place, NameMap}
 
 abbrev pub times : ℕ → List ℕ → ℕ
 times id ids = count_by (nat_eq id) ids

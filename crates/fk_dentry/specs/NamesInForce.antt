@@ -4,8 +4,8 @@ use Rattle.std.specs.Coded.{Coded, code_by, coded×, coded_ℕ, coded_list, code
 use Rattle.std.specs.List.{list_any}
 use Rattle.fuse_spec.specs.declared.Binding.{Binding}
 use Rattle.fuse_spec.specs.contracts.Binding.{the_row}
-use Rattle.fuse_spec.specs.Maps.{Place, NameMap, get_name}
-use Rattle.fuse_spec.specs.Kernel.{leads_to}
+use Rattle.fuse_spec.specs.Values.Maps.{Place, NameMap, get_name}
+use Rattle.fuse_spec.specs.Kernel.Kernel.{leads_to}
 use Rattle.fk_dentry.specs.declared.found.Found.{Found}
 use Rattle.fk_dentry.specs.declared.found.Found.TheVariants.{Node, Missing, Unknown}
 

@@ -2,7 +2,7 @@
 use Rattle.std.specs.Prelude.{◌≡◌, ℕ, ◌+◌, ◌≤◌, List, [], ◌∷◌, Option, Some, None, length, T}
 use Rattle.std.specs.FinMap.{is_sorted}
 use Rattle.fuse_spec.specs.declared.Binding.{Binding}
-use Rattle.fuse_spec.specs.Maps.{NameMap, place_cmp, put_name}
+use Rattle.fuse_spec.specs.Values.Maps.{NameMap, place_cmp, put_name}
 use Rattle.fk_dentry.specs.declared.key.NameKey.{NameKey}
 use Rattle.fk_dentry.specs.Keys.{place_of_key}
 use Rattle.fk_dentry.specs.Named.{uses, mentions}

@@ -1,7 +1,7 @@
 //! The names in force.
 ghost use Rattle.std.specs.Prelude.{◌≡◌, ◌≢◌, ℕ, [], OnOk, IsOk, is_some, vec_len};
-ghost use Rattle.fuse_spec.specs.Maps.{Place, get_name, put_name, remove_name};
-ghost use Rattle.fuse_spec.specs.Vfs.{valid_at};
+ghost use Rattle.fuse_spec.specs.Values.Maps.{Place, get_name, put_name, remove_name};
+ghost use Rattle.fuse_spec.specs.Calls.Vfs.{valid_at};
 ghost use Rattle.fk_dentry.specs.NamesInForce.{HasRoom, found_of, names_the_node};
 
 use crate::found::Found;

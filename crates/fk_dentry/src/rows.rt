@@ -1,7 +1,7 @@
 //! The names that have room, in a hash map.
 ghost use Rattle.std.specs.Prelude.{◌≡◌, ℕ, ◌+◌, ◌<◌, ◌≤◌, [], None, Some, IsSome, length};
 ghost use Rattle.indexmap.specs.IndexMap.{spare};
-ghost use Rattle.fuse_spec.specs.Maps.{get_name, put_name, remove_name};
+ghost use Rattle.fuse_spec.specs.Values.Maps.{get_name, put_name, remove_name};
 ghost use Rattle.fk_dentry.specs.Keys.{place_of_key};
 ghost use Rattle.fk_dentry.specs.Rows.{slots_of, bound_in};
 

@@ -1,10 +1,10 @@
 -- The unanswered calls of a mount that is aborted are answered, and the kernel stays sound.
 use Rattle.std.proofs.Common.{ℕ, [], refl, arith}
-use Rattle.fuse_spec.specs.Answers.{Answer, failed}
-use Rattle.fuse_spec.specs.Maps.{Map}
-use Rattle.fuse_spec.specs.Numbers.{econnaborted}
-use Rattle.fuse_spec.specs.Queues.{QueueState, empty_queues}
-use Rattle.fuse_spec.specs.Vfs.{CallState, all_answered}
+use Rattle.fuse_spec.specs.Calls.Answers.{Answer, failed}
+use Rattle.fuse_spec.specs.Values.Maps.{Map}
+use Rattle.fuse_spec.specs.Values.Numbers.{econnaborted}
+use Rattle.fuse_spec.specs.Kernel.Queues.{QueueState, empty_queues}
+use Rattle.fuse_spec.specs.Calls.Vfs.{CallState, all_answered}
 use Rattle.fuse_spec.specs.declared.Counted.{Counted}
 use Rattle.fuse_spec.specs.declared.Opened.{Opened}
 use Rattle.fuse_spec.specs.declared.Phase.{Phase}

@@ -2,11 +2,11 @@
 use Rattle.std.proofs.Common.{◌≡◌, ℕ, ◌+◌, ◌<◌, ◌≤◌, ◌^◌, ◌/◌, ◌-◌, Bool, true, false, cond, Option, Some, None, Result, Ok, Err, length, nat_eq, refl, ap, sym, ◌∙◌, arith}
 use Rattle.std.specs.Prelude.{◌||◌, nat_lt, nat_le, not, IfErr, OnOk}
 use Rattle.std.proofs.lemmas.Bool.Decides.{nat_tests}
-use Rattle.fuse_spec.specs.Kernel.{Kernel, is_aborted, advanced, closing_of, closed_by, call_begun}
-use Rattle.fuse_spec.specs.Steps.{is_ready}
-use Rattle.fuse_spec.specs.Uniques.{numbers_left_from}
-use Rattle.fuse_spec.specs.Vfs.{CallState, Advance, numbered, begun, asking, answered, no_more}
-use Rattle.fuse_spec.specs.Answers.{Answer}
+use Rattle.fuse_spec.specs.Kernel.Kernel.{Kernel, is_aborted, advanced, closing_of, closed_by, call_begun}
+use Rattle.fuse_spec.specs.World.Steps.{is_ready}
+use Rattle.fuse_spec.specs.Kernel.Uniques.{numbers_left_from}
+use Rattle.fuse_spec.specs.Calls.Vfs.{CallState, Advance, numbered, begun, asking, answered, no_more}
+use Rattle.fuse_spec.specs.Calls.Answers.{Answer}
 use Rattle.fk_syscalls.specs.Values.{call_of, ClosesNone}
 use Rattle.fk_syscalls.specs.declared.call.Call.{Call}
 use Rattle.fk_syscalls.specs.declared.call.Call.TheVariants.{Stat, List as Lists, ListPlus, Open, Mkdir, Create, Unlink, Rmdir, Rename, Link, Read, Write, Close}

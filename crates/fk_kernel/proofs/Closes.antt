@@ -9,15 +9,15 @@ use Rattle.std.specs.Ordering.{nat_cmp, is_eq}
 use Rattle.std.specs.FinMap.Entries.{by_order}
 use Rattle.fuse_spec.specs.declared.Opened.{Opened}
 use Rattle.fuse_spec.specs.declared.Purpose.TheVariants.{Release}
-use Rattle.fuse_spec.specs.Answers as answer
-use Rattle.fuse_spec.specs.Calls as call
-use Rattle.fuse_spec.specs.Kernel.{Kernel, is_aborted, is_using, is_used, released, released_if_idle, closed, call_begun}
-use Rattle.fuse_spec.specs.Maps.{Map, get, put, remove, values}
-use Rattle.fuse_spec.specs.QueueCalls.{after_enqueue}
-use Rattle.fuse_spec.specs.Vfs.{Vfs, answered, numbered}
+use Rattle.fuse_spec.specs.Calls.Answers as answer
+use Rattle.fuse_spec.specs.Calls.Calls as call
+use Rattle.fuse_spec.specs.Kernel.Kernel.{Kernel, is_aborted, is_using, is_used, released, released_if_idle, closed, call_begun}
+use Rattle.fuse_spec.specs.Values.Maps.{Map, get, put, remove, values}
+use Rattle.fuse_spec.specs.Kernel.QueueCalls.{after_enqueue}
+use Rattle.fuse_spec.specs.Calls.Vfs.{Vfs, answered, numbered}
 use Rattle.fuse_spec.proofs.Tables.{cmp_same, get_put_here}
-use Rattle.fuse_spec.specs.Steps.{is_ready}
-use Rattle.fuse_spec.specs.Uniques.{numbers_left_from}
+use Rattle.fuse_spec.specs.World.Steps.{is_ready}
+use Rattle.fuse_spec.specs.Kernel.Uniques.{numbers_left_from}
 use Rattle.fuse_spec.specs.declared.Refusal.TheVariants.{NoMemory, Exhausted}
 use Rattle.std.proofs.lemmas.Bool.Decides.{nat_tests}
 use Rattle.fk_kernel.specs.Refused.{is_past_end, or_no_memory, begun_refusal}

@@ -10,17 +10,17 @@ use Rattle.fuse_spec.specs.declared.Entry.{Entry}
 use Rattle.fuse_spec.specs.declared.Opened.{Opened}
 use Rattle.fuse_spec.specs.declared.Purpose.TheVariants.{Call}
 use Rattle.fuse_spec.specs.declared.WriteResult.{WriteResult}
-use Rattle.fuse_spec.specs.Answers as answer
-use Rattle.fuse_spec.specs.Kernel.{Kernel, asking_for, after_use, released}
-use Rattle.fuse_spec.specs.Maps.{Map, get}
-use Rattle.fuse_spec.specs.Messages.{WireReply}
-use Rattle.fuse_spec.specs.Numbers.{counter_end}
-use Rattle.fuse_spec.specs.Operations as reply
-use Rattle.fuse_spec.specs.Operations.{Operation, DirentPlus, files_in_reply, files_told}
-use Rattle.fuse_spec.specs.QueueCalls.{waiting, without}
-use Rattle.fuse_spec.specs.Replies.{Use, usable, useless, stale, first_use, use_of, counted_more, learnt, judged, heard, goes_with, reply_judged, use_of_reply, without_stale, reply_written}
-use Rattle.fuse_spec.specs.Trees.{pair_length}
-use Rattle.fuse_spec.specs.Vfs.{CallState, walking, doing, using, asked}
+use Rattle.fuse_spec.specs.Calls.Answers as answer
+use Rattle.fuse_spec.specs.Kernel.Kernel.{Kernel, asking_for, after_use, released}
+use Rattle.fuse_spec.specs.Values.Maps.{Map, get}
+use Rattle.fuse_spec.specs.Kernel.Messages.{WireReply}
+use Rattle.fuse_spec.specs.Values.Numbers.{counter_end}
+use Rattle.fuse_spec.specs.Files.Operations as reply
+use Rattle.fuse_spec.specs.Files.Operations.{Operation, DirentPlus, files_in_reply, files_told}
+use Rattle.fuse_spec.specs.Kernel.QueueCalls.{waiting, without}
+use Rattle.fuse_spec.specs.Kernel.Replies.{Use, usable, useless, stale, first_use, use_of, counted_more, learnt, judged, heard, goes_with, reply_judged, use_of_reply, without_stale, reply_written}
+use Rattle.fuse_spec.specs.Files.Trees.{pair_length}
+use Rattle.fuse_spec.specs.Calls.Vfs.{CallState, walking, doing, using, asked}
 use Rattle.fuse_spec.proofs.Tables.{get_put_here}
 use Rattle.fk_syscalls.specs.Values.{operation_of}
 use Rattle.fk_syscalls.specs.declared.call.Asked.{Asked}

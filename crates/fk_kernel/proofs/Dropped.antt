@@ -2,7 +2,7 @@
 use Rattle.std.proofs.Common.{◌≡◌, Bool, true, false, not, cond, [], ◌∷◌, Option, Some, None, refl, sym, ap, ◌∙◌, true≢false}
 use Rattle.std.specs.Prelude.{is_some}
 use Rattle.std.specs.Ordering.{eq_by_cmp}
-use Rattle.fuse_spec.specs.Maps.{NameMap, Place, place_cmp, get_name, remove_name}
+use Rattle.fuse_spec.specs.Values.Maps.{NameMap, Place, place_cmp, get_name, remove_name}
 
 -- where no such name is there nothing goes
 pub name_absent : {X : Type 0} (m : NameMap X) (k : Place) → get_name m k ≡ None → remove_name m k ≡ m

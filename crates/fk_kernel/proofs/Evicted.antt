@@ -9,8 +9,8 @@ use Rattle.fuse_spec.proofs.Tables.{get_gone_here, get_gone_there}
 use Rattle.fuse_spec.specs.declared.Counted.{Counted}
 use Rattle.fuse_spec.specs.declared.Purpose.{Purpose}
 use Rattle.fuse_spec.specs.declared.QueuedRequest.{QueuedRequest}
-use Rattle.fuse_spec.specs.Maps.{Map, get, remove, values}
-use Rattle.fuse_spec.specs.QueueLaws.{kept_entries}
+use Rattle.fuse_spec.specs.Values.Maps.{Map, get, remove, values}
+use Rattle.fuse_spec.specs.Kernel.QueueLaws.{kept_entries}
 use Rattle.fk_kernel.specs.Soundness.{AreCounted}
 use Rattle.fk_kernel.proofs.Sound.{length_gone}
 

@@ -1,7 +1,7 @@
 -- A kernel before its first mount is sound.
 use Rattle.std.proofs.Common.{ℕ, [], refl, arith}
 use Rattle.fuse_spec.specs.declared.Phase.TheVariants.{Down}
-use Rattle.fuse_spec.specs.Queues.{empty_queues}
+use Rattle.fuse_spec.specs.Kernel.Queues.{empty_queues}
 use Rattle.fk_kernel.specs.Soundness.{IsSoundKernel}
 use Rattle.fk_queues.specs.Room.{Room}
 use Rattle.fk_kernel.proofs.Files.{no_files}

@@ -2,9 +2,9 @@
 use Rattle.std.proofs.Common.{◌≡◌, ℕ, ◌+◌, ◌-◌, ◌/◌, ◌<◌, ◌≤◌, ◌^◌, Bool, true, false, List, [], ◌∷◌, Option, Some, None, length, slice_get, nat_eq, refl, arith}
 use Rattle.std.specs.Prelude.{if◌then◌else◌, cond, nat_lt, is_some}
 use Rattle.std.proofs.lemmas.Bool.Decides.{nat_tests}
-use Rattle.fuse_spec.specs.Kernel.{Kernel, is_live, forgets_read}
-use Rattle.fuse_spec.specs.Uniques.{numbers_left_from}
-use Rattle.fuse_spec.specs.QueueCalls.{can_read_forgets}
+use Rattle.fuse_spec.specs.Kernel.Kernel.{Kernel, is_live, forgets_read}
+use Rattle.fuse_spec.specs.Kernel.Uniques.{numbers_left_from}
+use Rattle.fuse_spec.specs.Kernel.QueueCalls.{can_read_forgets}
 use Rattle.fuse_spec.specs.declared.Refusal.TheVariants.{InterruptFirst, NoSuch, Exhausted}
 use Rattle.fk_kernel.specs.RefusedUpkeep.{read_forgets_refusal}
 use Rattle.fk_kernel.proofs.Phases.{none_past_end}

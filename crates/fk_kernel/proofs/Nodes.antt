@@ -7,17 +7,17 @@ use Rattle.std.specs.FinMap.{is_sorted, nat_cmp-IsAntisymmetric}
 use Rattle.std.specs.FinMap.Entries.{is_sorted-put, same_entries, length-put}
 use Rattle.fuse_spec.specs.declared.Counted.{Counted}
 use Rattle.fuse_spec.specs.declared.Purpose.{Purpose}
-use Rattle.fuse_spec.specs.Maps.{Map, get, put, remove}
-use Rattle.fuse_spec.specs.Queues.{QueueState}
-use Rattle.fuse_spec.specs.QueueCalls.{waiting, after_answer, without}
+use Rattle.fuse_spec.specs.Values.Maps.{Map, get, put, remove}
+use Rattle.fuse_spec.specs.Kernel.Queues.{QueueState}
+use Rattle.fuse_spec.specs.Kernel.QueueCalls.{waiting, after_answer, without}
 use Rattle.fuse_spec.specs.declared.Entry.{Entry as NodeEntry}
-use Rattle.fuse_spec.specs.Replies.{counted_more, learnt}
+use Rattle.fuse_spec.specs.Kernel.Replies.{counted_more, learnt}
 use Rattle.fuse_spec.proofs.Tables.{get_put_here, get_put_there, get_gone_there}
 use Rattle.std.proofs.lemmas.Bool.{cases_eq}
 use Rattle.fk_lookup_count.proofs.NumberMaps.{sorted-filter}
 use Rattle.fk_kernel.proofs.Sound.{length_put}
-use Rattle.fuse_spec.specs.Numbers.{counter_end}
-use Rattle.fuse_spec.specs.Operations.{DirentPlus}
+use Rattle.fuse_spec.specs.Values.Numbers.{counter_end}
+use Rattle.fuse_spec.specs.Files.Operations.{DirentPlus}
 use Rattle.fk_nodes.specs.Learning.{learnt_from, AreBelow}
 use Rattle.fk_nodes.proofs.Outs.{one_below, long_from}
 use Rattle.fk_kernel.specs.Soundness.{AreCounted}

@@ -2,13 +2,13 @@
 use Rattle.std.proofs.Common.{◌≡◌, ℕ, ◌+◌, ◌<◌, ◌≤◌, ◌^◌, Bool, true, false, cond, Option, Some, None, length, refl, ◌∙◌, arith}
 use Rattle.std.specs.Prelude.{◌||◌, nat_lt, nat_le, not}
 use Rattle.std.proofs.lemmas.Bool.Decides.{nat_tests}
-use Rattle.fuse_spec.specs.Begins.{Beginning, faulty, sets_out, uses, closes, beginning}
-use Rattle.fuse_spec.specs.Calls.{Call, spoken}
-use Rattle.fuse_spec.specs.Kernel.{Kernel, is_aborted, asking_for, advanced, released, closing_of, closed_by, call_begun}
-use Rattle.fuse_spec.specs.Maps.{get, put}
-use Rattle.fuse_spec.specs.Operations.{Operation}
-use Rattle.fuse_spec.specs.Steps.{is_ready}
-use Rattle.fuse_spec.specs.Vfs.{Vfs, Advance, after_beginning, begun, numbered}
+use Rattle.fuse_spec.specs.Calls.Begins.{Beginning, faulty, sets_out, uses, closes, beginning}
+use Rattle.fuse_spec.specs.Calls.Calls.{Call, spoken}
+use Rattle.fuse_spec.specs.Kernel.Kernel.{Kernel, is_aborted, asking_for, advanced, released, closing_of, closed_by, call_begun}
+use Rattle.fuse_spec.specs.Values.Maps.{get, put}
+use Rattle.fuse_spec.specs.Files.Operations.{Operation}
+use Rattle.fuse_spec.specs.World.Steps.{is_ready}
+use Rattle.fuse_spec.specs.Calls.Vfs.{Vfs, Advance, after_beginning, begun, numbered}
 use Rattle.fuse_spec.specs.declared.Opened.{Opened}
 use Rattle.fuse_spec.specs.declared.Refusal.TheVariants.{NotReady, Full, Exhausted}
 use Rattle.fk_syscalls.specs.Values.{call_of}

@@ -11,14 +11,14 @@ use Rattle.fuse_spec.specs.declared.Opened.{Opened}
 use Rattle.fuse_spec.specs.declared.Purpose.{Purpose}
 use Rattle.fuse_spec.specs.declared.Purpose.TheVariants.{Init, Release}
 use Rattle.fuse_spec.specs.declared.WriteResult.{WriteResult}
-use Rattle.fuse_spec.specs.Kernel.{Kernel}
-use Rattle.fuse_spec.specs.Messages.{WireReply}
-use Rattle.fuse_spec.specs.Operations as reply
-use Rattle.fuse_spec.specs.Operations.{Operation, lookup, getattr, mkdir, create, unlink, rmdir, rename, link, opening, readdir, readdirplus, read, write}
-use Rattle.fuse_spec.specs.QueueCalls.{waiting, after_reply_effect}
-use Rattle.fuse_spec.specs.Queues.{mark_under}
-use Rattle.fuse_spec.specs.Replies.{reply_written, interrupt_replied, interrupt_reply_of, is_agreement, goes_with}
-use Rattle.fuse_spec.specs.Signals.{reply_effect}
+use Rattle.fuse_spec.specs.Kernel.Kernel.{Kernel}
+use Rattle.fuse_spec.specs.Kernel.Messages.{WireReply}
+use Rattle.fuse_spec.specs.Files.Operations as reply
+use Rattle.fuse_spec.specs.Files.Operations.{Operation, lookup, getattr, mkdir, create, unlink, rmdir, rename, link, opening, readdir, readdirplus, read, write}
+use Rattle.fuse_spec.specs.Kernel.QueueCalls.{waiting, after_reply_effect}
+use Rattle.fuse_spec.specs.Kernel.Queues.{mark_under}
+use Rattle.fuse_spec.specs.Kernel.Replies.{reply_written, interrupt_replied, interrupt_reply_of, is_agreement, goes_with}
+use Rattle.fuse_spec.specs.Kernel.Signals.{reply_effect}
 use Rattle.fuse_spec.specs.declared.InterruptReply.{InterruptReply}
 use Rattle.fuse_spec.specs.declared.InterruptReplyEffect.{InterruptReplyEffect}
 use Rattle.fuse_spec.specs.declared.InterruptReplyEffect.TheVariants.{QueuedAgain, TurnedOff, None as NoReplyEffect}

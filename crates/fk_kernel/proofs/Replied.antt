@@ -5,18 +5,18 @@ use Rattle.fuse_spec.specs.declared.Entry.{Entry}
 use Rattle.fuse_spec.specs.declared.Opened.{Opened}
 use Rattle.fuse_spec.specs.declared.Purpose.TheVariants.{Call, Init, Release}
 use Rattle.fuse_spec.specs.declared.WriteResult.TheVariants.{Accepted, Invalid}
-use Rattle.fuse_spec.specs.Answers as answer
-use Rattle.fuse_spec.specs.CallReplies.{call_replied}
-use Rattle.fuse_spec.specs.Kernel.{Kernel, advanced, after_use, released_if_idle, kernel_aborted}
-use Rattle.fuse_spec.specs.Maps.{Map, Place, get}
-use Rattle.fuse_spec.specs.Messages.{WireReply}
-use Rattle.fuse_spec.specs.Operations as reply
-use Rattle.fuse_spec.specs.Operations.{Operation, lookup, getattr, mkdir, create, unlink, rmdir, rename, link, opening, readdir, readdirplus, read, write, Dirent, DirentPlus}
-use Rattle.fuse_spec.specs.Paths.{Name}
-use Rattle.fuse_spec.specs.QueueCalls.{waiting, without, after_forget}
-use Rattle.fuse_spec.specs.Replies.{Use, usable, useless, stale, first_use, use_of, learnt, judged, heard, goes_with, kernel_reply, reply_written, reply_taken, replied_to_call, replied, odd_taken, write_result_of, is_empty_reply, is_init_reply, is_agreement, made_ready}
-use Rattle.fuse_spec.specs.Vfs.{Vfs, Advance, CallState, walking, doing, using, asked, answered, bound, opened_by, walks_on, no_more}
-use Rattle.fuse_spec.specs.Walks.{WalkPlan}
+use Rattle.fuse_spec.specs.Calls.Answers as answer
+use Rattle.fuse_spec.specs.Calls.CallReplies.{call_replied}
+use Rattle.fuse_spec.specs.Kernel.Kernel.{Kernel, advanced, after_use, released_if_idle, kernel_aborted}
+use Rattle.fuse_spec.specs.Values.Maps.{Map, Place, get}
+use Rattle.fuse_spec.specs.Kernel.Messages.{WireReply}
+use Rattle.fuse_spec.specs.Files.Operations as reply
+use Rattle.fuse_spec.specs.Files.Operations.{Operation, lookup, getattr, mkdir, create, unlink, rmdir, rename, link, opening, readdir, readdirplus, read, write, Dirent, DirentPlus}
+use Rattle.fuse_spec.specs.Calls.Paths.{Name}
+use Rattle.fuse_spec.specs.Kernel.QueueCalls.{waiting, without, after_forget}
+use Rattle.fuse_spec.specs.Kernel.Replies.{Use, usable, useless, stale, first_use, use_of, learnt, judged, heard, goes_with, kernel_reply, reply_written, reply_taken, replied_to_call, replied, odd_taken, write_result_of, is_empty_reply, is_init_reply, is_agreement, made_ready}
+use Rattle.fuse_spec.specs.Calls.Vfs.{Vfs, Advance, CallState, walking, doing, using, asked, answered, bound, opened_by, walks_on, no_more}
+use Rattle.fuse_spec.specs.Calls.Walks.{WalkPlan}
 use Rattle.fk_syscalls.specs.States.{StandsAt}
 use Rattle.fk_calls.specs.Names.{names_left}
 use Rattle.fk_kernel.specs.Entries.{Awaits, EndsPast, MakesName, mkdirs, links}
@@ -26,9 +26,9 @@ use Rattle.fk_kernel.proofs.Closes.{released_some}
 use Rattle.fk_kernel.proofs.Walking.{asks_past}
 use Rattle.fuse_spec.specs.declared.WriteResult.{WriteResult}
 use Rattle.std.specs.Prelude.{is_some, ◌||◌}
-use Rattle.fuse_spec.specs.Replies.{each_forgotten}
-use Rattle.fuse_spec.specs.CallReplies.{names_told}
-use Rattle.fuse_spec.specs.Operations.{pair_with}
+use Rattle.fuse_spec.specs.Kernel.Replies.{each_forgotten}
+use Rattle.fuse_spec.specs.Calls.CallReplies.{names_told}
+use Rattle.fuse_spec.specs.Files.Operations.{pair_with}
 use Rattle.fuse_spec.specs.declared.Counted.{Counted}
 use Rattle.fk_nodes.specs.Learning.{is_out, learnt_from, stale_by, judged_in}
 use Rattle.fk_nodes.proofs.Judged.{learnt_is, settled, stale_settled, dirents_kept}

@@ -14,15 +14,15 @@ use Rattle.fuse_spec.specs.declared.Phase.{Phase}
 use Rattle.fuse_spec.specs.declared.Purpose.{Purpose}
 use Rattle.fuse_spec.specs.declared.QueuedRequest.{QueuedRequest}
 use Rattle.fuse_spec.specs.declared.Refusal.TheVariants.{NotReady, Exhausted}
-use Rattle.fuse_spec.specs.Answers.{failed}
-use Rattle.fuse_spec.specs.Kernel.{Kernel, is_for, is_live, request_of, after_use, released_if_idle, after_signal, signalled_at, call_signalled}
-use Rattle.fuse_spec.specs.Maps.{Map, get}
-use Rattle.fuse_spec.specs.Numbers.{eintr}
-use Rattle.fuse_spec.specs.Queues.{QueueState, is_unread, request_under}
-use Rattle.fuse_spec.specs.QueueCalls.{waiting, interrupt_effect, after_dequeue, after_effect, after_interrupt}
-use Rattle.fuse_spec.specs.QueueLaws.{kept_entries}
-use Rattle.fuse_spec.specs.Signals.{signal_effect}
-use Rattle.fuse_spec.specs.Vfs.{CallState, using, answered}
+use Rattle.fuse_spec.specs.Calls.Answers.{failed}
+use Rattle.fuse_spec.specs.Kernel.Kernel.{Kernel, is_for, is_live, request_of, after_use, released_if_idle, after_signal, signalled_at, call_signalled}
+use Rattle.fuse_spec.specs.Values.Maps.{Map, get}
+use Rattle.fuse_spec.specs.Values.Numbers.{eintr}
+use Rattle.fuse_spec.specs.Kernel.Queues.{QueueState, is_unread, request_under}
+use Rattle.fuse_spec.specs.Kernel.QueueCalls.{waiting, interrupt_effect, after_dequeue, after_effect, after_interrupt}
+use Rattle.fuse_spec.specs.Kernel.QueueLaws.{kept_entries}
+use Rattle.fuse_spec.specs.Kernel.Signals.{signal_effect}
+use Rattle.fuse_spec.specs.Calls.Vfs.{CallState, using, answered}
 use Rattle.fk_queues.specs.Room.{Room, KeepsRoom}
 use Rattle.fk_kernel.specs.Entries.{EndsPast}
 use Rattle.fk_kernel.specs.Refused.{is_past_end}

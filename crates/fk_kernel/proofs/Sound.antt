@@ -3,7 +3,7 @@ use Rattle.std.proofs.Common.{◌≡◌, ◌≢◌, ℕ, ◌+◌, ◌≤◌, ◌
 use Rattle.std.specs.Prelude.{is_some, option_map, slice_get}
 use Rattle.std.specs.Ordering.{nat_cmp, is_eq}
 use Rattle.std.proofs.lemmas.Bool.{cases_eq}
-use Rattle.fuse_spec.specs.Maps.{Map, get, put, remove}
+use Rattle.fuse_spec.specs.Values.Maps.{Map, get, put, remove}
 use Rattle.fuse_spec.proofs.Tables.{cmp_same, get_put_there, get_gone_here}
 use Rattle.fk_kernel.specs.Soundness.{IsSound}
 pub use Rattle.fk_nodes.proofs.Lengths.{length_put, length_kept, gone_none, length_gone, gone_absent}

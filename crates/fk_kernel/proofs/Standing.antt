@@ -3,15 +3,15 @@ use Rattle.std.proofs.Common.{◌≡◌, ◌≢◌, ℕ, true, false, true≢fal
 use Rattle.std.specs.Prelude.{Bool, is_some, not}
 use Rattle.fuse_spec.specs.declared.Entry.{Entry}
 use Rattle.fuse_spec.specs.declared.Opened.{Opened}
-use Rattle.fuse_spec.specs.Kernel.{Kernel, closed_by, after_use}
-use Rattle.fuse_spec.specs.Maps.{Map, Place}
-use Rattle.fuse_spec.specs.Operations.{Operation, lookup, getattr, mkdir, create, unlink, rmdir, rename, link, opening, readdir, readdirplus, read, write}
-use Rattle.fuse_spec.specs.Operations as reply
-use Rattle.fuse_spec.specs.Operations.{DirentPlus}
-use Rattle.fuse_spec.specs.Paths.{Name}
-use Rattle.fuse_spec.specs.Replies.{goes_with}
-use Rattle.fuse_spec.specs.Vfs.{CallState, walking, doing, using, asked}
-use Rattle.fuse_spec.specs.Walks.{WalkPlan}
+use Rattle.fuse_spec.specs.Kernel.Kernel.{Kernel, closed_by, after_use}
+use Rattle.fuse_spec.specs.Values.Maps.{Map, Place}
+use Rattle.fuse_spec.specs.Files.Operations.{Operation, lookup, getattr, mkdir, create, unlink, rmdir, rename, link, opening, readdir, readdirplus, read, write}
+use Rattle.fuse_spec.specs.Files.Operations as reply
+use Rattle.fuse_spec.specs.Files.Operations.{DirentPlus}
+use Rattle.fuse_spec.specs.Calls.Paths.{Name}
+use Rattle.fuse_spec.specs.Kernel.Replies.{goes_with}
+use Rattle.fuse_spec.specs.Calls.Vfs.{CallState, walking, doing, using, asked}
+use Rattle.fuse_spec.specs.Calls.Walks.{WalkPlan}
 use Rattle.fk_syscalls.specs.States.{StandsAt, used_by}
 use Rattle.fk_syscalls.specs.Values.{call_of, ClosesNone}
 use Rattle.fk_syscalls.specs.declared.call.Call.{Call}

@@ -7,10 +7,10 @@ use Rattle.fk_wire.specs.declared.opcode.Opcode.TheVariants as op
 use Rattle.fuse_spec.specs.declared.Purpose.{Purpose}
 use Rattle.fuse_spec.specs.declared.WriteResult.{WriteResult}
 use Rattle.fuse_spec.specs.declared.WriteResult.TheVariants.{Accepted}
-use Rattle.fuse_spec.specs.Kernel.{Kernel}
-use Rattle.fuse_spec.specs.Messages.{WireReply}
-use Rattle.fuse_spec.specs.QueueCalls.{waiting, without}
-use Rattle.fuse_spec.specs.Replies.{reply_written, reply_taken, odd_taken, interrupt_replied}
+use Rattle.fuse_spec.specs.Kernel.Kernel.{Kernel}
+use Rattle.fuse_spec.specs.Kernel.Messages.{WireReply}
+use Rattle.fuse_spec.specs.Kernel.QueueCalls.{waiting, without}
+use Rattle.fuse_spec.specs.Kernel.Replies.{reply_written, reply_taken, odd_taken, interrupt_replied}
 use Rattle.fk_kernel.specs.Said.{Says, SaysNothing, Awaited, nothing, gone, reply_to, awaited, awaited_by, awaited_by_interrupt, wrong_body, wrong_body_to, IsJudged, IsTaken}
 
 abbrev pub opcode_in : Awaited → Opcode

@@ -3,12 +3,12 @@ use Rattle.std.proofs.Common.{◌≡◌, ℕ, ◌+◌, ◌^◌, ◌/◌, ◌-◌
 use Rattle.std.specs.Prelude.{◌||◌, is_some, nat_lt}
 use Rattle.std.proofs.lemmas.Bool.Decides.{nat_tests}
 use Rattle.fuse_spec.specs.declared.Opened.{Opened}
-use Rattle.fuse_spec.specs.Kernel.{Kernel, asking_for}
-use Rattle.fuse_spec.specs.Operations.{Operation}
-use Rattle.fuse_spec.specs.Uniques.{numbers_left_from}
-use Rattle.fuse_spec.specs.Paths.{Name}
-use Rattle.fuse_spec.specs.Vfs.{Vfs, look, after_walk, walks_on}
-use Rattle.fuse_spec.specs.Walks.{WalkPlan, Walked, looks_up, finds_none, asks, walk}
+use Rattle.fuse_spec.specs.Kernel.Kernel.{Kernel, asking_for}
+use Rattle.fuse_spec.specs.Files.Operations.{Operation}
+use Rattle.fuse_spec.specs.Kernel.Uniques.{numbers_left_from}
+use Rattle.fuse_spec.specs.Calls.Paths.{Name}
+use Rattle.fuse_spec.specs.Calls.Vfs.{Vfs, look, after_walk, walks_on}
+use Rattle.fuse_spec.specs.Calls.Walks.{WalkPlan, Walked, looks_up, finds_none, asks, walk}
 use Rattle.fk_kernel.specs.Refused.{is_past_end}
 use Rattle.fk_kernel.proofs.Phases.{none_past_end}
 

@@ -5,18 +5,18 @@ use Rattle.fuse_spec.specs.declared.Entry.{Entry}
 use Rattle.fuse_spec.specs.declared.Opened.{Opened}
 use Rattle.fuse_spec.specs.declared.Purpose.TheVariants.{Call, Release}
 use Rattle.fuse_spec.specs.declared.WriteResult.{WriteResult}
-use Rattle.fuse_spec.specs.Answers as answer
-use Rattle.fuse_spec.specs.Kernel.{Kernel, advanced, after_use, released, is_used}
-use Rattle.fuse_spec.specs.Maps.{get, remove}
-use Rattle.fuse_spec.specs.Messages.{WireReply}
-use Rattle.fuse_spec.specs.Operations as reply
-use Rattle.fuse_spec.specs.Operations.{Operation, lookup, getattr, mkdir, create, unlink, rmdir, rename, link, opening, readdir, readdirplus, read, write, DirentPlus}
-use Rattle.fuse_spec.specs.QueueCalls.{waiting, without, after_enqueue}
-use Rattle.fuse_spec.specs.Replies.{Use, usable, useless, stale, use_of, goes_with, learnt, reply_written}
-use Rattle.fuse_spec.specs.Uniques.{numbers_left_from}
-use Rattle.fuse_spec.specs.Paths.{Name}
-use Rattle.fuse_spec.specs.Vfs.{CallState, walking, doing, using, asked, Advance, bound, walks_on}
-use Rattle.fuse_spec.specs.Walks.{WalkPlan}
+use Rattle.fuse_spec.specs.Calls.Answers as answer
+use Rattle.fuse_spec.specs.Kernel.Kernel.{Kernel, advanced, after_use, released, is_used}
+use Rattle.fuse_spec.specs.Values.Maps.{get, remove}
+use Rattle.fuse_spec.specs.Kernel.Messages.{WireReply}
+use Rattle.fuse_spec.specs.Files.Operations as reply
+use Rattle.fuse_spec.specs.Files.Operations.{Operation, lookup, getattr, mkdir, create, unlink, rmdir, rename, link, opening, readdir, readdirplus, read, write, DirentPlus}
+use Rattle.fuse_spec.specs.Kernel.QueueCalls.{waiting, without, after_enqueue}
+use Rattle.fuse_spec.specs.Kernel.Replies.{Use, usable, useless, stale, use_of, goes_with, learnt, reply_written}
+use Rattle.fuse_spec.specs.Kernel.Uniques.{numbers_left_from}
+use Rattle.fuse_spec.specs.Calls.Paths.{Name}
+use Rattle.fuse_spec.specs.Calls.Vfs.{CallState, walking, doing, using, asked, Advance, bound, walks_on}
+use Rattle.fuse_spec.specs.Calls.Walks.{WalkPlan}
 use Rattle.fk_syscalls.specs.States.{StandsAt}
 use Rattle.fk_kernel.specs.Entries.{Awaits, EndsWithin, mkdirs, links}
 use Rattle.fk_kernel.specs.Refused.{is_past_end}

@@ -2,19 +2,19 @@
 use Rattle.std.specs.Prelude.{◌≡◌, ◌<◌, ℕ, List, length, Option, Some, None, true, false, is_some}
 use Rattle.std.specs.List.{list_any}
 use Rattle.fuse_spec.specs.declared.Opened.{Opened}
-use Rattle.fuse_spec.specs.Kernel.{Kernel, is_using}
-use Rattle.fuse_spec.specs.Maps.{Map, Place, get, remove, values}
-use Rattle.fuse_spec.specs.Messages.{WireReply}
-use Rattle.fuse_spec.specs.Operations.{Operation, lookup, mkdir, create, link, opening, readdirplus, files_in_reply}
-use Rattle.fuse_spec.specs.Operations as reply
-use Rattle.fuse_spec.specs.Paths.{Name}
-use Rattle.fuse_spec.specs.Replies.{Use, usable, useless, stale, goes_with, learnt, reply_judged, use_of_reply}
+use Rattle.fuse_spec.specs.Kernel.Kernel.{Kernel, is_using}
+use Rattle.fuse_spec.specs.Values.Maps.{Map, Place, get, remove, values}
+use Rattle.fuse_spec.specs.Kernel.Messages.{WireReply}
+use Rattle.fuse_spec.specs.Files.Operations.{Operation, lookup, mkdir, create, link, opening, readdirplus, files_in_reply}
+use Rattle.fuse_spec.specs.Files.Operations as reply
+use Rattle.fuse_spec.specs.Calls.Paths.{Name}
+use Rattle.fuse_spec.specs.Kernel.Replies.{Use, usable, useless, stale, goes_with, learnt, reply_judged, use_of_reply}
 use Rattle.fuse_spec.specs.declared.Counted.{Counted}
 use Rattle.fuse_spec.specs.declared.Entry.{Entry}
-use Rattle.fuse_spec.specs.Numbers.{counter_end}
-use Rattle.fuse_spec.specs.Uniques.{numbers_left_from}
-use Rattle.fuse_spec.specs.Vfs.{CallState, walking, doing, using}
-use Rattle.fuse_spec.specs.Walks.{WalkPlan}
+use Rattle.fuse_spec.specs.Values.Numbers.{counter_end}
+use Rattle.fuse_spec.specs.Kernel.Uniques.{numbers_left_from}
+use Rattle.fuse_spec.specs.Calls.Vfs.{CallState, walking, doing, using}
+use Rattle.fuse_spec.specs.Calls.Walks.{WalkPlan}
 use Rattle.fk_syscalls.specs.States.{StandsAt}
 
 -- The call that stands here waits for a reply that says this, and it goes with what the call asked.

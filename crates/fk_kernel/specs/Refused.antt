@@ -1,15 +1,15 @@
 -- Which refusal each call of the kernel gets. The refusals stand in the order in which they are judged; want of memory comes last.
 use Rattle.std.specs.Prelude.{◌≡◌, ℕ, List, Bool, true, ◌||◌, cond, not, Option, Some, None, length, nat_eq, nat_lt, nat_le}
-use Rattle.fuse_spec.specs.Numbers.{max_calls, counter_end}
-use Rattle.fuse_spec.specs.Calls.{Call, spoken}
-use Rattle.fuse_spec.specs.Kernel.{Kernel, is_live, body_of, call_begun}
+use Rattle.fuse_spec.specs.Values.Numbers.{max_calls, counter_end}
+use Rattle.fuse_spec.specs.Calls.Calls.{Call, spoken}
+use Rattle.fuse_spec.specs.Kernel.Kernel.{Kernel, is_live, body_of, call_begun}
 use Rattle.fk_wire.specs.declared.opcode.Opcode.{Opcode}
-use Rattle.fuse_spec.specs.Messages.{Request, RequestBody, WireReply}
-use Rattle.fuse_spec.specs.Replies.{reply_written}
+use Rattle.fuse_spec.specs.Kernel.Messages.{Request, RequestBody, WireReply}
+use Rattle.fuse_spec.specs.Kernel.Replies.{reply_written}
 use Rattle.fk_kernel.specs.Said.{Awaited, reply_to, awaited, HasReplyHead, head_unique, IsJudged, Means}
 use Rattle.fk_nodes.specs.Learning.{is_out}
-use Rattle.fuse_spec.specs.QueueCalls.{pending_at}
-use Rattle.fuse_spec.specs.Steps.{is_ready, is_busy}
+use Rattle.fuse_spec.specs.Kernel.QueueCalls.{pending_at}
+use Rattle.fuse_spec.specs.World.Steps.{is_ready, is_busy}
 use Rattle.fuse_spec.specs.declared.Purpose.{Purpose}
 use Rattle.fuse_spec.specs.declared.Refusal.{Refusal}
 use Rattle.fuse_spec.specs.declared.Refusal.TheVariants.{NoMemory, NoSuch, InterruptFirst, NotReady, Full, Busy, Exhausted}

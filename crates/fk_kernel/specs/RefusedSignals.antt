@@ -1,10 +1,10 @@
 -- Which refusal a signal, a read of an INTERRUPT and an abort get, and what they come to. The refusals stand in the order in which they are judged.
 use Rattle.std.specs.Prelude.{◌≡◌, ℕ, Bool, cond, not, List, [], ◌∷◌, Option, Some, None}
-use Rattle.fuse_spec.specs.Kernel.{Kernel, is_live, call_signalled}
-use Rattle.fuse_spec.specs.Maps.{get}
-use Rattle.fuse_spec.specs.Messages.{Request, interrupt}
-use Rattle.fuse_spec.specs.Uniques.{interrupt_number}
-use Rattle.fuse_spec.specs.Vfs.{CallState}
+use Rattle.fuse_spec.specs.Kernel.Kernel.{Kernel, is_live, call_signalled}
+use Rattle.fuse_spec.specs.Values.Maps.{get}
+use Rattle.fuse_spec.specs.Kernel.Messages.{Request, interrupt}
+use Rattle.fuse_spec.specs.Kernel.Uniques.{interrupt_number}
+use Rattle.fuse_spec.specs.Calls.Vfs.{CallState}
 use Rattle.fuse_spec.specs.declared.IntrEffect.{IntrEffect}
 use Rattle.fuse_spec.specs.declared.Opened.{Opened}
 use Rattle.fuse_spec.specs.declared.Refusal.{Refusal}

@@ -1,12 +1,12 @@
 -- Which refusal a tick, a drop of a name, an evict and a read of forgets get. The refusals stand in the order in which they are judged.
 use Rattle.std.specs.Prelude.{◌≡◌, ℕ, ◌+◌, ◌||◌, cond, not, List, Option, Some, None, length, nat_eq, nat_le}
-use Rattle.fuse_spec.specs.Kernel.{Kernel, forgets_read, is_live, is_pinned, is_bound}
-use Rattle.fuse_spec.specs.Maps.{get, get_name}
-use Rattle.fuse_spec.specs.Messages.{Forget, Request}
-use Rattle.fuse_spec.specs.Numbers.{clock_end}
-use Rattle.fuse_spec.specs.Paths.{Name}
-use Rattle.fuse_spec.specs.QueueCalls.{after_read_forgets}
-use Rattle.fuse_spec.specs.Worlds.{forget_body}
+use Rattle.fuse_spec.specs.Kernel.Kernel.{Kernel, forgets_read, is_live, is_pinned, is_bound}
+use Rattle.fuse_spec.specs.Values.Maps.{get, get_name}
+use Rattle.fuse_spec.specs.Kernel.Messages.{Forget, Request}
+use Rattle.fuse_spec.specs.Values.Numbers.{clock_end}
+use Rattle.fuse_spec.specs.Calls.Paths.{Name}
+use Rattle.fuse_spec.specs.Kernel.QueueCalls.{after_read_forgets}
+use Rattle.fuse_spec.specs.World.Worlds.{forget_body}
 use Rattle.fuse_spec.specs.declared.Binding.{Binding}
 use Rattle.fuse_spec.specs.declared.Counted.{Counted}
 use Rattle.fuse_spec.specs.declared.Refusal.{Refusal}

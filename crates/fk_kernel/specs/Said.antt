@@ -5,15 +5,15 @@ use Rattle.fk_wire.specs.declared.opcode.Opcode.TheVariants as op
 use Rattle.fuse_spec.specs.declared.Opened.{Opened}
 use Rattle.fuse_spec.specs.declared.Purpose.{Purpose}
 use Rattle.fuse_spec.specs.declared.Purpose.TheVariants.{Init, Release, Call}
-use Rattle.fuse_spec.specs.Operations as reply
-use Rattle.fuse_spec.specs.Messages.{WireReply}
-use Rattle.fuse_spec.specs.Maps.{get}
-use Rattle.fuse_spec.specs.Vfs.{CallState, asked}
-use Rattle.fuse_spec.specs.QueueCalls.{waiting, without}
-use Rattle.fuse_spec.specs.Replies.{reply_written}
+use Rattle.fuse_spec.specs.Files.Operations as reply
+use Rattle.fuse_spec.specs.Kernel.Messages.{WireReply}
+use Rattle.fuse_spec.specs.Values.Maps.{get}
+use Rattle.fuse_spec.specs.Calls.Vfs.{CallState, asked}
+use Rattle.fuse_spec.specs.Kernel.QueueCalls.{waiting, without}
+use Rattle.fuse_spec.specs.Kernel.Replies.{reply_written}
 use Rattle.fuse_spec.specs.declared.WriteResult.{WriteResult}
 use Rattle.fuse_spec.specs.declared.WriteResult.TheVariants.{Accepted}
-use Rattle.fuse_spec.specs.Kernel.{Kernel}
+use Rattle.fuse_spec.specs.Kernel.Kernel.{Kernel}
 pub use Rattle.fk_said.specs.Said.{Says, SaysNothing, HasReplyHead, head_unique, opcode_of}
 
 -- What awaits a reply under a unique: no request, that of a call which is not unanswered, or a request of an opcode.

@@ -2,14 +2,14 @@
 use Rattle.std.specs.Prelude.{◌≡◌, ◌≢◌, ◌≤◌, ◌<◌, ◌^◌, ℕ, false, [], None, length, T}
 use Rattle.std.specs.Ordering.{nat_cmp}
 use Rattle.std.specs.FinMap.{is_sorted}
-use Rattle.fuse_spec.specs.Maps.{Map, get}
-use Rattle.fuse_spec.specs.Numbers.{clock_end}
-use Rattle.fuse_spec.specs.Queues.{QueueState}
-use Rattle.fuse_spec.specs.Vfs.{CallState}
+use Rattle.fuse_spec.specs.Values.Maps.{Map, get}
+use Rattle.fuse_spec.specs.Values.Numbers.{clock_end}
+use Rattle.fuse_spec.specs.Kernel.Queues.{QueueState}
+use Rattle.fuse_spec.specs.Calls.Vfs.{CallState}
 use Rattle.fuse_spec.specs.declared.Counted.{Counted}
 use Rattle.fuse_spec.specs.declared.Opened.{Opened}
 use Rattle.fuse_spec.specs.declared.Phase.{Phase}
-use Rattle.fuse_spec.specs.Kernel.{is_live}
+use Rattle.fuse_spec.specs.Kernel.Kernel.{is_live}
 use Rattle.fuse_spec.specs.declared.Purpose.{Purpose}
 use Rattle.fk_nodes.specs.Learning.{AreBelow}
 use Rattle.fk_queues.specs.Room.{Room}

@@ -1,15 +1,16 @@
 //! How a mount is aborted.
 
 ghost use Rattle.std.specs.Prelude.{◌≡◌, Some, None, OnOk, OnErr, IfErr};
-ghost use Rattle.fuse_spec.specs.Kernel.{kernel_aborted};
+ghost use Rattle.fuse_spec.specs.Kernel.Kernel.{kernel_aborted};
 ghost use Rattle.fk_kernel.specs.RefusedSignals.{abort_refusal};
 
 use crate::kernel::KernelOf;
 use fk_calls::answer_all;
+use fk_lookup_count::CountTable;
 use fk_queues::QueueTable;
 use fuse_spec::{Phase, Purpose, Refusal};
 
-impl<Q: QueueTable<Purpose> + Drop> KernelOf<Q> {
+impl<Q: QueueTable<Purpose> + Drop, C: CountTable<Heap = Q::Heap> + Drop> KernelOf<Q, C> {
     /// Aborts the mount (fuse.rst). Each unanswered call is answered ECONNABORTED, and names in force, nodes, open files and all
     /// that is queued are given up. Takes no memory: the answers have their room since the calls began.
     ///

@@ -1,17 +1,18 @@
 //! Answers of calls.
 
 ghost use Rattle.std.specs.Prelude.{length, ◌≡◌, ◌<◌, ◌+◌, Some, None, true, is_some, option_map, slice_get, IfNone, IfSome};
-ghost use Rattle.fuse_spec.specs.Maps.{get, remove};
-ghost use Rattle.fuse_spec.specs.Vfs.{answered};
+ghost use Rattle.fuse_spec.specs.Values.Maps.{get, remove};
+ghost use Rattle.fuse_spec.specs.Calls.Vfs.{answered};
 ghost use Rattle.fk_syscalls.specs.Values.{answer_of};
-ghost use Rattle.fuse_spec.specs.QueueCalls.{waiting, without};
+ghost use Rattle.fuse_spec.specs.Kernel.QueueCalls.{waiting, without};
 
 use crate::kernel::KernelOf;
+use fk_lookup_count::CountTable;
 use fk_queues::QueueTable;
 use fk_syscalls::Answer;
 use fuse_spec::Purpose;
 
-impl<Q: QueueTable<Purpose> + Drop> KernelOf<Q> {
+impl<Q: QueueTable<Purpose> + Drop, C: CountTable<Heap = Q::Heap> + Drop> KernelOf<Q, C> {
     /// The call's request ends, and the call is answered.
     pub(crate) fn answer_call(&mut self, unique: u64, call: u64, answer: Answer<Q::Heap>)
         requires waits { is_some (waiting self.old.queues unique) ≡ true }

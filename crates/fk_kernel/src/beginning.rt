@@ -1,27 +1,25 @@
 //! How a call begins.
 
 ghost use Rattle.std.specs.Prelude.{length, ◌≡◌, ◌<◌, ◌^◌, ◌+◌, None, Ok, OnOk, OnErr, IfOk, IfErr, true, false, cond, nat_eq};
-ghost use Rattle.fuse_spec.specs.Uniques.{numbers_left_from};
+ghost use Rattle.fuse_spec.specs.Kernel.Uniques.{numbers_left_from};
 ghost use Rattle.fuse_spec.specs.declared.Opened.{Opened};
-ghost use Rattle.fuse_spec.specs.Kernel.{is_aborted, call_begun, call_put};
-ghost use Rattle.fuse_spec.specs.Steps.{is_ready};
-ghost use Rattle.fuse_spec.specs.Vfs.{CallState as State, begun, asking, answered, numbered};
+ghost use Rattle.fuse_spec.specs.Kernel.Kernel.{is_aborted, call_begun, call_put};
+ghost use Rattle.fuse_spec.specs.World.Steps.{is_ready};
+ghost use Rattle.fuse_spec.specs.Calls.Vfs.{CallState as State, begun, asking, answered, numbered};
 ghost use Rattle.fk_syscalls.specs.Values.{comes_to, call_of, answer_of, ClosesNone};
 ghost use Rattle.fk_kernel.specs.Refused.{or_no_memory, begin_refusal, begun_refusal};
-ghost use Rattle.fuse_spec.specs.QueueCalls.{after_enqueue};
+ghost use Rattle.fuse_spec.specs.Kernel.QueueCalls.{after_enqueue};
 
 use crate::kernel::KernelOf;
-use fk_calls::{MAX_CALLS, StoredAnswer, is_full};
+use fk_calls::{StoredAnswer, is_full};
+use fk_lookup_count::CountTable;
 use fk_queues::QueueTable;
 use fk_syscalls::{Answer, Call, CallState, Next, begin};
+use fuse_spec::errno::ENOTCONN;
+use fuse_spec::limits::{COUNTER_END, MAX_CALLS};
 use fuse_spec::{Purpose, Refusal};
 
-/// No counter gives a number from here on.
-const COUNTER_END: u64 = 0x4000_0000_0000_0000;
-
-const ENOTCONN: u32 = 107;
-
-impl<Q: QueueTable<Purpose> + Drop> KernelOf<Q> {
+impl<Q: QueueTable<Purpose> + Drop, C: CountTable<Heap = Q::Heap> + Drop> KernelOf<Q, C> {
     /// Begins a call and gives its number. It is answered at once, or its first request is queued. Where files may not be listed
     /// with their names, the names are listed alone.
     ///

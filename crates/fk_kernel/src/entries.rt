@@ -1,20 +1,20 @@
 //! How replies are taken that name a file: to a LOOKUP, MKDIR, LINK, CREATE or OPEN.
 
 ghost use Rattle.std.specs.Prelude.{◌≡◌, ◌≢◌, ◌<◌, ◌^◌, ◌+◌, [], ◌∷◌, ◌≤◌, ◌%◌, ℕ, List, Some, None, Ok, OnOk, OnErr, IfOk, IfErr, true, false, is_some, nat_eq};
-ghost use Rattle.fuse_spec.specs.Answers.{failed};
-ghost use Rattle.fuse_spec.specs.Maps.{get, remove};
-ghost use Rattle.fuse_spec.specs.Vfs.{CallState as State, walking, doing, asked, answered, bound};
-ghost use Rattle.fuse_spec.specs.Walks.{WalkPlan};
-ghost use Rattle.fuse_spec.specs.Numbers.{counter_end, max_validity};
-ghost use Rattle.fuse_spec.specs.Operations as reply;
-ghost use Rattle.fuse_spec.specs.Operations.{opening};
-ghost use Rattle.fuse_spec.specs.Paths.{Name};
-ghost use Rattle.fuse_spec.specs.Replies.{usable, use_of, counted_more, learnt, reply_written};
+ghost use Rattle.fuse_spec.specs.Calls.Answers.{failed};
+ghost use Rattle.fuse_spec.specs.Values.Maps.{get, remove};
+ghost use Rattle.fuse_spec.specs.Calls.Vfs.{CallState as State, walking, doing, asked, answered, bound};
+ghost use Rattle.fuse_spec.specs.Calls.Walks.{WalkPlan};
+ghost use Rattle.fuse_spec.specs.Values.Numbers.{counter_end, max_validity};
+ghost use Rattle.fuse_spec.specs.Files.Operations as reply;
+ghost use Rattle.fuse_spec.specs.Files.Operations.{opening};
+ghost use Rattle.fuse_spec.specs.Calls.Paths.{Name};
+ghost use Rattle.fuse_spec.specs.Kernel.Replies.{usable, use_of, counted_more, learnt, reply_written};
 ghost use Rattle.fuse_spec.specs.declared.Opened.{Opened as OpenedFile};
 ghost use Rattle.fk_kernel.specs.Refused.{is_past_end};
-ghost use Rattle.fuse_spec.specs.QueueCalls.{after_forget, waiting, without};
+ghost use Rattle.fuse_spec.specs.Kernel.QueueCalls.{after_forget, waiting, without};
 ghost use Rattle.std.specs.Option.{ForSome};
-ghost use Rattle.fuse_spec.specs.Maps.{Place, put_name};
+ghost use Rattle.fuse_spec.specs.Values.Maps.{Place, put_name};
 ghost use Rattle.fk_kernel.specs.Entries.{place_of, Awaits, LooksUp, Makes, Creates, Opens, nodes_heard};
 ghost use Rattle.fk_nodes.specs.Learning.{is_out};
 ghost use Rattle.fk_nodes.specs.Uses.{use_meant};
@@ -22,22 +22,20 @@ ghost use Rattle.fk_nodes.specs.Uses.{use_meant};
 use crate::kernel::KernelOf;
 use fk_calls::{StoredAnswer, bind_missing};
 use fk_dentry::Bindings;
+use fk_lookup_count::CountTable;
 use fk_nodes::{CountedNodes, EntryUse};
 use fk_queues::QueueTable;
 use fk_syscalls::{Answer, Asked, CallState, Next};
+use fuse_spec::errno::{EIO, ENOENT};
 use fuse_spec::{Entry, Opened, Purpose, Refusal, WriteResult};
 use fuse_tables::Table;
 use std::alloc::{AllocError, Allocator};
 
-const ENOENT: u32 = 2;
-
-const EIO: u32 = 5;
-
 /// The word or name that a call asks for leads to the node of an entry until a time, and one lookup more of the node is counted.
-fn bind_entry<A: Allocator + Copy>(
+fn bind_entry<A: Allocator + Copy, C: CountTable>(
     calls: &Table<CallState<A>, A>,
     names: &mut Bindings<A>,
-    nodes: &mut CountedNodes<A>,
+    nodes: &mut CountedNodes<C>,
     call: u64,
     entry: &Entry,
     until: u64,
@@ -70,7 +68,7 @@ fn bind_entry<A: Allocator + Copy>(
     Ok(())
 }
 
-impl<Q: QueueTable<Purpose> + Drop> KernelOf<Q> {
+impl<Q: QueueTable<Purpose> + Drop, C: CountTable<Heap = Q::Heap> + Drop> KernelOf<Q, C> {
     /// What a reply with an entry says reaches the call: it has to name a file that can be used.
     pub(crate) fn entry_found(
         &mut self,

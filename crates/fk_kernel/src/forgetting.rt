@@ -1,9 +1,9 @@
 //! How nodes are given up, and forgets are read.
 
 ghost use Rattle.std.specs.Prelude.{◌≡◌, Some, None, OnOk, OnErr, IfOk, IfErr, map};
-ghost use Rattle.fuse_spec.specs.Kernel.{evicted, forgets_read};
-ghost use Rattle.fuse_spec.specs.Maps.{get};
-ghost use Rattle.fuse_spec.specs.QueueCalls.{after_read_forgets};
+ghost use Rattle.fuse_spec.specs.Kernel.Kernel.{evicted, forgets_read};
+ghost use Rattle.fuse_spec.specs.Values.Maps.{get};
+ghost use Rattle.fuse_spec.specs.Kernel.QueueCalls.{after_read_forgets};
 ghost use Rattle.fuse_spec.specs.declared.Counted.{Counted};
 ghost use Rattle.fk_kernel.specs.Refused.{or_no_memory};
 ghost use Rattle.fk_kernel.specs.RefusedUpkeep.{evict_refusal, read_forgets_refusal, IsForgetFrame};
@@ -11,12 +11,13 @@ ghost use Rattle.fk_kernel.specs.RefusedUpkeep.{evict_refusal, read_forgets_refu
 use crate::kernel::KernelOf;
 use crate::open_files::is_releasing;
 use fk_calls::is_node_in_use;
+use fk_lookup_count::CountTable;
 use fk_queues::{Forgets, QueueTable};
 use fuse_frames::RequestFrame;
 use fuse_spec::{Minor, Purpose, Refusal};
 use std::alloc::AllocError;
 
-impl<Q: QueueTable<Purpose> + Drop> KernelOf<Q> {
+impl<Q: QueueTable<Purpose> + Drop, C: CountTable<Heap = Q::Heap> + Drop> KernelOf<Q, C> {
     /// Why a node cannot be given up: `NotReady` where the mount is not live, `NoSuch` where the node is not counted,
     /// `Busy` where it is pinned or a name in force, valid or not, names it.
     pub fn evict_refusal(&self, node: u64) -> Option<Refusal>

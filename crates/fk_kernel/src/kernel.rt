@@ -1,28 +1,29 @@
 //! The kernel.
 
 ghost use Rattle.std.specs.Prelude.{◌≡◌, ◌<◌, ◌+◌, [], None, Ok, OnOk, OnErr, IfErr, T, false};
-ghost use Rattle.fuse_spec.specs.Kernel.{is_live, is_aborted, kernel_mounted};
-ghost use Rattle.fuse_spec.specs.Steps.{is_ready, is_busy, is_counted_out};
+ghost use Rattle.fuse_spec.specs.Kernel.Kernel.{is_live, is_aborted, kernel_mounted};
+ghost use Rattle.fuse_spec.specs.World.Steps.{is_ready, is_busy, is_counted_out};
 ghost use Rattle.fk_nodes.specs.Learning.{AreBelow};
 ghost use Rattle.std.specs.FinMap.{is_sorted};
 ghost use Rattle.std.specs.Ordering.{nat_cmp};
-ghost use Rattle.fuse_spec.specs.Worlds.{first_kernel};
+ghost use Rattle.fuse_spec.specs.World.Worlds.{first_kernel};
 ghost use Rattle.fk_kernel.specs.Refused.{is_past_end, or_no_memory, mount_refusal};
 
 use fk_calls::StoredAnswer;
 use fk_dentry::Bindings;
+use fk_lookup_count::{CountTable, KernelNodes, ListCounts};
 use fk_nodes::CountedNodes;
-use fk_queues::{QueueTable, Queues};
+use fk_queues::{ListQueues, QueueTable, Queues};
 use fk_syscalls::CallState;
 use fuse_spec::{Minor, Opened, Phase, Purpose, Refusal};
 use fuse_tables::Table;
 use std::alloc::Global;
 use std::marker::Model;
 
-/// The kernel's half of the protocol, over any queues. It is told of system calls, hands out requests and takes any
-/// bytes as replies.
+/// The kernel's half of the protocol, over any queues and any table of counted nodes. It is told of system calls, hands out
+/// requests and takes any bytes as replies.
 #[derive(Drop)]
-pub struct KernelOf<Q: QueueTable<Purpose>> {
+pub struct KernelOf<Q: QueueTable<Purpose>, C: CountTable<Heap = Q::Heap>> {
     pub(crate) alloc: Q::Heap,
     pub(crate) phase: Phase,
     pub(crate) queues: Q,
@@ -33,7 +34,7 @@ pub struct KernelOf<Q: QueueTable<Purpose>> {
     /// The closed files of which a read or write is unanswered.
     pub(crate) closing: Table<Opened, Q::Heap>,
     pub(crate) names: Bindings<Q::Heap>,
-    pub(crate) nodes: CountedNodes<Q::Heap>,
+    pub(crate) nodes: CountedNodes<C>,
     pub(crate) next_call: u64,
     pub(crate) clock: u64,
     /// The minor that INIT agreed on.
@@ -42,12 +43,15 @@ pub struct KernelOf<Q: QueueTable<Purpose>> {
     pub(crate) lists_files: bool,
 }
 
-/// The kernel of the program.
-pub type Kernel<A = Global> = KernelOf<Queues<Purpose, A>>;
+/// The kernel of the program, over maps and slabs.
+pub type Kernel<A = Global> = KernelOf<Queues<Purpose, A>, KernelNodes<A>>;
 
-impl<Q: QueueTable<Purpose>> Model for KernelOf<Q> {
+/// The kernel over plain lists.
+pub type ListKernel<A = Global> = KernelOf<ListQueues<Purpose, A>, ListCounts<A>>;
+
+impl<Q: QueueTable<Purpose>, C: CountTable<Heap = Q::Heap>> Model for KernelOf<Q, C> {
     ghost use Rattle.std.specs.Coded.{codes};
-    ghost use Rattle.fuse_spec.specs.Kernel.{Kernel as KernelState};
+    ghost use Rattle.fuse_spec.specs.Kernel.Kernel.{Kernel as KernelState};
     ghost use Rattle.fk_kernel.specs.Soundness.{IsSoundKernel};
 
     ghost Value = { KernelState };
@@ -59,7 +63,7 @@ impl<Q: QueueTable<Purpose>> Model for KernelOf<Q> {
     ghost invariant = { λ k. IsSoundKernel k.phase k.calls.entries k.answers.entries k.answers.room k.next_call k.opens.entries k.closing.entries (Q.state k.queues) (Q.room k.queues) k.nodes k.clock };
 }
 
-impl<Q: QueueTable<Purpose> + Drop> KernelOf<Q> {
+impl<Q: QueueTable<Purpose> + Drop, C: CountTable<Heap = Q::Heap> + Drop> KernelOf<Q, C> {
     /// A kernel before its first mount.
     pub fn new(alloc: Q::Heap) -> Self
         ensures { result ≡ first_kernel }

@@ -18,4 +18,4 @@ mod signals;
 mod writing;
 
 pub use fk_syscalls::{Answer, Call, ListedName};
-pub use kernel::Kernel;
+pub use kernel::{Kernel, KernelOf, ListKernel};

@@ -1,24 +1,25 @@
 //! How the names of a list with their files are taken.
 
 ghost use Rattle.std.specs.Prelude.{◌≡◌, ◌%◌, ℕ, Some, OnOk, OnErr, IfErr, false, nat_eq};
-ghost use Rattle.fuse_spec.specs.Maps.{get};
-ghost use Rattle.fuse_spec.specs.Operations as reply;
-ghost use Rattle.fuse_spec.specs.Operations.{readdirplus};
-ghost use Rattle.fuse_spec.specs.QueueCalls.{waiting};
-ghost use Rattle.fuse_spec.specs.Replies.{reply_written};
-ghost use Rattle.fuse_spec.specs.Vfs.{doing};
+ghost use Rattle.fuse_spec.specs.Values.Maps.{get};
+ghost use Rattle.fuse_spec.specs.Files.Operations as reply;
+ghost use Rattle.fuse_spec.specs.Files.Operations.{readdirplus};
+ghost use Rattle.fuse_spec.specs.Kernel.QueueCalls.{waiting};
+ghost use Rattle.fuse_spec.specs.Kernel.Replies.{reply_written};
+ghost use Rattle.fuse_spec.specs.Calls.Vfs.{doing};
 ghost use Rattle.fk_kernel.specs.Entries.{Awaits, ListsPlus, IsFew, nodes_heard};
 ghost use Rattle.fk_nodes.specs.Learning.{is_out};
 ghost use Rattle.fk_nodes.specs.Told.{pairs_in};
 
 use crate::kernel::KernelOf;
+use fk_lookup_count::CountTable;
 use fk_nodes::{forget_stale, learn_and_bind, names_listed, pair_count};
 use fk_queues::QueueTable;
 use fk_syscalls::{Answer, Asked};
 use fk_wire::RecordsPlus;
 use fuse_spec::{Purpose, Refusal, WriteResult};
 
-impl<Q: QueueTable<Purpose> + Drop> KernelOf<Q> {
+impl<Q: QueueTable<Purpose> + Drop, C: CountTable<Heap = Q::Heap> + Drop> KernelOf<Q, C> {
     /// The call is answered the names that a directory lists with their files. Each is counted and in force from now on, but for
     /// those that tell no file, the root, or a node that is counted under another generation, of which one lookup is forgotten.
     pub(crate) fn pairs_listed(

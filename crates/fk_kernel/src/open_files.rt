@@ -2,26 +2,27 @@
 
 ghost use Rattle.std.specs.Prelude.{◌≡◌, ◌<◌, ◌^◌, None, Some, true, false, is_some, length, OnOk, OnErr, IfOk, IfErr, nat_eq};
 ghost use Rattle.std.specs.List.{list_any};
-ghost use Rattle.fuse_spec.specs.Calls as call;
+ghost use Rattle.fuse_spec.specs.Calls.Calls as call;
 ghost use Rattle.fuse_spec.specs.declared.Opened.{Opened as OpenedFile};
-ghost use Rattle.fuse_spec.specs.Kernel.{is_aborted, is_used, released_if_idle, after_use, call_begun, is_released_by};
-ghost use Rattle.fuse_spec.specs.Maps.{get};
-ghost use Rattle.fuse_spec.specs.QueueCalls.{waiting, without};
-ghost use Rattle.fuse_spec.specs.Steps.{is_ready};
-ghost use Rattle.fuse_spec.specs.Uniques.{numbers_left_from};
-ghost use Rattle.fuse_spec.specs.Vfs.{CallState as State, answered};
+ghost use Rattle.fuse_spec.specs.Kernel.Kernel.{is_aborted, is_used, released_if_idle, after_use, call_begun, is_released_by};
+ghost use Rattle.fuse_spec.specs.Values.Maps.{get};
+ghost use Rattle.fuse_spec.specs.Kernel.QueueCalls.{waiting, without};
+ghost use Rattle.fuse_spec.specs.World.Steps.{is_ready};
+ghost use Rattle.fuse_spec.specs.Kernel.Uniques.{numbers_left_from};
+ghost use Rattle.fuse_spec.specs.Calls.Vfs.{CallState as State, answered};
 ghost use Rattle.fk_syscalls.specs.States.{used_by};
 ghost use Rattle.fk_syscalls.specs.Values.{answer_of};
 ghost use Rattle.fk_kernel.specs.Entries.{EndsWithin, EndsPast};
 ghost use Rattle.fk_kernel.specs.Refused.{begun_refusal, or_no_memory};
 
 use crate::kernel::KernelOf;
-use fk_calls::{MAX_CALLS, StoredAnswer, is_in_other_use, is_in_use};
+use fk_calls::{StoredAnswer, is_in_other_use, is_in_use};
+use fk_lookup_count::CountTable;
 use fk_queues::QueueTable;
 use fk_syscalls::Answer;
+use fuse_spec::errno::EBADF;
+use fuse_spec::limits::MAX_CALLS;
 use fuse_spec::{Opened, Purpose, Refusal};
-
-const EBADF: u32 = 9;
 
 /// Whether an open file is of a node.
 fn is_of(opened: &Opened, node: u64) -> bool
@@ -55,7 +56,7 @@ pub(crate) fn is_releasing<Q: QueueTable<Purpose>>(queues: &Q, node: u64) -> boo
     false
 }
 
-impl<Q: QueueTable<Purpose> + Drop> KernelOf<Q> {
+impl<Q: QueueTable<Purpose> + Drop, C: CountTable<Heap = Q::Heap> + Drop> KernelOf<Q, C> {
     /// A call of the next number closes an open file: it is answered at once. The RELEASE is queued unless a read or write of
     /// the file is unanswered.
     pub(crate) fn begin_close(&mut self, handle: u64) -> Result<u64, Refusal>

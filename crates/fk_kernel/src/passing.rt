@@ -1,18 +1,17 @@
 //! How time passes, and names go.
 
 ghost use Rattle.std.specs.Prelude.{◌≡◌, ◌+◌, Some, None, OnOk, OnErr, IfOk, IfErr};
-ghost use Rattle.fuse_spec.specs.Maps.{remove_name};
-ghost use Rattle.fuse_spec.specs.Vfs.{later};
+ghost use Rattle.fuse_spec.specs.Values.Maps.{remove_name};
+ghost use Rattle.fuse_spec.specs.Calls.Vfs.{later};
 ghost use Rattle.fk_kernel.specs.RefusedUpkeep.{tick_refusal, drop_refusal};
 
 use crate::kernel::KernelOf;
+use fk_lookup_count::CountTable;
 use fk_queues::QueueTable;
+use fuse_spec::limits::CLOCK_END;
 use fuse_spec::{Purpose, Refusal};
 
-/// The time stays below this, in milliseconds.
-const CLOCK_END: u64 = 0x20_0000_0000_0000;
-
-impl<Q: QueueTable<Purpose> + Drop> KernelOf<Q> {
+impl<Q: QueueTable<Purpose> + Drop, C: CountTable<Heap = Q::Heap> + Drop> KernelOf<Q, C> {
     /// The clock goes on so many milliseconds. Gives the new time. Takes no memory.
     ///
     /// # Errors

@@ -1,24 +1,23 @@
 //! How requests are read.
 
 ghost use Rattle.std.specs.Prelude.{◌≡◌, ◌<◌, ◌+◌, Some, None, Ok, OnOk, OnErr, IfOk, IfErr, true, ◌≢◌, is_some};
-ghost use Rattle.fuse_spec.specs.Messages.{asks};
-ghost use Rattle.fuse_spec.specs.Kernel.{is_live, body_of};
-ghost use Rattle.fuse_spec.specs.Maps.{get};
+ghost use Rattle.fuse_spec.specs.Kernel.Messages.{asks};
+ghost use Rattle.fuse_spec.specs.Kernel.Kernel.{is_live, body_of};
+ghost use Rattle.fuse_spec.specs.Values.Maps.{get};
 ghost use Rattle.fk_syscalls.specs.Values.{operation_of};
 ghost use Rattle.fk_kernel.specs.Refused.{or_no_memory, read_refusal, IsPendingRequest};
-ghost use Rattle.fuse_spec.specs.QueueCalls.{after_read_pending, waiting};
+ghost use Rattle.fuse_spec.specs.Kernel.QueueCalls.{after_read_pending, waiting};
 
 use crate::kernel::KernelOf;
+use fk_lookup_count::CountTable;
 use fk_queues::QueueTable;
 use fk_syscalls::Asked;
 use fuse_frames::RequestFrame;
+use fuse_spec::limits::MAX_TRANSFER;
 use fuse_spec::{Purpose, Refusal};
 use std::alloc::{AllocError, Allocator};
 
-/// A READDIR asks for at most so many bytes.
-const MAX_TRANSFER: u32 = 4_096;
-
-impl<Q: QueueTable<Purpose> + Drop> KernelOf<Q> {
+impl<Q: QueueTable<Purpose> + Drop, C: CountTable<Heap = Q::Heap> + Drop> KernelOf<Q, C> {
     /// Whether a request has something to ask: that of a call has while the call is unanswered.
     fn asks(&self, purpose: Purpose) -> bool
         ensures { result ≡ is_some (body_of self.now purpose) }

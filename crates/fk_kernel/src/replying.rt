@@ -1,10 +1,10 @@
 //! How the reply to a call's request is taken.
 
 ghost use Rattle.std.specs.Prelude.{◌≡◌, ◌≤◌, ◌%◌, ℕ, map, Some, OnOk, OnErr, IfOk, IfErr, true, false, nat_eq};
-ghost use Rattle.fuse_spec.specs.Maps.{get};
-ghost use Rattle.fuse_spec.specs.Operations as reply;
-ghost use Rattle.fuse_spec.specs.QueueCalls.{waiting};
-ghost use Rattle.fuse_spec.specs.Replies.{reply_written};
+ghost use Rattle.fuse_spec.specs.Values.Maps.{get};
+ghost use Rattle.fuse_spec.specs.Files.Operations as reply;
+ghost use Rattle.fuse_spec.specs.Kernel.QueueCalls.{waiting};
+ghost use Rattle.fuse_spec.specs.Kernel.Replies.{reply_written};
 ghost use Rattle.fuse_spec.specs.declared.Opened.{Opened as OpenedFile};
 ghost use Rattle.fk_kernel.specs.Entries.{Awaits, EndsWithin, IsFew, nodes_heard};
 ghost use Rattle.fk_nodes.specs.Learning.{is_out};
@@ -13,20 +13,20 @@ ghost use Rattle.fk_said.specs.ReplySaid.{wire_of, LastsADay};
 ghost use Rattle.fk_kernel.specs.Said.{Says, SaysNothing, awaited_by_call, wrong_body, IsTaken};
 ghost use Rattle.fk_wire.specs.Records.{records_in};
 ghost use Rattle.fuse_frames.specs.ReplyTies.{dirent_in};
-ghost use Rattle.fuse_spec.specs.Messages.{WireReply};
-ghost use Rattle.fuse_spec.specs.Numbers.{max_validity};
+ghost use Rattle.fuse_spec.specs.Kernel.Messages.{WireReply};
+ghost use Rattle.fuse_spec.specs.Values.Numbers.{max_validity};
 
 use crate::kernel::KernelOf;
 use fk_calls::{result_of, unbind};
+use fk_lookup_count::CountTable;
 use fk_queues::QueueTable;
 use fk_said::{ReplySaid, names_listed, said_to};
 use fk_syscalls::Answer;
 use fk_wire::{Opcode, Records, read_reply};
+use fuse_spec::errno::EIO;
 use fuse_spec::{Purpose, Refusal, WriteResult};
 
-const EIO: u32 = 5;
-
-impl<Q: QueueTable<Purpose> + Drop> KernelOf<Q> {
+impl<Q: QueueTable<Purpose> + Drop, C: CountTable<Heap = Q::Heap> + Drop> KernelOf<Q, C> {
     /// A reply to the request of a call. Bytes that do not go with what it asked answer it EIO. Where the call is not
     /// unanswered, its request just ends.
     pub(crate) fn write_to_call(

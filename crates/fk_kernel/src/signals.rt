@@ -1,10 +1,10 @@
 //! How calls are signalled, and INTERRUPTs are read.
 
 ghost use Rattle.std.specs.Prelude.{◌≡◌, ℕ, Some, None, OnOk, OnErr, IfOk, IfErr, true, false, is_some, find, option_map};
-ghost use Rattle.fuse_spec.specs.Kernel.{call_signalled, is_for, request_of};
-ghost use Rattle.fuse_spec.specs.Maps.{get};
-ghost use Rattle.fuse_spec.specs.QueueCalls.{after_read_interrupt, interrupt_effect};
-ghost use Rattle.fuse_spec.specs.Vfs.{CallState as State};
+ghost use Rattle.fuse_spec.specs.Kernel.Kernel.{call_signalled, is_for, request_of};
+ghost use Rattle.fuse_spec.specs.Values.Maps.{get};
+ghost use Rattle.fuse_spec.specs.Kernel.QueueCalls.{after_read_interrupt, interrupt_effect};
+ghost use Rattle.fuse_spec.specs.Calls.Vfs.{CallState as State};
 ghost use Rattle.fuse_spec.specs.declared.Opened.{Opened};
 ghost use Rattle.fk_kernel.specs.Entries.{EndsPast, EndsWithin};
 ghost use Rattle.fk_kernel.specs.Refused.{or_no_memory};
@@ -12,13 +12,13 @@ ghost use Rattle.fk_kernel.specs.RefusedSignals.{signal_refusal, IsSignalled, re
 
 use crate::kernel::KernelOf;
 use fk_calls::is_interrupted;
+use fk_lookup_count::CountTable;
 use fk_queues::QueueTable;
 use fk_syscalls::Answer;
 use fk_unique::interrupt_of;
 use fuse_frames::RequestFrame;
+use fuse_spec::errno::EINTR;
 use fuse_spec::{IntrEffect, Purpose, Refusal};
-
-const EINTR: u32 = 4;
 
 /// Whether a request serves this call.
 fn serves(purpose: Purpose, call: u64) -> bool
@@ -45,7 +45,7 @@ fn request_for<Q: QueueTable<Purpose>>(queues: &Q, call: u64) -> Option<u64>
     None
 }
 
-impl<Q: QueueTable<Purpose> + Drop> KernelOf<Q> {
+impl<Q: QueueTable<Purpose> + Drop, C: CountTable<Heap = Q::Heap> + Drop> KernelOf<Q, C> {
     /// Signals an unanswered call, fatally or not (fuse.rst). Where its request is unread and the signal is fatal, the request
     /// goes and the call is answered EINTR; a closed file that it would have read or written last is released. Takes no memory:
     /// the answer has its room since the call began, an INTERRUPT since its request was queued, and a RELEASE since the close.

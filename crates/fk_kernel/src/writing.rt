@@ -1,23 +1,21 @@
 //! How replies are taken.
 
 ghost use Rattle.std.specs.Prelude.{◌≡◌, ◌%◌, Some, None, Ok, OnErr, IfOk, IfErr, true, false, is_some, nat_eq};
-ghost use Rattle.fuse_spec.specs.Messages.{WireReply};
-ghost use Rattle.fuse_spec.specs.Replies.{reply_written, interrupt_reply_of, interrupt_replied};
+ghost use Rattle.fuse_spec.specs.Kernel.Messages.{WireReply};
+ghost use Rattle.fuse_spec.specs.Kernel.Replies.{reply_written, interrupt_reply_of, interrupt_replied};
 ghost use Rattle.fk_kernel.specs.Said.{Says, SaysNothing, HasReplyHead, head_unique, awaited, nothing, wrong_body, wrong_body_to, IsTaken};
 ghost use Rattle.fk_kernel.specs.Refused.{WriteRefused, WritePasses};
-ghost use Rattle.fuse_spec.specs.QueueCalls.{after_interrupt_reply, waiting};
+ghost use Rattle.fuse_spec.specs.Kernel.QueueCalls.{after_interrupt_reply, waiting};
 
 use crate::kernel::KernelOf;
+use fk_lookup_count::CountTable;
 use fk_queues::QueueTable;
 use fk_said::{InterruptSaid, agrees, files_agreed, minor_agreed, said_to_init, said_to_interrupt};
 use fk_wire::{Opcode, read_reply_head};
+use fuse_spec::errno::{EAGAIN, ENOSYS};
 use fuse_spec::{Phase, Purpose, Refusal, WriteResult};
 
-const EAGAIN: u32 = 11;
-
-const ENOSYS: u32 = 38;
-
-impl<Q: QueueTable<Purpose> + Drop> KernelOf<Q> {
+impl<Q: QueueTable<Purpose> + Drop, C: CountTable<Heap = Q::Heap> + Drop> KernelOf<Q, C> {
     /// Takes any bytes as a reply.
     ///
     /// # Errors

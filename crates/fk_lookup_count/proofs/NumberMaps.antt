@@ -6,7 +6,7 @@ use Rattle.std.specs.Cmp.{nat_cmp_total, nat_cmp_is}
 use Rattle.std.specs.FinMap.{FinMap, get, insert, remove as without, entries, entries_sorted, find, is_sorted, from_entries, get-from_entries, get-insert, get-remove, get-entries, same_map, gets, nat_cmp-IsAntisymmetric}
 use Rattle.std.specs.FinMap.Entries.{below_all, find-put, find-where_key, same_entries}
 use Rattle.std.proofs.lemmas.Bool.{cases_eq, ltb-true}
-use Rattle.fuse_spec.specs.Maps.{Map, put, remove}
+use Rattle.fuse_spec.specs.Values.Maps.{Map, put, remove}
 
 -- the order of numbers ties exactly where they are equal
 pub ties : (q k : ℕ) → eq_by_cmp nat_cmp q k ≡ nat_eq q k

@@ -6,7 +6,7 @@ use Rattle.std.specs.Cmp.{ranked}
 use Rattle.std.specs.List.{insert}
 use Rattle.std.proofs.lemmas.Bool.{lt-ltb, ltb-true}
 use Rattle.std.proofs.lemmas.Option.{same_Some}
-use Rattle.fuse_spec.specs.Maps.{Map, get, put}
+use Rattle.fuse_spec.specs.Values.Maps.{Map, get, put}
 use Rattle.fuse_tables.specs.TableState.{place_of, IsRowOf}
 use Rattle.fuse_tables.proofs.Rows.{put_is}
 

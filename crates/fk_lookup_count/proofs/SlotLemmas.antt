@@ -6,7 +6,7 @@ use Rattle.std.specs.Cmp.{nat_cmp_total}
 use Rattle.std.specs.FinMap.{FinMap, get as slot_of, insert, remove as without, empty, entries, entries_sorted, find, is_sorted, get-entries, get-insert, get-remove, get-empty, gets, nat_cmp-IsAntisymmetric}
 use Rattle.std.specs.FinMap.Entries.{find-put, is_sorted-put, is_sorted-where_key, same_entries}
 use Rattle.std.proofs.lemmas.Bool.{cases_eq, eqb-true}
-use Rattle.fuse_spec.specs.Maps.{Map, get, put, remove}
+use Rattle.fuse_spec.specs.Values.Maps.{Map, get, put, remove}
 use Rattle.fuse_spec.specs.declared.Counted.{Counted}
 use Rattle.fk_lookup_count.specs.Slots.{is_node, nodes_among, nodes_in}
 use Rattle.fk_lookup_count.proofs.NumberMaps.{ties, both_first, both_second, find-remove, none-below, sorted-filter}

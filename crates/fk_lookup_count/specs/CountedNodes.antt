@@ -1,6 +1,6 @@
 -- The counted nodes, and what each call makes of them.
 use Rattle.std.specs.Prelude.{◌≢◌, ℕ, ◌+◌, List, Option, Some, None, map}
-use Rattle.fuse_spec.specs.Maps.{Map, put}
+use Rattle.fuse_spec.specs.Values.Maps.{Map, put}
 use Rattle.fuse_spec.specs.declared.Counted.{Counted}
 use Rattle.fk_lookup_count.specs.declared.forget.Forget.{Forget}
 

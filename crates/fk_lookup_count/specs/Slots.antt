@@ -2,7 +2,7 @@
 use Rattle.std.specs.Prelude.{ℕ, Bool, filter, nat_lt}
 use Rattle.std.specs.Ordering.{nat_cmp}
 use Rattle.std.specs.FinMap.{FinMap, entries}
-use Rattle.fuse_spec.specs.Maps.{Map}
+use Rattle.fuse_spec.specs.Values.Maps.{Map}
 use Rattle.fuse_spec.specs.declared.Counted.{Counted}
 
 abbrev pub is_node : ℕ × Counted → Bool

@@ -5,7 +5,7 @@ use Rattle.std.specs.Option.{unwrap_or}
 use Rattle.std.specs.Ordering.{nat_cmp}
 use Rattle.std.specs.Map.{lookup}
 use Rattle.std.specs.BTreeMap.{is_at}
-use Rattle.fuse_spec.specs.Maps.{Map}
+use Rattle.fuse_spec.specs.Values.Maps.{Map}
 use Rattle.fuse_spec.specs.declared.Counted.{Counted}
 
 abbrev pub at_place : List (Option Counted) → ℕ → Option Counted

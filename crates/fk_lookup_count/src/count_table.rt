@@ -1,7 +1,9 @@
 //! The contract of the table, for any representation.
-ghost use Rattle.std.specs.Prelude.{◌≡◌, ◌≢◌, ℕ, ◌+◌, ◌^◌, ◌<◌, ◌↔◌, [], OnOk, OnErr, IsOk, IsErr, IfOk};
+ghost use Rattle.std.specs.Prelude.{◌≡◌, ◌≢◌, ℕ, ◌+◌, ◌^◌, ◌<◌, ◌↔◌, [], OnOk, OnErr, IsOk, IsErr, IfOk, T};
+ghost use Rattle.std.specs.FinMap.{is_sorted};
+ghost use Rattle.std.specs.Ordering.{nat_cmp};
 ghost use Rattle.std.specs.Option.{ForSome};
-ghost use Rattle.fuse_spec.specs.Maps.{Map, get, remove};
+ghost use Rattle.fuse_spec.specs.Values.Maps.{Map, get, remove};
 ghost use Rattle.fuse_spec.specs.declared.Counted.{Counted};
 ghost use Rattle.fk_lookup_count.specs.CountedNodes.{count_at, generation_at, IsUnlike, learnt, forget_of, listed};
 
@@ -63,6 +65,10 @@ pub trait CountTable {
         ensures forget { result ≡ forget_of id (get (counted self.old) id) }
         ensures counted { counted self.new ≡ remove (counted self.old) id }
         ensures kept { (other : ℕ) → other ≢ id → has_room self.old other → has_room self.new other };
+
+    /// Nodes stand in rising id. A call without effect, made where a proof rests on that.
+    fn are_sorted(&self)
+        ensures { T (is_sorted nat_cmp (counted self.now)) };
 
     /// Gives up all ids, without forgets, and their room.
     fn clear(&mut self)

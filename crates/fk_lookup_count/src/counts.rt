@@ -1,7 +1,7 @@
 //! The calls of the table, over either kind of slots.
 ghost use Rattle.std.specs.Prelude.{◌≡◌, ◌≢◌, ℕ, ◌+◌, ◌-◌, ◌<◌, ◌≤◌, Some, IsSome, IfSome};
 ghost use Rattle.std.specs.FinMap.{get as slot_of};
-ghost use Rattle.fuse_spec.specs.Maps.{get, put, remove};
+ghost use Rattle.fuse_spec.specs.Values.Maps.{get, put, remove};
 ghost use Rattle.fk_lookup_count.specs.Slots.{nodes_in};
 
 use crate::count_table::CountTable;
@@ -109,6 +109,8 @@ impl<S: Slots> CountTable for CountsOf<S> {
             nlookup: node.count,
         })
     }
+
+    fn are_sorted(&self) {}
 
     fn clear(&mut self) {
         self.slots.clear();

@@ -2,7 +2,7 @@
 ghost use Rattle.std.specs.Prelude.{◌≡◌, ◌≤◌, None, length, MatchOption, T};
 ghost use Rattle.std.specs.Ordering.{nat_cmp};
 ghost use Rattle.std.specs.FinMap.{is_sorted};
-ghost use Rattle.fuse_spec.specs.Maps.{get};
+ghost use Rattle.fuse_spec.specs.Values.Maps.{get};
 ghost use Rattle.fuse_tables.specs.TableState.{place_of, IsRowOf};
 
 /// How many of the rows, from the first on, have a lower key.

@@ -3,20 +3,15 @@ use Rattle.std.proofs.Common.{◌≡◌, ◌≢◌, ℕ, ◌+◌, ◌-◌, ◌�
 use Rattle.std.specs.Prelude.{option_map, is_some}
 use Rattle.std.specs.Ordering.{nat_cmp}
 use Rattle.std.specs.Cmp.{nat_cmp_total}
-use Rattle.std.specs.FinMap.{FinMap, entries, entries_sorted, is_sorted}
+use Rattle.std.specs.FinMap.{is_sorted}
 use Rattle.std.specs.FinMap.Entries.{length-put}
 use Rattle.fuse_spec.specs.declared.Counted.{Counted}
 use Rattle.fuse_spec.specs.declared.Entry.{Entry}
-use Rattle.fuse_spec.specs.Maps.{Map, get, put, remove}
-use Rattle.fuse_spec.specs.Replies as replies
+use Rattle.fuse_spec.specs.Values.Maps.{Map, get, put, remove}
+use Rattle.fuse_spec.specs.Kernel.Replies as replies
 use Rattle.fk_lookup_count.specs.declared.forget.Forget.{Forget}
 use Rattle.fk_lookup_count.specs.CountedNodes.{IsUnlike, learnt, forget_of, generation_at}
-use Rattle.fk_lookup_count.specs.Slots.{nodes_in, is_node}
-use Rattle.fk_lookup_count.proofs.NumberMaps.{sorted-filter}
 use Rattle.fk_nodes.proofs.Lengths.{length_put, length_gone}
-
-pub sorted_nodes : (slots : FinMap nat_cmp Counted) → T (is_sorted nat_cmp (nodes_in slots))
-sorted_nodes slots = sorted-filter is_node (entries slots) (entries_sorted slots)
 
 -- the forget of a node has its whole count
 pub count_of_forget : (id : ℕ) (o : Option Counted) → option_map (λ (f : Forget). f.nlookup) (forget_of id o) ≡ option_map (λ (c : Counted). c.count) o

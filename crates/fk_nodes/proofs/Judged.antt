@@ -5,10 +5,10 @@ use Rattle.std.proofs.lemmas.Bool.{cases_eq}
 use Rattle.std.proofs.lemmas.Bool.Decides.{eqb_tells}
 use Rattle.fuse_spec.specs.declared.Counted.{Counted}
 use Rattle.fuse_spec.specs.declared.Entry.{Entry}
-use Rattle.fuse_spec.specs.Maps.{Map, get, put}
-use Rattle.fuse_spec.specs.Operations.{DirentPlus, told_by, first_told, files_told, pair_with}
-use Rattle.fuse_spec.specs.Paths.{is_dots}
-use Rattle.fuse_spec.specs.Replies.{Use, usable, useless, stale, use_counted, use_of, use_of_told, counted_more, learnt, pair_judged, learnt_by, pairs_judged, stale_in, stale_among}
+use Rattle.fuse_spec.specs.Values.Maps.{Map, get, put}
+use Rattle.fuse_spec.specs.Files.Operations.{DirentPlus, told_by, first_told, files_told, pair_with}
+use Rattle.fuse_spec.specs.Calls.Paths.{is_dots}
+use Rattle.fuse_spec.specs.Kernel.Replies.{Use, usable, useless, stale, use_counted, use_of, use_of_told, counted_more, learnt, pair_judged, learnt_by, pairs_judged, stale_in, stale_among}
 use Rattle.fuse_spec.proofs.Tables.{get_put_here, get_put_there}
 use Rattle.fk_nodes.specs.Learning.{learnt_by_use, learnt_told, learnt_from, judged_in, stale_by}
 

@@ -9,10 +9,10 @@ use Rattle.std.proofs.lemmas.Bool.{cases_eq}
 use Rattle.std.proofs.lemmas.Bool.Decides.{nat_tests}
 use Rattle.fuse_spec.specs.declared.Counted.{Counted}
 use Rattle.fuse_spec.specs.declared.Entry.{Entry}
-use Rattle.fuse_spec.specs.Maps.{Map, get, put}
-use Rattle.fuse_spec.specs.Numbers.{counter_end}
-use Rattle.fuse_spec.specs.Operations.{DirentPlus, told_by}
-use Rattle.fuse_spec.specs.Replies.{Use, usable, useless, stale, use_of, counted_more}
+use Rattle.fuse_spec.specs.Values.Maps.{Map, get, put}
+use Rattle.fuse_spec.specs.Values.Numbers.{counter_end}
+use Rattle.fuse_spec.specs.Files.Operations.{DirentPlus, told_by}
+use Rattle.fuse_spec.specs.Kernel.Replies.{Use, usable, useless, stale, use_of, counted_more}
 use Rattle.fuse_spec.proofs.Tables.{cmp_same, tie_no, get_put_here, get_put_there}
 use Rattle.fk_dentry.proofs.SortedEntries.{both_first, both_second, none_below}
 use Rattle.fk_nodes.proofs.Lengths.{length_put}

@@ -1,11 +1,11 @@
 -- Room for the names of a list that tell a file, made for one after another.
 use Rattle.std.proofs.Common.{◌≡◌, ℕ, List, [], ◌∷◌, ◌++◌, Option, Some, None, append_assoc, append-nil, refl, ap, sym, subst, ◌∙◌}
 use Rattle.fuse_spec.specs.declared.Entry.{Entry}
-use Rattle.fuse_spec.specs.Maps.{Place}
-use Rattle.fuse_spec.specs.Operations.{DirentPlus, told_by}
-use Rattle.fuse_spec.specs.Queues.{QueueState}
+use Rattle.fuse_spec.specs.Values.Maps.{Place}
+use Rattle.fuse_spec.specs.Files.Operations.{DirentPlus, told_by}
+use Rattle.fuse_spec.specs.Kernel.Queues.{QueueState}
 use Rattle.fuse_spec.specs.declared.Purpose.{Purpose}
-use Rattle.fuse_spec.specs.Replies.{Use, usable, useless, stale, stale_in, each_forgotten}
+use Rattle.fuse_spec.specs.Kernel.Replies.{Use, usable, useless, stale, stale_in, each_forgotten}
 use Rattle.fk_dentry.specs.NamesInForce.{NamesInForce, HasRoom}
 use Rattle.fk_nodes.specs.Told.{HasToldRoom, HaveToldRoom}
 

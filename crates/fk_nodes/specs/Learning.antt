@@ -3,10 +3,10 @@ use Rattle.std.specs.Prelude.{◌≡◌, ◌<◌, ◌≤◌, ℕ, suc, Bool, fal
 use Rattle.std.specs.List.{list_any}
 use Rattle.fuse_spec.specs.declared.Counted.{Counted}
 use Rattle.fuse_spec.specs.declared.Entry.{Entry}
-use Rattle.fuse_spec.specs.Maps.{Map, get, put, values}
-use Rattle.fuse_spec.specs.Numbers.{counter_end}
-use Rattle.fuse_spec.specs.Operations.{DirentPlus, told_by}
-use Rattle.fuse_spec.specs.Replies.{Use, usable, useless, stale, use_of, use_of_told, pair_judged, counted_more, stale_in}
+use Rattle.fuse_spec.specs.Values.Maps.{Map, get, put, values}
+use Rattle.fuse_spec.specs.Values.Numbers.{counter_end}
+use Rattle.fuse_spec.specs.Files.Operations.{DirentPlus, told_by}
+use Rattle.fuse_spec.specs.Kernel.Replies.{Use, usable, useless, stale, use_of, use_of_told, pair_judged, counted_more, stale_in}
 
 -- The counts after an entry that is judged so.
 abbrev pub learnt_by_use : Map Counted → Entry → Use → Map Counted

@@ -3,10 +3,10 @@ use Rattle.std.specs.Prelude.{ℕ, List, [], ◌∷◌, Option, Some, None, map}
 use Rattle.fuse_frames.specs.ReplyTies.{pair_in}
 use Rattle.fuse_spec.specs.declared.Binding.{Binding}
 use Rattle.fuse_spec.specs.declared.Entry.{Entry}
-use Rattle.fuse_spec.specs.Maps.{NameMap, Map}
+use Rattle.fuse_spec.specs.Values.Maps.{NameMap, Map}
 use Rattle.fuse_spec.specs.declared.Counted.{Counted}
-use Rattle.fuse_spec.specs.CallReplies.{names_told}
-use Rattle.fuse_spec.specs.Operations.{DirentPlus, told_by, pair_with}
+use Rattle.fuse_spec.specs.Calls.CallReplies.{names_told}
+use Rattle.fuse_spec.specs.Files.Operations.{DirentPlus, told_by, pair_with}
 use Rattle.fk_dentry.specs.NamesInForce.{NamesInForce, HasRoom}
 use Rattle.fk_nodes.specs.Learning.{judged_in}
 use Rattle.fk_wire.specs.declared.records_plus.RecordsPlus.{RecordsPlus}

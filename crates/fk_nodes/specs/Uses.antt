@@ -1,6 +1,6 @@
 -- What becomes of an entry.
 use Rattle.std.specs.Prelude.{ℕ}
-use Rattle.fuse_spec.specs.Replies.{Use, usable, useless, stale}
+use Rattle.fuse_spec.specs.Kernel.Replies.{Use, usable, useless, stale}
 use Rattle.fk_nodes.specs.declared.entry_use.EntryUse.{EntryUse}
 use Rattle.fk_nodes.specs.declared.entry_use.EntryUse.TheVariants as entry
 

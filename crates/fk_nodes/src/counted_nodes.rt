@@ -2,14 +2,14 @@
 
 ghost use Rattle.std.specs.Prelude.{◌≡◌, ◌≤◌, ◌<◌, ◌+◌, ◌^◌, [], ◌∷◌, length, map, nat_le, option_map, OnOk, OnErr, IfOk, T, true, false};
 ghost use Rattle.std.specs.Option.{ForSome};
-ghost use Rattle.fuse_spec.specs.Maps.{get, remove};
-ghost use Rattle.fuse_spec.specs.Numbers.{counter_end};
-ghost use Rattle.fuse_spec.specs.Replies.{counted_more, learnt, use_of};
+ghost use Rattle.fuse_spec.specs.Values.Maps.{get, remove};
+ghost use Rattle.fuse_spec.specs.Values.Numbers.{counter_end};
+ghost use Rattle.fuse_spec.specs.Kernel.Replies.{counted_more, learnt, use_of};
 ghost use Rattle.std.specs.FinMap.{is_sorted};
 ghost use Rattle.std.specs.Ordering.{nat_cmp};
 ghost use Rattle.fk_wire.specs.Records.{direntplus_content};
 ghost use Rattle.fuse_frames.specs.ReplyTies.{pair_in};
-ghost use Rattle.fuse_spec.specs.Operations.{told_by};
+ghost use Rattle.fuse_spec.specs.Files.Operations.{told_by};
 ghost use Rattle.fk_nodes.specs.Learning.{learnt_from, LeavesBelow, AreBelow, SomeOut};
 ghost use Rattle.fk_nodes.specs.Told.{pairs_in};
 ghost use Rattle.fk_nodes.specs.Uses.{use_meant};
@@ -17,49 +17,46 @@ ghost use Rattle.fk_nodes.specs.Uses.{use_meant};
 use crate::entry_use::EntryUse;
 use crate::learning::{count_all, reserve_nodes, tell_more};
 use crate::told::told;
-use fk_lookup_count::{CountTable, KernelNodes};
+use fk_lookup_count::CountTable;
 use fk_wire::{DirentPlus, RecordsPlus};
+use fuse_spec::limits::COUNTER_END;
 use fuse_spec::{Counted, Entry};
-use std::alloc::{AllocError, Allocator, Global};
+use std::alloc::AllocError;
 use std::marker::Model;
-
-/// The end of counters (this project's rule): a node's lookups are fewer.
-const COUNTER_END: u64 = 0x4000_0000_0000_0000;
 
 /// Nodes stay fewer than this, so that those of a list can be counted beside them.
 const MOST: usize = 0x4000_0000_0000_0000;
 
-/// The counted nodes: each node id with its generation and its lookup count.
+/// The counted nodes, over any table of them: each node id with its generation and its lookup count.
 #[derive(Drop)]
-pub struct CountedNodes<A: Allocator + Copy = Global> {
-    table: KernelNodes<A>,
+pub struct CountedNodes<C: CountTable> {
+    table: C,
     /// At least as many as are counted.
     most: usize,
 }
 
-impl<A: Allocator + Copy> Model for CountedNodes<A> {
+impl<C: CountTable> Model for CountedNodes<C> {
     ghost use Rattle.std.specs.Coded.{codes};
-    ghost use Rattle.fuse_spec.specs.Maps.{Map};
+    ghost use Rattle.fuse_spec.specs.Values.Maps.{Map};
     ghost use Rattle.fuse_spec.specs.declared.Counted.{Counted};
     ghost use Rattle.fuse_spec.specs.contracts.Counted as counted_row;
     ghost use Rattle.std.specs.Prelude.{◌≤◌, length};
-    ghost use Rattle.fk_lookup_count.specs.Slots.{nodes_in};
 
     ghost Value = { Map Counted };
 
     ghost coded = { Prim.hlevel (codes, counted_row.the_row.coded) };
 
-    ghost view = { λ t. nodes_in t.table.slots };
+    ghost view = { λ t. C.counted t.table };
 
-    ghost invariant = { λ t. length (nodes_in t.table.slots) ≤ t.most };
+    ghost invariant = { λ t. length (C.counted t.table) ≤ t.most };
 }
 
-impl<A: Allocator + Copy> CountedNodes<A> {
-    pub fn new(alloc: A) -> Self
+impl<C: CountTable> CountedNodes<C> {
+    pub fn new(alloc: C::Heap) -> Self
         ensures { result ≡ [] }
     {
         CountedNodes {
-            table: KernelNodes::new(alloc),
+            table: C::new(alloc),
             most: 0,
         }
     }
@@ -83,8 +80,7 @@ impl<A: Allocator + Copy> CountedNodes<A> {
     pub fn are_sorted(&self)
         ensures { T (is_sorted nat_cmp self.now) }
     {
-        // A field is touched so that the type's invariant is at hand.
-        let _ = &self.most;
+        self.table.are_sorted();
     }
 
     /// Whether an entry can be used.
@@ -119,6 +115,7 @@ impl<A: Allocator + Copy> CountedNodes<A> {
         ensures ok { OnOk result (self.new ≡ learnt self.old (entry.now ∷ [])) }
         ensures err { OnErr result (self.new ≡ self.old) }
     {
+        self.table.are_sorted();
         let Some(more) = self.most.checked_add(1) else {
             return Err(AllocError);
         };
@@ -231,7 +228,7 @@ impl<A: Allocator + Copy> CountedNodes<A> {
     /// # Errors
     ///
     /// Memory was wanting for the list.
-    pub fn list(&self, alloc: A) -> Result<Vec<(u64, u64, u64), A>, AllocError>
+    pub fn list(&self, alloc: C::Heap) -> Result<Vec<(u64, u64, u64), C::Heap>, AllocError>
         ensures { IfOk result (λ nodes. nodes.items ≡ map (λ e. (e.0, e.1.generation, e.1.count)) self.now) }
     {
         let _ = &self.most;

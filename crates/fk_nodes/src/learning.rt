@@ -4,28 +4,24 @@ ghost use Rattle.std.specs.Prelude.{◌≡◌, ◌≤◌, ◌<◌, ◌+◌, ◌^
 ghost use Rattle.std.specs.Option.{ForSome};
 ghost use Rattle.fk_wire.specs.Records.{direntplus_content};
 ghost use Rattle.fuse_frames.specs.ReplyTies.{pair_in};
-ghost use Rattle.fuse_spec.specs.Maps.{get};
-ghost use Rattle.fuse_spec.specs.Operations.{told_by};
-ghost use Rattle.fuse_spec.specs.Replies.{learnt};
-ghost use Rattle.fk_lookup_count.specs.Slots.{nodes_in};
+ghost use Rattle.fuse_spec.specs.Values.Maps.{get};
+ghost use Rattle.fuse_spec.specs.Files.Operations.{told_by};
+ghost use Rattle.fuse_spec.specs.Kernel.Replies.{learnt};
 ghost use Rattle.fk_nodes.specs.Learning.{learnt_told, learnt_from, tells, times_told, AreBelow};
-ghost use Rattle.fk_nodes.specs.Rooms.{HasSlot, HasNodeRoom, HaveNodeRoom};
+ghost use Rattle.fk_nodes.specs.Rooms.{HasNodeRoom, HaveNodeRoom};
 ghost use Rattle.fk_nodes.specs.Told.{pairs_in};
 
 use crate::told::told;
-use fk_lookup_count::{CountTable, KernelNodes};
+use fk_lookup_count::CountTable;
 use fk_wire::{DirentPlus, RecordsPlus};
 use fuse_spec::Entry;
-use std::alloc::{AllocError, Allocator};
+use std::alloc::AllocError;
 
 /// Makes room for the node that a name tells.
-fn reserve_node<A: Allocator + Copy>(
-    table: &mut KernelNodes<A>,
-    pair: &DirentPlus<'_>,
-) -> Result<(), AllocError>
-    ensures counted { nodes_in table.new.slots ≡ nodes_in table.old.slots }
-    ensures room { OnOk result (HasNodeRoom table.new.slots (told_by (pair_in (direntplus_content pair.now)))) }
-    ensures kept { (other : ℕ) → HasSlot table.old.slots other → HasSlot table.new.slots other }
+fn reserve_node<C: CountTable>(table: &mut C, pair: &DirentPlus<'_>) -> Result<(), AllocError>
+    ensures counted { C.counted table.new ≡ C.counted table.old }
+    ensures room { OnOk result (HasNodeRoom (C.has_room table.new) (told_by (pair_in (direntplus_content pair.now)))) }
+    ensures kept { (other : ℕ) → C.has_room table.old other → C.has_room table.new other }
 {
     match told(pair) {
         Some(entry) if entry.nodeid >= 2 => table.reserve(entry.nodeid),
@@ -34,12 +30,12 @@ fn reserve_node<A: Allocator + Copy>(
 }
 
 /// Makes room for the nodes that names of a list tell.
-pub(crate) fn reserve_nodes<A: Allocator + Copy>(
-    table: &mut KernelNodes<A>,
+pub(crate) fn reserve_nodes<C: CountTable>(
+    table: &mut C,
     pairs: RecordsPlus<'_>,
 ) -> Result<(), AllocError>
-    ensures counted { nodes_in table.new.slots ≡ nodes_in table.old.slots }
-    ensures room { OnOk result (HaveNodeRoom table.new.slots (pairs_in pairs.entry)) }
+    ensures counted { C.counted table.new ≡ C.counted table.old }
+    ensures room { OnOk result (HaveNodeRoom (C.has_room table.new) (pairs_in pairs.entry)) }
 {
     for pair in pairs {
         reserve_node(table, &pair)?;
@@ -48,12 +44,12 @@ pub(crate) fn reserve_nodes<A: Allocator + Copy>(
 }
 
 /// Counts one lookup more of a node that has room.
-fn count_one<A: Allocator + Copy>(table: &mut KernelNodes<A>, entry: &Entry)
-    requires room { HasSlot table.old.slots entry.now.nodeid }
-    requires alike { ForSome (get (nodes_in table.old.slots) entry.now.nodeid) (λ counted. counted.generation ≡ entry.now.generation) }
-    requires fits { ForSome (get (nodes_in table.old.slots) entry.now.nodeid) (λ counted. counted.count + 1 < 2 ^ 64) }
-    ensures counted { nodes_in table.new.slots ≡ learnt (nodes_in table.old.slots) (entry.now ∷ []) }
-    ensures kept { (other : ℕ) → HasSlot table.old.slots other → HasSlot table.new.slots other }
+fn count_one<C: CountTable>(table: &mut C, entry: &Entry)
+    requires room { C.has_room table.old entry.now.nodeid }
+    requires alike { ForSome (get (C.counted table.old) entry.now.nodeid) (λ counted. counted.generation ≡ entry.now.generation) }
+    requires fits { ForSome (get (C.counted table.old) entry.now.nodeid) (λ counted. counted.count + 1 < 2 ^ 64) }
+    ensures counted { C.counted table.new ≡ learnt (C.counted table.old) (entry.now ∷ []) }
+    ensures kept { (other : ℕ) → C.has_room table.old other → C.has_room table.new other }
 {
     match table.learn(entry.nodeid, entry.generation) {
         Ok(()) => {}
@@ -64,18 +60,14 @@ fn count_one<A: Allocator + Copy>(table: &mut KernelNodes<A>, entry: &Entry)
 
 /// Counts one lookup more of the node that a name tells, if its entry can be used. Gives a number that is no lower than that of the
 /// counted nodes, as the one that it is given.
-fn count_told<A: Allocator + Copy>(
-    table: &mut KernelNodes<A>,
-    most: usize,
-    pair: &DirentPlus<'_>,
-) -> usize
-    requires room { HasNodeRoom table.old.slots (told_by (pair_in (direntplus_content pair.now))) }
-    requires below { AreBelow (nodes_in table.old.slots) }
-    requires within { length (nodes_in table.old.slots) ≤ most }
+fn count_told<C: CountTable>(table: &mut C, most: usize, pair: &DirentPlus<'_>) -> usize
+    requires room { HasNodeRoom (C.has_room table.old) (told_by (pair_in (direntplus_content pair.now))) }
+    requires below { AreBelow (C.counted table.old) }
+    requires within { length (C.counted table.old) ≤ most }
     requires low { most + 1 < 2 ^ 64 }
-    ensures counted { nodes_in table.new.slots ≡ learnt_told (nodes_in table.old.slots) (told_by (pair_in (direntplus_content pair.now))) }
-    ensures kept { (other : ℕ) → HasSlot table.old.slots other → HasSlot table.new.slots other }
-    ensures within { length (nodes_in table.new.slots) ≤ result }
+    ensures counted { C.counted table.new ≡ learnt_told (C.counted table.old) (told_by (pair_in (direntplus_content pair.now))) }
+    ensures kept { (other : ℕ) → C.has_room table.old other → C.has_room table.new other }
+    ensures within { length (C.counted table.new) ≤ result }
     ensures more { result ≤ most + 1 }
 {
     let Some(entry) = told(pair) else {
@@ -84,6 +76,7 @@ fn count_told<A: Allocator + Copy>(
     if entry.nodeid < 2 {
         return most;
     }
+    table.are_sorted();
     match table.generation_of(entry.nodeid) {
         None => {
             count_one(table, &entry);
@@ -100,17 +93,13 @@ fn count_told<A: Allocator + Copy>(
 
 /// Counts the nodes that names of a list tell, each judged by the counts that those before it left. Gives a number that is no lower
 /// than that of the counted nodes, as the one that it is given. Takes no memory.
-pub(crate) fn count_all<A: Allocator + Copy>(
-    table: &mut KernelNodes<A>,
-    most: usize,
-    pairs: RecordsPlus<'_>,
-) -> usize
-    requires room { HaveNodeRoom table.old.slots (pairs_in pairs) }
-    requires below { AreBelow (learnt_from (nodes_in table.old.slots) (pairs_in pairs)) }
-    requires within { length (nodes_in table.old.slots) ≤ most }
+pub(crate) fn count_all<C: CountTable>(table: &mut C, most: usize, pairs: RecordsPlus<'_>) -> usize
+    requires room { HaveNodeRoom (C.has_room table.old) (pairs_in pairs) }
+    requires below { AreBelow (learnt_from (C.counted table.old) (pairs_in pairs)) }
+    requires within { length (C.counted table.old) ≤ most }
     requires low { most + length (pairs_in pairs) < 2 ^ 64 }
-    ensures counted { nodes_in table.new.slots ≡ learnt_from (nodes_in table.old.slots) (pairs_in pairs.entry) }
-    ensures within { length (nodes_in table.new.slots) ≤ result }
+    ensures counted { C.counted table.new ≡ learnt_from (C.counted table.old) (pairs_in pairs.entry) }
+    ensures within { length (C.counted table.new) ≤ result }
 {
     let mut most = most;
     for pair in pairs {

@@ -3,11 +3,11 @@
 ghost use Rattle.std.specs.Prelude.{◌≡◌, ◌≤◌, ◌<◌, ◌+◌, ◌^◌, ℕ, length, map, None, OnOk, OnErr, IfOk};
 ghost use Rattle.fuse_frames.specs.ReplyTies.{pair_in};
 ghost use Rattle.fk_wire.specs.Records.{direntplus_content};
-ghost use Rattle.fuse_spec.specs.CallReplies.{name_told};
-ghost use Rattle.fuse_spec.specs.Maps.{Place};
-ghost use Rattle.fuse_spec.specs.Numbers.{counter_end, max_validity};
-ghost use Rattle.fuse_spec.specs.Operations.{told_by, pair_with};
-ghost use Rattle.fuse_spec.specs.Replies.{each_forgotten, stale_in, use_of_told};
+ghost use Rattle.fuse_spec.specs.Calls.CallReplies.{name_told};
+ghost use Rattle.fuse_spec.specs.Values.Maps.{Place};
+ghost use Rattle.fuse_spec.specs.Values.Numbers.{counter_end, max_validity};
+ghost use Rattle.fuse_spec.specs.Files.Operations.{told_by, pair_with};
+ghost use Rattle.fuse_spec.specs.Kernel.Replies.{each_forgotten, stale_in, use_of_told};
 ghost use Rattle.fuse_spec.specs.declared.Entry.{Entry as NodeEntry};
 ghost use Rattle.fk_dentry.specs.NamesInForce.{HasRoom};
 ghost use Rattle.fk_syscalls.specs.Values.{dirent_of};
@@ -18,6 +18,7 @@ use crate::counted_nodes::CountedNodes;
 use crate::entry_use::EntryUse;
 use crate::told::{told, valid_ms};
 use fk_dentry::Bindings;
+use fk_lookup_count::CountTable;
 use fk_queues::QueueTable;
 use fk_syscalls::ListedName;
 use fk_wire::{DirentPlus, RecordsPlus};
@@ -61,9 +62,9 @@ fn reserve_listed<A: Allocator + Copy>(
 }
 
 /// A name leads to the file that it tells, if its entry can be used.
-fn bind_name<A: Allocator + Copy>(
+fn bind_name<A: Allocator + Copy, C: CountTable>(
     names: &mut Bindings<A>,
-    nodes: &CountedNodes<A>,
+    nodes: &CountedNodes<C>,
     directory: u64,
     clock: u64,
     pair: &DirentPlus<'_>,
@@ -87,9 +88,9 @@ fn bind_name<A: Allocator + Copy>(
 }
 
 /// Puts the names of a list in force that tell a file of which the entry can be used. Takes no memory.
-fn bind_listed<A: Allocator + Copy>(
+fn bind_listed<A: Allocator + Copy, C: CountTable>(
     names: &mut Bindings<A>,
-    nodes: &CountedNodes<A>,
+    nodes: &CountedNodes<C>,
     directory: u64,
     clock: u64,
     pairs: RecordsPlus<'_>,
@@ -104,9 +105,9 @@ fn bind_listed<A: Allocator + Copy>(
 }
 
 /// Queues a forget of one lookup of the node that a name tells under another generation than it is counted.
-fn forget_one<Q: QueueTable<Purpose>>(
+fn forget_one<Q: QueueTable<Purpose>, C: CountTable>(
     queues: &mut Q,
-    nodes: &CountedNodes<Q::Heap>,
+    nodes: &CountedNodes<C>,
     pair: &DirentPlus<'_>,
 )
     requires { 0 < (Q.room queues.old).forgets }
@@ -126,9 +127,9 @@ fn forget_one<Q: QueueTable<Purpose>>(
 
 /// Queues a forget of one lookup of each node that a name of a list tells under another generation than it is counted (this
 /// project's rule). Takes no memory.
-pub fn forget_stale<Q: QueueTable<Purpose>>(
+pub fn forget_stale<Q: QueueTable<Purpose>, C: CountTable>(
     queues: &mut Q,
-    nodes: &CountedNodes<Q::Heap>,
+    nodes: &CountedNodes<C>,
     pairs: RecordsPlus<'_>,
 )
     requires { length (pairs_in pairs) ≤ (Q.room queues.old).forgets }
@@ -184,9 +185,9 @@ pub fn pair_count(pairs: RecordsPlus<'_>) -> usize
 /// # Errors
 ///
 /// Memory was wanting. Nothing changed.
-pub fn learn_and_bind<A: Allocator + Copy>(
+pub fn learn_and_bind<A: Allocator + Copy, C: CountTable>(
     names: &mut Bindings<A>,
-    nodes: &mut CountedNodes<A>,
+    nodes: &mut CountedNodes<C>,
     directory: u64,
     clock: u64,
     pairs: RecordsPlus<'_>,

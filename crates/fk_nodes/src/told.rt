@@ -4,8 +4,8 @@ ghost use Rattle.std.specs.Prelude.{◌≡◌};
 ghost use Rattle.fk_wire.specs.Records.{direntplus_content};
 ghost use Rattle.fk_wire.specs.Entries.{entry_content};
 ghost use Rattle.fuse_frames.specs.ReplyTies.{file_in, pair_in, valid_in};
-ghost use Rattle.fuse_spec.specs.Operations.{told_by};
-ghost use Rattle.fuse_spec.specs.Paths.{is_dots};
+ghost use Rattle.fuse_spec.specs.Files.Operations.{told_by};
+ghost use Rattle.fuse_spec.specs.Calls.Paths.{is_dots};
 
 use fk_wire::DirentPlus;
 use fuse_frames::{attributes_of, milliseconds};

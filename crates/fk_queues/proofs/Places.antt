@@ -6,7 +6,7 @@ use Rattle.std.proofs.lemmas.Bool.Decides.{nat_tests}
 use Rattle.std.proofs.lemmas.List.Quantifiers.{position-Some}
 use Rattle.fuse_spec.specs.declared.Mark.{Mark}
 use Rattle.fuse_spec.specs.declared.QueuedRequest.{QueuedRequest}
-use Rattle.fuse_spec.specs.QueueCalls.{set_mark}
+use Rattle.fuse_spec.specs.Kernel.QueueCalls.{set_mark}
 
 module _ {X : Type 0} (u : ℕ) (d : ℕ × X) where
   -- the entry at i is the first under the number

@@ -6,9 +6,6 @@ use std::alloc::{AllocError, Allocator};
 use std::collections::VecDeque;
 use std::marker::Model;
 
-/// The most forgets of one frame.
-pub const MOST_FORGETS: usize = 64;
-
 /// The forgets of one frame, at most 64 (this project's rule): nodes, and how many lookups to forget of each (uapi
 /// `fuse_forget_one`). Contracts see the list of them.
 #[derive(Drop)]

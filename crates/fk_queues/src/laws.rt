@@ -8,9 +8,9 @@ ghost use Rattle.fuse_spec.specs.declared.InterruptReply.TheVariants.{NotSupport
 ghost use Rattle.fuse_spec.specs.declared.IntrEffect.TheVariants.{Dequeued};
 ghost use Rattle.fuse_spec.specs.declared.Mark.TheVariants.{Unread};
 ghost use Rattle.fuse_spec.specs.declared.QueuedRequest.{QueuedRequest};
-ghost use Rattle.fuse_spec.specs.Queues.{QueueState, IsSound, pending, processing};
-ghost use Rattle.fuse_spec.specs.QueueCalls.{after_enqueue, after_read_pending, waiting, after_answer, interrupt_effect, after_interrupt, after_interrupt_reply, after_no_interrupts};
-ghost use Rattle.fuse_spec.specs.QueueLaws.{AddsOne, mark_read, kept_entries};
+ghost use Rattle.fuse_spec.specs.Kernel.Queues.{QueueState, IsSound, pending, processing};
+ghost use Rattle.fuse_spec.specs.Kernel.QueueCalls.{after_enqueue, after_read_pending, waiting, after_answer, interrupt_effect, after_interrupt, after_interrupt_reply, after_no_interrupts};
+ghost use Rattle.fuse_spec.specs.Kernel.QueueLaws.{AddsOne, mark_read, kept_entries};
 
 /// A request that is queued goes last among the pending ones.
 pub fn enqueue_appends<W>()

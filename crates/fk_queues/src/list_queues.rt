@@ -3,16 +3,17 @@ ghost use Rattle.std.specs.Prelude.{◌≡◌, ℕ, ◌+◌, ◌-◌, ◌<◌, �
 ghost use Rattle.std.specs.Map.{lookup, remove_entry};
 ghost use Rattle.std.specs.Option.{option_copied};
 ghost use Rattle.std.specs.VecDeque.{deque_len, deque_capacity};
-ghost use Rattle.fuse_spec.specs.Queues.{QueueState, is_unread, IsSound};
-ghost use Rattle.fuse_spec.specs.QueueCalls.{set_mark};
+ghost use Rattle.fuse_spec.specs.Kernel.Queues.{QueueState, is_unread, IsSound};
+ghost use Rattle.fuse_spec.specs.Kernel.QueueCalls.{set_mark};
 ghost use Rattle.fk_queues.specs.Room.{Room};
 
-use crate::forgets::{ForgetList, Forgets, MOST_FORGETS};
+use crate::forgets::{ForgetList, Forgets};
 use crate::interrupts::InterruptList;
 use crate::marks::is_unread;
 use crate::no_memory::NoMemory;
 use crate::table::QueueTable;
 use fk_unique::Uniques;
+use fuse_spec::limits::MAX_FORGETS;
 use fuse_spec::{IntrEffect, Mark, QueuedRequest};
 use std::alloc::{AllocError, Allocator, Global};
 
@@ -115,7 +116,7 @@ impl<W: Drop, A: Allocator + Copy> QueueTable<W> for ListQueues<W, A> {
     }
 
     fn first_forgets(&self, count: usize) -> Option<(u64, Forgets)> {
-        if count == 0 || count > MOST_FORGETS || count > self.forgets.items.len() {
+        if count == 0 || count > MAX_FORGETS || count > self.forgets.items.len() {
             return None;
         }
         Some((self.uniques.coming(), self.forgets.first(count)))

@@ -1,6 +1,6 @@
 //! How far a request has come.
 ghost use Rattle.std.specs.Prelude.{◌≡◌};
-ghost use Rattle.fuse_spec.specs.Queues.{is_unread};
+ghost use Rattle.fuse_spec.specs.Kernel.Queues.{is_unread};
 
 use fuse_spec::Mark;
 

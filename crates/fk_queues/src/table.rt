@@ -1,9 +1,9 @@
 //! The contract of the queues, for any representation.
 ghost use Rattle.std.specs.Prelude.{◌≡◌, ℕ, ◌+◌, ◌<◌, ◌≤◌, Option, OnOk, IsOk, option_map, slice_get, length};
-ghost use Rattle.fuse_spec.specs.Uniques.{numbers_left_from};
-ghost use Rattle.fuse_spec.specs.Queues.{QueueState, empty_queues, IsSound};
-ghost use Rattle.fuse_spec.specs.QueueCalls.{after_enqueue, after_forget, pending_at, after_read_pending, after_read_interrupt, first_forgets, after_read_forgets, waiting, after_answer, interrupt_effect, after_interrupt, after_interrupt_reply, after_no_interrupts};
-ghost use Rattle.fuse_spec.specs.QueueLaws.{kept_entries};
+ghost use Rattle.fuse_spec.specs.Kernel.Uniques.{numbers_left_from};
+ghost use Rattle.fuse_spec.specs.Kernel.Queues.{QueueState, empty_queues, IsSound};
+ghost use Rattle.fuse_spec.specs.Kernel.QueueCalls.{after_enqueue, after_forget, pending_at, after_read_pending, after_read_interrupt, first_forgets, after_read_forgets, waiting, after_answer, interrupt_effect, after_interrupt, after_interrupt_reply, after_no_interrupts};
+ghost use Rattle.fuse_spec.specs.Kernel.QueueLaws.{kept_entries};
 ghost use Rattle.fuse_spec.specs.declared.InterruptReply.TheVariants.{Again};
 ghost use Rattle.fk_queues.specs.Room.{Room, KeepsRoom};
 

@@ -6,9 +6,9 @@ use Rattle.fk_wire.specs.declared.opcode.Opcode.{Opcode}
 use Rattle.fk_wire.specs.declared.opcode.Opcode.TheVariants as op
 use Rattle.fk_wire.specs.Opcodes.{served}
 use Rattle.fk_wire.specs.Replies.{ReplyContent, empty_reply, reply_kind, kind_of_content, IsErrorNumber, GoesWith}
-use Rattle.fuse_spec.specs.Messages.{WireReply}
-use Rattle.fuse_spec.specs.Operations as reply
-use Rattle.fuse_spec.specs.Replies.{is_empty_reply}
+use Rattle.fuse_spec.specs.Kernel.Messages.{WireReply}
+use Rattle.fuse_spec.specs.Files.Operations as reply
+use Rattle.fuse_spec.specs.Kernel.Replies.{is_empty_reply}
 use Rattle.fuse_frames.specs.ReplyTies.{wire_said, wire_body}
 use Rattle.fk_said.specs.Said.{Says}
 

@@ -8,9 +8,9 @@ use Rattle.fk_wire.specs.declared.fault.WireFault.{WireFault}
 use Rattle.fk_wire.specs.declared.opcode.Opcode.{Opcode}
 use Rattle.fk_wire.specs.declared.reply.Reply.{Reply}
 use Rattle.fk_wire.specs.Replies.{ReplyMessage, reply_content, reply_message, SpellsReply, IsErrorNumber}
-use Rattle.fuse_spec.specs.Messages.{WireReply}
+use Rattle.fuse_spec.specs.Kernel.Messages.{WireReply}
 use Rattle.fuse_frames.specs.ReplyTies.{wire_said}
-use Rattle.fuse_spec.specs.Replies.{is_init_reply}
+use Rattle.fuse_spec.specs.Kernel.Replies.{is_init_reply}
 use Rattle.fk_said.specs.declared.said.InitSaid.{InitSaid}
 use Rattle.fk_said.specs.declared.said.InitSaid.TheVariants as init_said
 use Rattle.fk_said.specs.Said.{Says, SaysNothing, init_wire}

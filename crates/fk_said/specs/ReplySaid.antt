@@ -3,11 +3,11 @@ use Rattle.std.specs.Prelude.{◌≡◌, ◌≤◌, ℕ, ◌-◌, Bool, true, Li
 use Rattle.fk_wire.specs.Records.{records_in, pluses_in}
 use Rattle.fk_wire.specs.Replies.{ReplyContent, write_reply, init_reply}
 use Rattle.fuse_spec.specs.declared.Opened.{Opened}
-use Rattle.fuse_spec.specs.Operations.{Operation, readdir, readdirplus, read, write}
-use Rattle.fuse_spec.specs.Operations as reply
-use Rattle.fuse_spec.specs.Messages.{WireReply}
-use Rattle.fuse_spec.specs.Numbers.{max_validity}
-use Rattle.fuse_spec.specs.Replies.{goes_with}
+use Rattle.fuse_spec.specs.Files.Operations.{Operation, readdir, readdirplus, read, write}
+use Rattle.fuse_spec.specs.Files.Operations as reply
+use Rattle.fuse_spec.specs.Kernel.Messages.{WireReply}
+use Rattle.fuse_spec.specs.Values.Numbers.{max_validity}
+use Rattle.fuse_spec.specs.Kernel.Replies.{goes_with}
 use Rattle.fuse_frames.specs.ReplyTies.{dirent_in, pair_in}
 use Rattle.fk_said.specs.Said.{Says, opcode_of}
 use Rattle.fk_said.specs.declared.reply_said.ReplySaid.{ReplySaid}

@@ -7,9 +7,9 @@ use Rattle.fk_wire.specs.Fields.{number_at}
 use Rattle.fk_wire.specs.Requests.{known_flags}
 use Rattle.fk_wire.specs.ReplyFaults.{HasReplyLength, HasError}
 use Rattle.fuse_spec.specs.declared.Opened.{Opened}
-use Rattle.fuse_spec.specs.Operations.{Operation, lookup, getattr, mkdir, create, unlink, rmdir, rename, link, opening, readdir, readdirplus, read, write}
-use Rattle.fuse_spec.specs.Operations as reply
-use Rattle.fuse_spec.specs.Messages.{WireReply}
+use Rattle.fuse_spec.specs.Files.Operations.{Operation, lookup, getattr, mkdir, create, unlink, rmdir, rename, link, opening, readdir, readdirplus, read, write}
+use Rattle.fuse_spec.specs.Files.Operations as reply
+use Rattle.fuse_spec.specs.Kernel.Messages.{WireReply}
 use Rattle.fuse_frames.specs.ReplyTies.{SaysReply}
 use Rattle.fk_said.specs.declared.said.InitSaid.{InitSaid}
 use Rattle.fk_said.specs.declared.said.InitSaid.TheVariants as init_said

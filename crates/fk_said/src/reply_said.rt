@@ -4,9 +4,9 @@ ghost use Rattle.std.specs.Prelude.{◌≡◌, ℕ, false, length, map, pos, IfS
 ghost use Rattle.fk_wire.specs.Records.{records_in};
 ghost use Rattle.fk_wire.specs.Entries.{entry_content};
 ghost use Rattle.fk_wire.specs.Replies.{reply_content, entry_reply, create_reply};
-ghost use Rattle.fuse_spec.specs.Messages.{WireReply};
-ghost use Rattle.fuse_spec.specs.Operations as reply;
-ghost use Rattle.fuse_spec.specs.Replies.{goes_with};
+ghost use Rattle.fuse_spec.specs.Kernel.Messages.{WireReply};
+ghost use Rattle.fuse_spec.specs.Files.Operations as reply;
+ghost use Rattle.fuse_spec.specs.Kernel.Replies.{goes_with};
 ghost use Rattle.fuse_frames.specs.ReplyTies.{wire_body, dirent_in, attributes_in, no_entry};
 ghost use Rattle.fk_syscalls.specs.Values.{operation_of, dirent_of};
 ghost use Rattle.fk_said.specs.Said.{Says, opcode_of};

@@ -3,10 +3,10 @@
 ghost use Rattle.std.specs.Prelude.{◌≡◌, ℕ, List, pos, MatchOption};
 ghost use Rattle.fk_wire.specs.declared.opcode.Opcode.TheVariants as op;
 ghost use Rattle.fk_wire.specs.Replies.{ReplyContent, IsErrorNumber};
-ghost use Rattle.fuse_spec.specs.Messages.{WireReply};
-ghost use Rattle.fuse_spec.specs.Operations as reply;
+ghost use Rattle.fuse_spec.specs.Kernel.Messages.{WireReply};
+ghost use Rattle.fuse_spec.specs.Files.Operations as reply;
 ghost use Rattle.fuse_frames.specs.ReplyTies.{wire_said};
-ghost use Rattle.fuse_spec.specs.Replies.{is_agreement, minor_agreed, files_agreed};
+ghost use Rattle.fuse_spec.specs.Kernel.Replies.{is_agreement, minor_agreed, files_agreed};
 ghost use Rattle.fk_said.specs.Said.{Says, SaysNothing, SaysToInit, SaysToInterrupt, init_wire};
 
 use bitflags::Flags;

@@ -2,20 +2,20 @@
 use Rattle.std.proofs.Common.{◌≡◌, ℕ, Bool, true, false, cond, true≢false, List, [], ◌∷◌, ◌++◌, Option, Some, None, Result, Ok, Err, drop, nat_eq, refl, ap, sym, ◌∙◌, arith}
 use Rattle.std.specs.Prelude.{OnErr, IfOk, is_some, ◌||◌}
 use Rattle.std.specs.Option.{MatchOption}
-use Rattle.fuse_spec.specs.Begins.{Beginning, beginning}
+use Rattle.fuse_spec.specs.Calls.Begins.{Beginning, beginning}
 use Rattle.fk_syscalls.specs.declared.state.Next.{Next}
 use Rattle.fk_syscalls.specs.Values.{IsBegun}
 use Rattle.std.specs.declared.alloc.AllocError.{AllocError}
 use Rattle.fk_syscalls.specs.declared.walk.Stop.{Stop}
-use Rattle.fuse_spec.specs.Answers.{failed}
-use Rattle.fuse_spec.specs.Kernel.{nodes_of_state}
-use Rattle.fuse_spec.specs.Maps.{Map, NameMap}
-use Rattle.fuse_spec.specs.Calls.{Call}
-use Rattle.fuse_spec.specs.Walks as final
+use Rattle.fuse_spec.specs.Calls.Answers.{failed}
+use Rattle.fuse_spec.specs.Kernel.Kernel.{nodes_of_state}
+use Rattle.fuse_spec.specs.Values.Maps.{Map, NameMap}
+use Rattle.fuse_spec.specs.Calls.Calls.{Call}
+use Rattle.fuse_spec.specs.Calls.Walks as final
 use Rattle.std.specs.List.{list_any}
-use Rattle.fuse_spec.specs.Paths.{Name, split}
-use Rattle.fuse_spec.specs.Vfs.{CallState, walking, Vfs, Advance, look, asking, no_more, answered, after_walk, after_beginning, walks_on, begun, numbered}
-use Rattle.fuse_spec.specs.Walks.{WalkPlan, WalkStop, FinalOperation, last, rename, link, go, after_stop, after_last, rename_from, link_to, files_of_plan, unknown, missing, arrived}
+use Rattle.fuse_spec.specs.Calls.Paths.{Name, split}
+use Rattle.fuse_spec.specs.Calls.Vfs.{CallState, walking, Vfs, Advance, look, asking, no_more, answered, after_walk, after_beginning, walks_on, begun, numbered}
+use Rattle.fuse_spec.specs.Calls.Walks.{WalkPlan, WalkStop, FinalOperation, last, rename, link, go, after_stop, after_last, rename_from, link_to, files_of_plan, unknown, missing, arrived}
 use Rattle.fuse_spec.specs.declared.Binding.{Binding}
 use Rattle.fuse_spec.specs.declared.Opened.{Opened}
 use Rattle.fk_syscalls.specs.Walks.{known, stop_at}

@@ -5,7 +5,7 @@ use Rattle.std.specs.List.{list_any}
 use Rattle.std.proofs.lemmas.Bool.Decides.{eqb_tells}
 use Rattle.std.proofs.lemmas.List.{take_rest}
 use Rattle.std.proofs.lemmas.List.Elements.{All-nil, All-cons, All-head, All-tail, All-push}
-use Rattle.fuse_spec.specs.Paths.{Name, is_dots, split, word_fault, first_fault}
+use Rattle.fuse_spec.specs.Calls.Paths.{Name, is_dots, split, word_fault, first_fault}
 use Rattle.fk_syscalls.specs.Words.{words_from, IsPlace, IsWord, AreWords}
 
 abbrev HasNoSlash : Name → Type 0

@@ -2,7 +2,7 @@
 use Rattle.std.proofs.Common.{◌≡◌, ℕ, ◌+◌, ◌<◌, Bool, true, false, List, ◌∷◌, Option, Some, None, refl, arith}
 use Rattle.std.proofs.lemmas.Bool.Decides.{nat_tests}
 use Rattle.std.specs.Prelude.{nat_le}
-use Rattle.fuse_spec.specs.Paths.{Name, word_fault, first_fault}
+use Rattle.fuse_spec.specs.Calls.Paths.{Name, word_fault, first_fault}
 
 module _ (place : ℕ) (word : Name) (words : List Name) where
   pub fault_here : (errno : ℕ) → word_fault place word ≡ Some errno → first_fault place (word ∷ words) ≡ Some errno

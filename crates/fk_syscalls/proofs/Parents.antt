@@ -2,7 +2,7 @@
 use Rattle.std.proofs.Common.{◌≡◌, ℕ, ◌<◌, ◌≤◌, ◌-◌, true, false, List, [], ◌∷◌, ◌++◌, Option, Some, None, take, drop, length, nat_eq, refl, ap, sym, ◌∙◌, arith}
 use Rattle.std.proofs.lemmas.List.{take-append-drop, drop-append-le, length-take}
 use Rattle.std.proofs.lemmas.List.Elements.{All-pop}
-use Rattle.fuse_spec.specs.Paths.{Name, split, parent_and_last}
+use Rattle.fuse_spec.specs.Calls.Paths.{Name, split, parent_and_last}
 use Rattle.fk_syscalls.specs.Words.{IsWord, AreWords}
 
 parted_last : (words : List Name) (name : Name) → parent_and_last (words ++ name ∷ []) ≡ Some (words, name)

@@ -4,7 +4,7 @@ use Rattle.std.proofs.lemmas.Bool.{eqb-true}
 use Rattle.std.proofs.lemmas.List.{append-nil, drop_all, take_all, take_rest, drop-drop}
 use Rattle.std.proofs.lemmas.List.Quantifiers.{position-Some}
 use Rattle.std.specs.List.{position, position_or_len}
-use Rattle.fuse_spec.specs.Paths.{Name, split}
+use Rattle.fuse_spec.specs.Calls.Paths.{Name, split}
 use Rattle.fk_syscalls.proofs.Positions.{place_is, no_place_is}
 
 abbrev is_slash : ℕ → Bool

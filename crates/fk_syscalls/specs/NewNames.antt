@@ -1,7 +1,7 @@
 -- The names in force once a new one is bound.
 use Rattle.std.specs.Prelude.{Some}
 use Rattle.fuse_spec.specs.declared.Binding.{Binding}
-use Rattle.fuse_spec.specs.Maps.{Place, NameMap, put_name}
+use Rattle.fuse_spec.specs.Values.Maps.{Place, NameMap, put_name}
 use Rattle.fk_syscalls.specs.declared.new_name.NewName.{NewName}
 
 abbrev pub place_of : NewName → Place

@@ -1,8 +1,8 @@
 -- What a call does at the end of its walks.
 use Rattle.std.specs.Prelude.{ℕ}
-use Rattle.fuse_spec.specs.Paths.{Name}
-use Rattle.fuse_spec.specs.Walks.{WalkPlan, last, rename, link}
-use Rattle.fuse_spec.specs.Walks as final
+use Rattle.fuse_spec.specs.Calls.Paths.{Name}
+use Rattle.fuse_spec.specs.Calls.Walks.{WalkPlan, last, rename, link}
+use Rattle.fuse_spec.specs.Calls.Walks as final
 use Rattle.fk_syscalls.specs.Words.{words_from, IsWord, AreWords}
 use Rattle.fk_syscalls.specs.declared.plan.Change.{Change}
 use Rattle.fk_syscalls.specs.declared.plan.Change.TheVariants.{Mkdir, Create, Unlink, Rmdir}

@@ -1,12 +1,12 @@
 -- Where an unanswered call stands, and what a step of it comes to.
 use Rattle.std.specs.Prelude.{◌≡◌, ℕ, List, [], ◌∷◌, Option, Some, None}
-use Rattle.fuse_spec.specs.Begins.{Beginning}
-use Rattle.fuse_spec.specs.Maps.{NameMap}
-use Rattle.fuse_spec.specs.Operations as op
-use Rattle.fuse_spec.specs.Operations.{Operation}
-use Rattle.fuse_spec.specs.Paths.{Name}
-use Rattle.fuse_spec.specs.Vfs.{CallState, walking, doing, using, Vfs, asking, after_beginning}
-use Rattle.fuse_spec.specs.Walks.{WalkPlan, last, rename, link, operation_at}
+use Rattle.fuse_spec.specs.Calls.Begins.{Beginning}
+use Rattle.fuse_spec.specs.Values.Maps.{NameMap}
+use Rattle.fuse_spec.specs.Files.Operations as op
+use Rattle.fuse_spec.specs.Files.Operations.{Operation}
+use Rattle.fuse_spec.specs.Calls.Paths.{Name}
+use Rattle.fuse_spec.specs.Calls.Vfs.{CallState, walking, doing, using, Vfs, asking, after_beginning}
+use Rattle.fuse_spec.specs.Calls.Walks.{WalkPlan, last, rename, link, operation_at}
 use Rattle.fuse_spec.specs.declared.Binding.{Binding}
 use Rattle.fuse_spec.specs.declared.Opened.{Opened}
 use Rattle.fk_syscalls.specs.Words.{AreWords}

@@ -1,13 +1,13 @@
 -- What contracts see of calls.
 use Rattle.std.specs.Prelude.{◌≡◌, ℕ, map}
-use Rattle.fuse_spec.specs.Answers.{failed}
-use Rattle.fuse_spec.specs.Answers as answer
-use Rattle.fuse_spec.specs.Begins.{Beginning}
-use Rattle.fuse_spec.specs.Calls as call
-use Rattle.fuse_spec.specs.Maps.{NameMap}
-use Rattle.fuse_spec.specs.Numbers.{max_transfer}
-use Rattle.fuse_spec.specs.Operations as op
-use Rattle.fuse_spec.specs.Vfs.{Vfs, Advance, asking, no_more, answered, after_beginning}
+use Rattle.fuse_spec.specs.Calls.Answers.{failed}
+use Rattle.fuse_spec.specs.Calls.Answers as answer
+use Rattle.fuse_spec.specs.Calls.Begins.{Beginning}
+use Rattle.fuse_spec.specs.Calls.Calls as call
+use Rattle.fuse_spec.specs.Values.Maps.{NameMap}
+use Rattle.fuse_spec.specs.Values.Numbers.{max_transfer}
+use Rattle.fuse_spec.specs.Files.Operations as op
+use Rattle.fuse_spec.specs.Calls.Vfs.{Vfs, Advance, asking, no_more, answered, after_beginning}
 use Rattle.fuse_spec.specs.declared.Binding.{Binding}
 use Rattle.fuse_spec.specs.declared.Opened.{Opened}
 use Rattle.fk_syscalls.specs.Words.{IsWord}

@@ -1,10 +1,10 @@
 -- Walks along names in force.
 use Rattle.std.specs.Prelude.{ℕ, List, [], ◌∷◌, Option}
 use Rattle.fuse_spec.specs.declared.Binding.{Binding}
-use Rattle.fuse_spec.specs.Maps.{NameMap, get_name}
-use Rattle.fuse_spec.specs.Paths.{Name}
-use Rattle.fuse_spec.specs.Vfs.{valid_at}
-use Rattle.fuse_spec.specs.Walks.{WalkStop, unknown, arrived}
+use Rattle.fuse_spec.specs.Values.Maps.{NameMap, get_name}
+use Rattle.fuse_spec.specs.Calls.Paths.{Name}
+use Rattle.fuse_spec.specs.Calls.Vfs.{valid_at}
+use Rattle.fuse_spec.specs.Calls.Walks.{WalkStop, unknown, arrived}
 
 -- What a name leads to at a time, where it is valid.
 abbrev pub known : NameMap Binding → ℕ → ℕ → Name → Option (Option ℕ)

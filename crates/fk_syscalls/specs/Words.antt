@@ -1,6 +1,6 @@
 -- Words with one slash between each two, from a place on.
 use Rattle.std.specs.Prelude.{◌≡◌, ◌≢◌, ℕ, ◌-◌, ◌<◌, ◌≤◌, List, [], ◌∷◌, Option, Some, None, All, length, drop}
-use Rattle.fuse_spec.specs.Paths.{Name, split, word_fault}
+use Rattle.fuse_spec.specs.Calls.Paths.{Name, split, word_fault}
 
 -- The words that are left. With no place there is none.
 abbrev pub words_from : List ℕ → Option ℕ → List Name

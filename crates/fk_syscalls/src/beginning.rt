@@ -1,11 +1,11 @@
 //! How a call begins.
 
 ghost use Rattle.std.specs.Prelude.{◌≡◌, ℕ, false, length, IfOk, OnErr};
-ghost use Rattle.fuse_spec.specs.Begins.{sets_out, whole_path, parent_path, using as using_file};
-ghost use Rattle.fuse_spec.specs.Maps.{get};
-ghost use Rattle.fuse_spec.specs.Operations as op;
-ghost use Rattle.fuse_spec.specs.Vfs.{CallState as State, Vfs, numbered, begun, asking, after_beginning};
-ghost use Rattle.fuse_spec.specs.Walks.{last, rename, link};
+ghost use Rattle.fuse_spec.specs.Calls.Begins.{sets_out, whole_path, parent_path, using as using_file};
+ghost use Rattle.fuse_spec.specs.Values.Maps.{get};
+ghost use Rattle.fuse_spec.specs.Files.Operations as op;
+ghost use Rattle.fuse_spec.specs.Calls.Vfs.{CallState as State, Vfs, numbered, begun, asking, after_beginning};
+ghost use Rattle.fuse_spec.specs.Calls.Walks.{last, rename, link};
 ghost use Rattle.fuse_spec.specs.declared.Opened.{Opened};
 ghost use Rattle.fk_syscalls.specs.Words.{words_from, AreWords};
 ghost use Rattle.fk_syscalls.specs.Plans.{final_change, final_lent, plan_lent, IsSoundLent, IsSoundPlanLent};
@@ -15,19 +15,14 @@ ghost use Rattle.fk_syscalls.specs.Values.{call_of, comes_to, ClosesNone, IsBegu
 use crate::call::Call;
 use crate::path::{first_word, parent_of};
 use crate::plan::{Change, LentOperation, LentPlan};
-use crate::state::{CallState, ENOENT, Next, ROOT};
+use crate::state::{CallState, Next, ROOT};
 use crate::walk::walk;
 use fk_dentry::Bindings;
 use fuse_spec::Opened;
+use fuse_spec::errno::{EBADF, EINVAL, ENOENT};
+use fuse_spec::limits::MAX_FILE;
 use fuse_tables::Table;
 use std::alloc::{AllocError, Allocator};
-
-const EBADF: u32 = 9;
-
-const EINVAL: u32 = 22;
-
-/// A read or write begins at most here.
-const MAX_FILE: u64 = 65_536;
 
 /// A read or write has at most so many bytes.
 const MAX_TRANSFER: u64 = 4_096;

@@ -1,7 +1,7 @@
 //! System calls, what they ask and what they are answered.
 
 ghost use Rattle.std.specs.Prelude.{◌≡◌};
-ghost use Rattle.fuse_spec.specs.Calls.{spoken};
+ghost use Rattle.fuse_spec.specs.Calls.Calls.{spoken};
 ghost use Rattle.fk_syscalls.specs.Values.{call_of};
 
 use fuse_spec::{Attributes, Kind, Opened};

@@ -1,12 +1,12 @@
 //! A name that is about to be bound.
 
 ghost use Rattle.std.specs.Prelude.{◌≡◌, Some, MatchOption};
-ghost use Rattle.fuse_spec.specs.Walks.{go, missing};
+ghost use Rattle.fuse_spec.specs.Calls.Walks.{go, missing};
 ghost use Rattle.fk_syscalls.specs.Words.{words_from, AreWords};
-ghost use Rattle.fuse_spec.specs.Vfs.{valid_at};
+ghost use Rattle.fuse_spec.specs.Calls.Vfs.{valid_at};
 ghost use Rattle.std.specs.Cmp.Lexicographic.{slice_cmp};
 ghost use Rattle.std.specs.Ordering.{nat_cmp, eq_by_cmp};
-ghost use Rattle.fuse_spec.specs.Maps.{place_cmp};
+ghost use Rattle.fuse_spec.specs.Values.Maps.{place_cmp};
 ghost use Rattle.fk_dentry.specs.NamesInForce.{found_of};
 ghost use Rattle.fk_syscalls.specs.Walks.{known, stop_at};
 ghost use Rattle.fk_syscalls.specs.NewNames.{place_of, with_name};

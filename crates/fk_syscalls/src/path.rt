@@ -1,23 +1,15 @@
 //! Paths: words between single slashes, behind a leading slash (this project's rule).
 
 ghost use Rattle.std.specs.Prelude.{◌≡◌, ◌≤◌, ℕ, List, Some, Ok, Err, length, IfOk, MatchResult};
-ghost use Rattle.fuse_spec.specs.Paths.{word_fault, first_fault, words_of, parent_and_last};
+ghost use Rattle.fuse_spec.specs.Calls.Paths.{word_fault, first_fault, words_of, parent_and_last};
 ghost use Rattle.fk_syscalls.specs.Words.{words_from, IsWord, AreWords};
-ghost use Rattle.fuse_spec.specs.Begins.{Beginning, faulty, parent_path};
-ghost use Rattle.fuse_spec.specs.Paths.{Name};
+ghost use Rattle.fuse_spec.specs.Calls.Begins.{Beginning, faulty, parent_path};
+ghost use Rattle.fuse_spec.specs.Calls.Paths.{Name};
 ghost use Rattle.fuse_spec.specs.declared.Opened.{Opened};
 
 use crate::words::word_at;
-
-/// A path has at most so many words.
-const MAX_WORDS: usize = 32;
-
-/// A word has at most so many bytes.
-const MAX_NAME: usize = 255;
-
-const EINVAL: u32 = 22;
-
-const ENAMETOOLONG: u32 = 36;
+use fuse_spec::errno::{EINVAL, ENAMETOOLONG};
+use fuse_spec::limits::{MAX_NAME, MAX_WORDS};
 
 /// The fault of the word at this place of a path, counted from 0: first its place, then what it may not hold, then its length.
 fn word_fault(place: usize, word: &[u8]) -> Option<u32>

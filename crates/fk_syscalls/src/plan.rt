@@ -2,7 +2,7 @@
 
 ghost use Rattle.std.specs.Prelude.{◌≡◌, IfOk, nat_eq};
 ghost use Rattle.std.specs.List.{list_any};
-ghost use Rattle.fuse_spec.specs.Walks.{files_of_plan, last, operation_at};
+ghost use Rattle.fuse_spec.specs.Calls.Walks.{files_of_plan, last, operation_at};
 ghost use Rattle.fk_syscalls.specs.Words.{IsWord};
 ghost use Rattle.fk_syscalls.specs.Values.{operation_of, AsksWord};
 ghost use Rattle.fk_syscalls.specs.Plans.{final_change, final_of, final_lent, plan_of, plan_lent, IsSoundFinal, IsSoundLent, IsSoundPlan, IsSoundPlanLent};

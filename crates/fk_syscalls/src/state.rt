@@ -2,11 +2,11 @@
 
 ghost use Rattle.std.specs.Prelude.{◌≡◌, ℕ, List, IfOk, is_some, nat_eq};
 ghost use Rattle.std.specs.List.{list_any};
-ghost use Rattle.fuse_spec.specs.Kernel.{nodes_of_state};
-ghost use Rattle.fuse_spec.specs.Operations as op;
-ghost use Rattle.fuse_spec.specs.Paths.{Name};
-ghost use Rattle.fuse_spec.specs.Vfs.{Vfs, walking, using, asked, walks_on};
-ghost use Rattle.fuse_spec.specs.Walks.{WalkPlan, last, go, arrived};
+ghost use Rattle.fuse_spec.specs.Kernel.Kernel.{nodes_of_state};
+ghost use Rattle.fuse_spec.specs.Files.Operations as op;
+ghost use Rattle.fuse_spec.specs.Calls.Paths.{Name};
+ghost use Rattle.fuse_spec.specs.Calls.Vfs.{Vfs, walking, using, asked, walks_on};
+ghost use Rattle.fuse_spec.specs.Calls.Walks.{WalkPlan, last, go, arrived};
 ghost use Rattle.fk_syscalls.specs.Words.{words_from, AreWords};
 ghost use Rattle.fk_syscalls.specs.Plans.{final_of, plan_lent, plan_of, IsSoundFinal, IsSoundPlan};
 ghost use Rattle.fk_syscalls.specs.States.{walking_at, IsSoundLentCall, IsWalking, StandsAt, used_by, HasNames};
@@ -21,13 +21,12 @@ use crate::walk::walk;
 use crate::words::{next_place, word_at};
 use fk_dentry::Bindings;
 use fuse_spec::Opened;
+use fuse_spec::errno::ENOENT;
 use std::alloc::{AllocError, Allocator, Global};
 use std::marker::Model;
 
 /// The root's node.
 pub(crate) const ROOT: u64 = 1;
-
-pub(crate) const ENOENT: u32 = 2;
 
 /// What a call waits for: the end of its walks, or bytes of an open file.
 #[derive(Drop)]
@@ -60,7 +59,7 @@ pub struct CallState<A: Allocator = Global> {
 
 impl<A: Allocator> Model for CallState<A> {
     ghost use Rattle.std.specs.Coded.{codes};
-    ghost use Rattle.fuse_spec.specs.Vfs.{CallState as State};
+    ghost use Rattle.fuse_spec.specs.Calls.Vfs.{CallState as State};
     ghost use Rattle.fuse_spec.specs.declared.Opened.{Opened};
     ghost use Rattle.fk_syscalls.specs.Words.{words_from};
     ghost use Rattle.fk_syscalls.specs.States.{state_of, IsSoundCall};

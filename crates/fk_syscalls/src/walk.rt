@@ -1,7 +1,7 @@
 //! Walks along names in force.
 
 ghost use Rattle.std.specs.Prelude.{◌≡◌, IfSome, MatchOption};
-ghost use Rattle.fuse_spec.specs.Walks.{go, missing};
+ghost use Rattle.fuse_spec.specs.Calls.Walks.{go, missing};
 ghost use Rattle.fk_syscalls.specs.Words.{words_from, AreWords};
 ghost use Rattle.fk_syscalls.specs.Walks.{known, stop_at};
 

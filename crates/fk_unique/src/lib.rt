@@ -4,12 +4,10 @@
 #![tactic(auto)]
 
 ghost use Rattle.std.specs.Prelude.{◌≡◌, ◌+◌, ◌%◌, ◌<◌, ◌≤◌, IfSome, IsSome, ◌↔◌};
-ghost use Rattle.fuse_spec.specs.Uniques.{first_number, number_limit, numbers_left_from, interrupt_number, original_number, IsNextNumber};
+ghost use Rattle.fuse_spec.specs.Kernel.Uniques.{first_number, number_limit, numbers_left_from, interrupt_number, original_number, IsNextNumber};
 
+use fuse_spec::limits::COUNTER_END;
 use std::marker::Model;
-
-/// No number reaches this.
-pub const LIMIT: u64 = 0x4000_0000_0000_0000;
 
 /// The numbers that a mount has not drawn yet (this project's rule: they start at 2 and end below 2^62). Contracts see the
 /// coming one; at 2^62 none is left.
@@ -23,7 +21,7 @@ impl Model for Uniques {
 
     ghost Value = { ℕ };
 
-    ghost use Rattle.fuse_spec.specs.Uniques.{IsNextNumber};
+    ghost use Rattle.fuse_spec.specs.Kernel.Uniques.{IsNextNumber};
 
     ghost view = { λ u. u.next };
 
@@ -51,7 +49,7 @@ impl Uniques {
         ensures next { IsNextNumber self.new }
     {
         let unique = self.next;
-        if unique >= LIMIT {
+        if unique >= COUNTER_END {
             return None;
         }
         self.next = unique + 2;
@@ -71,7 +69,7 @@ impl Uniques {
         ensures left { result ≡ numbers_left_from self.now }
         ensures next { IsNextNumber self.now }
     {
-        (LIMIT - self.next) / 2
+        (COUNTER_END - self.next) / 2
     }
 }
 

@@ -5,14 +5,14 @@ use Rattle.std.proofs.lemmas.List.{length-take}
 use Rattle.std.proofs.lemmas.Bool.{ltb-true, ltb-false}
 use Rattle.std.proofs.lemmas.Option.{none-some, same_Some}
 use Rattle.std.proofs.lemmas.List.Elements.{All-contains}
-use Rattle.fuse_spec.specs.Maps.{get}
-use Rattle.fuse_spec.specs.Nodes.{NodeTable, HeldNode, file_of, file_in, root_row}
-use Rattle.fuse_spec.specs.Numbers.{eisdir, max_transfer}
-use Rattle.fuse_spec.specs.Operations.{Reply, content, create, created, found, lookup, mkdir, opening, read}
+use Rattle.fuse_spec.specs.Values.Maps.{get}
+use Rattle.fuse_spec.specs.Server.Nodes.{NodeTable, HeldNode, file_of, file_in, root_row}
+use Rattle.fuse_spec.specs.Values.Numbers.{eisdir, max_transfer}
+use Rattle.fuse_spec.specs.Files.Operations.{Reply, content, create, created, found, lookup, mkdir, opening, read}
 use Rattle.fuse_spec.specs.declared.Validity.{Validity}
-use Rattle.fuse_spec.specs.Trees.{Tree, Named, a_directory, a_file, bytes_of, file_at, is_at, is_directory, with_birth}
-use Rattle.fuse_spec.specs.TreeShape.{IsShaped, Stands}
-use Rattle.fuse_spec.specs.FileOperations.{looked_up, refusal, reply_unrefused}
+use Rattle.fuse_spec.specs.Files.Trees.{Tree, Named, a_directory, a_file, bytes_of, file_at, is_at, is_directory, with_birth}
+use Rattle.fuse_spec.specs.Files.TreeShape.{IsShaped, Stands}
+use Rattle.fuse_spec.specs.Files.FileOperations.{looked_up, refusal, reply_unrefused}
 use Rattle.fs_tree.proofs.Counting.{found_there}
 use Rattle.fs_files.specs.declared.replies.Outcome.TheVariants.{Found, Created, Opened, Plain}
 use Rattle.fs_files.specs.declared.replies.PlainReply.TheVariants.{Content}

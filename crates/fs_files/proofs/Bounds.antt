@@ -3,10 +3,10 @@ use Rattle.std.proofs.Common.{◌≡◌, ℕ, ◌+◌, ◌-◌, Bool, true, fals
 use Rattle.std.specs.Prelude.{nat_lt}
 use Rattle.std.proofs.lemmas.Bool.{cases_eq}
 use Rattle.std.proofs.lemmas.Option.{none-some, same_Some}
-use Rattle.fuse_spec.specs.Maps.{Map, get, put, remove}
+use Rattle.fuse_spec.specs.Values.Maps.{Map, get, put, remove}
 use Rattle.fuse_spec.specs.declared.Entry.{Entry}
-use Rattle.fuse_spec.specs.Copies.{row_back}
-use Rattle.fuse_spec.specs.Nodes.{HeldNode, NodeTable, is_held, given, given_row, taken_back, rows_less, row_more, rows_more, OpenNumber, HandleTable, handle_opened, handle_back, handles_less, handle_more, handles_more}
+use Rattle.fuse_spec.specs.Server.Copies.{row_back}
+use Rattle.fuse_spec.specs.Server.Nodes.{HeldNode, NodeTable, is_held, given, given_row, taken_back, rows_less, row_more, rows_more, OpenNumber, HandleTable, handle_opened, handle_back, handles_less, handle_more, handles_more}
 use Rattle.fuse_spec.proofs.Tables.{get_put_here, get_put_there, get_gone_here, get_gone_there}
 
 -- each value of a map has it

@@ -1,16 +1,16 @@
 -- What an operation draws, refused or not.
 use Rattle.std.proofs.Common.{◌≡◌, ℕ, Bool, true, false, true≢false, cond, List, [], length, Option, Some, None, sym, ap, subst, ◌∙◌, arith, refl}
 use Rattle.std.specs.Prelude.{is_some}
-use Rattle.fuse_spec.specs.Numbers.{ebadf, eintr, eio}
-use Rattle.fuse_spec.specs.Messages.{RequestBody, asks, release}
-use Rattle.fuse_spec.specs.Operations.{Operation, Reply, failed, files_in_reply, opens_in_reply}
+use Rattle.fuse_spec.specs.Values.Numbers.{ebadf, eintr, eio}
+use Rattle.fuse_spec.specs.Kernel.Messages.{RequestBody, asks, release}
+use Rattle.fuse_spec.specs.Files.Operations.{Operation, Reply, failed, files_in_reply, opens_in_reply}
 use Rattle.fuse_spec.specs.declared.Opened.{Opened}
-use Rattle.fuse_spec.specs.Performs.{file_operation_of, is_open_for, is_still_held}
-use Rattle.fuse_spec.specs.Server.{Server, HeldRequest}
+use Rattle.fuse_spec.specs.Server.Performs.{file_operation_of, is_open_for, is_still_held}
+use Rattle.fuse_spec.specs.Server.Server.{Server, HeldRequest}
 use Rattle.fs_files.specs.Performing.{said, said_by, tree_said, tree_by, handles_said, handles_by}
 use Rattle.fuse_spec.specs.declared.Validity.{Validity}
-use Rattle.fuse_spec.specs.Trees.{Tree}
-use Rattle.fuse_spec.specs.FileOperations.{FileOperation, refusal, reply_by, reply_or, reply_unrefused, tree_after, tree_or, tree_unrefused}
+use Rattle.fuse_spec.specs.Files.Trees.{Tree}
+use Rattle.fuse_spec.specs.Files.FileOperations.{FileOperation, refusal, reply_by, reply_or, reply_unrefused, tree_after, tree_or, tree_unrefused}
 use Rattle.fs_tree.specs.Outcomes.{Refuses}
 use Rattle.fs_tree.specs.declared.error.TreeError.{TreeError}
 use Rattle.fs_files.specs.Plans.{Draws}

@@ -1,6 +1,6 @@
 -- Entries that are put one after another.
 use Rattle.std.proofs.Common.{◌≡◌, ◌≤◌, ◌+◌, ◌++◌, Option, Some, None, List, [], ◌∷◌, length, refl, ap, arith}
-use Rattle.fuse_spec.specs.Operations.{first_told}
+use Rattle.fuse_spec.specs.Files.Operations.{first_told}
 
 pub one_on : {A : Type 0} (xs : List A) (x : A) (ys : List A) → (xs ++ x ∷ []) ++ ys ≡ xs ++ x ∷ ys
 one_on {A} [] x ys = refl

@@ -3,10 +3,10 @@ use Rattle.std.proofs.Common.{◌≡◌, ℕ, ◌+◌, ◌≤◌, ◌<◌, ◌^�
 use Rattle.std.specs.FinMap.{is_sorted}
 use Rattle.std.specs.Ordering.{nat_cmp}
 use Rattle.std.proofs.lemmas.Grind.{common_steps}
-use Rattle.fuse_spec.specs.Maps.{Map, get}
+use Rattle.fuse_spec.specs.Values.Maps.{Map, get}
 use Rattle.fuse_spec.proofs.Tables.{get_put_here}
-use Rattle.fuse_spec.specs.Nodes.{HeldNode, NodeTable, IsUnheld, MayChoose, MayName, all_given, given, given_row}
-use Rattle.fuse_spec.specs.Operations.{first_told}
+use Rattle.fuse_spec.specs.Server.Nodes.{HeldNode, NodeTable, IsUnheld, MayChoose, MayName, all_given, given, given_row}
+use Rattle.fuse_spec.specs.Files.Operations.{first_told}
 use Rattle.fs_nodes.specs.Rows.{IsOf}
 use Rattle.fs_nodes.specs.Sound.{IsSound}
 use Rattle.fs_nodes.proofs.Maps.{first_there, sorted_later, there_later}

@@ -9,12 +9,12 @@ use Rattle.std.proofs.lemmas.Bool.{cases_eq, leb-true, leb-false}
 use Rattle.std.proofs.lemmas.List.{length-map}
 use Rattle.std.proofs.lemmas.Option.{same_Some}
 use Rattle.std.proofs.lemmas.Grind.{common_steps}
-use Rattle.fuse_spec.specs.Maps.{Map, get, values}
-use Rattle.fuse_spec.specs.Nodes.{HeldNode, NodeTable, MayName, IsUnheld, file_of, generation_after, given, given_row, counts_out}
+use Rattle.fuse_spec.specs.Values.Maps.{Map, get, values}
+use Rattle.fuse_spec.specs.Server.Nodes.{HeldNode, NodeTable, MayName, IsUnheld, file_of, generation_after, given, given_row, counts_out}
 use Rattle.fuse_spec.specs.declared.Entry.{Entry}
-use Rattle.fuse_spec.specs.Numbers.{counter_end}
+use Rattle.fuse_spec.specs.Values.Numbers.{counter_end}
 use Rattle.fuse_spec.proofs.Tables.{get_put_here, get_put_there}
-use Rattle.fuse_spec.specs.Server.{count_in}
+use Rattle.fuse_spec.specs.Server.Server.{count_in}
 use Rattle.fs_nodes.specs.Rows.{IsOf}
 use Rattle.fs_nodes.specs.Sound.{IsSound}
 use Rattle.fs_nodes.proofs.Maps.{HasValue, any_is, any_there, first_there, sorted_later, there_any, there_later, sorted_put, turned}

@@ -4,12 +4,12 @@ use Rattle.std.specs.Prelude.{MatchOption, count_by, nat_le}
 use Rattle.std.proofs.lemmas.Bool.{leb-false}
 use Rattle.std.proofs.lemmas.Grind.{common_steps}
 use Rattle.std.proofs.lemmas.List.Sums.{count_by-le-length}
-use Rattle.fuse_spec.specs.Maps.{get}
-use Rattle.fuse_spec.specs.Numbers.{counter_end}
-use Rattle.fuse_spec.specs.Nodes.{HeldNode, NodeTable, IsUnheld, MayChoose, MayName, all_given, counts_out, given, given_row}
-use Rattle.fuse_spec.specs.Operations.{Dirent, files_in_reply, files_told, first_told}
-use Rattle.fuse_spec.specs.Paths.{is_dots}
-use Rattle.fuse_spec.specs.Trees.{Tree}
+use Rattle.fuse_spec.specs.Values.Maps.{get}
+use Rattle.fuse_spec.specs.Values.Numbers.{counter_end}
+use Rattle.fuse_spec.specs.Server.Nodes.{HeldNode, NodeTable, IsUnheld, MayChoose, MayName, all_given, counts_out, given, given_row}
+use Rattle.fuse_spec.specs.Files.Operations.{Dirent, files_in_reply, files_told, first_told}
+use Rattle.fuse_spec.specs.Calls.Paths.{is_dots}
+use Rattle.fuse_spec.specs.Files.Trees.{Tree}
 use Rattle.fuse_spec.proofs.QueueCounts.{count_by-cons}
 use Rattle.fs_nodes.proofs.Maps.{any_there}
 use Rattle.fs_files.specs.Bounds.{AreHeldBelow}

@@ -3,14 +3,14 @@ use Rattle.std.proofs.Common.{◌≡◌, ℕ, ◌+◌, ◌-◌, ◌*◌, ◌/◌
 use Rattle.std.specs.Prelude.{All, IsSome, MatchOption, filter, is_some, nat_le, nat_lt, sum_by}
 use Rattle.std.proofs.lemmas.Bool.{leb-true, ltb-true, ltb-false}
 use Rattle.std.proofs.lemmas.List.Elements.{All-cons, All-filter, All-head, All-map, All-nil, All-tail}
-use Rattle.fuse_spec.specs.Maps.{get}
-use Rattle.fuse_spec.specs.TreeShape.{IsShaped}
+use Rattle.fuse_spec.specs.Values.Maps.{get}
+use Rattle.fuse_spec.specs.Files.TreeShape.{IsShaped}
 use Rattle.std.proofs.lemmas.List.Sums.{sum_by-cons}
 use Rattle.fk_wire.specs.RecordEnds.{padding}
-use Rattle.fuse_spec.specs.Operations.{Reply, listed}
-use Rattle.fuse_spec.specs.Operations.{Dirent as SpecDirent}
-use Rattle.fuse_spec.specs.Trees.{Named, Tree, fitting, names_in, record_length, records_after}
-use Rattle.fuse_spec.specs.Trees.{record_of as spec_record_of}
+use Rattle.fuse_spec.specs.Files.Operations.{Reply, listed}
+use Rattle.fuse_spec.specs.Files.Operations.{Dirent as SpecDirent}
+use Rattle.fuse_spec.specs.Files.Trees.{Named, Tree, fitting, names_in, record_length, records_after}
+use Rattle.fuse_spec.specs.Files.Trees.{record_of as spec_record_of}
 use Rattle.fk_wire.specs.Dirents.{DirentContent, dirents, dirents_from, HaveRecordNames}
 use Rattle.fk_wire.specs.Fields.{InRange, ReadsAs, sizes, spellings}
 use Rattle.fk_wire.specs.Records.{records_in, AreRecords}

@@ -4,9 +4,9 @@ use Rattle.std.specs.Prelude.{MatchOption}
 use Rattle.std.specs.List.{list_any}
 use Rattle.std.specs.FinMap.{is_sorted}
 use Rattle.std.specs.Ordering.{nat_cmp}
-use Rattle.fuse_spec.specs.Maps.{get, put, values}
-use Rattle.fuse_spec.specs.Nodes.{HeldNode, NodeTable, MayName, IsUnheld, given, given_row, row_of, root_row}
-use Rattle.fuse_spec.specs.Server.{generation_in}
+use Rattle.fuse_spec.specs.Values.Maps.{get, put, values}
+use Rattle.fuse_spec.specs.Server.Nodes.{HeldNode, NodeTable, MayName, IsUnheld, given, given_row, row_of, root_row}
+use Rattle.fuse_spec.specs.Server.Server.{generation_in}
 use Rattle.fuse_spec.proofs.Tables.{get_put_here}
 use Rattle.fs_nodes.specs.Rows.{generation_given}
 use Rattle.fs_nodes.specs.Sound.{IsSound}

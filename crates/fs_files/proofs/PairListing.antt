@@ -4,10 +4,10 @@ use Rattle.std.specs.Prelude.{All, filter, nat_le, nat_lt, sum_by}
 use Rattle.std.proofs.lemmas.Bool.{leb-true}
 use Rattle.std.proofs.lemmas.List.Elements.{All-cons, All-filter, All-head, All-map, All-nil, All-tail}
 use Rattle.std.proofs.lemmas.List.Sums.{sum_by-cons}
-use Rattle.fuse_spec.specs.TreeShape.{IsShaped}
-use Rattle.fuse_spec.specs.Operations.{Dirent, DirentPlus, Reply, listed_plus}
-use Rattle.fuse_spec.specs.Trees.{Named, Tree, fitting_pairs, names_in, pair_length, pairs_after, record_length}
-use Rattle.fuse_spec.specs.Trees.{pair_of as spec_pair_of}
+use Rattle.fuse_spec.specs.Files.TreeShape.{IsShaped}
+use Rattle.fuse_spec.specs.Files.Operations.{Dirent, DirentPlus, Reply, listed_plus}
+use Rattle.fuse_spec.specs.Files.Trees.{Named, Tree, fitting_pairs, names_in, pair_length, pairs_after, record_length}
+use Rattle.fuse_spec.specs.Files.Trees.{pair_of as spec_pair_of}
 use Rattle.fk_wire.specs.Dirents.{dirents}
 use Rattle.fk_wire.specs.Fields.{InRange, spellings}
 use Rattle.fuse_frames.specs.ReplyTies.{dirent_in}

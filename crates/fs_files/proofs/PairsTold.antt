@@ -1,6 +1,6 @@
 -- How many names of a list tell a file.
 use Rattle.std.proofs.Common.{ℕ, ◌+◌, ◌≤◌, Option, Some, None, List, [], ◌∷◌, length, arith}
-use Rattle.fuse_spec.specs.Operations.{Dirent, files_told, first_told, told_by}
+use Rattle.fuse_spec.specs.Files.Operations.{Dirent, files_told, first_told, told_by}
 use Rattle.fuse_spec.specs.declared.Entry.{Entry}
 use Rattle.fuse_frames.specs.ReplyTies.{entry_told, pairs_told}
 

@@ -1,16 +1,16 @@
 -- Performing a held request is answering it on the tree, and then telling the files of the answer.
 use Rattle.std.proofs.Common.{◌≡◌, ℕ, Bool, true, false, cond, not, ◌||◌, List, [], refl, ap, ◌∙◌}
 use Rattle.fuse_spec.specs.declared.Opened.{Opened}
-use Rattle.fuse_spec.specs.Maps.{Map}
-use Rattle.fuse_spec.specs.Numbers.{eintr, eio, ebadf}
-use Rattle.fuse_spec.specs.Operations as operation
-use Rattle.fuse_spec.specs.Operations.{Operation, Reply, done, failed, files_in_reply, opens_in_reply, errno_of}
-use Rattle.fuse_spec.specs.FileOperations.{FileOperation, reply_by, tree_after}
-use Rattle.fuse_spec.specs.Messages.{RequestBody, init, asks, release, forget, batch_forget, interrupt}
-use Rattle.fuse_spec.specs.Nodes.{HandleTable, file_of, is_open, handle_back, all_given, all_opened}
-use Rattle.fuse_spec.specs.Server.{Server, HeldRequest, Kept, Copy}
-use Rattle.fuse_spec.specs.Trees.{Tree}
-use Rattle.fuse_spec.specs.Performs.{PerformResult, performed, performing, refusing, doing, file_operation_of, is_open_for, is_still_held, files_by, files_given, wire_of}
+use Rattle.fuse_spec.specs.Values.Maps.{Map}
+use Rattle.fuse_spec.specs.Values.Numbers.{eintr, eio, ebadf}
+use Rattle.fuse_spec.specs.Files.Operations as operation
+use Rattle.fuse_spec.specs.Files.Operations.{Operation, Reply, done, failed, files_in_reply, opens_in_reply, errno_of}
+use Rattle.fuse_spec.specs.Files.FileOperations.{FileOperation, reply_by, tree_after}
+use Rattle.fuse_spec.specs.Kernel.Messages.{RequestBody, init, asks, release, forget, batch_forget, interrupt}
+use Rattle.fuse_spec.specs.Server.Nodes.{HandleTable, file_of, is_open, handle_back, all_given, all_opened}
+use Rattle.fuse_spec.specs.Server.Server.{Server, HeldRequest, Kept, Copy}
+use Rattle.fuse_spec.specs.Files.Trees.{Tree}
+use Rattle.fuse_spec.specs.Server.Performs.{PerformResult, performed, performing, refusing, doing, file_operation_of, is_open_for, is_still_held, files_by, files_given, wire_of}
 use Rattle.fs_files.specs.Performing.{said, said_by, tree_said, tree_by, handles_said, handles_by, telling}
 
 -- the server after a request is answered on the tree

@@ -1,8 +1,8 @@
 -- Counts stay below their end, as the entries of a reply count their nodes once more.
 use Rattle.std.proofs.Common.{◌≡◌, ℕ, ◌+◌, ◌^◌, Bool, true, false, cond, List, [], ◌∷◌, Option, Some, None, nat_eq, refl, sym, ap, subst, ◌∙◌, arith, inl, inr}
 use Rattle.std.proofs.lemmas.Bool.{cases_eq}
-use Rattle.fuse_spec.specs.Maps.{get, put}
-use Rattle.fuse_spec.specs.Nodes.{HeldNode, NodeTable, file_in, file_of, root_row, row_more, rows_more}
+use Rattle.fuse_spec.specs.Values.Maps.{get, put}
+use Rattle.fuse_spec.specs.Server.Nodes.{HeldNode, NodeTable, file_in, file_of, root_row, row_more, rows_more}
 use Rattle.fuse_spec.specs.declared.Entry.{Entry}
 use Rattle.fuse_spec.proofs.Tables.{get_put_here, get_put_there}
 use Rattle.fs_nodes.specs.Sound.{IsSound}

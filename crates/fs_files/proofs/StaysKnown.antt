@@ -3,19 +3,19 @@ use Rattle.std.proofs.Common.{◌≡◌, ◌≢◌, ℕ, ◌<◌, ◌^◌, Bool,
 use Rattle.std.specs.Prelude.{IfOk, OnErr, IsSome, IsTrue, is_some}
 use Rattle.std.proofs.lemmas.Bool.{cases_eq}
 use Rattle.std.proofs.lemmas.Option.{none-some}
-use Rattle.fuse_spec.specs.Maps.{Map, get, put, remove}
+use Rattle.fuse_spec.specs.Values.Maps.{Map, get, put, remove}
 use Rattle.fuse_spec.specs.declared.Entry.{Entry}
 use Rattle.fuse_spec.specs.declared.Kind.TheVariants.{Regular}
 use Rattle.fuse_spec.specs.declared.Validity.{Validity}
-use Rattle.fuse_spec.specs.Copies.{row_back}
-use Rattle.fuse_spec.specs.Nodes.{HeldNode, NodeTable, HandleTable, OpenNumber, given, taken_back, row_more, handle_back, handle_more, handle_opened, file_of, file_in, is_file_of, is_open, root_row}
-use Rattle.fuse_spec.specs.Performs.{file_operation_of, is_open_for}
-use Rattle.fuse_spec.specs.Server.{is_file_held}
+use Rattle.fuse_spec.specs.Server.Copies.{row_back}
+use Rattle.fuse_spec.specs.Server.Nodes.{HeldNode, NodeTable, HandleTable, OpenNumber, given, taken_back, row_more, handle_back, handle_more, handle_opened, file_of, file_in, is_file_of, is_open, root_row}
+use Rattle.fuse_spec.specs.Server.Performs.{file_operation_of, is_open_for}
+use Rattle.fuse_spec.specs.Server.Server.{is_file_held}
 use Rattle.fuse_spec.specs.declared.Opened.{Opened}
-use Rattle.fuse_spec.specs.FileOperations.{FileOperation, is_same, renamed, tree_unrefused}
-use Rattle.fuse_spec.specs.Operations as operation
-use Rattle.fuse_spec.specs.Trees.{Content, Tree, a_directory, a_file, bytes_of, file_at, is_directory, is_kind_directory, is_nameless, kind_of, overwritten, with_birth}
-use Rattle.fuse_spec.specs.TreeShape.{IsShaped, WritesRegular}
+use Rattle.fuse_spec.specs.Files.FileOperations.{FileOperation, is_same, renamed, tree_unrefused}
+use Rattle.fuse_spec.specs.Files.Operations as operation
+use Rattle.fuse_spec.specs.Files.Trees.{Content, Tree, a_directory, a_file, bytes_of, file_at, is_directory, is_kind_directory, is_nameless, kind_of, overwritten, with_birth}
+use Rattle.fuse_spec.specs.Files.TreeShape.{IsShaped, WritesRegular}
 use Rattle.fuse_spec.proofs.Tables.{get_gone_there, get_put_here, get_put_there}
 use Rattle.fs_tree.specs.Outcomes.{is_kind_regular, discarded, is_regular}
 use Rattle.fs_tree.proofs.FileRows.{there-content}

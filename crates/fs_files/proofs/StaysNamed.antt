@@ -5,20 +5,20 @@ use Rattle.std.specs.FinMap.{is_sorted}
 use Rattle.std.specs.Ordering.{nat_cmp}
 use Rattle.std.proofs.lemmas.Bool.{cases_eq}
 use Rattle.std.proofs.lemmas.Option.{none-some, same_Some}
-use Rattle.fuse_spec.specs.Maps.{Map, get, put, remove}
+use Rattle.fuse_spec.specs.Values.Maps.{Map, get, put, remove}
 use Rattle.fuse_spec.specs.declared.Entry.{Entry}
 use Rattle.fuse_spec.specs.declared.Opened.{Opened}
 use Rattle.fuse_spec.specs.declared.Minor.{Minor}
 use Rattle.fuse_spec.specs.declared.Validity.{Validity}
-use Rattle.fuse_spec.specs.Copies.{row_back, rows_counted, handles_counted}
-use Rattle.fuse_spec.specs.FileOperations.{FileOperation, refusal, tree_or, tree_unrefused}
-use Rattle.fuse_spec.specs.Messages.{RequestBody, init, asks, release, forget, batch_forget, interrupt}
-use Rattle.fuse_spec.specs.Nodes.{HeldNode, NodeTable, IsUnheld, is_held, given, given_row, all_given, taken_back, rows_less, row_more, rows_more, OpenNumber, HandleTable, is_open, file_of, handle_opened, all_opened, handle_back, handles_less, handle_more, handles_more}
-use Rattle.fuse_spec.specs.Operations.{Operation}
-use Rattle.fuse_spec.specs.Performs.{file_operation_of, is_open_for, is_still_held}
-use Rattle.fuse_spec.specs.Server.{HeldRequest}
-use Rattle.fuse_spec.specs.Trees.{Tree, a_directory, is_nameless}
-use Rattle.fuse_spec.specs.TreeShape.{IsShaped}
+use Rattle.fuse_spec.specs.Server.Copies.{row_back, rows_counted, handles_counted}
+use Rattle.fuse_spec.specs.Files.FileOperations.{FileOperation, refusal, tree_or, tree_unrefused}
+use Rattle.fuse_spec.specs.Kernel.Messages.{RequestBody, init, asks, release, forget, batch_forget, interrupt}
+use Rattle.fuse_spec.specs.Server.Nodes.{HeldNode, NodeTable, IsUnheld, is_held, given, given_row, all_given, taken_back, rows_less, row_more, rows_more, OpenNumber, HandleTable, is_open, file_of, handle_opened, all_opened, handle_back, handles_less, handle_more, handles_more}
+use Rattle.fuse_spec.specs.Files.Operations.{Operation}
+use Rattle.fuse_spec.specs.Server.Performs.{file_operation_of, is_open_for, is_still_held}
+use Rattle.fuse_spec.specs.Server.Server.{HeldRequest}
+use Rattle.fuse_spec.specs.Files.Trees.{Tree, a_directory, is_nameless}
+use Rattle.fuse_spec.specs.Files.TreeShape.{IsShaped}
 use Rattle.fuse_spec.proofs.Tables.{tie_no, get_put_here, get_put_there, get_gone_here, get_gone_there}
 use Rattle.fs_nodes.proofs.Maps.{sorted_put, sorted_remove}
 use Rattle.fs_tree.specs.Outcomes.{only_root, unnamed_by}

@@ -5,10 +5,10 @@ use Rattle.std.specs.FinMap.{is_sorted, nat_cmp-IsAntisymmetric}
 use Rattle.std.specs.FinMap.Entries.{find-where_key}
 use Rattle.std.specs.Ordering.{nat_cmp, is_eq}
 use Rattle.std.proofs.lemmas.Option.{none-some, same_Some}
-use Rattle.fuse_spec.specs.Maps.{Map, get, remove, values}
-use Rattle.fuse_spec.specs.Nodes.{HeldNode, NodeTable, HandleTable, OpenNumber, IsUnheld}
-use Rattle.fuse_spec.specs.Server.{is_file_held}
-use Rattle.fuse_spec.specs.Trees.{Content, Tree, is_nameless}
+use Rattle.fuse_spec.specs.Values.Maps.{Map, get, remove, values}
+use Rattle.fuse_spec.specs.Server.Nodes.{HeldNode, NodeTable, HandleTable, OpenNumber, IsUnheld}
+use Rattle.fuse_spec.specs.Server.Server.{is_file_held}
+use Rattle.fuse_spec.specs.Files.Trees.{Content, Tree, is_nameless}
 use Rattle.fuse_spec.specs.declared.Validity.{Validity}
 use Rattle.fuse_spec.proofs.Tables.{cmp_same}
 use Rattle.fs_nodes.proofs.Maps.{any_is, any_there}

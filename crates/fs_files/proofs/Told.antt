@@ -1,8 +1,8 @@
 -- Files are told by nodes and open numbers.
 use Rattle.std.proofs.Common.{◌≡◌, ℕ, refl, sym, ap, ◌∙◌}
-use Rattle.fuse_spec.specs.Nodes.{NodeTable, HandleTable, handle_opened}
-use Rattle.fuse_spec.specs.Operations as operation
-use Rattle.fuse_spec.specs.Performs.{entry_for}
+use Rattle.fuse_spec.specs.Server.Nodes.{NodeTable, HandleTable, handle_opened}
+use Rattle.fuse_spec.specs.Files.Operations as operation
+use Rattle.fuse_spec.specs.Server.Performs.{entry_for}
 use Rattle.fuse_spec.specs.declared.Entry.{Entry}
 use Rattle.fs_files.specs.Telling.{GivesEntry, Tells}
 use Rattle.fs_files.specs.Values.{FilesState}

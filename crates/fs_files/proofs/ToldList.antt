@@ -1,11 +1,11 @@
 -- The names of a list are told, each with the entry of its file's node.
 use Rattle.std.proofs.Common.{◌≡◌, ℕ, ◌-◌, Bool, cond, List, [], ◌∷◌, Some, None, length, map, refl, sym, ap, subst, ◌∙◌, arith}
-use Rattle.fuse_spec.specs.Nodes.{NodeTable}
-use Rattle.fuse_spec.specs.Operations as operation
-use Rattle.fuse_spec.specs.Operations.{Dirent, files_told, first_told, pair_with}
-use Rattle.fuse_spec.specs.Paths.{is_dots}
-use Rattle.fuse_spec.specs.Performs.{entry_for}
-use Rattle.fuse_spec.specs.Trees.{Tree}
+use Rattle.fuse_spec.specs.Server.Nodes.{NodeTable}
+use Rattle.fuse_spec.specs.Files.Operations as operation
+use Rattle.fuse_spec.specs.Files.Operations.{Dirent, files_told, first_told, pair_with}
+use Rattle.fuse_spec.specs.Calls.Paths.{is_dots}
+use Rattle.fuse_spec.specs.Server.Performs.{entry_for}
+use Rattle.fuse_spec.specs.Files.Trees.{Tree}
 use Rattle.fuse_spec.specs.declared.Entry.{Entry}
 use Rattle.fs_nodes.specs.Sound.{IsSound}
 use Rattle.fuse_frames.specs.ReplyTies.{dirent_in, entry_told, pairs_told}

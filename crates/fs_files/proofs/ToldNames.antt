@@ -2,10 +2,10 @@
 use Rattle.std.proofs.Common.{◌≡◌, ℕ, ◌-◌, ◌+◌, ◌≤◌, ◌<◌, ◌^◌, Bool, true, false, cond, List, [], ◌∷◌, Option, Some, None, length, map, refl, sym, subst, arith}
 use Rattle.std.specs.Prelude.{All}
 use Rattle.std.proofs.lemmas.List.Elements.{All-head, All-tail}
-use Rattle.fuse_spec.specs.Nodes.{NodeTable}
-use Rattle.fuse_spec.specs.Operations.{Dirent, files_told, first_told}
-use Rattle.fuse_spec.specs.Paths.{is_dots}
-use Rattle.fuse_spec.specs.Trees.{Tree}
+use Rattle.fuse_spec.specs.Server.Nodes.{NodeTable}
+use Rattle.fuse_spec.specs.Files.Operations.{Dirent, files_told, first_told}
+use Rattle.fuse_spec.specs.Calls.Paths.{is_dots}
+use Rattle.fuse_spec.specs.Files.Trees.{Tree}
 use Rattle.fs_files.specs.Bounds.{AreCounted, AreHeldBelow}
 use Rattle.fs_files.specs.Giving.{GivenEach, generations_after, has_node}
 use Rattle.fs_files.specs.Listed.{pair_listed}

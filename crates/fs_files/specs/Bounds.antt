@@ -2,9 +2,9 @@
 use Rattle.std.specs.Prelude.{◌≡◌, ◌≢◌, ◌<◌, ◌≤◌, ◌^◌, ℕ, false, Option, None, Some, IsSome, IsTrue, T}
 use Rattle.std.specs.FinMap.{is_sorted}
 use Rattle.std.specs.Ordering.{nat_cmp}
-use Rattle.fuse_spec.specs.Maps.{get}
-use Rattle.fuse_spec.specs.Trees.{Tree, is_nameless, kind_of}
-use Rattle.fuse_spec.specs.Nodes.{NodeTable, HeldNode, HandleTable, IsUnheld, OpenNumber}
+use Rattle.fuse_spec.specs.Values.Maps.{get}
+use Rattle.fuse_spec.specs.Files.Trees.{Tree, is_nameless, kind_of}
+use Rattle.fuse_spec.specs.Server.Nodes.{NodeTable, HeldNode, HandleTable, IsUnheld, OpenNumber}
 use Rattle.fs_tree.specs.Outcomes.{is_regular}
 
 -- no node has more lookups than this

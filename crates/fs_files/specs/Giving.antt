@@ -1,8 +1,8 @@
 -- What files take that get nodes one after another.
 use Rattle.std.specs.Prelude.{◌≡◌, ◌<◌, ◌+◌, ◌^◌, ◌||◌, ℕ, Bool, List, [], ◌∷◌, Some, cond, count_by, map, nat_eq}
 use Rattle.std.specs.List.{list_any}
-use Rattle.fuse_spec.specs.Maps.{Map, get, values}
-use Rattle.fuse_spec.specs.Nodes.{HeldNode, NodeTable, MayName, file_of, given}
+use Rattle.fuse_spec.specs.Values.Maps.{Map, get, values}
+use Rattle.fuse_spec.specs.Server.Nodes.{HeldNode, NodeTable, MayName, file_of, given}
 use Rattle.fuse_spec.specs.declared.Entry.{Entry}
 
 -- whether a file has a node

@@ -1,6 +1,6 @@
 -- The names that the bytes of records list.
 use Rattle.std.specs.Prelude.{◌≡◌, ◌-◌, ℕ, List, Some, false, length, map}
-use Rattle.fuse_spec.specs.Operations.{Dirent, DirentPlus}
+use Rattle.fuse_spec.specs.Files.Operations.{Dirent, DirentPlus}
 use Rattle.fuse_spec.specs.declared.Entry.{Entry}
 use Rattle.fk_wire.specs.Decoded.{count_from}
 use Rattle.fk_wire.specs.Dirents.{DirentContent, dirents_from}

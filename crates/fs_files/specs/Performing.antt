@@ -2,15 +2,15 @@
 use Rattle.std.specs.Prelude.{◌≡◌, ◌≤◌, ℕ, Option, None, cond, option_map}
 use Rattle.std.specs.Int.RustNames.{bit_and}
 use Rattle.fuse_spec.specs.declared.Validity.{Validity}
-use Rattle.fuse_spec.specs.Maps.{get}
-use Rattle.fuse_spec.specs.Numbers.{eintr, eio, ebadf}
-use Rattle.fuse_spec.specs.Operations.{Reply, agreed, done, failed, files_in_reply, opens_in_reply}
-use Rattle.fuse_spec.specs.Trees.{Tree}
-use Rattle.fuse_spec.specs.FileOperations.{FileOperation, reply_by, reply_unrefused, tree_after, tree_unrefused}
-use Rattle.fuse_spec.specs.Messages.{RequestBody, init, asks, release, forget, batch_forget, interrupt}
-use Rattle.fuse_spec.specs.Nodes.{HandleTable, OpenNumber, file_of, is_open, handle_back, all_given, all_opened}
-use Rattle.fuse_spec.specs.Server.{Server, HeldRequest}
-use Rattle.fuse_spec.specs.Performs.{PerformResult, flags_known, minor_number, file_operation_of, is_open_for, is_still_held, wire_of}
+use Rattle.fuse_spec.specs.Values.Maps.{get}
+use Rattle.fuse_spec.specs.Values.Numbers.{eintr, eio, ebadf}
+use Rattle.fuse_spec.specs.Files.Operations.{Reply, agreed, done, failed, files_in_reply, opens_in_reply}
+use Rattle.fuse_spec.specs.Files.Trees.{Tree}
+use Rattle.fuse_spec.specs.Files.FileOperations.{FileOperation, reply_by, reply_unrefused, tree_after, tree_unrefused}
+use Rattle.fuse_spec.specs.Kernel.Messages.{RequestBody, init, asks, release, forget, batch_forget, interrupt}
+use Rattle.fuse_spec.specs.Server.Nodes.{HandleTable, OpenNumber, file_of, is_open, handle_back, all_given, all_opened}
+use Rattle.fuse_spec.specs.Server.Server.{Server, HeldRequest}
+use Rattle.fuse_spec.specs.Server.Performs.{PerformResult, flags_known, minor_number, file_operation_of, is_open_for, is_still_held, wire_of}
 use Rattle.fs_tree.specs.Outcomes.{unnamed_by}
 use Rattle.fs_files.specs.declared.replies.Outcome.{Outcome}
 use Rattle.fs_files.specs.Replies.{IsTellable, outcome_len, outcome_reply}

@@ -1,8 +1,8 @@
 -- Which numbers a request draws.
 use Rattle.std.specs.Prelude.{◌≡◌, ◌<◌, ◌≤◌, ◌+◌, ◌^◌, ◌⊎◌, ℕ, Bool, true, false, length}
-use Rattle.fuse_spec.specs.Operations.{Reply, files_in_reply, opens_in_reply}
-use Rattle.fuse_spec.specs.Trees.{Tree}
-use Rattle.fuse_spec.specs.Nodes.{NodeTable, HandleTable, counts_out}
+use Rattle.fuse_spec.specs.Files.Operations.{Reply, files_in_reply, opens_in_reply}
+use Rattle.fuse_spec.specs.Files.Trees.{Tree}
+use Rattle.fuse_spec.specs.Server.Nodes.{NodeTable, HandleTable, counts_out}
 use Rattle.fs_files.specs.Giving.{generations_after}
 use Rattle.fs_files.specs.declared.plan.Plan.{Plan}
 

@@ -1,12 +1,12 @@
 -- What replies say.
 use Rattle.std.specs.Prelude.{◌≡◌, ◌≢◌, ◌≤◌, ◌<◌, ◌+◌, ◌-◌, ◌*◌, ◌^◌, ℕ, [], Option, Some, None, All, IsTrue, length, map, vec_capacity}
 use Rattle.std.specs.Int.RustNames.{bit_and}
-use Rattle.fuse_spec.specs.Numbers.{max_transfer, max_validity}
-use Rattle.fuse_spec.specs.Operations as operation
-use Rattle.fuse_spec.specs.Operations.{Dirent, DirentPlus, Reply}
-use Rattle.fuse_spec.specs.Messages.{WireReply}
-use Rattle.fuse_spec.specs.Performs.{flags_known, minor_number}
-use Rattle.fuse_spec.specs.Trees.{Tree}
+use Rattle.fuse_spec.specs.Values.Numbers.{max_transfer, max_validity}
+use Rattle.fuse_spec.specs.Files.Operations as operation
+use Rattle.fuse_spec.specs.Files.Operations.{Dirent, DirentPlus, Reply}
+use Rattle.fuse_spec.specs.Kernel.Messages.{WireReply}
+use Rattle.fuse_spec.specs.Server.Performs.{flags_known, minor_number}
+use Rattle.fuse_spec.specs.Files.Trees.{Tree}
 use Rattle.fs_tree.specs.Outcomes.{is_regular}
 use Rattle.fs_files.specs.Bounds.{IsThere}
 use Rattle.fk_wire.specs.Requests.{known_flags}

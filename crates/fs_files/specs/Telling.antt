@@ -1,9 +1,9 @@
 -- How files are told by nodes and open numbers.
 use Rattle.std.specs.Prelude.{◌≡◌, ℕ, ◌-◌, List, Some, map}
-use Rattle.fuse_spec.specs.Operations.{Dirent, DirentPlus, Reply, files_in_reply, opens_in_reply}
-use Rattle.fuse_spec.specs.Nodes.{NodeTable, MayName, MayChoose, all_given, all_opened, given}
-use Rattle.fuse_spec.specs.Performs.{entry_for, wire_of}
-use Rattle.fuse_spec.specs.Trees.{Tree}
+use Rattle.fuse_spec.specs.Files.Operations.{Dirent, DirentPlus, Reply, files_in_reply, opens_in_reply}
+use Rattle.fuse_spec.specs.Server.Nodes.{NodeTable, MayName, MayChoose, all_given, all_opened, given}
+use Rattle.fuse_spec.specs.Server.Performs.{entry_for, wire_of}
+use Rattle.fuse_spec.specs.Files.Trees.{Tree}
 use Rattle.fuse_spec.specs.declared.Entry.{Entry}
 use Rattle.fs_files.specs.Giving.{node_in}
 use Rattle.fs_files.specs.Values.{FilesState}

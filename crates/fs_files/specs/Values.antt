@@ -5,15 +5,15 @@ use Rattle.fuse_spec.specs.declared.Minor.{Minor}
 use Rattle.fuse_spec.specs.declared.Minor.TheVariants.{M31}
 use Rattle.fuse_spec.specs.declared.Opened.{Opened}
 use Rattle.fuse_spec.specs.declared.Validity.{Validity}
-use Rattle.fuse_spec.specs.Numbers.{max_transfer}
-use Rattle.fuse_spec.specs.Operations as operation
-use Rattle.fuse_spec.specs.Operations.{Operation}
-use Rattle.fuse_spec.specs.Messages.{RequestBody, init, asks, release}
-use Rattle.fuse_spec.specs.Nodes.{NodeTable, HandleTable}
-use Rattle.fuse_spec.specs.Performs.{file_operation_of}
-use Rattle.fuse_spec.specs.FileOperations.{FileOperation}
-use Rattle.fuse_spec.specs.Server.{Server}
-use Rattle.fuse_spec.specs.Trees.{Tree}
+use Rattle.fuse_spec.specs.Values.Numbers.{max_transfer}
+use Rattle.fuse_spec.specs.Files.Operations as operation
+use Rattle.fuse_spec.specs.Files.Operations.{Operation}
+use Rattle.fuse_spec.specs.Kernel.Messages.{RequestBody, init, asks, release}
+use Rattle.fuse_spec.specs.Server.Nodes.{NodeTable, HandleTable}
+use Rattle.fuse_spec.specs.Server.Performs.{file_operation_of}
+use Rattle.fuse_spec.specs.Files.FileOperations.{FileOperation}
+use Rattle.fuse_spec.specs.Server.Server.{Server}
+use Rattle.fuse_spec.specs.Files.Trees.{Tree}
 use Rattle.fk_wire.specs.Requests.{known_flags}
 use Rattle.fs_files.specs.declared.held.Named.{Named}
 use Rattle.fs_files.specs.declared.held.Named.TheVariants.{Nothing, One, Two}

@@ -1,10 +1,10 @@
 //! Held requests are performed on the tree.
 
 ghost use Rattle.std.specs.Prelude.{◌≡◌, ◌≤◌, ◌^◌, IfOk, OnErr, OnOk};
-ghost use Rattle.fuse_spec.specs.Messages.{asks, release};
-ghost use Rattle.fuse_spec.specs.Nodes.{is_open, file_of};
-ghost use Rattle.fuse_spec.specs.Numbers.{max_validity};
-ghost use Rattle.fuse_spec.specs.Performs.{is_open_for, is_still_held};
+ghost use Rattle.fuse_spec.specs.Kernel.Messages.{asks, release};
+ghost use Rattle.fuse_spec.specs.Server.Nodes.{is_open, file_of};
+ghost use Rattle.fuse_spec.specs.Values.Numbers.{max_validity};
+ghost use Rattle.fuse_spec.specs.Server.Performs.{is_open_for, is_still_held};
 ghost use Rattle.fuse_spec.specs.declared.Validity.{Validity as ValidityValue};
 ghost use Rattle.fs_files.specs.Performing.{ComesTo, handles_by, handles_said, said, said_by, tree_said, tree_by};
 ghost use Rattle.fs_files.specs.Replies.{IsTellable, outcome_len, outcome_reply};
@@ -17,26 +17,18 @@ use crate::operating::operate;
 use crate::refusing::refusal_of;
 use crate::replies::{Outcome, PlainReply};
 use fs_nodes::NodeStore;
+use fuse_spec::errno::{EBADF, EINTR, EIO};
 use fuse_spec::{Minor, Opened, Validity};
 use std::alloc::{AllocError, Allocator};
 
-/// EINTR, of a request that an INTERRUPT marked.
-const EINTR: u32 = 4;
-
-/// EIO, of a request whose node is gone.
-const EIO: u32 = 5;
-
-/// EBADF, of a request whose open number is none of its node's file.
-const EBADF: u32 = 9;
-
-impl<A: Allocator + Copy> Files<A> {
+impl<S: NodeStore> Files<S> {
     /// What a held request comes to, on the tree as it is now; an INIT is answered this minor. Where memory is wanting nothing changes.
     pub fn answer(
         &mut self,
-        held: &HeldRequest<A>,
+        held: &HeldRequest<S::Heap>,
         validity: Validity,
         minor: Minor,
-    ) -> Result<Outcome<A>, AllocError>
+    ) -> Result<Outcome<S::Heap>, AllocError>
         requires births { (tree_said (server_at minor self.old validity) held.now).next_birth ≤ 2 ^ 62 }
         requires serials { (tree_said (server_at minor self.old validity) held.now).next_serial ≤ 2 ^ 62 }
         requires day { validity.missing_ms ≤ max_validity }
@@ -71,9 +63,9 @@ impl<A: Allocator + Copy> Files<A> {
     /// An operation.
     fn ask(
         &mut self,
-        operation: &HeldOperation<A>,
+        operation: &HeldOperation<S::Heap>,
         validity: Validity,
-    ) -> Result<Outcome<A>, AllocError>
+    ) -> Result<Outcome<S::Heap>, AllocError>
         requires births { (tree_by (server_of self.old validity) (asks (operation_of operation.now))).next_birth ≤ 2 ^ 62 }
         requires serials { (tree_by (server_of self.old validity) (asks (operation_of operation.now))).next_serial ≤ 2 ^ 62 }
         requires day { validity.missing_ms ≤ max_validity }
@@ -102,7 +94,7 @@ impl<A: Allocator + Copy> Files<A> {
     }
 
     /// Whether the open number that a READ or WRITE names is one of its node's file.
-    pub(crate) fn is_open_for(&self, operation: &HeldOperation<A>) -> bool
+    pub(crate) fn is_open_for(&self, operation: &HeldOperation<S::Heap>) -> bool
         ensures { (v : ValidityValue) → result ≡ is_open_for (server_of self.now v) (operation_of operation.now) }
     {
         match operation {
@@ -124,7 +116,7 @@ impl<A: Allocator + Copy> Files<A> {
     }
 
     /// A RELEASE.
-    fn release(&mut self, opened: Opened) -> Outcome<A>
+    fn release(&mut self, opened: Opened) -> Outcome<S::Heap>
         ensures says { (v : ValidityValue) → outcome_reply v.found_ms result ≡ said_by (server_of self.old v) (release opened) }
         ensures tellable { IsTellable self.new.tree result }
         ensures short { outcome_len result ≤ 0 }

@@ -1,11 +1,11 @@
 //! The files that are served.
 
 ghost use Rattle.std.specs.Prelude.{◌≡◌, ◌≤◌, ◌<◌, ◌+◌, ◌^◌, [], nat_lt, false, OnOk, IfOk, IfSome, IfNone, None, is_some, option_map, Some};
-ghost use Rattle.fuse_spec.specs.Maps.{get};
+ghost use Rattle.fuse_spec.specs.Values.Maps.{get};
 ghost use Rattle.fuse_spec.specs.declared.Validity.{Validity as ValidityValue};
-ghost use Rattle.fuse_spec.specs.Nodes.{handle_back, handle_more, is_held, row_more, taken_back, OpenNumber};
-ghost use Rattle.fuse_spec.specs.Copies.{row_back};
-ghost use Rattle.fuse_spec.specs.Server.{count_in, is_file_held};
+ghost use Rattle.fuse_spec.specs.Server.Nodes.{handle_back, handle_more, is_held, row_more, taken_back, OpenNumber};
+ghost use Rattle.fuse_spec.specs.Server.Copies.{row_back};
+ghost use Rattle.fuse_spec.specs.Server.Server.{count_in, is_file_held};
 ghost use Rattle.fs_nodes.specs.Rows.{listed};
 ghost use Rattle.fs_nodes.specs.Sound.{IsSound};
 ghost use Rattle.fs_tree.specs.Outcomes.{only_root, without_unheld};
@@ -14,22 +14,22 @@ ghost use Rattle.fs_files.specs.Values.{no_nodes, no_handles, server_of};
 
 use crate::known::KnownFiles;
 use crate::nodes::Nodes;
-use fs_nodes::NodeTable;
+use fs_nodes::NodeStore;
 use fs_tree::Tree;
 use fuse_spec::Entry;
-use std::alloc::{AllocError, Allocator, Global};
+use std::alloc::AllocError;
 use std::marker::Model;
 
 /// The files that are served: the tree, and the nodes and open numbers by which the kernel knows its files. Contracts see beside
 /// these how many more files can be told with no memory.
 #[derive(Drop)]
-pub struct Files<A: Allocator + Copy = Global> {
-    pub(crate) alloc: A,
-    pub(crate) tree: Tree<A>,
-    pub(crate) known: KnownFiles<A>,
+pub struct Files<S: NodeStore> {
+    pub(crate) alloc: S::Heap,
+    pub(crate) tree: Tree<S::Heap>,
+    pub(crate) known: KnownFiles<S>,
 }
 
-impl<A: Allocator + Copy> Model for Files<A> {
+impl<S: NodeStore> Model for Files<S> {
     ghost use Rattle.std.specs.Coded.{codes};
     ghost use Rattle.fs_files.specs.Bounds.{AreKnown};
     ghost use Rattle.fs_files.specs.Values.{FilesState};
@@ -43,9 +43,9 @@ impl<A: Allocator + Copy> Model for Files<A> {
     ghost invariant = { λ f. AreKnown f.tree f.known.nodes f.known.handles };
 }
 
-impl<A: Allocator + Copy> Files<A> {
+impl<S: NodeStore> Files<S> {
     /// The root alone, and nothing known.
-    pub fn new(alloc: A) -> Result<Self, AllocError>
+    pub fn new(alloc: S::Heap) -> Result<Self, AllocError>
         ensures tree { IfOk result (λ files. files.tree ≡ only_root) }
         ensures nodes { IfOk result (λ files. files.nodes ≡ no_nodes) }
         ensures handles { IfOk result (λ files. files.handles ≡ no_handles) }
@@ -91,7 +91,7 @@ impl<A: Allocator + Copy> Files<A> {
     }
 
     /// The nodes that are held.
-    pub fn nodes(&self) -> &Nodes<NodeTable<A>>
+    pub fn nodes(&self) -> &Nodes<S>
         ensures { result.now.table ≡ self.now.nodes }
     {
         &self.known.nodes

@@ -148,7 +148,7 @@ pub struct HeldRequest<A: Allocator> {
 
 impl<A: Allocator> Model for HeldRequest<A> {
     ghost use Rattle.std.specs.Coded.{codes};
-    ghost use Rattle.fuse_spec.specs.Server.{HeldRequest as Held};
+    ghost use Rattle.fuse_spec.specs.Server.Server.{HeldRequest as Held};
     ghost use Rattle.fs_files.specs.Values.{asked_of, named_in};
 
     ghost Value = { Held };

@@ -2,24 +2,24 @@
 
 ghost use Rattle.std.specs.Prelude.{◌≡◌, ◌≤◌, ◌<◌, ◌+◌, ◌^◌, ◌||◌, [], OnOk, nat_eq};
 ghost use Rattle.std.specs.List.{list_any};
-ghost use Rattle.fuse_spec.specs.Maps.{values};
-ghost use Rattle.fuse_spec.specs.Nodes.{HeldNode, OpenNumber};
+ghost use Rattle.fuse_spec.specs.Values.Maps.{values};
+ghost use Rattle.fuse_spec.specs.Server.Nodes.{HeldNode, OpenNumber};
 ghost use Rattle.fs_files.specs.Values.{no_nodes, no_handles};
 
 use crate::nodes::Nodes;
 use fs_handles::HandleTable;
-use fs_nodes::NodeTable;
-use std::alloc::{AllocError, Allocator, Global};
+use fs_nodes::NodeStore;
+use std::alloc::AllocError;
 use std::marker::Model;
 
 /// The nodes and the open numbers by which files are known.
 #[derive(Drop)]
-pub(crate) struct KnownFiles<A: Allocator + Copy = Global> {
-    pub(crate) nodes: Nodes<NodeTable<A>>,
-    pub(crate) handles: HandleTable<A>,
+pub(crate) struct KnownFiles<S: NodeStore> {
+    pub(crate) nodes: Nodes<S>,
+    pub(crate) handles: HandleTable<S::Heap>,
 }
 
-impl<A: Allocator + Copy> Model for KnownFiles<A> {
+impl<S: NodeStore> Model for KnownFiles<S> {
     ghost use Rattle.std.specs.Coded.{codes};
     ghost use Rattle.fs_files.specs.Values.{KnownState};
 
@@ -30,8 +30,8 @@ impl<A: Allocator + Copy> Model for KnownFiles<A> {
     ghost view = { λ k. record { nodes = k.nodes.table; handles = k.handles.table; node_room = k.nodes.room; open_room = k.handles.room } };
 }
 
-impl<A: Allocator + Copy> KnownFiles<A> {
-    pub(crate) fn new(alloc: A) -> Self
+impl<S: NodeStore> KnownFiles<S> {
+    pub(crate) fn new(alloc: S::Heap) -> Self
         ensures nodes { result.nodes ≡ no_nodes }
         ensures handles { result.handles ≡ no_handles }
     {

@@ -1,8 +1,8 @@
 //! The names that a reply to READDIRPLUS lists, each with the entry of its file.
 
 ghost use Rattle.std.specs.Prelude.{◌≡◌, ◌≤◌, ◌+◌, ◌*◌, length};
-ghost use Rattle.fuse_spec.specs.Numbers.{max_transfer, max_validity};
-ghost use Rattle.fuse_spec.specs.Operations.{files_told};
+ghost use Rattle.fuse_spec.specs.Values.Numbers.{max_transfer, max_validity};
+ghost use Rattle.fuse_spec.specs.Files.Operations.{files_told};
 ghost use Rattle.fs_files.specs.Listed.{AreRecordBytes, dirents_in, listed_pairs};
 ghost use Rattle.fs_files.specs.Props.{AreRecordBytes-prop};
 

@@ -15,10 +15,10 @@ use fs_nodes::NodeStore;
 use fs_tree::Tree;
 use std::alloc::Allocator;
 
-impl<A: Allocator + Copy> Files<A> {
+impl<S: NodeStore> Files<S> {
     /// The file that a held request takes a name for good or an open number from, if it is performed. Every other file that nothing
     /// holds keeps a name.
-    pub fn loosened_by(&self, held: &HeldRequest<A>) -> Option<u64>
+    pub fn loosened_by(&self, held: &HeldRequest<S::Heap>) -> Option<u64>
         ensures file { (v : ValidityValue) (m : MinorValue) → result ≡ loosened (server_at m self.now v) held.now.body }
         ensures others { (v : ValidityValue) (m : MinorValue) → AreNamed self.now.tree self.now.nodes self.now.handles → AreNamedBut result (tree_said (server_at m self.now v) held.now) self.now.nodes (handles_said (server_at m self.now v) held.now) }
     {
@@ -27,7 +27,7 @@ impl<A: Allocator + Copy> Files<A> {
     }
 
     /// The same of what a request asks.
-    fn loosened(&self, body: &HeldBody<A>) -> Option<u64>
+    fn loosened(&self, body: &HeldBody<S::Heap>) -> Option<u64>
         ensures { (v : ValidityValue) (m : MinorValue) → result ≡ loosened (server_at m self.now v) (asked_of body.now) }
     {
         match body {

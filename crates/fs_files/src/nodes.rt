@@ -2,10 +2,10 @@
 
 ghost use Rattle.std.specs.Prelude.{◌≡◌, ◌+◌, ◌^◌, ◌<◌, ◌≤◌, ◌||◌, ℕ, List, [], true, false, not, Some, OnOk, IfOk, count_by, is_some, length, nat_eq, option_map};
 ghost use Rattle.std.specs.List.{list_any};
-ghost use Rattle.fuse_spec.specs.Maps.{get, values};
-ghost use Rattle.fuse_spec.specs.Nodes.{HeldNode, counts_out, row_of, file_of, is_held, given, row_more, taken_back, MayName, IsUnheld};
-ghost use Rattle.fuse_spec.specs.Server.{count_in, generation_in, is_known};
-ghost use Rattle.fuse_spec.specs.Copies.{row_back};
+ghost use Rattle.fuse_spec.specs.Values.Maps.{get, values};
+ghost use Rattle.fuse_spec.specs.Server.Nodes.{HeldNode, counts_out, row_of, file_of, is_held, given, row_more, taken_back, MayName, IsUnheld};
+ghost use Rattle.fuse_spec.specs.Server.Server.{count_in, generation_in, is_known};
+ghost use Rattle.fuse_spec.specs.Server.Copies.{row_back};
 ghost use Rattle.fs_nodes.specs.Rows.{listed};
 ghost use Rattle.fs_nodes.specs.Sound.{IsSound};
 ghost use Rattle.fs_files.specs.Bounds.{AreCounted, AreHeldBelow};
@@ -13,8 +13,9 @@ ghost use Rattle.fs_files.specs.Giving.{IsCountable, files_of, has_node, new_amo
 ghost use Rattle.fs_files.specs.Values.{no_nodes};
 
 use crate::held::{MOST_NAMES, NamedNode};
-use fs_nodes::{LIMIT, NodeStore};
+use fs_nodes::NodeStore;
 use fuse_spec::Entry;
+use fuse_spec::limits::COUNTER_END;
 use std::alloc::AllocError;
 use std::marker::Model;
 
@@ -223,7 +224,7 @@ impl<S: NodeStore> Nodes<S> {
     {
         self.store.keeps_sound();
         match self.store.id_of(file) {
-            Some(id) => more as u64 >= LIMIT - self.store.count_of(id),
+            Some(id) => more as u64 >= COUNTER_END - self.store.count_of(id),
             None => false,
         }
     }

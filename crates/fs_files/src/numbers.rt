@@ -1,8 +1,8 @@
 //! Whether the counters have the numbers that a held request draws.
 
 ghost use Rattle.std.specs.Prelude.{◌≡◌, ◌≤◌, ◌<◌, ◌+◌, ◌^◌, ◌⊎◌, true, false, nat_le};
-ghost use Rattle.fuse_spec.specs.Messages.{asks};
-ghost use Rattle.fuse_spec.specs.Nodes.{counts_out};
+ghost use Rattle.fuse_spec.specs.Kernel.Messages.{asks};
+ghost use Rattle.fuse_spec.specs.Server.Nodes.{counts_out};
 ghost use Rattle.fuse_spec.specs.declared.Minor.{Minor as MinorValue};
 ghost use Rattle.fuse_spec.specs.declared.Validity.{Validity as ValidityValue};
 ghost use Rattle.fs_files.specs.Bounds.{AreHeldBelow};
@@ -15,12 +15,12 @@ use crate::answering::are_held;
 use crate::files::Files;
 use crate::held::{HeldBody, HeldOperation, HeldRequest};
 use crate::plan::{Plan, no_numbers, plan_of};
-use std::alloc::Allocator;
+use fs_nodes::NodeStore;
 
-impl<A: Allocator + Copy> Files<A> {
+impl<S: NodeStore> Files<S> {
     /// Whether the counters have the numbers that performing a held request draws. Where its reply is lost it draws only those of
     /// the tree.
-    pub fn has_numbers(&self, held: &HeldRequest<A>, is_lost: bool) -> bool
+    pub fn has_numbers(&self, held: &HeldRequest<S::Heap>, is_lost: bool) -> bool
         requires { AreHeldBelow self.now.nodes }
         ensures has { (v : ValidityValue) (m : MinorValue) → result ≡ true → HasNumbers (tree_said (server_at m self.now v) held.now) self.now.nodes self.now.handles is_lost (said (server_at m self.now v) held.now) }
         ensures lacks { (v : ValidityValue) (m : MinorValue) → result ≡ false → LacksNumber (tree_said (server_at m self.now v) held.now) self.now.nodes self.now.handles is_lost (said (server_at m self.now v) held.now) }
@@ -32,7 +32,7 @@ impl<A: Allocator + Copy> Files<A> {
     }
 
     /// What performing a held request draws.
-    fn plan_for(&self, held: &HeldRequest<A>) -> Plan
+    fn plan_for(&self, held: &HeldRequest<S::Heap>) -> Plan
         ensures { (v : ValidityValue) (m : MinorValue) → Draws self.now.tree (tree_said (server_at m self.now v) held.now) (said (server_at m self.now v) held.now) result }
     {
         if held.is_marked() || !are_held(&self.known.nodes, held.named()) {
@@ -46,7 +46,7 @@ impl<A: Allocator + Copy> Files<A> {
     }
 
     /// What an operation draws: nothing under an open number that is none of its node's file.
-    fn plan_asked(&self, operation: &HeldOperation<A>) -> Plan
+    fn plan_asked(&self, operation: &HeldOperation<S::Heap>) -> Plan
         ensures { (v : ValidityValue) (m : MinorValue) → Draws self.now.tree (tree_by (server_at m self.now v) (asks (operation_of operation.now))) (said_by (server_at m self.now v) (asks (operation_of operation.now))) result }
     {
         if !self.is_open_for(operation) {

@@ -2,10 +2,10 @@
 
 ghost use Rattle.std.specs.Prelude.{◌≡◌, ◌≤◌, ◌<◌, ◌^◌, true, None, IfOk, OnErr, OnOk, map};
 ghost use Rattle.fuse_spec.specs.declared.Validity.{Validity as ValidityValue};
-ghost use Rattle.fuse_spec.specs.FileOperations.{refusal, tree_unrefused};
-ghost use Rattle.fuse_spec.specs.Numbers.{max_transfer, max_validity};
-ghost use Rattle.fuse_spec.specs.Operations.{create, getattr, link, listed, lookup, mkdir, opening, read, readdir, readdirplus, rename, rmdir, unlink, write};
-ghost use Rattle.fuse_spec.specs.TreeShape.{WritesRegular};
+ghost use Rattle.fuse_spec.specs.Files.FileOperations.{refusal, tree_unrefused};
+ghost use Rattle.fuse_spec.specs.Values.Numbers.{max_transfer, max_validity};
+ghost use Rattle.fuse_spec.specs.Files.Operations.{create, getattr, link, listed, lookup, mkdir, opening, read, readdir, readdirplus, rename, rmdir, unlink, write};
+ghost use Rattle.fuse_spec.specs.Files.TreeShape.{WritesRegular};
 ghost use Rattle.fs_tree.specs.Outcomes.{IsReply};
 ghost use Rattle.fs_files.specs.Bounds.{AreLow, AreThere, IsThere};
 ghost use Rattle.fs_files.specs.Performing.{Operates};

@@ -2,9 +2,9 @@
 
 ghost use Rattle.std.specs.Prelude.{◌≡◌, ◌∷◌, [], None, option_to_list};
 ghost use Rattle.fuse_spec.specs.declared.Validity.{Validity as ValidityValue};
-ghost use Rattle.fuse_spec.specs.FileOperations.{refusal, reply_by, reply_unrefused, tree_after, tree_unrefused};
-ghost use Rattle.fuse_spec.specs.Operations.{lookup, rename};
-ghost use Rattle.fuse_spec.specs.Trees.{file_at};
+ghost use Rattle.fuse_spec.specs.Files.FileOperations.{refusal, reply_by, reply_unrefused, tree_after, tree_unrefused};
+ghost use Rattle.fuse_spec.specs.Files.Operations.{lookup, rename};
+ghost use Rattle.fuse_spec.specs.Files.Trees.{file_at};
 ghost use Rattle.fs_files.specs.Plans.{Draws};
 ghost use Rattle.fs_files.specs.Values.{on_files};
 

@@ -1,8 +1,8 @@
 //! What refuses an operation.
 
 ghost use Rattle.std.specs.Prelude.{◌≡◌, []};
-ghost use Rattle.fuse_spec.specs.FileOperations.{refusal};
-ghost use Rattle.fuse_spec.specs.Operations.{opening, lookup};
+ghost use Rattle.fuse_spec.specs.Files.FileOperations.{refusal};
+ghost use Rattle.fuse_spec.specs.Files.Operations.{opening, lookup};
 ghost use Rattle.fs_tree.specs.Outcomes.{Refuses};
 ghost use Rattle.fs_files.specs.Values.{on_files};
 

@@ -1,8 +1,8 @@
 //! What performing a request comes to, and what is replied.
 
 ghost use Rattle.std.specs.Prelude.{◌≡◌, ◌≤◌, ◌+◌, [], length, map, vec_capacity};
-ghost use Rattle.fuse_spec.specs.Numbers.{max_transfer};
-ghost use Rattle.fuse_spec.specs.Operations as reply;
+ghost use Rattle.fuse_spec.specs.Values.Numbers.{max_transfer};
+ghost use Rattle.fuse_spec.specs.Files.Operations as reply;
 ghost use Rattle.fuse_frames.specs.ReplyTies.{dirent_in};
 ghost use Rattle.fs_files.specs.Listed.{AreRecordBytes, dirents_in};
 
@@ -164,7 +164,7 @@ impl<A: Allocator> Outcome<A> {
 
 impl<A: Allocator> SentReply<A> {
     ghost use Rattle.std.specs.Prelude.{◌≡◌, ◌≤◌, ◌+◌, [], vec_capacity};
-    ghost use Rattle.fuse_spec.specs.Operations.{errno_of, files_in_reply};
+    ghost use Rattle.fuse_spec.specs.Files.Operations.{errno_of, files_in_reply};
     ghost use Rattle.fs_files.specs.Replies.{sent_len, sent_names, sent_wire, opened_in, HasSpare, IsSendable};
 
     /// Its error as a positive number, or 0.

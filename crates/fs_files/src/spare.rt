@@ -1,8 +1,8 @@
 //! Room for what replies say, and what is put into it.
 
 ghost use Rattle.std.specs.Prelude.{◌≡◌, ◌≤◌, ◌+◌, ◌*◌, length};
-ghost use Rattle.fuse_spec.specs.Operations as reply;
-ghost use Rattle.fuse_spec.specs.Operations.{files_told};
+ghost use Rattle.fuse_spec.specs.Files.Operations as reply;
+ghost use Rattle.fuse_spec.specs.Files.Operations.{files_told};
 
 use crate::listed_names::ListedNames;
 use fk_wire::Records;

@@ -1,11 +1,11 @@
 //! Files are told by nodes and open numbers.
 
 ghost use Rattle.std.specs.Prelude.{◌≡◌, ◌≢◌, ◌<◌, ◌≤◌, ◌+◌, ◌*◌, ◌^◌, ◌++◌, [], ℕ, All, IsTrue, List, None, Some, cond, length, map, vec_capacity};
-ghost use Rattle.fuse_spec.specs.Nodes.{IsUnheld, handle_opened};
-ghost use Rattle.fuse_spec.specs.Numbers.{max_transfer, max_validity};
-ghost use Rattle.fuse_spec.specs.Operations.{files_in_reply, files_told, first_told, opens_in_reply};
-ghost use Rattle.fuse_spec.specs.Paths.{is_dots};
-ghost use Rattle.fuse_spec.specs.Performs.{entry_for};
+ghost use Rattle.fuse_spec.specs.Server.Nodes.{IsUnheld, handle_opened};
+ghost use Rattle.fuse_spec.specs.Values.Numbers.{max_transfer, max_validity};
+ghost use Rattle.fuse_spec.specs.Files.Operations.{files_in_reply, files_told, first_told, opens_in_reply};
+ghost use Rattle.fuse_spec.specs.Calls.Paths.{is_dots};
+ghost use Rattle.fuse_spec.specs.Server.Performs.{entry_for};
 ghost use Rattle.fs_nodes.specs.Sound.{IsSound};
 ghost use Rattle.fs_tree.specs.Outcomes.{is_regular};
 ghost use Rattle.fs_files.specs.Bounds.{AreCounted, AreHeldBelow, IsThere};
@@ -19,13 +19,19 @@ use crate::listed_names::ListedNames;
 use crate::replies::{Outcome, SentReply};
 use crate::spare::ReplySpare;
 use fk_wire::Records;
+use fs_nodes::NodeStore;
 use fs_tree::is_dots;
 use fuse_spec::Entry;
 use std::alloc::Allocator;
 
-impl<A: Allocator + Copy> Files<A> {
+impl<S: NodeStore> Files<S> {
     /// Tells the files of an outcome by their nodes, by a new open number, or by both: each is counted once. No memory is taken.
-    pub fn tell(&mut self, outcome: Outcome<A>, found_ms: u64, spare: ReplySpare<A>) -> SentReply<A>
+    pub fn tell(
+        &mut self,
+        outcome: Outcome<S::Heap>,
+        found_ms: u64,
+        spare: ReplySpare<S::Heap>,
+    ) -> SentReply<S::Heap>
         requires node_room { 32 ≤ self.old.node_room }
         requires open_room { 0 < self.old.open_room }
         requires spare { HasSpare spare 0 (outcome_names outcome) }
@@ -64,7 +70,12 @@ impl<A: Allocator + Copy> Files<A> {
     }
 
     /// Counts a lookup of each file that the names tell, and gives the names with the entries of their files.
-    fn list(&mut self, records: Vec<u8, A>, found_ms: u64, spare: ReplySpare<A>) -> ListedNames<A>
+    fn list(
+        &mut self,
+        records: Vec<u8, S::Heap>,
+        found_ms: u64,
+        spare: ReplySpare<S::Heap>,
+    ) -> ListedNames<S::Heap>
         requires listable { AreRecordBytes records.items × (128 * length (names_in records.items) + length records.items ≤ max_transfer) × All (IsListable self.old.tree) (names_in records.items) }
         requires room { length (names_in records.items) ≤ self.old.node_room }
         requires spare { HasSpare spare 0 (length (names_in records.items)) }
@@ -144,7 +155,12 @@ impl<A: Allocator + Copy> Files<A> {
     }
 
     /// Puts the entry of each name last, and among those that tell a file too, unless the name is `.` or `..`.
-    fn put_entries(&self, records: &[u8], entries: &mut Vec<Entry, A>, told: &mut Vec<Entry, A>)
+    fn put_entries(
+        &self,
+        records: &[u8],
+        entries: &mut Vec<Entry, S::Heap>,
+        told: &mut Vec<Entry, S::Heap>,
+    )
         requires records { AreRecordBytes records.now }
         requires listable { All (IsListable self.now.tree) (names_in records.now) }
         requires none { entries.old.items ≡ [] }

@@ -5,8 +5,8 @@ use Rattle.std.specs.Option.{option_map}
 use Rattle.std.specs.Map.{lookup}
 use Rattle.std.specs.Ordering.{nat_cmp}
 use Rattle.std.specs.FinMap.{is_sorted}
-use Rattle.fuse_spec.specs.Maps.{Map, get, put, remove}
-use Rattle.fuse_spec.specs.Nodes.{OpenNumber, HandleTable, handles_less, handles_more, handle_opened, handle_back, handle_more}
+use Rattle.fuse_spec.specs.Values.Maps.{Map, get, put, remove}
+use Rattle.fuse_spec.specs.Server.Nodes.{OpenNumber, HandleTable, handles_less, handles_more, handle_opened, handle_back, handle_more}
 use Rattle.fs_handles.specs.declared.open_file.OpenFile.{OpenFile}
 use Rattle.fs_handles.specs.OpenNumbers.{number_of, handles_of, table_of}
 use Rattle.fs_handles.proofs.Maps.{turned, sorted_put, is_put, is_remove, get-put}

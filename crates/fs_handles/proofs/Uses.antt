@@ -12,8 +12,8 @@ use Rattle.std.proofs.lemmas.Map.Views.{lookup-from_Contains}
 use Rattle.indexmap.specs.IndexMap.{swap_remove_entry}
 use Rattle.indexmap.proofs.MapLemmas.{Found-position, Missing-position, swap_remove_entry-found}
 use Rattle.indexmap.proofs.SetLemmas.{map-swap_remove}
-use Rattle.fuse_spec.specs.Maps.{values}
-use Rattle.fuse_spec.specs.Nodes.{OpenNumber}
+use Rattle.fuse_spec.specs.Values.Maps.{values}
+use Rattle.fuse_spec.specs.Server.Nodes.{OpenNumber}
 use Rattle.fs_handles.specs.declared.open_file.OpenFile.{OpenFile}
 use Rattle.fs_handles.specs.OpenNumbers.{number_of, handles_of}
 use Rattle.fs_handles.specs.Uses.{one_of, numbers_of, positive, one_less, IsCounted}

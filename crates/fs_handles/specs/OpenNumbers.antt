@@ -1,7 +1,7 @@
 -- What contracts see of the table of open numbers.
 use Rattle.std.specs.Prelude.{ℕ, List, [], ◌∷◌}
-use Rattle.fuse_spec.specs.Maps.{Map, put}
-use Rattle.fuse_spec.specs.Nodes.{OpenNumber, HandleTable}
+use Rattle.fuse_spec.specs.Values.Maps.{Map, put}
+use Rattle.fuse_spec.specs.Server.Nodes.{OpenNumber, HandleTable}
 use Rattle.fs_handles.specs.declared.open_file.OpenFile.{OpenFile}
 
 -- The table, and how many more files can be opened with no memory.

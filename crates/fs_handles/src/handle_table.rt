@@ -4,20 +4,18 @@ ghost use Rattle.std.specs.List.{list_any};
 ghost use Rattle.std.specs.Option.{ForSome};
 ghost use Rattle.indexmap.specs.IndexMap as map;
 ghost use Rattle.indexmap.specs.IndexMap.{spare};
-ghost use Rattle.fuse_spec.specs.Maps.{get, values};
-ghost use Rattle.fuse_spec.specs.Nodes.{OpenNumber, handle_opened, handle_more, handle_back};
+ghost use Rattle.fuse_spec.specs.Values.Maps.{get, values};
+ghost use Rattle.fuse_spec.specs.Server.Nodes.{OpenNumber, handle_opened, handle_more, handle_back};
 ghost use Rattle.fs_handles.specs.Uses.{one_less};
 
 use crate::open_file::OpenFile;
+use fuse_spec::limits::COUNTER_END;
 use indexmap::IndexMap;
 use std::alloc::{AllocError, Allocator, Global};
 use std::hash::{BuildHasherDefault, FoldHasher};
 use std::marker::Model;
 
 type Builder = BuildHasherDefault<FoldHasher>;
-
-/// Open numbers stay below this.
-pub const LIMIT: u64 = 0x4000_0000_0000_0000;
 
 /// The open numbers in use, each of a file and with its count. Numbers rise from 1, and none is given twice, also not
 /// after `clear`.
@@ -80,7 +78,7 @@ impl<A: Allocator + Copy> HandleTable<A> {
     pub fn numbers_left(&self) -> u64
         ensures { result + self.now.table.next_fh ≡ 2 ^ 62 }
     {
-        LIMIT - self.next
+        COUNTER_END - self.next
     }
 
     /// Gives an open number to a file, with a count of 1: one copy of the reply to OPEN or CREATE carries it.

@@ -4,5 +4,5 @@
 mod handle_table;
 mod open_file;
 
-pub use handle_table::{HandleTable, LIMIT};
+pub use handle_table::HandleTable;
 pub use open_file::OpenFile;

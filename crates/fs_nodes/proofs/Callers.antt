@@ -2,8 +2,8 @@
 use Rattle.std.proofs.Common.{◌≡◌, ◌≢◌, ℕ, Some, false, true≢false, nat_eq, sym, ◌∙◌}
 use Rattle.std.specs.List.{list_any}
 use Rattle.std.proofs.lemmas.Bool.{eq-eqb}
-use Rattle.fuse_spec.specs.Maps.{Map, get, values}
-use Rattle.fuse_spec.specs.Nodes.{HeldNode}
+use Rattle.fuse_spec.specs.Values.Maps.{Map, get, values}
+use Rattle.fuse_spec.specs.Server.Nodes.{HeldNode}
 use Rattle.fs_nodes.proofs.Maps.{any_there}
 
 -- where `has` says no, no node is of the file

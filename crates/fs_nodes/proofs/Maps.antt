@@ -10,7 +10,7 @@ use Rattle.std.specs.FinMap.{is_sorted, nat_cmp-IsAntisymmetric, gets}
 use Rattle.std.specs.FinMap.Entries.{below_all, is_sorted-put, is_sorted-where_key, same_entries}
 use Rattle.std.proofs.lemmas.Bool.{cases_eq}
 use Rattle.std.proofs.lemmas.Option.{none-some, same_Some}
-use Rattle.fuse_spec.specs.Maps.{Map, get, put, remove, values}
+use Rattle.fuse_spec.specs.Values.Maps.{Map, get, put, remove, values}
 use Rattle.fuse_spec.proofs.Tables.{cmp_same, tie_no, get_put, get_gone}
 
 first : (a b : Bool) → T (a && b) → T a

@@ -10,8 +10,8 @@ use Rattle.std.specs.FinMap.{is_sorted}
 use Rattle.std.specs.FinMap.Entries.{below_all}
 use Rattle.std.proofs.lemmas.Bool.{cases_eq, eq-eqb, eqb-true}
 use Rattle.std.proofs.lemmas.Option.{none-some, same_Some}
-use Rattle.fuse_spec.specs.Maps.{get, put, remove, values}
-use Rattle.fuse_spec.specs.Nodes.{HeldNode}
+use Rattle.fuse_spec.specs.Values.Maps.{get, put, remove, values}
+use Rattle.fuse_spec.specs.Server.Nodes.{HeldNode}
 use Rattle.fuse_spec.proofs.Tables.{cmp_same, tie_no}
 use Rattle.fs_nodes.specs.declared.stored_node.StoredNode.{StoredNode}
 use Rattle.fs_nodes.specs.Rows.{node_of, IsOf, IsOfNone, listed}

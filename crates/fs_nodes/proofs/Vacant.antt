@@ -10,8 +10,8 @@ use Rattle.std.proofs.lemmas.List.{get_or-set_same, get_or-set_other}
 use Rattle.std.proofs.lemmas.List.Quantifiers.{position-Some}
 use Rattle.std.proofs.lemmas.List.Sums.{sum_by-set, fails_before_first}
 use Rattle.std.proofs.Math.Seq.{get_or-append_seam}
-use Rattle.fuse_spec.specs.Maps.{get, put, remove, values}
-use Rattle.fuse_spec.specs.Nodes.{HeldNode}
+use Rattle.fuse_spec.specs.Values.Maps.{get, put, remove, values}
+use Rattle.fuse_spec.specs.Server.Nodes.{HeldNode}
 use Rattle.fuse_spec.proofs.QueueCounts.{count_by-push}
 use Rattle.fs_nodes.specs.declared.stored_node.StoredNode.{StoredNode}
 use Rattle.fs_nodes.specs.Rows.{node_of, IsOf, IsOfNone}

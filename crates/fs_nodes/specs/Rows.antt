@@ -1,7 +1,7 @@
 -- The words of the contracts on held nodes, beside those of the definitions.
 use Rattle.std.specs.Prelude.{◌≡◌, ◌≢◌, ◌≤◌, ℕ, List, Option, Some, None, map}
-use Rattle.fuse_spec.specs.Maps.{Map, get}
-use Rattle.fuse_spec.specs.Nodes.{HeldNode, NodeTable}
+use Rattle.fuse_spec.specs.Values.Maps.{Map, get}
+use Rattle.fuse_spec.specs.Server.Nodes.{HeldNode, NodeTable}
 use Rattle.fs_nodes.specs.declared.stored_node.StoredNode.{StoredNode}
 
 -- the nodes, and how many more files can be given a nodeid with no memory

@@ -1,7 +1,7 @@
 -- Slots whose place plus 2 is the nodeid.
 use Rattle.std.specs.Prelude.{ℕ, ◌+◌, ◌-◌, ◌<◌, ◌^◌, List, [], ◌∷◌, Option, Some, None, slice_index_or, cond, nat_lt, nat_le, min, option_map}
-use Rattle.fuse_spec.specs.Maps.{Map}
-use Rattle.fuse_spec.specs.Nodes.{HeldNode}
+use Rattle.fuse_spec.specs.Values.Maps.{Map}
+use Rattle.fuse_spec.specs.Server.Nodes.{HeldNode}
 use Rattle.fs_nodes.specs.declared.stored_node.StoredNode.{StoredNode}
 use Rattle.fs_nodes.specs.Rows.{node_of}
 

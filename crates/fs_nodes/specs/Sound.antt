@@ -2,8 +2,8 @@
 use Rattle.std.specs.Prelude.{◌≡◌, ◌<◌, ◌≤◌, ◌^◌, ℕ, Some, IsTrue}
 use Rattle.std.specs.Ordering.{nat_cmp}
 use Rattle.std.specs.FinMap.{is_sorted}
-use Rattle.fuse_spec.specs.Maps.{get}
-use Rattle.fuse_spec.specs.Nodes.{HeldNode, NodeTable}
+use Rattle.fuse_spec.specs.Values.Maps.{get}
+use Rattle.fuse_spec.specs.Server.Nodes.{HeldNode, NodeTable}
 
 -- Nodeids rise from 2, none has the file of another, each has a lookup, and no generation is the coming one or a later.
 pub record IsSound (t : NodeTable) : Type 0 where

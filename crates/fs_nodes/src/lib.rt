@@ -12,7 +12,7 @@ mod too_many;
 
 pub use list_rows::ListRows;
 pub use node_rows::NodeRows;
-pub use node_store::{LIMIT, NodeStore};
+pub use node_store::NodeStore;
 pub use nodes_of::NodesOf;
 pub use slab_rows::SlabRows;
 use std::alloc::Global;

@@ -1,8 +1,8 @@
 //! Nodes under their nodeids: what a representation of the table offers.
 ghost use Rattle.std.specs.Prelude.{◌≡◌, ℕ, [], None, ◌+◌, ◌<◌, ◌≤◌, IsOk, OnOk, IfOk, IfSome, IfNone, is_some, nat_eq, option_map};
 ghost use Rattle.std.specs.List.{list_any};
-ghost use Rattle.fuse_spec.specs.Maps.{Map, get, put, remove, values};
-ghost use Rattle.fuse_spec.specs.Nodes.{HeldNode};
+ghost use Rattle.fuse_spec.specs.Values.Maps.{Map, get, put, remove, values};
+ghost use Rattle.fuse_spec.specs.Server.Nodes.{HeldNode};
 ghost use Rattle.fs_nodes.specs.Rows.{node_of, IsOf, IsOfNone, listed};
 
 use crate::stored_node::StoredNode;

@@ -1,17 +1,14 @@
 //! The contract of the held nodes, for any representation.
 ghost use Rattle.std.specs.Prelude.{◌≡◌, ℕ, [], ◌+◌, ◌^◌, ◌<◌, ◌≤◌, ◌↔◌, Some, IsOk, OnOk, OnErr, IfOk, IfSome, IfNone, length, nat_eq, option_map};
 ghost use Rattle.std.specs.List.{list_any};
-ghost use Rattle.fuse_spec.specs.Maps.{get, values};
-ghost use Rattle.fuse_spec.specs.Nodes.{HeldNode, NodeTable, MayName, IsUnheld, given, taken_back, is_row_of};
-ghost use Rattle.fuse_spec.specs.Server.{count_in};
+ghost use Rattle.fuse_spec.specs.Values.Maps.{get, values};
+ghost use Rattle.fuse_spec.specs.Server.Nodes.{HeldNode, NodeTable, MayName, IsUnheld, given, taken_back, is_row_of};
+ghost use Rattle.fuse_spec.specs.Server.Server.{count_in};
 ghost use Rattle.fs_nodes.specs.Rows.{generation_given, room_for, HasCount, listed, IsOf};
 ghost use Rattle.fs_nodes.specs.Sound.{IsSound};
 
 use crate::too_many::TooMany;
 use std::alloc::{AllocError, Allocator};
-
-/// Generations stay below this.
-pub const LIMIT: u64 = 0x4000_0000_0000_0000;
 
 /// The nodes that a server holds, one nodeid a file. The root, nodeid 1, is always held and never among them.
 ///

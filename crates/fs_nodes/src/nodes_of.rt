@@ -1,9 +1,10 @@
 //! The calls of the table, over any representation of its rows.
 
 use crate::node_rows::NodeRows;
-use crate::node_store::{LIMIT, NodeStore};
+use crate::node_store::NodeStore;
 use crate::stored_node::StoredNode;
 use crate::too_many::TooMany;
+use fuse_spec::limits::COUNTER_END;
 use std::alloc::AllocError;
 use std::marker::Model;
 
@@ -47,7 +48,7 @@ impl<R: NodeRows> NodeStore for NodesOf<R> {
     }
 
     fn generations_left(&self) -> u64 {
-        LIMIT - self.next
+        COUNTER_END - self.next
     }
 
     fn give(&mut self, file: u64) -> (u64, u64) {

@@ -2,13 +2,13 @@
 use Rattle.std.proofs.Common.{◌≡◌, ℕ, ◌+◌, ◌<◌, ◌≤◌, ◌^◌, Bool, true, false, true≢false, not, ◌||◌, List, [], ◌∷◌, Option, Some, None, Result, Ok, Err, refl, sym, ap, ◌∙◌, arith, inr}
 use Rattle.std.specs.Prelude.{IfErr, IfOk, OnOk, MatchResult, is_some, nat_lt}
 use Rattle.std.proofs.lemmas.Bool.{le-ltb}
-use Rattle.fuse_spec.specs.Maps.{get}
-use Rattle.fuse_spec.specs.Messages.{Forget}
-use Rattle.fuse_spec.specs.Nodes.{NodeTable, taken_back}
-use Rattle.fuse_spec.specs.Numbers.{counter_end, eagain}
-use Rattle.fuse_spec.specs.Operations.{failed}
-use Rattle.fuse_spec.specs.Server.{Server, HeldRequest, Kept, holding, forgetting, sending, all_taken_back}
-use Rattle.fuse_spec.specs.Taking.{interrupting, taking}
+use Rattle.fuse_spec.specs.Values.Maps.{get}
+use Rattle.fuse_spec.specs.Kernel.Messages.{Forget}
+use Rattle.fuse_spec.specs.Server.Nodes.{NodeTable, taken_back}
+use Rattle.fuse_spec.specs.Values.Numbers.{counter_end, eagain}
+use Rattle.fuse_spec.specs.Files.Operations.{failed}
+use Rattle.fuse_spec.specs.Server.Server.{Server, HeldRequest, Kept, holding, forgetting, sending, all_taken_back}
+use Rattle.fuse_spec.specs.Server.Taking.{interrupting, taking}
 use Rattle.fuse_spec.specs.declared.Taken.TheVariants.{Held}
 use Rattle.fk_wire.specs.Requests as wire
 use Rattle.fk_wire.specs.Requests.{RequestContent, RequestMessage, Spells}

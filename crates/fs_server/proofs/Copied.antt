@@ -4,19 +4,19 @@ use Rattle.std.specs.Prelude.{is_some}
 use Rattle.std.specs.List.{list_all}
 use Rattle.std.proofs.lemmas.Option.{same_Some}
 use Rattle.fuse_spec.specs.declared.Minor.{Minor}
-use Rattle.fuse_spec.specs.Maps.{Map, get, put, remove}
+use Rattle.fuse_spec.specs.Values.Maps.{Map, get, put, remove}
 use Rattle.fuse_spec.specs.declared.Entry.{Entry}
 use Rattle.fuse_spec.specs.declared.Refusal.TheVariants.{NoCopy, Exhausted}
 use Rattle.fuse_spec.specs.declared.ReplyResult.{ReplyResult}
 use Rattle.fuse_spec.specs.declared.Validity.{Validity}
 use Rattle.fuse_spec.specs.declared.WriteResult.{WriteResult}
 use Rattle.fuse_spec.specs.declared.WriteResult.TheVariants.{Accepted, NoEntry, Invalid}
-use Rattle.fuse_spec.specs.Messages.{WireReply}
-use Rattle.fuse_spec.specs.Operations.{files_in_reply, opens_in_reply}
-use Rattle.fuse_spec.specs.Nodes.{NodeTable, counts_out, is_held}
-use Rattle.fuse_spec.specs.Server.{Server, HeldRequest, Kept, Copy}
-use Rattle.fuse_spec.specs.Copies.{files_named, is_current, rows_counted, handles_counted, sent_again, given_back, kept_after, after_result}
-use Rattle.fuse_spec.specs.Worlds.{Sent}
+use Rattle.fuse_spec.specs.Kernel.Messages.{WireReply}
+use Rattle.fuse_spec.specs.Files.Operations.{files_in_reply, opens_in_reply}
+use Rattle.fuse_spec.specs.Server.Nodes.{NodeTable, counts_out, is_held}
+use Rattle.fuse_spec.specs.Server.Server.{Server, HeldRequest, Kept, Copy}
+use Rattle.fuse_spec.specs.Server.Copies.{files_named, is_current, rows_counted, handles_counted, sent_again, given_back, kept_after, after_result}
+use Rattle.fuse_spec.specs.World.Worlds.{Sent}
 use Rattle.fs_files.specs.Giving.{files_of}
 use Rattle.fs_files.specs.Values.{FilesState}
 use Rattle.fs_server.specs.Values.{server_with}

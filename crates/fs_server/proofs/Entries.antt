@@ -1,8 +1,8 @@
 -- Entries are counted back, or once more, one after another.
 use Rattle.std.proofs.Common.{◌≡◌, ℕ, ◌+◌, ◌<◌, List, length, drop, get_or, sym, ap, subst, ◌∙◌}
 use Rattle.std.proofs.lemmas.List.{at_drop_more, drop_more}
-use Rattle.fuse_spec.specs.Copies.{row_back, rows_back, rows_counted}
-use Rattle.fuse_spec.specs.Nodes.{NodeTable, row_more}
+use Rattle.fuse_spec.specs.Server.Copies.{row_back, rows_back, rows_counted}
+use Rattle.fuse_spec.specs.Server.Nodes.{NodeTable, row_more}
 use Rattle.fuse_spec.specs.declared.Entry.{Entry}
 use Rattle.fuse_spec.specs.declared.Kind.TheVariants.{Directory}
 use Rattle.fs_nodes.specs.Sound.{IsSound}

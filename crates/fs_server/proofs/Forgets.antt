@@ -4,10 +4,10 @@ use Rattle.std.specs.Prelude.{nat_lt}
 use Rattle.std.specs.List.{list_any}
 use Rattle.std.proofs.lemmas.Bool.{ltb-false, cases_eq, eq-eqb}
 use Rattle.std.proofs.lemmas.List.Sums.{sum_by-append}
-use Rattle.fuse_spec.specs.Maps.{get, put, remove}
-use Rattle.fuse_spec.specs.Messages.{Forget}
-use Rattle.fuse_spec.specs.Nodes.{HeldNode, NodeTable, taken_back, rows_less}
-use Rattle.fuse_spec.specs.Server.{count_in, forgotten}
+use Rattle.fuse_spec.specs.Values.Maps.{get, put, remove}
+use Rattle.fuse_spec.specs.Kernel.Messages.{Forget}
+use Rattle.fuse_spec.specs.Server.Nodes.{HeldNode, NodeTable, taken_back, rows_less}
+use Rattle.fuse_spec.specs.Server.Server.{count_in, forgotten}
 use Rattle.fuse_spec.proofs.Tables.{get_put_here, get_put_there, get_gone_here, get_gone_there}
 use Rattle.fs_tree.proofs.Shaping.{same_number, other_number}
 

@@ -1,12 +1,12 @@
 -- Request frames as the server takes and refuses them.
 use Rattle.std.proofs.Common.{◌≡◌, ℕ, Bool, true, false, true≢false, cond, ◌&&◌, ◌||◌, List, [], ◌∷◌, Option, Some, None, refl, sym, ap, ◌∙◌, arith}
 use Rattle.std.specs.Prelude.{is_some, nat_lt}
-use Rattle.fuse_spec.specs.Maps.{get}
-use Rattle.fuse_spec.specs.Operations as operation
-use Rattle.fuse_spec.specs.Messages.{RequestBody, Request, init, asks, release, forget, batch_forget, interrupt}
-use Rattle.fuse_spec.specs.Server as server
-use Rattle.fuse_spec.specs.Server.{RequestFault, Server, unknown_opcode, unknown_node, too_many_forgets, repeated_unique, is_known, is_forgettable, count_in, forgotten, holding, forgetting}
-use Rattle.fuse_spec.specs.Taking.{taking}
+use Rattle.fuse_spec.specs.Values.Maps.{get}
+use Rattle.fuse_spec.specs.Files.Operations as operation
+use Rattle.fuse_spec.specs.Kernel.Messages.{RequestBody, Request, init, asks, release, forget, batch_forget, interrupt}
+use Rattle.fuse_spec.specs.Server.Server as server
+use Rattle.fuse_spec.specs.Server.Server.{RequestFault, Server, unknown_opcode, unknown_node, too_many_forgets, repeated_unique, is_known, is_forgettable, count_in, forgotten, holding, forgetting}
+use Rattle.fuse_spec.specs.Server.Taking.{taking}
 use Rattle.fuse_spec.specs.declared.Taken.TheVariants.{Held, Forgot}
 use Rattle.fk_wire.specs.Requests as wire
 use Rattle.fk_wire.specs.Requests.{RequestContent, RequestMessage, Spells}

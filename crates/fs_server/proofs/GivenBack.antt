@@ -2,13 +2,13 @@
 use Rattle.std.proofs.Common.{◌≡◌, ℕ, Bool, false, List, [], ap, ◌∙◌}
 use Rattle.fuse_spec.specs.declared.Minor.{Minor}
 use Rattle.fuse_spec.specs.declared.Minor.TheVariants.{M31}
-use Rattle.fuse_spec.specs.Copies.{handles_back, rows_back, remounted}
-use Rattle.fuse_spec.specs.Maps.{Map}
-use Rattle.fuse_spec.specs.Messages.{Forget, WireReply}
-use Rattle.fuse_spec.specs.Nodes.{NodeTable, HandleTable}
-use Rattle.fuse_spec.specs.Operations.{files_in_reply, opens_in_reply}
-use Rattle.fuse_spec.specs.Server.{Server, HeldRequest, Kept, Copy, all_taken_back, forgetting, is_file_held, without_unheld_files}
-use Rattle.fuse_spec.specs.Trees.{Tree}
+use Rattle.fuse_spec.specs.Server.Copies.{handles_back, rows_back, remounted}
+use Rattle.fuse_spec.specs.Values.Maps.{Map}
+use Rattle.fuse_spec.specs.Kernel.Messages.{Forget, WireReply}
+use Rattle.fuse_spec.specs.Server.Nodes.{NodeTable, HandleTable}
+use Rattle.fuse_spec.specs.Files.Operations.{files_in_reply, opens_in_reply}
+use Rattle.fuse_spec.specs.Server.Server.{Server, HeldRequest, Kept, Copy, all_taken_back, forgetting, is_file_held, without_unheld_files}
+use Rattle.fuse_spec.specs.Files.Trees.{Tree}
 use Rattle.fuse_spec.specs.declared.Validity.{Validity}
 use Rattle.fs_tree.specs.Outcomes.{without_unheld}
 use Rattle.fs_files.specs.Values.{FilesState, server_of}

@@ -3,12 +3,12 @@ use Rattle.std.proofs.Common.{◌≡◌, ℕ, Bool, true, false, true≢false, n
 use Rattle.std.specs.Prelude.{IsTrue, IfNone, IfOk, is_some}
 use Rattle.std.specs.Result.{result_err}
 use Rattle.std.proofs.lemmas.Option.{none-some, same_Some}
-use Rattle.fuse_spec.specs.Maps.{get}
-use Rattle.fuse_spec.specs.Numbers.{eagain}
-use Rattle.fuse_spec.specs.Operations.{failed}
-use Rattle.fuse_spec.specs.Messages.{WireReply}
-use Rattle.fuse_spec.specs.Server.{Server, HeldRequest, Kept}
-use Rattle.fuse_spec.specs.Taking.{interrupting, taking}
+use Rattle.fuse_spec.specs.Values.Maps.{get}
+use Rattle.fuse_spec.specs.Values.Numbers.{eagain}
+use Rattle.fuse_spec.specs.Files.Operations.{failed}
+use Rattle.fuse_spec.specs.Kernel.Messages.{WireReply}
+use Rattle.fuse_spec.specs.Server.Server.{Server, HeldRequest, Kept}
+use Rattle.fuse_spec.specs.Server.Taking.{interrupting, taking}
 use Rattle.fk_wire.specs.Requests as wire
 use Rattle.fk_wire.specs.Requests.{RequestContent, RequestMessage}
 use Rattle.fuse_frames.specs.RequestTies.{body_in}

@@ -6,11 +6,11 @@ use Rattle.std.specs.FinMap.{is_sorted, nat_cmp-IsAntisymmetric}
 use Rattle.std.specs.FinMap.Entries.{is_sorted-put, is_sorted-where_key, same_entries}
 use Rattle.std.specs.Ordering.{nat_cmp}
 use Rattle.std.proofs.lemmas.Bool.{cases_eq, le-ltb}
-use Rattle.fuse_spec.specs.Maps.{Map, get, put, remove}
-use Rattle.fuse_spec.specs.Numbers.{counter_end}
-use Rattle.fuse_spec.specs.Messages.{interrupt}
-use Rattle.fuse_spec.specs.Server.{Server, HeldRequest, Kept}
-use Rattle.fuse_spec.specs.Taking.{TakeResult, interrupting, taking}
+use Rattle.fuse_spec.specs.Values.Maps.{Map, get, put, remove}
+use Rattle.fuse_spec.specs.Values.Numbers.{counter_end}
+use Rattle.fuse_spec.specs.Kernel.Messages.{interrupt}
+use Rattle.fuse_spec.specs.Server.Server.{Server, HeldRequest, Kept}
+use Rattle.fuse_spec.specs.Server.Taking.{TakeResult, interrupting, taking}
 use Rattle.fuse_spec.specs.declared.Taken.TheVariants.{Marked, Ignored, Again}
 use Rattle.fuse_spec.proofs.Tables.{get_put_here, get_put_there, get_gone_there}
 use Rattle.fs_server.specs.declared.server.Took.{Took}

@@ -2,15 +2,15 @@
 use Rattle.std.proofs.Common.{◌≡◌, ◌≤◌, ℕ, Bool, true, false, cond, Option, Some, None, length, refl, ap, ◌∙◌, sym, arith, inl, inr}
 use Rattle.std.specs.Prelude.{◌⊎◌}
 use Rattle.std.proofs.lemmas.List.{length-map}
-use Rattle.fuse_spec.specs.FileOperations.{looked_up, refusal, reply_or, reply_unrefused}
-use Rattle.fuse_spec.specs.Messages.{RequestBody, init, asks, release, forget, batch_forget, interrupt}
-use Rattle.fuse_spec.specs.Nodes.{file_of, is_open}
-use Rattle.fuse_spec.specs.Numbers.{ebadf, eintr, eio}
-use Rattle.fuse_spec.specs.Operations as operation
-use Rattle.fuse_spec.specs.Operations.{Operation, Reply, errno_of}
-use Rattle.fuse_spec.specs.Performs.{file_operation_of, is_open_for, is_still_held}
-use Rattle.fuse_spec.specs.Server.{Server, HeldRequest}
-use Rattle.fuse_spec.specs.Trees.{Tree, file_at}
+use Rattle.fuse_spec.specs.Files.FileOperations.{looked_up, refusal, reply_or, reply_unrefused}
+use Rattle.fuse_spec.specs.Kernel.Messages.{RequestBody, init, asks, release, forget, batch_forget, interrupt}
+use Rattle.fuse_spec.specs.Server.Nodes.{file_of, is_open}
+use Rattle.fuse_spec.specs.Values.Numbers.{ebadf, eintr, eio}
+use Rattle.fuse_spec.specs.Files.Operations as operation
+use Rattle.fuse_spec.specs.Files.Operations.{Operation, Reply, errno_of}
+use Rattle.fuse_spec.specs.Server.Performs.{file_operation_of, is_open_for, is_still_held}
+use Rattle.fuse_spec.specs.Server.Server.{Server, HeldRequest}
+use Rattle.fuse_spec.specs.Files.Trees.{Tree, file_at}
 use Rattle.fuse_spec.specs.declared.Opened.{Opened}
 use Rattle.fs_files.specs.Listed.{names_in, pair_listed}
 use Rattle.fs_files.specs.Performing.{said, said_by}

@@ -3,15 +3,15 @@ use Rattle.std.proofs.Common.{◌≡◌, ℕ, ◌≤◌, ◌<◌, ◌^◌, Bool,
 use Rattle.std.specs.Prelude.{nat_lt}
 use Rattle.std.proofs.lemmas.Bool.{le-ltb, ltb-false}
 use Rattle.fuse_spec.specs.declared.Minor.{Minor}
-use Rattle.fuse_spec.specs.Maps.{Map, get, remove}
-use Rattle.fuse_spec.specs.Numbers.{counter_end}
-use Rattle.fuse_spec.specs.Operations.{Reply, files_in_reply, opens_in_reply}
+use Rattle.fuse_spec.specs.Values.Maps.{Map, get, remove}
+use Rattle.fuse_spec.specs.Values.Numbers.{counter_end}
+use Rattle.fuse_spec.specs.Files.Operations.{Reply, files_in_reply, opens_in_reply}
 use Rattle.fuse_spec.specs.declared.Validity.{Validity}
 use Rattle.fuse_spec.specs.declared.Entry.{Entry}
-use Rattle.fuse_spec.specs.Copies.{rows_counted, handles_counted, sent_again}
-use Rattle.fuse_spec.specs.Nodes.{NodeTable, HandleTable, row_more, handle_more, MayChoose}
-use Rattle.fuse_spec.specs.Performs.{performed, served, files_given, replying}
-use Rattle.fuse_spec.specs.Server.{Server, HeldRequest, Kept, Copy, without_unheld_files}
+use Rattle.fuse_spec.specs.Server.Copies.{rows_counted, handles_counted, sent_again}
+use Rattle.fuse_spec.specs.Server.Nodes.{NodeTable, HandleTable, row_more, handle_more, MayChoose}
+use Rattle.fuse_spec.specs.Server.Performs.{performed, served, files_given, replying}
+use Rattle.fuse_spec.specs.Server.Server.{Server, HeldRequest, Kept, Copy, without_unheld_files}
 use Rattle.fs_files.specs.Performing.{said, tree_said, handles_said}
 use Rattle.fs_files.specs.Plans.{HasNumbers}
 use Rattle.fs_files.specs.Values.{FilesState}

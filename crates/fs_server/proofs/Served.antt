@@ -6,17 +6,17 @@ use Rattle.std.specs.Ordering.{nat_cmp}
 use Rattle.std.proofs.lemmas.Bool.{lt-ltb}
 use Rattle.std.proofs.lemmas.Option.{same_Some}
 use Rattle.fuse_spec.specs.declared.Minor.{Minor}
-use Rattle.fuse_spec.specs.Maps.{Map, get, put, remove}
-use Rattle.fuse_spec.specs.Numbers.{counter_end}
-use Rattle.fuse_spec.specs.Operations.{Reply, files_in_reply, opens_in_reply, errno_of}
+use Rattle.fuse_spec.specs.Values.Maps.{Map, get, put, remove}
+use Rattle.fuse_spec.specs.Values.Numbers.{counter_end}
+use Rattle.fuse_spec.specs.Files.Operations.{Reply, files_in_reply, opens_in_reply, errno_of}
 use Rattle.fuse_spec.specs.declared.Validity.{Validity}
 use Rattle.fuse_spec.specs.declared.Refusal.TheVariants.{Exhausted}
-use Rattle.fuse_spec.specs.Messages.{RequestBody, init, asks, release, forget, batch_forget, interrupt, WireReply}
-use Rattle.fuse_spec.specs.Nodes.{NodeTable, HandleTable, all_given, all_opened, counts_out, handle_opened, handle_back, given, MayChoose, is_open, file_of}
-use Rattle.fuse_spec.specs.Trees.{Tree}
-use Rattle.fuse_spec.specs.Performs.{PerformResult, files_given, performed, served, replying, wire_of, is_still_held}
-use Rattle.fuse_spec.specs.Server.{Server, HeldRequest, Kept, Copy, without_unheld_files, is_file_held}
-use Rattle.fuse_spec.specs.Worlds.{Sent}
+use Rattle.fuse_spec.specs.Kernel.Messages.{RequestBody, init, asks, release, forget, batch_forget, interrupt, WireReply}
+use Rattle.fuse_spec.specs.Server.Nodes.{NodeTable, HandleTable, all_given, all_opened, counts_out, handle_opened, handle_back, given, MayChoose, is_open, file_of}
+use Rattle.fuse_spec.specs.Files.Trees.{Tree}
+use Rattle.fuse_spec.specs.Server.Performs.{PerformResult, files_given, performed, served, replying, wire_of, is_still_held}
+use Rattle.fuse_spec.specs.Server.Server.{Server, HeldRequest, Kept, Copy, without_unheld_files, is_file_held}
+use Rattle.fuse_spec.specs.World.Worlds.{Sent}
 use Rattle.fs_tree.specs.Outcomes.{without_unheld}
 use Rattle.fs_files.specs.Bounds.{AreHeldBelow}
 use Rattle.fs_files.specs.Giving.{generations_after}

@@ -3,15 +3,15 @@ use Rattle.std.proofs.Common.{◌≡◌, ◌≢◌, ℕ, ◌+◌, ◌≤◌, ◌
 use Rattle.std.specs.Prelude.{is_some}
 use Rattle.std.proofs.lemmas.Bool.{cases_eq}
 use Rattle.std.proofs.lemmas.Option.{none-some}
-use Rattle.fuse_spec.specs.Maps.{Map, get, put, remove}
+use Rattle.fuse_spec.specs.Values.Maps.{Map, get, put, remove}
 use Rattle.fuse_spec.specs.declared.Entry.{Entry}
-use Rattle.fuse_spec.specs.Copies.{row_back, rows_back, handles_back, handles_counted}
-use Rattle.fuse_spec.specs.Messages.{Forget, RequestBody, WireReply, init, asks, release, forget, batch_forget, interrupt}
-use Rattle.fuse_spec.specs.Nodes.{NodeTable, HeldNode, HandleTable, OpenNumber, all_opened, file_of, handle_back, is_open, taken_back}
-use Rattle.fuse_spec.specs.Operations as operation
-use Rattle.fuse_spec.specs.Operations.{Reply, opens_in_reply}
-use Rattle.fuse_spec.specs.Performs.{is_still_held}
-use Rattle.fuse_spec.specs.Server.{Server, HeldRequest, all_taken_back}
+use Rattle.fuse_spec.specs.Server.Copies.{row_back, rows_back, handles_back, handles_counted}
+use Rattle.fuse_spec.specs.Kernel.Messages.{Forget, RequestBody, WireReply, init, asks, release, forget, batch_forget, interrupt}
+use Rattle.fuse_spec.specs.Server.Nodes.{NodeTable, HeldNode, HandleTable, OpenNumber, all_opened, file_of, handle_back, is_open, taken_back}
+use Rattle.fuse_spec.specs.Files.Operations as operation
+use Rattle.fuse_spec.specs.Files.Operations.{Reply, opens_in_reply}
+use Rattle.fuse_spec.specs.Server.Performs.{is_still_held}
+use Rattle.fuse_spec.specs.Server.Server.{Server, HeldRequest, all_taken_back}
 use Rattle.fuse_spec.proofs.Tables.{get_put_there, get_gone_here, get_gone_there}
 use Rattle.fs_files.specs.Bounds.{AreHeldBelow, AreNamed, AreUsed}
 use Rattle.fs_files.specs.Performing.{handles_by, handles_said}

@@ -1,15 +1,15 @@
 -- The server stays sound.
 use Rattle.std.proofs.Common.{◌≡◌, ℕ, ◌+◌, ◌≤◌, ◌<◌, ◌^◌, Bool, true, false, cond, nat_eq, List, [], length, Option, Some, None, refl, sym, ap, subst, ◌∙◌, arith}
-use Rattle.fuse_spec.specs.Maps.{Map, get, put, remove}
-use Rattle.fuse_spec.specs.Messages.{Forget, WireReply}
-use Rattle.fuse_spec.specs.Nodes.{NodeTable, HandleTable, all_opened, counts_out}
-use Rattle.fuse_spec.specs.Numbers.{max_validity}
-use Rattle.fuse_spec.specs.Operations.{Reply, files_in_reply, opens_in_reply}
-use Rattle.fuse_spec.specs.Copies.{rows_counted, handles_counted, kept_after}
-use Rattle.fuse_spec.specs.Server.{Server, HeldRequest, Kept, Copy}
+use Rattle.fuse_spec.specs.Values.Maps.{Map, get, put, remove}
+use Rattle.fuse_spec.specs.Kernel.Messages.{Forget, WireReply}
+use Rattle.fuse_spec.specs.Server.Nodes.{NodeTable, HandleTable, all_opened, counts_out}
+use Rattle.fuse_spec.specs.Values.Numbers.{max_validity}
+use Rattle.fuse_spec.specs.Files.Operations.{Reply, files_in_reply, opens_in_reply}
+use Rattle.fuse_spec.specs.Server.Copies.{rows_counted, handles_counted, kept_after}
+use Rattle.fuse_spec.specs.Server.Server.{Server, HeldRequest, Kept, Copy}
 use Rattle.fuse_spec.specs.declared.Entry.{Entry}
 use Rattle.fuse_spec.specs.declared.Validity.{Validity}
-use Rattle.fuse_spec.specs.Trees.{Tree}
+use Rattle.fuse_spec.specs.Files.Trees.{Tree}
 use Rattle.fuse_spec.specs.declared.WriteResult.{WriteResult}
 use Rattle.fuse_spec.specs.declared.WriteResult.TheVariants.{Accepted, NoEntry, Invalid}
 use Rattle.std.proofs.lemmas.Option.{none-some}

@@ -2,13 +2,13 @@
 use Rattle.std.proofs.Common.{◌≡◌, ◌≢◌, ℕ, List, [], ◌∷◌, Option, None, refl, sym, ap, subst, ◌∙◌}
 use Rattle.std.specs.Prelude.{option_map, option_to_list}
 use Rattle.fuse_spec.specs.declared.Minor.{Minor}
-use Rattle.fuse_spec.specs.Copies.{handles_back, row_back, rows_back}
-use Rattle.fuse_spec.specs.Maps.{get}
-use Rattle.fuse_spec.specs.Messages.{Forget}
-use Rattle.fuse_spec.specs.Nodes.{HandleTable, HeldNode, IsUnheld, NodeTable, OpenNumber, all_given, all_opened, handle_back, taken_back}
-use Rattle.fuse_spec.specs.Operations.{Reply, files_in_reply, opens_in_reply}
-use Rattle.fuse_spec.specs.Server.{HeldRequest, is_file_held}
-use Rattle.fuse_spec.specs.Trees.{Tree}
+use Rattle.fuse_spec.specs.Server.Copies.{handles_back, row_back, rows_back}
+use Rattle.fuse_spec.specs.Values.Maps.{get}
+use Rattle.fuse_spec.specs.Kernel.Messages.{Forget}
+use Rattle.fuse_spec.specs.Server.Nodes.{HandleTable, HeldNode, IsUnheld, NodeTable, OpenNumber, all_given, all_opened, handle_back, taken_back}
+use Rattle.fuse_spec.specs.Files.Operations.{Reply, files_in_reply, opens_in_reply}
+use Rattle.fuse_spec.specs.Server.Server.{HeldRequest, is_file_held}
+use Rattle.fuse_spec.specs.Files.Trees.{Tree}
 use Rattle.fuse_spec.specs.declared.Entry.{Entry}
 use Rattle.fuse_spec.specs.declared.Validity.{Validity}
 use Rattle.fs_tree.specs.Outcomes.{without_unheld}

@@ -2,9 +2,9 @@
 use Rattle.std.proofs.Common.{◌≡◌, ℕ, Bool, true, false, true≢false, List, Option, Some, None, Result, Ok, Err, refl, sym, ap, ◌∙◌}
 use Rattle.std.specs.Prelude.{IfErr, OnErr}
 use Rattle.std.proofs.lemmas.Option.{same_Some}
-use Rattle.fuse_spec.specs.Messages.{RequestBody, interrupt}
-use Rattle.fuse_spec.specs.Server.{Server, RequestFault, unknown_opcode, unknown_node, too_many_forgets, repeated_unique, fault_of}
-use Rattle.fuse_spec.specs.Taking.{taking}
+use Rattle.fuse_spec.specs.Kernel.Messages.{RequestBody, interrupt}
+use Rattle.fuse_spec.specs.Server.Server.{Server, RequestFault, unknown_opcode, unknown_node, too_many_forgets, repeated_unique, fault_of}
+use Rattle.fuse_spec.specs.Server.Taking.{taking}
 use Rattle.fuse_spec.specs.declared.Taken.TheVariants.{Held, Again}
 use Rattle.fk_wire.specs.Requests as wire
 use Rattle.fk_wire.specs.Requests.{RequestContent, RequestMessage}

@@ -1,15 +1,15 @@
 -- What each call of the server does, and what it is refused for.
 use Rattle.std.specs.Prelude.{◌≡◌, ◌<◌, ◌^◌, ℕ, Bool, true, false, ◌||◌, nat_eq, nat_lt, List, Option, Some, None}
-use Rattle.fuse_spec.specs.Maps.{get}
-use Rattle.fuse_spec.specs.Numbers.{counter_end}
-use Rattle.fuse_spec.specs.Messages.{Forget, RequestBody, Request, WireReply}
-use Rattle.fuse_spec.specs.Operations.{errno_of}
-use Rattle.fuse_spec.specs.Nodes.{HandleTable, MayChoose, NodeTable, counts_out}
-use Rattle.fuse_spec.specs.Performs.{served, files_given}
-use Rattle.fuse_spec.specs.Worlds.{Sent}
-use Rattle.fuse_spec.specs.Server.{Server, HeldRequest, Kept, Copy, RequestFault, unknown_opcode, unknown_node, too_many_forgets, repeated_unique, all_taken_back, fault_of, forgetting, is_file_held}
-use Rattle.fuse_spec.specs.Copies.{given_back, files_named, handles_back, is_current, rows_back, sent_again, settled}
-use Rattle.fuse_spec.specs.Taking.{taking}
+use Rattle.fuse_spec.specs.Values.Maps.{get}
+use Rattle.fuse_spec.specs.Values.Numbers.{counter_end}
+use Rattle.fuse_spec.specs.Kernel.Messages.{Forget, RequestBody, Request, WireReply}
+use Rattle.fuse_spec.specs.Files.Operations.{errno_of}
+use Rattle.fuse_spec.specs.Server.Nodes.{HandleTable, MayChoose, NodeTable, counts_out}
+use Rattle.fuse_spec.specs.Server.Performs.{served, files_given}
+use Rattle.fuse_spec.specs.World.Worlds.{Sent}
+use Rattle.fuse_spec.specs.Server.Server.{Server, HeldRequest, Kept, Copy, RequestFault, unknown_opcode, unknown_node, too_many_forgets, repeated_unique, all_taken_back, fault_of, forgetting, is_file_held}
+use Rattle.fuse_spec.specs.Server.Copies.{given_back, files_named, handles_back, is_current, rows_back, sent_again, settled}
+use Rattle.fuse_spec.specs.Server.Taking.{taking}
 use Rattle.fuse_spec.specs.declared.Entry.{Entry}
 use Rattle.fuse_spec.specs.declared.ReplyResult.{ReplyResult}
 use Rattle.fuse_spec.specs.declared.Taken.{Taken}

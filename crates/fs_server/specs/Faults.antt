@@ -5,7 +5,7 @@ use Rattle.fk_wire.specs.Faults.{HasLength}
 use Rattle.fk_wire.specs.Fields.{number_at}
 use Rattle.fk_wire.specs.Opcodes.{code_of, knows}
 use Rattle.fk_wire.specs.Replies.{WrittenReply, empty_reply}
-use Rattle.fuse_spec.specs.Numbers.{eio, enosys}
+use Rattle.fuse_spec.specs.Values.Numbers.{eio, enosys}
 use Rattle.fuse_spec.specs.declared.Minor.{Minor}
 use Rattle.fuse_frames.specs.RequestTies.{codec_minor}
 use Rattle.fs_server.specs.declared.server.ServerFault.{ServerFault}

@@ -1,10 +1,10 @@
 -- How INTERRUPTs are taken.
 use Rattle.std.specs.Prelude.{◌≡◌, ℕ, Some}
-use Rattle.fuse_spec.specs.Numbers.{eagain}
-use Rattle.fuse_spec.specs.Operations.{failed}
-use Rattle.fuse_spec.specs.Messages.{interrupt}
-use Rattle.fuse_spec.specs.Server.{Server, sending}
-use Rattle.fuse_spec.specs.Taking.{taking}
+use Rattle.fuse_spec.specs.Values.Numbers.{eagain}
+use Rattle.fuse_spec.specs.Files.Operations.{failed}
+use Rattle.fuse_spec.specs.Kernel.Messages.{interrupt}
+use Rattle.fuse_spec.specs.Server.Server.{Server, sending}
+use Rattle.fuse_spec.specs.Server.Taking.{taking}
 use Rattle.fuse_spec.specs.declared.Taken.TheVariants.{Again}
 use Rattle.fs_server.specs.declared.server.Took.{Took}
 use Rattle.fs_server.specs.Effects.{copy_of}

@@ -1,7 +1,7 @@
 -- What is true of the server after each event.
 use Rattle.std.specs.Prelude.{◌≡◌, ◌≢◌, ◌≤◌, ◌^◌, ℕ, None}
-use Rattle.fuse_spec.specs.Maps.{Map, get}
-use Rattle.fuse_spec.specs.Numbers.{max_validity}
+use Rattle.fuse_spec.specs.Values.Maps.{Map, get}
+use Rattle.fuse_spec.specs.Values.Numbers.{max_validity}
 use Rattle.fuse_spec.specs.declared.Validity.{Validity}
 use Rattle.fs_files.specs.Bounds.{AreHeldBelow, AreNamed, AreUsed}
 use Rattle.fs_files.specs.Values.{FilesState}

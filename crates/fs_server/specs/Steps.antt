@@ -2,10 +2,10 @@
 use Rattle.std.specs.Prelude.{◌≡◌, ◌<◌, ◌^◌, ℕ, false, Some, T}
 use Rattle.std.specs.FinMap.{is_sorted}
 use Rattle.std.specs.Ordering.{nat_cmp}
-use Rattle.fuse_spec.specs.Maps.{get}
-use Rattle.fuse_spec.specs.Nodes.{counts_out}
-use Rattle.fuse_spec.specs.Performs.{files_given}
-use Rattle.fuse_spec.specs.Server.{Server, HeldRequest}
+use Rattle.fuse_spec.specs.Values.Maps.{get}
+use Rattle.fuse_spec.specs.Server.Nodes.{counts_out}
+use Rattle.fuse_spec.specs.Server.Performs.{files_given}
+use Rattle.fuse_spec.specs.Server.Server.{Server, HeldRequest}
 use Rattle.fs_files.specs.Performing.{said, tree_said}
 use Rattle.fs_files.specs.Plans.{HasNumbers}
 

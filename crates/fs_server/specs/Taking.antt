@@ -1,12 +1,12 @@
 -- What is taken of a request, by its node and by what it asks.
 use Rattle.std.specs.Prelude.{◌≡◌, ◌<◌, ◌^◌, ℕ, Bool, true, false, ◌&&◌, ◌||◌, not, List, [], ◌∷◌, Option, Some, None, map, nat_lt, is_some}
 use Rattle.std.specs.List.{list_all, list_any}
-use Rattle.fuse_spec.specs.Maps.{get}
-use Rattle.fuse_spec.specs.Messages.{Forget, RequestBody}
-use Rattle.fuse_spec.specs.Nodes.{NodeTable, row_of}
-use Rattle.fuse_spec.specs.Server as server
+use Rattle.fuse_spec.specs.Values.Maps.{get}
+use Rattle.fuse_spec.specs.Kernel.Messages.{Forget, RequestBody}
+use Rattle.fuse_spec.specs.Server.Nodes.{NodeTable, row_of}
+use Rattle.fuse_spec.specs.Server.Server as server
 use Rattle.fuse_spec.specs.declared.Minor.{Minor}
-use Rattle.fuse_spec.specs.Server.{Server, HeldRequest, is_known, is_forgettable, count_in, forgotten, generation_in, nodes_of_body}
+use Rattle.fuse_spec.specs.Server.Server.{Server, HeldRequest, is_known, is_forgettable, count_in, forgotten, generation_in, nodes_of_body}
 use Rattle.fk_wire.specs.Requests as wire
 use Rattle.fk_wire.specs.Requests.{RequestContent, RequestMessage, Spells}
 use Rattle.fuse_frames.specs.RequestTies.{body_in, body_or}

@@ -1,7 +1,7 @@
 -- What contracts see of the server's parts.
 use Rattle.std.specs.Prelude.{ℕ, Bool}
-use Rattle.fuse_spec.specs.Maps.{Map}
-use Rattle.fuse_spec.specs.Server.{Server, HeldRequest, Kept, Copy}
+use Rattle.fuse_spec.specs.Values.Maps.{Map}
+use Rattle.fuse_spec.specs.Server.Server.{Server, HeldRequest, Kept, Copy}
 use Rattle.fuse_spec.specs.declared.Minor.{Minor}
 use Rattle.fuse_spec.specs.declared.Validity.{Validity}
 use Rattle.fs_files.specs.Values.{FilesState, server_at}

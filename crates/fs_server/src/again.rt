@@ -2,10 +2,10 @@
 
 ghost use Rattle.std.specs.Prelude.{◌≡◌, ◌^◌, ◌⊎◌, ◌&&◌, false, OnErr, IfOk, IfErr, IfSome, IfNone, is_some};
 ghost use Rattle.std.specs.List.{list_all};
-ghost use Rattle.fuse_spec.specs.Maps.{get};
-ghost use Rattle.fuse_spec.specs.Nodes.{counts_out, is_held};
-ghost use Rattle.fuse_spec.specs.Copies.{handles_counted, rows_counted};
-ghost use Rattle.fuse_spec.specs.Operations.{files_in_reply, opens_in_reply};
+ghost use Rattle.fuse_spec.specs.Values.Maps.{get};
+ghost use Rattle.fuse_spec.specs.Server.Nodes.{counts_out, is_held};
+ghost use Rattle.fuse_spec.specs.Server.Copies.{handles_counted, rows_counted};
+ghost use Rattle.fuse_spec.specs.Files.Operations.{files_in_reply, opens_in_reply};
 ghost use Rattle.fuse_spec.specs.declared.Entry.{Entry as ReplyEntry};
 ghost use Rattle.fuse_spec.specs.declared.Refusal.TheVariants.{NoMemory};
 ghost use Rattle.fs_files.specs.Bounds.{AreHeldBelow, AreUsed};
@@ -14,13 +14,15 @@ ghost use Rattle.fs_files.specs.Replies.{sent_wire};
 ghost use Rattle.fs_server.specs.Effects.{CanSendAgain, RefusesAgain, SendsAgain};
 
 use crate::replies::SentCopy;
-use crate::server::{COUNTER_END, Server};
+use crate::server::ServerOf;
 use fs_files::{Files, NamedNode, ReplySpare, SentReply};
+use fs_nodes::NodeStore;
 use fuse_frames::{ReplyCopy, ReplyRoom};
+use fuse_spec::limits::COUNTER_END;
 use fuse_spec::{Entry, Refusal};
-use std::alloc::{AllocError, Allocator};
+use std::alloc::AllocError;
 
-impl<A: Allocator + Copy> Server<A> {
+impl<S: NodeStore> ServerOf<S> {
     /// Why no copy of a kept reply can be sent, want of memory aside: `NoCopy` where no reply is kept under the unique, or a node
     /// or open number that it names is no longer held, the node under the same generation; `Exhausted` where a node's lookups would
     /// come to the end of counters, or no copy number is left.
@@ -51,7 +53,7 @@ impl<A: Allocator + Copy> Server<A> {
     /// `NoCopy` where no reply is kept under the unique, or a node or open number that it names is no longer held, the node under the
     /// same generation; `Exhausted` where a node's lookups would come to the end of counters, or no copy number is left; then
     /// `NoMemory`. The server is as before.
-    pub fn again(&mut self, unique: u64) -> Result<ReplyCopy<A>, Refusal>
+    pub fn again(&mut self, unique: u64) -> Result<ReplyCopy<S::Heap>, Refusal>
         ensures err { OnErr result (self.new ≡ self.old) }
         ensures refusal { IfErr result (λ refusal. RefusesAgain self.old unique refusal ⊎ (refusal ≡ NoMemory)) }
         ensures memory { IfErr result (λ refusal. refusal ≡ NoMemory → CanSendAgain self.old unique) }
@@ -67,7 +69,7 @@ impl<A: Allocator + Copy> Server<A> {
     }
 
     /// Sends one more copy of a kept reply that can be sent.
-    fn send_again(&mut self, unique: u64) -> Result<ReplyCopy<A>, AllocError>
+    fn send_again(&mut self, unique: u64) -> Result<ReplyCopy<S::Heap>, AllocError>
         requires { CanSendAgain self.old unique }
         ensures err { OnErr result (self.new ≡ self.old) }
         ensures sent { IfOk result (λ copy. SendsAgain self.old unique copy self.new) }
@@ -91,7 +93,7 @@ impl<A: Allocator + Copy> Server<A> {
 }
 
 /// Whether each node and open number that a reply names is still held, the node under the same generation.
-fn is_current<A: Allocator + Copy>(files: &Files<A>, reply: &SentReply<A>) -> bool
+fn is_current<S: NodeStore>(files: &Files<S>, reply: &SentReply<S::Heap>) -> bool
     ensures { result ≡ (list_all (λ (g : ReplyEntry). is_held files.now.nodes g.nodeid g.generation) (files_in_reply (sent_wire reply.now)) && list_all (λ fh. is_some (get files.now.handles.handles fh)) (opens_in_reply (sent_wire reply.now))) }
 {
     let has_number = match reply.opened() {
@@ -102,7 +104,7 @@ fn is_current<A: Allocator + Copy>(files: &Files<A>, reply: &SentReply<A>) -> bo
 }
 
 /// Whether the node of each entry is held under the entry's generation.
-fn are_held<A: Allocator + Copy>(files: &Files<A>, told: &[Entry]) -> bool
+fn are_held<S: NodeStore>(files: &Files<S>, told: &[Entry]) -> bool
     ensures { result ≡ list_all (λ (g : ReplyEntry). is_held files.now.nodes g.nodeid g.generation) told.now }
 {
     told.iter().all(|entry| {
@@ -114,7 +116,7 @@ fn are_held<A: Allocator + Copy>(files: &Files<A>, told: &[Entry]) -> bool
 }
 
 /// Counts once more each node and the open number that a reply names.
-fn count_again<A: Allocator + Copy>(files: &mut Files<A>, reply: &SentReply<A>)
+fn count_again<S: NodeStore>(files: &mut Files<S>, reply: &SentReply<S::Heap>)
     requires counts { counts_out files.old.nodes (files_of files.old.nodes (files_in_reply (sent_wire reply.now))) ≡ false }
     requires used { AreUsed (2 ^ 62) files.old.handles }
     ensures tree { files.new.tree ≡ files.old.tree }
@@ -129,7 +131,7 @@ fn count_again<A: Allocator + Copy>(files: &mut Files<A>, reply: &SentReply<A>)
 }
 
 /// Counts the node of each entry once more.
-fn count_nodes_again<A: Allocator + Copy>(files: &mut Files<A>, told: &[Entry])
+fn count_nodes_again<S: NodeStore>(files: &mut Files<S>, told: &[Entry])
     requires { counts_out files.old.nodes (files_of files.old.nodes told.now) ≡ false }
     ensures tree { files.new.tree ≡ files.old.tree }
     ensures nodes { files.new.nodes ≡ rows_counted files.old.nodes told.now }

@@ -2,7 +2,7 @@
 
 ghost use Rattle.std.specs.Prelude.{◌≡◌, true, IfOk};
 ghost use Rattle.fk_wire.specs.Requests.{request_content};
-ghost use Rattle.fuse_spec.specs.Messages.{asks};
+ghost use Rattle.fuse_spec.specs.Kernel.Messages.{asks};
 ghost use Rattle.fs_files.specs.Values.{asked_of, named_in, operation_of};
 ghost use Rattle.fs_server.specs.Taking.{body_of, generations_for, has_bytes, has_two, held_for, is_held, is_operation};
 

@@ -1,10 +1,10 @@
 //! INTERRUPTs are taken.
 
 ghost use Rattle.std.specs.Prelude.{◌≡◌, ◌<◌, ◌^◌, true, false, None, Some, OnErr, IfErr, IfOk};
-ghost use Rattle.fuse_spec.specs.Maps.{get, put};
-ghost use Rattle.fuse_spec.specs.Messages.{interrupt as asked};
-ghost use Rattle.fuse_spec.specs.Server.{HeldRequest as HeldState};
-ghost use Rattle.fuse_spec.specs.Taking.{taking};
+ghost use Rattle.fuse_spec.specs.Values.Maps.{get, put};
+ghost use Rattle.fuse_spec.specs.Kernel.Messages.{interrupt as asked};
+ghost use Rattle.fuse_spec.specs.Server.Server.{HeldRequest as HeldState};
+ghost use Rattle.fuse_spec.specs.Server.Taking.{taking};
 ghost use Rattle.fuse_spec.specs.declared.Taken.TheVariants.{Again as AgainWord};
 ghost use Rattle.fk_wire.specs.Requests.{interrupt as content};
 ghost use Rattle.fs_server.specs.declared.server.ServerFault.TheVariants.{Memory as MemoryFault};
@@ -12,22 +12,25 @@ ghost use Rattle.fs_server.specs.Interrupts.{AsksAgain, Interrupts};
 ghost use Rattle.fs_server.specs.Taking.{answers};
 
 use crate::replies::SentCopy;
-use crate::server::{Server, ServerFault, Took};
+use crate::server::{ServerFault, ServerOf, Took};
 use fs_files::{PlainReply, SentReply};
+use fs_nodes::NodeStore;
 use fuse_frames::{ReplyCopy, ReplyRoom};
 use fuse_spec::Taken;
+use fuse_spec::errno::EAGAIN;
 use std::alloc::Allocator;
 
-/// EAGAIN, to an INTERRUPT of a request that is not known.
-const EAGAIN: u32 = 11;
-
-impl<A: Allocator + Copy> Server<A> {
+impl<S: NodeStore> ServerOf<S> {
     /// Takes an INTERRUPT: it marks a request that is held, is ignored while the request's reply is kept, and else is answered EAGAIN.
     ///
     /// # Errors
     ///
     /// `Memory` where it is answered; the server is as before.
-    pub(crate) fn interrupt(&mut self, unique: u64, original: u64) -> Result<Took<A>, ServerFault>
+    pub(crate) fn interrupt(
+        &mut self,
+        unique: u64,
+        original: u64,
+    ) -> Result<Took<S::Heap>, ServerFault>
         requires { answers self.old (content original) ≡ true → self.old.next_copy < 2 ^ 62 }
         ensures refused { OnErr result (self.new ≡ self.old) }
         ensures fault { IfErr result (λ fault. fault ≡ MemoryFault) }
@@ -57,7 +60,7 @@ impl<A: Allocator + Copy> Server<A> {
     }
 
     /// Answers an INTERRUPT with EAGAIN. The reply is not kept.
-    fn ask_again(&mut self, unique: u64) -> Result<Took<A>, ServerFault>
+    fn ask_again(&mut self, unique: u64) -> Result<Took<S::Heap>, ServerFault>
         requires { self.old.next_copy < 2 ^ 62 }
         ensures refused { OnErr result (self.new ≡ self.old) }
         ensures fault { IfErr result (λ fault. fault ≡ MemoryFault) }

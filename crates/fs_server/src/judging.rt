@@ -2,8 +2,8 @@
 
 ghost use Rattle.std.specs.Prelude.{◌≡◌, ◌↔◌, ◌||◌, true, false, None, nat_lt, not, is_some, IsTrue, IfErr, IfOk, IfNone, IfSome};
 ghost use Rattle.std.specs.List.{list_all, list_any};
-ghost use Rattle.fuse_spec.specs.Maps.{get};
-ghost use Rattle.fuse_spec.specs.Server.{count_in, forgotten, is_forgettable};
+ghost use Rattle.fuse_spec.specs.Values.Maps.{get};
+ghost use Rattle.fuse_spec.specs.Server.Server.{count_in, forgotten, is_forgettable};
 ghost use Rattle.fk_wire.specs.Pairs.{pairs_in};
 ghost use Rattle.fk_wire.specs.Requests.{request_content, request_message};
 ghost use Rattle.fuse_frames.specs.RequestTies.{body_in};
@@ -11,14 +11,14 @@ ghost use Rattle.fs_server.specs.declared.server.ServerFault.TheVariants.{Memory
 ghost use Rattle.fs_server.specs.Effects.{AnswersFrame, CanTake, RefusesFrame, request_fault};
 ghost use Rattle.fs_server.specs.Taking.{IsFaultless, IsTakeable, answers, forgets_too_many, is_spoken, knows};
 
-use crate::server::{COUNTER_END, Server, ServerFault};
+use crate::server::{ServerFault, ServerOf};
 use fk_wire::{Pairs, Request, RequestBody, read_request};
 use fs_files::Nodes;
 use fs_nodes::NodeStore;
 use fuse_spec::Minor;
-use std::alloc::Allocator;
+use fuse_spec::limits::COUNTER_END;
 
-impl<A: Allocator + Copy> Server<A> {
+impl<S: NodeStore> ServerOf<S> {
     /// Why `take` refuses a frame, want of memory aside. Where it gives none, only memory can be wanting.
     pub fn take_refusal(&self, bytes: &[u8]) -> Option<ServerFault>
         ensures refuses { IfSome result (RefusesFrame self.now bytes.now) }

@@ -13,4 +13,5 @@ mod settling;
 mod taking;
 
 pub use faults::{fault_reply, fault_reply_at};
-pub use server::{Done, Server, ServerFault, Took};
+pub use fs_nodes::NodeStore;
+pub use server::{Done, ListServer, Server, ServerFault, ServerOf, Took};

@@ -6,13 +6,15 @@ ghost use Rattle.fs_server.specs.Effects.{PerformsHeld, RefusesHeld};
 ghost use Rattle.fs_server.specs.Steps.{CanPerform};
 
 use crate::replies::{KeptReply, SentCopy};
-use crate::server::{COUNTER_END, Done, Server};
+use crate::server::{Done, ServerOf};
 use fs_files::ReplySpare;
+use fs_nodes::NodeStore;
 use fuse_frames::{ReplyCopy, ReplyRoom};
 use fuse_spec::Refusal;
-use std::alloc::{AllocError, Allocator};
+use fuse_spec::limits::COUNTER_END;
+use std::alloc::AllocError;
 
-impl<A: Allocator + Copy> Server<A> {
+impl<S: NodeStore> ServerOf<S> {
     /// Why a held request cannot be performed, want of memory aside: `NoSuch` where none is held under the unique, `Exhausted`
     /// where a counter from which it draws is at its end, or the lookups of a node that its reply tells would come to it.
     pub fn perform_refusal(&self, unique: u64) -> Option<Refusal>
@@ -38,7 +40,7 @@ impl<A: Allocator + Copy> Server<A> {
     ///
     /// `NoSuch` where no request is held under the unique, `Exhausted` where a counter is at its end or the lookups of a node would
     /// come to it; then `NoMemory`. The server is as before.
-    pub fn perform(&mut self, unique: u64) -> Result<Done<A>, Refusal>
+    pub fn perform(&mut self, unique: u64) -> Result<Done<S::Heap>, Refusal>
         ensures err { OnErr result (self.new ≡ self.old) }
         ensures refusal { IfErr result (λ refusal. RefusesHeld self.old unique refusal ⊎ (refusal ≡ NoMemory)) }
         ensures memory { IfErr result (λ refusal. refusal ≡ NoMemory → CanPerform self.old unique) }
@@ -59,7 +61,7 @@ impl<A: Allocator + Copy> Server<A> {
     }
 
     /// Performs a held request after an abort.
-    fn perform_lost(&mut self, unique: u64) -> Result<Done<A>, AllocError>
+    fn perform_lost(&mut self, unique: u64) -> Result<Done<S::Heap>, AllocError>
         requires aborted { self.old.aborted ≡ true }
         requires can { CanPerform self.old unique }
         ensures err { OnErr result (self.new ≡ self.old) }
@@ -79,7 +81,7 @@ impl<A: Allocator + Copy> Server<A> {
     }
 
     /// Performs a held request while the mount is not aborted.
-    fn perform_live(&mut self, unique: u64) -> Result<Done<A>, AllocError>
+    fn perform_live(&mut self, unique: u64) -> Result<Done<S::Heap>, AllocError>
         requires serving { self.old.aborted ≡ false }
         requires can { CanPerform self.old unique }
         ensures err { OnErr result (self.new ≡ self.old) }

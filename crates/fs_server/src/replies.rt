@@ -16,7 +16,7 @@ pub(crate) struct KeptReply<A: Allocator> {
 
 impl<A: Allocator> Model for KeptReply<A> {
     ghost use Rattle.std.specs.Coded.{codes};
-    ghost use Rattle.fuse_spec.specs.Server.{Kept};
+    ghost use Rattle.fuse_spec.specs.Server.Server.{Kept};
     ghost use Rattle.fs_files.specs.Replies.{sent_wire, IsSendable};
 
     ghost Value = { Kept };
@@ -63,7 +63,7 @@ pub(crate) struct SentCopy<A: Allocator> {
 
 impl<A: Allocator> Model for SentCopy<A> {
     ghost use Rattle.std.specs.Coded.{codes};
-    ghost use Rattle.fuse_spec.specs.Server.{Copy};
+    ghost use Rattle.fuse_spec.specs.Server.Server.{Copy};
     ghost use Rattle.fs_files.specs.Replies.{sent_wire};
 
     ghost Value = { Copy };

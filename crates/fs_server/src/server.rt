@@ -1,23 +1,21 @@
 //! The server: its state, and what is true of it.
 
 ghost use Rattle.std.specs.Prelude.{◌≡◌, ◌≤◌, false, IfOk};
-ghost use Rattle.fuse_spec.specs.Numbers.{max_validity};
-ghost use Rattle.fuse_spec.specs.Worlds.{first_server};
-ghost use Rattle.fuse_spec.specs.Copies.{connection_lost, remounted};
+ghost use Rattle.fuse_spec.specs.Values.Numbers.{max_validity};
+ghost use Rattle.fuse_spec.specs.World.Worlds.{first_server};
+ghost use Rattle.fuse_spec.specs.Server.Copies.{connection_lost, remounted};
 ghost use Rattle.fs_nodes.specs.Rows.{listed};
 ghost use Rattle.fs_server.specs.Effects.{is_past_end};
 
 use crate::replies::{KeptReply, SentCopy};
 use fs_files::{Files, HeldRequest};
+use fs_nodes::{ListNodes, NodeStore, NodeTable};
 use fuse_frames::ReplyCopy;
 use fuse_spec::{Minor, Taken, Validity};
 use fuse_tables::Table;
 use std::alloc::{AllocError, Allocator, Global};
 use std::marker::Model;
 use thiserror::Error;
-
-/// No counter gives a number from here on.
-pub(crate) const COUNTER_END: u64 = 0x4000_0000_0000_0000;
 
 /// What is wrong with a request frame: the first that applies.
 #[derive(Clone, Copy, Debug, PartialEq, Eq, Error)]
@@ -52,23 +50,29 @@ pub struct Took<A: Allocator = Global> {
     pub copy: Option<ReplyCopy<A>>,
 }
 
-/// The server's half of the protocol.
+/// The server's half of the protocol, over any table of held nodes.
 #[derive(Drop)]
-pub struct Server<A: Allocator + Copy = Global> {
-    pub(crate) alloc: A,
-    pub(crate) files: Files<A>,
-    pub(crate) held: Table<HeldRequest<A>, A>,
-    pub(crate) kept: Table<KeptReply<A>, A>,
-    pub(crate) copies: Table<SentCopy<A>, A>,
+pub struct ServerOf<S: NodeStore> {
+    pub(crate) alloc: S::Heap,
+    pub(crate) files: Files<S>,
+    pub(crate) held: Table<HeldRequest<S::Heap>, S::Heap>,
+    pub(crate) kept: Table<KeptReply<S::Heap>, S::Heap>,
+    pub(crate) copies: Table<SentCopy<S::Heap>, S::Heap>,
     pub(crate) next_copy: u64,
     pub(crate) validity: Validity,
     pub(crate) minor: Minor,
     pub(crate) is_aborted: bool,
 }
 
-impl<A: Allocator + Copy> Model for Server<A> {
+/// The server of the program.
+pub type Server<A = Global> = ServerOf<NodeTable<A>>;
+
+/// The server whose nodes stand in a plain list.
+pub type ListServer<A = Global> = ServerOf<ListNodes<A>>;
+
+impl<S: NodeStore> Model for ServerOf<S> {
     ghost use Rattle.std.specs.Coded.{codes};
-    ghost use Rattle.fuse_spec.specs.Server.{Server as ServerState};
+    ghost use Rattle.fuse_spec.specs.Server.Server.{Server as ServerState};
     ghost use Rattle.fs_server.specs.Values.{server_with};
     ghost use Rattle.fs_server.specs.Sound.{IsSound};
 
@@ -81,13 +85,13 @@ impl<A: Allocator + Copy> Model for Server<A> {
     ghost invariant = { λ s. IsSound s.files s.held.entries s.kept.entries s.copies.entries s.next_copy s.validity };
 }
 
-impl<A: Allocator + Copy> Server<A> {
+impl<S: NodeStore> ServerOf<S> {
     /// A server before its first mount: its tree is the root alone.
-    pub fn new(alloc: A) -> Result<Self, AllocError>
+    pub fn new(alloc: S::Heap) -> Result<Self, AllocError>
         ensures { IfOk result (λ server. server ≡ first_server) }
     {
         let files = Files::new(alloc)?;
-        Ok(Server {
+        Ok(ServerOf {
             alloc,
             files,
             held: Table::new(alloc),
@@ -153,7 +157,7 @@ impl<A: Allocator + Copy> Server<A> {
     }
 
     /// The held nodes but the root, in rising nodeid, each with its generation and its lookup count.
-    pub fn nodes(&self, alloc: A) -> Result<Vec<(u64, u64, u64), A>, AllocError>
+    pub fn nodes(&self, alloc: S::Heap) -> Result<Vec<(u64, u64, u64), S::Heap>, AllocError>
         ensures { IfOk result (λ nodes. nodes.items ≡ listed self.now.nodes.rows) }
     {
         self.files.nodes().nodes(alloc)

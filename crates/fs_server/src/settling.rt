@@ -1,20 +1,21 @@
 //! Copies are settled by the results of their writes.
 
 ghost use Rattle.std.specs.Prelude.{◌≡◌, ◌∷◌, [], OnErr, MatchResult, option_to_list};
-ghost use Rattle.fuse_spec.specs.Copies.{kept_after};
-ghost use Rattle.fuse_spec.specs.Maps.{get};
+ghost use Rattle.fuse_spec.specs.Server.Copies.{kept_after};
+ghost use Rattle.fuse_spec.specs.Values.Maps.{get};
 ghost use Rattle.fs_files.specs.Bounds.{AreNamed};
 ghost use Rattle.fs_files.specs.Replies.{sent_wire};
 ghost use Rattle.fs_server.specs.Effects.{CountsBack, GivesBack, SettlesFiles, Settles, HasNoCopy, is_of_copy};
 
 use crate::replies::{KeptReply, SentCopy};
-use crate::server::Server;
+use crate::server::ServerOf;
 use fs_files::{Files, SentReply};
+use fs_nodes::NodeStore;
 use fuse_spec::{Entry, Refusal, ReplyResult, WriteResult};
 use fuse_tables::Table;
 use std::alloc::Allocator;
 
-impl<A: Allocator + Copy> Server<A> {
+impl<S: NodeStore> ServerOf<S> {
     /// Hands the server the result of one copy. Its reply is not kept any longer, and what a refused copy carried is given back.
     /// No memory is taken.
     ///
@@ -54,9 +55,9 @@ fn keeps_first<A: Allocator + Copy>(kept: &Table<KeptReply<A>, A>, unique: u64, 
 }
 
 /// What the result of a copy makes of the files: a refused copy is counted back.
-fn settle_files<A: Allocator + Copy>(
-    files: &mut Files<A>,
-    reply: &SentReply<A>,
+fn settle_files<S: NodeStore>(
+    files: &mut Files<S>,
+    reply: &SentReply<S::Heap>,
     settled: WriteResult,
 )
     requires { AreNamed files.old.tree files.old.nodes files.old.handles }
@@ -70,7 +71,7 @@ fn settle_files<A: Allocator + Copy>(
 }
 
 /// Gives back what a refused copy carried, where it is still held, the node under the entry's generation.
-fn give_back<A: Allocator + Copy>(files: &mut Files<A>, reply: &SentReply<A>)
+fn give_back<S: NodeStore>(files: &mut Files<S>, reply: &SentReply<S::Heap>)
     requires { AreNamed files.old.tree files.old.nodes files.old.handles }
     ensures gives { GivesBack files.old (sent_wire reply.now) files.new }
     ensures named { AreNamed files.new.tree files.new.nodes files.new.handles }
@@ -80,7 +81,7 @@ fn give_back<A: Allocator + Copy>(files: &mut Files<A>, reply: &SentReply<A>)
 }
 
 /// Counts back the nodes of entries, one after another. Nameless files that nothing holds any longer go.
-fn entries_back<A: Allocator + Copy>(files: &mut Files<A>, told: &[Entry])
+fn entries_back<S: NodeStore>(files: &mut Files<S>, told: &[Entry])
     requires { AreNamed files.old.tree files.old.nodes files.old.handles }
     ensures { CountsBack files.old told.now [] files.new }
 {
@@ -90,7 +91,7 @@ fn entries_back<A: Allocator + Copy>(files: &mut Files<A>, told: &[Entry])
 }
 
 /// Counts back the node of an entry. A nameless file that nothing holds any longer goes.
-fn entry_back<A: Allocator + Copy>(files: &mut Files<A>, entry: &Entry)
+fn entry_back<S: NodeStore>(files: &mut Files<S>, entry: &Entry)
     requires { AreNamed files.old.tree files.old.nodes files.old.handles }
     ensures { CountsBack files.old (entry.now ∷ []) [] files.new }
 {
@@ -100,7 +101,7 @@ fn entry_back<A: Allocator + Copy>(files: &mut Files<A>, entry: &Entry)
 }
 
 /// Counts back an open number. A nameless file that nothing holds any longer goes.
-fn number_back<A: Allocator + Copy>(files: &mut Files<A>, fh: Option<u64>)
+fn number_back<S: NodeStore>(files: &mut Files<S>, fh: Option<u64>)
     requires { AreNamed files.old.tree files.old.nodes files.old.handles }
     ensures { CountsBack files.old [] (option_to_list fh) files.new }
 {

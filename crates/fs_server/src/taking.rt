@@ -2,8 +2,8 @@
 
 ghost use Rattle.std.specs.Prelude.{◌≡◌, ◌≤◌, ◌∷◌, [], true, false, None, nat_lt, OnErr, OnOk, IfErr, IfOk, MatchResult};
 ghost use Rattle.std.specs.List.{list_any};
-ghost use Rattle.fuse_spec.specs.Maps.{get};
-ghost use Rattle.fuse_spec.specs.Server.{count_in, forgetting, forgotten, holding};
+ghost use Rattle.fuse_spec.specs.Values.Maps.{get};
+ghost use Rattle.fuse_spec.specs.Server.Server.{count_in, forgetting, forgotten, holding};
 ghost use Rattle.fuse_spec.specs.declared.Taken.TheVariants.{Held as HeldWord};
 ghost use Rattle.fk_wire.specs.Pairs.{pairs_in};
 ghost use Rattle.fk_wire.specs.Requests.{request_content};
@@ -14,13 +14,13 @@ ghost use Rattle.fs_server.specs.Taking.{IsFaultless, body_of, forgets_in, forge
 
 use crate::holding::held_request;
 use crate::interrupting::took;
-use crate::server::{Server, ServerFault, Took};
+use crate::server::{ServerFault, ServerOf, Took};
 use fk_wire::{Pairs, Request, RequestBody};
 use fs_files::Files;
+use fs_nodes::NodeStore;
 use fuse_spec::Taken;
-use std::alloc::Allocator;
 
-impl<A: Allocator + Copy> Server<A> {
+impl<S: NodeStore> ServerOf<S> {
     /// Takes a request frame: forgets and INTERRUPTs are done at once, and any other request is held until it is performed. Memory is
     /// taken only by what is held and by an INTERRUPT that is answered.
     ///
@@ -28,7 +28,7 @@ impl<A: Allocator + Copy> Server<A> {
     ///
     /// The first of `Wire`, `UnknownNode`, `TooManyForgets`, `RepeatedUnique`, `Exhausted` and `Memory` that applies; the server is as
     /// before.
-    pub fn take(&mut self, bytes: &[u8]) -> Result<Took<A>, ServerFault>
+    pub fn take(&mut self, bytes: &[u8]) -> Result<Took<S::Heap>, ServerFault>
         ensures refused { OnErr result (self.new ≡ self.old) }
         ensures effect { MatchResult result (λ took. TakesFrame self.old bytes.now took self.new) (RefusesFrame self.old bytes.now) }
         ensures memory { IfErr result (λ fault. fault ≡ MemoryFault → WantsMemory self.old bytes.now) }
@@ -48,7 +48,7 @@ impl<A: Allocator + Copy> Server<A> {
     }
 
     /// Holds a request until it is performed.
-    fn hold(&mut self, request: &Request<'_>) -> Result<Took<A>, ServerFault>
+    fn hold(&mut self, request: &Request<'_>) -> Result<Took<S::Heap>, ServerFault>
         requires faultless { IsFaultless self.old request.now.unique request.now.nodeid (request_content request.now.body) }
         requires holds { is_held (request_content request.now.body) ≡ true }
         ensures refused { OnErr result (self.new ≡ self.old) }
@@ -86,7 +86,7 @@ fn is_forget(body: &RequestBody<'_>) -> bool
 }
 
 /// The same of the files that are served; each node has as many lookups.
-fn forget<A: Allocator + Copy>(files: &mut Files<A>, nodeid: u64, body: &RequestBody<'_>)
+fn forget<S: NodeStore>(files: &mut Files<S>, nodeid: u64, body: &RequestBody<'_>)
     requires enough { forgets_too_many files.old.nodes nodeid (request_content body.now) ≡ false }
     requires named { AreNamed files.old.tree files.old.nodes files.old.handles }
     ensures { TakesBack files.old (forgets_in nodeid (request_content body.now)) files.new }
@@ -99,7 +99,7 @@ fn forget<A: Allocator + Copy>(files: &mut Files<A>, nodeid: u64, body: &Request
 }
 
 /// Gives lookups of a node back, which has as many. A nameless file that nothing holds any longer goes.
-fn forget_one<A: Allocator + Copy>(files: &mut Files<A>, nodeid: u64, nlookup: u64)
+fn forget_one<S: NodeStore>(files: &mut Files<S>, nodeid: u64, nlookup: u64)
     requires enough { nlookup ≤ count_in (get files.old.nodes.rows nodeid) }
     requires named { AreNamed files.old.tree files.old.nodes files.old.handles }
     ensures { TakesBack files.old ((nodeid, nlookup) ∷ []) files.new }
@@ -110,7 +110,7 @@ fn forget_one<A: Allocator + Copy>(files: &mut Files<A>, nodeid: u64, nlookup: u
 }
 
 /// Gives lookups back, pair by pair.
-fn forget_all<A: Allocator + Copy>(files: &mut Files<A>, pairs: Pairs<'_>)
+fn forget_all<S: NodeStore>(files: &mut Files<S>, pairs: Pairs<'_>)
     requires enough { list_any (λ f. nat_lt (count_in (get files.old.nodes.rows f.0)) (forgotten f.0 (pairs_in pairs))) (pairs_in pairs) ≡ false }
     requires named { AreNamed files.old.tree files.old.nodes files.old.handles }
     ensures { TakesBack files.old (pairs_in pairs.entry) files.new }

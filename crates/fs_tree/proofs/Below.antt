@@ -2,12 +2,12 @@
 use Rattle.std.proofs.Common.{◌≡◌, ◌&&◌, ℕ, zero, suc, ◌≤◌, Bool, true, false, true≢false, not, cond, List, [], ◌∷◌, Option, Some, None, nat_eq, find, filter, length, refl, ap, sym, subst, ◌∙◌, arith, Contains, ◌⊎◌, inl, inr, ◌↔◌, eq-eqb}
 use Rattle.std.proofs.lemmas.Bool.Decides.{nat_tests}
 use Rattle.std.proofs.lemmas.List.Elements.{All-contains}
-use Rattle.fuse_spec.specs.Numbers.{enotdir, eisdir, einval, enotempty}
-use Rattle.fuse_spec.specs.Paths.{Name}
-use Rattle.fuse_spec.specs.Operations.{rename}
-use Rattle.fuse_spec.specs.Trees.{Tree, Named, file_at, is_directory, is_nameless, is_within, is_below}
-use Rattle.fuse_spec.specs.FileOperations.{Check, first_refusal, refusal, is_dir, is_file, is_filled, replaces}
-use Rattle.fuse_spec.specs.TreeShape.{IsBelow, is_top, is_in, IsShaped, Stands}
+use Rattle.fuse_spec.specs.Values.Numbers.{enotdir, eisdir, einval, enotempty}
+use Rattle.fuse_spec.specs.Calls.Paths.{Name}
+use Rattle.fuse_spec.specs.Files.Operations.{rename}
+use Rattle.fuse_spec.specs.Files.Trees.{Tree, Named, file_at, is_directory, is_nameless, is_within, is_below}
+use Rattle.fuse_spec.specs.Files.FileOperations.{Check, first_refusal, refusal, is_dir, is_file, is_filled, replaces}
+use Rattle.fuse_spec.specs.Files.TreeShape.{IsBelow, is_top, is_in, IsShaped, Stands}
 use Rattle.fs_tree.proofs.Keeping.{length-without}
 use Rattle.fs_tree.proofs.BySerial.{find-gone}
 use Rattle.fs_tree.proofs.NameLinks.{find-kept}

@@ -3,8 +3,8 @@ use Rattle.std.proofs.Common.{◌≡◌, ℕ, suc, Bool, true, false, not, cond,
 use Rattle.std.specs.Option.{option_map}
 use Rattle.std.proofs.lemmas.List.{map-append, append-nil}
 use Rattle.std.proofs.lemmas.Grind.{common_steps}
-use Rattle.fuse_spec.specs.Maps.{Map}
-use Rattle.fuse_spec.specs.Trees.{Content, Named, is_at, same_name}
+use Rattle.fuse_spec.specs.Values.Maps.{Map}
+use Rattle.fuse_spec.specs.Files.Trees.{Content, Named, is_at, same_name}
 use Rattle.fs_tree.specs.Stored.{Entry, in_directory, lead_in, listed, AreByDirectory}
 use Rattle.fs_tree.proofs.ListLemmas.{filter-map}
 

@@ -6,7 +6,7 @@ use Rattle.std.specs.Map.{lookup}
 use Rattle.std.proofs.lemmas.List.{map-append, append-nil}
 use Rattle.std.proofs.lemmas.List.Sums.{length-filter}
 use Rattle.std.proofs.lemmas.Grind.{common_steps}
-use Rattle.fuse_spec.specs.Trees.{Named}
+use Rattle.fuse_spec.specs.Files.Trees.{Named}
 use Rattle.fs_tree.specs.Stored.{AreBelow, IsRising, AreByFile, parent_of}
 use Rattle.fs_tree.specs.Views.{named_of}
 use Rattle.fs_tree.specs.declared.rows.Row.{Row}

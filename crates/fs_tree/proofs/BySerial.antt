@@ -2,7 +2,7 @@
 use Rattle.std.proofs.Common.{◌≡◌, ℕ, ◌+◌, ◌≤◌, ◌<◌, Bool, true, false, not, cond, ◌&&◌, List, [], ◌∷◌, ◌++◌, filter, find, Option, Some, None, refl, sym, ap, subst, ◌∙◌, arith, nat_eq}
 use Rattle.std.specs.Option.{option_map}
 use Rattle.std.proofs.lemmas.Grind.{common_steps}
-use Rattle.fuse_spec.specs.Trees.{Named, is_at, same_name}
+use Rattle.fuse_spec.specs.Files.Trees.{Named, is_at, same_name}
 use Rattle.fs_tree.specs.Stored.{IsRising, AreOnce, without_serial}
 use Rattle.fs_tree.proofs.ByDirectory.{filter-append, filter-swap, filter-none}
 use Rattle.fs_tree.proofs.EntryRows.{same_name-swap}

@@ -2,7 +2,7 @@
 use Rattle.std.proofs.Common.{◌≡◌, ◌≢◌, eq-eqb, ℕ, zero, suc, ◌+◌, ◌-◌, ◌<◌, true, false, List, Option, Some, None, find, nat_eq, refl, ap, ◌∙◌, arith}
 use Rattle.std.specs.Option.{option_map}
 use Rattle.std.proofs.lemmas.Grind.{common_steps}
-use Rattle.fuse_spec.specs.Trees.{Named, is_within}
+use Rattle.fuse_spec.specs.Files.Trees.{Named, is_within}
 
 -- the directory of the first name of a file
 abbrev pub parent_in : List Named → ℕ → Option ℕ

@@ -1,7 +1,7 @@
 -- Names that are the same.
 use Rattle.std.proofs.Common.{◌≡◌, ℕ, List, [], ◌∷◌, refl, nat_eq, arith}
 use Rattle.std.proofs.lemmas.Grind.{common_steps}
-use Rattle.fuse_spec.specs.Trees.{same_name}
+use Rattle.fuse_spec.specs.Files.Trees.{same_name}
 
 nat_eq-swap : (a b : ℕ) → nat_eq a b ≡ nat_eq b a
 nat_eq-swap a b = grind (arith, common_steps)

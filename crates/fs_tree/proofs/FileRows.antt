@@ -8,8 +8,8 @@ use Rattle.std.specs.BTreeMap.{insert_entry}
 use Rattle.std.specs.FinMap.Entries.{by_order}
 use Rattle.std.specs.Cmp.{nat_cmp_is}
 use Rattle.std.proofs.lemmas.Grind.{common_steps}
-use Rattle.fuse_spec.specs.Maps.{get, put, remove}
-use Rattle.fuse_spec.specs.Trees.{Content, kind_of}
+use Rattle.fuse_spec.specs.Values.Maps.{get, put, remove}
+use Rattle.fuse_spec.specs.Files.Trees.{Content, kind_of}
 use Rattle.fuse_spec.specs.declared.Kind.TheVariants.{Regular}
 use Rattle.fs_tree.specs.Stored.{AreBelow}
 use Rattle.fs_tree.specs.Views.{content_in, file_of}

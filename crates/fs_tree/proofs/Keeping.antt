@@ -5,8 +5,8 @@ use Rattle.std.specs.declared.cmp.Ordering.{Ordering}
 use Rattle.std.specs.FinMap.Entries.{by_order}
 use Rattle.std.specs.Cmp.{ranked}
 use Rattle.std.proofs.lemmas.List.Sums.{count_by-le-length, length-filter}
-use Rattle.fuse_spec.specs.Maps.{Map, get, put}
-use Rattle.fuse_spec.specs.Trees.{Content, Named, kind_of}
+use Rattle.fuse_spec.specs.Values.Maps.{Map, get, put}
+use Rattle.fuse_spec.specs.Files.Trees.{Content, Named, kind_of}
 use Rattle.std.specs.Option.{option_map}
 use Rattle.std.specs.Prelude.{IsTrue}
 use Rattle.fuse_spec.specs.declared.Kind.{Kind}

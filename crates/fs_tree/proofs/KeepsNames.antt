@@ -2,12 +2,12 @@
 use Rattle.std.proofs.Common.{◌≡◌, ℕ, ◌+◌, Bool, true, false, not, cond, [], ◌∷◌, Option, Some, None, IsSome, is_some, nat_eq, find, option_map, refl, ap, sym, subst, ◌∙◌, arith, ◌⊎◌, inl, inr, eq-eqb}
 use Rattle.std.proofs.lemmas.Bool.{cases_eq}
 use Rattle.std.proofs.lemmas.List.Elements.{All-filter}
-use Rattle.fuse_spec.specs.Maps.{get, put}
-use Rattle.fuse_spec.specs.Paths.{Name}
-use Rattle.fuse_spec.specs.Operations.{lookup, getattr, mkdir, create, unlink, rmdir, rename, link, opening, readdir, readdirplus, read, write}
-use Rattle.fuse_spec.specs.Trees.{Tree, Named, Content, a_directory, a_file, bytes_of, file_at, is_at, is_nameless, overwritten, with_birth, with_name, without_name}
-use Rattle.fuse_spec.specs.FileOperations.{FileOperation, is_same, renamed, tree_unrefused}
-use Rattle.fuse_spec.specs.TreeShape.{IsShaped, WritesRegular}
+use Rattle.fuse_spec.specs.Values.Maps.{get, put}
+use Rattle.fuse_spec.specs.Calls.Paths.{Name}
+use Rattle.fuse_spec.specs.Files.Operations.{lookup, getattr, mkdir, create, unlink, rmdir, rename, link, opening, readdir, readdirplus, read, write}
+use Rattle.fuse_spec.specs.Files.Trees.{Tree, Named, Content, a_directory, a_file, bytes_of, file_at, is_at, is_nameless, overwritten, with_birth, with_name, without_name}
+use Rattle.fuse_spec.specs.Files.FileOperations.{FileOperation, is_same, renamed, tree_unrefused}
+use Rattle.fuse_spec.specs.Files.TreeShape.{IsShaped, WritesRegular}
 use Rattle.fuse_spec.proofs.Tables.{get_put_there}
 use Rattle.fuse_spec.proofs.QueueCounts.{count_by-push}
 use Rattle.fs_tree.specs.Outcomes.{unnamed_by}

@@ -2,13 +2,13 @@
 use Rattle.std.proofs.Common.{◌≡◌, ◌≢◌, ℕ, ◌+◌, ◌≤◌, Bool, true, false, true≢false, not, cond, ◌&&◌, List, [], ◌∷◌, Option, Some, None, IsSome, is_some, nat_eq, nat_le, find, filter, length, count_by, option_map, refl, ap, sym, subst, ◌∙◌, arith, All, Contains, ◌⊎◌, inl, inr, eq-eqb}
 use Rattle.std.proofs.lemmas.List.Elements.{All-push, All-filter, All-contains, All-contains_itself}
 use Rattle.std.proofs.lemmas.List.Sums.{length-filter}
-use Rattle.fuse_spec.specs.Maps.{get, put}
-use Rattle.fuse_spec.specs.Numbers.{eperm, enoent, eexist, enotdir, eisdir, einval, enospc, enotempty, max_names}
-use Rattle.fuse_spec.specs.Paths.{Name}
-use Rattle.fuse_spec.specs.Operations.{lookup, getattr, mkdir, create, unlink, rmdir, rename, link, opening, readdir, readdirplus, read, write}
-use Rattle.fuse_spec.specs.Trees.{Tree, Named, Content, a_directory, a_file, is_at, file_at, bytes_of, overwritten, is_directory, is_nameless, is_empty, with_name, without_name, with_birth}
-use Rattle.fuse_spec.specs.FileOperations.{FileOperation, Check, first_refusal, refusal, making, is_dir, is_file, is_filled, is_same, is_moved_below, replaces, renamed, tree_or, tree_unrefused, tree_after}
-use Rattle.fuse_spec.specs.TreeShape.{IsShaped, Stands, WritesRegular, names_of}
+use Rattle.fuse_spec.specs.Values.Maps.{get, put}
+use Rattle.fuse_spec.specs.Values.Numbers.{eperm, enoent, eexist, enotdir, eisdir, einval, enospc, enotempty, max_names}
+use Rattle.fuse_spec.specs.Calls.Paths.{Name}
+use Rattle.fuse_spec.specs.Files.Operations.{lookup, getattr, mkdir, create, unlink, rmdir, rename, link, opening, readdir, readdirplus, read, write}
+use Rattle.fuse_spec.specs.Files.Trees.{Tree, Named, Content, a_directory, a_file, is_at, file_at, bytes_of, overwritten, is_directory, is_nameless, is_empty, with_name, without_name, with_birth}
+use Rattle.fuse_spec.specs.Files.FileOperations.{FileOperation, Check, first_refusal, refusal, making, is_dir, is_file, is_filled, is_same, is_moved_below, replaces, renamed, tree_or, tree_unrefused, tree_after}
+use Rattle.fuse_spec.specs.Files.TreeShape.{IsShaped, Stands, WritesRegular, names_of}
 use Rattle.fuse_spec.proofs.Tables.{get_put_here}
 use Rattle.fuse_spec.proofs.QueueCounts.{count_by-push}
 use Rattle.fs_tree.proofs.Counting.{found_passes, found_there, none_passes, none_counted, each_fails, only_one, count_where, count_kept, count_fewer, all_gone}

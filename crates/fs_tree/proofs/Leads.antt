@@ -1,8 +1,8 @@
 -- Names with their files, as READDIR and as READDIRPLUS list them.
 use Rattle.std.proofs.Common.{◌≡◌, ℕ, ◌+◌, ◌-◌, Bool, true, false, cond, List, [], ◌∷◌, map, Some, refl, sym, ap, ◌∙◌, arith, filter, nat_eq, nat_le, nat_lt}
-use Rattle.fuse_spec.specs.Maps.{Map}
-use Rattle.fuse_spec.specs.Operations.{Dirent, DirentPlus, files_told, first_told, told_by}
-use Rattle.fuse_spec.specs.Trees.{Content, Named, fitting, fitting_pairs, record_length}
+use Rattle.fuse_spec.specs.Values.Maps.{Map}
+use Rattle.fuse_spec.specs.Files.Operations.{Dirent, DirentPlus, files_told, first_told, told_by}
+use Rattle.fuse_spec.specs.Files.Trees.{Content, Named, fitting, fitting_pairs, record_length}
 use Rattle.fs_tree.specs.Stored.{dirent_in, files_led, fitting_with, lead_in, lead_pair, listed}
 use Rattle.fs_tree.specs.Views.{dirent_of, lead_of, pair_of}
 use Rattle.fs_tree.specs.declared.listing.Record.{Record}

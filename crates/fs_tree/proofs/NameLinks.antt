@@ -10,8 +10,8 @@ use Rattle.std.specs.Map.{lookup, keys_of, KeepsOthers}
 use Rattle.std.specs.BTreeMap.{insert_entry}
 use Rattle.std.proofs.lemmas.List.{map-append, append-nil, append_assoc}
 use Rattle.std.proofs.lemmas.Grind.{common_steps}
-use Rattle.fuse_spec.specs.Operations.{Dirent, first_told, told_by}
-use Rattle.fuse_spec.specs.Trees.{same_name, record_length}
+use Rattle.fuse_spec.specs.Files.Operations.{Dirent, first_told, told_by}
+use Rattle.fuse_spec.specs.Files.Trees.{same_name, record_length}
 use Rattle.fs_tree.specs.Stored.{Entry, AreBefore, AreBelow, AreNamedOnce, IsRising, files_led, fitting_with, in_directory, lead_pair, without_key}
 use Rattle.fs_tree.specs.EntryViews.{entry_of, link_of, entry_link, link_in, AreLinked}
 use Rattle.fs_tree.specs.declared.entries.Leaf.{Leaf}

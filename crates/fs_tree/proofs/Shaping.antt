@@ -7,11 +7,11 @@ use Rattle.std.proofs.lemmas.List.Elements.{All-nil, All-push, All-filter, All-c
 use Rattle.std.specs.FinMap.{nat_cmp-IsAntisymmetric}
 use Rattle.std.specs.FinMap.Entries.{find-where_key}
 use Rattle.std.specs.Ordering.{nat_cmp}
-use Rattle.fuse_spec.specs.Maps.{Map, get, put, remove}
-use Rattle.fuse_spec.specs.Paths.{Name}
+use Rattle.fuse_spec.specs.Values.Maps.{Map, get, put, remove}
+use Rattle.fuse_spec.specs.Calls.Paths.{Name}
 use Rattle.fuse_spec.specs.declared.Kind.TheVariants.{Regular}
-use Rattle.fuse_spec.specs.Trees.{Tree, Named, Content, a_directory, a_file, is_at, same_name, kind_of, is_kind_directory, is_directory, is_nameless, is_empty, with_name}
-use Rattle.fuse_spec.specs.TreeShape.{IsShaped, Stands, names_of}
+use Rattle.fuse_spec.specs.Files.Trees.{Tree, Named, Content, a_directory, a_file, is_at, same_name, kind_of, is_kind_directory, is_directory, is_nameless, is_empty, with_name}
+use Rattle.fuse_spec.specs.Files.TreeShape.{IsShaped, Stands, names_of}
 use Rattle.fuse_spec.proofs.Tables.{tie_no, get_put_here, get_put_there, get_gone_there, get_gone}
 use Rattle.fuse_spec.proofs.QueueCounts.{count_by-push}
 use Rattle.fs_tree.specs.Outcomes.{discarded, only_root, without_nameless}

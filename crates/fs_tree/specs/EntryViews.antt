@@ -3,7 +3,7 @@ use Rattle.std.specs.Prelude.{◌≡◌, ℕ, List, Option, Vec, find, nat_eq}
 use Rattle.std.specs.Option.{option_map}
 use Rattle.std.specs.Map.{lookup}
 use Rattle.std.specs.Cmp.Lexicographic.{pointwise}
-use Rattle.fuse_spec.specs.Trees.{same_name}
+use Rattle.fuse_spec.specs.Files.Trees.{same_name}
 use Rattle.fs_tree.specs.Stored.{Entry}
 use Rattle.fs_tree.specs.declared.entries.Leaf.{Leaf}
 use Rattle.fs_tree.specs.declared.entries.Link.{Link}

@@ -3,11 +3,11 @@ use Rattle.std.specs.Prelude.{◌≡◌, ℕ, Bool, true, false, ◌&&◌, ◌||
 use Rattle.fuse_spec.specs.declared.Validity.{Validity}
 use Rattle.fuse_spec.specs.declared.Kind.{Kind}
 use Rattle.fuse_spec.specs.declared.Kind.TheVariants.{Directory, Regular, Other}
-use Rattle.fuse_spec.specs.Numbers.{eperm, enoent, eexist, enotdir, eisdir, einval, efbig, enospc, enotempty}
-use Rattle.fuse_spec.specs.Maps.{get, remove}
-use Rattle.fuse_spec.specs.Operations.{Reply, unlink, rmdir, rename}
-use Rattle.fuse_spec.specs.Trees.{Tree, a_directory, file_at, kind_of, is_nameless}
-use Rattle.fuse_spec.specs.FileOperations.{FileOperation, Check, is_dir, is_file, is_filled, refusal, reply_unrefused}
+use Rattle.fuse_spec.specs.Values.Numbers.{eperm, enoent, eexist, enotdir, eisdir, einval, efbig, enospc, enotempty}
+use Rattle.fuse_spec.specs.Values.Maps.{get, remove}
+use Rattle.fuse_spec.specs.Files.Operations.{Reply, unlink, rmdir, rename}
+use Rattle.fuse_spec.specs.Files.Trees.{Tree, a_directory, file_at, kind_of, is_nameless}
+use Rattle.fuse_spec.specs.Files.FileOperations.{FileOperation, Check, is_dir, is_file, is_filled, refusal, reply_unrefused}
 use Rattle.fs_tree.specs.declared.error.TreeError.{TreeError}
 use Rattle.fs_tree.specs.declared.error.TreeError.TheVariants.{NotPermitted, NotFound, NoMemory, AlreadyExists, NotADirectory, IsADirectory, Invalid, FileTooLarge, NoSpace, NotEmpty}
 

@@ -2,9 +2,9 @@
 use Rattle.std.specs.Prelude.{◌≡◌, ℕ, ◌+◌, ◌-◌, ◌<◌, ◌≤◌, ◌^◌, cond, List, [], ◌∷◌, Option, Some, None, length, map, filter, find, not, nat_eq, nat_le, nat_lt}
 use Rattle.std.specs.Map.{lookup}
 use Rattle.std.specs.Option.{unwrap_or}
-use Rattle.fuse_spec.specs.Maps.{Map, get}
-use Rattle.fuse_spec.specs.Operations.{Dirent, DirentPlus, files_told}
-use Rattle.fuse_spec.specs.Trees.{Content, Named, is_at, kind_of, record_length, same_name}
+use Rattle.fuse_spec.specs.Values.Maps.{Map, get}
+use Rattle.fuse_spec.specs.Files.Operations.{Dirent, DirentPlus, files_told}
+use Rattle.fuse_spec.specs.Files.Trees.{Content, Named, is_at, kind_of, record_length, same_name}
 
 -- The record of READDIR for a name of one of these files.
 abbrev pub dirent_in : Map Content → Named → Dirent

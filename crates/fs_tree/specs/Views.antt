@@ -1,8 +1,8 @@
 -- What the stored names, files and records stand for.
 use Rattle.std.specs.Prelude.{ℕ, ◌+◌, Some}
-use Rattle.fuse_spec.specs.Trees as plain
-use Rattle.fuse_spec.specs.Trees.{Named, a_directory, a_file}
-use Rattle.fuse_spec.specs.Operations.{Dirent, DirentPlus}
+use Rattle.fuse_spec.specs.Files.Trees as plain
+use Rattle.fuse_spec.specs.Files.Trees.{Named, a_directory, a_file}
+use Rattle.fuse_spec.specs.Files.Operations.{Dirent, DirentPlus}
 use Rattle.fs_tree.specs.declared.rows.Row.{Row}
 use Rattle.fs_tree.specs.declared.files.Content.{Content}
 use Rattle.fs_tree.specs.declared.files.Content.TheVariants.{Directory, Regular}

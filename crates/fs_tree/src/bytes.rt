@@ -1,14 +1,15 @@
 //! Reading and writing the bytes of a file.
 
 ghost use Rattle.std.specs.Prelude.{◌≡◌, ◌+◌, ◌≤◌, ◌<◌, ◌^◌, IfNone, length, take, drop, min, IfErr, OnOk, OnErr, IfOk, None, IsTrue, true, ◌↔◌};
-ghost use Rattle.fuse_spec.specs.Operations.{getattr, opening, read, write, content, attributes};
-ghost use Rattle.fuse_spec.specs.Trees.{attributes_of, overwritten};
-ghost use Rattle.fuse_spec.specs.FileOperations.{refusal, tree_unrefused};
+ghost use Rattle.fuse_spec.specs.Files.Operations.{getattr, opening, read, write, content, attributes};
+ghost use Rattle.fuse_spec.specs.Files.Trees.{attributes_of, overwritten};
+ghost use Rattle.fuse_spec.specs.Files.FileOperations.{refusal, tree_unrefused};
 ghost use Rattle.fs_tree.specs.Outcomes.{IsRefused, IsRefusedBy, IsReply, is_regular};
 
 use crate::error::TreeError;
 use crate::tree::{ROOT, Tree};
-use crate::{Attributes, Kind, MOST_BYTES, MOST_READ};
+use crate::{Attributes, Kind};
+use fuse_spec::limits::{MAX_FILE, MAX_TRANSFER};
 use std::alloc::{AllocError, Allocator};
 
 impl<A: Allocator + Copy> Tree<A> {
@@ -48,7 +49,7 @@ impl<A: Allocator + Copy> Tree<A> {
         ensures { IsReply self.now (read file offset size) (content result.now) }
     {
         let bytes = bytes_from(self.files.bytes(file), offset as usize);
-        first_bytes(bytes, size.min(MOST_READ) as usize)
+        first_bytes(bytes, size.min(MAX_TRANSFER) as usize)
     }
 
     /// Writes bytes into a regular file. A gap between its end and the offset becomes zeros. EFBIG past 65,536 bytes.
@@ -74,7 +75,7 @@ impl<A: Allocator + Copy> Tree<A> {
 pub(crate) fn fits(offset: u64, len: usize) -> bool
     ensures { (result ≡ true) ↔ (offset + len ≤ 65536) }
 {
-    offset <= MOST_BYTES && len as u64 <= MOST_BYTES - offset
+    offset <= MAX_FILE && len as u64 <= MAX_FILE - offset
 }
 
 /// The bytes with others written over them from an offset on. A gap is zeros.

@@ -2,7 +2,7 @@
 
 ghost use Rattle.std.specs.Prelude.{◌≡◌, ℕ, ◌++◌, ◌∷◌, [], not, filter, nat_eq, cond, IsSome, OnErr, OnOk};
 ghost use Rattle.std.specs.Map.{lookup};
-ghost use Rattle.fuse_spec.specs.Trees.{same_name};
+ghost use Rattle.fuse_spec.specs.Files.Trees.{same_name};
 ghost use Rattle.fs_tree.specs.Stored.{AreBefore, entries_in};
 
 use crate::entries::{Entries, Link};

@@ -1,13 +1,13 @@
 //! The names in one directory.
 
 ghost use Rattle.std.specs.Prelude.{◌≡◌, ◌++◌, ◌∷◌, [], not, filter, find, map, nat_eq, nat_lt, length, option_map, ◌≤◌, ◌<◌, ◌+◌, cond, None, Some, IfOk, OnErr, OnOk};
-ghost use Rattle.fuse_spec.specs.Maps.{Map};
-ghost use Rattle.fuse_spec.specs.Trees.{Content, same_name};
+ghost use Rattle.fuse_spec.specs.Values.Maps.{Map};
+ghost use Rattle.fuse_spec.specs.Files.Trees.{Content, same_name};
 ghost use Rattle.std.specs.Ordering.{nat_cmp};
 ghost use Rattle.std.specs.BTreeMap.{IsOrdered};
 ghost use Rattle.arrayvec.specs.ArrayVec.{array_vec_len};
-ghost use Rattle.fuse_spec.specs.Operations.{first_told};
-ghost use Rattle.fuse_spec.specs.Paths.{is_dots};
+ghost use Rattle.fuse_spec.specs.Files.Operations.{first_told};
+ghost use Rattle.fuse_spec.specs.Calls.Paths.{is_dots};
 ghost use Rattle.fs_tree.specs.Stored.{AreBefore, files_led, fitting_with, in_directory, lead_in, without_key};
 ghost use Rattle.fs_tree.specs.Views.{lead_of};
 

@@ -1,8 +1,8 @@
 //! The files of a tree: what each is.
 
 ghost use Rattle.std.specs.Prelude.{◌≡◌, [], Some, filter, not, cond, count_by, nat_eq, OnErr, OnOk};
-ghost use Rattle.fuse_spec.specs.Maps.{get, put, remove};
-ghost use Rattle.fuse_spec.specs.Trees.{kind_of, bytes_of, a_file};
+ghost use Rattle.fuse_spec.specs.Values.Maps.{get, put, remove};
+ghost use Rattle.fuse_spec.specs.Files.Trees.{kind_of, bytes_of, a_file};
 ghost use Rattle.fuse_spec.specs.declared.Kind.TheVariants.{Regular};
 ghost use Rattle.fs_tree.specs.Views.{content_in};
 
@@ -48,8 +48,8 @@ pub(crate) struct Files<A: Allocator> {
 
 impl<A: Allocator> Model for Files<A> {
     ghost use Rattle.std.specs.Prelude.{map};
-    ghost use Rattle.fuse_spec.specs.Maps.{Map};
-    ghost use Rattle.fuse_spec.specs.Trees as plain;
+    ghost use Rattle.fuse_spec.specs.Values.Maps.{Map};
+    ghost use Rattle.fuse_spec.specs.Files.Trees as plain;
 
     ghost Value = { Map plain.Content };
 

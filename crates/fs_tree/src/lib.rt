@@ -24,12 +24,3 @@ pub use error::TreeError;
 pub use fuse_spec::{Attributes, Kind};
 pub use listing::{MOST_LISTED, Record, is_dots};
 pub use tree::{ROOT, Tree};
-
-/// The most names in a tree.
-pub const MOST_NAMES: usize = 4096;
-
-/// The most bytes in a file.
-pub const MOST_BYTES: u64 = 65_536;
-
-/// The most bytes that one read, or one list of names, gives.
-pub const MOST_READ: u32 = 4096;

@@ -1,17 +1,18 @@
 //! Reading a directory.
 
 ghost use Rattle.std.specs.Prelude.{◌≡◌, ◌+◌, ◌*◌, ◌/◌, ◌<◌, ◌^◌, ◌≤◌, map, length, None, IfOk, IfErr};
-ghost use Rattle.fuse_spec.specs.FileOperations.{refusal, reply_unrefused};
-ghost use Rattle.fuse_spec.specs.Operations.{files_in_reply, readdir, readdirplus, listed, listed_plus};
-ghost use Rattle.fuse_spec.specs.Paths.{is_dots};
+ghost use Rattle.fuse_spec.specs.Files.FileOperations.{refusal, reply_unrefused};
+ghost use Rattle.fuse_spec.specs.Files.Operations.{files_in_reply, readdir, readdirplus, listed, listed_plus};
+ghost use Rattle.fuse_spec.specs.Calls.Paths.{is_dots};
 ghost use Rattle.fuse_spec.specs.declared.Validity.{Validity};
 ghost use Rattle.fs_tree.specs.Outcomes.{IsRefused, IsReply};
 ghost use Rattle.fs_tree.specs.Views.{dirent_of, pair_of};
 
+use crate::Kind;
 use crate::error::TreeError;
 use crate::tree::Tree;
-use crate::{Kind, MOST_READ};
 use arrayvec::ArrayVec;
+use fuse_spec::limits::MAX_TRANSFER;
 use std::alloc::{AllocError, Allocator};
 
 /// How long the entry of a name is in a reply to READDIRPLUS (`struct fuse_entry_out`).
@@ -45,7 +46,7 @@ impl<A: Allocator + Copy> Tree<A> {
         if !self.is_directory(directory) {
             return Err(TreeError::NotADirectory);
         }
-        let room = size.min(MOST_READ) as usize;
+        let room = size.min(MAX_TRANSFER) as usize;
         Ok(self.names.list(&self.files, directory, offset, room, 0)?)
     }
 
@@ -63,7 +64,7 @@ impl<A: Allocator + Copy> Tree<A> {
         if !self.is_directory(directory) {
             return Err(TreeError::NotADirectory);
         }
-        let room = size.min(MOST_READ) as usize;
+        let room = size.min(MAX_TRANSFER) as usize;
         let records = self
             .names
             .list(&self.files, directory, offset, room, ENTRY_LEN)?;
@@ -74,7 +75,7 @@ impl<A: Allocator + Copy> Tree<A> {
     pub fn files_listed(&self, directory: u64, offset: u64, size: u32) -> ArrayVec<u64, MOST_LISTED>
         ensures { (valid : Validity) → result.items ≡ files_in_reply (reply_unrefused valid self.now (readdirplus directory offset size)) }
     {
-        let room = size.min(MOST_READ) as usize;
+        let room = size.min(MAX_TRANSFER) as usize;
         self.names.files_listed(directory, offset, room)
     }
 }

@@ -1,8 +1,8 @@
 //! The names of a tree.
 
 ghost use Rattle.std.specs.Prelude.{◌≡◌, ◌++◌, ◌∷◌, [], ◌<◌, ◌^◌, not, filter, find, map, length, count_by, nat_eq, option_map, OnOk, OnErr, IfOk, ◌≤◌, ◌&&◌, false, None};
-ghost use Rattle.fuse_spec.specs.Maps.{Map};
-ghost use Rattle.fuse_spec.specs.Trees.{Content, is_at, is_within, same_name};
+ghost use Rattle.fuse_spec.specs.Values.Maps.{Map};
+ghost use Rattle.fuse_spec.specs.Files.Trees.{Content, is_at, is_within, same_name};
 ghost use Rattle.fs_tree.specs.Views.{lead_of};
 ghost use Rattle.fs_tree.specs.Stored.{files_led, fitting_with, listed, AreRising, IsRising};
 
@@ -26,7 +26,7 @@ pub(crate) struct Names<A: Allocator> {
 
 impl<A: Allocator> Model for Names<A> {
     ghost use Rattle.std.specs.Prelude.{List};
-    ghost use Rattle.fuse_spec.specs.Trees.{Named};
+    ghost use Rattle.fuse_spec.specs.Files.Trees.{Named};
 
     ghost Value = { List Named };
 

@@ -1,9 +1,9 @@
 //! What changes the names and the files of a tree.
 
 ghost use Rattle.std.specs.Prelude.{◌≡◌, ◌≢◌, ◌+◌, ◌^◌, ◌<◌, ◌≤◌, IfOk, IfErr, OnOk, OnErr, None};
-ghost use Rattle.fuse_spec.specs.Operations.{mkdir, create, unlink, rmdir, link, rename};
-ghost use Rattle.fuse_spec.specs.Trees.{file_at, with_birth};
-ghost use Rattle.fuse_spec.specs.FileOperations.{refusal, tree_unrefused, is_same};
+ghost use Rattle.fuse_spec.specs.Files.Operations.{mkdir, create, unlink, rmdir, link, rename};
+ghost use Rattle.fuse_spec.specs.Files.Trees.{file_at, with_birth};
+ghost use Rattle.fuse_spec.specs.Files.FileOperations.{refusal, tree_unrefused, is_same};
 ghost use Rattle.fs_tree.specs.Outcomes.{IsRefused, IsRefusedBy, discarded, without_nameless};
 ghost use Rattle.fs_tree.specs.Views.{content_in};
 

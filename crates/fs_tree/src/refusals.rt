@@ -1,15 +1,15 @@
 //! The first refusal that applies to an operation, if any.
 
 ghost use Rattle.std.specs.Prelude.{◌≡◌, ◌<◌, IfNone, length, find, Some, None};
-ghost use Rattle.fuse_spec.specs.Operations.{mkdir, unlink, rmdir, link, rename, write};
-ghost use Rattle.fuse_spec.specs.FileOperations.{refusal, first_refusal, making};
-ghost use Rattle.fuse_spec.specs.Trees.{is_at};
+ghost use Rattle.fuse_spec.specs.Files.Operations.{mkdir, unlink, rmdir, link, rename, write};
+ghost use Rattle.fuse_spec.specs.Files.FileOperations.{refusal, first_refusal, making};
+ghost use Rattle.fuse_spec.specs.Files.Trees.{is_at};
 ghost use Rattle.fs_tree.specs.Outcomes.{Refuses, replacing};
 
-use crate::MOST_NAMES;
 use crate::bytes::fits;
 use crate::error::TreeError;
 use crate::tree::Tree;
+use fuse_spec::limits::MAX_NAMES;
 use std::alloc::Allocator;
 
 impl<A: Allocator + Copy> Tree<A> {
@@ -36,7 +36,7 @@ impl<A: Allocator + Copy> Tree<A> {
     {
         if self.names.file_at(directory, name).is_some() {
             Some(TreeError::AlreadyExists)
-        } else if self.names.len() >= MOST_NAMES {
+        } else if self.names.len() >= MAX_NAMES {
             Some(TreeError::NoSpace)
         } else {
             None

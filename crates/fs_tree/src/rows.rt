@@ -27,7 +27,7 @@ pub(crate) struct Rows<A: Allocator> {
 
 impl<A: Allocator> Model for Rows<A> {
     ghost use Rattle.std.specs.Prelude.{List, map};
-    ghost use Rattle.fuse_spec.specs.Trees.{Named};
+    ghost use Rattle.fuse_spec.specs.Files.Trees.{Named};
 
     ghost Value = { List Named };
 

@@ -1,12 +1,12 @@
 //! What is true of the trees of the definitions. The functions do nothing: each contract is a law.
 
 ghost use Rattle.std.specs.Prelude.{◌≡◌, ℕ, true, false, Some, ◌↔◌};
-ghost use Rattle.fuse_spec.specs.Numbers.{einval};
-ghost use Rattle.fuse_spec.specs.Paths.{Name};
-ghost use Rattle.fuse_spec.specs.Operations.{rename};
-ghost use Rattle.fuse_spec.specs.FileOperations.{FileOperation, refusal, tree_after};
-ghost use Rattle.fuse_spec.specs.Trees.{Tree, is_directory, is_nameless, is_empty, is_below, file_at};
-ghost use Rattle.fuse_spec.specs.TreeShape.{IsBelow, IsShaped, WritesRegular};
+ghost use Rattle.fuse_spec.specs.Values.Numbers.{einval};
+ghost use Rattle.fuse_spec.specs.Calls.Paths.{Name};
+ghost use Rattle.fuse_spec.specs.Files.Operations.{rename};
+ghost use Rattle.fuse_spec.specs.Files.FileOperations.{FileOperation, refusal, tree_after};
+ghost use Rattle.fuse_spec.specs.Files.Trees.{Tree, is_directory, is_nameless, is_empty, is_below, file_at};
+ghost use Rattle.fuse_spec.specs.Files.TreeShape.{IsBelow, IsShaped, WritesRegular};
 ghost use Rattle.fs_tree.specs.Outcomes.{discarded, only_root, without_nameless};
 
 /// A directory is found to be below another one exactly where its parents lead there.

@@ -1,10 +1,10 @@
 //! The tree: its files, its names, and what is read from it.
 
 ghost use Rattle.std.specs.Prelude.{◌≡◌, ◌+◌, ◌^◌, ◌<◌, ◌≤◌, IfOk, IfErr, None, count_by, nat_eq};
-ghost use Rattle.fuse_spec.specs.Operations.{lookup};
-ghost use Rattle.fuse_spec.specs.Trees.{is_directory, is_nameless, links, file_at};
-ghost use Rattle.fuse_spec.specs.FileOperations.{refusal};
-ghost use Rattle.fuse_spec.specs.TreeShape.{IsShaped};
+ghost use Rattle.fuse_spec.specs.Files.Operations.{lookup};
+ghost use Rattle.fuse_spec.specs.Files.Trees.{is_directory, is_nameless, links, file_at};
+ghost use Rattle.fuse_spec.specs.Files.FileOperations.{refusal};
+ghost use Rattle.fuse_spec.specs.Files.TreeShape.{IsShaped};
 ghost use Rattle.fs_tree.specs.Outcomes.{IsRefusedBy, only_root};
 ghost use Rattle.fs_tree.specs.Stored.{IsRising};
 
@@ -12,14 +12,12 @@ use crate::Kind;
 use crate::error::TreeError;
 use crate::files::{Content, Files};
 use crate::names::Names;
+use fuse_spec::limits::COUNTER_END;
 use std::alloc::{AllocError, Allocator, Global};
 use std::marker::Model;
 
 /// The birth of the root.
 pub const ROOT: u64 = 0;
-
-/// No birth and no serial is drawn from here on.
-const COUNTER_END: u64 = 1 << 62;
 
 /// A tree of files.
 #[derive(Drop)]
@@ -32,11 +30,11 @@ pub struct Tree<A: Allocator = Global> {
 }
 
 impl<A: Allocator> Model for Tree<A> {
-    ghost use Rattle.fuse_spec.specs.Trees.{Tree};
+    ghost use Rattle.fuse_spec.specs.Files.Trees.{Tree};
 
     ghost Value = { Tree };
 
-    ghost use Rattle.fuse_spec.specs.TreeShape.{IsShaped};
+    ghost use Rattle.fuse_spec.specs.Files.TreeShape.{IsShaped};
     ghost use Rattle.fs_tree.specs.Stored.{IsKept};
 
     ghost view = { λ t. record { files = t.files; names = t.names; next_birth = t.next_birth; next_serial = t.next_serial } };

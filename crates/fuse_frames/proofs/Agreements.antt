@@ -4,7 +4,7 @@ use Rattle.std.specs.Int.RustNames.{bit_and}
 use Rattle.std.proofs.lemmas.Nat.{and_assoc}
 use Rattle.fk_wire.specs.Requests.{known_flags}
 use Rattle.fk_wire.proofs.Masks.{and_again}
-use Rattle.fuse_spec.specs.Numbers.{async_read, init_flags}
+use Rattle.fuse_spec.specs.Values.Numbers.{async_read, init_flags}
 
 -- the flags that 7.31 knows
 pub known_again : (x : ℕ) → bit_and (bit_and x known_flags) init_flags ≡ bit_and x known_flags

@@ -20,8 +20,8 @@ use Rattle.fk_wire.specs.declared.entry.Attr.{Attr}
 use Rattle.fuse_spec.specs.declared.Kind.{Kind}
 use Rattle.fuse_spec.specs.declared.Kind.TheVariants.{Directory, Regular, Other}
 use Rattle.fuse_spec.specs.declared.Attributes.{Attributes}
-use Rattle.fuse_spec.specs.Numbers.{max_validity}
-use Rattle.fuse_spec.specs.Operations.{DirentPlus}
+use Rattle.fuse_spec.specs.Values.Numbers.{max_validity}
+use Rattle.fuse_spec.specs.Files.Operations.{DirentPlus}
 use Rattle.fuse_frames.specs.ReplyTies.{pairs_listed, pairs_told, entry_told, entry_for, file_in, valid_in, pair_in, pair_of, dirent_in, dirent_of, attr_of, attributes_in, kind_of_mode, mode_of, milliseconds, framed_by, message_of}
 use Rattle.fuse_frames.proofs.ReplyLemmas.{reads_as_itself}
 

@@ -15,11 +15,11 @@ use Rattle.fk_wire.specs.ReplyFaults.{ReplyFaultIsAt}
 use Rattle.fk_wire.proofs.OneReply.{decoded_reply_is, no_reply_fault, error_fits}
 use Rattle.fk_wire.proofs.Frames.{spells_reply}
 use Rattle.fuse_spec.specs.declared.Opened.{Opened}
-use Rattle.fuse_spec.specs.Messages.{WireReply, asks}
-use Rattle.fuse_spec.specs.Numbers.{max_validity}
-use Rattle.fuse_spec.specs.Operations as reply
-use Rattle.fuse_spec.specs.Operations.{Operation}
-use Rattle.fuse_spec.specs.Replies.{goes_with, is_init_reply, is_empty_reply}
+use Rattle.fuse_spec.specs.Kernel.Messages.{WireReply, asks}
+use Rattle.fuse_spec.specs.Values.Numbers.{max_validity}
+use Rattle.fuse_spec.specs.Files.Operations as reply
+use Rattle.fuse_spec.specs.Files.Operations.{Operation}
+use Rattle.fuse_spec.specs.Kernel.Replies.{goes_with, is_init_reply, is_empty_reply}
 use Rattle.fuse_frames.specs.ReplyTies.{SaysReply, IsReplyFrame, Framed, framed_by, framed_in, message_of, content_of, error_of, has_reply, wire_said, wire_body, milliseconds}
 use Rattle.fuse_frames.specs.RequestTies.{asked_opcode}
 

@@ -8,8 +8,8 @@ use Rattle.fk_wire.specs.Requests.{RequestContent, RequestMessage, request_conte
 use Rattle.fk_wire.specs.Opcodes.{served, knows as knows_opcode}
 use Rattle.fk_wire.proofs.OneRequest.{decoded_is}
 use Rattle.fk_wire.proofs.Frames.{spells}
-use Rattle.fuse_spec.specs.Messages.{RequestBody, Request}
-use Rattle.fuse_spec.specs.Server.{knows}
+use Rattle.fuse_spec.specs.Kernel.Messages.{RequestBody, Request}
+use Rattle.fuse_spec.specs.Server.Server.{knows}
 use Rattle.fuse_spec.specs.declared.Minor.{Minor}
 use Rattle.fuse_spec.specs.declared.Minor.TheVariants.{M15, M31}
 use Rattle.fuse_frames.specs.RequestTies.{SaysRequest, SaysRequestAt, codec_minor, IsRequestFrame, request_in, body_in, body_or, asked_opcode, content_of}

@@ -10,14 +10,14 @@ use Rattle.fk_wire.specs.Fields.{sizes}
 use Rattle.fk_wire.specs.Replies.{ReplyContent, empty_reply, entry_reply, attr_reply, open_reply, bytes_reply, write_reply, init_reply, create_reply, records_reply, plus_reply, ReplyMessage, GoesWith, SpellsReply, WrittenReply, IsErrorNumber, IsReplyContent, HasReplyNames, kind_of_content, knows_kind, reply_body}
 use Rattle.fk_wire.specs.Opcodes.{served}
 use Rattle.fk_wire.specs.Decoded.{decoded_reply}
-use Rattle.fuse_spec.specs.Numbers.{max_transfer, max_validity}
-use Rattle.fuse_spec.specs.Operations as reply
-use Rattle.fuse_spec.specs.Operations.{Dirent, DirentPlus}
+use Rattle.fuse_spec.specs.Values.Numbers.{max_transfer, max_validity}
+use Rattle.fuse_spec.specs.Files.Operations as reply
+use Rattle.fuse_spec.specs.Files.Operations.{Dirent, DirentPlus}
 use Rattle.fuse_spec.specs.declared.Kind.{Kind}
 use Rattle.fuse_spec.specs.declared.Kind.TheVariants.{Directory, Regular, Other}
 use Rattle.fuse_spec.specs.declared.Attributes.{Attributes}
 use Rattle.fuse_spec.specs.declared.Entry.{Entry}
-use Rattle.fuse_spec.specs.Messages.{WireReply}
+use Rattle.fuse_spec.specs.Kernel.Messages.{WireReply}
 
 -- a validity in milliseconds, at most a day
 abbrev pub milliseconds : (seconds nanoseconds : ℕ) → ℕ

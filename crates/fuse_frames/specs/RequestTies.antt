@@ -9,8 +9,8 @@ use Rattle.fk_wire.specs.Requests.{RequestContent, RequestMessage, SpellsAt, Wri
 use Rattle.fk_wire.specs.Decoded.{decoded}
 use Rattle.fuse_spec.specs.declared.Minor.{Minor}
 use Rattle.fuse_spec.specs.declared.Minor.TheVariants.{M15, M31}
-use Rattle.fuse_spec.specs.Operations as operation
-use Rattle.fuse_spec.specs.Messages.{RequestBody, Request, init, asks, release, forget, batch_forget, interrupt}
+use Rattle.fuse_spec.specs.Files.Operations as operation
+use Rattle.fuse_spec.specs.Kernel.Messages.{RequestBody, Request, init, asks, release, forget, batch_forget, interrupt}
 
 -- what a request of a node asks, if the machine has it
 abbrev pub body_in : ℕ → RequestContent → Option RequestBody

@@ -1,8 +1,8 @@
 //! What frames say at a minor.
 
 ghost use Rattle.std.specs.Prelude.{◌≡◌, ◌↔◌, ℕ, List, true};
-ghost use Rattle.fuse_spec.specs.Messages.{Request};
-ghost use Rattle.fuse_spec.specs.Server.{knows};
+ghost use Rattle.fuse_spec.specs.Kernel.Messages.{Request};
+ghost use Rattle.fuse_spec.specs.Server.Server.{knows};
 ghost use Rattle.fuse_spec.specs.declared.Minor.{Minor};
 ghost use Rattle.fuse_frames.specs.RequestTies.{SaysRequest, SaysRequestAt, codec_minor as the_codec_minor};
 

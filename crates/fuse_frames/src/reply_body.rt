@@ -3,17 +3,15 @@
 ghost use Rattle.std.specs.Prelude.{◌≡◌};
 ghost use Rattle.fk_wire.specs.Entries.{entry_content};
 ghost use Rattle.fk_wire.specs.Records.{direntplus_content};
-ghost use Rattle.fuse_spec.specs.Operations.{told_by as file_told};
-ghost use Rattle.fuse_spec.specs.Paths.{is_dots as are_dots};
+ghost use Rattle.fuse_spec.specs.Files.Operations.{told_by as file_told};
+ghost use Rattle.fuse_spec.specs.Calls.Paths.{is_dots as are_dots};
 ghost use Rattle.fuse_frames.specs.ReplyTies.{attributes_in, file_in, kind_of_mode, pair_in, valid_in};
 ghost use Rattle.fuse_frames.specs.ReplyTies.{kind_of_type as kind_told};
 ghost use Rattle.fuse_frames.specs.ReplyTies.{milliseconds as milliseconds_in};
 
 use fk_wire::{Attr, DirentPlus};
+use fuse_spec::limits::MAX_VALIDITY;
 use fuse_spec::{Attributes, Entry, Kind};
-
-/// The longest validity of a name, a day in milliseconds (this project's rule).
-const MAX_VALIDITY: u64 = 86_400_000;
 
 /// The kind of a file, by the type bits of its mode.
 fn kind_of(mode: u32) -> Kind

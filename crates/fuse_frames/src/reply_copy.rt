@@ -1,9 +1,9 @@
 //! Copies of replies in their frames.
 
 ghost use Rattle.std.specs.Prelude.{◌≡◌, ℕ, true};
-ghost use Rattle.fuse_spec.specs.Messages.{asks};
-ghost use Rattle.fuse_spec.specs.Operations.{Operation};
-ghost use Rattle.fuse_spec.specs.Replies.{goes_with, is_init_reply, is_empty_reply};
+ghost use Rattle.fuse_spec.specs.Kernel.Messages.{asks};
+ghost use Rattle.fuse_spec.specs.Files.Operations.{Operation};
+ghost use Rattle.fuse_spec.specs.Kernel.Replies.{goes_with, is_init_reply, is_empty_reply};
 ghost use Rattle.fuse_frames.specs.ReplyTies.{SaysReply, IsReplyFrame};
 ghost use Rattle.fuse_frames.specs.RequestTies.{asked_opcode};
 
@@ -22,7 +22,7 @@ pub struct ReplyCopy<A: Allocator = Global> {
 
 impl<A: Allocator> Model for ReplyCopy<A> {
     ghost use Rattle.std.specs.Coded.{codes};
-    ghost use Rattle.fuse_spec.specs.Worlds.{Sent};
+    ghost use Rattle.fuse_spec.specs.World.Worlds.{Sent};
 
     ghost Value = { Sent };
 

@@ -4,9 +4,9 @@ ghost use Rattle.std.specs.Prelude.{◌≡◌, ◌≤◌, ◌+◌, ℕ, [], true
 ghost use Rattle.fk_wire.specs.Fields.{sizes};
 ghost use Rattle.fk_wire.specs.Opcodes.{served};
 ghost use Rattle.fk_wire.specs.Replies.{ReplyMessage, WrittenReply, GoesWith, reply_body, reply_message, reply_content};
-ghost use Rattle.fuse_spec.specs.Messages.{asks};
-ghost use Rattle.fuse_spec.specs.Operations.{Operation};
-ghost use Rattle.fuse_spec.specs.Replies.{goes_with, is_init_reply, is_empty_reply};
+ghost use Rattle.fuse_spec.specs.Kernel.Messages.{asks};
+ghost use Rattle.fuse_spec.specs.Files.Operations.{Operation};
+ghost use Rattle.fuse_spec.specs.Kernel.Replies.{goes_with, is_init_reply, is_empty_reply};
 ghost use Rattle.fuse_frames.specs.ReplyTies.{SaysReply, IsReplyFrame, FitsRoom, framed_by, message_of};
 ghost use Rattle.fuse_frames.specs.RequestTies.{asked_opcode};
 

@@ -8,9 +8,9 @@ ghost use Rattle.fk_wire.specs.Opcodes.{served};
 ghost use Rattle.fk_wire.specs.Records.{records_in};
 ghost use Rattle.fk_wire.specs.Replies.{init_reply as init_content, reply_body, reply_content, kind_of_content, reply_kind};
 ghost use Rattle.fk_wire.specs.Requests.{known_flags};
-ghost use Rattle.fuse_spec.specs.Numbers.{max_transfer, max_validity};
-ghost use Rattle.fuse_spec.specs.Operations as reply;
-ghost use Rattle.fuse_spec.specs.Performs.{flags_known, init_reply, minor_number};
+ghost use Rattle.fuse_spec.specs.Values.Numbers.{max_transfer, max_validity};
+ghost use Rattle.fuse_spec.specs.Files.Operations as reply;
+ghost use Rattle.fuse_spec.specs.Server.Performs.{flags_known, init_reply, minor_number};
 ghost use Rattle.fuse_frames.specs.ReplyTies.{FitsRoom, content_of, dirent_in, dirent_of, pairs_told, wire_body};
 ghost use Rattle.fuse_frames.specs.ReplyTies.{attr_of as attr_written};
 

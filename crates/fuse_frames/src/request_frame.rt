@@ -2,10 +2,10 @@
 
 ghost use Rattle.std.specs.Prelude.{◌≡◌, ◌≤◌, IfOk, Some, length};
 ghost use Rattle.fk_wire.specs.Requests.{request_content};
-ghost use Rattle.fuse_spec.specs.Messages.{RequestBody as Asked, init, asks, forget, batch_forget, interrupt};
-ghost use Rattle.fuse_spec.specs.Numbers.{init_flags};
-ghost use Rattle.fuse_spec.specs.Operations.{lookup, getattr, mkdir};
-ghost use Rattle.fuse_spec.specs.Worlds.{forget_body};
+ghost use Rattle.fuse_spec.specs.Kernel.Messages.{RequestBody as Asked, init, asks, forget, batch_forget, interrupt};
+ghost use Rattle.fuse_spec.specs.Values.Numbers.{init_flags};
+ghost use Rattle.fuse_spec.specs.Files.Operations.{lookup, getattr, mkdir};
+ghost use Rattle.fuse_spec.specs.World.Worlds.{forget_body};
 ghost use Rattle.fuse_frames.specs.RequestTies.{IsRequestFrame, body_in, content_of, asked_opcode};
 
 use crate::pair_bytes::pair_bytes;
@@ -22,7 +22,7 @@ pub struct RequestFrame<A: Allocator = Global> {
 
 impl<A: Allocator> Model for RequestFrame<A> {
     ghost use Rattle.std.specs.Coded.{codes};
-    ghost use Rattle.fuse_spec.specs.Messages.{Request};
+    ghost use Rattle.fuse_spec.specs.Kernel.Messages.{Request};
     ghost use Rattle.fuse_frames.specs.RequestTies.{IsRequestFrame, request_in};
 
     ghost Value = { Request };

@@ -1,8 +1,8 @@
 //! Requests of the operations that change names, and of those on open files, in their frames.
 
 ghost use Rattle.std.specs.Prelude.{◌≡◌, IfOk};
-ghost use Rattle.fuse_spec.specs.Messages.{asks, release};
-ghost use Rattle.fuse_spec.specs.Operations.{create, unlink, rmdir, rename, link, opening, readdir, readdirplus, read, write};
+ghost use Rattle.fuse_spec.specs.Kernel.Messages.{asks, release};
+ghost use Rattle.fuse_spec.specs.Files.Operations.{create, unlink, rmdir, rename, link, opening, readdir, readdirplus, read, write};
 
 use crate::request_frame::{RequestFrame, framed};
 use fk_wire::RequestBody;

@@ -2,12 +2,12 @@
 use Rattle.std.specs.Prelude.{◌≡◌, ℕ, List}
 use Rattle.std.proofs.Common.{refl}
 use Rattle.fuse_spec.specs.declared.Opened.{Opened}
-use Rattle.fuse_spec.specs.Kernel.{Kernel}
-use Rattle.fuse_spec.specs.Messages.{WireReply}
-use Rattle.fuse_spec.specs.Operations.{DirentPlus, found, missing, created, opened, attributes, listed, listed_plus, content, written, agreed, done, failed, files_in_reply}
+use Rattle.fuse_spec.specs.Kernel.Kernel.{Kernel}
+use Rattle.fuse_spec.specs.Kernel.Messages.{WireReply}
+use Rattle.fuse_spec.specs.Files.Operations.{DirentPlus, found, missing, created, opened, attributes, listed, listed_plus, content, written, agreed, done, failed, files_in_reply}
 use Rattle.fuse_spec.specs.declared.Entry.{Entry}
-use Rattle.fuse_spec.specs.Replies.{heard, judged, use_of_all}
-use Rattle.fuse_spec.specs.Vfs.{CallState}
+use Rattle.fuse_spec.specs.Kernel.Replies.{heard, judged, use_of_all}
+use Rattle.fuse_spec.specs.Calls.Vfs.{CallState}
 
 -- The reply isn't a list with files.
 abbrev pub IsNoListPlus : WireReply → Type 0

@@ -4,7 +4,7 @@ use Rattle.std.proofs.lemmas.Bool.Decides.{nat_tests}
 use Rattle.std.proofs.lemmas.List.Sums.{sum_by-cons, sum_by_push}
 use Rattle.fuse_spec.specs.declared.Mark.{Mark}
 use Rattle.fuse_spec.specs.declared.QueuedRequest.{QueuedRequest}
-use Rattle.fuse_spec.specs.QueueCalls.{set_mark}
+use Rattle.fuse_spec.specs.Kernel.QueueCalls.{set_mark}
 use Rattle.std.specs.Map.{lookup, remove_entry, set_value}
 
 module _ {X : Type 0} (p : X → Bool) where

@@ -8,11 +8,11 @@ use Rattle.fuse_spec.specs.declared.Mark.{Mark}
 use Rattle.fuse_spec.specs.declared.Mark.TheVariants.{Unread, Flagged, Read, Interrupted}
 use Rattle.fuse_spec.specs.declared.IntrEffect.TheVariants.{Dequeued, None as NoEffect}
 use Rattle.fuse_spec.specs.declared.InterruptReply.TheVariants.{Again, NotSupported, Other}
-use Rattle.fuse_spec.specs.Signals.{signal_effect, reply_effect}
+use Rattle.fuse_spec.specs.Kernel.Signals.{signal_effect, reply_effect}
 use Rattle.fuse_spec.specs.declared.QueuedRequest.{QueuedRequest}
-use Rattle.fuse_spec.specs.QueueLaws.{AddsOne, mark_read, kept_entries}
-use Rattle.fuse_spec.specs.Queues.{QueueState, request_under, pending, processing, is_unread, IsSound, was_drawn, is_interrupted, mark_under, has_interrupt}
-use Rattle.fuse_spec.specs.QueueCalls.{after_enqueue, set_mark, with_mark, after_read_pending, without, waiting, after_answer, interrupt_effect, after_interrupt, after_effect, after_interrupt_reply, after_reply_effect, after_no_interrupts, with_interrupt}
+use Rattle.fuse_spec.specs.Kernel.QueueLaws.{AddsOne, mark_read, kept_entries}
+use Rattle.fuse_spec.specs.Kernel.Queues.{QueueState, request_under, pending, processing, is_unread, IsSound, was_drawn, is_interrupted, mark_under, has_interrupt}
+use Rattle.fuse_spec.specs.Kernel.QueueCalls.{after_enqueue, set_mark, with_mark, after_read_pending, without, waiting, after_answer, interrupt_effect, after_interrupt, after_effect, after_interrupt_reply, after_reply_effect, after_no_interrupts, with_interrupt}
 use Rattle.fuse_spec.proofs.QueueCounts.{key_count, key_count-found, lookup-found, count_by-cons, lookup-no_key, lookup-remove_entry_other, lookup-set_mark_other}
 use Rattle.fuse_spec.proofs.QueueSoundness.{lookup-next}
 

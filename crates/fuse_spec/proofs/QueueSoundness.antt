@@ -5,9 +5,9 @@ use Rattle.std.proofs.lemmas.Bool.Decides.{nat_tests}
 use Rattle.std.specs.List.{list_any}
 use Rattle.std.specs.Map.{lookup, remove_entry}
 use Rattle.std.specs.Option.{option_map_or}
-use Rattle.fuse_spec.specs.Uniques.{IsNextNumber}
-use Rattle.fuse_spec.specs.Queues.{QueueState, has_interrupt, mark_under, is_unread, pending, is_interrupted, IsSound, was_drawn}
-use Rattle.fuse_spec.specs.QueueCalls.{after_enqueue, with_mark, with_interrupt, after_read_interrupt, without}
+use Rattle.fuse_spec.specs.Kernel.Uniques.{IsNextNumber}
+use Rattle.fuse_spec.specs.Kernel.Queues.{QueueState, has_interrupt, mark_under, is_unread, pending, is_interrupted, IsSound, was_drawn}
+use Rattle.fuse_spec.specs.Kernel.QueueCalls.{after_enqueue, with_mark, with_interrupt, after_read_interrupt, without}
 use Rattle.fuse_spec.specs.declared.Mark.{Mark}
 use Rattle.fuse_spec.specs.declared.Mark.TheVariants.{Unread, Flagged, Read, Interrupted}
 use Rattle.fuse_spec.specs.declared.QueuedRequest.{QueuedRequest}

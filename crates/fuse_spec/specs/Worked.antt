@@ -1,4 +1,5 @@
 -- Worked runs: events, and what each world has to record of them.
+pub mod LockStep
 pub mod AbortAfterDoAndRemount
 pub mod BatchForget
 pub mod CallBeforeInitIsAnswered

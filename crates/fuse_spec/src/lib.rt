@@ -1,7 +1,9 @@
-//! The definitions of the project, in `specs/`; the plain values that definitions and code share; and worked runs, computed
+//! The definitions of the project, in `specs/`; the plain values, error numbers and limits that definitions and code share; and worked runs, computed
 //! over the definitions.
 #![tactic(auto)]
 
+pub mod errno;
+pub mod limits;
 pub mod worked_runs;
 
 /// How far a request has come. The mark belongs to the request: the next request of the same call starts unread.

@@ -13,7 +13,7 @@ use Rattle.std.specs.List.{remove as removed}
 use Rattle.std.proofs.lemmas.Bool.{ltb-true, ltb-false, lt-ltb}
 use Rattle.std.specs.Cmp.{ranked, nat_cmp_is}
 use Rattle.std.specs.declared.cmp.Ordering.{Ordering}
-use Rattle.fuse_spec.specs.Maps.{get, put as with_value, remove}
+use Rattle.fuse_spec.specs.Values.Maps.{get, put as with_value, remove}
 use Rattle.fuse_tables.specs.TableState.{place_of, IsRowOf}
 
 both_first : (a b : Bool) → T (a && b) → T a

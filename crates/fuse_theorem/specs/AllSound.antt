@@ -1,6 +1,6 @@
 -- All that is true of the world and the plain world, whatever list of events led to them: the inductive invariant.
-use Rattle.fuse_spec.specs.Plain.{Plain}
-use Rattle.fuse_spec.specs.Worlds.{World}
+use Rattle.fuse_spec.specs.Reference.Plain.{Plain}
+use Rattle.fuse_spec.specs.World.Worlds.{World}
 use Rattle.fuse_theorem.specs.EveryList.{BothSound}
 use Rattle.fuse_theorem.specs.Faultless.{Faultless}
 use Rattle.fuse_theorem.specs.NodesHeld.{TakenServable}

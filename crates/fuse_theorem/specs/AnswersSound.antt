@@ -1,9 +1,9 @@
 -- The calls that are unanswered, and those whose answers wait to be collected.
 use Rattle.std.specs.Prelude.{◌≡◌, ◌≤◌, ℕ, Some, None}
 use Rattle.fuse_spec.specs.declared.Opened.{Opened}
-use Rattle.fuse_spec.specs.Maps.{get}
-use Rattle.fuse_spec.specs.Answers.{Answer}
-use Rattle.fuse_spec.specs.Vfs.{Vfs}
+use Rattle.fuse_spec.specs.Values.Maps.{get}
+use Rattle.fuse_spec.specs.Calls.Answers.{Answer}
+use Rattle.fuse_spec.specs.Calls.Vfs.{Vfs}
 
 -- No call is both unanswered and answered, and each that is either has begun.
 pub record AnswersSound (c : Vfs Opened) : Type 0 where

@@ -3,12 +3,12 @@ use Rattle.std.specs.Prelude.{◌≡◌, ◌≢◌, ◌<◌, ◌≤◌, ◌%◌,
 use Rattle.fuse_spec.specs.declared.Purpose.{Purpose}
 use Rattle.fuse_spec.specs.declared.Purpose.TheVariants as purpose
 use Rattle.fuse_spec.specs.declared.QueuedRequest.{QueuedRequest}
-use Rattle.fuse_spec.specs.Maps.{get}
-use Rattle.fuse_spec.specs.Queues.{QueueState, request_under, is_unread, has_interrupt, is_signalled}
-use Rattle.fuse_spec.specs.Messages.{RequestBody, Request, init, asks, release, forget, batch_forget, interrupt}
-use Rattle.fuse_spec.specs.Kernel.{Kernel, is_live, body_of}
-use Rattle.fuse_spec.specs.Server.{HeldRequest}
-use Rattle.fuse_spec.specs.Worlds.{World}
+use Rattle.fuse_spec.specs.Values.Maps.{get}
+use Rattle.fuse_spec.specs.Kernel.Queues.{QueueState, request_under, is_unread, has_interrupt, is_signalled}
+use Rattle.fuse_spec.specs.Kernel.Messages.{RequestBody, Request, init, asks, release, forget, batch_forget, interrupt}
+use Rattle.fuse_spec.specs.Kernel.Kernel.{Kernel, is_live, body_of}
+use Rattle.fuse_spec.specs.Server.Server.{HeldRequest}
+use Rattle.fuse_spec.specs.World.Worlds.{World}
 
 -- The kernel's request under this number was read and is unanswered, and asks this.
 pub record IsAsked (k : Kernel) (unique : ℕ) (body : RequestBody) : Type 0 where

@@ -4,11 +4,11 @@ use Rattle.std.specs.List.{list_any}
 use Rattle.std.specs.Ordering.{nat_cmp}
 use Rattle.std.specs.FinMap.{is_sorted}
 use Rattle.fuse_spec.specs.declared.Opened.{Opened}
-use Rattle.fuse_spec.specs.Counts.{opens_of}
-use Rattle.fuse_spec.specs.Kernel.{is_using}
-use Rattle.fuse_spec.specs.Maps.{Map, get, values}
-use Rattle.fuse_spec.specs.Operations.{Operation}
-use Rattle.fuse_spec.specs.Vfs.{Vfs, using}
+use Rattle.fuse_spec.specs.Claim.Counts.{opens_of}
+use Rattle.fuse_spec.specs.Kernel.Kernel.{is_using}
+use Rattle.fuse_spec.specs.Values.Maps.{Map, get, values}
+use Rattle.fuse_spec.specs.Files.Operations.{Operation}
+use Rattle.fuse_spec.specs.Calls.Vfs.{Vfs, using}
 
 -- The number is that of a call that was answered.
 pub record WasAnswered (c : Vfs Opened) (call : ℕ) : Type 0 where

@@ -6,24 +6,24 @@ use Rattle.fuse_spec.specs.declared.Purpose.{Purpose}
 use Rattle.fuse_spec.specs.declared.Purpose.TheVariants as purpose
 use Rattle.fuse_spec.specs.declared.QueuedRequest.{QueuedRequest}
 use Rattle.fuse_spec.specs.declared.Counted.{Counted}
-use Rattle.fuse_spec.specs.Maps.{Map, get}
-use Rattle.fuse_spec.specs.Numbers.{eintr}
-use Rattle.fuse_spec.specs.Operations.{Operation, Reply, opening, created, opened, failed, files_in_reply, opens_in_reply}
-use Rattle.fuse_spec.specs.Vfs.{CallState, asked}
-use Rattle.fuse_spec.specs.Queues.{pending, request_under, is_unread}
-use Rattle.fuse_spec.specs.Messages.{Request, asks, release, interrupt, WireReply}
-use Rattle.fuse_spec.specs.Nodes.{NodeTable, HandleTable, file_of, is_open}
+use Rattle.fuse_spec.specs.Values.Maps.{Map, get}
+use Rattle.fuse_spec.specs.Values.Numbers.{eintr}
+use Rattle.fuse_spec.specs.Files.Operations.{Operation, Reply, opening, created, opened, failed, files_in_reply, opens_in_reply}
+use Rattle.fuse_spec.specs.Calls.Vfs.{CallState, asked}
+use Rattle.fuse_spec.specs.Kernel.Queues.{pending, request_under, is_unread}
+use Rattle.fuse_spec.specs.Kernel.Messages.{Request, asks, release, interrupt, WireReply}
+use Rattle.fuse_spec.specs.Server.Nodes.{NodeTable, HandleTable, file_of, is_open}
 use Rattle.std.specs.List.{list_any}
-use Rattle.fuse_spec.specs.Counts.{opens_of, opens_of_body}
-use Rattle.fuse_spec.specs.Server.{Server, HeldRequest, Kept, nodes_of_body}
-use Rattle.fuse_spec.specs.Replies.{goes_with, usable, learnt, reply_judged, use_of_reply, stale_in_reply}
-use Rattle.fuse_spec.specs.Performs.{is_still_held}
-use Rattle.fuse_spec.specs.Kernel.{Kernel}
-use Rattle.fuse_spec.specs.QueueCalls.{waiting}
-use Rattle.fuse_spec.specs.Worlds.{World, Sent}
-use Rattle.fuse_spec.specs.Plain.{Plain, Ask}
-use Rattle.fuse_spec.specs.Plain as plain
-use Rattle.fuse_spec.specs.Denotes.{Denotes, MeansIn, MeansOpenIn, generation_known, OperationAlike, ReplyAlike, Names, Opens}
+use Rattle.fuse_spec.specs.Claim.Counts.{opens_of, opens_of_body}
+use Rattle.fuse_spec.specs.Server.Server.{Server, HeldRequest, Kept, nodes_of_body}
+use Rattle.fuse_spec.specs.Kernel.Replies.{goes_with, usable, learnt, reply_judged, use_of_reply, stale_in_reply}
+use Rattle.fuse_spec.specs.Server.Performs.{is_still_held}
+use Rattle.fuse_spec.specs.Kernel.Kernel.{Kernel}
+use Rattle.fuse_spec.specs.Kernel.QueueCalls.{waiting}
+use Rattle.fuse_spec.specs.World.Worlds.{World, Sent}
+use Rattle.fuse_spec.specs.Reference.Plain.{Plain, Ask}
+use Rattle.fuse_spec.specs.Reference.Plain as plain
+use Rattle.fuse_spec.specs.Claim.Denotes.{Denotes, MeansIn, MeansOpenIn, generation_known, OperationAlike, ReplyAlike, Names, Opens}
 use Rattle.fuse_theorem.specs.Unperformed.{unperformed}
 
 -- No two nodes of the server's table have the same file.

@@ -1,10 +1,10 @@
 -- What is true of the copies of replies between the server and the kernel, whatever happened.
 use Rattle.std.specs.Prelude.{◌≡◌, ◌≢◌, ◌≤◌, ◌+◌, ℕ, List, ◌∷◌, Some, None, All, nat_eq, count_by}
 use Rattle.fuse_spec.specs.declared.ReplyResult.{ReplyResult}
-use Rattle.fuse_spec.specs.Maps.{Map, get}
-use Rattle.fuse_spec.specs.Server.{Kept, Copy}
-use Rattle.fuse_spec.specs.Queues.{request_under}
-use Rattle.fuse_spec.specs.Worlds.{World, Sent}
+use Rattle.fuse_spec.specs.Values.Maps.{Map, get}
+use Rattle.fuse_spec.specs.Server.Server.{Kept, Copy}
+use Rattle.fuse_spec.specs.Kernel.Queues.{request_under}
+use Rattle.fuse_spec.specs.World.Worlds.{World, Sent}
 
 -- The server knows the copy under its number, as it was sent.
 pub record IsKnownCopy (copies : Map Copy) (sent : Sent) : Type 0 where

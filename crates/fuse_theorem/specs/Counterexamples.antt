@@ -2,16 +2,16 @@
 use Rattle.std.specs.Prelude.{true, false, List, [], ◌∷◌}
 use Rattle.fuse_spec.specs.declared.Minor.TheVariants.{M31}
 use Rattle.fuse_spec.specs.declared.Phase.TheVariants.{Ready}
-use Rattle.fuse_spec.specs.Answers.{failed as failed_with}
-use Rattle.fuse_spec.specs.Events.{Event}
-use Rattle.fuse_spec.specs.Events as event
-use Rattle.fuse_spec.specs.Messages.{asks, forget}
-use Rattle.fuse_spec.specs.Operations.{done, getattr, lookup}
-use Rattle.fuse_spec.specs.Records.{Record, outcome, answered}
-use Rattle.fuse_spec.specs.Numbers.{counter_end}
-use Rattle.fuse_spec.specs.Trees.{a_directory}
-use Rattle.fuse_spec.specs.Vfs.{doing}
-use Rattle.fuse_spec.specs.Worlds.{World, first_world, after_tick}
+use Rattle.fuse_spec.specs.Calls.Answers.{failed as failed_with}
+use Rattle.fuse_spec.specs.World.Events.{Event}
+use Rattle.fuse_spec.specs.World.Events as event
+use Rattle.fuse_spec.specs.Kernel.Messages.{asks, forget}
+use Rattle.fuse_spec.specs.Files.Operations.{done, getattr, lookup}
+use Rattle.fuse_spec.specs.World.Records.{Record, outcome, answered}
+use Rattle.fuse_spec.specs.Values.Numbers.{counter_end}
+use Rattle.fuse_spec.specs.Files.Trees.{a_directory}
+use Rattle.fuse_spec.specs.Calls.Vfs.{doing}
+use Rattle.fuse_spec.specs.World.Worlds.{World, first_world, after_tick}
 
 -- A live mount with a FORGET on its way, of a node that the server does not hold.
 abbrev pub with_a_stray_forget : World

@@ -6,25 +6,25 @@ use Rattle.fuse_spec.specs.declared.Opened.{Opened}
 use Rattle.fuse_spec.specs.declared.Purpose.{Purpose}
 use Rattle.fuse_spec.specs.declared.Purpose.TheVariants.{Init, Release, Call}
 use Rattle.fuse_spec.specs.declared.ReplyResult.{ReplyResult}
-use Rattle.fuse_spec.specs.Maps.{get, remove}
-use Rattle.fuse_spec.specs.Operations.{Operation, Reply, files_in_reply}
-use Rattle.fuse_spec.specs.FileOperations.{reply_by}
-use Rattle.fuse_spec.specs.Vfs.{CallState, Vfs}
-use Rattle.fuse_spec.specs.Queues.{IsSound}
-use Rattle.fuse_spec.specs.QueueCalls.{waiting}
-use Rattle.fuse_spec.specs.Numbers.{init_flags}
-use Rattle.fuse_spec.specs.Messages.{Request, RequestBody, init, asks, release, forget, batch_forget, interrupt}
-use Rattle.fuse_spec.specs.Kernel.{is_live}
-use Rattle.fuse_spec.specs.Nodes.{MayChoose, handle_back}
-use Rattle.fuse_spec.specs.Server.{HeldRequest, Copy, all_taken_back}
-use Rattle.fuse_spec.specs.Performs.{is_still_held, init_reply}
-use Rattle.fuse_spec.specs.Worlds.{World, Sent, after_settle}
-use Rattle.fuse_spec.specs.Events.{Event, Outcome}
-use Rattle.fuse_spec.specs.Events as event
-use Rattle.fuse_spec.specs.Plain.{Plain, Ask}
-use Rattle.fuse_spec.specs.PlainSteps.{Takes}
-use Rattle.fuse_spec.specs.Denotes.{MeansIn}
-use Rattle.fuse_spec.specs.Alike.{Alike}
+use Rattle.fuse_spec.specs.Values.Maps.{get, remove}
+use Rattle.fuse_spec.specs.Files.Operations.{Operation, Reply, files_in_reply}
+use Rattle.fuse_spec.specs.Files.FileOperations.{reply_by}
+use Rattle.fuse_spec.specs.Calls.Vfs.{CallState, Vfs}
+use Rattle.fuse_spec.specs.Kernel.Queues.{IsSound}
+use Rattle.fuse_spec.specs.Kernel.QueueCalls.{waiting}
+use Rattle.fuse_spec.specs.Values.Numbers.{init_flags}
+use Rattle.fuse_spec.specs.Kernel.Messages.{Request, RequestBody, init, asks, release, forget, batch_forget, interrupt}
+use Rattle.fuse_spec.specs.Kernel.Kernel.{is_live}
+use Rattle.fuse_spec.specs.Server.Nodes.{MayChoose, handle_back}
+use Rattle.fuse_spec.specs.Server.Server.{HeldRequest, Copy, all_taken_back}
+use Rattle.fuse_spec.specs.Server.Performs.{is_still_held, init_reply}
+use Rattle.fuse_spec.specs.World.Worlds.{World, Sent, after_settle}
+use Rattle.fuse_spec.specs.World.Events.{Event, Outcome}
+use Rattle.fuse_spec.specs.World.Events as event
+use Rattle.fuse_spec.specs.Reference.Plain.{Plain, Ask}
+use Rattle.fuse_spec.specs.Reference.PlainSteps.{Takes}
+use Rattle.fuse_spec.specs.Claim.Denotes.{MeansIn}
+use Rattle.fuse_spec.specs.Claim.Alike.{Alike}
 use Rattle.fuse_theorem.specs.Numbering.{IsNumbered, IsNumberedWhileLive, IsOneToOne}
 use Rattle.fuse_theorem.specs.Conditions.{OneId, KnownAreHeld, TablesSound, CanPerform, CanDecline, CanRelease, IsReply, IsDeclined, UnreadAreUnsent, HoldsAll, HoldsOpens, IsInterrupt, IsUnsent, awaiting}
 

@@ -1,13 +1,13 @@
 -- What is true of the world and the plain world together, whatever list of events led to them.
 use Rattle.std.specs.Prelude.{◌≡◌, Some, slice_get}
-use Rattle.fuse_spec.specs.Messages.{Request, RequestBody, init, asks, release, forget, batch_forget, interrupt}
-use Rattle.fuse_spec.specs.Worlds.{World}
-use Rattle.fuse_spec.specs.Plain.{Plain}
-use Rattle.fuse_spec.specs.Events.{Event}
-use Rattle.fuse_spec.specs.Events as event
-use Rattle.fuse_spec.specs.Alike.{Alike}
+use Rattle.fuse_spec.specs.Kernel.Messages.{Request, RequestBody, init, asks, release, forget, batch_forget, interrupt}
+use Rattle.fuse_spec.specs.World.Worlds.{World}
+use Rattle.fuse_spec.specs.Reference.Plain.{Plain}
+use Rattle.fuse_spec.specs.World.Events.{Event}
+use Rattle.fuse_spec.specs.World.Events as event
+use Rattle.fuse_spec.specs.Claim.Alike.{Alike}
 use Rattle.fuse_theorem.specs.AskedRequests.{RequestsAskedWhileLive}
-use Rattle.fuse_spec.specs.PlainReplies.{AsksServed}
+use Rattle.fuse_spec.specs.Reference.PlainReplies.{AsksServed}
 use Rattle.fuse_theorem.specs.Copies.{KeptAreSent}
 use Rattle.fuse_theorem.specs.HeldKnown.{HeldKnownWhileLive}
 use Rattle.fuse_theorem.specs.KnownNodes.{NodesKnown}

@@ -2,13 +2,13 @@
 use Rattle.std.specs.Prelude.{◌≡◌, ◌≤◌, ◌%◌, ℕ, true, false, Some, All}
 use Rattle.fuse_spec.specs.declared.Minor.TheVariants.{M15}
 use Rattle.fuse_spec.specs.declared.Opened.{Opened}
-use Rattle.fuse_spec.specs.Kernel.{is_live}
-use Rattle.fuse_spec.specs.Maps.{get, values}
-use Rattle.fuse_spec.specs.Messages.{Forget, Request, asks}
-use Rattle.fuse_spec.specs.Server.{Kept, forgets_of, knows}
-use Rattle.fuse_spec.specs.Vfs.{CallState, walking, doing, using}
-use Rattle.fuse_spec.specs.Walks.{WalkPlan, last, listplus}
-use Rattle.fuse_spec.specs.Worlds.{World}
+use Rattle.fuse_spec.specs.Kernel.Kernel.{is_live}
+use Rattle.fuse_spec.specs.Values.Maps.{get, values}
+use Rattle.fuse_spec.specs.Kernel.Messages.{Forget, Request, asks}
+use Rattle.fuse_spec.specs.Server.Server.{Kept, forgets_of, knows}
+use Rattle.fuse_spec.specs.Calls.Vfs.{CallState, walking, doing, using}
+use Rattle.fuse_spec.specs.Calls.Walks.{WalkPlan, last, listplus}
+use Rattle.fuse_spec.specs.World.Worlds.{World}
 
 -- A forget is of a node from 2 up, and of one lookup at least.
 abbrev pub IsForget : Forget → Type 0

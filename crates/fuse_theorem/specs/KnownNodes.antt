@@ -3,10 +3,10 @@ use Rattle.std.specs.Prelude.{◌≡◌, ◌≢◌, ℕ, List, Some, None, All}
 use Rattle.fuse_spec.specs.declared.Binding.{Binding}
 use Rattle.fuse_spec.specs.declared.Counted.{Counted}
 use Rattle.fuse_spec.specs.declared.Opened.{Opened}
-use Rattle.fuse_spec.specs.Maps.{Map, NameMap, get_name, values}
-use Rattle.fuse_spec.specs.Vfs.{CallState, Vfs}
-use Rattle.fuse_spec.specs.Kernel.{Kernel, nodes_of_state}
-use Rattle.fuse_spec.specs.Denotes.{generation_known}
+use Rattle.fuse_spec.specs.Values.Maps.{Map, NameMap, get_name, values}
+use Rattle.fuse_spec.specs.Calls.Vfs.{CallState, Vfs}
+use Rattle.fuse_spec.specs.Kernel.Kernel.{Kernel, nodes_of_state}
+use Rattle.fuse_spec.specs.Claim.Denotes.{generation_known}
 
 -- The kernel counts the node, or it is the root.
 abbrev pub IsKnown : Map Counted → ℕ → Type 0

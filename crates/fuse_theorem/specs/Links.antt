@@ -1,12 +1,12 @@
 -- What is true of the links while no mount is live, and of the replies to INIT, whatever happened.
 use Rattle.std.specs.Prelude.{◌≡◌, ◌⊎◌, ℕ, true, false, [], Some, All}
-use Rattle.fuse_spec.specs.Maps.{get}
-use Rattle.fuse_spec.specs.Numbers.{init_flags}
-use Rattle.fuse_spec.specs.Messages.{init}
-use Rattle.fuse_spec.specs.Performs.{init_reply}
-use Rattle.fuse_spec.specs.Kernel.{is_live}
-use Rattle.fuse_spec.specs.Server.{HeldRequest, Kept}
-use Rattle.fuse_spec.specs.Worlds.{World, Sent}
+use Rattle.fuse_spec.specs.Values.Maps.{get}
+use Rattle.fuse_spec.specs.Values.Numbers.{init_flags}
+use Rattle.fuse_spec.specs.Kernel.Messages.{init}
+use Rattle.fuse_spec.specs.Server.Performs.{init_reply}
+use Rattle.fuse_spec.specs.Kernel.Kernel.{is_live}
+use Rattle.fuse_spec.specs.Server.Server.{HeldRequest, Kept}
+use Rattle.fuse_spec.specs.World.Worlds.{World, Sent}
 
 -- INIT bears the first number of a mount. Each copy of its reply says the minor that the server speaks, and so does the kept reply.
 pub record InitAgreed (w : World) : Type 0 where

@@ -4,15 +4,15 @@ use Rattle.fuse_spec.specs.declared.Counted.{Counted}
 use Rattle.fuse_spec.specs.declared.Entry.{Entry}
 use Rattle.fuse_spec.specs.declared.ReplyResult.{ReplyResult}
 use Rattle.fuse_spec.specs.declared.WriteResult.TheVariants.{Accepted}
-use Rattle.fuse_spec.specs.Maps.{Map, get}
-use Rattle.fuse_spec.specs.Messages.{WireReply}
-use Rattle.fuse_spec.specs.Operations.{files_in_reply}
-use Rattle.fuse_spec.specs.Kernel.{is_live}
-use Rattle.fuse_spec.specs.Nodes.{NodeTable}
-use Rattle.fuse_spec.specs.Server.{Kept, Copy}
-use Rattle.fuse_spec.specs.Counts.{Balance}
-use Rattle.fuse_spec.specs.Denotes.{Denotes}
-use Rattle.fuse_spec.specs.Worlds.{World, Sent}
+use Rattle.fuse_spec.specs.Values.Maps.{Map, get}
+use Rattle.fuse_spec.specs.Kernel.Messages.{WireReply}
+use Rattle.fuse_spec.specs.Files.Operations.{files_in_reply}
+use Rattle.fuse_spec.specs.Kernel.Kernel.{is_live}
+use Rattle.fuse_spec.specs.Server.Nodes.{NodeTable}
+use Rattle.fuse_spec.specs.Server.Server.{Kept, Copy}
+use Rattle.fuse_spec.specs.Claim.Counts.{Balance}
+use Rattle.fuse_spec.specs.Claim.Denotes.{Denotes}
+use Rattle.fuse_spec.specs.World.Worlds.{World, Sent}
 use Rattle.fuse_theorem.specs.Numbering.{IsNumberedWhileLive}
 use Rattle.fuse_theorem.specs.ServerTables.{ServerSound}
 use Rattle.fuse_theorem.specs.Copies.{CopiesSound}

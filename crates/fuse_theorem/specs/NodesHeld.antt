@@ -7,16 +7,16 @@ use Rattle.fuse_spec.specs.declared.Counted.{Counted}
 use Rattle.fuse_spec.specs.declared.Opened.{Opened}
 use Rattle.fuse_spec.specs.declared.Purpose.{Purpose}
 use Rattle.fuse_spec.specs.declared.QueuedRequest.{QueuedRequest}
-use Rattle.fuse_spec.specs.Counts.{IsMeant, IsNamed}
-use Rattle.fuse_spec.specs.Kernel.{is_live, body_of, nodes_of_state}
-use Rattle.fuse_spec.specs.Maps.{get, get_name, values}
-use Rattle.fuse_spec.specs.Messages.{RequestBody, Request}
-use Rattle.fuse_spec.specs.Nodes.{row_of}
-use Rattle.fuse_spec.specs.Operations.{files_in_reply}
-use Rattle.fuse_spec.specs.Queues.{pending}
-use Rattle.fuse_spec.specs.Server.{Server, HeldRequest, nodes_of_body}
-use Rattle.fuse_spec.specs.Vfs.{CallState}
-use Rattle.fuse_spec.specs.Worlds.{World, Sent}
+use Rattle.fuse_spec.specs.Claim.Counts.{IsMeant, IsNamed}
+use Rattle.fuse_spec.specs.Kernel.Kernel.{is_live, body_of, nodes_of_state}
+use Rattle.fuse_spec.specs.Values.Maps.{get, get_name, values}
+use Rattle.fuse_spec.specs.Kernel.Messages.{RequestBody, Request}
+use Rattle.fuse_spec.specs.Server.Nodes.{row_of}
+use Rattle.fuse_spec.specs.Files.Operations.{files_in_reply}
+use Rattle.fuse_spec.specs.Kernel.Queues.{pending}
+use Rattle.fuse_spec.specs.Server.Server.{Server, HeldRequest, nodes_of_body}
+use Rattle.fuse_spec.specs.Calls.Vfs.{CallState}
+use Rattle.fuse_spec.specs.World.Worlds.{World, Sent}
 
 -- What the kernel counts, binds, opens or waits on is held by the server under the kernel's generation, and so is each entry on the reply link.
 pub record NodesHeldLive (w : World) : Type 0 where

@@ -2,12 +2,12 @@
 use Rattle.std.specs.Prelude.{◌≡◌, ◌≤◌, ◌<◌, ℕ, true, false, cond, Some, None, All, count_by, is_some}
 use Rattle.fuse_spec.specs.declared.Purpose.{Purpose}
 use Rattle.fuse_spec.specs.declared.QueuedRequest.{QueuedRequest}
-use Rattle.fuse_spec.specs.Maps.{get}
-use Rattle.fuse_spec.specs.Queues.{QueueState, IsSound, empty_queues}
-use Rattle.fuse_spec.specs.Messages.{Request}
-use Rattle.fuse_spec.specs.Kernel.{is_live, is_for}
-use Rattle.fuse_spec.specs.Server.{HeldRequest, Kept}
-use Rattle.fuse_spec.specs.Worlds.{World, Sent}
+use Rattle.fuse_spec.specs.Values.Maps.{get}
+use Rattle.fuse_spec.specs.Kernel.Queues.{QueueState, IsSound, empty_queues}
+use Rattle.fuse_spec.specs.Kernel.Messages.{Request}
+use Rattle.fuse_spec.specs.Kernel.Kernel.{is_live, is_for}
+use Rattle.fuse_spec.specs.Server.Server.{HeldRequest, Kept}
+use Rattle.fuse_spec.specs.World.Worlds.{World, Sent}
 
 -- how many requests serve a call
 abbrev pub requests_for : ℕ → QueueState Purpose → ℕ

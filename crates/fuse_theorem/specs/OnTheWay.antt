@@ -2,11 +2,11 @@
 use Rattle.std.specs.Prelude.{◌≡◌, ◌≢◌, ℕ, true, false, Some, None}
 use Rattle.fuse_spec.specs.declared.Purpose.{Purpose}
 use Rattle.fuse_spec.specs.declared.QueuedRequest.{QueuedRequest}
-use Rattle.fuse_spec.specs.Kernel.{is_live}
-use Rattle.fuse_spec.specs.Maps.{get}
-use Rattle.fuse_spec.specs.Messages.{RequestBody, Request, init, asks, release, forget, batch_forget, interrupt}
-use Rattle.fuse_spec.specs.Queues.{is_unread, request_under}
-use Rattle.fuse_spec.specs.Worlds.{World, Sent}
+use Rattle.fuse_spec.specs.Kernel.Kernel.{is_live}
+use Rattle.fuse_spec.specs.Values.Maps.{get}
+use Rattle.fuse_spec.specs.Kernel.Messages.{RequestBody, Request, init, asks, release, forget, batch_forget, interrupt}
+use Rattle.fuse_spec.specs.Kernel.Queues.{is_unread, request_under}
+use Rattle.fuse_spec.specs.World.Worlds.{World, Sent}
 use Rattle.fuse_theorem.specs.Copies.{SomeHas}
 
 -- The server holds it once it has taken it, until it performs it.

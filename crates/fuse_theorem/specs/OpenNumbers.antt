@@ -6,15 +6,15 @@ use Rattle.fuse_spec.specs.declared.Opened.{Opened}
 use Rattle.fuse_spec.specs.declared.Purpose.{Purpose}
 use Rattle.fuse_spec.specs.declared.Purpose.TheVariants as purpose
 use Rattle.fuse_spec.specs.declared.QueuedRequest.{QueuedRequest}
-use Rattle.fuse_spec.specs.Maps.{Map, get, values}
-use Rattle.fuse_spec.specs.Queues.{QueueState, pending}
-use Rattle.fuse_spec.specs.Messages.{Request, RequestBody, init, asks, release, forget, batch_forget, interrupt}
-use Rattle.fuse_spec.specs.Vfs.{CallState, walking, doing, using, Vfs}
-use Rattle.fuse_spec.specs.Kernel.{is_live}
-use Rattle.fuse_spec.specs.Nodes.{file_of, is_open}
-use Rattle.fuse_spec.specs.Server.{Server, HeldRequest}
-use Rattle.fuse_spec.specs.Counts.{OpenBalance, opens_of}
-use Rattle.fuse_spec.specs.Worlds.{World}
+use Rattle.fuse_spec.specs.Values.Maps.{Map, get, values}
+use Rattle.fuse_spec.specs.Kernel.Queues.{QueueState, pending}
+use Rattle.fuse_spec.specs.Kernel.Messages.{Request, RequestBody, init, asks, release, forget, batch_forget, interrupt}
+use Rattle.fuse_spec.specs.Calls.Vfs.{CallState, walking, doing, using, Vfs}
+use Rattle.fuse_spec.specs.Kernel.Kernel.{is_live}
+use Rattle.fuse_spec.specs.Server.Nodes.{file_of, is_open}
+use Rattle.fuse_spec.specs.Server.Server.{Server, HeldRequest}
+use Rattle.fuse_spec.specs.Claim.Counts.{OpenBalance, opens_of}
+use Rattle.fuse_spec.specs.World.Worlds.{World}
 
 -- ---- the kernel alone
 

@@ -1,12 +1,12 @@
 -- How often open numbers stand, whatever happened.
 use Rattle.std.specs.Prelude.{◌≡◌, ◌≢◌, ◌≤◌, ◌<◌, ◌⊎◌, ℕ, true, Some, None, nat_eq, count_by}
 use Rattle.fuse_spec.specs.declared.Opened.{Opened}
-use Rattle.fuse_spec.specs.Counts.{opens_in}
-use Rattle.fuse_spec.specs.Kernel.{is_live}
-use Rattle.fuse_spec.specs.Maps.{get}
-use Rattle.fuse_spec.specs.Queues.{request_under}
-use Rattle.fuse_spec.specs.Server.{Kept}
-use Rattle.fuse_spec.specs.Worlds.{World, Sent}
+use Rattle.fuse_spec.specs.Claim.Counts.{opens_in}
+use Rattle.fuse_spec.specs.Kernel.Kernel.{is_live}
+use Rattle.fuse_spec.specs.Values.Maps.{get}
+use Rattle.fuse_spec.specs.Kernel.Queues.{request_under}
+use Rattle.fuse_spec.specs.Server.Server.{Kept}
+use Rattle.fuse_spec.specs.World.Worlds.{World, Sent}
 use Rattle.fuse_theorem.specs.Copies.{SomeHas}
 use Rattle.fuse_theorem.specs.OpenNumbers.{open_files}
 

@@ -1,8 +1,8 @@
 -- The worlds to which lists of events lead from the first one.
 use Rattle.std.specs.Prelude.{◌≤◌, length}
-use Rattle.fuse_spec.specs.Numbers.{max_calls}
-use Rattle.fuse_spec.specs.Plain.{Plain}
-use Rattle.fuse_spec.specs.Worlds.{World}
+use Rattle.fuse_spec.specs.Values.Numbers.{max_calls}
+use Rattle.fuse_spec.specs.Reference.Plain.{Plain}
+use Rattle.fuse_spec.specs.World.Worlds.{World}
 use Rattle.fuse_theorem.specs.AllSound.{AllSound}
 use Rattle.fuse_theorem.specs.AnswersSound.{AnswersSound}
 

@@ -1,10 +1,10 @@
 -- What is recorded of a list of events.
 use Rattle.std.specs.Prelude.{List, [], ◌∷◌, ◌++◌}
-use Rattle.fuse_spec.specs.Worlds.{World}
-use Rattle.fuse_spec.specs.Events.{Event, Outcome}
+use Rattle.fuse_spec.specs.World.Worlds.{World}
+use Rattle.fuse_spec.specs.World.Events.{Event, Outcome}
 use Rattle.fuse_spec.specs.declared.Refusal.{Refusal}
-use Rattle.fuse_spec.specs.Records.{Record, outcome, refused, answers_of, collected}
-use Rattle.fuse_spec.specs.Steps.{Happens, RefusedWith}
+use Rattle.fuse_spec.specs.World.Records.{Record, outcome, refused, answers_of, collected}
+use Rattle.fuse_spec.specs.World.Steps.{Happens, RefusedWith}
 
 -- The records of a list of events, as the machine alone gives them.
 pub data Recorded : World → List Event → List Record → World → Type 0 where

@@ -5,12 +5,12 @@ use Rattle.fuse_spec.specs.declared.Opened.{Opened}
 use Rattle.fuse_spec.specs.declared.Purpose.{Purpose}
 use Rattle.fuse_spec.specs.declared.Purpose.TheVariants as purpose
 use Rattle.fuse_spec.specs.declared.QueuedRequest.{QueuedRequest}
-use Rattle.fuse_spec.specs.Denotes.{generation_known}
-use Rattle.fuse_spec.specs.Kernel.{is_live}
-use Rattle.fuse_spec.specs.Maps.{Map, get, values}
-use Rattle.fuse_spec.specs.Messages.{release}
-use Rattle.fuse_spec.specs.Server.{HeldRequest}
-use Rattle.fuse_spec.specs.Worlds.{World}
+use Rattle.fuse_spec.specs.Claim.Denotes.{generation_known}
+use Rattle.fuse_spec.specs.Kernel.Kernel.{is_live}
+use Rattle.fuse_spec.specs.Values.Maps.{Map, get, values}
+use Rattle.fuse_spec.specs.Kernel.Messages.{release}
+use Rattle.fuse_spec.specs.Server.Server.{HeldRequest}
+use Rattle.fuse_spec.specs.World.Worlds.{World}
 use Rattle.fuse_theorem.specs.ClosedFiles.{ClosedFiles}
 use Rattle.fuse_theorem.specs.KnownNodes.{IsKnown}
 

@@ -5,11 +5,11 @@ use Rattle.fuse_spec.specs.declared.Purpose.TheVariants as purpose
 use Rattle.fuse_spec.specs.declared.QueuedRequest.{QueuedRequest}
 use Rattle.fuse_spec.specs.declared.ReplyResult.{ReplyResult}
 use Rattle.fuse_spec.specs.declared.WriteResult.TheVariants.{Invalid}
-use Rattle.fuse_spec.specs.Kernel.{is_live}
-use Rattle.fuse_spec.specs.Maps.{Map, get}
-use Rattle.fuse_spec.specs.Replies.{is_empty_reply}
-use Rattle.fuse_spec.specs.Server.{Kept}
-use Rattle.fuse_spec.specs.Worlds.{World, Sent}
+use Rattle.fuse_spec.specs.Kernel.Kernel.{is_live}
+use Rattle.fuse_spec.specs.Values.Maps.{Map, get}
+use Rattle.fuse_spec.specs.Kernel.Replies.{is_empty_reply}
+use Rattle.fuse_spec.specs.Server.Server.{Kept}
+use Rattle.fuse_spec.specs.World.Worlds.{World, Sent}
 
 -- Each copy under this number, and the kept reply under it, says only whether the request failed.
 pub record IsEmptyUnder (replies : List Sent) (kept : Map Kept) (unique : ℕ) : Type 0 where

@@ -1,9 +1,9 @@
 -- What is true of the server's tree and tables, whatever happened.
 use Rattle.std.specs.Prelude.{◌≡◌, ◌≢◌, ◌≤◌, ◌<◌, ℕ, Some, None, All}
-use Rattle.fuse_spec.specs.Maps.{get}
-use Rattle.fuse_spec.specs.Trees.{Tree, Named, a_directory}
-use Rattle.fuse_spec.specs.Nodes.{NodeTable, HeldNode, HandleTable, OpenNumber}
-use Rattle.fuse_spec.specs.Server.{Server}
+use Rattle.fuse_spec.specs.Values.Maps.{get}
+use Rattle.fuse_spec.specs.Files.Trees.{Tree, Named, a_directory}
+use Rattle.fuse_spec.specs.Server.Nodes.{NodeTable, HeldNode, HandleTable, OpenNumber}
+use Rattle.fuse_spec.specs.Server.Server.{Server}
 
 -- The root is a directory to which no name leads, and no coming file is it.
 pub record TreeSound (tree : Tree) : Type 0 where

@@ -2,11 +2,11 @@
 use Rattle.std.specs.Prelude.{◌≡◌, List, [], ◌∷◌, ◌++◌, map}
 use Rattle.fuse_spec.specs.declared.Refusal.{Refusal}
 use Rattle.fuse_spec.specs.declared.Refusal.TheVariants.{LinkLost}
-use Rattle.fuse_spec.specs.Worlds.{World}
-use Rattle.fuse_spec.specs.Events.{Event, Outcome, abort, aborted}
-use Rattle.fuse_spec.specs.Records.{Record, outcome, refused, link_lost, answers_of, collected}
-use Rattle.fuse_spec.specs.Sessions.{Session, linked, lost}
-use Rattle.fuse_spec.specs.Steps.{Happens, RefusedWith}
+use Rattle.fuse_spec.specs.World.Worlds.{World}
+use Rattle.fuse_spec.specs.World.Events.{Event, Outcome, abort, aborted}
+use Rattle.fuse_spec.specs.World.Records.{Record, outcome, refused, link_lost, answers_of, collected}
+use Rattle.fuse_spec.specs.Claim.Sessions.{Session, linked, lost}
+use Rattle.fuse_spec.specs.World.Steps.{Happens, RefusedWith}
 use Rattle.fuse_theorem.specs.Recorded.{Recorded}
 
 -- The records of a list of events, as the machine and the link give them. In any accepted event after which a mount is live the link may be lost.

@@ -1,13 +1,13 @@
 -- What is true of the requests that the server holds, in a live mount and after an abort.
 use Rattle.std.specs.Prelude.{◌≡◌, ℕ, Bool, true, false, Some, All}
 use Rattle.fuse_spec.specs.declared.Opened.{Opened}
-use Rattle.fuse_spec.specs.Maps.{get}
-use Rattle.fuse_spec.specs.Messages.{RequestBody, init, asks, release, forget, batch_forget, interrupt}
-use Rattle.fuse_spec.specs.Kernel.{is_live}
-use Rattle.fuse_spec.specs.Nodes.{NodeTable}
-use Rattle.fuse_spec.specs.Server.{HeldRequest}
-use Rattle.fuse_spec.specs.Denotes.{generation_known}
-use Rattle.fuse_spec.specs.Worlds.{World}
+use Rattle.fuse_spec.specs.Values.Maps.{get}
+use Rattle.fuse_spec.specs.Kernel.Messages.{RequestBody, init, asks, release, forget, batch_forget, interrupt}
+use Rattle.fuse_spec.specs.Kernel.Kernel.{is_live}
+use Rattle.fuse_spec.specs.Server.Nodes.{NodeTable}
+use Rattle.fuse_spec.specs.Server.Server.{HeldRequest}
+use Rattle.fuse_spec.specs.Claim.Denotes.{generation_known}
+use Rattle.fuse_spec.specs.World.Worlds.{World}
 use Rattle.fuse_theorem.specs.Lookups.{IsHeldAs}
 
 -- Requests of calls, INIT and RELEASEs are held, and of these only requests of calls are marked.

@@ -1,14 +1,14 @@
 -- What is true of the open numbers of the requests that the server holds, in a live mount and after an abort.
 use Rattle.std.specs.Prelude.{Contains, ◌≡◌, ◌≤◌, ◌+◌, ℕ, true, false, [], Some, sum_by}
 use Rattle.fuse_spec.specs.declared.Opened.{Opened}
-use Rattle.fuse_spec.specs.Maps.{Map, get, values}
-use Rattle.fuse_spec.specs.Operations.{Operation}
-use Rattle.fuse_spec.specs.Messages.{asks}
-use Rattle.fuse_spec.specs.Kernel.{is_live}
-use Rattle.fuse_spec.specs.Nodes.{NodeTable, HandleTable, file_of, is_open}
-use Rattle.fuse_spec.specs.Server.{HeldRequest}
-use Rattle.fuse_spec.specs.Counts.{opens_of, opens_of_body, releases_in, handle_count}
-use Rattle.fuse_spec.specs.Worlds.{World}
+use Rattle.fuse_spec.specs.Values.Maps.{Map, get, values}
+use Rattle.fuse_spec.specs.Files.Operations.{Operation}
+use Rattle.fuse_spec.specs.Kernel.Messages.{asks}
+use Rattle.fuse_spec.specs.Kernel.Kernel.{is_live}
+use Rattle.fuse_spec.specs.Server.Nodes.{NodeTable, HandleTable, file_of, is_open}
+use Rattle.fuse_spec.specs.Server.Server.{HeldRequest}
+use Rattle.fuse_spec.specs.Claim.Counts.{opens_of, opens_of_body, releases_in, handle_count}
+use Rattle.fuse_spec.specs.World.Worlds.{World}
 
 -- How often held requests release an open number.
 abbrev pub releases_held : Map HeldRequest → ℕ → ℕ

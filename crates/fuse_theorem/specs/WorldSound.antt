@@ -1,8 +1,8 @@
 -- What is true of every world to which events lead from the first one, and the events that need no more.
-use Rattle.fuse_spec.specs.Queues.{IsSound}
-use Rattle.fuse_spec.specs.Worlds.{World}
-use Rattle.fuse_spec.specs.Events.{Event}
-use Rattle.fuse_spec.specs.Events as event
+use Rattle.fuse_spec.specs.Kernel.Queues.{IsSound}
+use Rattle.fuse_spec.specs.World.Worlds.{World}
+use Rattle.fuse_spec.specs.World.Events.{Event}
+use Rattle.fuse_spec.specs.World.Events as event
 use Rattle.fuse_theorem.specs.EachEvent.{IsRooted}
 use Rattle.fuse_theorem.specs.Lookups.{LookupsSound}
 use Rattle.fuse_theorem.specs.Unperformed.{RequestsSound}

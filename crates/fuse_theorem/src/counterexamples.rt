@@ -1,17 +1,17 @@
 //! Laws that fail once one of their premises is left out, each by a world in which it does.
 
 ghost use Rattle.std.specs.Prelude.{◌≡◌, ℕ, [], ◌∷◌};
-ghost use Rattle.fuse_spec.specs.Alike.{Alike};
-ghost use Rattle.fuse_spec.specs.Counts.{Keeps, SameNode};
-ghost use Rattle.fuse_spec.specs.Events as event;
-ghost use Rattle.fuse_spec.specs.Maps.{get};
-ghost use Rattle.fuse_spec.specs.Plain.{Plain, first_plain};
-ghost use Rattle.fuse_spec.specs.Records.{outcome};
-ghost use Rattle.fuse_spec.specs.Runs.{AnswersOnce, Run};
-ghost use Rattle.fuse_spec.specs.Steps.{Happens, IsRefused};
-ghost use Rattle.fuse_spec.specs.Refusals.{Refuses};
+ghost use Rattle.fuse_spec.specs.Claim.Alike.{Alike};
+ghost use Rattle.fuse_spec.specs.Claim.Counts.{Keeps, SameNode};
+ghost use Rattle.fuse_spec.specs.World.Events as event;
+ghost use Rattle.fuse_spec.specs.Values.Maps.{get};
+ghost use Rattle.fuse_spec.specs.Reference.Plain.{Plain, first_plain};
+ghost use Rattle.fuse_spec.specs.World.Records.{outcome};
+ghost use Rattle.fuse_spec.specs.Claim.Runs.{AnswersOnce, Run};
+ghost use Rattle.fuse_spec.specs.World.Steps.{Happens, IsRefused};
+ghost use Rattle.fuse_spec.specs.World.Refusals.{Refuses};
 ghost use Rattle.fuse_spec.specs.declared.Refusal.TheVariants.{Exhausted};
-ghost use Rattle.fuse_spec.specs.Worlds.{World, after_tick, first_world};
+ghost use Rattle.fuse_spec.specs.World.Worlds.{World, after_tick, first_world};
 ghost use Rattle.fuse_theorem.specs.Counterexamples.{a_millisecond_later, answered_twice, with_a_copy_left, with_a_late_request, with_a_node_left, with_a_stray_forget, with_an_early_answer, with_no_generation};
 ghost use Rattle.fuse_theorem.specs.EachEvent.{IsRooted, Needs};
 ghost use Rattle.fuse_theorem.specs.Lookups.{LookupsSound};

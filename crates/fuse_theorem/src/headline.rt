@@ -1,16 +1,16 @@
 //! The headline over the definitions: every list of all events of the finished system, in any order.
 
 ghost use Rattle.std.specs.Prelude.{◌≢◌, List, All};
-ghost use Rattle.fuse_spec.specs.Alike.{Alike};
-ghost use Rattle.fuse_spec.specs.Counts.{Keeps};
+ghost use Rattle.fuse_spec.specs.Claim.Alike.{Alike};
+ghost use Rattle.fuse_spec.specs.Claim.Counts.{Keeps};
 ghost use Rattle.fuse_spec.specs.declared.Refusal.TheVariants.{NoMemory};
-ghost use Rattle.fuse_spec.specs.Events.{Event, Outcome};
-ghost use Rattle.fuse_spec.specs.Plain.{Plain, first_plain};
-ghost use Rattle.fuse_spec.specs.PlainSteps.{Takes};
-ghost use Rattle.fuse_spec.specs.Records.{Record, refused, collected};
-ghost use Rattle.fuse_spec.specs.Runs.{AnswersOnce, CallsEnd, Run, plain_collected};
-ghost use Rattle.fuse_spec.specs.Steps.{Happens};
-ghost use Rattle.fuse_spec.specs.Worlds.{World, first_world};
+ghost use Rattle.fuse_spec.specs.World.Events.{Event, Outcome};
+ghost use Rattle.fuse_spec.specs.Reference.Plain.{Plain, first_plain};
+ghost use Rattle.fuse_spec.specs.Reference.PlainSteps.{Takes};
+ghost use Rattle.fuse_spec.specs.World.Records.{Record, refused, collected};
+ghost use Rattle.fuse_spec.specs.Claim.Runs.{AnswersOnce, CallsEnd, Run, plain_collected};
+ghost use Rattle.fuse_spec.specs.World.Steps.{Happens};
+ghost use Rattle.fuse_spec.specs.World.Worlds.{World, first_world};
 ghost use Rattle.fuse_theorem.specs.AllSound.{AllSound};
 ghost use Rattle.fuse_theorem.specs.AnswersSound.{AnswersSound};
 ghost use Rattle.fuse_theorem.specs.Recorded.{Recorded};

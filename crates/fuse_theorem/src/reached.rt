@@ -1,17 +1,17 @@
 //! The worlds to which lists of events lead.
 
 ghost use Rattle.std.specs.Prelude.{◌+◌, ◌≤◌, ℕ, List, length};
-ghost use Rattle.fuse_spec.specs.Counts.{Keeps};
-ghost use Rattle.fuse_spec.specs.Events.{Event, Outcome};
-ghost use Rattle.fuse_spec.specs.Maps.{remove};
-ghost use Rattle.fuse_spec.specs.Numbers.{max_calls};
-ghost use Rattle.fuse_spec.specs.Plain.{Plain};
-ghost use Rattle.fuse_spec.specs.PlainWords.{Steps};
-ghost use Rattle.fuse_spec.specs.Records.{Record, collected};
-ghost use Rattle.fuse_spec.specs.Runs.{Refines, Run, AnswersOnce, IsOver, CallsEnd, plain_handed_out};
-ghost use Rattle.fuse_spec.specs.Sessions.{Session, SessionRun};
-ghost use Rattle.fuse_spec.specs.Steps.{Happens};
-ghost use Rattle.fuse_spec.specs.Worlds.{World, first_world};
+ghost use Rattle.fuse_spec.specs.Claim.Counts.{Keeps};
+ghost use Rattle.fuse_spec.specs.World.Events.{Event, Outcome};
+ghost use Rattle.fuse_spec.specs.Values.Maps.{remove};
+ghost use Rattle.fuse_spec.specs.Values.Numbers.{max_calls};
+ghost use Rattle.fuse_spec.specs.Reference.Plain.{Plain};
+ghost use Rattle.fuse_spec.specs.Reference.PlainWords.{Steps};
+ghost use Rattle.fuse_spec.specs.World.Records.{Record, collected};
+ghost use Rattle.fuse_spec.specs.Claim.Runs.{Refines, Run, AnswersOnce, IsOver, CallsEnd, plain_handed_out};
+ghost use Rattle.fuse_spec.specs.Claim.Sessions.{Session, SessionRun};
+ghost use Rattle.fuse_spec.specs.World.Steps.{Happens};
+ghost use Rattle.fuse_spec.specs.World.Worlds.{World, first_world};
 ghost use Rattle.fuse_theorem.specs.Reached.{IsReached};
 ghost use Rattle.fuse_theorem.specs.Recorded.{Recorded};
 ghost use Rattle.fuse_theorem.specs.SessionRecorded.{SessionRecorded};

@@ -4,10 +4,10 @@
 ghost use Rattle.std.specs.Prelude.{◌≡◌, ◌≢◌, ◌⊎◌, ℕ, true, false, Ok, Err};
 ghost use Rattle.fuse_spec.specs.declared.Refusal.{Refusal};
 ghost use Rattle.fuse_spec.specs.declared.Refusal.TheVariants.{LinkLost, NoMemory};
-ghost use Rattle.fuse_spec.specs.Worlds.{World};
-ghost use Rattle.fuse_spec.specs.Events.{Event, Outcome};
-ghost use Rattle.fuse_spec.specs.Steps.{step, is_past, Happens, MayStep, IsRefused, RefusedWith};
-ghost use Rattle.fuse_spec.specs.Refusals.{Leads, Refuses, draws};
+ghost use Rattle.fuse_spec.specs.World.Worlds.{World};
+ghost use Rattle.fuse_spec.specs.World.Events.{Event, Outcome};
+ghost use Rattle.fuse_spec.specs.World.Steps.{step, is_past, Happens, MayStep, IsRefused, RefusedWith};
+ghost use Rattle.fuse_spec.specs.World.Refusals.{Leads, Refuses, draws};
 
 /// An event gets a refusal exactly where a case of `Refuses` has it. The server's choice of ids is given.
 pub fn refused_by_cases()

@@ -2,14 +2,14 @@
 //! refused.
 
 ghost use Rattle.std.specs.Prelude.{◌≡◌, List, [], true};
-ghost use Rattle.fuse_spec.specs.Alike.{Alike};
-ghost use Rattle.fuse_spec.specs.Events.{Event, abort, aborted};
-ghost use Rattle.fuse_spec.specs.Plain.{Plain};
-ghost use Rattle.fuse_spec.specs.Records.{Record};
-ghost use Rattle.fuse_spec.specs.Runs.{AnswersOnce};
-ghost use Rattle.fuse_spec.specs.Sessions.{Session, SessionRun, linked};
-ghost use Rattle.fuse_spec.specs.Steps.{Happens};
-ghost use Rattle.fuse_spec.specs.Worlds.{World};
+ghost use Rattle.fuse_spec.specs.Claim.Alike.{Alike};
+ghost use Rattle.fuse_spec.specs.World.Events.{Event, abort, aborted};
+ghost use Rattle.fuse_spec.specs.Reference.Plain.{Plain};
+ghost use Rattle.fuse_spec.specs.World.Records.{Record};
+ghost use Rattle.fuse_spec.specs.Claim.Runs.{AnswersOnce};
+ghost use Rattle.fuse_spec.specs.Claim.Sessions.{Session, SessionRun, linked};
+ghost use Rattle.fuse_spec.specs.World.Steps.{Happens};
+ghost use Rattle.fuse_spec.specs.World.Worlds.{World};
 ghost use Rattle.fuse_theorem.specs.AllSound.{AllSound};
 ghost use Rattle.fuse_theorem.specs.AnswersSound.{AnswersSound};
 ghost use Rattle.fuse_theorem.specs.Recorded.{Recorded};

@@ -1,14 +1,14 @@
 -- Lower-case hex, read and written.
-use Rattle.std.proofs.Common.{◌≡◌, ◌+◌, ◌-◌, ◌*◌, ◌/◌, ◌%◌, ◌<◌, ◌≤◌, ◌==◌, ◌&&◌, ◌++◌, ℕ, zero, suc, Bool, true, if◌then◌else◌, nat_lt, List, [], ◌∷◌, length, take, slice_index, Ok, Some, arith, refl, sym, ap, subst, ◌∙◌, inl, inr}
-use Rattle.std.specs.Prelude.{All, MatchResult, Result, Err}
+use Rattle.std.proofs.Common.{◌≡◌, ◌+◌, ◌-◌, ◌*◌, ◌/◌, ◌%◌, ◌<◌, ◌≤◌, ◌==◌, ◌&&◌, ◌++◌, ℕ, zero, suc, Bool, true, if◌then◌else◌, nat_lt, List, [], ◌∷◌, length, set, take, drop, slice_index, Ok, Some, arith, refl, sym, ap, ◌∙◌, inl, inr}
+use Rattle.std.specs.Prelude.{All}
 use Rattle.std.proofs.lemmas.Bool.{and_parts, cases_lt, eqb-true, le-ltb, lt-ltb}
-use Rattle.std.proofs.lemmas.List.{take_more}
+use Rattle.std.proofs.Math.Seq.{take-add, take-suc-set}
+use Rattle.std.proofs.lemmas.List.{take_all}
 use Rattle.std.proofs.lemmas.List.Elements.{All-cons, All-nil, All-tail}
-use Rattle.hex.specs.Hex.{IsBytes, decode_of, decode_pairs, decode_sized, digit_or_error, hex_digit_value, encode_lower, encode_with, lower_digits, pair_value, value_at}
+use Rattle.hex.specs.Hex.{IsBytes, decode_of, decode_pairs, digit_or_error, hex_digit_value, encode_lower, encode_with, lower_digits, pair_value, value_at}
 use Rattle.hex.proofs.HexLemmas.{IsDigits-lower_digits, decode_of-even, length-encode_with}
-use Rattle.hex.proofs.Pairs.{cons_byte, decode_pairs-ok_pair, decode_sized-pairs}
-use Rattle.hex.specs.declared.error.FromHexError.{FromHexError}
-use Rattle.fw_script.specs.HexTexts.{IsHex, IsLowerDigit, SpellsHex, hex_or_none}
+use Rattle.hex.proofs.Pairs.{cons_byte, decode_pairs-ok_pair}
+use Rattle.fw_script.specs.HexTexts.{IsHex, IsLowerDigit, SpellsHex}
 
 -- ---- the sixteen digits
 
@@ -38,16 +38,23 @@ digit_of-low v h = rw (lt-ltb v 10 h) refl
 digit_of-high : (v : ℕ) → 10 ≤ v → digit_of v ≡ 87 + v
 digit_of-high v h = rw (le-ltb v 10 h) refl
 
--- the value of a lower-case digit
-value_of_digit : (c : ℕ) → IsLowerDigit c → (v : ℕ) × (v < 16) × (slice_index lower_digits v ≡ c)
-value_of_digit c (inl h) =
+-- what a digit stands for is in the table at its value
+pub digit_to_nine : (c : ℕ) → 48 ≤ c → c ≤ 57 → slice_index lower_digits (c - 48) ≡ c
+digit_to_nine c from to =
     let digit = digit_of-low (c - 48) (omega arith) in
     let same : 48 + (c - 48) ≡ c = omega arith in
-    (c - 48, omega arith, has_digits-at 16 (c - 48) refl (omega arith) ∙ digit ∙ same)
-value_of_digit c (inr h) =
+    has_digits-at 16 (c - 48) refl (omega arith) ∙ digit ∙ same
+
+pub digit_from_ten : (c : ℕ) → 97 ≤ c → c ≤ 102 → slice_index lower_digits (c - 87) ≡ c
+digit_from_ten c from to =
     let digit = digit_of-high (c - 87) (omega arith) in
     let same : 87 + (c - 87) ≡ c = omega arith in
-    (c - 87, omega arith, has_digits-at 16 (c - 87) refl (omega arith) ∙ digit ∙ same)
+    has_digits-at 16 (c - 87) refl (omega arith) ∙ digit ∙ same
+
+-- the value of a lower-case digit
+value_of_digit : (c : ℕ) → IsLowerDigit c → (v : ℕ) × (v < 16) × (slice_index lower_digits v ≡ c)
+value_of_digit c (inl h) = (c - 48, omega arith, digit_to_nine c h.0 h.1)
+value_of_digit c (inr h) = (c - 87, omega arith, digit_from_ten c h.0 h.1)
 
 -- and the digit of a value
 digit_of_value : (v : ℕ) → v < 16 → IsLowerDigit (slice_index lower_digits v)
@@ -104,22 +111,6 @@ decoded_is_spelled text bytes h decoded =
     let same : found.0 ≡ bytes = cc in
     rw (← same) (omega (arith, len, size, h.0), found.2)
 
-hex_or_none-some : (bytes : List ℕ) → 0 < length bytes → hex_or_none bytes ≡ encode_lower bytes
-hex_or_none-some [] h = absurd (omega arith)
-hex_or_none-some (b ∷ rest) h = refl
-
--- and what is decoded into room for it
-pub decoded_into_room : (text bytes : List ℕ) (n : ℕ) (result : Result (Unit {0}) FromHexError) → IsHex text → n ≡ length text / 2
-    → MatchResult (decode_sized text n) (λ decoded. (result ≡ Ok tt) × (bytes ≡ decoded)) (λ e. result ≡ Err e) → text ≡ hex_or_none bytes
-decoded_into_room text bytes n result h half is =
-    let pairs = decoded_lower 0 text h.2 h.1 in
-    let sized : decode_sized text n ≡ Ok pairs.0 = decode_sized-pairs text n h.1 (sym half) ∙ pairs.1 in
-    let decoded : (result ≡ Ok tt) × (bytes ≡ pairs.0) =
-    subst (λ (r : Result (List ℕ) FromHexError). MatchResult r (λ decoded. (result ≡ Ok tt) × (bytes ≡ decoded)) (λ e. result ≡ Err e)) sized is in
-    let len = length-encode_with lower_digits pairs.0 in
-    let size = ap length pairs.2 in
-    rw decoded.1 (pairs.2 ∙ sym (hex_or_none-some pairs.0 (omega (arith, len, size, h.0))))
-
 -- ---- writing
 
 -- the hex of bytes is made of lower-case digits
@@ -142,11 +133,51 @@ unfolding encode_with
 encode_lower-append [] ys = refl
 encode_lower-append (x ∷ xs) ys = rw (encode_lower-append xs ys) refl
 
--- one byte more
-pub encode_lower-take : (bytes : List ℕ) (i : ℕ) → i < length bytes
-    → encode_lower (take (i + 1) bytes) ≡ encode_lower (take i bytes) ++ encode_lower (slice_index bytes i ∷ [])
-encode_lower-take bytes i h = ap encode_lower (take_more bytes i 0 h) ∙ encode_lower-append (take i bytes) (slice_index bytes i ∷ [])
+-- a part more
+pub encode_lower-part : (bytes : List ℕ) (i j : ℕ) → i ≤ j → encode_lower (take j bytes) ≡ encode_lower (take i bytes) ++ encode_lower (take (j - i) (drop i bytes))
+encode_lower-part bytes i j h =
+    let whole : i + (j - i) ≡ j = omega arith in
+    let parts : take j bytes ≡ take i bytes ++ take (j - i) (drop i bytes) = ap (λ n. take n bytes) (sym whole) ∙ take-add i (j - i) bytes in
+    ap encode_lower parts ∙ encode_lower-append (take i bytes) (take (j - i) (drop i bytes))
+
+-- and all that is left
+pub encode_lower-rest : (bytes : List ℕ) (i : ℕ) → i ≤ length bytes
+    → encode_lower bytes ≡ encode_lower (take i bytes) ++ encode_lower (take (length bytes - i) (drop i bytes))
+encode_lower-rest bytes i h = ap encode_lower (sym (take_all (length bytes) bytes (omega arith))) ∙ encode_lower-part bytes i (length bytes) h
 
 pub encode_lower-nil : encode_lower [] ≡ []
 unfolding encode_with
 encode_lower-nil = refl
+
+-- ---- reading, byte by byte
+
+pair_spelled : (v w : ℕ) → v < 16 → w < 16 → encode_lower ((16 * v + w) ∷ []) ≡ slice_index lower_digits v ∷ slice_index lower_digits w ∷ []
+unfolding encode_with
+pair_spelled v w high low =
+    let above : (16 * v + w) / 16 ≡ v = omega (arith, low) in
+    let below : (16 * v + w) % 16 ≡ w = omega (arith, low) in
+    rw (above, below) refl
+
+first_two : (text : List ℕ) (i : ℕ) → i + 1 < length text → take 2 (drop i text) ≡ slice_index text i ∷ slice_index text (i + 1) ∷ []
+first_two [] i h = absurd (omega arith)
+first_two (c ∷ []) i h = absurd (omega arith)
+first_two (c ∷ e ∷ rest) zero h = refl
+first_two (c ∷ e ∷ rest) (suc i) h =
+    let next : suc i + 1 ≡ suc (i + 1) = omega arith in
+    rw next (first_two (e ∷ rest) i (omega arith))
+
+-- one byte more is read
+pub one_more_read : (text bytes : List ℕ) (i v w : ℕ) → i < length bytes → length text ≡ 2 * length bytes → v < 16 → w < 16
+    → slice_index lower_digits v ≡ slice_index text (2 * i) → slice_index lower_digits w ≡ slice_index text (2 * i + 1)
+    → encode_lower (take i bytes) ≡ take (2 * i) text
+    → encode_lower (take (i + 1) (set bytes i (16 * v + w))) ≡ take (2 * (i + 1)) text
+one_more_read text bytes i v w below size high low first second before =
+    let byte = 16 * v + w in
+    let next : i + 1 ≡ suc i = omega arith in
+    let put : take (suc i) (set bytes i byte) ≡ take i bytes ++ (byte ∷ []) = take-suc-set bytes i byte below in
+    let joined : encode_lower (take i bytes ++ (byte ∷ [])) ≡ encode_lower (take i bytes) ++ encode_lower (byte ∷ []) = encode_lower-append (take i bytes) (byte ∷ []) in
+    let pair = pair_spelled v w high low in
+    let two : 2 * suc i ≡ 2 * i + 2 = omega arith in
+    let taken : take (2 * i + 2) text ≡ take (2 * i) text ++ take 2 (drop (2 * i) text) = take-add (2 * i) 2 text in
+    let both : take 2 (drop (2 * i) text) ≡ slice_index text (2 * i) ∷ slice_index text (2 * i + 1) ∷ [] = first_two text (2 * i) (omega (arith, size)) in
+    rw (next, put, joined, before, pair, first, second, two, taken, both) refl

@@ -1,7 +1,8 @@
 pub mod Hexes
+pub mod Digits
 pub mod Mounts
 pub mod Decimals
-pub mod Forms
+pub mod Names
 pub mod Numbering
 pub mod Splitting
 pub mod Statuses

@@ -1,10 +1,11 @@
 -- The first part of a text, by the place of its first separator.
-use Rattle.std.proofs.Common.{◌≡◌, ◌+◌, ◌<◌, ◌==◌, ◌≤◌, ℕ, Bool, true, false, cond, nat_lt, List, [], ◌∷◌, length, take, drop, Option, Some, None, arith, refl}
+use Rattle.std.proofs.Common.{◌≡◌, ◌+◌, ◌<◌, ◌==◌, ◌≤◌, ℕ, Bool, true, false, cond, nat_lt, get_or, List, [], ◌∷◌, length, take, drop, Option, Some, None, arith, refl}
 use Rattle.std.specs.Prelude.{position, MatchOption}
 use Rattle.std.specs.List.{position_or_len, slice_split}
 use Rattle.std.proofs.lemmas.List.Splits.{slice_split_first, slice_split_none, length-slice_split}
-use Rattle.std.proofs.lemmas.List.Sums.{fails_before_first}
-use Rattle.std.proofs.lemmas.Bool.{ltb-true, ltb-false}
+use Rattle.std.proofs.lemmas.List.Sums.{fails_before_first, position_or_len_is}
+use Rattle.std.proofs.lemmas.Bool.{false_from_ne_true, le-ltb, lt-ltb, ltb-true, ltb-false}
+use Rattle.memchr.specs.Find.{IsFirstByte}
 use Rattle.fw_script.specs.Words.{words_of, HasWords}
 
 abbrev is_byte : ℕ → ℕ → Bool
@@ -35,6 +36,23 @@ pub split_at_position : (separator : ℕ) (text : List ℕ) (o : Option ℕ) →
     × (slice_split (λ byte. byte == separator) text ≡ take end text ∷ slice_split (λ byte. byte == separator) (drop (end + 1) text)))
 split_at_position separator text o e =
     rw e (split_by_test separator text (nat_lt (position_or_len (is_byte separator) text) (length text)) refl)
+
+-- the first byte that a search gives is at that place
+pub first_byte_is_position : (separator : ℕ) (text : List ℕ) (o : Option ℕ) → IsFirstByte (λ byte. byte == separator) text o
+    → o ≡ position (λ byte. byte == separator) text
+first_byte_is_position separator text None nowhere =
+    let none : position_or_len (is_byte separator) text ≡ length text =
+    position_or_len_is (is_byte separator) text (length text) 0 (omega arith)
+    (λ k below. false_from_ne_true (is_byte separator (get_or text k 0)) (nowhere k (omega arith) below))
+    (λ below. absurd (omega arith)) in
+    rw (none, le-ltb (length text) (length text) (omega arith)) refl
+first_byte_is_position separator text (Some end) found =
+    let within = found.0.high in
+    let first : position_or_len (is_byte separator) text ≡ end =
+    position_or_len_is (is_byte separator) text end 0 (omega (arith, within))
+    (λ k below. false_from_ne_true (is_byte separator (get_or text k 0)) (found.0.before k (omega arith) below))
+    (λ below. found.1) in
+    rw (first, lt-ltb end (length text) within) refl
 
 -- a text is one word at least
 pub words_of_some : (text : List ℕ) → 1 ≤ length (words_of text)

@@ -57,90 +57,27 @@ pub(crate) enum ReadForm {
     Pending,
 }
 
-const WORD_FORMS: [WordForm; 12] = [
-    WordForm::Mount,
-    WordForm::Take,
-    WordForm::Do,
-    WordForm::Again,
-    WordForm::Write,
-    WordForm::Settle,
-    WordForm::Interrupt,
-    WordForm::Tick,
-    WordForm::DropName,
-    WordForm::Evict,
-    WordForm::Abort,
-    WordForm::Show,
-];
-
-const CALL_FORMS: [CallForm; 13] = [
-    CallForm::Stat,
-    CallForm::List,
-    CallForm::ListPlus,
-    CallForm::Open,
-    CallForm::Mkdir,
-    CallForm::Create,
-    CallForm::Unlink,
-    CallForm::Rmdir,
-    CallForm::Rename,
-    CallForm::Link,
-    CallForm::Read,
-    CallForm::Write,
-    CallForm::Close,
-];
-
-/// The word of a form.
-fn name_of_word(form: WordForm) -> &'static [u8]
-    ensures { result.now ≡ word_name form }
-{
-    match form {
-        WordForm::Mount => b"mount",
-        WordForm::Take => b"take",
-        WordForm::Do => b"do",
-        WordForm::Again => b"again",
-        WordForm::Write => b"write",
-        WordForm::Settle => b"settle",
-        WordForm::Interrupt => b"intr",
-        WordForm::Tick => b"tick",
-        WordForm::DropName => b"drop",
-        WordForm::Evict => b"evict",
-        WordForm::Abort => b"abort",
-        WordForm::Show => b"show",
-    }
-}
-
-/// The word that follows `call`.
-fn name_of_call(form: CallForm) -> &'static [u8]
-    ensures { result.now ≡ call_name form }
-{
-    match form {
-        CallForm::Stat => b"stat",
-        CallForm::List => b"list",
-        CallForm::ListPlus => b"listplus",
-        CallForm::Open => b"open",
-        CallForm::Mkdir => b"mkdir",
-        CallForm::Create => b"create",
-        CallForm::Unlink => b"unlink",
-        CallForm::Rmdir => b"rmdir",
-        CallForm::Rename => b"rename",
-        CallForm::Link => b"link",
-        CallForm::Read => b"read",
-        CallForm::Write => b"write",
-        CallForm::Close => b"close",
-    }
-}
-
 /// The form that one word names.
 fn form_of_word(word: &[u8]) -> Option<WordForm>
     ensures { MatchOption result
         ((f : WordForm) → word_name f ≢ word.now)
         (λ f. word_name f ≡ word.now) }
 {
-    for form in &WORD_FORMS {
-        if name_of_word(*form) == word {
-            return Some(*form);
-        }
+    match word {
+        b"mount" => Some(WordForm::Mount),
+        b"take" => Some(WordForm::Take),
+        b"do" => Some(WordForm::Do),
+        b"again" => Some(WordForm::Again),
+        b"write" => Some(WordForm::Write),
+        b"settle" => Some(WordForm::Settle),
+        b"intr" => Some(WordForm::Interrupt),
+        b"tick" => Some(WordForm::Tick),
+        b"drop" => Some(WordForm::DropName),
+        b"evict" => Some(WordForm::Evict),
+        b"abort" => Some(WordForm::Abort),
+        b"show" => Some(WordForm::Show),
+        _ => None,
     }
-    None
 }
 
 /// The form that `call` and a word name.
@@ -149,12 +86,22 @@ fn form_of_call(word: &[u8]) -> Option<CallForm>
         ((f : CallForm) → call_name f ≢ word.now)
         (λ f. call_name f ≡ word.now) }
 {
-    for form in &CALL_FORMS {
-        if name_of_call(*form) == word {
-            return Some(*form);
-        }
+    match word {
+        b"stat" => Some(CallForm::Stat),
+        b"list" => Some(CallForm::List),
+        b"listplus" => Some(CallForm::ListPlus),
+        b"open" => Some(CallForm::Open),
+        b"mkdir" => Some(CallForm::Mkdir),
+        b"create" => Some(CallForm::Create),
+        b"unlink" => Some(CallForm::Unlink),
+        b"rmdir" => Some(CallForm::Rmdir),
+        b"rename" => Some(CallForm::Rename),
+        b"link" => Some(CallForm::Link),
+        b"read" => Some(CallForm::Read),
+        b"write" => Some(CallForm::Write),
+        b"close" => Some(CallForm::Close),
+        _ => None,
     }
-    None
 }
 
 /// The form that `read` and a word name.

@@ -1,8 +1,8 @@
 //! Bytes as lower-case hex, two digits a byte.
 
-ghost use Rattle.std.specs.Prelude.{◌≡◌, ◌↔◌, ◌∷◌, [], ℕ, List, All, Err, IfOk, IsTrue, OnOk};
+ghost use Rattle.std.specs.Prelude.{◌≡◌, ◌↔◌, ◌<◌, ◌≤◌, ◌*◌, ℕ, List, All, Err, IfOk, IsTrue, OnOk, length, slice_index};
 ghost use Rattle.std.specs.Io.KnownBytes.{Appends};
-ghost use Rattle.hex.specs.Hex.{IsBytes, encode_lower};
+ghost use Rattle.hex.specs.Hex.{IsBytes, encode_lower, lower_digits};
 ghost use Rattle.fw_script.specs.HexTexts.{IsHex, IsHexOrNone, IsLowerDigit, SpellsHex, hex_or_none};
 ghost use Rattle.fw_script.specs.declared.hex_text.HexFault.TheVariants.{BadHex, NoMemory};
 
@@ -18,14 +18,23 @@ pub enum HexFault {
     NoMemory,
 }
 
-const DIGITS: &[u8; 16] = b"0123456789abcdef";
+/// Whether a byte is a lower-case hex digit.
+fn is_lower_digit(byte: u8) -> bool
+    ensures { IsTrue result ↔ IsLowerDigit byte }
+{
+    matches!(byte, b'0'..=b'9' | b'a'..=b'f')
+}
 
-/// Whether a text is made of lower-case hex digits.
+/// Whether a text is made of lower-case hex digits. It has no way out before the end, so that many bytes are tested at
+/// once.
 fn is_lower_hex(text: &[u8]) -> bool
     ensures { IsTrue result ↔ All IsLowerDigit text.now }
 {
-    text.iter()
-        .all(|byte| matches!(*byte, b'0'..=b'9' | b'a'..=b'f'))
+    let mut is_hex = true;
+    for byte in text {
+        is_hex &= is_lower_digit(*byte);
+    }
+    is_hex
 }
 
 /// Whether a text is one or more pairs of lower-case hex digits.
@@ -57,6 +66,29 @@ pub fn read_hex<A: Allocator>(alloc: A, text: &[u8]) -> Result<Vec<u8, A>, HexFa
     }
 }
 
+/// The value of a digit.
+fn digit_value(digit: u8) -> u8
+    requires { IsLowerDigit digit }
+    ensures value { slice_index lower_digits result ≡ digit }
+    ensures fits { result < 16 }
+{
+    if digit <= b'9' {
+        return digit - 48;
+    }
+    digit - 87
+}
+
+/// Reads the byte of each pair of digits.
+fn decode(bytes: &mut [u8], text: &[u8])
+    requires digits { All IsLowerDigit text.now }
+    requires pairs { length text.now ≡ 2 * length bytes.old }
+    ensures { text.now ≡ encode_lower bytes.new }
+{
+    for i in 0..bytes.len() {
+        bytes[i] = 16 * digit_value(text[2 * i]) + digit_value(text[2 * i + 1]);
+    }
+}
+
 /// Reads the bytes of a text, which may be `-` for none, in place of those that stood there.
 pub(crate) fn read_hex_or_none<A: Allocator>(
     bytes: &mut Vec<u8, A>,
@@ -70,28 +102,34 @@ pub(crate) fn read_hex_or_none<A: Allocator>(
         return Ok(());
     }
     bytes.resize(text.len() / 2, 0)?;
-    let _decoded = hex::decode_to_slice(text, bytes.as_mut_slice());
+    decode(bytes.as_mut_slice(), text);
     Ok(())
 }
 
-/// The two digits of a byte.
-#[tactic(auto, unfolding(hex::specs::Hex::encode_with))]
-fn digits_of(byte: u8) -> [u8; 2]
-    ensures { result ≡ encode_lower (byte ∷ []) }
+/// How many bytes are spelled at once.
+const BLOCK: usize = 32;
+
+/// Writes no more bytes than a block as lower-case hex, in one write.
+fn write_block<W: Write>(out: &mut W, bytes: &[u8]) -> io::Result<()>
+    requires { length bytes.now ≤ 32 }
+    ensures { OnOk result (Appends (W.contents out.old) (W.contents out.new) (encode_lower bytes.now)) }
 {
-    let high = byte / 16;
-    let low = byte % 16;
-    [DIGITS[high as usize], DIGITS[low as usize]]
+    let mut digits = [0; 2 * BLOCK];
+    let text = &mut digits[..2 * bytes.len()];
+    let _encoded = hex::encode_to_slice(bytes, text);
+    out.write_all(text)
 }
 
 /// Writes bytes as lower-case hex.
 pub fn write_hex<W: Write>(out: &mut W, bytes: &[u8]) -> io::Result<()>
     ensures { OnOk result (Appends (W.contents out.old) (W.contents out.new) (encode_lower bytes.now)) }
 {
-    for byte in bytes {
-        out.write_all(&digits_of(*byte))?;
+    let mut written = 0;
+    while bytes.len() - written > BLOCK {
+        write_block(out, &bytes[written..written + BLOCK])?;
+        written += BLOCK;
     }
-    Ok(())
+    write_block(out, &bytes[written..])
 }
 
 /// Writes bytes as lower-case hex, `-` for none.

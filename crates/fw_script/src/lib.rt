@@ -2,6 +2,7 @@
 #![tactic(auto)]
 
 mod arguments;
+mod digits;
 mod form;
 mod frame;
 mod hex_text;
@@ -21,5 +22,5 @@ pub use hex_text::{HexFault, read_hex, write_hex};
 pub use line::{Line, LineFault, read_line};
 pub use number::read_number;
 pub use records::write_record;
-pub use script::{Script, run_over, run_script};
+pub use script::{Script, run_lists, run_over, run_script};
 pub use stop::{cannot_read, no_memory, socket_failed};

@@ -1,7 +1,7 @@
 //! What runs the events of a script: a world, or a session over a link.
 
 use fw_link::Link;
-use fw_world::{Event, Record, Refusal, Session, WorldIn, run};
+use fw_world::{Event, Record, Refusal, Session, Tables, WorldOf, run};
 use std::alloc::Allocator;
 
 /// The nodes of one side: id, generation and lookup count of each.
@@ -18,21 +18,25 @@ pub(crate) trait Machine<A: Allocator> {
     fn server_nodes(&self) -> Result<Nodes<A>, Refusal>;
 }
 
-impl<A: Allocator + Copy> Machine<A> for WorldIn<A> {
-    fn run(&mut self, events: &[Event<'_>], records: &mut Vec<Record<A>, A>) -> Result<(), usize> {
+impl<T: Tables> Machine<T::Heap> for WorldOf<T> {
+    fn run(
+        &mut self,
+        events: &[Event<'_>],
+        records: &mut Vec<Record<T::Heap>, T::Heap>,
+    ) -> Result<(), usize> {
         run(self, events, records)
     }
 
     fn last_put(&self) -> Option<&[u8]> {
-        WorldIn::last_put(self)
+        WorldOf::last_put(self)
     }
 
-    fn kernel_nodes(&self) -> Result<Nodes<A>, Refusal> {
-        WorldIn::kernel_nodes(self)
+    fn kernel_nodes(&self) -> Result<Nodes<T::Heap>, Refusal> {
+        WorldOf::kernel_nodes(self)
     }
 
-    fn server_nodes(&self) -> Result<Nodes<A>, Refusal> {
-        WorldIn::server_nodes(self)
+    fn server_nodes(&self) -> Result<Nodes<T::Heap>, Refusal> {
+        WorldOf::server_nodes(self)
     }
 }
 

@@ -1,12 +1,13 @@
 //! Records as the lines that are printed.
 
-ghost use Rattle.std.specs.Prelude.{◌≡◌, OnOk, flat_map, map, option_copied};
+ghost use Rattle.std.specs.Prelude.{◌≡◌, ◌++◌, ◌↔◌, All, IsTrue, OnOk, codes, decimal, flat_map, map, option_copied};
 ghost use Rattle.std.specs.Io.KnownBytes.{Appends};
-ghost use Rattle.fw_script.specs.Records.{answer_text, answer_words, attributes_words, event_text, frame_text, listed_words, record_text, shown_byte};
+ghost use Rattle.fw_script.specs.Records.{answer_text, answer_words, attributes_words, event_text, frame_text, listed_words, record_text, refusal_name, refusal_number, shown_byte};
 
+use crate::digits::{write_number, write_number_after};
 use crate::hex_text::{write_hex, write_hex_or_none};
-use crate::print::{OutcomeLine, name_of_refusal, number_of_refusal, word_of_kind};
-use fw_world::{Answer, Attributes, ListedName, Record};
+use crate::print::{name_of_refusal, number_of_refusal, word_of_kind, write_outcome};
+use fw_world::{Answer, Attributes, ListedName, Record, Refusal};
 use std::alloc::Allocator;
 use std::io;
 use std::io::Write;
@@ -22,10 +23,20 @@ fn shown(byte: u8) -> u8
     }
 }
 
+/// Whether each byte of a name is printed as it is.
+fn is_shown_as_is(name: &[u8]) -> bool
+    ensures { IsTrue result ↔ All (λ byte. shown_byte byte ≡ byte) name.now }
+{
+    name.iter().all(|byte| shown(*byte) == *byte)
+}
+
 /// Writes a name.
 fn write_name<W: Write>(out: &mut W, name: &[u8]) -> io::Result<()>
     ensures { OnOk result (Appends (W.contents out.old) (W.contents out.new) (map shown_byte name.now)) }
 {
+    if is_shown_as_is(name) {
+        return out.write_all(name);
+    }
     for byte in name {
         out.write_all(&[shown(*byte)])?;
     }
@@ -38,8 +49,9 @@ fn write_listed<A: Allocator, W: Write>(out: &mut W, listed: &ListedName<A>) -> 
 {
     out.write_all(b" ")?;
     write_name(out, listed.name.as_slice())?;
-    let kind = word_of_kind(listed.kind);
-    write!(out, ":{}:{kind}", listed.offset)
+    write_number_after(out, b':', listed.offset)?;
+    out.write_all(b":")?;
+    out.write_all(word_of_kind(listed.kind).as_bytes())
 }
 
 /// Writes listed names one after another.
@@ -62,7 +74,11 @@ fn write_attributes<W: Write>(out: &mut W, attributes: Attributes) -> io::Result
         size,
         nlink,
     } = attributes;
-    write!(out, "0 {} {ino} {size} {nlink}", word_of_kind(kind))
+    out.write_all(b"0 ")?;
+    out.write_all(word_of_kind(kind).as_bytes())?;
+    write_number_after(out, b' ', ino)?;
+    write_number_after(out, b' ', size)?;
+    write_number_after(out, b' ', u64::from(nlink))
 }
 
 /// Writes what a call is answered, without the call's number.
@@ -80,8 +96,11 @@ fn write_answer<A: Allocator, W: Write>(out: &mut W, answer: &Answer<A>) -> io::
             out.write_all(b"0 ")?;
             write_hex_or_none(out, bytes.as_slice())
         }
-        Answer::Written { size } => write!(out, "0 {size}"),
-        Answer::Failed { errno } => write!(out, "{errno}"),
+        Answer::Written { size } => {
+            out.write_all(b"0")?;
+            write_number_after(out, b' ', u64::from(*size))
+        }
+        Answer::Failed { errno } => write_number(out, u64::from(*errno)),
     }
 }
 
@@ -93,8 +112,22 @@ fn write_answered<A: Allocator, W: Write>(
 ) -> io::Result<()>
     ensures { OnOk result (Appends (W.contents out.old) (W.contents out.new) (answer_text call answer.now)) }
 {
-    write!(out, "answer {call} ")?;
+    out.write_all(b"answer")?;
+    write_number_after(out, b' ', call)?;
+    out.write_all(b" ")?;
     write_answer(out, answer)?;
+    out.write_all(b"\n")
+}
+
+/// Writes the line of a refused event.
+fn write_refused<W: Write>(out: &mut W, refusal: Refusal) -> io::Result<()>
+    ensures { OnOk result (Appends (W.contents out.old) (W.contents out.new)
+        (codes "refused " ++ decimal (refusal_number refusal) ++ codes " " ++ refusal_name refusal ++ codes "\n")) }
+{
+    out.write_all(b"refused")?;
+    write_number_after(out, b' ', u64::from(number_of_refusal(refusal)))?;
+    out.write_all(b" ")?;
+    out.write_all(name_of_refusal(refusal).as_bytes())?;
     out.write_all(b"\n")
 }
 
@@ -103,11 +136,11 @@ pub fn write_record<A: Allocator, W: Write>(out: &mut W, record: &Record<A>) -> 
     ensures { OnOk result (Appends (W.contents out.old) (W.contents out.new) (record_text «record».now)) }
 {
     match record {
-        Record::Outcome(outcome) => writeln!(out, "{}", OutcomeLine(*outcome)),
-        Record::Refused(refusal) => {
-            let number = number_of_refusal(*refusal);
-            writeln!(out, "refused {number} {}", name_of_refusal(*refusal))
+        Record::Outcome(outcome) => {
+            write_outcome(out, *outcome)?;
+            out.write_all(b"\n")
         }
+        Record::Refused(refusal) => write_refused(out, *refusal),
         Record::LinkLost => out.write_all(b"link lost\n"),
         Record::Answered { call, answer } => write_answered(out, *call, answer),
     }

@@ -15,7 +15,7 @@ use crate::machine::Machine;
 use crate::records::write_records;
 use crate::stop::Stop;
 use fw_link::Link;
-use fw_world::{Call, Event, Record, Session, WorldIn};
+use fw_world::{Call, Event, Lists, Maps, Record, Session, Tables, WorldOf};
 use std::alloc::{Allocator, Global};
 use std::io;
 use std::io::{ErrorKind, Read, Write};
@@ -189,8 +189,8 @@ fn make_room<A: Allocator + Copy>(alloc: A) -> Result<Room<A>, Stop<'static>>
 }
 
 /// Runs them on a new world.
-fn run_events<A: Allocator + Copy, W: Write>(
-    alloc: A,
+fn run_events<T: Tables, W: Write>(
+    alloc: T::Heap,
     script: &[u8],
     hex: bool,
     out: &mut W,
@@ -198,7 +198,7 @@ fn run_events<A: Allocator + Copy, W: Write>(
     ensures { IfErr result (λ stop. status_of stop ≢ 1) }
 {
     let mut room = make_room(alloc)?;
-    let Ok(mut world) = WorldIn::new(alloc) else {
+    let Ok(mut world) = WorldOf::<T>::new(alloc) else {
         return Err(Stop::NoMemory);
     };
     let ended = run_lines(&mut world, script, &mut room, hex, out);
@@ -313,8 +313,8 @@ impl<A: Allocator + Copy> Script<A> {
 }
 
 /// Reads a script, judges its lines, and runs it.
-fn run_input<'a, A: Allocator + Copy, R: Read, W: Write>(
-    alloc: A,
+fn run_input<'a, T: Tables, R: Read, W: Write>(
+    alloc: T::Heap,
     name: &'a str,
     hex: bool,
     input: &mut R,
@@ -326,7 +326,7 @@ fn run_input<'a, A: Allocator + Copy, R: Read, W: Write>(
     ensures silent { IfErr result (λ stop. status_of stop ≡ 1 → out.new ≡ out.old) }
 {
     let script = Script::read_from(alloc, name, input)?;
-    run_events(alloc, script.lines.as_slice(), hex, out)
+    run_events::<T, W>(alloc, script.lines.as_slice(), hex, out)
 }
 
 /// Reads a script, judges its lines, and runs it over a link. Says whether the link was lost.
@@ -366,7 +366,27 @@ pub fn run_script<A: Allocator + Copy, R: Read, W: Write, F: Write>(
     ensures judged { (result ≡ 0) ⊎ (result ≡ 5) → IfSome (R.remaining input.old) IsGoodScript }
     ensures silent { result ≡ 1 → out.new ≡ out.old }
 {
-    match run_input(alloc, name, hex, input, out) {
+    match run_input::<Maps<A>, R, W>(alloc, name, hex, input, out) {
+        Ok(()) => 0,
+        Err(stop) => stop.report(faults),
+    }
+}
+
+/// Runs a script on a new world over plain lists, as `run_script` does on one over maps and slabs. Both print the same.
+pub fn run_lists<A: Allocator + Copy, R: Read, W: Write, F: Write>(
+    alloc: A,
+    name: &str,
+    hex: bool,
+    input: &mut R,
+    out: &mut W,
+    faults: &mut F,
+) -> u8
+    ensures statuses { Contains (0 ∷ 1 ∷ 3 ∷ 5 ∷ []) result }
+    // Nothing is run of a script with a bad line.
+    ensures judged { (result ≡ 0) ⊎ (result ≡ 5) → IfSome (R.remaining input.old) IsGoodScript }
+    ensures silent { result ≡ 1 → out.new ≡ out.old }
+{
+    match run_input::<Lists<A>, R, W>(alloc, name, hex, input, out) {
         Ok(()) => 0,
         Err(stop) => stop.report(faults),
     }

@@ -4,11 +4,13 @@ ghost use Rattle.std.specs.Prelude.{◌≡◌, ◌∷◌, ◌==◌, option_copie
 ghost use Rattle.std.specs.List.{slice_split};
 ghost use Rattle.fw_script.specs.Words.{parts_left};
 
+use memchr::memchr;
+
 /// The place of the first separator.
 fn first_place(text: &[u8], separator: u8) -> Option<usize>
     ensures { result ≡ position (λ byte. byte == separator) text.now }
 {
-    text.iter().position(|byte| *byte == separator)
+    memchr(separator, text)
 }
 
 /// What stands before the first separator, and what stands after it, if there is one.

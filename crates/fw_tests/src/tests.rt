@@ -1,9 +1,11 @@
 //! What no clause and no row says: faults of lines as printed, readers and writers that fail, growths that are refused, bytes fed
-//! to a cutter, and rows over links.
+//! to a cutter, rows over links and over plain lists, and lists of events that are drawn.
 
 mod cutting;
+mod drawn;
 mod growths;
 mod lines;
 mod over_links;
+mod over_lists;
 mod rows;
 mod want;

@@ -7,13 +7,13 @@ use Rattle.std.specs.FinMap.{is_sorted}
 use Rattle.std.specs.FinMap.Entries.{below_all}
 use Rattle.std.proofs.lemmas.Bool.Decides.{eqb_tells}
 use Rattle.std.proofs.lemmas.List.{append_assoc, append-nil, map-append}
-use Rattle.fuse_spec.specs.Maps.{Map, remove}
-use Rattle.fuse_spec.specs.Answers.{Answer}
-use Rattle.fuse_spec.specs.Worlds.{World}
-use Rattle.fuse_spec.specs.Records as records
-use Rattle.fuse_spec.specs.Records.{answers_of, collected}
+use Rattle.fuse_spec.specs.Values.Maps.{Map, remove}
+use Rattle.fuse_spec.specs.Calls.Answers.{Answer}
+use Rattle.fuse_spec.specs.World.Worlds.{World}
+use Rattle.fuse_spec.specs.World.Records as records
+use Rattle.fuse_spec.specs.World.Records.{answers_of, collected}
 use Rattle.fuse_spec.proofs.Tables.{cmp_same}
-use Rattle.fuse_theorem.proofs.WithAnswers.{with_answers}
+use Rattle.fuse_theorem.proofs.Refining.WithAnswers.{with_answers}
 use Rattle.fk_syscalls.specs.Values.{answer_of}
 use Rattle.fk_syscalls.specs.declared.call.Answer.{Answer as GivenAnswer}
 use Rattle.fw_world.specs.declared.record.Record.{Record}

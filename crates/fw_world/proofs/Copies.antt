@@ -9,8 +9,8 @@ use Rattle.fk_wire.specs.Fields.{number_at}
 use Rattle.fk_wire.specs.Replies.{reply_body, IsErrorNumber}
 use Rattle.fk_wire.proofs.OneRequest.{within}
 use Rattle.fk_wire.proofs.OneReply.{error_fits}
-use Rattle.fuse_spec.specs.Numbers.{init_flags}
-use Rattle.fuse_spec.specs.Performs.{init_reply}
+use Rattle.fuse_spec.specs.Values.Numbers.{init_flags}
+use Rattle.fuse_spec.specs.Server.Performs.{init_reply}
 use Rattle.fuse_spec.specs.declared.Opened.{Opened}
 use Rattle.fuse_spec.specs.declared.Purpose.{Purpose}
 use Rattle.fuse_spec.specs.declared.Refusal.{Refusal}
@@ -18,17 +18,17 @@ use Rattle.fuse_spec.specs.declared.Purpose.TheVariants as purpose
 use Rattle.fuse_spec.specs.declared.QueuedRequest.{QueuedRequest}
 use Rattle.fuse_spec.specs.declared.WriteResult.{WriteResult}
 use Rattle.fuse_spec.specs.declared.WriteResult.TheVariants.{NoEntry}
-use Rattle.fuse_spec.specs.Maps.{get}
-use Rattle.fuse_spec.specs.Operations as op
-use Rattle.fuse_spec.specs.Operations.{Operation, lookup, getattr, mkdir, create, unlink, rmdir, rename, link, opening, readdir, readdirplus, read, write}
-use Rattle.fuse_spec.specs.Messages.{WireReply, asks}
-use Rattle.fuse_spec.specs.QueueCalls.{waiting}
-use Rattle.fuse_spec.specs.Kernel.{Kernel, is_live}
-use Rattle.fuse_spec.specs.Events as event
-use Rattle.fuse_spec.specs.Steps.{is_past, RefusedWith}
-use Rattle.fuse_spec.specs.Replies.{reply_written, reply_taken, odd_taken, goes_with, is_init_reply, is_empty_reply}
-use Rattle.fuse_spec.specs.Vfs.{CallState, asked}
-use Rattle.fuse_spec.specs.Worlds.{World, Sent, after_write}
+use Rattle.fuse_spec.specs.Values.Maps.{get}
+use Rattle.fuse_spec.specs.Files.Operations as op
+use Rattle.fuse_spec.specs.Files.Operations.{Operation, lookup, getattr, mkdir, create, unlink, rmdir, rename, link, opening, readdir, readdirplus, read, write}
+use Rattle.fuse_spec.specs.Kernel.Messages.{WireReply, asks}
+use Rattle.fuse_spec.specs.Kernel.QueueCalls.{waiting}
+use Rattle.fuse_spec.specs.Kernel.Kernel.{Kernel, is_live}
+use Rattle.fuse_spec.specs.World.Events as event
+use Rattle.fuse_spec.specs.World.Steps.{is_past, RefusedWith}
+use Rattle.fuse_spec.specs.Kernel.Replies.{reply_written, reply_taken, odd_taken, goes_with, is_init_reply, is_empty_reply}
+use Rattle.fuse_spec.specs.Calls.Vfs.{CallState, asked}
+use Rattle.fuse_spec.specs.World.Worlds.{World, Sent, after_write}
 use Rattle.fuse_frames.specs.ReplyTies.{SaysReply}
 use Rattle.fuse_frames.specs.RequestTies.{asked_opcode}
 use Rattle.fuse_theorem.specs.EachEvent.{CanHear}
@@ -36,10 +36,10 @@ use Rattle.fuse_theorem.specs.EachEvent as each
 use Rattle.fuse_theorem.specs.Conditions.{awaiting}
 use Rattle.fuse_theorem.specs.Reached.{IsReached}
 use Rattle.fuse_theorem.specs.RepliesFit.{FitsPurpose}
-use Rattle.fuse_theorem.proofs.Answered.{waiting_is}
-use Rattle.fuse_theorem.proofs.Finding.{All-found}
-use Rattle.fuse_theorem.proofs.Queuing.{All-at}
-use Rattle.fuse_theorem.proofs.WriteNeeds.{write_met}
+use Rattle.fuse_theorem.proofs.Answers.Answered.{waiting_is}
+use Rattle.fuse_theorem.proofs.Calls.Finding.{All-found}
+use Rattle.fuse_theorem.proofs.Refining.Queuing.{All-at}
+use Rattle.fuse_theorem.proofs.Replies.WriteNeeds.{write_met}
 use Rattle.fk_kernel.specs.Said.{Says, HasReplyHead, head_unique, Awaited, reply_to, awaited, awaited_by, awaited_by_call, awaited_by_interrupt, opcode_of, IsTaken, IsAwaited, IsJudged, Means}
 use Rattle.fk_kernel.specs.Said.{said as means_said}
 use Rattle.fk_kernel.specs.Said as said

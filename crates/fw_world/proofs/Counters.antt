@@ -1,10 +1,10 @@
 -- No counter of a world is past its end where none of its kernel's and of its server's is, and no node's count has come to it.
 use Rattle.std.proofs.Common.{◌≡◌, Bool, true, false, ◌||◌, nat_lt, refl, ap, sym, ◌∙◌}
-use Rattle.fuse_spec.specs.Numbers.{counter_end}
-use Rattle.fuse_spec.specs.Kernel.{Kernel}
-use Rattle.fuse_spec.specs.Server.{Server}
-use Rattle.fuse_spec.specs.Worlds.{World}
-use Rattle.fuse_spec.specs.Steps.{is_past, is_counted_out}
+use Rattle.fuse_spec.specs.Values.Numbers.{counter_end}
+use Rattle.fuse_spec.specs.Kernel.Kernel.{Kernel}
+use Rattle.fuse_spec.specs.Server.Server.{Server}
+use Rattle.fuse_spec.specs.World.Worlds.{World}
+use Rattle.fuse_spec.specs.World.Steps.{is_past, is_counted_out}
 use Rattle.fk_kernel.specs.Refused.{is_past_end}
 use Rattle.fk_kernel.specs.Refused as kernel
 use Rattle.fs_server.specs.Effects as server

@@ -7,23 +7,23 @@ use Rattle.fuse_spec.specs.declared.Refusal.{Refusal}
 use Rattle.fuse_spec.specs.declared.Refusal.TheVariants as refusal
 use Rattle.fuse_spec.specs.declared.ReplyResult.{ReplyResult}
 use Rattle.fuse_spec.specs.declared.WriteResult.{WriteResult}
-use Rattle.fuse_spec.specs.Maps.{get, get_name}
-use Rattle.fuse_spec.specs.Numbers.{max_validity, max_calls, clock_end}
-use Rattle.fuse_spec.specs.Operations.{errno_of}
-use Rattle.fuse_spec.specs.Calls.{Call}
-use Rattle.fuse_spec.specs.Messages.{Forget, Request}
-use Rattle.fuse_spec.specs.Kernel.{Kernel, is_live, is_pinned, is_bound, call_put, forgets_read}
-use Rattle.fuse_spec.specs.QueueCalls.{pending_at}
-use Rattle.fuse_spec.specs.Replies.{reply_written}
-use Rattle.fuse_spec.specs.Server.{HeldRequest, Kept, Copy}
-use Rattle.fuse_spec.specs.Copies.{is_current, files_named}
-use Rattle.fuse_spec.specs.Nodes.{counts_out}
-use Rattle.fuse_spec.specs.Taking.{taking}
-use Rattle.fuse_spec.specs.Performs.{PerformResult, served, files_given}
-use Rattle.fuse_spec.specs.Worlds.{World, Sent, after_mount, after_call, after_read_pending, after_read_forgets as after_forgets, after_take, after_perform, after_again, after_write, after_settle, after_tick, after_drop, after_evict}
-use Rattle.fuse_spec.specs.Events.{Event, Outcome}
-use Rattle.fuse_spec.specs.Events as event
-use Rattle.fuse_spec.specs.Steps.{Stepped, going, is_past, is_busy, is_ready, unless, reading_pending, reading_forgets, taking_request, performed_as, performing_held, sending_again, writing_copy, settling, dropping, evicting, MayStep, Happens}
+use Rattle.fuse_spec.specs.Values.Maps.{get, get_name}
+use Rattle.fuse_spec.specs.Values.Numbers.{max_validity, max_calls, clock_end}
+use Rattle.fuse_spec.specs.Files.Operations.{errno_of}
+use Rattle.fuse_spec.specs.Calls.Calls.{Call}
+use Rattle.fuse_spec.specs.Kernel.Messages.{Forget, Request}
+use Rattle.fuse_spec.specs.Kernel.Kernel.{Kernel, is_live, is_pinned, is_bound, call_put, forgets_read}
+use Rattle.fuse_spec.specs.Kernel.QueueCalls.{pending_at}
+use Rattle.fuse_spec.specs.Kernel.Replies.{reply_written}
+use Rattle.fuse_spec.specs.Server.Server.{HeldRequest, Kept, Copy}
+use Rattle.fuse_spec.specs.Server.Copies.{is_current, files_named}
+use Rattle.fuse_spec.specs.Server.Nodes.{counts_out}
+use Rattle.fuse_spec.specs.Server.Taking.{taking}
+use Rattle.fuse_spec.specs.Server.Performs.{PerformResult, served, files_given}
+use Rattle.fuse_spec.specs.World.Worlds.{World, Sent, after_mount, after_call, after_read_pending, after_read_forgets as after_forgets, after_take, after_perform, after_again, after_write, after_settle, after_tick, after_drop, after_evict}
+use Rattle.fuse_spec.specs.World.Events.{Event, Outcome}
+use Rattle.fuse_spec.specs.World.Events as event
+use Rattle.fuse_spec.specs.World.Steps.{Stepped, going, is_past, is_busy, is_ready, unless, reading_pending, reading_forgets, taking_request, performed_as, performing_held, sending_again, writing_copy, settling, dropping, evicting, MayStep, Happens}
 use Rattle.fk_kernel.specs.Refused.{begin_refusal, mount_refusal, read_refusal, place_refusal, is_past_end, IsPendingRequest}
 use Rattle.fk_kernel.specs.RefusedUpkeep.{read_forgets_refusal, forgets_refusal, tick_refusal, name_refusal, drop_refusal, counted_refusal, evict_refusal}
 

@@ -1,10 +1,10 @@
 -- Over a link in order a session's link is lost where its count of failures rises, and nowhere else.
 use Rattle.std.proofs.Common.{◌≡◌, ℕ, true, false, List, refl, sym, subst, ◌∙◌}
 use Rattle.fuse_spec.specs.declared.Taken.TheVariants.{Again}
-use Rattle.fuse_spec.specs.Worlds.{World}
-use Rattle.fuse_spec.specs.Events.{Event, Outcome, is_read, taken, performed, sent_again, written}
-use Rattle.fuse_spec.specs.Records.{Record, collected}
-use Rattle.fuse_spec.specs.Sessions.{Session, linked, lost}
+use Rattle.fuse_spec.specs.World.Worlds.{World}
+use Rattle.fuse_spec.specs.World.Events.{Event, Outcome, is_read, taken, performed, sent_again, written}
+use Rattle.fuse_spec.specs.World.Records.{Record, collected}
+use Rattle.fuse_spec.specs.Claim.Sessions.{Session, linked, lost}
 use Rattle.fw_link.specs.Traffic.{HasFailed, IsInOrder, IsWhole, Traffic, no_traffic}
 use Rattle.fw_link.proofs.Fronts.{all_got, front_of_all, in_order_front}
 use Rattle.fw_world.specs.Sends.{Carries, IsLostOn, IsSent, Loses, Sending, sending_bytes}

@@ -4,15 +4,15 @@ use Rattle.fuse_spec.specs.declared.IntrEffect.{IntrEffect}
 use Rattle.fuse_spec.specs.declared.Opened.{Opened}
 use Rattle.fuse_spec.specs.declared.Refusal.{Refusal}
 use Rattle.fuse_spec.specs.declared.Refusal.TheVariants as refusal
-use Rattle.fuse_spec.specs.Maps.{get}
-use Rattle.fuse_spec.specs.Numbers.{counter_end}
-use Rattle.fuse_spec.specs.Kernel.{Kernel, is_live, call_signalled}
-use Rattle.fuse_spec.specs.Uniques.{interrupt_number}
-use Rattle.fuse_spec.specs.Vfs.{CallState}
-use Rattle.fuse_spec.specs.Worlds.{World, after_read_interrupt, after_abort}
-use Rattle.fuse_spec.specs.Events.{Outcome}
-use Rattle.fuse_spec.specs.Events as event
-use Rattle.fuse_spec.specs.Steps.{Stepped, going, is_past, unless, reading_interrupt, signalling, Happens, IsRefused}
+use Rattle.fuse_spec.specs.Values.Maps.{get}
+use Rattle.fuse_spec.specs.Values.Numbers.{counter_end}
+use Rattle.fuse_spec.specs.Kernel.Kernel.{Kernel, is_live, call_signalled}
+use Rattle.fuse_spec.specs.Kernel.Uniques.{interrupt_number}
+use Rattle.fuse_spec.specs.Calls.Vfs.{CallState}
+use Rattle.fuse_spec.specs.World.Worlds.{World, after_read_interrupt, after_abort}
+use Rattle.fuse_spec.specs.World.Events.{Outcome}
+use Rattle.fuse_spec.specs.World.Events as event
+use Rattle.fuse_spec.specs.World.Steps.{Stepped, going, is_past, unless, reading_interrupt, signalling, Happens, IsRefused}
 use Rattle.fk_kernel.specs.Refused.{is_past_end}
 use Rattle.fk_kernel.specs.RefusedSignals.{standing_refusal, signal_refusal, IsSignalled, oldest_refusal, read_interrupt_refusal, abort_refusal}
 use Rattle.fw_world.proofs.Counters.{past_by_kernel}

@@ -4,13 +4,13 @@ use Rattle.std.specs.Prelude.{IfOk, IfErr}
 use Rattle.fuse_spec.specs.declared.Refusal.{Refusal}
 use Rattle.fuse_spec.specs.declared.Refusal.TheVariants.{NotReady}
 use Rattle.fuse_spec.specs.declared.Taken.TheVariants.{Again}
-use Rattle.fuse_spec.specs.Kernel.{is_live}
-use Rattle.fuse_spec.specs.Worlds.{World, after_abort}
-use Rattle.fuse_spec.specs.Events.{Outcome, abort, aborted, is_read, taken, performed, sent_again, written}
-use Rattle.fuse_spec.specs.Steps.{Happens, IsRefused, RefusedWith}
+use Rattle.fuse_spec.specs.Kernel.Kernel.{is_live}
+use Rattle.fuse_spec.specs.World.Worlds.{World, after_abort}
+use Rattle.fuse_spec.specs.World.Events.{Outcome, abort, aborted, is_read, taken, performed, sent_again, written}
+use Rattle.fuse_spec.specs.World.Steps.{Happens, IsRefused, RefusedWith}
 use Rattle.fuse_theorem.specs.Reached.{IsReached}
-use Rattle.fuse_theorem.proofs.AbortFollows.{abort_follows}
-use Rattle.fuse_theorem.proofs.Accepted.{unless_ok, ok_is}
+use Rattle.fuse_theorem.proofs.Refining.AbortFollows.{abort_follows}
+use Rattle.fuse_theorem.proofs.RefusalCases.Accepted.{unless_ok, ok_is}
 use Rattle.fw_link.specs.Traffic.{Traffic}
 use Rattle.fw_world.specs.declared.event.Outcome.{Outcome as OutcomeValue}
 use Rattle.fw_world.specs.Sends.{IsLostOn, last_of}

@@ -8,31 +8,31 @@ use Rattle.fuse_spec.specs.declared.Counted.{Counted}
 use Rattle.fuse_spec.specs.declared.IntrEffect.{IntrEffect}
 use Rattle.fuse_spec.specs.declared.ReplyResult.{ReplyResult}
 use Rattle.fuse_spec.specs.declared.WriteResult.{WriteResult}
-use Rattle.fuse_spec.specs.Calls.{Call}
-use Rattle.fuse_spec.specs.Maps.{get, remove_name}
-use Rattle.fuse_spec.specs.Numbers.{max_validity}
-use Rattle.fuse_spec.specs.Operations.{errno_of}
-use Rattle.fuse_spec.specs.Messages.{Request, WireReply}
-use Rattle.fuse_spec.specs.Kernel as kernel_specs
-use Rattle.fuse_spec.specs.Kernel.{Kernel, call_put, kernel_aborted, kernel_mounted, evicted}
-use Rattle.fuse_spec.specs.QueueCalls as queues
-use Rattle.fuse_spec.specs.QueueCalls.{after_read_pending, after_read_forgets}
-use Rattle.fuse_spec.specs.Uniques.{interrupt_number}
-use Rattle.fuse_spec.specs.Replies.{reply_written}
-use Rattle.fuse_spec.specs.Server.{Server}
-use Rattle.fuse_spec.specs.Copies.{connection_lost, remounted}
-use Rattle.fuse_spec.specs.Taking.{TakeResult, taking}
-use Rattle.fuse_spec.specs.Performs.{PerformResult, served}
-use Rattle.fuse_spec.specs.Vfs.{later}
-use Rattle.fuse_spec.specs.Worlds as worlds
-use Rattle.fuse_spec.specs.Worlds.{World, Sent, replying, forget_body, after_mount, after_call, after_take, after_perform, after_again, after_write, after_settle, after_tick, after_drop, after_evict, after_abort}
-use Rattle.fuse_spec.specs.Events.{Event, Outcome}
-use Rattle.fuse_spec.specs.Events as event
-use Rattle.fuse_spec.specs.Steps.{Happens, is_past, MayChooseFor}
+use Rattle.fuse_spec.specs.Calls.Calls.{Call}
+use Rattle.fuse_spec.specs.Values.Maps.{get, remove_name}
+use Rattle.fuse_spec.specs.Values.Numbers.{max_validity}
+use Rattle.fuse_spec.specs.Files.Operations.{errno_of}
+use Rattle.fuse_spec.specs.Kernel.Messages.{Request, WireReply}
+use Rattle.fuse_spec.specs.Kernel.Kernel as kernel_specs
+use Rattle.fuse_spec.specs.Kernel.Kernel.{Kernel, call_put, kernel_aborted, kernel_mounted, evicted}
+use Rattle.fuse_spec.specs.Kernel.QueueCalls as queues
+use Rattle.fuse_spec.specs.Kernel.QueueCalls.{after_read_pending, after_read_forgets}
+use Rattle.fuse_spec.specs.Kernel.Uniques.{interrupt_number}
+use Rattle.fuse_spec.specs.Kernel.Replies.{reply_written}
+use Rattle.fuse_spec.specs.Server.Server.{Server}
+use Rattle.fuse_spec.specs.Server.Copies.{connection_lost, remounted}
+use Rattle.fuse_spec.specs.Server.Taking.{TakeResult, taking}
+use Rattle.fuse_spec.specs.Server.Performs.{PerformResult, served}
+use Rattle.fuse_spec.specs.Calls.Vfs.{later}
+use Rattle.fuse_spec.specs.World.Worlds as worlds
+use Rattle.fuse_spec.specs.World.Worlds.{World, Sent, replying, forget_body, after_mount, after_call, after_take, after_perform, after_again, after_write, after_settle, after_tick, after_drop, after_evict, after_abort}
+use Rattle.fuse_spec.specs.World.Events.{Event, Outcome}
+use Rattle.fuse_spec.specs.World.Events as event
+use Rattle.fuse_spec.specs.World.Steps.{Happens, is_past, MayChooseFor}
 use Rattle.fuse_frames.specs.RequestTies.{IsRequestFrame}
 use Rattle.fuse_frames.proofs.RequestLemmas.{one_request, frame_says}
 use Rattle.fuse_theorem.specs.Reached.{IsReached}
-use Rattle.fuse_theorem.proofs.ReachedWorlds.{reached_next}
+use Rattle.fuse_theorem.proofs.WholeLists.ReachedWorlds.{reached_next}
 use Rattle.fk_kernel.specs.Refused.{mount_refusal, begin_refusal, read_refusal, IsPendingRequest}
 use Rattle.fs_server.specs.Effects.{TakesFrame, PerformsHeld, SendsAgain, Settles, copy_of, first_copy}
 use Rattle.fs_server.specs.declared.server.Took.{Took}

@@ -3,20 +3,20 @@ use Rattle.std.proofs.Common.{◌≡◌, ℕ, ◌+◌, ◌*◌, ◌<◌, ◌≤�
 use Rattle.std.proofs.lemmas.List.{append_assoc, append-nil, map-append, take_more, take_all}
 use Rattle.fuse_spec.specs.declared.Refusal.{Refusal}
 use Rattle.fuse_spec.specs.declared.Refusal.TheVariants.{LinkLost}
-use Rattle.fuse_spec.specs.Worlds.{World}
-use Rattle.fuse_spec.specs.Events.{Event, Outcome, abort, aborted}
-use Rattle.fuse_spec.specs.Records as records
-use Rattle.fuse_spec.specs.Records.{answers_of, collected}
-use Rattle.fuse_spec.specs.Sessions.{Session, linked, lost}
-use Rattle.fuse_spec.specs.Steps.{Happens, RefusedWith}
+use Rattle.fuse_spec.specs.World.Worlds.{World}
+use Rattle.fuse_spec.specs.World.Events.{Event, Outcome, abort, aborted}
+use Rattle.fuse_spec.specs.World.Records as records
+use Rattle.fuse_spec.specs.World.Records.{answers_of, collected}
+use Rattle.fuse_spec.specs.Claim.Sessions.{Session, linked, lost}
+use Rattle.fuse_spec.specs.World.Steps.{Happens, RefusedWith}
 use Rattle.fuse_theorem.specs.Reached.{IsReached}
 use Rattle.fuse_theorem.specs.SessionRecorded.{SessionRecorded}
 use Rattle.fuse_theorem.specs.SessionRecorded as machine
-use Rattle.fuse_theorem.proofs.AnswersStay.{begins_call}
-use Rattle.fuse_theorem.proofs.Happened.{Happened, by_mount, by_call, by_read_interrupt, by_read_forgets, by_read_pending, by_take, by_perform, by_again, by_write, by_settle, by_signal, by_tick, by_drop, by_evict, by_abort, happened}
-use Rattle.fuse_theorem.proofs.ReachedWorlds.{none_more_waits, reached_next}
-use Rattle.fuse_theorem.proofs.SessionsEnd.{session_refines, session_keeps, session_answers}
-use Rattle.fuse_theorem.proofs.WaitingAnswers.{one_more_waits}
+use Rattle.fuse_theorem.proofs.Answers.AnswersStay.{begins_call}
+use Rattle.fuse_theorem.proofs.RefusalCases.Happened.{Happened, by_mount, by_call, by_read_interrupt, by_read_forgets, by_read_pending, by_take, by_perform, by_again, by_write, by_settle, by_signal, by_tick, by_drop, by_evict, by_abort, happened}
+use Rattle.fuse_theorem.proofs.WholeLists.ReachedWorlds.{none_more_waits, reached_next}
+use Rattle.fuse_theorem.proofs.OverLinks.SessionsEnd.{session_refines, session_keeps, session_answers}
+use Rattle.fuse_theorem.proofs.Answers.WaitingAnswers.{one_more_waits}
 use Rattle.fw_link.specs.Traffic.{Traffic}
 use Rattle.fw_world.specs.declared.event.Event.{Event as EventValue}
 use Rattle.fw_world.specs.declared.event.Outcome.{Outcome as OutcomeValue}

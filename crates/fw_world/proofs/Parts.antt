@@ -6,15 +6,15 @@ use Rattle.std.proofs.lemmas.Option.{slice_get_read, slice_get_past}
 use Rattle.fuse_spec.specs.declared.Refusal.{Refusal}
 use Rattle.fuse_spec.specs.declared.ReplyResult.{ReplyResult}
 use Rattle.fuse_spec.specs.declared.WriteResult.{WriteResult}
-use Rattle.fuse_spec.specs.Maps.{remove}
-use Rattle.fuse_spec.specs.Messages.{Request, WireReply}
-use Rattle.fuse_spec.specs.Kernel.{Kernel}
-use Rattle.fuse_spec.specs.Server.{Server}
-use Rattle.fuse_spec.specs.Worlds.{World, Sent, replying}
-use Rattle.fuse_spec.specs.Events.{Event, Outcome}
-use Rattle.fuse_spec.specs.Steps.{Happens}
+use Rattle.fuse_spec.specs.Values.Maps.{remove}
+use Rattle.fuse_spec.specs.Kernel.Messages.{Request, WireReply}
+use Rattle.fuse_spec.specs.Kernel.Kernel.{Kernel}
+use Rattle.fuse_spec.specs.Server.Server.{Server}
+use Rattle.fuse_spec.specs.World.Worlds.{World, Sent, replying}
+use Rattle.fuse_spec.specs.World.Events.{Event, Outcome}
+use Rattle.fuse_spec.specs.World.Steps.{Happens}
 use Rattle.fuse_theorem.specs.Reached.{IsReached}
-use Rattle.fuse_theorem.proofs.ReachedWorlds.{handed_out_reached}
+use Rattle.fuse_theorem.proofs.WholeLists.ReachedWorlds.{handed_out_reached}
 use Rattle.fs_server.specs.Effects.{copy_of}
 use Rattle.fw_world.specs.Values.{with_copy}
 

@@ -2,14 +2,14 @@
 use Rattle.std.proofs.Common.{◌≡◌, ℕ, ◌+◌, ◌<◌, ◌≤◌, List, [], ◌∷◌, ◌++◌, Result, Ok, Err, OnOk, OnErr, is_err, true, false, length, map, take, get_or, ap, sym, subst, ◌∙◌}
 use Rattle.std.proofs.lemmas.List.{append_assoc, append-nil, map-append, take_more, take_all}
 use Rattle.fuse_spec.specs.declared.Refusal.{Refusal}
-use Rattle.fuse_spec.specs.Worlds.{World}
-use Rattle.fuse_spec.specs.Events.{Event}
-use Rattle.fuse_spec.specs.Records as records
-use Rattle.fuse_spec.specs.Records.{answers_of, collected}
-use Rattle.fuse_spec.specs.Steps.{Happens, RefusedWith}
+use Rattle.fuse_spec.specs.World.Worlds.{World}
+use Rattle.fuse_spec.specs.World.Events.{Event}
+use Rattle.fuse_spec.specs.World.Records as records
+use Rattle.fuse_spec.specs.World.Records.{answers_of, collected}
+use Rattle.fuse_spec.specs.World.Steps.{Happens, RefusedWith}
 use Rattle.fuse_theorem.specs.Recorded.{Recorded, none_left, one_refused, one_accepted}
 use Rattle.fuse_theorem.specs.Reached.{IsReached}
-use Rattle.fuse_theorem.proofs.Refining.{list_refines, list_answers, list_keeps}
+use Rattle.fuse_theorem.proofs.Refining.Refining.{list_refines, list_answers, list_keeps}
 use Rattle.fw_world.specs.declared.event.Event.{Event as EventValue}
 use Rattle.fw_world.specs.declared.event.Outcome.{Outcome as OutcomeValue}
 use Rattle.fw_world.specs.declared.record.Record.{Record}

@@ -7,25 +7,25 @@ use Rattle.fuse_spec.specs.declared.Refusal.{Refusal}
 use Rattle.fuse_spec.specs.declared.Refusal.TheVariants as refusal
 use Rattle.fuse_spec.specs.declared.Purpose.{Purpose}
 use Rattle.fuse_spec.specs.declared.ReplyResult.{ReplyResult}
-use Rattle.fuse_spec.specs.Maps.{get, get_name}
-use Rattle.fuse_spec.specs.Numbers.{max_validity, max_calls, counter_end, clock_end}
-use Rattle.fuse_spec.specs.Operations.{errno_of}
-use Rattle.fuse_spec.specs.Calls.{Call}
-use Rattle.fuse_spec.specs.Messages.{Forget, RequestBody, WireReply}
-use Rattle.fuse_spec.specs.Kernel.{is_live, is_pinned, is_bound, body_of, call_put, forgets_read}
-use Rattle.fuse_spec.specs.QueueCalls.{pending_at, after_read_forgets}
-use Rattle.fuse_spec.specs.Replies.{reply_written}
-use Rattle.fuse_spec.specs.Copies.{files_named}
-use Rattle.fuse_spec.specs.Nodes.{counts_out}
-use Rattle.fuse_spec.specs.Performs.{served, files_given}
-use Rattle.fuse_spec.specs.Worlds as worlds
-use Rattle.fuse_spec.specs.Worlds.{World, Sent, after_mount, after_call, after_take, after_perform, after_again, after_write, after_tick, after_drop}
-use Rattle.fuse_spec.specs.Events.{Event, Outcome}
-use Rattle.fuse_spec.specs.Events as event
-use Rattle.fuse_spec.specs.Steps.{Stepped, going, is_past, is_busy, is_ready, unless, reading_body, reading_pending, reading_forgets, taking_request, performed_as, performing_held, sending_again, writing_copy, settling, dropping, evicting, MayChooseFor, IsRefused, RefusedWith}
+use Rattle.fuse_spec.specs.Values.Maps.{get, get_name}
+use Rattle.fuse_spec.specs.Values.Numbers.{max_validity, max_calls, counter_end, clock_end}
+use Rattle.fuse_spec.specs.Files.Operations.{errno_of}
+use Rattle.fuse_spec.specs.Calls.Calls.{Call}
+use Rattle.fuse_spec.specs.Kernel.Messages.{Forget, RequestBody, WireReply}
+use Rattle.fuse_spec.specs.Kernel.Kernel.{is_live, is_pinned, is_bound, body_of, call_put, forgets_read}
+use Rattle.fuse_spec.specs.Kernel.QueueCalls.{pending_at, after_read_forgets}
+use Rattle.fuse_spec.specs.Kernel.Replies.{reply_written}
+use Rattle.fuse_spec.specs.Server.Copies.{files_named}
+use Rattle.fuse_spec.specs.Server.Nodes.{counts_out}
+use Rattle.fuse_spec.specs.Server.Performs.{served, files_given}
+use Rattle.fuse_spec.specs.World.Worlds as worlds
+use Rattle.fuse_spec.specs.World.Worlds.{World, Sent, after_mount, after_call, after_take, after_perform, after_again, after_write, after_tick, after_drop}
+use Rattle.fuse_spec.specs.World.Events.{Event, Outcome}
+use Rattle.fuse_spec.specs.World.Events as event
+use Rattle.fuse_spec.specs.World.Steps.{Stepped, going, is_past, is_busy, is_ready, unless, reading_body, reading_pending, reading_forgets, taking_request, performed_as, performing_held, sending_again, writing_copy, settling, dropping, evicting, MayChooseFor, IsRefused, RefusedWith}
 use Rattle.std.specs.Prelude.{Result, IfErr}
 use Rattle.std.specs.Option.{unwrap_or}
-use Rattle.fuse_theorem.proofs.Queuing.{All-at}
+use Rattle.fuse_theorem.proofs.Refining.Queuing.{All-at}
 use Rattle.fk_kernel.specs.Refused.{begin_refusal, mount_refusal, read_refusal, place_refusal, body_refusal, is_past_end}
 use Rattle.fk_kernel.specs.Refused as kernel
 use Rattle.fs_server.specs.Effects as server

@@ -13,19 +13,19 @@ use Rattle.fk_wire.proofs.Frames.{reads_back, spells}
 use Rattle.fk_wire.proofs.OneRequest.{within}
 use Rattle.fuse_frames.specs.RequestTies.{IsRequestFrame}
 use Rattle.fuse_frames.proofs.ReplyLemmas.{says}
-use Rattle.fuse_spec.specs.Messages.{Request, RequestBody, init, asks, release, forget, batch_forget, interrupt}
+use Rattle.fuse_spec.specs.Kernel.Messages.{Request, RequestBody, init, asks, release, forget, batch_forget, interrupt}
 use Rattle.fuse_spec.specs.declared.WriteResult.{WriteResult}
 use Rattle.fuse_spec.specs.declared.WriteResult.TheVariants.{Accepted, NoEntry, Invalid}
-use Rattle.fuse_spec.specs.Maps.{get}
-use Rattle.fuse_spec.specs.Server.{HeldRequest, Kept}
-use Rattle.fuse_spec.specs.Taking.{interrupting, taking}
-use Rattle.fuse_spec.specs.Worlds.{World, Sent, after_perform, after_take, replying}
-use Rattle.fuse_spec.specs.Events.{Event, Outcome, performed, taken}
-use Rattle.fuse_spec.specs.Operations.{errno_of}
-use Rattle.fuse_spec.specs.Performs.{PerformResult, served}
-use Rattle.fuse_spec.specs.Steps.{Happens}
-use Rattle.fuse_spec.specs.Refusals.{Leads, mounts, calls, reads_interrupt, reads_forgets, reads_pending, takes, performs, sends_again, writes, settles, signals, passes, drops, evicts, aborts}
-use Rattle.fuse_theorem.proofs.RefusalsByCases.{only_accepted}
+use Rattle.fuse_spec.specs.Values.Maps.{get}
+use Rattle.fuse_spec.specs.Server.Server.{HeldRequest, Kept}
+use Rattle.fuse_spec.specs.Server.Taking.{interrupting, taking}
+use Rattle.fuse_spec.specs.World.Worlds.{World, Sent, after_perform, after_take, replying}
+use Rattle.fuse_spec.specs.World.Events.{Event, Outcome, performed, taken}
+use Rattle.fuse_spec.specs.Files.Operations.{errno_of}
+use Rattle.fuse_spec.specs.Server.Performs.{PerformResult, served}
+use Rattle.fuse_spec.specs.World.Steps.{Happens}
+use Rattle.fuse_spec.specs.World.Refusals.{Leads, mounts, calls, reads_interrupt, reads_forgets, reads_pending, takes, performs, sends_again, writes, settles, signals, passes, drops, evicts, aborts}
+use Rattle.fuse_theorem.proofs.RefusalCases.RefusalsByCases.{only_accepted}
 use Rattle.fw_link.specs.Envelopes.{IsEnvelope, stated_len}
 use Rattle.fw_world.specs.Frames.{IsCopyFrame}
 use Rattle.fw_world.specs.Sends.{IsOut, error_of}

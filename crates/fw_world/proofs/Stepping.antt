@@ -2,17 +2,17 @@
 use Rattle.std.proofs.Common.{◌≡◌, ℕ, Bool, true, false, refl, Result, Ok, Err, Option, Some, None, subst, sym}
 use Rattle.std.specs.Prelude.{IfOk, IfSome}
 use Rattle.fuse_spec.specs.declared.Refusal.{Refusal}
-use Rattle.fuse_spec.specs.Events.{Event as EventValue, Outcome as OutcomeValue, abort, aborted}
-use Rattle.fuse_spec.specs.Kernel.{Kernel}
-use Rattle.fuse_spec.specs.Maps.{remove}
-use Rattle.fuse_spec.specs.Plain.{Plain}
-use Rattle.fuse_spec.specs.Runs.{Refines, plain_handed_out}
-use Rattle.fuse_spec.specs.Sessions.{linked}
-use Rattle.fuse_spec.specs.Steps.{Happens}
-use Rattle.fuse_spec.specs.Worlds.{World}
+use Rattle.fuse_spec.specs.World.Events.{Event as EventValue, Outcome as OutcomeValue, abort, aborted}
+use Rattle.fuse_spec.specs.Kernel.Kernel.{Kernel}
+use Rattle.fuse_spec.specs.Values.Maps.{remove}
+use Rattle.fuse_spec.specs.Reference.Plain.{Plain}
+use Rattle.fuse_spec.specs.Claim.Runs.{Refines, plain_handed_out}
+use Rattle.fuse_spec.specs.Claim.Sessions.{linked}
+use Rattle.fuse_spec.specs.World.Steps.{Happens}
+use Rattle.fuse_spec.specs.World.Worlds.{World}
 use Rattle.fuse_theorem.specs.Reached.{IsReached}
-use Rattle.fuse_theorem.proofs.ReachedWorlds.{reached_next}
-use Rattle.fuse_theorem.proofs.Refining.{event_refines, over_stays, kept, handing_out}
+use Rattle.fuse_theorem.proofs.WholeLists.ReachedWorlds.{reached_next}
+use Rattle.fuse_theorem.proofs.Refining.Refining.{event_refines, over_stays, kept, handing_out}
 use Rattle.fw_world.specs.declared.event.Event.{Event}
 use Rattle.fw_world.specs.declared.event.Outcome.{Outcome}
 use Rattle.fw_world.specs.OverLinks.{StepsOver, goes_on, gives_up, session_of}

@@ -6,32 +6,32 @@ use Rattle.fuse_spec.specs.declared.Minor.{Minor}
 use Rattle.fuse_spec.specs.declared.Purpose.{Purpose}
 use Rattle.fuse_spec.specs.declared.Refusal.{Refusal}
 use Rattle.fuse_spec.specs.declared.Refusal.TheVariants as refusal
-use Rattle.fuse_spec.specs.Calls.{Call, spoken}
-use Rattle.fuse_spec.specs.Events.{Event, Outcome}
-use Rattle.fuse_spec.specs.Events as event
-use Rattle.fuse_spec.specs.Kernel.{Kernel, is_live, is_aborted, body_of, call_begun, call_put, forgets_read, forgets_singly, advanced, asking_for, released, closed_by, closing_of}
-use Rattle.fuse_spec.specs.Maps.{get, put}
-use Rattle.fuse_spec.specs.Vfs.{Advance, begun}
-use Rattle.fuse_spec.specs.Operations.{Operation}
+use Rattle.fuse_spec.specs.Calls.Calls.{Call, spoken}
+use Rattle.fuse_spec.specs.World.Events.{Event, Outcome}
+use Rattle.fuse_spec.specs.World.Events as event
+use Rattle.fuse_spec.specs.Kernel.Kernel.{Kernel, is_live, is_aborted, body_of, call_begun, call_put, forgets_read, forgets_singly, advanced, asking_for, released, closed_by, closing_of}
+use Rattle.fuse_spec.specs.Values.Maps.{get, put}
+use Rattle.fuse_spec.specs.Calls.Vfs.{Advance, begun}
+use Rattle.fuse_spec.specs.Files.Operations.{Operation}
 use Rattle.fuse_spec.specs.declared.Opened.{Opened}
-use Rattle.fuse_spec.specs.Messages.{Forget, Request, RequestBody, WireReply}
-use Rattle.fuse_spec.specs.Numbers.{counter_end, max_calls, max_validity}
-use Rattle.fuse_spec.specs.Operations.{errno_of}
-use Rattle.fuse_spec.specs.Performs.{served}
+use Rattle.fuse_spec.specs.Kernel.Messages.{Forget, Request, RequestBody, WireReply}
+use Rattle.fuse_spec.specs.Values.Numbers.{counter_end, max_calls, max_validity}
+use Rattle.fuse_spec.specs.Files.Operations.{errno_of}
+use Rattle.fuse_spec.specs.Server.Performs.{served}
 use Rattle.fuse_spec.specs.declared.Mark.{Mark}
 use Rattle.fuse_spec.specs.declared.Mark.TheVariants as mark
 use Rattle.fuse_spec.specs.declared.QueuedRequest.{QueuedRequest}
-use Rattle.fuse_spec.specs.Queues.{pending}
-use Rattle.fuse_spec.specs.QueueCalls.{after_reading, pending_at, can_read_forgets, after_read_forgets}
-use Rattle.fuse_spec.specs.Server.{Server}
-use Rattle.fuse_spec.specs.Steps.{is_past, is_counted_out, is_ready, takes_memory, IsRefused, MayChooseFor, RefusedWith, Happens}
-use Rattle.fuse_spec.specs.Worlds as worlds
-use Rattle.fuse_spec.specs.Taking.{taking}
+use Rattle.fuse_spec.specs.Kernel.Queues.{pending}
+use Rattle.fuse_spec.specs.Kernel.QueueCalls.{after_reading, pending_at, can_read_forgets, after_read_forgets}
+use Rattle.fuse_spec.specs.Server.Server.{Server}
+use Rattle.fuse_spec.specs.World.Steps.{is_past, is_counted_out, is_ready, takes_memory, IsRefused, MayChooseFor, RefusedWith, Happens}
+use Rattle.fuse_spec.specs.World.Worlds as worlds
+use Rattle.fuse_spec.specs.Server.Taking.{taking}
 use Rattle.std.specs.List.{remove as without}
 use Rattle.fuse_frames.specs.RequestTies.{IsRequestFrame}
 use Rattle.fuse_frames.proofs.RequestLemmas.{one_request, frame_says}
-use Rattle.fuse_spec.specs.Worlds.{World, after_call, after_take, after_perform, after_again}
-use Rattle.fuse_theorem.proofs.Choosing.{some_choice, not_both}
+use Rattle.fuse_spec.specs.World.Worlds.{World, after_call, after_take, after_perform, after_again}
+use Rattle.fuse_theorem.proofs.Refining.Choosing.{some_choice, not_both}
 use Rattle.fk_kernel.specs.Refused.{begin_refusal, mount_refusal, read_refusal, place_refusal, body_refusal, is_past_end}
 use Rattle.fk_kernel.specs.Refused as kernel
 use Rattle.fk_kernel.specs.RefusedSignals.{read_interrupt_refusal, oldest_refusal}
@@ -41,16 +41,16 @@ use Rattle.fs_server.specs.declared.server.Took.{Took}
 use Rattle.fs_server.specs.Effects.{CanSendAgain, CanTake, TakesFrame, AnswersFrame, copy_of, RefusesFrame, fault_or, past_or_memory}
 use Rattle.fs_server.specs.declared.server.ServerFault.{ServerFault}
 use Rattle.fs_server.specs.declared.server.ServerFault.TheVariants.{Memory}
-use Rattle.fuse_spec.specs.Server.{RequestFault, fault_of}
+use Rattle.fuse_spec.specs.Server.Server.{RequestFault, fault_of}
 use Rattle.fuse_theorem.specs.Reached.{IsReached}
-use Rattle.fuse_theorem.proofs.NoFault.{no_fault}
-use Rattle.fuse_theorem.proofs.Queuing.{All-at}
+use Rattle.fuse_theorem.proofs.Replies.NoFault.{no_fault}
+use Rattle.fuse_theorem.proofs.Refining.Queuing.{All-at}
 use Rattle.fw_world.specs.Values.{refusal_for}
 use Rattle.fw_world.proofs.Parts.{no_copy_wants, some_copy_wants}
 use Rattle.fw_world.proofs.Refusing.{is_exhausted}
-use Rattle.fuse_spec.specs.Steps.{taking_request}
+use Rattle.fuse_spec.specs.World.Steps.{taking_request}
 use Rattle.fs_server.specs.Steps.{CanPerform}
-use Rattle.fuse_spec.specs.Copies.{sent_again}
+use Rattle.fuse_spec.specs.Server.Copies.{sent_again}
 use Rattle.fs_server.proofs.Performable.{performs_within, copies_within}
 use Rattle.fw_world.proofs.Counters.{kernel_low, server_low, count_low, past_by_server, world_within}
 use Rattle.fw_world.proofs.Happening.{mounts, calls, reads, reads_forgets, takes, performs, sends_again}

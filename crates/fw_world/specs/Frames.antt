@@ -1,7 +1,7 @@
 -- The frame that was put last, and what an outcome tells of it.
 use Rattle.std.specs.Prelude.{◌≡◌, ℕ, ◌-◌, List, [], Option, Some, None, length, slice_get}
-use Rattle.fuse_spec.specs.Messages.{Request}
-use Rattle.fuse_spec.specs.Worlds.{World, Sent}
+use Rattle.fuse_spec.specs.Kernel.Messages.{Request}
+use Rattle.fuse_spec.specs.World.Worlds.{World, Sent}
 use Rattle.fuse_spec.specs.declared.Taken.TheVariants.{Again}
 use Rattle.fk_wire.specs.declared.opcode.Opcode.{Opcode}
 use Rattle.fuse_frames.specs.RequestTies.{IsRequestFrame, asked_opcode}

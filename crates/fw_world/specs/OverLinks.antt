@@ -2,14 +2,14 @@
 use Rattle.std.specs.Prelude.{◌≡◌, ℕ, Bool, List, [], ◌∷◌, ◌++◌}
 use Rattle.fuse_spec.specs.declared.Refusal.{Refusal}
 use Rattle.fuse_spec.specs.declared.Refusal.TheVariants.{LinkLost}
-use Rattle.fuse_spec.specs.Counts.{Keeps}
-use Rattle.fuse_spec.specs.Events.{Event, Outcome, abort, aborted}
-use Rattle.fuse_spec.specs.Plain.{Plain}
-use Rattle.fuse_spec.specs.Records.{Record, outcome, refused, link_lost, answers_of, collected}
-use Rattle.fuse_spec.specs.Runs.{Refines, AnswersOnce, CallsEnd}
-use Rattle.fuse_spec.specs.Sessions.{Session, SessionRun, linked, lost}
-use Rattle.fuse_spec.specs.Steps.{Happens, RefusedWith}
-use Rattle.fuse_spec.specs.Worlds.{World}
+use Rattle.fuse_spec.specs.Claim.Counts.{Keeps}
+use Rattle.fuse_spec.specs.World.Events.{Event, Outcome, abort, aborted}
+use Rattle.fuse_spec.specs.Reference.Plain.{Plain}
+use Rattle.fuse_spec.specs.World.Records.{Record, outcome, refused, link_lost, answers_of, collected}
+use Rattle.fuse_spec.specs.Claim.Runs.{Refines, AnswersOnce, CallsEnd}
+use Rattle.fuse_spec.specs.Claim.Sessions.{Session, SessionRun, linked, lost}
+use Rattle.fuse_spec.specs.World.Steps.{Happens, RefusedWith}
+use Rattle.fuse_spec.specs.World.Worlds.{World}
 use Rattle.fw_link.specs.Traffic.{Traffic}
 use Rattle.fw_world.specs.Runs.{StepsAs}
 use Rattle.fw_world.specs.Sends.{IsSent, IsLostOn}

@@ -1,12 +1,12 @@
 -- What an event and a list of events come to.
 use Rattle.std.specs.Prelude.{ℕ, List, Result, Ok, Err, take}
-use Rattle.fuse_spec.specs.Worlds.{World}
-use Rattle.fuse_spec.specs.Events.{Event, Outcome}
-use Rattle.fuse_spec.specs.Records.{Record}
-use Rattle.fuse_spec.specs.Plain.{Plain}
-use Rattle.fuse_spec.specs.PlainWords.{Steps}
-use Rattle.fuse_spec.specs.Counts.{Keeps}
-use Rattle.fuse_spec.specs.Runs.{Refines, Run, AnswersOnce, CallsEnd, IsOver}
+use Rattle.fuse_spec.specs.World.Worlds.{World}
+use Rattle.fuse_spec.specs.World.Events.{Event, Outcome}
+use Rattle.fuse_spec.specs.World.Records.{Record}
+use Rattle.fuse_spec.specs.Reference.Plain.{Plain}
+use Rattle.fuse_spec.specs.Reference.PlainWords.{Steps}
+use Rattle.fuse_spec.specs.Claim.Counts.{Keeps}
+use Rattle.fuse_spec.specs.Claim.Runs.{Refines, Run, AnswersOnce, CallsEnd, IsOver}
 
 -- The events that ran: all of them, or so many of the first.
 abbrev pub events_run : {X E : Type 0} → Result X ℕ → List E → List E

@@ -3,10 +3,10 @@ use Rattle.std.specs.Prelude.{◌≡◌, ◌≢◌, ℕ, ◌-◌, ℤ, pos, negs
 use Rattle.fuse_spec.specs.declared.ReplyResult.{ReplyResult}
 use Rattle.fuse_spec.specs.declared.WriteResult.{WriteResult}
 use Rattle.fuse_spec.specs.declared.WriteResult.TheVariants.{Accepted, NoEntry, Invalid}
-use Rattle.fuse_spec.specs.Messages.{Request}
-use Rattle.fuse_spec.specs.Worlds.{World, Sent}
-use Rattle.fuse_spec.specs.Events.{Event, Outcome, abort, aborted, is_read, taken, performed, sent_again, written}
-use Rattle.fuse_spec.specs.Steps.{Happens}
+use Rattle.fuse_spec.specs.Kernel.Messages.{Request}
+use Rattle.fuse_spec.specs.World.Worlds.{World, Sent}
+use Rattle.fuse_spec.specs.World.Events.{Event, Outcome, abort, aborted, is_read, taken, performed, sent_again, written}
+use Rattle.fuse_spec.specs.World.Steps.{Happens}
 use Rattle.fuse_spec.specs.declared.Taken.TheVariants.{Again}
 use Rattle.fk_wire.specs.Results.{SpellsResult}
 use Rattle.fuse_frames.specs.RequestTies.{IsRequestFrame}

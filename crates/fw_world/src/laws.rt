@@ -1,9 +1,9 @@
 //! What a link that gives each side what the other put, in order, makes of a session.
 
 ghost use Rattle.std.specs.Prelude.{◌≡◌, false, true, List};
-ghost use Rattle.fuse_spec.specs.Events.{Event};
-ghost use Rattle.fuse_spec.specs.Records.{Record};
-ghost use Rattle.fuse_spec.specs.Sessions.{Session};
+ghost use Rattle.fuse_spec.specs.World.Events.{Event};
+ghost use Rattle.fuse_spec.specs.World.Records.{Record};
+ghost use Rattle.fuse_spec.specs.Claim.Sessions.{Session};
 ghost use Rattle.fw_link.specs.Traffic.{HasFailed};
 ghost use Rattle.fw_world.specs.OverLinks.{RecordedOver};
 

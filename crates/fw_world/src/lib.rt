@@ -7,13 +7,15 @@ mod laws;
 mod record;
 mod runs;
 mod session;
+mod tables;
 mod world;
 
 pub use event::{Event, Outcome, Pick};
 pub use fk_kernel::{Answer, Call, ListedName};
-pub use fuse_spec::{Attributes, IntrEffect, Kind, Refusal, Taken, WriteResult};
+pub use fuse_spec::{Attributes, IntrEffect, Kind, Minor, Refusal, Taken, WriteResult};
 pub use laws::lost_where_failed;
 pub use record::Record;
 pub use runs::run;
 pub use session::Session;
-pub use world::{World, WorldIn};
+pub use tables::{Lists, Maps, Tables};
+pub use world::{ListWorld, ListWorldIn, World, WorldIn, WorldOf};

@@ -2,7 +2,7 @@
 
 ghost use Rattle.std.specs.Prelude.{◌≡◌, ◌+◌, ◌*◌, ◌<◌, ◌≤◌, ◌++◌, ◌∷◌, [], false, List, IsTrue, IfErr, IfNone, IfSome, OnErr, ◌^◌, length, map};
 ghost use Rattle.std.specs.Vec.{vec_len, vec_capacity};
-ghost use Rattle.fuse_spec.specs.Records.{answers_of, collected};
+ghost use Rattle.fuse_spec.specs.World.Records.{answers_of, collected};
 ghost use Rattle.fuse_theorem.specs.Recorded.{Recorded};
 ghost use Rattle.fw_world.specs.declared.record.Record.{Record as RecordValue};
 ghost use Rattle.fw_world.specs.Values.{event_of, record_of};
@@ -10,7 +10,8 @@ ghost use Rattle.fw_world.specs.Runs.{RunsAs, events_run};
 
 use crate::event::Event;
 use crate::record::Record;
-use crate::world::WorldIn;
+use crate::tables::Tables;
+use crate::world::WorldOf;
 use std::alloc::Allocator;
 
 /// Runs the events one after another. The records of each are its outcome or refusal, and then the answers that it
@@ -21,12 +22,12 @@ use std::alloc::Allocator;
 /// `Err(k)` where the list of records could not grow, after exactly k events; the events from the k-th on have not run. With room for
 /// the answers that wait, those of the unanswered calls, and two records an event it does not come to that; so neither with room for 66
 /// records an event, where no answer waits.
-pub fn run<A: Allocator + Copy>(
-    world: &mut WorldIn<A>,
+pub fn run<T: Tables>(
+    world: &mut WorldOf<T>,
     events: &[Event<'_>],
-    records: &mut Vec<Record<A>, A>,
+    records: &mut Vec<Record<T::Heap>, T::Heap>,
 ) -> Result<(), usize>
-    ensures ran { (added : List (RecordValue A)) × (records.new.items ≡ records.old.items ++ added) × RunsAs world.old (map event_of (events_run result events.now)) (map record_of added) world.new }
+    ensures ran { (added : List (RecordValue T.Heap)) × (records.new.items ≡ records.old.items ++ added) × RunsAs world.old (map event_of (events_run result events.now)) (map record_of added) world.new }
     ensures err { IfErr result (λ k. k < length events.now) }
     ensures full { OnErr result (vec_capacity records.old < vec_len records.old + (length world.old.kernel.vfs.answers + length world.old.kernel.vfs.calls) + 2 * length events.now) }
     ensures room { OnErr result (world.old.kernel.vfs.answers ≡ [] → vec_capacity records.old < vec_len records.old + 66 * length events.now) }
@@ -42,7 +43,7 @@ pub fn run<A: Allocator + Copy>(
 
 /// At most so many records the next event comes to: one of its own, one of a call that begins and is answered in it or of a link that is
 /// lost in it, and the answers of calls that wait.
-pub(crate) fn most_records<A: Allocator + Copy>(world: &WorldIn<A>) -> Option<usize>
+pub(crate) fn most_records<T: Tables>(world: &WorldOf<T>) -> Option<usize>
     ensures some { IfSome result (λ room. room ≡ length world.now.kernel.vfs.answers + length world.now.kernel.vfs.calls + 2) }
     ensures none { IfNone result (2 ^ 64 ≤ length world.now.kernel.vfs.answers + length world.now.kernel.vfs.calls + 2) }
 {
@@ -51,14 +52,14 @@ pub(crate) fn most_records<A: Allocator + Copy>(world: &WorldIn<A>) -> Option<us
 }
 
 /// Runs one event and records what it came to, or does nothing where there is no memory for the records.
-fn run_one<A: Allocator + Copy>(
-    world: &mut WorldIn<A>,
+fn run_one<T: Tables>(
+    world: &mut WorldOf<T>,
     event: &Event<'_>,
-    records: &mut Vec<Record<A>, A>,
+    records: &mut Vec<Record<T::Heap>, T::Heap>,
 ) -> bool
     ensures not_run { result ≡ false → (world.new ≡ world.old) × (records.new.items ≡ records.old.items) }
     ensures full { result ≡ false → vec_capacity records.old < vec_len records.old + (length world.old.kernel.vfs.answers + length world.old.kernel.vfs.calls) + 2 }
-    ensures ran { IsTrue result → (added : List (RecordValue A)) × (records.new.items ≡ records.old.items ++ added) × Recorded world.old (event_of event.now ∷ []) (map record_of added) world.new }
+    ensures ran { IsTrue result → (added : List (RecordValue T.Heap)) × (records.new.items ≡ records.old.items ++ added) × Recorded world.old (event_of event.now ∷ []) (map record_of added) world.new }
     ensures room { IsTrue result → vec_len records.new + (length world.new.kernel.vfs.answers + length world.new.kernel.vfs.calls) + vec_capacity records.old ≤ vec_len records.old + (length world.old.kernel.vfs.answers + length world.old.kernel.vfs.calls) + 2 + vec_capacity records.new }
 {
     world.keeps_protocol();
@@ -79,13 +80,13 @@ fn run_one<A: Allocator + Copy>(
 }
 
 /// Collects and records every answer that waits.
-pub(crate) fn collect_all<A: Allocator + Copy>(
-    world: &mut WorldIn<A>,
-    records: &mut Vec<Record<A>, A>,
+pub(crate) fn collect_all<T: Tables>(
+    world: &mut WorldOf<T>,
+    records: &mut Vec<Record<T::Heap>, T::Heap>,
 )
     requires { vec_len records.old + length world.old.kernel.vfs.answers ≤ vec_capacity records.old }
     ensures world { world.new ≡ collected world.old }
-    ensures records { (added : List (RecordValue A)) × (records.new.items ≡ records.old.items ++ added) × (map record_of added ≡ answers_of world.old.kernel.vfs.answers) }
+    ensures records { (added : List (RecordValue T.Heap)) × (records.new.items ≡ records.old.items ++ added) × (map record_of added ≡ answers_of world.old.kernel.vfs.answers) }
     ensures len { vec_len records.new ≡ vec_len records.old + length world.old.kernel.vfs.answers }
     ensures capacity { vec_capacity records.old ≤ vec_capacity records.new }
 {

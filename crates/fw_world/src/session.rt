@@ -1,13 +1,13 @@
 //! A world whose two sides talk over a link of bytes.
 
 ghost use Rattle.std.specs.Prelude.{◌≡◌, ◌≤◌, [], false, true, Err, IfErr, IfOk, IfNone, IfSome, OnErr, option_map, slice_get, vec_capacity};
-ghost use Rattle.fuse_spec.specs.Events.{abort, aborted};
-ghost use Rattle.fuse_spec.specs.Maps.{remove};
-ghost use Rattle.fuse_spec.specs.Counts.{Keeps};
-ghost use Rattle.fuse_spec.specs.Plain.{Plain, first_plain};
-ghost use Rattle.fuse_spec.specs.Steps.{Happens, RefusedWith};
+ghost use Rattle.fuse_spec.specs.World.Events.{abort, aborted};
+ghost use Rattle.fuse_spec.specs.Values.Maps.{remove};
+ghost use Rattle.fuse_spec.specs.Claim.Counts.{Keeps};
+ghost use Rattle.fuse_spec.specs.Reference.Plain.{Plain, first_plain};
+ghost use Rattle.fuse_spec.specs.World.Steps.{Happens, RefusedWith};
 ghost use Rattle.fuse_spec.specs.declared.Refusal.TheVariants.{LinkLost};
-ghost use Rattle.fuse_spec.specs.Runs.{Refines, plain_handed_out};
+ghost use Rattle.fuse_spec.specs.Claim.Runs.{Refines, plain_handed_out};
 ghost use Rattle.fk_syscalls.specs.Values.{answer_of};
 ghost use Rattle.fw_link.specs.Carrying.{IsEmpty};
 ghost use Rattle.fuse_theorem.specs.Reached.{IsReached};
@@ -49,7 +49,7 @@ pub struct Session<L: Link + Drop, A: Allocator + Copy = Global> {
 }
 
 impl<L: Link + Drop, A: Allocator + Copy> Session<L, A> {
-    ghost use Rattle.fuse_spec.specs.Worlds.{first_world};
+    ghost use Rattle.fuse_spec.specs.World.Worlds.{first_world};
 
     /// A session before its first mount, over a link with nothing outstanding.
     ///

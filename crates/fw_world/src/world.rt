@@ -2,13 +2,13 @@
 
 ghost use Rattle.std.specs.Prelude.{◌≡◌, ◌≤◌, ◌<◌, ◌++◌, ◌∷◌, [], ℕ, List, true, false, OnErr, IfOk, IfErr, IfNone, IfSome, length, option_map, slice_get};
 ghost use Rattle.std.specs.Vec.{vec_len, vec_capacity};
-ghost use Rattle.fuse_spec.specs.Events as event;
-ghost use Rattle.fuse_spec.specs.Maps.{remove};
-ghost use Rattle.fuse_spec.specs.Steps.{Happens, is_past, IsRefused, RefusedWith};
-ghost use Rattle.fuse_spec.specs.Worlds.{World as WorldState, first_world};
-ghost use Rattle.fuse_spec.specs.Counts.{Keeps};
-ghost use Rattle.fuse_spec.specs.Plain.{Plain, first_plain};
-ghost use Rattle.fuse_spec.specs.Runs.{Refines, plain_handed_out};
+ghost use Rattle.fuse_spec.specs.World.Events as event;
+ghost use Rattle.fuse_spec.specs.Values.Maps.{remove};
+ghost use Rattle.fuse_spec.specs.World.Steps.{Happens, is_past, IsRefused, RefusedWith};
+ghost use Rattle.fuse_spec.specs.World.Worlds.{World as WorldState, first_world};
+ghost use Rattle.fuse_spec.specs.Claim.Counts.{Keeps};
+ghost use Rattle.fuse_spec.specs.Reference.Plain.{Plain, first_plain};
+ghost use Rattle.fuse_spec.specs.Claim.Runs.{Refines, plain_handed_out};
 ghost use Rattle.fuse_spec.specs.declared.Refusal.TheVariants.{NoMemory};
 ghost use Rattle.fuse_theorem.specs.Reached.{IsReached};
 ghost use Rattle.fk_syscalls.specs.Values.{call_of, answer_of};
@@ -21,16 +21,18 @@ ghost use Rattle.fw_world.specs.Values.{counted_nodes, event_of, held_nodes, out
 mod last_sent;
 
 use crate::event::{Event, Outcome, Pick};
-use fk_kernel::{Answer, Call, Kernel};
+use crate::tables::{Lists, Maps, Tables};
+use fk_kernel::{Answer, Call, KernelOf};
+use fk_lookup_count::CountTable;
+use fk_queues::QueueTable;
 use fk_wire::Opcode;
-use fs_server::{Server, ServerFault};
+use fs_nodes::NodeStore;
+use fs_server::{ServerFault, ServerOf};
 use fuse_frames::{ReplyCopy, RequestFrame};
-use fuse_spec::{Minor, Refusal, ReplyResult, Taken};
+use fuse_spec::limits::MAX_VALIDITY;
+use fuse_spec::{Minor, Purpose, Refusal, ReplyResult, Taken};
 use std::alloc::{Allocator, Global};
 use std::marker::Model;
-
-/// The longest validity of a name, a day in milliseconds (this project's rule).
-const MAX_VALIDITY: u64 = 86_400_000;
 
 /// Which frame the last step put on a link.
 #[derive(Clone, Copy, Debug, PartialEq, Eq)]
@@ -40,23 +42,32 @@ enum LastPut {
     Reply,
 }
 
-/// One kernel, one server, and the links of requests, of replies and of the results of replies between them.
+/// One kernel, one server, and the links of requests, of replies and of the results of replies between them, over any tables.
 #[derive(Drop)]
-pub struct WorldIn<A: Allocator + Copy = Global> {
-    kernel: Kernel<A>,
-    server: Server<A>,
-    requests: Vec<RequestFrame<A>, A>,
-    replies: Vec<ReplyCopy<A>, A>,
-    results: Vec<ReplyResult, A>,
+pub struct WorldOf<T: Tables> {
+    kernel: KernelOf<T::Queues, T::Counts>,
+    server: ServerOf<T::Nodes>,
+    requests: Vec<RequestFrame<T::Heap>, T::Heap>,
+    replies: Vec<ReplyCopy<T::Heap>, T::Heap>,
+    results: Vec<ReplyResult, T::Heap>,
     last_put: LastPut,
 }
 
-/// The world of the program.
+/// The world of the program, whose tables are maps and slabs.
 pub type World = WorldIn<Global>;
 
-impl<A: Allocator + Copy> Model for WorldIn<A> {
+/// That world in memory that an allocator gives.
+pub type WorldIn<A = Global> = WorldOf<Maps<A>>;
+
+/// The same world over plain lists, to hold the other one against.
+pub type ListWorld = ListWorldIn<Global>;
+
+/// That world in memory that an allocator gives.
+pub type ListWorldIn<A = Global> = WorldOf<Lists<A>>;
+
+impl<T: Tables> Model for WorldOf<T> {
     ghost use Rattle.std.specs.Coded.{codes};
-    ghost use Rattle.fuse_spec.specs.Worlds.{World as WorldState};
+    ghost use Rattle.fuse_spec.specs.World.Worlds.{World as WorldState};
     ghost use Rattle.fuse_theorem.specs.Reached.{IsReached};
 
     ghost Value = { WorldState };
@@ -68,22 +79,22 @@ impl<A: Allocator + Copy> Model for WorldIn<A> {
     ghost invariant = { λ w. IsReached (record { kernel = w.kernel; server = w.server; requests = w.requests.items; replies = w.replies.items; results = w.results.items }) };
 }
 
-impl<A: Allocator + Copy> WorldIn<A> {
+impl<T: Tables> WorldOf<T> {
     /// A world before its first mount, whose tree is the root alone.
     ///
     /// # Errors
     ///
     /// `NoMemory`.
-    pub fn new(alloc: A) -> Result<WorldIn<A>, Refusal>
+    pub fn new(alloc: T::Heap) -> Result<Self, Refusal>
         ensures first { IfOk result (λ world. world ≡ first_world) }
         ensures refines { IfOk result (λ world. Refines world first_plain) }
         ensures refusal { IfErr result (λ refusal. refusal ≡ NoMemory) }
     {
-        let Ok(server) = Server::new(alloc) else {
+        let Ok(server) = ServerOf::new(alloc) else {
             return Err(Refusal::NoMemory);
         };
-        Ok(WorldIn {
-            kernel: Kernel::new(alloc),
+        Ok(WorldOf {
+            kernel: KernelOf::new(alloc),
             server,
             requests: Vec::new(alloc),
             replies: Vec::new(alloc),
@@ -138,7 +149,7 @@ impl<A: Allocator + Copy> WorldIn<A> {
     }
 
     /// Hands out, once, the answer of the lowest answered call.
-    pub fn collect(&mut self) -> Option<(u64, Answer<A>)>
+    pub fn collect(&mut self) -> Option<(u64, Answer<T::Heap>)>
         ensures answer { option_map (λ r. (r.0, answer_of r.1)) result ≡ slice_get self.old.kernel.vfs.answers 0 }
         ensures none { IfNone result (self.new ≡ self.old) }
         ensures taken { IfSome result (λ r. self.new ≡ record self.old { kernel = record self.old.kernel { vfs = record self.old.kernel.vfs { answers = remove self.old.kernel.vfs.answers r.0 } } }) }
@@ -215,7 +226,7 @@ impl<A: Allocator + Copy> WorldIn<A> {
     /// # Errors
     ///
     /// `NoMemory`, for the list.
-    pub fn kernel_nodes(&self) -> Result<Vec<(u64, u64, u64), A>, Refusal>
+    pub fn kernel_nodes(&self) -> Result<Vec<(u64, u64, u64), T::Heap>, Refusal>
         ensures nodes { IfOk result (λ nodes. nodes.items ≡ counted_nodes self.now.kernel.nodes) }
         ensures refusal { IfErr result (λ refusal. refusal ≡ NoMemory) }
     {
@@ -230,7 +241,7 @@ impl<A: Allocator + Copy> WorldIn<A> {
     /// # Errors
     ///
     /// `NoMemory`, for the list.
-    pub fn server_nodes(&self) -> Result<Vec<(u64, u64, u64), A>, Refusal>
+    pub fn server_nodes(&self) -> Result<Vec<(u64, u64, u64), T::Heap>, Refusal>
         ensures nodes { IfOk result (λ nodes. nodes.items ≡ held_nodes self.now.server.nodes.rows) }
         ensures refusal { IfErr result (λ refusal. refusal ≡ NoMemory) }
     {
@@ -622,9 +633,9 @@ fn append<T: Drop, A: Allocator>(list: &mut Vec<T, A>, value: T)
 }
 
 /// Makes room for the answer that a request frame gets at once, as only an INTERRUPT may, and tells whether there is room.
-fn reserve_answer<A: Allocator + Copy>(
-    replies: &mut Vec<ReplyCopy<A>, A>,
-    server: &Server<A>,
+fn reserve_answer<S: NodeStore>(
+    replies: &mut Vec<ReplyCopy<S::Heap>, S::Heap>,
+    server: &ServerOf<S>,
     bytes: &[u8],
 ) -> bool
     ensures items { replies.new.items ≡ replies.old.items }
@@ -666,7 +677,10 @@ fn put_reply<A: Allocator>(replies: &mut Vec<ReplyCopy<A>, A>, copy: ReplyCopy<A
 }
 
 /// No counter of a world with this kernel and this server is past its end.
-fn within<A: Allocator + Copy>(kernel: &Kernel<A>, server: &Server<A>)
+fn within<Q: QueueTable<Purpose> + Drop, C: CountTable<Heap = Q::Heap> + Drop, S: NodeStore>(
+    kernel: &KernelOf<Q, C>,
+    server: &ServerOf<S>,
+)
     ensures { (world : WorldState) → world.kernel ≡ kernel.now → world.server ≡ server.now → is_past world ≡ false }
 {
     kernel.within();

@@ -3,14 +3,13 @@
 use crate::tests::tried::{Outcome, Tried, judged, run};
 use fail_at::FailAt;
 use fk_wire::{Request, RequestBody, write_request};
-use fs_server::{Server, ServerFault, fault_reply_at};
+use fs_nodes::{ListNodes, NodeStore, NodeTable};
+use fs_server::{ServerFault, ServerOf, fault_reply_at};
 use fuse_frames::ReplyCopy;
+use fuse_spec::limits::MAX_VALIDITY;
 use fuse_spec::{Minor, Refusal, ReplyResult, Taken, WriteResult};
 use std::alloc::{AllocError, Allocator, Global};
 use std::process::Abort;
-
-/// The longest validity, in milliseconds.
-const MAX_VALIDITY: u64 = 86_400_000;
 
 /// What a request asks, with names and bytes as text.
 #[derive(Clone, Copy)]
@@ -151,7 +150,7 @@ fn copied<A: Allocator>(alloc: Global, copy: Option<&ReplyCopy<A>>, text: &str) 
     }
 }
 
-fn takes<A: Allocator + Copy>(server: &mut Server<A>, frame: &[u8], word: Taken) -> Outcome {
+fn takes<S: NodeStore>(server: &mut ServerOf<S>, frame: &[u8], word: Taken) -> Outcome {
     match server.take(frame) {
         Ok(took) => judged(took.word == word && took.copy.is_none()),
         Err(ServerFault::Memory) => Outcome::NoMemory,
@@ -159,8 +158,8 @@ fn takes<A: Allocator + Copy>(server: &mut Server<A>, frame: &[u8], word: Taken)
     }
 }
 
-fn holds<A: Allocator + Copy>(
-    server: &mut Server<A>,
+fn holds<S: NodeStore>(
+    server: &mut ServerOf<S>,
     alloc: Global,
     unique: u64,
     nodeid: u64,
@@ -179,8 +178,8 @@ fn holds<A: Allocator + Copy>(
     }
 }
 
-fn answers<A: Allocator + Copy>(
-    server: &mut Server<A>,
+fn answers<S: NodeStore>(
+    server: &mut ServerOf<S>,
     alloc: Global,
     frame: &[u8],
     text: &str,
@@ -210,8 +209,8 @@ fn is_fault_reply(
     }
 }
 
-fn refuses<A: Allocator + Copy>(
-    server: &mut Server<A>,
+fn refuses<S: NodeStore>(
+    server: &mut ServerOf<S>,
     alloc: Global,
     frame: &[u8],
     fault: ServerFault,
@@ -224,8 +223,8 @@ fn refuses<A: Allocator + Copy>(
     }
 }
 
-fn performs<A: Allocator + Copy>(
-    server: &mut Server<A>,
+fn performs<S: NodeStore>(
+    server: &mut ServerOf<S>,
     alloc: Global,
     unique: u64,
     errno: u32,
@@ -238,7 +237,7 @@ fn performs<A: Allocator + Copy>(
     }
 }
 
-fn is_lost<A: Allocator + Copy>(server: &mut Server<A>, unique: u64, errno: u32) -> Outcome {
+fn is_lost<S: NodeStore>(server: &mut ServerOf<S>, unique: u64, errno: u32) -> Outcome {
     match server.perform(unique) {
         Ok(done) => judged(done.errno == errno && done.copy.is_none()),
         Err(Refusal::NoMemory) => Outcome::NoMemory,
@@ -246,8 +245,8 @@ fn is_lost<A: Allocator + Copy>(server: &mut Server<A>, unique: u64, errno: u32)
     }
 }
 
-fn copies_again<A: Allocator + Copy>(
-    server: &mut Server<A>,
+fn copies_again<S: NodeStore>(
+    server: &mut ServerOf<S>,
     alloc: Global,
     unique: u64,
     text: &str,
@@ -259,15 +258,15 @@ fn copies_again<A: Allocator + Copy>(
     }
 }
 
-fn lists<A: Allocator + Copy>(server: &Server<A>, heap: A, nodes: &[(u64, u64, u64)]) -> Outcome {
+fn lists<S: NodeStore>(server: &ServerOf<S>, heap: S::Heap, nodes: &[(u64, u64, u64)]) -> Outcome {
     match server.nodes(heap) {
         Ok(given) => judged(given.as_slice() == nodes),
         Err(AllocError) => Outcome::NoMemory,
     }
 }
 
-fn mounts<A: Allocator + Copy>(
-    server: &mut Server<A>,
+fn mounts<S: NodeStore>(
+    server: &mut ServerOf<S>,
     found_ms: u64,
     missing_ms: u64,
     minor: Minor,
@@ -279,13 +278,13 @@ fn mounts<A: Allocator + Copy>(
     !server.is_aborted() && server.minor() == minor
 }
 
-fn aborts<A: Allocator + Copy>(server: &mut Server<A>) -> bool {
+fn aborts<S: NodeStore>(server: &mut ServerOf<S>) -> bool {
     server.connection_lost();
     server.is_aborted()
 }
 
 /// Whether the server says of a frame, before it is taken, what a row has of it: why it is refused, and whether it is answered.
-fn is_foretold<A: Allocator + Copy>(server: &Server<A>, frame: &[u8], row: Row) -> bool {
+fn is_foretold<S: NodeStore>(server: &ServerOf<S>, frame: &[u8], row: Row) -> bool {
     let refusal = server.take_refusal(frame);
     let is_answered = server.take_answers(frame);
     match row {
@@ -297,8 +296,8 @@ fn is_foretold<A: Allocator + Copy>(server: &Server<A>, frame: &[u8], row: Row) 
 }
 
 /// The step of a row that takes a frame.
-fn take_row<A: Allocator + Copy>(
-    server: &mut Server<A>,
+fn take_row<S: NodeStore>(
+    server: &mut ServerOf<S>,
     alloc: Global,
     frame: &[u8],
     row: Row,
@@ -315,8 +314,8 @@ fn take_row<A: Allocator + Copy>(
 }
 
 /// The same, of which the frame is given in digits.
-fn take_digits<A: Allocator + Copy>(
-    server: &mut Server<A>,
+fn take_digits<S: NodeStore>(
+    server: &mut ServerOf<S>,
     alloc: Global,
     digits: &str,
     row: Row,
@@ -336,8 +335,8 @@ fn settled(number: u64, unique: u64, written: WriteResult) -> ReplyResult {
     }
 }
 
-impl<A: Allocator + Copy> Tried<A, Row> for Server<A> {
-    fn attempt(&mut self, heap: A, alloc: Global, row: Row) -> Outcome {
+impl<S: NodeStore> Tried<S::Heap, Row> for ServerOf<S> {
+    fn attempt(&mut self, heap: S::Heap, alloc: Global, row: Row) -> Outcome {
         match row {
             Row::Mount(found_ms, missing_ms) => {
                 judged(mounts(self, found_ms, missing_ms, Minor::M31))
@@ -367,29 +366,47 @@ impl<A: Allocator + Copy> Tried<A, Row> for Server<A> {
 }
 
 /// A server, which is made again where a growth of it was refused.
-fn made<A: Allocator + Copy>(heap: A) -> Result<Server<A>, AllocError> {
-    match Server::new(heap) {
+fn made<S: NodeStore>(heap: S::Heap) -> Result<ServerOf<S>, AllocError> {
+    match ServerOf::new(heap) {
         Ok(server) => Ok(server),
-        Err(AllocError) => Server::new(heap),
+        Err(AllocError) => ServerOf::new(heap),
     }
 }
 
 /// Tries the rows of two lists on a new server, whose heap may refuse a growth.
-pub fn run_refused<A: Allocator + Copy>(
+fn run_made<S: NodeStore + Drop>(
     rt: &impl Abort,
-    heap: A,
+    heap: S::Heap,
     refusing: &FailAt<Global>,
     alloc: Global,
     first: &[Row],
     rows: &[Row],
     name: &str,
 ) -> Result<(), AllocError> {
-    let server = made(heap)?;
+    let server = made::<S>(heap)?;
     run(rt, server, heap, refusing, alloc, first, rows, name);
     Ok(())
 }
 
-/// Tries the rows of two lists on a new server, and refuses no growth.
+/// Tries the rows of two lists on new servers with each growth refused in turn: how many runs that took.
+pub fn runs_refused<S: NodeStore + Drop>(
+    rt: &impl Abort,
+    heap: S::Heap,
+    refusing: &FailAt<Global>,
+    alloc: Global,
+    first: &[Row],
+    rows: &[Row],
+    name: &str,
+) -> Result<u64, AllocError> {
+    let mut runs = 0;
+    for n in refusing.each_growth(400) {
+        run_made::<S>(rt, heap, refusing, alloc, first, rows, name)?;
+        runs = n;
+    }
+    Ok(runs)
+}
+
+/// Tries the rows of two lists on a new server over each table of nodes, and refuses no growth.
 pub fn run_on_new(
     rt: &impl Abort,
     alloc: Global,
@@ -398,7 +415,6 @@ pub fn run_on_new(
     name: &str,
 ) -> Result<(), AllocError> {
     let refusing = FailAt::new(alloc);
-    let server = Server::new(alloc)?;
-    run(rt, server, alloc, &refusing, alloc, first, rows, name);
-    Ok(())
+    run_made::<NodeTable>(rt, alloc, &refusing, alloc, first, rows, name)?;
+    run_made::<ListNodes>(rt, alloc, &refusing, alloc, first, rows, name)
 }

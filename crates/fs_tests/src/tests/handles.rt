@@ -2,7 +2,8 @@
 
 use crate::tests::tried::{Outcome, Tried, judged, run};
 use fail_at::FailAt;
-use fs_handles::{HandleTable, LIMIT};
+use fs_handles::HandleTable;
+use fuse_spec::limits::COUNTER_END;
 use std::alloc::{AllocError, Allocator, Global};
 use std::process::Abort;
 use std::test::Fail;
@@ -58,11 +59,11 @@ impl<A: Allocator + Copy> Tried<A, Row> for HandleTable<A> {
 
 /// Numbers rise from 1, also after `clear`. A number that is not in use is not taken back.
 static CALLS: [Row; 20] = [
-    Row::NumbersLeft(LIMIT - 1),
+    Row::NumbersLeft(COUNTER_END - 1),
     Row::Open(7, 1),
     Row::Open(7, 2),
     Row::Open(9, 3),
-    Row::NumbersLeft(LIMIT - 4),
+    Row::NumbersLeft(COUNTER_END - 4),
     Row::FileOf(2, Some(7)),
     Row::FileOf(4, None),
     Row::Has(9, true),

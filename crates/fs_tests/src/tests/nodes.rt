@@ -2,7 +2,8 @@
 
 use crate::tests::tried::{Outcome, Tried, judged, run};
 use fail_at::FailAt;
-use fs_nodes::{LIMIT, ListNodes, NodeStore, NodeTable, TooMany};
+use fs_nodes::{ListNodes, NodeStore, NodeTable, TooMany};
+use fuse_spec::limits::COUNTER_END;
 use std::alloc::{AllocError, Allocator, Global};
 use std::process::Abort;
 use std::test::Fail;
@@ -43,7 +44,7 @@ fn give_again<S: NodeStore>(store: &mut S, file: u64, id: u64) -> Result<(u64, u
     let Some(its_file) = store.file_of(id) else {
         return Err(AllocError);
     };
-    if its_file != file || store.count_of(id) >= LIMIT || store.generations_left() == 0 {
+    if its_file != file || store.count_of(id) >= COUNTER_END || store.generations_left() == 0 {
         return Err(AllocError);
     }
     // No other node is of this file.
@@ -142,7 +143,7 @@ static CALLS: [Row; 27] = [
     Row::First(90, 2, 7),
     Row::First(80, 3, 8),
     Row::First(70, 4, 9),
-    Row::GenerationsLeft(LIMIT - 10),
+    Row::GenerationsLeft(COUNTER_END - 10),
     Row::Nodes(&[(2, 7, 1), (3, 8, 1), (4, 9, 1)]),
 ];
 

@@ -1,8 +1,10 @@
 //! The reply to each operation, byte for byte (linux/fuse.h), also with each growth refused in turn.
 
-use crate::tests::frames::{Asks, Row, run_refused};
+use crate::tests::frames::{Asks, Row, runs_refused};
 use fail_at::FailAt;
+use fs_nodes::{ListNodes, NodeTable};
 use fuse_spec::{Taken, WriteResult};
+use std::alloc::Global;
 use std::test::Fail;
 
 /// Each operation, under validities of 1.5 and 0.25 seconds. Each copy is settled.
@@ -158,11 +160,25 @@ static COPIES: [Row; 16] = [
 #[test]
 fn each_growth_refused(rt: HostRuntime) -> Result<(), Fail> {
     let heap = FailAt::new(rt.alloc());
-    let mut runs = 0;
-    for n in heap.each_growth(400) {
-        run_refused(&rt, &heap, &heap, rt.alloc(), &REPLIES, &COPIES, "replies")?;
-        runs = n;
-    }
-    assert!(rt; 40 < runs && runs < 400, "{runs}");
+    let of_table = runs_refused::<NodeTable<&FailAt<Global>>>(
+        &rt,
+        &heap,
+        &heap,
+        rt.alloc(),
+        &REPLIES,
+        &COPIES,
+        "replies",
+    )?;
+    assert!(rt; 40 < of_table && of_table < 400, "table: {of_table}");
+    let of_list = runs_refused::<ListNodes<&FailAt<Global>>>(
+        &rt,
+        &heap,
+        &heap,
+        rt.alloc(),
+        &REPLIES,
+        &COPIES,
+        "replies",
+    )?;
+    assert!(rt; 40 < of_list && of_list < 400, "list: {of_list}");
     Ok(())
 }

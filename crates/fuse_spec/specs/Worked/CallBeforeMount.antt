@@ -1,10 +1,10 @@
 -- A worked run: call before mount.
 use Rattle.std.specs.Prelude.{List, [], ◌∷◌, codes}
-use Rattle.fuse_spec.specs.Events.{Event}
-use Rattle.fuse_spec.specs.Events as event
-use Rattle.fuse_spec.specs.Records.{Record, refused}
-use Rattle.fuse_spec.specs.LockStep.{Both, IsRecorded, after_all, start}
-use Rattle.fuse_spec.specs.Calls as call
+use Rattle.fuse_spec.specs.World.Events.{Event}
+use Rattle.fuse_spec.specs.World.Events as event
+use Rattle.fuse_spec.specs.World.Records.{Record, refused}
+use Rattle.fuse_spec.specs.Worked.LockStep.{Both, IsRecorded, after_all, start}
+use Rattle.fuse_spec.specs.Calls.Calls as call
 use Rattle.fuse_spec.specs.declared.Refusal.TheVariants as refusal
 
 -- The events of the run, what both worlds have to record of them, and both worlds after them. (this project's rule)

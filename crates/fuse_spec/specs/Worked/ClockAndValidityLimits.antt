@@ -1,10 +1,10 @@
 -- A worked run: clock and validity limits.
 use Rattle.fuse_spec.specs.declared.Minor.TheVariants as minor
 use Rattle.std.specs.Prelude.{List, [], ◌∷◌}
-use Rattle.fuse_spec.specs.Events.{Event}
-use Rattle.fuse_spec.specs.Events as event
-use Rattle.fuse_spec.specs.Records.{Record, outcome, refused}
-use Rattle.fuse_spec.specs.LockStep.{Both, IsRecorded, after_all, start}
+use Rattle.fuse_spec.specs.World.Events.{Event}
+use Rattle.fuse_spec.specs.World.Events as event
+use Rattle.fuse_spec.specs.World.Records.{Record, outcome, refused}
+use Rattle.fuse_spec.specs.Worked.LockStep.{Both, IsRecorded, after_all, start}
 use Rattle.fuse_spec.specs.declared.Refusal.TheVariants as refusal
 
 -- The events of the run, what both worlds have to record of them, and both worlds after them. (this project's rule)

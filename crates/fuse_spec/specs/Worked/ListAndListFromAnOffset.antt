@@ -1,12 +1,12 @@
 -- A worked run: list and list from an offset.
 use Rattle.fuse_spec.specs.declared.Minor.TheVariants as minor
 use Rattle.std.specs.Prelude.{List, [], ◌∷◌, codes, false}
-use Rattle.fuse_spec.specs.Events.{Event}
-use Rattle.fuse_spec.specs.Events as event
-use Rattle.fuse_spec.specs.Records.{Record, outcome, answered}
-use Rattle.fuse_spec.specs.LockStep.{Both, IsRecorded, after_all, start}
-use Rattle.fuse_spec.specs.Calls as call
-use Rattle.fuse_spec.specs.Answers as answer
+use Rattle.fuse_spec.specs.World.Events.{Event}
+use Rattle.fuse_spec.specs.World.Events as event
+use Rattle.fuse_spec.specs.World.Records.{Record, outcome, answered}
+use Rattle.fuse_spec.specs.Worked.LockStep.{Both, IsRecorded, after_all, start}
+use Rattle.fuse_spec.specs.Calls.Calls as call
+use Rattle.fuse_spec.specs.Calls.Answers as answer
 use Rattle.fuse_spec.specs.declared.Taken.TheVariants as word
 use Rattle.fuse_spec.specs.declared.WriteResult.TheVariants as result
 use Rattle.fuse_spec.specs.declared.Kind.TheVariants as kind

@@ -1,13 +1,13 @@
 -- A worked run: minor15 forgets one by one.
 use Rattle.std.specs.Prelude.{◌≡◌, List, [], ◌∷◌, codes, false}
-use Rattle.fuse_spec.specs.Events.{Event}
-use Rattle.fuse_spec.specs.Events as event
-use Rattle.fuse_spec.specs.Records.{Record, outcome, answered, refused}
+use Rattle.fuse_spec.specs.World.Events.{Event}
+use Rattle.fuse_spec.specs.World.Events as event
+use Rattle.fuse_spec.specs.World.Records.{Record, outcome, answered, refused}
 use Rattle.fuse_spec.specs.declared.Refusal.TheVariants as refusal
 use Rattle.fuse_spec.specs.declared.Minor.TheVariants as minor
-use Rattle.fuse_spec.specs.LockStep.{Both, IsRecorded, after_all, start, nodes_shown}
-use Rattle.fuse_spec.specs.Calls as call
-use Rattle.fuse_spec.specs.Answers as answer
+use Rattle.fuse_spec.specs.Worked.LockStep.{Both, IsRecorded, after_all, start, nodes_shown}
+use Rattle.fuse_spec.specs.Calls.Calls as call
+use Rattle.fuse_spec.specs.Calls.Answers as answer
 use Rattle.fuse_spec.specs.declared.Taken.TheVariants as word
 use Rattle.fuse_spec.specs.declared.WriteResult.TheVariants as result
 

@@ -5,7 +5,10 @@ use super::rows::{Row, lists};
 use fail_at::FailAt;
 use fw_link::MemoryLink;
 use fw_script::{Line, read_hex, read_line, write_hex, write_record};
-use fw_world::{Answer, Call, Event, Outcome, Record, Refusal, Session, WorldIn, run};
+use fw_world::{
+    Answer, Call, Event, ListWorldIn, Outcome, Record, Refusal, Session, Tables, WorldIn, WorldOf,
+    run,
+};
 use std::alloc::{AllocError, Allocator, Global};
 use std::io;
 use std::io::Write;
@@ -35,33 +38,37 @@ trait Stepped<A: Allocator + Copy>: Sized {
     fn server_nodes(&self) -> Result<Vec<(u64, u64, u64), A>, Refusal>;
 }
 
-impl<A: Allocator + Copy> Stepped<A> for WorldIn<A> {
-    fn made(alloc: A) -> Option<WorldIn<A>> {
-        WorldIn::new(alloc).ok()
+impl<T: Tables> Stepped<T::Heap> for WorldOf<T> {
+    fn made(alloc: T::Heap) -> Option<WorldOf<T>> {
+        WorldOf::new(alloc).ok()
     }
 
     fn step(&mut self, event: &Event<'_>) -> Result<Outcome, Refusal> {
-        WorldIn::step(self, event)
+        WorldOf::step(self, event)
     }
 
-    fn run(&mut self, events: &[Event<'_>], records: &mut Vec<Record<A>, A>) -> Result<(), usize> {
+    fn run(
+        &mut self,
+        events: &[Event<'_>],
+        records: &mut Vec<Record<T::Heap>, T::Heap>,
+    ) -> Result<(), usize> {
         run(self, events, records)
     }
 
-    fn collect(&mut self) -> Option<(u64, Answer<A>)> {
-        WorldIn::collect(self)
+    fn collect(&mut self) -> Option<(u64, Answer<T::Heap>)> {
+        WorldOf::collect(self)
     }
 
     fn last_put(&self) -> Option<&[u8]> {
-        WorldIn::last_put(self)
+        WorldOf::last_put(self)
     }
 
-    fn kernel_nodes(&self) -> Result<Vec<(u64, u64, u64), A>, Refusal> {
-        WorldIn::kernel_nodes(self)
+    fn kernel_nodes(&self) -> Result<Vec<(u64, u64, u64), T::Heap>, Refusal> {
+        WorldOf::kernel_nodes(self)
     }
 
-    fn server_nodes(&self) -> Result<Vec<(u64, u64, u64), A>, Refusal> {
-        WorldIn::server_nodes(self)
+    fn server_nodes(&self) -> Result<Vec<(u64, u64, u64), T::Heap>, Refusal> {
+        WorldOf::server_nodes(self)
     }
 }
 
@@ -465,6 +472,24 @@ fn each_growth_of_each_row_refused(rt: HostRuntime) -> Result<(), Fail> {
     let of_records = FailAt::new(rt.alloc());
     for rows in lists() {
         check_rows::<_, WorldIn<_>>(
+            &rt,
+            &heap,
+            &of_records,
+            &heap,
+            &of_records,
+            rt.alloc(),
+            rows,
+        )?;
+    }
+    Ok(())
+}
+
+#[test]
+fn each_growth_of_each_row_over_lists_refused(rt: HostRuntime) -> Result<(), Fail> {
+    let heap = FailAt::new(rt.alloc());
+    let of_records = FailAt::new(rt.alloc());
+    for rows in lists() {
+        check_rows::<_, ListWorldIn<_>>(
             &rt,
             &heap,
             &of_records,

@@ -2,16 +2,16 @@
 
 ghost use Rattle.std.specs.Prelude.{◌≡◌, [], IfNone, IfSome, Some};
 ghost use Rattle.fuse_frames.specs.RequestTies.{IsRequestFrame};
-ghost use Rattle.fuse_spec.specs.Messages.{Request};
-ghost use Rattle.fuse_spec.specs.Worlds.{Sent};
+ghost use Rattle.fuse_spec.specs.Kernel.Messages.{Request};
+ghost use Rattle.fuse_spec.specs.World.Worlds.{Sent};
 ghost use Rattle.fw_world.specs.Frames.{IsCopyFrame};
 ghost use Rattle.fw_world.specs.Sends.{last_of};
 
-use super::WorldIn;
+use super::WorldOf;
+use crate::tables::Tables;
 use fuse_spec::ReplyResult;
-use std::alloc::Allocator;
 
-impl<A: Allocator + Copy> WorldIn<A> {
+impl<T: Tables> WorldOf<T> {
     /// The frame of the last request on its link.
     pub(crate) fn last_request(&self) -> Option<&[u8]>
         ensures some { IfSome result (λ bytes. (request : Request) × (last_of self.now.requests ≡ Some request)

@@ -1,6 +1,6 @@
 use Rattle.std.proofs.Common.{◌-◌, length, get_or, ap, ◌∙◌}
-use Rattle.fuse_spec.specs.Answers.{Answer}
-use Rattle.fuse_spec.specs.Maps.{put}
+use Rattle.fuse_spec.specs.Calls.Answers.{Answer}
+use Rattle.fuse_spec.specs.Values.Maps.{put}
 use Rattle.fk_calls.proofs.Answered.{absent_last, answered_last}
 use Rattle.fk_calls.proofs.answers.answer_all.Goals as goal
 

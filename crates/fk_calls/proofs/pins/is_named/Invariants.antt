@@ -1,8 +1,8 @@
 use Rattle.std.proofs.Common.{◌≡◌, drop}
 use Rattle.std.specs.Prelude.{nat_eq}
 use Rattle.std.specs.List.{list_any}
-use Rattle.fuse_spec.specs.Kernel.{nodes_of_state}
-use Rattle.fuse_spec.specs.Maps.{values}
+use Rattle.fuse_spec.specs.Kernel.Kernel.{nodes_of_state}
+use Rattle.fuse_spec.specs.Values.Maps.{values}
 use Rattle.fk_calls.proofs.pins.is_named.Given as goal
 
 abbrev pub invariant-loop-call : goal.invariant-loop-call

@@ -1,7 +1,7 @@
 use Rattle.std.proofs.Common.{◌≡◌, drop}
 use Rattle.std.specs.Prelude.{nat_eq}
 use Rattle.std.specs.List.{list_any}
-use Rattle.fuse_spec.specs.Maps.{values}
+use Rattle.fuse_spec.specs.Values.Maps.{values}
 use Rattle.fuse_spec.specs.declared.Opened.{Opened}
 use Rattle.fk_calls.proofs.pins.is_open.Given as goal
 

@@ -1,7 +1,7 @@
 use Rattle.std.proofs.Common.{Option, sym, ◌∙◌, ap, is_some, subst, T}
 use Rattle.std.specs.Option.{option_copied_mut}
 use Rattle.fuse_spec.specs.declared.Binding.{Binding}
-use Rattle.fuse_spec.specs.Maps.{Place, put_name}
+use Rattle.fuse_spec.specs.Values.Maps.{Place, put_name}
 use Rattle.fk_dentry.specs.Rows.{slots_of, bound_in}
 use Rattle.fk_dentry.proofs.HashRows.{get-slots, slots-put}
 use Rattle.fk_dentry.proofs.rows.bind.Goals as goal

@@ -1,5 +1,5 @@
 use Rattle.std.proofs.Common.{sym, ◌∙◌}
-use Rattle.fuse_spec.specs.Maps.{Place}
+use Rattle.fuse_spec.specs.Values.Maps.{Place}
 use Rattle.fk_dentry.proofs.HashRows.{get-slots}
 use Rattle.fk_dentry.proofs.rows.slot.Goals as goal
 

@@ -1,5 +1,5 @@
 use Rattle.std.proofs.Common.{sym, ◌∙◌, ap}
-use Rattle.fuse_spec.specs.Maps.{Place}
+use Rattle.fuse_spec.specs.Values.Maps.{Place}
 use Rattle.fk_dentry.specs.Rows.{bound_in}
 use Rattle.fk_dentry.proofs.HashRows.{get-slots, slots-remove}
 use Rattle.fk_dentry.proofs.rows.take_out.Goals as goal

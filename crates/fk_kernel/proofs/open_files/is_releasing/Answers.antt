@@ -1,7 +1,7 @@
 use Rattle.std.proofs.Common.{ℕ, ◌+◌, Bool, sym, ap, ◌∙◌, drop}
 use Rattle.std.specs.Prelude.{◌||◌}
 use Rattle.std.specs.List.{list_any}
-use Rattle.fuse_spec.specs.Kernel.{is_released_by}
+use Rattle.fuse_spec.specs.Kernel.Kernel.{is_released_by}
 use Rattle.fuse_spec.specs.declared.Purpose.{Purpose}
 use Rattle.fuse_spec.specs.declared.QueuedRequest.{QueuedRequest}
 use Rattle.fk_kernel.proofs.Evicted.{at_place}

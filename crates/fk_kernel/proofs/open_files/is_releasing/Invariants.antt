@@ -1,6 +1,6 @@
 use Rattle.std.proofs.Common.{◌≡◌, drop}
 use Rattle.std.specs.List.{list_any}
-use Rattle.fuse_spec.specs.Kernel.{is_released_by}
+use Rattle.fuse_spec.specs.Kernel.Kernel.{is_released_by}
 use Rattle.fk_kernel.proofs.open_files.is_releasing.Given as goal
 
 abbrev pub invariant-loop-place : goal.invariant-loop-place

@@ -1,6 +1,6 @@
 use Rattle.std.proofs.Common.{rules, ◌≡◌, ℕ, Some, slice_get, true, false, option_map, drop, ap, sym, ◌∙◌, add-one}
-use Rattle.fuse_spec.specs.Kernel.{is_for}
-use Rattle.fuse_spec.specs.QueueLaws.{kept_entries}
+use Rattle.fuse_spec.specs.Kernel.Kernel.{is_for}
+use Rattle.fuse_spec.specs.Kernel.QueueLaws.{kept_entries}
 use Rattle.fk_kernel.proofs.Signalled.{Entry, first_for, found_at, passed_at}
 use Rattle.fk_kernel.proofs.signals.request_for.Goals as goal
 

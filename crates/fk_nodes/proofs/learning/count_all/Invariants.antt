@@ -1,5 +1,4 @@
 use Rattle.std.proofs.Common.{◌≡◌, ◌≤◌, ◌+◌, length}
-use Rattle.fk_lookup_count.specs.Slots.{nodes_in}
 use Rattle.fk_nodes.specs.Learning.{learnt_from}
 use Rattle.fk_nodes.specs.Rooms.{HaveNodeRoom}
 use Rattle.fk_nodes.specs.Told.{pairs_in}
@@ -7,8 +6,8 @@ use Rattle.fk_nodes.proofs.learning.count_all.Given as goal
 
 abbrev pub invariant-loop-pair : goal.invariant-loop-pair
 invariant-loop-pair g l = record {
-  counted : learnt_from (nodes_in l.table.slots) (pairs_in l.pair-iterator) ≡ learnt_from (nodes_in l.fn.table.slots) (pairs_in l.fn.pairs);
-  room : HaveNodeRoom l.table.slots (pairs_in l.pair-iterator);
-  within : length (nodes_in l.table.slots) ≤ l.most;
+  counted : learnt_from (g.C.CountTable.counted l.table) (pairs_in l.pair-iterator) ≡ learnt_from (g.C.CountTable.counted l.fn.table) (pairs_in l.fn.pairs);
+  room : HaveNodeRoom (g.C.CountTable.has_room l.table) (pairs_in l.pair-iterator);
+  within : length (g.C.CountTable.counted l.table) ≤ l.most;
   low : l.most + length (pairs_in l.pair-iterator) ≤ l.fn.most + length (pairs_in l.fn.pairs);
 }

@@ -1,7 +1,7 @@
 use Rattle.std.proofs.Common.{List, ap, map, subst, sym, ◌∙◌}
 use Rattle.fuse_frames.specs.ReplyTies.{pair_in}
-use Rattle.fuse_spec.specs.Maps.{NameMap}
-use Rattle.fuse_spec.specs.Operations.{DirentPlus}
+use Rattle.fuse_spec.specs.Values.Maps.{NameMap}
+use Rattle.fuse_spec.specs.Files.Operations.{DirentPlus}
 use Rattle.fuse_spec.specs.declared.Binding.{Binding}
 use Rattle.fuse_spec.specs.declared.Entry.{Entry}
 use Rattle.fk_nodes.specs.Told.{pairs_in, HaveToldRoom, names_judged}

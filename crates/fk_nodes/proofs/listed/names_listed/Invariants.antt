@@ -1,6 +1,6 @@
 use Rattle.std.proofs.Common.{◌≡◌, ◌++◌, map}
 use Rattle.fuse_spec.specs.declared.Entry.{Entry}
-use Rattle.fuse_spec.specs.Operations.{DirentPlus}
+use Rattle.fuse_spec.specs.Files.Operations.{DirentPlus}
 use Rattle.fk_syscalls.specs.Values.{dirent_of}
 use Rattle.fk_nodes.specs.Told.{pairs_in}
 use Rattle.fk_nodes.proofs.listed.names_listed.Given as goal

@@ -1,5 +1,5 @@
 use Rattle.std.proofs.Common.{◌≡◌, slice_get, filter}
-use Rattle.fuse_spec.specs.Queues.{is_unread}
+use Rattle.fuse_spec.specs.Kernel.Queues.{is_unread}
 use Rattle.fk_queues.proofs.queues.pending_entry.Given as goal
 
 -- the entry sought is at `left` among the unread ones that are left

@@ -2,7 +2,7 @@ use Rattle.std.proofs.Common.{sym, ap, subst, ◌∙◌}
 use Rattle.std.specs.Prelude.{ℤ}
 use Rattle.fk_wire.specs.Replies.{reply_content, reply_message, SpellsReply}
 use Rattle.fk_wire.specs.declared.opcode.Opcode.{Opcode}
-use Rattle.fuse_spec.specs.Replies.{goes_with}
+use Rattle.fuse_spec.specs.Kernel.Replies.{goes_with}
 use Rattle.fuse_frames.specs.ReplyTies.{wire_said, wire_body}
 use Rattle.fk_syscalls.specs.Values.{operation_of}
 use Rattle.fk_said.specs.Said.{opcode_of}

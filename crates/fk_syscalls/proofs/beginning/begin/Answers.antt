@@ -1,7 +1,7 @@
 use Rattle.std.proofs.Common.{refl, length}
-use Rattle.fuse_spec.specs.Begins.{using}
-use Rattle.fuse_spec.specs.Maps.{get}
-use Rattle.fuse_spec.specs.Operations as op
+use Rattle.fuse_spec.specs.Calls.Begins.{using}
+use Rattle.fuse_spec.specs.Values.Maps.{get}
+use Rattle.fuse_spec.specs.Files.Operations as op
 use Rattle.fk_syscalls.specs.Values.{call_of}
 use Rattle.fk_syscalls.proofs.Advances.{first_asks, file_asks}
 use Rattle.fk_syscalls.proofs.beginning.begin.Goals as goal

@@ -1,5 +1,5 @@
-use Rattle.fuse_spec.specs.Begins.{sets_out}
-use Rattle.fuse_spec.specs.Walks.{last}
+use Rattle.fuse_spec.specs.Calls.Begins.{sets_out}
+use Rattle.fuse_spec.specs.Calls.Walks.{last}
 use Rattle.fk_syscalls.specs.Plans.{final_change}
 use Rattle.fk_syscalls.proofs.beginning.begin_change.Goals as goal
 

@@ -1,5 +1,5 @@
-use Rattle.fuse_spec.specs.Begins.{sets_out}
-use Rattle.fuse_spec.specs.Walks.{link}
+use Rattle.fuse_spec.specs.Calls.Begins.{sets_out}
+use Rattle.fuse_spec.specs.Calls.Walks.{link}
 use Rattle.fk_syscalls.specs.Words.{words_from}
 use Rattle.fk_syscalls.proofs.beginning.begin_link.Goals as goal
 

@@ -1,5 +1,5 @@
-use Rattle.fuse_spec.specs.Begins.{sets_out, parent_path}
-use Rattle.fuse_spec.specs.Walks.{rename}
+use Rattle.fuse_spec.specs.Calls.Begins.{sets_out, parent_path}
+use Rattle.fuse_spec.specs.Calls.Walks.{rename}
 use Rattle.fk_syscalls.specs.Words.{words_from}
 use Rattle.fk_syscalls.proofs.beginning.begin_rename.Goals as goal
 

@@ -1,9 +1,9 @@
 use Rattle.std.proofs.Common.{◌≡◌, Some, false, refl, length, rules, arith}
 use Rattle.std.specs.Prelude.{◌||◌, nat_lt}
 use Rattle.std.proofs.lemmas.Bool.Decides.{nat_tests}
-use Rattle.fuse_spec.specs.Maps.{get}
-use Rattle.fuse_spec.specs.Operations.{write}
-use Rattle.fuse_spec.specs.Vfs.{using}
+use Rattle.fuse_spec.specs.Values.Maps.{get}
+use Rattle.fuse_spec.specs.Files.Operations.{write}
+use Rattle.fuse_spec.specs.Calls.Vfs.{using}
 use Rattle.fk_syscalls.proofs.Advances.{if_err}
 use Rattle.fk_syscalls.proofs.beginning.begin_write.Goals as goal
 

@@ -1,7 +1,7 @@
 use Rattle.std.proofs.Common.{◌≡◌, ℕ, [], sym, ap, ◌∙◌}
-use Rattle.fuse_spec.specs.Begins.{sets_out}
-use Rattle.fuse_spec.specs.Vfs.{Vfs, after_beginning}
-use Rattle.fuse_spec.specs.Walks.{go, arrived, last, rename, link, rename_from, link_to}
+use Rattle.fuse_spec.specs.Calls.Begins.{sets_out}
+use Rattle.fuse_spec.specs.Calls.Vfs.{Vfs, after_beginning}
+use Rattle.fuse_spec.specs.Calls.Walks.{go, arrived, last, rename, link, rename_from, link_to}
 use Rattle.fuse_spec.specs.declared.Opened.{Opened}
 use Rattle.fk_syscalls.specs.Plans.{plan_lent, IsLast}
 use Rattle.fk_syscalls.specs.States.{walking_at, HasNames}

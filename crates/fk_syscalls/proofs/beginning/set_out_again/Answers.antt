@@ -1,4 +1,4 @@
-use Rattle.fuse_spec.specs.Walks.{last}
+use Rattle.fuse_spec.specs.Calls.Walks.{last}
 use Rattle.fk_syscalls.specs.Plans.{final_lent}
 use Rattle.fk_syscalls.specs.States.{walking_at}
 use Rattle.fk_syscalls.specs.Words.{words_from}

@@ -1,5 +1,5 @@
 use Rattle.std.proofs.Common.{◌≡◌}
-use Rattle.fuse_spec.specs.Walks.{go}
+use Rattle.fuse_spec.specs.Calls.Walks.{go}
 use Rattle.fk_syscalls.specs.NewNames.{with_name}
 use Rattle.fk_syscalls.specs.Words.{words_from, AreWords}
 use Rattle.fk_syscalls.specs.Walks.{known}

@@ -1,5 +1,5 @@
 use Rattle.std.proofs.Common.{◌≡◌, ◌≤◌, Some, length}
-use Rattle.fuse_spec.specs.Paths.{first_fault}
+use Rattle.fuse_spec.specs.Calls.Paths.{first_fault}
 use Rattle.fk_syscalls.specs.Words.{words_from}
 use Rattle.fk_syscalls.proofs.path.words_fault.Given as goal
 

@@ -1,5 +1,5 @@
 use Rattle.std.proofs.Common.{ap, ◌∙◌}
-use Rattle.fuse_spec.specs.Vfs.{walks_on}
+use Rattle.fuse_spec.specs.Calls.Vfs.{walks_on}
 use Rattle.fk_syscalls.specs.Plans.{final_of, plan_of}
 use Rattle.fk_syscalls.specs.Words.{words_from}
 use Rattle.fk_syscalls.proofs.Advances.{renames, links, waits_at_end}

@@ -1,5 +1,5 @@
 use Rattle.std.proofs.Common.{◌≡◌}
-use Rattle.fuse_spec.specs.Walks.{go}
+use Rattle.fuse_spec.specs.Calls.Walks.{go}
 use Rattle.fk_syscalls.specs.Words.{words_from, AreWords}
 use Rattle.fk_syscalls.specs.Walks.{known}
 use Rattle.fk_syscalls.proofs.BytesLeft.{bytes_left}

@@ -1,8 +1,8 @@
 use Rattle.std.proofs.Common.{◌≡◌, ◌≤◌, ◌+◌, ◌*◌, List, length, map, refl, sym, ap, subst, ◌∙◌, arith}
 use Rattle.std.specs.Prelude.{All, min}
-use Rattle.fuse_spec.specs.Operations.{Dirent, listed_plus}
-use Rattle.fuse_spec.specs.Numbers.{max_transfer}
-use Rattle.fuse_spec.specs.Trees.{fitting_pairs, pairs_after}
+use Rattle.fuse_spec.specs.Files.Operations.{Dirent, listed_plus}
+use Rattle.fuse_spec.specs.Values.Numbers.{max_transfer}
+use Rattle.fuse_spec.specs.Files.Trees.{fitting_pairs, pairs_after}
 use Rattle.fs_tree.specs.Views.{pair_of}
 use Rattle.fs_files.specs.Listed.{names_in}
 use Rattle.fs_files.specs.Replies.{IsListable}

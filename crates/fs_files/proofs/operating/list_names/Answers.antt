@@ -1,8 +1,8 @@
 use Rattle.std.proofs.Common.{◌≡◌, ◌≤◌, length, map, refl, sym, ap, ◌∙◌, arith}
 use Rattle.std.specs.Prelude.{min}
-use Rattle.fuse_spec.specs.Operations.{listed}
-use Rattle.fuse_spec.specs.Numbers.{max_transfer}
-use Rattle.fuse_spec.specs.Trees.{fitting, records_after}
+use Rattle.fuse_spec.specs.Files.Operations.{listed}
+use Rattle.fuse_spec.specs.Values.Numbers.{max_transfer}
+use Rattle.fuse_spec.specs.Files.Trees.{fitting, records_after}
 use Rattle.fs_tree.specs.Views.{dirent_of}
 use Rattle.fs_files.proofs.Listing.{few_bytes, listed_are, listed_same, low_records, names_are_records}
 use Rattle.fs_files.proofs.operating.list_names.Goals as goal

@@ -1,5 +1,5 @@
 use Rattle.std.proofs.Common.{rules, ◌≡◌, ◌≤◌, ◌^◌, Some, arith}
-use Rattle.fuse_spec.specs.Trees.{file_at}
+use Rattle.fuse_spec.specs.Files.Trees.{file_at}
 use Rattle.fs_files.proofs.BornFiles.{looks_up}
 use Rattle.fs_files.proofs.operating.look_up.Goals as goal
 

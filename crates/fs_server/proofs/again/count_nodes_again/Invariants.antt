@@ -1,5 +1,5 @@
 use Rattle.std.proofs.Common.{◌≡◌, drop}
-use Rattle.fuse_spec.specs.Copies.{rows_counted}
+use Rattle.fuse_spec.specs.Server.Copies.{rows_counted}
 use Rattle.fs_files.specs.Giving.{files_of}
 use Rattle.fs_files.proofs.HeldBelow.{IsWithin}
 use Rattle.fs_server.proofs.again.count_nodes_again.Given as goal

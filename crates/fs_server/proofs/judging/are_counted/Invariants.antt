@@ -1,6 +1,6 @@
 use Rattle.std.proofs.Common.{◌≡◌}
 use Rattle.std.specs.List.{list_all}
-use Rattle.fuse_spec.specs.Server.{is_forgettable}
+use Rattle.fuse_spec.specs.Server.Server.{is_forgettable}
 use Rattle.fk_wire.specs.Pairs.{pairs_in}
 use Rattle.fs_server.proofs.judging.are_counted.Given as goal
 

@@ -1,5 +1,5 @@
 use Rattle.std.proofs.Common.{◌≡◌, nat_lt}
-use Rattle.fuse_spec.specs.Server.{forgotten}
+use Rattle.fuse_spec.specs.Server.Server.{forgotten}
 use Rattle.fk_wire.specs.Pairs.{pairs_in}
 use Rattle.fs_server.proofs.judging.has_fewer.Given as goal
 

@@ -1,7 +1,7 @@
 use Rattle.std.proofs.Common.{◌≡◌, nat_lt}
 use Rattle.std.specs.List.{list_any}
-use Rattle.fuse_spec.specs.Maps.{get}
-use Rattle.fuse_spec.specs.Server.{count_in, forgotten}
+use Rattle.fuse_spec.specs.Values.Maps.{get}
+use Rattle.fuse_spec.specs.Server.Server.{count_in, forgotten}
 use Rattle.fk_wire.specs.Pairs.{pairs_in}
 use Rattle.fs_server.proofs.judging.some_has_fewer.Given as goal
 

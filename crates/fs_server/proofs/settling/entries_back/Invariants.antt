@@ -1,5 +1,5 @@
 use Rattle.std.proofs.Common.{◌≡◌, drop}
-use Rattle.fuse_spec.specs.Copies.{rows_back}
+use Rattle.fuse_spec.specs.Server.Copies.{rows_back}
 use Rattle.fs_server.specs.Effects.{Sweeps}
 use Rattle.fs_server.proofs.settling.entries_back.Given as goal
 

@@ -1,4 +1,4 @@
-use Rattle.fuse_spec.specs.Copies.{row_back}
+use Rattle.fuse_spec.specs.Server.Copies.{row_back}
 use Rattle.fs_server.proofs.Sweeps.{but_row_back, sweeps_from}
 use Rattle.fs_server.proofs.settling.entry_back.Goals as goal
 

@@ -1,4 +1,4 @@
-use Rattle.fuse_spec.specs.Nodes.{handle_back}
+use Rattle.fuse_spec.specs.Server.Nodes.{handle_back}
 use Rattle.fs_server.proofs.Sweeps.{but_number_back, sweeps_from, sweeps_none}
 use Rattle.fs_server.proofs.settling.number_back.Goals as goal
 

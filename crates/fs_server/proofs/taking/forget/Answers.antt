@@ -1,6 +1,6 @@
 use Rattle.std.proofs.Common.{rules, ◌≡◌, sym, subst}
-use Rattle.fuse_spec.specs.Nodes.{NodeTable}
-use Rattle.fuse_spec.specs.Server.{all_taken_back}
+use Rattle.fuse_spec.specs.Server.Nodes.{NodeTable}
+use Rattle.fuse_spec.specs.Server.Server.{all_taken_back}
 use Rattle.fk_wire.specs.Requests.{request_content}
 use Rattle.fs_server.specs.Effects.{Sweeps}
 use Rattle.fs_server.specs.Taking.{forgets_in}

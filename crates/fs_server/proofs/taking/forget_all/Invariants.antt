@@ -1,6 +1,6 @@
 use Rattle.std.proofs.Common.{◌≡◌, ◌≤◌, ℕ}
-use Rattle.fuse_spec.specs.Maps.{get}
-use Rattle.fuse_spec.specs.Server.{count_in, forgotten, all_taken_back}
+use Rattle.fuse_spec.specs.Values.Maps.{get}
+use Rattle.fuse_spec.specs.Server.Server.{count_in, forgotten, all_taken_back}
 use Rattle.fk_wire.specs.Pairs.{pairs_in}
 use Rattle.fs_server.specs.Effects.{Sweeps}
 use Rattle.fs_server.proofs.taking.forget_all.Given as goal

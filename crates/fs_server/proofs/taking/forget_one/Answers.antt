@@ -1,4 +1,4 @@
-use Rattle.fuse_spec.specs.Nodes.{taken_back}
+use Rattle.fuse_spec.specs.Server.Nodes.{taken_back}
 use Rattle.fs_server.proofs.Sweeps.{but_less, sweeps_from}
 use Rattle.fs_server.proofs.taking.forget_one.Goals as goal
 

@@ -1,4 +1,4 @@
-use Rattle.fuse_theorem.proofs.Fresh.{aborted_numbered, aborted_known}
+use Rattle.fuse_theorem.proofs.Requests.AfterMount.{aborted_numbered, aborted_known}
 use Rattle.fuse_theorem.proofs.any_event.aborted_is_sound.Goals as goal
 
 pub returns : goal.returns

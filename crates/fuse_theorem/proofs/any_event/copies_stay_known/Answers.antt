@@ -1,5 +1,5 @@
-use Rattle.fuse_theorem.proofs.CopiesSound.{first_copies, copies_stay}
-use Rattle.fuse_theorem.proofs.Happened.{happened}
+use Rattle.fuse_theorem.proofs.Replies.CopiesSound.{first_copies, copies_stay}
+use Rattle.fuse_theorem.proofs.RefusalCases.Happened.{happened}
 use Rattle.fuse_theorem.proofs.any_event.copies_stay_known.Goals as goal
 
 pub returns-clause-at_first : goal.returns-clause-at_first

@@ -1,7 +1,7 @@
 use Rattle.std.proofs.Common.{refl}
-use Rattle.fuse_spec.specs.Worlds.{first_world}
-use Rattle.fuse_theorem.proofs.AnswersStay.{first_sound, calls_stay, collected_sound}
-use Rattle.fuse_theorem.proofs.EachAnsweredOnce.{answers_once}
+use Rattle.fuse_spec.specs.World.Worlds.{first_world}
+use Rattle.fuse_theorem.proofs.Answers.AnswersStay.{first_sound, calls_stay, collected_sound}
+use Rattle.fuse_theorem.proofs.Answers.EachAnsweredOnce.{answers_once}
 use Rattle.fuse_theorem.proofs.any_event.each_call_answered_once.Goals as goal
 
 pub returns-clause-at_first : goal.returns-clause-at_first

@@ -1,4 +1,4 @@
-use Rattle.fuse_theorem.proofs.KeptOnLink.{first_kept, kept_stay_sent}
+use Rattle.fuse_theorem.proofs.Replies.KeptOnLink.{first_kept, kept_stay_sent}
 use Rattle.fuse_theorem.proofs.any_event.kept_replies_stay_sent.Goals as goal
 
 pub returns-clause-at_first : goal.returns-clause-at_first

@@ -1,4 +1,4 @@
-use Rattle.fuse_theorem.proofs.LookupsStay.{first_lookups, lookups_stay, known_held}
+use Rattle.fuse_theorem.proofs.Lookups.LookupsStay.{first_lookups, lookups_stay, known_held}
 use Rattle.fuse_theorem.proofs.any_event.lookups_stay_balanced.Goals as goal
 
 pub returns-clause-at_first : goal.returns-clause-at_first

@@ -1,4 +1,4 @@
-use Rattle.fuse_theorem.proofs.Fresh.{mounted_numbered, mounted_one_id, mounted_known, mounted_tables}
+use Rattle.fuse_theorem.proofs.Requests.AfterMount.{mounted_numbered, mounted_one_id, mounted_known, mounted_tables}
 use Rattle.fuse_theorem.proofs.any_event.mounted_is_sound.Goals as goal
 
 pub returns : goal.returns

@@ -1,4 +1,4 @@
-use Rattle.fuse_theorem.proofs.NumbersStay.{first_numbers, numbers_stay}
+use Rattle.fuse_theorem.proofs.Requests.NumbersStay.{first_numbers, numbers_stay}
 use Rattle.fuse_theorem.proofs.any_event.numbers_stay_in_order.Goals as goal
 
 pub returns-clause-at_first : goal.returns-clause-at_first

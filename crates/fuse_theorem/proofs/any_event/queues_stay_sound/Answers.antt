@@ -1,5 +1,5 @@
-use Rattle.fuse_theorem.proofs.EmptyQueues.{empty_sound}
-use Rattle.fuse_theorem.proofs.QueuesSound.{stays_sound}
+use Rattle.fuse_theorem.proofs.Requests.EmptyQueues.{empty_sound}
+use Rattle.fuse_theorem.proofs.Requests.QueuesSound.{stays_sound}
 use Rattle.fuse_theorem.proofs.any_event.queues_stay_sound.Goals as goal
 
 pub returns-clause-at_first : goal.returns-clause-at_first

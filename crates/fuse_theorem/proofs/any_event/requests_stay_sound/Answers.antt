@@ -1,5 +1,5 @@
-use Rattle.fuse_theorem.proofs.RequestsSound.{first_requests, requests_stay}
-use Rattle.fuse_theorem.proofs.StandsOnce.{unread_unsent}
+use Rattle.fuse_theorem.proofs.Requests.RequestsSound.{first_requests, requests_stay}
+use Rattle.fuse_theorem.proofs.Requests.StandsOnce.{unread_unsent}
 use Rattle.fuse_theorem.proofs.any_event.requests_stay_sound.Goals as goal
 
 pub returns-clause-at_first : goal.returns-clause-at_first

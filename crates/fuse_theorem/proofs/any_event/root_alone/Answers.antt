@@ -1,5 +1,5 @@
-use Rattle.fuse_theorem.proofs.Aborting.{aborted_means}
-use Rattle.fuse_theorem.proofs.Mounting.{mounted_means}
+use Rattle.fuse_theorem.proofs.Refining.Aborting.{aborted_means}
+use Rattle.fuse_theorem.proofs.Refining.Mounting.{mounted_means}
 use Rattle.fuse_theorem.proofs.any_event.root_alone.Goals as goal
 
 pub returns : goal.returns

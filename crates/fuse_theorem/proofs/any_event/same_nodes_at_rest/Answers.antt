@@ -1,4 +1,4 @@
-use Rattle.fuse_theorem.proofs.AtRest.{same_node}
+use Rattle.fuse_theorem.proofs.Lookups.AtRest.{same_node}
 use Rattle.fuse_theorem.proofs.any_event.same_nodes_at_rest.Goals as goal
 
 pub returns : goal.returns

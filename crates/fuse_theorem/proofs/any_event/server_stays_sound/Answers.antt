@@ -1,4 +1,4 @@
-use Rattle.fuse_theorem.proofs.ServerSound.{first_sound, happens_sound, one_id, tables_sound}
+use Rattle.fuse_theorem.proofs.Nodes.ServerSound.{first_sound, happens_sound, one_id, tables_sound}
 use Rattle.fuse_theorem.proofs.any_event.server_stays_sound.Goals as goal
 
 pub returns-clause-at_first : goal.returns-clause-at_first

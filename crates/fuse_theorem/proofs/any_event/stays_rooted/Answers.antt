@@ -1,5 +1,5 @@
 use Rattle.std.proofs.Common.{refl}
-use Rattle.fuse_theorem.proofs.Rooted.{stays_rooted}
+use Rattle.fuse_theorem.proofs.Nodes.Rooted.{stays_rooted}
 use Rattle.fuse_theorem.proofs.any_event.stays_rooted.Goals as goal
 
 pub returns-clause-at_first : goal.returns-clause-at_first

@@ -1,4 +1,4 @@
-use Rattle.fuse_theorem.proofs.EachEvent.{each_moves}
+use Rattle.fuse_theorem.proofs.WholeLists.EachEvent.{each_moves}
 use Rattle.fuse_theorem.proofs.any_event.step.Goals as goal
 
 pub returns : goal.returns

@@ -1,4 +1,4 @@
-use Rattle.fuse_theorem.proofs.WorldSound.{first_world_sound, worlds_stay, needs_met}
+use Rattle.fuse_theorem.proofs.WholeLists.WorldSound.{first_world_sound, worlds_stay, needs_met}
 use Rattle.fuse_theorem.proofs.any_event.worlds_stay_sound.Goals as goal
 
 pub returns-clause-at_first : goal.returns-clause-at_first

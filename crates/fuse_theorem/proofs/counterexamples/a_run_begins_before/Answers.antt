@@ -1,11 +1,11 @@
 use Rattle.std.proofs.Common.{◌≡◌, List, [], ◌∷◌, ◌++◌, Ok, inl, inr, refl, ap, sym, ◌∙◌, arith}
-use Rattle.fuse_spec.specs.Events.{Outcome}
-use Rattle.fuse_spec.specs.Events as event
-use Rattle.fuse_spec.specs.Steps.{Stepped}
-use Rattle.fuse_spec.specs.Plain.{Plain, first_plain}
-use Rattle.fuse_spec.specs.Records.{Record, outcome, refused}
-use Rattle.fuse_spec.specs.Runs.{Accepts, Refuses}
-use Rattle.fuse_spec.specs.Worlds.{World, first_world, after_tick}
+use Rattle.fuse_spec.specs.World.Events.{Outcome}
+use Rattle.fuse_spec.specs.World.Events as event
+use Rattle.fuse_spec.specs.World.Steps.{Stepped}
+use Rattle.fuse_spec.specs.Reference.Plain.{Plain, first_plain}
+use Rattle.fuse_spec.specs.World.Records.{Record, outcome, refused}
+use Rattle.fuse_spec.specs.Claim.Runs.{Accepts, Refuses}
+use Rattle.fuse_spec.specs.World.Worlds.{World, first_world, after_tick}
 use Rattle.fuse_theorem.specs.Counterexamples.{a_millisecond_later}
 use Rattle.fuse_theorem.specs.Recorded.{none_left, one_accepted}
 use Rattle.fuse_theorem.proofs.counterexamples.a_run_begins_before.Goals as goal

@@ -1,8 +1,8 @@
 use Rattle.std.proofs.Common.{◌≡◌, None, arith}
-use Rattle.fuse_spec.specs.Messages.{forget}
-use Rattle.fuse_spec.specs.Server.{fault_of}
+use Rattle.fuse_spec.specs.Kernel.Messages.{forget}
+use Rattle.fuse_spec.specs.Server.Server.{fault_of}
 use Rattle.fuse_theorem.specs.Counterexamples.{with_a_stray_forget}
-use Rattle.fuse_theorem.proofs.NoPremise.{stray_alike}
+use Rattle.fuse_theorem.proofs.WholeLists.NoPremise.{stray_alike}
 use Rattle.fuse_theorem.proofs.counterexamples.alike_is_not_enough.Goals as goal
 
 pub returns : goal.returns

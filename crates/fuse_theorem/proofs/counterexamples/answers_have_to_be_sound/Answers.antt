@@ -1,8 +1,8 @@
 use Rattle.std.proofs.Common.{[], ◌∷◌, refl, arith}
-use Rattle.fuse_spec.specs.Answers.{failed}
-use Rattle.fuse_spec.specs.Events as event
-use Rattle.fuse_spec.specs.Records.{collected, answered, outcome}
-use Rattle.fuse_spec.specs.Worlds.{World, after_tick, after_abort}
+use Rattle.fuse_spec.specs.Calls.Answers.{failed}
+use Rattle.fuse_spec.specs.World.Events as event
+use Rattle.fuse_spec.specs.World.Records.{collected, answered, outcome}
+use Rattle.fuse_spec.specs.World.Worlds.{World, after_tick, after_abort}
 use Rattle.fuse_theorem.specs.Counterexamples.{with_an_early_answer}
 use Rattle.fuse_theorem.specs.Recorded.{none_left, one_accepted}
 use Rattle.fuse_theorem.proofs.counterexamples.answers_have_to_be_sound.Goals as goal

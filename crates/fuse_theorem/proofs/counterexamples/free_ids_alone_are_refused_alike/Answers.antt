@@ -1,19 +1,19 @@
 use Rattle.std.proofs.Common.{◌≡◌, ℕ, ◌+◌, ◌||◌, Bool, true, false, cond, [], ◌∷◌, Option, Some, None, Ok, Err, nat_lt, refl, ap, ◌∙◌, arith}
 use Rattle.std.specs.Prelude.{◌≤◌, MatchOption}
-use Rattle.fuse_spec.specs.Events as event
-use Rattle.fuse_spec.specs.Maps.{get}
-use Rattle.fuse_spec.specs.Messages.{asks}
-use Rattle.fuse_spec.specs.Nodes.{HeldNode, IsUnheld, MayName, generation_after}
-use Rattle.fuse_spec.specs.Numbers.{counter_end}
-use Rattle.fuse_spec.specs.Operations.{errno_of, lookup}
-use Rattle.fuse_spec.specs.Performs.{PerformResult, served}
-use Rattle.fuse_spec.specs.Server.{HeldRequest}
-use Rattle.fuse_spec.specs.Steps.{Stepped, is_past, step}
-use Rattle.fuse_spec.specs.Worlds.{after_perform}
+use Rattle.fuse_spec.specs.World.Events as event
+use Rattle.fuse_spec.specs.Values.Maps.{get}
+use Rattle.fuse_spec.specs.Kernel.Messages.{asks}
+use Rattle.fuse_spec.specs.Server.Nodes.{HeldNode, IsUnheld, MayName, generation_after}
+use Rattle.fuse_spec.specs.Values.Numbers.{counter_end}
+use Rattle.fuse_spec.specs.Files.Operations.{errno_of, lookup}
+use Rattle.fuse_spec.specs.Server.Performs.{PerformResult, served}
+use Rattle.fuse_spec.specs.Server.Server.{HeldRequest}
+use Rattle.fuse_spec.specs.World.Steps.{Stepped, is_past, step}
+use Rattle.fuse_spec.specs.World.Worlds.{after_perform}
 use Rattle.fuse_spec.specs.declared.Refusal.TheVariants.{Exhausted}
 use Rattle.fuse_theorem.specs.Counterexamples.{with_no_generation}
-use Rattle.fuse_theorem.proofs.NoPremise.{only}
-use Rattle.fuse_theorem.proofs.RefusalsByCases.{also_refused}
+use Rattle.fuse_theorem.proofs.WholeLists.NoPremise.{only}
+use Rattle.fuse_theorem.proofs.RefusalCases.RefusalsByCases.{also_refused}
 use Rattle.fuse_theorem.proofs.counterexamples.free_ids_alone_are_refused_alike.Goals as goal
 
 abbrev other : HeldNode

@@ -1,5 +1,5 @@
 use Rattle.std.proofs.Common.{true≢false, refl, sym, arith}
-use Rattle.fuse_spec.specs.Operations.{done}
+use Rattle.fuse_spec.specs.Files.Operations.{done}
 use Rattle.fuse_theorem.proofs.counterexamples.numbers_need_a_mount.Goals as goal
 
 pub returns : goal.returns

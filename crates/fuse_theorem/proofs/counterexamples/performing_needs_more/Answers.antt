@@ -1,11 +1,11 @@
 use Rattle.std.proofs.Common.{ℕ, false, true≢false, refl, sym, [], ◌∷◌}
-use Rattle.fuse_spec.specs.Messages.{asks}
-use Rattle.fuse_spec.specs.Operations.{getattr}
-use Rattle.fuse_spec.specs.Plain.{first_plain}
-use Rattle.fuse_spec.specs.Server.{HeldRequest}
+use Rattle.fuse_spec.specs.Kernel.Messages.{asks}
+use Rattle.fuse_spec.specs.Files.Operations.{getattr}
+use Rattle.fuse_spec.specs.Reference.Plain.{first_plain}
+use Rattle.fuse_spec.specs.Server.Server.{HeldRequest}
 use Rattle.fuse_theorem.specs.Counterexamples.{with_a_late_request}
 use Rattle.fuse_theorem.specs.EachEvent.{CanServe, performs, performs_unheard, declines, initiates, releases}
-use Rattle.fuse_theorem.proofs.NoPremise.{stray_sound}
+use Rattle.fuse_theorem.proofs.WholeLists.NoPremise.{stray_sound}
 use Rattle.fuse_theorem.proofs.counterexamples.performing_needs_more.Goals as goal
 
 abbrev late : HeldRequest

@@ -1,5 +1,5 @@
-use Rattle.fuse_theorem.proofs.PlainAsks.{asks_stay_served, first_served}
-use Rattle.fuse_theorem.proofs.WriteNeeds.{write_met}
+use Rattle.fuse_theorem.proofs.PlainWorld.PlainAsks.{asks_stay_served, first_served}
+use Rattle.fuse_theorem.proofs.Replies.WriteNeeds.{write_met}
 use Rattle.fuse_theorem.proofs.every_list.asks_stay_served.Goals as goal
 
 pub returns-clause-at_first : goal.returns-clause-at_first

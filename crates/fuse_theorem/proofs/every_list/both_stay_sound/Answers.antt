@@ -1,4 +1,4 @@
-use Rattle.fuse_theorem.proofs.EveryList.{first_both, both_move, both_met}
+use Rattle.fuse_theorem.proofs.WholeLists.EveryList.{first_both, both_move, both_met}
 use Rattle.fuse_theorem.proofs.every_list.both_stay_sound.Goals as goal
 
 pub returns-clause-at_first : goal.returns-clause-at_first

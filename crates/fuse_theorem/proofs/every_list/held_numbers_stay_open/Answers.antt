@@ -1,5 +1,5 @@
-use Rattle.fuse_theorem.proofs.BalancedNumbers.{balanced_open}
-use Rattle.fuse_theorem.proofs.StillOpen.{first_numbers_open, held_numbers_stay_open}
+use Rattle.fuse_theorem.proofs.OpenFiles.BalancedNumbers.{balanced_open}
+use Rattle.fuse_theorem.proofs.OpenFiles.StillOpen.{first_numbers_open, held_numbers_stay_open}
 use Rattle.fuse_theorem.proofs.every_list.held_numbers_stay_open.Goals as goal
 
 pub returns-clause-at_first : goal.returns-clause-at_first

@@ -1,4 +1,4 @@
-use Rattle.fuse_theorem.proofs.StillHeld.{first_still_held, held_stay_held, now_still_held}
+use Rattle.fuse_theorem.proofs.Nodes.StillHeld.{first_still_held, held_stay_held, now_still_held}
 use Rattle.fuse_theorem.proofs.every_list.held_stay_held.Goals as goal
 
 pub returns-clause-at_first : goal.returns-clause-at_first

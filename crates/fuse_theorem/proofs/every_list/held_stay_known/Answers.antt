@@ -1,6 +1,6 @@
-use Rattle.fuse_theorem.proofs.HeldKnown.{still_held}
-use Rattle.fuse_theorem.proofs.HeldStays.{first_held, held_stay_known}
-use Rattle.fuse_theorem.proofs.LookupsStay.{known_held}
+use Rattle.fuse_theorem.proofs.Nodes.HeldKnown.{still_held}
+use Rattle.fuse_theorem.proofs.Nodes.HeldStays.{first_held, held_stay_known}
+use Rattle.fuse_theorem.proofs.Lookups.LookupsStay.{known_held}
 use Rattle.fuse_theorem.proofs.every_list.held_stay_known.Goals as goal
 
 pub returns-clause-at_first : goal.returns-clause-at_first

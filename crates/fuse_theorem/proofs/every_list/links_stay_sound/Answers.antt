@@ -1,5 +1,5 @@
-use Rattle.fuse_theorem.proofs.InterruptsNoted.{interrupt_noted}
-use Rattle.fuse_theorem.proofs.LinksSound.{first_links, links_stay}
+use Rattle.fuse_theorem.proofs.Requests.InterruptsNoted.{interrupt_noted}
+use Rattle.fuse_theorem.proofs.Requests.LinksSound.{first_links, links_stay}
 use Rattle.fuse_theorem.proofs.every_list.links_stay_sound.Goals as goal
 
 pub returns-clause-at_first : goal.returns-clause-at_first

@@ -1,4 +1,4 @@
-use Rattle.fuse_theorem.proofs.ForgetsNeeds.{holds_now, one_node_a_file, settle_holds, take_met}
+use Rattle.fuse_theorem.proofs.Lookups.ForgetsNeeds.{holds_now, one_node_a_file, settle_holds, take_met}
 use Rattle.fuse_theorem.proofs.every_list.nodes_in_use_stay_held.Goals as goal
 
 pub returns-clause-live : goal.returns-clause-live

@@ -1,5 +1,5 @@
-use Rattle.fuse_theorem.proofs.NodesHeld.{nodes_held}
-use Rattle.fuse_theorem.proofs.TakenStay.{first_taken, taken_stay_servable}
+use Rattle.fuse_theorem.proofs.Nodes.NodesHeld.{nodes_held}
+use Rattle.fuse_theorem.proofs.Nodes.TakenStay.{first_taken, taken_stay_servable}
 use Rattle.fuse_theorem.proofs.every_list.nodes_stay_held.Goals as goal
 
 pub returns-clause-at_first : goal.returns-clause-at_first

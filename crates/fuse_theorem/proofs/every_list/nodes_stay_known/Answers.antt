@@ -1,4 +1,4 @@
-use Rattle.fuse_theorem.proofs.NodesKnown.{first_known, nodes_stay_known}
+use Rattle.fuse_theorem.proofs.Nodes.NodesKnown.{first_known, nodes_stay_known}
 use Rattle.fuse_theorem.proofs.every_list.nodes_stay_known.Goals as goal
 
 pub returns-clause-at_first : goal.returns-clause-at_first

@@ -1,5 +1,5 @@
-use Rattle.fuse_theorem.proofs.NothingWaits.{none_called, none_processing}
-use Rattle.fuse_theorem.proofs.OnTheWay.{first_on_their_way, read_stay_on_their_way}
+use Rattle.fuse_theorem.proofs.Answers.NothingWaits.{none_called, none_processing}
+use Rattle.fuse_theorem.proofs.Requests.OnTheWay.{first_on_their_way, read_stay_on_their_way}
 use Rattle.fuse_theorem.proofs.every_list.nothing_waits_at_rest.Goals as goal
 
 pub returns-clause-at_first : goal.returns-clause-at_first

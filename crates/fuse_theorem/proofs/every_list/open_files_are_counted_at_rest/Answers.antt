@@ -1,5 +1,5 @@
-use Rattle.fuse_theorem.proofs.NothingWaits.{none_called}
-use Rattle.fuse_theorem.proofs.OpensAtRest.{none_closing, opens_counted}
+use Rattle.fuse_theorem.proofs.Answers.NothingWaits.{none_called}
+use Rattle.fuse_theorem.proofs.OpenFiles.OpensAtRest.{none_closing, opens_counted}
 use Rattle.fuse_theorem.proofs.every_list.open_files_are_counted_at_rest.Goals as goal
 
 pub returns-clause-closing : goal.returns-clause-closing

@@ -1,4 +1,4 @@
-use Rattle.fuse_theorem.proofs.OpenNeeds.{opens_held, release_number, released_held_still, held_numbers, settled_held}
+use Rattle.fuse_theorem.proofs.OpenFiles.OpenNeeds.{opens_held, release_number, released_held_still, held_numbers, settled_held}
 use Rattle.fuse_theorem.proofs.every_list.open_numbers_are_held.Goals as goal
 
 pub returns-clause-live : goal.returns-clause-live

@@ -1,4 +1,4 @@
-use Rattle.fuse_theorem.proofs.OnceStays.{first_once, once_stays, once_at_rest}
+use Rattle.fuse_theorem.proofs.OpenFiles.OnceStays.{first_once, once_stays, once_at_rest}
 use Rattle.fuse_theorem.proofs.every_list.open_numbers_stand_once.Goals as goal
 
 pub returns-clause-at_first : goal.returns-clause-at_first

@@ -1,4 +1,4 @@
-use Rattle.fuse_theorem.proofs.OpensStay.{first_opens, opens_stay}
+use Rattle.fuse_theorem.proofs.OpenFiles.OpensStay.{first_opens, opens_stay}
 use Rattle.fuse_theorem.proofs.every_list.open_numbers_stay_balanced.Goals as goal
 
 pub returns-clause-at_first : goal.returns-clause-at_first

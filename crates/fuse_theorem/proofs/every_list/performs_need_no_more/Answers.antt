@@ -1,4 +1,4 @@
-use Rattle.fuse_theorem.proofs.PerformNeeds.{perform_met, release_met, any_met}
+use Rattle.fuse_theorem.proofs.Nodes.PerformNeeds.{perform_met, release_met, any_met}
 use Rattle.fuse_theorem.proofs.every_list.performs_need_no_more.Goals as goal
 
 pub returns-clause-requests : goal.returns-clause-requests

@@ -1,4 +1,4 @@
-use Rattle.fuse_theorem.proofs.ReleasesStay.{first_releases, releases_stay_known}
+use Rattle.fuse_theorem.proofs.OpenFiles.ReleasesStay.{first_releases, releases_stay_known}
 use Rattle.fuse_theorem.proofs.every_list.releases_stay_known.Goals as goal
 
 pub returns-clause-at_first : goal.returns-clause-at_first

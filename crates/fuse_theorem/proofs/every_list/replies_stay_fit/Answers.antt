@@ -1,4 +1,4 @@
-use Rattle.fuse_theorem.proofs.RepliesFitStay.{first_fit, no_wrong_body, replies_stay_fit}
+use Rattle.fuse_theorem.proofs.Replies.RepliesFitStay.{first_fit, no_wrong_body, replies_stay_fit}
 use Rattle.fuse_theorem.proofs.every_list.replies_stay_fit.Goals as goal
 
 pub returns-clause-at_first : goal.returns-clause-at_first

@@ -1,5 +1,5 @@
-use Rattle.fuse_theorem.proofs.ForgetsCounted.{faultless_stay, first_faultless}
-use Rattle.fuse_theorem.proofs.NoFault.{no_fault}
+use Rattle.fuse_theorem.proofs.Lookups.ForgetsCounted.{faultless_stay, first_faultless}
+use Rattle.fuse_theorem.proofs.Replies.NoFault.{no_fault}
 use Rattle.fuse_theorem.proofs.every_list.requests_have_no_fault.Goals as goal
 
 pub returns-clause-at_first : goal.returns-clause-at_first

@@ -1,5 +1,5 @@
-use Rattle.fuse_theorem.proofs.StayAsked.{first_asked, requests_stay_asked}
-use Rattle.fuse_theorem.proofs.UnsentNodes.{evict_met}
+use Rattle.fuse_theorem.proofs.Requests.StayAsked.{first_asked, requests_stay_asked}
+use Rattle.fuse_theorem.proofs.Nodes.UnsentNodes.{evict_met}
 use Rattle.fuse_theorem.proofs.every_list.requests_stay_asked.Goals as goal
 
 pub returns-clause-at_first : goal.returns-clause-at_first

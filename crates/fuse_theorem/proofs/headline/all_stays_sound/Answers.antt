@@ -1,5 +1,5 @@
-use Rattle.fuse_theorem.proofs.AllCollected.{collected_all}
-use Rattle.fuse_theorem.proofs.AllStaySound.{first_all, all_move}
+use Rattle.fuse_theorem.proofs.WholeLists.AllCollected.{collected_all}
+use Rattle.fuse_theorem.proofs.WholeLists.AllStaySound.{first_all, all_move}
 use Rattle.fuse_theorem.proofs.headline.all_stays_sound.Goals as goal
 
 pub returns-clause-at_first : goal.returns-clause-at_first

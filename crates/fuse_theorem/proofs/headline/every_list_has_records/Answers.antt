@@ -1,4 +1,4 @@
-use Rattle.fuse_theorem.proofs.AllRecorded.{has_records}
+use Rattle.fuse_theorem.proofs.WholeLists.AllRecorded.{has_records}
 use Rattle.fuse_theorem.proofs.headline.every_list_has_records.Goals as goal
 
 pub returns-clause-some : goal.returns-clause-some

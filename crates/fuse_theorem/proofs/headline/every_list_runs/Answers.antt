@@ -1,9 +1,9 @@
-use Rattle.fuse_spec.specs.Plain.{first_plain}
-use Rattle.fuse_spec.specs.Worlds.{first_world}
-use Rattle.fuse_theorem.proofs.AllKeeps.{all_keep}
-use Rattle.fuse_theorem.proofs.AllRun.{all_run}
-use Rattle.fuse_theorem.proofs.AllStaySound.{first_all}
-use Rattle.fuse_theorem.proofs.AnswersStay.{first_sound}
+use Rattle.fuse_spec.specs.Reference.Plain.{first_plain}
+use Rattle.fuse_spec.specs.World.Worlds.{first_world}
+use Rattle.fuse_theorem.proofs.WholeLists.AllKeeps.{all_keep}
+use Rattle.fuse_theorem.proofs.WholeLists.AllRun.{all_run}
+use Rattle.fuse_theorem.proofs.WholeLists.AllStaySound.{first_all}
+use Rattle.fuse_theorem.proofs.Answers.AnswersStay.{first_sound}
 use Rattle.fuse_theorem.proofs.headline.every_list_runs.Goals as goal
 
 pub returns-clause-from_first : goal.returns-clause-from_first

@@ -1,4 +1,4 @@
-use Rattle.fuse_theorem.proofs.AllKeeps.{all_keep}
+use Rattle.fuse_theorem.proofs.WholeLists.AllKeeps.{all_keep}
 use Rattle.fuse_theorem.proofs.headline.protocol_is_kept.Goals as goal
 
 pub returns : goal.returns

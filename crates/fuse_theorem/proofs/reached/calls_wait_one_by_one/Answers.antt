@@ -1,4 +1,4 @@
-use Rattle.fuse_theorem.proofs.WaitingAnswers.{one_more_waits}
+use Rattle.fuse_theorem.proofs.Answers.WaitingAnswers.{one_more_waits}
 use Rattle.fuse_theorem.proofs.reached.calls_wait_one_by_one.Goals as goal
 
 pub returns-clause-one_more : goal.returns-clause-one_more

@@ -1,4 +1,4 @@
-use Rattle.fuse_theorem.proofs.SessionsEnd.{session_refines, session_keeps, session_answers}
+use Rattle.fuse_theorem.proofs.OverLinks.SessionsEnd.{session_refines, session_keeps, session_answers}
 use Rattle.fuse_theorem.proofs.reached.reached_sessions_refine.Goals as goal
 
 pub returns-clause-list : goal.returns-clause-list

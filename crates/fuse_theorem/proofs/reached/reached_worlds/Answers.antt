@@ -1,4 +1,4 @@
-use Rattle.fuse_theorem.proofs.ReachedWorlds.{first_reached, reached_next, handed_out_reached, collected_reached}
+use Rattle.fuse_theorem.proofs.WholeLists.ReachedWorlds.{first_reached, reached_next, handed_out_reached, collected_reached}
 use Rattle.fuse_theorem.proofs.reached.reached_worlds.Goals as goal
 
 pub returns-clause-first : goal.returns-clause-first

@@ -1,4 +1,4 @@
-use Rattle.fuse_theorem.proofs.Refining.{refined, kept, event_refines, over_stays, handing_out, list_refines, list_answers}
+use Rattle.fuse_theorem.proofs.Refining.Refining.{refined, kept, event_refines, over_stays, handing_out, list_refines, list_answers}
 use Rattle.fuse_theorem.proofs.reached.reached_worlds_refine.Goals as goal
 
 pub returns-clause-some : goal.returns-clause-some

@@ -1,4 +1,4 @@
-use Rattle.fuse_theorem.proofs.RefusalsByCases.{only_accepted, within_accepted, also_accepted}
+use Rattle.fuse_theorem.proofs.RefusalCases.RefusalsByCases.{only_accepted, within_accepted, also_accepted}
 use Rattle.fuse_theorem.proofs.refusals.accepted_by_cases.Goals as goal
 
 pub returns-clause-only : goal.returns-clause-only

@@ -1,4 +1,4 @@
-use Rattle.fuse_theorem.proofs.SameRefusals.{happens_or_refused}
+use Rattle.fuse_theorem.proofs.RefusalCases.SameRefusals.{happens_or_refused}
 use Rattle.fuse_theorem.proofs.refusals.happens_or_refused.Goals as goal
 
 pub returns : goal.returns

@@ -1,4 +1,4 @@
-use Rattle.fuse_theorem.proofs.NeverMemory.{never_memory, never_link_lost}
+use Rattle.fuse_theorem.proofs.RefusalCases.NeverMemory.{never_memory, never_link_lost}
 use Rattle.fuse_theorem.proofs.refusals.never_for_the_link.Goals as goal
 
 pub returns-clause-memory : goal.returns-clause-memory

@@ -1,4 +1,4 @@
-use Rattle.fuse_theorem.proofs.RefusalsByCases.{only_refused, also_refused}
+use Rattle.fuse_theorem.proofs.RefusalCases.RefusalsByCases.{only_refused, also_refused}
 use Rattle.fuse_theorem.proofs.refusals.refused_for_any_choice.Goals as goal
 
 pub returns-clause-only : goal.returns-clause-only

@@ -1,4 +1,4 @@
-use Rattle.fuse_theorem.proofs.RefusalsByCases.{refused_once}
+use Rattle.fuse_theorem.proofs.RefusalCases.RefusalsByCases.{refused_once}
 use Rattle.fuse_theorem.proofs.refusals.refused_once.Goals as goal
 
 pub returns : goal.returns

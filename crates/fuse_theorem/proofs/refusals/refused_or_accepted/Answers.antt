@@ -1,4 +1,4 @@
-use Rattle.fuse_theorem.proofs.Choosing.{some_choice, one_refusal, not_both}
+use Rattle.fuse_theorem.proofs.Refining.Choosing.{some_choice, one_refusal, not_both}
 use Rattle.fuse_theorem.proofs.refusals.refused_or_accepted.Goals as goal
 
 pub returns-clause-choice : goal.returns-clause-choice

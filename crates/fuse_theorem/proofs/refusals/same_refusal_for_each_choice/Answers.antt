@@ -1,4 +1,4 @@
-use Rattle.fuse_theorem.proofs.SameRefusals.{same_refusal}
+use Rattle.fuse_theorem.proofs.RefusalCases.SameRefusals.{same_refusal}
 use Rattle.fuse_theorem.proofs.refusals.same_refusal_for_each_choice.Goals as goal
 
 pub returns : goal.returns

@@ -1,4 +1,4 @@
-use Rattle.fuse_theorem.proofs.AbortFollows.{abort_follows}
+use Rattle.fuse_theorem.proofs.Refining.AbortFollows.{abort_follows}
 use Rattle.fuse_theorem.proofs.sessions.abort_follows.Goals as goal
 
 pub returns : goal.returns

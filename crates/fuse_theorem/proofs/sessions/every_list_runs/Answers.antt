@@ -1,5 +1,5 @@
-use Rattle.fuse_theorem.proofs.SessionsAnswered.{session_answers_once}
-use Rattle.fuse_theorem.proofs.SessionsRun.{session_run}
+use Rattle.fuse_theorem.proofs.OverLinks.SessionsAnswered.{session_answers_once}
+use Rattle.fuse_theorem.proofs.OverLinks.SessionsRun.{session_run}
 use Rattle.fuse_theorem.proofs.sessions.every_list_runs.Goals as goal
 
 pub returns : goal.returns

@@ -1,6 +1,6 @@
 use Rattle.std.proofs.Common.{refl}
-use Rattle.fuse_spec.specs.Sessions.{linked}
-use Rattle.fuse_theorem.proofs.LostOnce.{lost_in, never_lost}
+use Rattle.fuse_spec.specs.Claim.Sessions.{linked}
+use Rattle.fuse_theorem.proofs.OverLinks.LostOnce.{lost_in, never_lost}
 use Rattle.fuse_theorem.proofs.sessions.lost_once.Goals as goal
 
 pub returns-clause-never : goal.returns-clause-never

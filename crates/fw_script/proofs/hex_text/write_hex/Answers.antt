@@ -1,16 +1,30 @@
-use Rattle.std.proofs.Common.{[], ◌∷◌, take, slice_index}
+use Rattle.std.proofs.Common.{◌+◌, ◌-◌, arith, length, take, drop}
 use Rattle.hex.specs.Hex.{encode_lower}
-use Rattle.fw_script.proofs.Hexes.{encode_lower-nil, encode_lower-take}
-use Rattle.fw_script.proofs.Writes.{Appends-nil, Appends-append}
+use Rattle.fw_script.proofs.Hexes.{encode_lower-nil, encode_lower-part, encode_lower-rest}
+use Rattle.fw_script.proofs.Writes.{Appends-nil, Appends-append, OnOk-map}
 use Rattle.fw_script.proofs.hex_text.write_hex.Goals as goal
 
-pub loop-byte-init : goal.loop-byte-init
-loop-byte-init g c = rw encode_lower-nil (Appends-nil (g.W.Write.contents c.args.out.now))
+pub loop-written-init : goal.loop-written-init
+loop-written-init g c = record { within = omega arith; wrote = rw encode_lower-nil (Appends-nil (g.W.Write.contents c.args.out.now)) }
 
-pub loop-byte-preserved : goal.loop-byte-preserved
-loop-byte-preserved g c =
-    let wrote = rw c.digits_of.ensures at c.in_ok-write_all.ensures.bytes in
-    rw (encode_lower-take c.args.bytes.now c.loop-byte.byte-index c.loop-byte-test.true)
-    (Appends-append (g.W.Write.contents c.args.out.now) (g.W.Write.contents c.loop-byte.out) (g.W.Write.contents c.write_all.new.self)
-    (encode_lower (take c.loop-byte.byte-index c.args.bytes.now)) (encode_lower (slice_index c.args.bytes.now c.loop-byte.byte-index ∷ []))
-    c.loop-byte.invariant wrote)
+pub loop-written-preserved : goal.loop-written-preserved
+loop-written-preserved g c =
+    let bytes = c.args.bytes.now in
+    let at = c.loop-written.written in
+    record {
+      within = omega arith;
+      wrote =
+          rw (encode_lower-part bytes at (at + 32) (omega arith))
+          (Appends-append (g.W.Write.contents c.args.out.now) (g.W.Write.contents c.loop-written.out) (g.W.Write.contents c.write_block.new.out)
+          (encode_lower (take at bytes)) (encode_lower (take ((at + 32) - at) (drop at bytes))) c.loop-written.invariant.wrote c.in_ok-write_block.ensures);
+    }
+
+pub returns : goal.returns
+returns g c =
+    let bytes = c.args.bytes.now in
+    let at = c.loop-written.written in
+    OnOk-map _ _ c.write_block-2.result
+    (λ wrote. rw (encode_lower-rest bytes at c.loop-written.invariant.within)
+    (Appends-append (g.W.Write.contents c.args.out.now) (g.W.Write.contents c.loop-written.out) (g.W.Write.contents c.write_block-2.new.out)
+    (encode_lower (take at bytes)) (encode_lower (take (length bytes - at) (drop at bytes))) c.loop-written.invariant.wrote wrote))
+    c.write_block-2.ensures

@@ -1,5 +1,5 @@
 use Rattle.std.proofs.Common.{arith, refl, ap, length, ◌∙◌}
-use Rattle.fuse_spec.specs.Worlds.{World}
+use Rattle.fuse_spec.specs.World.Worlds.{World}
 use Rattle.fw_world.proofs.Collecting.{none_yet, collects_one, collects_all}
 use Rattle.fw_world.proofs.runs.collect_all.Goals as goal
 

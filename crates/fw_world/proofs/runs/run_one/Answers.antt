@@ -1,7 +1,7 @@
 use Rattle.std.proofs.Common.{◌+◌, ◌≤◌, sym, ap, length, ◌∙◌, arith}
-use Rattle.fuse_spec.specs.Worlds.{World}
+use Rattle.fuse_spec.specs.World.Worlds.{World}
 use Rattle.std.specs.Vec.{vec_len, vec_capacity}
-use Rattle.fuse_theorem.proofs.WaitingAnswers.{one_more_waits}
+use Rattle.fuse_theorem.proofs.Answers.WaitingAnswers.{one_more_waits}
 use Rattle.fw_world.specs.Values.{event_of, outcome_of}
 use Rattle.fw_world.proofs.Recording.{adds_refusal, adds_outcome, made_room, wanted_room}
 use Rattle.fw_world.proofs.runs.run_one.Goals as goal

@@ -1,5 +1,5 @@
 use Rattle.std.proofs.Common.{sym, ap, ◌∙◌}
-use Rattle.fuse_spec.specs.Maps.{Place}
+use Rattle.fuse_spec.specs.Values.Maps.{Place}
 use Rattle.fk_dentry.specs.Rows.{slots_of, bound_in}
 use Rattle.fk_dentry.proofs.BoundNames.{get-names}
 use Rattle.fk_dentry.proofs.bindings.Bindings.bound.Goals as goal

@@ -1,5 +1,5 @@
 use Rattle.std.proofs.Common.{◌+◌, ◌≤◌, ap, sym, subst, ◌∙◌, arith, None, length, is_some}
-use Rattle.fuse_spec.specs.Maps.{Place, get_name, put_name}
+use Rattle.fuse_spec.specs.Values.Maps.{Place, get_name, put_name}
 use Rattle.fk_dentry.specs.Counts.{count_in, total_in}
 use Rattle.fk_dentry.specs.Rows.{slots_of, names_in, IsTable}
 use Rattle.fk_dentry.proofs.BoundNames.{names-room, room-put, room_there}

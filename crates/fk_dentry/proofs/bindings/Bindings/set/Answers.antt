@@ -1,6 +1,6 @@
 use Rattle.std.proofs.Common.{◌+◌, ◌≡◌, ◌≤◌, ℕ, ap, sym, subst, ◌∙◌, arith, Some, Option, length, is_some}
 use Rattle.fuse_spec.specs.declared.Binding.{Binding}
-use Rattle.fuse_spec.specs.Maps.{Place, get_name}
+use Rattle.fuse_spec.specs.Values.Maps.{Place, get_name}
 use Rattle.fk_dentry.specs.Counts.{count_in, total_in}
 use Rattle.fk_dentry.specs.Named.{times, named, named_by}
 use Rattle.fk_dentry.specs.Rows.{slots_of, names_in, IsTable}

@@ -1,7 +1,7 @@
 use Rattle.std.proofs.Common.{◌≡◌, ◌≢◌, ◌≤◌, ◌<◌, Bool, true, cond, nat_eq, length, Some, None, refl, sym, ap, ◌∙◌, arith}
 use Rattle.fuse_spec.specs.declared.Refusal.TheVariants.{NoMemory, Exhausted}
-use Rattle.fuse_spec.specs.Maps.{get}
-use Rattle.fuse_spec.specs.Uniques.{numbers_left_from}
+use Rattle.fuse_spec.specs.Values.Maps.{get}
+use Rattle.fuse_spec.specs.Kernel.Uniques.{numbers_left_from}
 use Rattle.fk_kernel.proofs.Closes.{closes_idle, idle_refusal}
 use Rattle.fk_kernel.proofs.Files.{some_not_none, shut_files, numbered_files}
 use Rattle.fk_kernel.proofs.Nodes.{still_counted}

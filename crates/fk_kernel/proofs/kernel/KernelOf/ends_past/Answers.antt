@@ -1,9 +1,9 @@
 use Rattle.std.proofs.Common.{◌≡◌, ℕ, true, false, true≢false, nat_eq, Option, Some, None, sym, ap, ◌∙◌, rules}
 use Rattle.std.specs.Prelude.{is_some, ◌&&◌, not}
 use Rattle.std.specs.List.{list_any}
-use Rattle.fuse_spec.specs.Kernel.{is_using}
-use Rattle.fuse_spec.specs.Maps.{Map, get, remove, values}
-use Rattle.fuse_spec.specs.Vfs.{CallState, using}
+use Rattle.fuse_spec.specs.Kernel.Kernel.{is_using}
+use Rattle.fuse_spec.specs.Values.Maps.{Map, get, remove, values}
+use Rattle.fuse_spec.specs.Calls.Vfs.{CallState, using}
 use Rattle.fuse_spec.specs.declared.Opened.{Opened}
 use Rattle.fk_kernel.proofs.Evicted.{any_gone, copied_is}
 use Rattle.fk_kernel.proofs.Standing.{uses_there, not_true, not_false}

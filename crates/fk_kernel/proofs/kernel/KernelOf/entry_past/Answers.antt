@@ -1,6 +1,6 @@
 use Rattle.std.proofs.Common.{[], ◌∷◌, ap, sym, ◌∙◌}
-use Rattle.fuse_spec.specs.Maps.{get}
-use Rattle.fuse_spec.specs.Replies.{Use, usable, first_use, counted_more}
+use Rattle.fuse_spec.specs.Values.Maps.{get}
+use Rattle.fuse_spec.specs.Kernel.Replies.{Use, usable, first_use, counted_more}
 use Rattle.fk_nodes.specs.Learning.{is_out}
 use Rattle.fk_kernel.specs.Entries.{learnt_by_all}
 use Rattle.fk_kernel.proofs.CountsHeard.{one_out}

@@ -1,9 +1,9 @@
 use Rattle.std.proofs.Common.{◌≡◌, ◌≤◌, ◌+◌, length, true, Some, refl, ap, arith}
 use Rattle.std.specs.Prelude.{is_some}
-use Rattle.fuse_spec.specs.Maps.{get}
-use Rattle.fuse_spec.specs.Operations.{create}
-use Rattle.fuse_spec.specs.QueueCalls.{waiting}
-use Rattle.fuse_spec.specs.Vfs.{doing}
+use Rattle.fuse_spec.specs.Values.Maps.{get}
+use Rattle.fuse_spec.specs.Files.Operations.{create}
+use Rattle.fuse_spec.specs.Kernel.QueueCalls.{waiting}
+use Rattle.fuse_spec.specs.Calls.Vfs.{doing}
 use Rattle.fk_kernel.proofs.Files.{some_not_none, opened_files}
 use Rattle.fk_kernel.proofs.Nodes.{learnt_counted, answered_is, sorted_gone}
 use Rattle.fk_kernel.proofs.Replied.{create_made}

@@ -1,7 +1,7 @@
 use Rattle.std.proofs.Common.{Some, sym, ap, ◌∙◌}
-use Rattle.fuse_spec.specs.Kernel.{Kernel, released_if_idle, after_use}
-use Rattle.fuse_spec.specs.Maps.{get}
-use Rattle.fuse_spec.specs.Vfs.{answered}
+use Rattle.fuse_spec.specs.Kernel.Kernel.{Kernel, released_if_idle, after_use}
+use Rattle.fuse_spec.specs.Values.Maps.{get}
+use Rattle.fuse_spec.specs.Calls.Vfs.{answered}
 use Rattle.fk_syscalls.specs.Values.{answer_of}
 use Rattle.fk_kernel.proofs.Standing.{some_state, using_of, stays}
 use Rattle.fk_kernel.proofs.kernel.KernelOf.finish_use.Goals as goal

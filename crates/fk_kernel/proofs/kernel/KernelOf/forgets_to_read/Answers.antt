@@ -1,7 +1,7 @@
 use Rattle.std.proofs.Common.{◌≡◌, ◌≤◌, ◌<◌, ◌^◌, true, false, Some, slice_get, ap, sym, ◌∙◌, arith}
 use Rattle.std.specs.Prelude.{is_some}
-use Rattle.fuse_spec.specs.Kernel.{is_live, forgets_read}
-use Rattle.fuse_spec.specs.Uniques.{numbers_left_from}
+use Rattle.fuse_spec.specs.Kernel.Kernel.{is_live, forgets_read}
+use Rattle.fuse_spec.specs.Kernel.Uniques.{numbers_left_from}
 use Rattle.fk_kernel.proofs.ForgetReads.{interrupts_first, no_forgets, no_number_left, read_unrefused}
 use Rattle.fk_kernel.proofs.kernel.KernelOf.forgets_to_read.Goals as goal
 

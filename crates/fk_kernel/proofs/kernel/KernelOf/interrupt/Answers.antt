@@ -1,7 +1,7 @@
 use Rattle.std.proofs.Common.{rules, ◌≡◌, true, Some, None, refl, sym, ◌∙◌}
 use Rattle.std.specs.Prelude.{is_some}
-use Rattle.fuse_spec.specs.Maps.{get}
-use Rattle.fuse_spec.specs.Kernel.{is_live, request_of}
+use Rattle.fuse_spec.specs.Values.Maps.{get}
+use Rattle.fuse_spec.specs.Kernel.Kernel.{is_live, request_of}
 use Rattle.fuse_spec.specs.declared.IntrEffect.TheVariants.{None as NoEffect}
 use Rattle.fk_kernel.proofs.Signalled.{signalled_there, unrequested, exhausted}
 use Rattle.fk_kernel.proofs.kernel.KernelOf.interrupt.Goals as goal

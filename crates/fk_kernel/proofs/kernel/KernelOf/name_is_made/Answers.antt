@@ -1,8 +1,8 @@
 use Rattle.std.proofs.Common.{◌≡◌, ◌≤◌, ◌+◌, length, true, Some, ap, arith}
 use Rattle.std.specs.Prelude.{is_some}
-use Rattle.fuse_spec.specs.Maps.{get}
-use Rattle.fuse_spec.specs.QueueCalls.{waiting}
-use Rattle.fuse_spec.specs.Vfs.{doing}
+use Rattle.fuse_spec.specs.Values.Maps.{get}
+use Rattle.fuse_spec.specs.Kernel.QueueCalls.{waiting}
+use Rattle.fuse_spec.specs.Calls.Vfs.{doing}
 use Rattle.fk_kernel.proofs.Nodes.{learnt_counted, answered_is}
 use Rattle.fk_kernel.proofs.Replied.{made_found}
 use Rattle.fk_kernel.proofs.Standing.{makes_place}

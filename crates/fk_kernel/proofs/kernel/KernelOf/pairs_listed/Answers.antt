@@ -1,11 +1,11 @@
 use Rattle.std.proofs.Common.{◌≡◌, ℕ, ◌+◌, ◌≤◌, true, length, Some, ap, sym, subst, ◌∙◌, arith}
 use Rattle.std.specs.Prelude.{is_some}
-use Rattle.fuse_spec.specs.Maps.{get}
-use Rattle.fuse_spec.specs.Operations as reply
-use Rattle.fuse_spec.specs.Operations.{Operation, readdirplus}
-use Rattle.fuse_spec.specs.QueueCalls.{waiting}
-use Rattle.fuse_spec.specs.Replies.{each_forgotten, goes_with}
-use Rattle.fuse_spec.specs.Vfs.{doing, asked}
+use Rattle.fuse_spec.specs.Values.Maps.{get}
+use Rattle.fuse_spec.specs.Files.Operations as reply
+use Rattle.fuse_spec.specs.Files.Operations.{Operation, readdirplus}
+use Rattle.fuse_spec.specs.Kernel.QueueCalls.{waiting}
+use Rattle.fuse_spec.specs.Kernel.Replies.{each_forgotten, goes_with}
+use Rattle.fuse_spec.specs.Calls.Vfs.{doing, asked}
 use Rattle.fuse_spec.specs.declared.Opened.{Opened}
 use Rattle.fk_nodes.specs.Learning.{learnt_from, stale_by}
 use Rattle.fk_nodes.specs.Told.{pairs_in}

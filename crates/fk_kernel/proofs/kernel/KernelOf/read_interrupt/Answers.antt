@@ -1,5 +1,5 @@
 use Rattle.std.proofs.Common.{ℕ, drop, ap, sym, ◌∙◌}
-use Rattle.fuse_spec.specs.Messages.{interrupt}
+use Rattle.fuse_spec.specs.Kernel.Messages.{interrupt}
 use Rattle.fk_kernel.proofs.Signalled.{oldest_is}
 use Rattle.fk_kernel.proofs.kernel.KernelOf.read_interrupt.Goals as goal
 

@@ -1,9 +1,9 @@
 use Rattle.std.proofs.Common.{◌≡◌, true, false, Some, None, refl, sym, ap, ◌∙◌, arith}
 use Rattle.std.specs.Prelude.{is_some}
 use Rattle.std.specs.List.{list_any}
-use Rattle.fuse_spec.specs.Kernel.{is_using, is_used}
-use Rattle.fuse_spec.specs.Maps.{Map, get, values}
-use Rattle.fuse_spec.specs.Vfs.{CallState}
+use Rattle.fuse_spec.specs.Kernel.Kernel.{is_using, is_used}
+use Rattle.fuse_spec.specs.Values.Maps.{Map, get, values}
+use Rattle.fuse_spec.specs.Calls.Vfs.{CallState}
 use Rattle.fuse_spec.specs.declared.Opened.{Opened}
 use Rattle.fk_kernel.proofs.Closes.{released_used, released_none, released_some}
 use Rattle.fk_kernel.proofs.Files.{some_not_none, released_files}

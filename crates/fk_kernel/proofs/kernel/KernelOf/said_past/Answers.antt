@@ -1,6 +1,6 @@
 use Rattle.std.proofs.Common.{◌≡◌, Bool, false, true, ap, sym, ◌∙◌}
 use Rattle.std.specs.Prelude.{◌||◌}
-use Rattle.fuse_spec.specs.Replies.{reply_written}
+use Rattle.fuse_spec.specs.Kernel.Replies.{reply_written}
 use Rattle.fk_said.specs.ReplySaid.{wire_of}
 use Rattle.fk_nodes.specs.Learning.{is_out}
 use Rattle.fk_nodes.proofs.Outs.{or_none, or_true}

@@ -1,7 +1,7 @@
 use Rattle.std.proofs.Common.{◌≡◌, ap, sym, ◌∙◌}
 use Rattle.fuse_spec.specs.declared.IntrEffect.{IntrEffect}
 use Rattle.fuse_spec.specs.declared.IntrEffect.TheVariants.{Dequeued}
-use Rattle.fuse_spec.specs.QueueCalls.{interrupt_effect, after_effect}
+use Rattle.fuse_spec.specs.Kernel.QueueCalls.{interrupt_effect, after_effect}
 use Rattle.fk_kernel.proofs.Signalled.{sound_signalled}
 use Rattle.fk_kernel.proofs.kernel.KernelOf.signal.Goals as goal
 

@@ -1,6 +1,6 @@
 use Rattle.std.proofs.Common.{rules, ◌≡◌, true, false, ap, ◌∙◌}
 use Rattle.std.specs.Prelude.{is_some}
-use Rattle.fuse_spec.specs.QueueCalls.{waiting, interrupt_effect}
+use Rattle.fuse_spec.specs.Kernel.QueueCalls.{waiting, interrupt_effect}
 use Rattle.fk_kernel.proofs.Signalled.{once_read, unread_dequeued, current_there}
 use Rattle.fk_kernel.proofs.kernel.KernelOf.signal_ends_past.Goals as goal
 

@@ -1,15 +1,15 @@
 use Rattle.std.proofs.Common.{◌≡◌, ◌≤◌, ◌+◌, [], ◌∷◌, length, true, false, Some, refl, ap, sym, subst, ◌∙◌, arith}
 use Rattle.std.specs.Prelude.{is_some}
-use Rattle.fuse_spec.specs.Maps.{get}
-use Rattle.fuse_spec.specs.QueueCalls.{waiting, without}
-use Rattle.fuse_spec.specs.Kernel.{Kernel, advanced}
-use Rattle.fuse_spec.specs.Replies.{learnt}
-use Rattle.fuse_spec.specs.Answers.{failed}
+use Rattle.fuse_spec.specs.Values.Maps.{get}
+use Rattle.fuse_spec.specs.Kernel.QueueCalls.{waiting, without}
+use Rattle.fuse_spec.specs.Kernel.Kernel.{Kernel, advanced}
+use Rattle.fuse_spec.specs.Kernel.Replies.{learnt}
+use Rattle.fuse_spec.specs.Calls.Answers.{failed}
 use Rattle.fuse_spec.specs.declared.WriteResult.{WriteResult}
 use Rattle.fuse_spec.specs.declared.WriteResult.TheVariants.{Accepted}
 use Rattle.fk_syscalls.specs.States.{HasNames, IsWalking}
 use Rattle.fk_syscalls.specs.Values.{comes_to}
-use Rattle.fuse_spec.specs.Vfs.{Vfs, Advance, walking, walks_on, bound, asking, answered, no_more}
+use Rattle.fuse_spec.specs.Calls.Vfs.{Vfs, Advance, walking, walks_on, bound, asking, answered, no_more}
 use Rattle.fuse_spec.specs.declared.Opened.{Opened}
 use Rattle.fuse_spec.proofs.Tables.{get_gone_here}
 use Rattle.fk_kernel.specs.Refused.{is_past_end}

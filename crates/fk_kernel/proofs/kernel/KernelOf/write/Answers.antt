@@ -1,7 +1,7 @@
 use Rattle.std.proofs.Common.{rules, ◌≡◌, ℕ, ◌-◌, Some, None, sym, ap, ◌∙◌}
-use Rattle.fuse_spec.specs.QueueCalls.{waiting}
+use Rattle.fuse_spec.specs.Kernel.QueueCalls.{waiting}
 use Rattle.fuse_spec.specs.declared.Purpose.TheVariants.{Init, Release, Call}
-use Rattle.fuse_spec.specs.Maps.{get}
+use Rattle.fuse_spec.specs.Values.Maps.{get}
 use Rattle.fk_kernel.specs.Said.{awaited_by_call, head_unique}
 use Rattle.fk_kernel.proofs.PastEnds.{memory_last}
 use Rattle.fk_kernel.proofs.Taken.{odd_test, even_test, taken_odd, taken_even, awaited_even, taken_none, taken_judged}

@@ -1,5 +1,5 @@
 use Rattle.std.proofs.Common.{rules, ◌≡◌, None, Some, refl, sym, ap, subst, ◌∙◌}
-use Rattle.fuse_spec.specs.QueueCalls.{waiting}
+use Rattle.fuse_spec.specs.Kernel.QueueCalls.{waiting}
 use Rattle.fuse_spec.specs.declared.Purpose.TheVariants.{Init, Release, Call}
 use Rattle.fk_wire.specs.declared.opcode.Opcode.TheVariants as op
 use Rattle.fk_wire.specs.Opcodes.{served}

@@ -1,5 +1,4 @@
-use Rattle.fk_nodes.proofs.Counts.{sorted_nodes}
 use Rattle.fk_nodes.proofs.counted_nodes.CountedNodes.are_sorted.Goals as goal
 
 pub returns : goal.returns
-returns g c = rw (← c.self.view_is) (sorted_nodes c.self.inside.table.slots)
+returns g c = rw (← c.self.view_is) c.are_sorted.ensures

@@ -1,9 +1,8 @@
 use Rattle.std.proofs.Common.{sym, ap, ◌∙◌, arith}
 use Rattle.std.specs.Prelude.{option_map}
-use Rattle.fuse_spec.specs.Maps.{Map, get, remove}
+use Rattle.fuse_spec.specs.Values.Maps.{Map, get, remove}
 use Rattle.fuse_spec.specs.declared.Counted.{Counted}
 use Rattle.fk_lookup_count.specs.declared.forget.Forget.{Forget}
-use Rattle.fk_lookup_count.specs.Slots.{nodes_in}
 use Rattle.fk_nodes.proofs.Lengths.{length_kept}
 use Rattle.fk_nodes.proofs.Counts.{count_of_forget, fewer}
 use Rattle.fk_nodes.proofs.counted_nodes.CountedNodes.evict.Goals as goal
@@ -11,11 +10,11 @@ use Rattle.fk_nodes.proofs.counted_nodes.CountedNodes.evict.Goals as goal
 pub invariant_of-self : goal.invariant_of-self
 invariant_of-self g c =
     let within = c.self.invariant in
-    rw c.evict.ensures.counted (omega (arith, length_kept (nodes_in c.self.inside.table.slots) c.args.id))
+    rw c.evict.ensures.counted (omega (arith, length_kept (g.C.CountTable.counted c.self.inside.table) c.args.id))
 
 pub returns-in_err-forget-clause-count : goal.returns-in_err-forget-clause-count
 returns-in_err-forget-clause-count g c =
-    let m = nodes_in c.self.inside.table.slots in
+    let m = g.C.CountTable.counted c.self.inside.table in
     c.from_residual.ensures ∙ rw (← c.self.view_is) (ap (option_map (λ (f : Forget). f.nlookup)) (sym c.in_err-forget.was ∙ c.evict.ensures.forget) ∙ count_of_forget c.args.id (get m c.args.id))
 
 pub returns-in_err-forget-clause-nodes : goal.returns-in_err-forget-clause-nodes
@@ -23,12 +22,12 @@ returns-in_err-forget-clause-nodes g c = c.evict.ensures.counted ∙ ap (λ (n :
 
 pub invariant_of-self-2 : goal.invariant_of-self-2
 invariant_of-self-2 g c =
-    let m = nodes_in c.self.inside.table.slots in
+    let m = g.C.CountTable.counted c.self.inside.table in
     rw c.evict.ensures.counted (fewer m c.self.inside.most c.args.id c.in_ok-forget.forget c.self.invariant (sym c.in_ok-forget.was ∙ c.evict.ensures.forget))
 
 pub returns-clause-count : goal.returns-clause-count
 returns-clause-count g c =
-    let m = nodes_in c.self.inside.table.slots in
+    let m = g.C.CountTable.counted c.self.inside.table in
     rw (← c.self.view_is) (ap (option_map (λ (f : Forget). f.nlookup)) (sym c.in_ok-forget.was ∙ c.evict.ensures.forget) ∙ count_of_forget c.args.id (get m c.args.id))
 
 pub returns-clause-nodes : goal.returns-clause-nodes

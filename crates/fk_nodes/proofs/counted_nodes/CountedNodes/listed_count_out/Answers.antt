@@ -1,7 +1,7 @@
 use Rattle.std.proofs.Common.{All, ap, map, subst, sym}
 use Rattle.std.proofs.lemmas.List.Elements.{All-nil}
 use Rattle.fuse_frames.specs.ReplyTies.{pair_in}
-use Rattle.fuse_spec.specs.Operations.{DirentPlus, told_by}
+use Rattle.fuse_spec.specs.Files.Operations.{DirentPlus, told_by}
 use Rattle.fuse_spec.specs.declared.Entry.{Entry}
 use Rattle.fk_nodes.specs.Learning.{LeavesBelow}
 use Rattle.fk_nodes.specs.Told.{pairs_in}

@@ -1,5 +1,5 @@
 use Rattle.std.proofs.Common.{All}
-use Rattle.fuse_spec.specs.Operations.{DirentPlus, told_by}
+use Rattle.fuse_spec.specs.Files.Operations.{DirentPlus, told_by}
 use Rattle.fuse_spec.specs.declared.Entry.{Entry}
 use Rattle.fk_nodes.specs.Learning.{LeavesBelow}
 use Rattle.fk_nodes.specs.Told.{pairs_in}

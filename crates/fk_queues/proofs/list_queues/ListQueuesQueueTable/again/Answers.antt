@@ -1,7 +1,7 @@
 use Rattle.std.proofs.Common.{◌≡◌, ◌≤◌, rules, arith, nat_eq, false, Some, length}
 use Rattle.std.specs.List.{list_any}
 use Rattle.fuse_spec.specs.declared.Mark.TheVariants.{Interrupted}
-use Rattle.fuse_spec.specs.Queues.{QueueState, mark_under}
+use Rattle.fuse_spec.specs.Kernel.Queues.{QueueState, mark_under}
 use Rattle.fuse_spec.proofs.QueueSoundness.{count_by-absent, interrupts-lt-requests, is_interrupted-marked, IsSound-interrupt}
 use Rattle.fk_queues.proofs.list_queues.ListQueuesQueueTable.again.Goals as goal
 

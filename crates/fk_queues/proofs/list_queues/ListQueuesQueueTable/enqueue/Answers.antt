@@ -1,5 +1,5 @@
 use Rattle.std.proofs.Common.{◌≡◌, ◌+◌, rules}
-use Rattle.fuse_spec.specs.Queues.{QueueState}
+use Rattle.fuse_spec.specs.Kernel.Queues.{QueueState}
 use Rattle.fuse_spec.proofs.QueueSoundness.{IsSound-enqueue}
 use Rattle.fk_queues.proofs.list_queues.ListQueuesQueueTable.enqueue.Goals as goal
 

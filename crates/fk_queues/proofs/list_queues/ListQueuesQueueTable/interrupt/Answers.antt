@@ -1,6 +1,6 @@
 use Rattle.std.proofs.Common.{◌≡◌, ◌≤◌, rules, arith, true, Some, length, refl}
 use Rattle.fuse_spec.specs.declared.Mark.TheVariants.{Unread, Flagged, Read}
-use Rattle.fuse_spec.specs.Queues.{QueueState, mark_under, is_unread}
+use Rattle.fuse_spec.specs.Kernel.Queues.{QueueState, mark_under, is_unread}
 use Rattle.fuse_spec.proofs.QueueSoundness.{interrupts-lt-requests, none_queued, IsSound-dequeue, IsSound-mark, IsSound-mark_interrupted, has_interrupt-unread}
 use Rattle.fk_queues.proofs.list_queues.ListQueuesQueueTable.interrupt.Goals as goal
 

@@ -1,4 +1,4 @@
-use Rattle.fuse_spec.specs.Queues.{QueueState}
+use Rattle.fuse_spec.specs.Kernel.Queues.{QueueState}
 use Rattle.fuse_spec.proofs.QueueSoundness.{IsSound-without}
 use Rattle.fk_queues.proofs.queues.QueuesQueueTable.answer.Goals as goal
 

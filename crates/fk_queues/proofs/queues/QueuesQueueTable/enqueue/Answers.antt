@@ -1,7 +1,7 @@
 use Rattle.std.proofs.Common.{◌≡◌, ◌+◌, ◌++◌, ◌∷◌, [], rules, nat_eq, length-append}
 use Rattle.indexmap.proofs.CallerLemmas.{insert_entry-new}
 use Rattle.fuse_spec.specs.declared.Mark.TheVariants.{Unread}
-use Rattle.fuse_spec.specs.Queues.{QueueState}
+use Rattle.fuse_spec.specs.Kernel.Queues.{QueueState}
 use Rattle.fuse_spec.proofs.QueueSoundness.{IsSound-enqueue, lookup-next}
 use Rattle.fk_queues.proofs.queues.QueuesQueueTable.enqueue.Goals as goal
 

@@ -1,4 +1,4 @@
-use Rattle.fuse_spec.specs.Queues.{QueueState}
+use Rattle.fuse_spec.specs.Kernel.Queues.{QueueState}
 use Rattle.fuse_spec.proofs.QueueSoundness.{IsSound-read_interrupt}
 use Rattle.fk_queues.proofs.queues.QueuesQueueTable.read_interrupt.Goals as goal
 

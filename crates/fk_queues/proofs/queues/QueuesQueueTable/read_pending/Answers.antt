@@ -1,6 +1,6 @@
 use Rattle.std.proofs.Common.{◌≡◌, ◌≤◌, ◌∙◌, rules, arith, ap, Some, length, slice_get, refl}
 use Rattle.fuse_spec.specs.declared.Mark.TheVariants.{Unread, Flagged, Read}
-use Rattle.fuse_spec.specs.Queues.{QueueState, pending, mark_under}
+use Rattle.fuse_spec.specs.Kernel.Queues.{QueueState, pending, mark_under}
 use Rattle.fuse_spec.proofs.QueueSoundness.{interrupts-lt-requests, none_queued, IsSound-mark, IsSound-mark_interrupted, mark_under-pending}
 use Rattle.fk_queues.proofs.queues.QueuesQueueTable.read_pending.Goals as goal
 

@@ -1,7 +1,7 @@
 use Rattle.std.proofs.Common.{◌≡◌, true, false, sym, ◌∙◌}
 use Rattle.std.specs.Prelude.{Some}
 use Rattle.std.specs.Ordering.{eq_by_cmp}
-use Rattle.fuse_spec.specs.Maps.{place_cmp}
+use Rattle.fuse_spec.specs.Values.Maps.{place_cmp}
 use Rattle.fuse_spec.proofs.Tables.{name_put}
 use Rattle.fk_syscalls.specs.NewNames.{place_of}
 use Rattle.fk_syscalls.proofs.new_name.NewName.find.Goals as goal

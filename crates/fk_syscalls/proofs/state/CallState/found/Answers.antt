@@ -1,5 +1,5 @@
 use Rattle.std.proofs.Common.{◌≡◌, sym, ap, ◌∙◌}
-use Rattle.fuse_spec.specs.Walks.{go, arrived}
+use Rattle.fuse_spec.specs.Calls.Walks.{go, arrived}
 use Rattle.fk_syscalls.specs.Plans.{plan_of}
 use Rattle.fk_syscalls.specs.States.{walking_at}
 use Rattle.fk_syscalls.specs.Walks.{known, stop_at}

@@ -2,10 +2,10 @@ use Rattle.std.proofs.Common.{◌≡◌, Bool, false, nat_eq, sym, ap, ◌∙◌
 use Rattle.std.specs.Prelude.{◌||◌}
 use Rattle.std.specs.List.{list_any}
 use Rattle.std.proofs.lemmas.Bool.Decides.{nat_tests}
-use Rattle.fuse_spec.specs.Kernel.{nodes_of_state}
+use Rattle.fuse_spec.specs.Kernel.Kernel.{nodes_of_state}
 use Rattle.fk_syscalls.specs.Words.{words_from}
 use Rattle.fk_syscalls.specs.Plans.{plan_of}
-use Rattle.fuse_spec.specs.Walks.{files_of_plan}
+use Rattle.fuse_spec.specs.Calls.Walks.{files_of_plan}
 use Rattle.fk_syscalls.specs.States.{state_of}
 use Rattle.fk_syscalls.proofs.Advances.{names_walked, names_self}
 use Rattle.fk_syscalls.proofs.state.CallState.names_node.Goals as goal

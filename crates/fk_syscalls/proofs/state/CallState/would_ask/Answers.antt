@@ -1,11 +1,11 @@
 use Rattle.std.proofs.Common.{◌≡◌, sym, ap, ◌∙◌}
 use Rattle.std.specs.Prelude.{is_some}
-use Rattle.fuse_spec.specs.Vfs.{Advance, walks_on}
+use Rattle.fuse_spec.specs.Calls.Vfs.{Advance, walks_on}
 use Rattle.fuse_spec.specs.declared.Opened.{Opened}
-use Rattle.fuse_spec.specs.Walks.{go, arrived}
+use Rattle.fuse_spec.specs.Calls.Walks.{go, arrived}
 use Rattle.fk_syscalls.specs.NewNames.{with_name}
 use Rattle.fk_syscalls.specs.Plans.{plan_of, IsLast}
-use Rattle.fuse_spec.specs.Walks.{rename_from, link_to}
+use Rattle.fuse_spec.specs.Calls.Walks.{rename_from, link_to}
 use Rattle.fk_syscalls.specs.States.{walking_at}
 use Rattle.fk_syscalls.specs.Walks.{known, stop_at}
 use Rattle.fk_syscalls.specs.Words.{words_from}

@@ -1,6 +1,6 @@
 use Rattle.std.proofs.Common.{◌≤◌, ◌^◌, List, length, map, sym, subst}
 use Rattle.std.specs.Prelude.{All}
-use Rattle.fuse_spec.specs.Operations.{files_told}
+use Rattle.fuse_spec.specs.Files.Operations.{files_told}
 use Rattle.fk_wire.specs.Dirents.{DirentContent}
 use Rattle.fuse_frames.specs.ReplyTies.{dirent_in}
 use Rattle.fs_files.specs.Giving.{GivenEach, generations_after}

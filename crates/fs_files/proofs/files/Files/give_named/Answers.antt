@@ -1,6 +1,6 @@
 use Rattle.std.proofs.Common.{rules, ◌≡◌, false, cond}
 use Rattle.std.specs.Prelude.{Some, None}
-use Rattle.fuse_spec.specs.Paths.{is_dots}
+use Rattle.fuse_spec.specs.Calls.Paths.{is_dots}
 use Rattle.fs_files.proofs.GivenEach.{one_generations, told_given, told_left}
 use Rattle.fs_files.proofs.files.Files.give_named.Goals as goal
 

@@ -1,6 +1,6 @@
 use Rattle.std.proofs.Common.{◌-◌, List, [], ◌∷◌, map, refl, sym, subst, ◌∙◌}
-use Rattle.fuse_spec.specs.Operations.{Dirent, files_told}
-use Rattle.fuse_spec.specs.Trees.{Tree}
+use Rattle.fuse_spec.specs.Files.Operations.{Dirent, files_told}
+use Rattle.fuse_spec.specs.Files.Trees.{Tree}
 use Rattle.fk_wire.specs.Dirents.{DirentContent}
 use Rattle.fk_wire.specs.Records.{dirent_content}
 use Rattle.fuse_frames.specs.ReplyTies.{dirent_in}

@@ -1,5 +1,5 @@
 use Rattle.std.proofs.Common.{◌≡◌, map}
-use Rattle.fuse_spec.specs.Operations.{files_told}
+use Rattle.fuse_spec.specs.Files.Operations.{files_told}
 use Rattle.fs_files.specs.Listed.{listed_in, pair_listed}
 use Rattle.fs_files.proofs.ToldNames.{StillTold}
 use Rattle.fs_files.proofs.files.Files.give_records.Given as goal

@@ -1,5 +1,5 @@
 use Rattle.std.proofs.Common.{ℕ, Option, sym, ap, subst, ◌∙◌}
-use Rattle.fuse_spec.specs.TreeShape.{IsShaped}
+use Rattle.fuse_spec.specs.Files.TreeShape.{IsShaped}
 use Rattle.fs_files.specs.Bounds.{AreKnown, AreNamedBut}
 use Rattle.fs_files.specs.Performing.{handles_said, loosened, tree_said}
 use Rattle.fs_files.specs.Values.{FilesState, server_at}

@@ -1,5 +1,5 @@
 use Rattle.std.proofs.Common.{ap}
-use Rattle.fuse_spec.specs.Nodes.{HandleTable, NodeTable}
+use Rattle.fuse_spec.specs.Server.Nodes.{HandleTable, NodeTable}
 use Rattle.fs_files.proofs.StaysKnown.{nothing_known}
 use Rattle.fs_files.proofs.StaysNamed.{named_new}
 use Rattle.fs_files.proofs.files.Files.new.Goals as goal

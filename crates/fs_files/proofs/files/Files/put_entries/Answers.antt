@@ -2,14 +2,14 @@ use Rattle.std.proofs.Common.{◌≡◌, Option, Some, None, cond, ◌++◌, Lis
 use Rattle.std.proofs.lemmas.List.Elements.{All-head, All-tail}
 use Rattle.fk_wire.specs.Dirents.{DirentContent}
 use Rattle.fk_wire.specs.Records.{records_in, dirent_content}
-use Rattle.fuse_spec.specs.Operations.{Dirent, files_told}
+use Rattle.fuse_spec.specs.Files.Operations.{Dirent, files_told}
 use Rattle.fuse_spec.specs.declared.Entry.{Entry}
 use Rattle.fuse_frames.specs.ReplyTies.{dirent_in}
 use Rattle.fs_files.specs.Listed.{names_in}
 use Rattle.fs_files.specs.Replies.{IsListable}
 use Rattle.fs_files.specs.Telling.{entries_named, entry_named}
-use Rattle.fuse_spec.specs.Operations.{first_told}
-use Rattle.fuse_spec.specs.Paths.{is_dots}
+use Rattle.fuse_spec.specs.Files.Operations.{first_told}
+use Rattle.fuse_spec.specs.Calls.Paths.{is_dots}
 use Rattle.fs_files.proofs.EntriesPut.{one_longer, one_on, told_longer, told_on}
 use Rattle.fs_files.proofs.Listing.{over_are}
 use Rattle.fs_files.proofs.files.Files.put_entries.Goals as goal

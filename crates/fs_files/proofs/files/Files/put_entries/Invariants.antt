@@ -1,5 +1,5 @@
 use Rattle.std.proofs.Common.{◌≡◌, ◌≤◌, ◌+◌, ◌++◌, All, length, map, vec_capacity}
-use Rattle.fuse_spec.specs.Operations.{files_told}
+use Rattle.fuse_spec.specs.Files.Operations.{files_told}
 use Rattle.fk_wire.specs.Records.{records_in}
 use Rattle.fuse_frames.specs.ReplyTies.{dirent_in}
 use Rattle.fs_files.specs.Listed.{names_in}

@@ -1,5 +1,5 @@
 use Rattle.std.proofs.Common.{◌≡◌, List, length, ap, arith}
-use Rattle.fuse_spec.specs.Operations.{files_told}
+use Rattle.fuse_spec.specs.Files.Operations.{files_told}
 use Rattle.fuse_spec.specs.declared.Entry.{Entry}
 use Rattle.fs_files.specs.Listed.{listed_pairs, names_in}
 use Rattle.fs_files.proofs.PairsTold.{told_few}

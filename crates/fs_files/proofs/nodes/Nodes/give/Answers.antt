@@ -1,6 +1,6 @@
 use Rattle.std.proofs.Common.{sym, ap, ◌∙◌}
-use Rattle.fuse_spec.specs.Server.{generation_in}
-use Rattle.fuse_spec.specs.Nodes.{row_of}
+use Rattle.fuse_spec.specs.Server.Server.{generation_in}
+use Rattle.fuse_spec.specs.Server.Nodes.{row_of}
 use Rattle.fs_files.proofs.NodeLemmas.{two_of, generation_is}
 use Rattle.fs_files.proofs.nodes.Nodes.give.Goals as goal
 

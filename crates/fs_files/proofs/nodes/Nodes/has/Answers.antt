@@ -1,5 +1,5 @@
 use Rattle.std.proofs.Common.{sym, subst, ◌∙◌}
-use Rattle.fuse_spec.specs.Nodes.{IsUnheld}
+use Rattle.fuse_spec.specs.Server.Nodes.{IsUnheld}
 use Rattle.fs_files.specs.Values.{NodesState}
 use Rattle.fs_nodes.proofs.Callers.{has_no}
 use Rattle.fs_files.proofs.NodeLemmas.{has_some}

@@ -1,6 +1,6 @@
 use Rattle.std.proofs.Common.{◌+◌, Some, sym, ◌∙◌, ap, arith, length}
 use Rattle.std.specs.Option.{option_map}
-use Rattle.fuse_spec.specs.Maps.{get, put}
+use Rattle.fuse_spec.specs.Values.Maps.{get, put}
 use Rattle.fs_nodes.specs.Rows.{node_of}
 use Rattle.fs_nodes.specs.Slots.{rows_from}
 use Rattle.fs_nodes.proofs.Slots.{get_at}

@@ -1,6 +1,6 @@
 use Rattle.std.proofs.Common.{sym, ◌∙◌, ap}
 use Rattle.std.specs.Option.{option_map}
-use Rattle.fuse_spec.specs.Maps.{get}
+use Rattle.fuse_spec.specs.Values.Maps.{get}
 use Rattle.fs_nodes.specs.Rows.{node_of}
 use Rattle.fs_nodes.specs.Slots.{rows_from, at_place}
 use Rattle.fs_nodes.proofs.Slots.{get_low, get_at, place-low, place-high}

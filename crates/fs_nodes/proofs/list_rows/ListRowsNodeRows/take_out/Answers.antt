@@ -1,6 +1,6 @@
 use Rattle.std.proofs.Common.{None, sym, ◌∙◌, ap, arith}
 use Rattle.std.specs.Option.{option_map}
-use Rattle.fuse_spec.specs.Maps.{get, remove}
+use Rattle.fuse_spec.specs.Values.Maps.{get, remove}
 use Rattle.fs_nodes.specs.Rows.{node_of}
 use Rattle.fs_nodes.specs.Slots.{rows_from}
 use Rattle.fs_nodes.proofs.Slots.{get_low, get_at, rows_without_none, place-low, place-high}

@@ -1,5 +1,5 @@
 use Rattle.std.proofs.Common.{Some, sym, ◌∙◌, ap, subst, arith}
-use Rattle.fuse_spec.specs.Maps.{put}
+use Rattle.fuse_spec.specs.Values.Maps.{put}
 use Rattle.fs_nodes.specs.Rows.{node_of, IsOf}
 use Rattle.fs_nodes.specs.Slots.{rows_from}
 use Rattle.fs_nodes.proofs.Slots.{get_low, place-low, place-high}

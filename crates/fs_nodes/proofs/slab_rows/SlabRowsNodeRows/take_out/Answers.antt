@@ -4,7 +4,7 @@ use Rattle.std.specs.Option.{option_map}
 use Rattle.std.proofs.lemmas.Bool.{cases_eq}
 use Rattle.std.proofs.lemmas.Option.{none-some}
 use Rattle.slab.specs.Slab.{Slab}
-use Rattle.fuse_spec.specs.Maps.{get, remove}
+use Rattle.fuse_spec.specs.Values.Maps.{get, remove}
 use Rattle.fs_nodes.specs.Rows.{node_of}
 use Rattle.fs_nodes.specs.Slots.{rows_from}
 use Rattle.fs_nodes.specs.declared.stored_node.StoredNode.{StoredNode}

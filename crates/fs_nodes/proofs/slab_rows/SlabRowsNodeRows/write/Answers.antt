@@ -1,5 +1,5 @@
 use Rattle.std.proofs.Common.{sym, ◌∙◌, ap, subst}
-use Rattle.fuse_spec.specs.Maps.{get, put}
+use Rattle.fuse_spec.specs.Values.Maps.{get, put}
 use Rattle.fs_nodes.specs.Rows.{node_of, IsOf}
 use Rattle.fs_nodes.specs.Slots.{rows_from}
 use Rattle.fs_nodes.proofs.Inverse.{inverse_same}

@@ -1,7 +1,7 @@
 use Rattle.std.proofs.Common.{◌≡◌, ◌-◌, ℕ, ◌+◌, ◌++◌, [], ap, sym, ◌∙◌, map, arith, length}
 use Rattle.std.proofs.lemmas.List.{append-nil, append_assoc}
-use Rattle.fuse_spec.specs.Operations.{Dirent, first_told, told_by}
-use Rattle.fuse_spec.specs.Trees.{record_length}
+use Rattle.fuse_spec.specs.Files.Operations.{Dirent, first_told, told_by}
+use Rattle.fuse_spec.specs.Files.Trees.{record_length}
 use Rattle.fs_tree.specs.Stored.{files_led, fitting_with, lead_in, lead_pair, in_directory}
 use Rattle.fs_tree.specs.EntryViews.{entry_of}
 use Rattle.fs_tree.proofs.NameLinks.{names-after, files-more, files-end, over, told-append, under}

@@ -1,7 +1,7 @@
 use Rattle.std.proofs.Common.{◌≡◌, ◌≤◌, ◌+◌, ◌*◌, ◌++◌, map, filter, nat_lt}
 use Rattle.arrayvec.specs.ArrayVec.{array_vec_len}
-use Rattle.fuse_spec.specs.Maps.{Map}
-use Rattle.fuse_spec.specs.Trees.{Content}
+use Rattle.fuse_spec.specs.Values.Maps.{Map}
+use Rattle.fuse_spec.specs.Files.Trees.{Content}
 use Rattle.fs_tree.specs.Stored.{files_led, fitting_with, lead_in, in_directory}
 use Rattle.fs_tree.specs.EntryViews.{entry_of}
 use Rattle.fs_tree.proofs.entries.Entries.files_listed.Given as goal

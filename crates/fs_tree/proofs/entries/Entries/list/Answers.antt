@@ -1,7 +1,7 @@
 use Rattle.std.proofs.Common.{◌≡◌, ℕ, ◌+◌, ap, sym, ◌∙◌, map}
 use Rattle.std.proofs.lemmas.List.{map-append, append-nil}
-use Rattle.fuse_spec.specs.Operations.{Dirent}
-use Rattle.fuse_spec.specs.Trees.{record_length}
+use Rattle.fuse_spec.specs.Files.Operations.{Dirent}
+use Rattle.fuse_spec.specs.Files.Trees.{record_length}
 use Rattle.fs_tree.specs.Stored.{fitting_with, lead_in, in_directory}
 use Rattle.fs_tree.specs.Views.{lead_of}
 use Rattle.fs_tree.specs.EntryViews.{entry_of}

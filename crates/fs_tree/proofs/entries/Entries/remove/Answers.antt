@@ -1,5 +1,5 @@
 use Rattle.std.proofs.Common.{ap, ◌∙◌, map, not}
-use Rattle.fuse_spec.specs.Trees.{same_name}
+use Rattle.fuse_spec.specs.Files.Trees.{same_name}
 use Rattle.fs_tree.specs.Stored.{without_key}
 use Rattle.fs_tree.specs.EntryViews.{entry_of}
 use Rattle.fs_tree.proofs.NameLinks.{AreLinked-removed, AreNamedOnce-where, removed-entries}

@@ -1,5 +1,5 @@
 use Rattle.std.proofs.Common.{sym, ap, ◌∙◌}
-use Rattle.fuse_spec.specs.Trees.{kind_of}
+use Rattle.fuse_spec.specs.Files.Trees.{kind_of}
 use Rattle.fs_tree.specs.Views.{content_in}
 use Rattle.fs_tree.proofs.FileRows.{get-seen}
 use Rattle.std.specs.Option.{option_map}

@@ -1,5 +1,5 @@
 use Rattle.std.proofs.Common.{◌≡◌, ◌+◌, ap, ◌∙◌, refl, Some, nat_eq}
-use Rattle.fuse_spec.specs.Trees.{Named}
+use Rattle.fuse_spec.specs.Files.Trees.{Named}
 use Rattle.fs_tree.specs.Stored.{without_serial, entries_in}
 use Rattle.fs_tree.proofs.ByDirectory.{AreByDirectory-same, AreByDirectory-added}
 use Rattle.fs_tree.proofs.BySerial.{AreOnce-push, push-undone}

@@ -1,6 +1,6 @@
 use Rattle.std.proofs.Common.{ap, ◌∙◌, find, []}
 use Rattle.std.specs.Option.{unwrap_or, option_map}
-use Rattle.fuse_spec.specs.Trees.{same_name}
+use Rattle.fuse_spec.specs.Files.Trees.{same_name}
 use Rattle.fs_tree.specs.Stored.{entries_in}
 use Rattle.fs_tree.proofs.ByDirectory.{file-in}
 use Rattle.fs_tree.proofs.names.Names.file_at.Goals as goal

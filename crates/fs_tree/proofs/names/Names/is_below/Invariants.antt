@@ -1,5 +1,5 @@
 use Rattle.std.proofs.Common.{◌≡◌, ◌-◌, length}
-use Rattle.fuse_spec.specs.Trees.{is_within}
+use Rattle.fuse_spec.specs.Files.Trees.{is_within}
 use Rattle.fs_tree.proofs.names.Names.is_below.Given as goal
 
 abbrev pub invariant-loop-step : goal.invariant-loop-step

@@ -1,5 +1,5 @@
 use Rattle.std.proofs.Common.{ap, ◌∙◌, refl, not}
-use Rattle.fuse_spec.specs.Trees.{is_at}
+use Rattle.fuse_spec.specs.Files.Trees.{is_at}
 use Rattle.fs_tree.specs.Stored.{without_serial}
 use Rattle.fs_tree.proofs.ByDirectory.{AreByDirectory-removed}
 use Rattle.fs_tree.proofs.BySerial.{without-found, AreOnce-where}

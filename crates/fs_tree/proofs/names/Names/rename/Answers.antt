@@ -1,5 +1,5 @@
 use Rattle.std.proofs.Common.{◌≡◌, ◌+◌, ap, ◌∙◌, refl, not, Some, nat_eq}
-use Rattle.fuse_spec.specs.Trees.{Named, is_at}
+use Rattle.fuse_spec.specs.Files.Trees.{Named, is_at}
 use Rattle.fs_tree.specs.Stored.{without_serial, entries_in}
 use Rattle.fs_tree.proofs.ByDirectory.{AreByDirectory-same, AreByDirectory-moved}
 use Rattle.fs_tree.proofs.BySerial.{AreOnce-moved, IsRising-without, push-undone, moved-serials}

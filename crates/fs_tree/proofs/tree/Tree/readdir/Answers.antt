@@ -1,5 +1,5 @@
 use Rattle.std.proofs.Common.{rules, ap, sym}
-use Rattle.fuse_spec.specs.Operations.{listed}
+use Rattle.fuse_spec.specs.Files.Operations.{listed}
 use Rattle.fs_tree.proofs.Leads.{names-listed}
 use Rattle.fs_tree.proofs.tree.Tree.readdir.Goals as goal
 

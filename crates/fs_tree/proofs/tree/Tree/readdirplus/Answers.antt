@@ -1,5 +1,5 @@
 use Rattle.std.proofs.Common.{rules, ap, sym}
-use Rattle.fuse_spec.specs.Operations.{listed_plus}
+use Rattle.fuse_spec.specs.Files.Operations.{listed_plus}
 use Rattle.fs_tree.proofs.Leads.{pairs-listed}
 use Rattle.fs_tree.proofs.tree.Tree.readdirplus.Goals as goal
 

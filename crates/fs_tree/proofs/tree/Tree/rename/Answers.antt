@@ -1,5 +1,5 @@
 use Rattle.std.proofs.Common.{rules, sym, ◌∙◌}
-use Rattle.fuse_spec.specs.Trees.{is_at}
+use Rattle.fuse_spec.specs.Files.Trees.{is_at}
 use Rattle.fs_tree.proofs.Keeping.{kept-moved}
 use Rattle.fs_tree.proofs.KeepsShape.{moves, renamed_is}
 use Rattle.fs_tree.proofs.tree.Tree.rename.Goals as goal

@@ -1,5 +1,5 @@
 use Rattle.std.proofs.Common.{not}
-use Rattle.fuse_spec.specs.Trees.{is_at}
+use Rattle.fuse_spec.specs.Files.Trees.{is_at}
 use Rattle.fs_tree.proofs.Keeping.{kept-where}
 use Rattle.fs_tree.proofs.KeepsShape.{unlinked}
 use Rattle.fs_tree.proofs.tree.Tree.unlink.Goals as goal

@@ -5,8 +5,8 @@ use Rattle.fk_wire.specs.Records.{records_in}
 use Rattle.fk_wire.specs.Replies.{WrittenReply}
 use Rattle.fk_wire.proofs.RecordLists.{records_are_named}
 use Rattle.fuse_spec.specs.declared.Entry.{Entry}
-use Rattle.fuse_spec.specs.Operations as reply
-use Rattle.fuse_spec.specs.Operations.{DirentPlus}
+use Rattle.fuse_spec.specs.Files.Operations as reply
+use Rattle.fuse_spec.specs.Files.Operations.{DirentPlus}
 use Rattle.fuse_frames.specs.ReplyTies.{pairs_listed}
 use Rattle.fuse_frames.proofs.ListedPairs.{listing, listing_goes, listing_exact, listing_written, listed_entries, listed_names, listed_sizes, pairs_say}
 use Rattle.fuse_frames.proofs.reply_room.ReplyRoom.listed_plus.Goals as goal

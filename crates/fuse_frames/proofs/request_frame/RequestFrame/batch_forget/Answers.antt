@@ -1,7 +1,7 @@
 use Rattle.std.proofs.Common.{ℕ, Some, List, refl, ap, ◌∙◌}
 use Rattle.fk_wire.specs.Fields.{ReadsAs}
 use Rattle.fk_wire.specs.Pairs.{pairs_in, forget_ones}
-use Rattle.fuse_spec.specs.Messages.{batch_forget}
+use Rattle.fuse_spec.specs.Kernel.Messages.{batch_forget}
 use Rattle.fuse_frames.proofs.PairLemmas.{pairs_read, is_over, pairs_over}
 use Rattle.fuse_frames.proofs.request_frame.RequestFrame.batch_forget.Goals as goal
 

@@ -1,6 +1,6 @@
 use Rattle.std.proofs.Common.{refl}
-use Rattle.fuse_spec.specs.Messages.{asks}
-use Rattle.fuse_spec.specs.Operations.{create}
+use Rattle.fuse_spec.specs.Kernel.Messages.{asks}
+use Rattle.fuse_spec.specs.Files.Operations.{create}
 use Rattle.fuse_frames.proofs.request_frame.RequestFrame.create.Goals as goal
 
 pub framed-requires : goal.framed-requires

@@ -1,5 +1,5 @@
 use Rattle.std.proofs.Common.{refl}
-use Rattle.fuse_spec.specs.Messages.{interrupt}
+use Rattle.fuse_spec.specs.Kernel.Messages.{interrupt}
 use Rattle.fuse_frames.proofs.request_frame.RequestFrame.interrupt.Goals as goal
 
 pub framed-requires : goal.framed-requires

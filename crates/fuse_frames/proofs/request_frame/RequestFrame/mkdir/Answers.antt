@@ -1,6 +1,6 @@
 use Rattle.std.proofs.Common.{refl}
-use Rattle.fuse_spec.specs.Messages.{asks}
-use Rattle.fuse_spec.specs.Operations.{mkdir}
+use Rattle.fuse_spec.specs.Kernel.Messages.{asks}
+use Rattle.fuse_spec.specs.Files.Operations.{mkdir}
 use Rattle.fuse_frames.proofs.request_frame.RequestFrame.mkdir.Goals as goal
 
 pub framed-requires : goal.framed-requires

@@ -1,5 +1,5 @@
 use Rattle.std.proofs.Common.{refl}
-use Rattle.fuse_spec.specs.Messages.{release}
+use Rattle.fuse_spec.specs.Kernel.Messages.{release}
 use Rattle.fuse_frames.proofs.request_frame.RequestFrame.release.Goals as goal
 
 pub framed-requires : goal.framed-requires

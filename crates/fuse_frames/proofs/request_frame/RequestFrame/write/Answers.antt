@@ -1,6 +1,6 @@
 use Rattle.std.proofs.Common.{refl}
-use Rattle.fuse_spec.specs.Messages.{asks}
-use Rattle.fuse_spec.specs.Operations.{write}
+use Rattle.fuse_spec.specs.Kernel.Messages.{asks}
+use Rattle.fuse_spec.specs.Files.Operations.{write}
 use Rattle.fuse_frames.proofs.request_frame.RequestFrame.write.Goals as goal
 
 pub framed-requires : goal.framed-requires

@@ -2,7 +2,7 @@ use Rattle.std.proofs.Common.{◌≡◌, ap, sym, subst, ◌∙◌, List, ℕ, N
 use Rattle.std.specs.Ordering.{nat_cmp}
 use Rattle.std.specs.FinMap.{is_sorted}
 use Rattle.std.specs.List.{insert}
-use Rattle.fuse_spec.specs.Maps.{get, put}
+use Rattle.fuse_spec.specs.Values.Maps.{get, put}
 use Rattle.fuse_tables.specs.TableState.{place_of}
 use Rattle.fuse_tables.proofs.Rows.{put_is, sorted_with}
 use Rattle.fuse_tables.proofs.table.Table.put.Goals as goal

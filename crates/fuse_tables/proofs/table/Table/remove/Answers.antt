@@ -3,7 +3,7 @@ use Rattle.std.specs.Prelude.{slice_index_or}
 use Rattle.std.specs.Ordering.{nat_cmp}
 use Rattle.std.specs.FinMap.{is_sorted}
 use Rattle.std.proofs.lemmas.Option.{get_or_from_slice_get}
-use Rattle.fuse_spec.specs.Maps.{get, remove}
+use Rattle.fuse_spec.specs.Values.Maps.{get, remove}
 use Rattle.fuse_tables.specs.TableState.{IsRowOf}
 use Rattle.fuse_tables.proofs.Rows.{value_there, absent_is, without_there, sorted_without, read_there}
 use Rattle.fuse_tables.proofs.table.Table.remove.Goals as goal

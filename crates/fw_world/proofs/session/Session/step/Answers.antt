@@ -1,4 +1,4 @@
-use Rattle.fuse_theorem.proofs.NeverMemory.{never_link_lost}
+use Rattle.fuse_theorem.proofs.RefusalCases.NeverMemory.{never_link_lost}
 use Rattle.fw_world.specs.Values.{event_of, outcome_of}
 use Rattle.fw_world.proofs.Sending.{is_out}
 use Rattle.fw_world.proofs.Stepping.{steps_over}

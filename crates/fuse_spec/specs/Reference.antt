@@ -1,0 +1,6 @@
+-- The plain world: the abstract specification.
+pub mod Plain
+pub mod PlainSteps
+pub mod PlainCalls
+pub mod PlainReplies
+pub mod PlainWords

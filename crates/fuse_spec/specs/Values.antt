@@ -1,0 +1,3 @@
+-- Finite maps, error numbers, limits.
+pub mod Maps
+pub mod Numbers

@@ -1,0 +1,21 @@
+-- System calls: how they begin, walk, are answered and end.
+pub mod OldCalls
+pub mod Walking
+pub mod Beginning
+pub mod Cases
+pub mod Hearing
+pub mod RepliesReach
+pub mod Starting
+pub mod Advancing
+pub mod Finding
+pub mod Calling
+pub mod Meaning
+pub mod CallNumbers
+pub mod CallsContinue
+pub mod AnswerSteps
+pub mod KnownWalks
+pub mod KnownReplies
+pub mod UsedFiles
+pub mod OpenSteps
+pub mod CallsEnd
+pub mod FewCalls

@@ -1,0 +1,22 @@
+-- Request numbers, and what is asked under each, from queuing to reply.
+pub mod Numbered
+pub mod PerformedRest
+pub mod QueueMoves
+pub mod PendingCounts
+pub mod StandsOnce
+pub mod RequestsSound
+pub mod NumbersStay
+pub mod AfterMount
+pub mod QueuesSound
+pub mod StillAsked
+pub mod StillAwaited
+pub mod RequestsAsked
+pub mod StayAsked
+pub mod LinksSound
+pub mod InterruptsNoted
+pub mod AfterAbort
+pub mod ReadBefore
+pub mod OnTheWay
+pub mod NewNumbers
+pub mod DrawnNumbers
+pub mod EmptyQueues

@@ -1,0 +1,53 @@
+//! Which tables a world stands on.
+
+use fk_lookup_count::{CountTable, KernelNodes, ListCounts};
+use fk_queues::{ListQueues, QueueTable, Queues};
+use fs_nodes::{ListNodes, NodeStore, NodeTable};
+use fuse_spec::Purpose;
+use std::alloc::{Allocator, Global};
+use std::marker::PhantomData;
+
+/// The tables of one kernel and one server. What a world says and proves names none of them.
+pub trait Tables {
+    /// Where their room comes from.
+    type Heap: Allocator + Copy;
+
+    /// The kernel's requests, pending and in processing, its interrupts and its forgets.
+    type Queues: QueueTable<Purpose, Heap = Self::Heap> + Drop;
+
+    /// The nodes that the kernel counts.
+    type Counts: CountTable<Heap = Self::Heap> + Drop;
+
+    /// The nodes that the server holds.
+    type Nodes: NodeStore<Heap = Self::Heap> + Drop;
+}
+
+/// Maps and slabs: a look-up by number costs the same in a small table and in a large one.
+pub struct Maps<A = Global> {
+    heap: PhantomData<A>,
+}
+
+impl<A: Allocator + Copy> Tables for Maps<A> {
+    type Heap = A;
+
+    type Queues = Queues<Purpose, A>;
+
+    type Counts = KernelNodes<A>;
+
+    type Nodes = NodeTable<A>;
+}
+
+/// Plain lists: simple to read, and slow where a table is large.
+pub struct Lists<A = Global> {
+    heap: PhantomData<A>,
+}
+
+impl<A: Allocator + Copy> Tables for Lists<A> {
+    type Heap = A;
+
+    type Queues = ListQueues<Purpose, A>;
+
+    type Counts = ListCounts<A>;
+
+    type Nodes = ListNodes<A>;
+}
