@@ -2,9 +2,12 @@
 //! over the definitions.
 #![tactic(auto)]
 
+mod asked;
 pub mod errno;
 pub mod limits;
 pub mod worked_runs;
+
+pub use asked::Operation;
 
 /// How far a request has come. The mark belongs to the request: the next request of the same call starts unread.
 #[derive(Clone, Copy, Debug, PartialEq, Eq)]
