@@ -10,7 +10,7 @@ use Rattle.fuse_spec.specs.Calls.Answers.{Answer}
 use Rattle.fk_syscalls.specs.Values.{call_of, ClosesNone}
 use Rattle.fk_syscalls.specs.declared.call.Call.{Call}
 use Rattle.fk_syscalls.specs.declared.call.Call.TheVariants.{Stat, List as Lists, ListPlus, Open, Mkdir, Create, Unlink, Rmdir, Rename, Link, Read, Write, Close}
-use Rattle.fk_kernel.proofs.Standing.{closes_none}
+use Rattle.fk_kernel.proofs.CallStates.{closes_none}
 use Rattle.fk_kernel.proofs.Phases.{none_past_end}
 use Rattle.fuse_spec.specs.declared.Opened.{Opened}
 use Rattle.fuse_spec.specs.declared.Refusal.{Refusal}

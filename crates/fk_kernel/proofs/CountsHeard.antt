@@ -18,7 +18,7 @@ use Rattle.fuse_spec.specs.Values.Numbers.{counter_end}
 use Rattle.fuse_spec.specs.Files.Operations as reply
 use Rattle.fuse_spec.specs.Files.Operations.{Operation, DirentPlus, files_in_reply, files_told}
 use Rattle.fuse_spec.specs.Kernel.QueueCalls.{waiting, without}
-use Rattle.fuse_spec.specs.Kernel.Replies.{Use, usable, useless, stale, first_use, use_of, counted_more, learnt, judged, heard, goes_with, reply_judged, use_of_reply, without_stale, reply_written}
+use Rattle.fuse_spec.specs.Kernel.Replies.{Use, usable, useless, stale, first_use, use_of, counted_more, learnt, judged, reply_received, goes_with, reply_judged, use_of_reply, without_stale, reply_written}
 use Rattle.fuse_spec.specs.Files.Trees.{pair_length}
 use Rattle.fuse_spec.specs.Calls.Vfs.{CallState, walking, doing, using, asked}
 use Rattle.fuse_spec.proofs.Tables.{get_put_here}
@@ -58,7 +58,7 @@ module _ (k : Kernel) (unique call : ℕ) (even : nat_eq (unique % 2) 1 ≡ fals
   goes_nodes wire aw =
       let ended_so : Kernel = record k { queues = without k.queues unique } in
       ap (λ (r : WriteResult × Kernel). r.1.nodes) (goes_is k unique call even waits wire aw)
-      ∙ use_nodes (heard ended_so call aw.state wire) aw.state
+      ∙ use_nodes (reply_received ended_so call aw.state wire) aw.state
       ∙ judged_nodes (without_stale ended_so wire) call aw.state (reply_judged k.nodes wire) (use_of_reply k.nodes wire)
 
   -- a body that does not go with what was asked

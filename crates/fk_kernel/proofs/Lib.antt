@@ -1,7 +1,7 @@
 pub mod Sound
 pub mod Beginnings
 pub mod Phases
-pub mod Standing
+pub mod CallStates
 pub mod Files
 pub mod Closes
 pub mod Replied

@@ -24,7 +24,7 @@ use Rattle.fuse_spec.specs.declared.InterruptReplyEffect.{InterruptReplyEffect}
 use Rattle.fuse_spec.specs.declared.InterruptReplyEffect.TheVariants.{QueuedAgain, TurnedOff, None as NoReplyEffect}
 use Rattle.fuse_spec.specs.declared.Mark.{Mark}
 use Rattle.fk_kernel.specs.Refused.{PassesEnd, WritePasses, is_past}
-use Rattle.fk_kernel.specs.Said.{Says, SaysNothing, Means, said, unsaid, wrong_body_to, IsJudged, Awaited, nothing, reply_to, awaited, awaited_by_interrupt, opcode_of}
+use Rattle.fk_kernel.specs.Said.{Says, IsNoReply, Means, said, unsaid, wrong_body_to, IsJudged, Awaited, nothing, reply_to, awaited, awaited_by_interrupt, opcode_of}
 use Rattle.fk_nodes.specs.Learning.{is_out}
 use Rattle.fk_nodes.proofs.Outs.{or_none, or_first}
 use Rattle.fk_kernel.proofs.Phases.{none_past_end, within_ends}
@@ -61,7 +61,7 @@ module _ (k : Kernel) (unique : ℕ) (bytes : List ℕ) where
       same : o ≡ p.opcode
       same = ap opcode_in p.awaits
 
-      none : SaysNothing p.opcode bytes
+      none : IsNoReply p.opcode bytes
       none wire says =
           let s = subst (λ (x : Opcode). Says x bytes wire) (sym same) says in
           true≢false (sym (p.past wire (said wire says)) ∙ each wire s)

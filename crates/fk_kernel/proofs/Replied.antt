@@ -14,7 +14,7 @@ use Rattle.fuse_spec.specs.Files.Operations as reply
 use Rattle.fuse_spec.specs.Files.Operations.{Operation, lookup, getattr, mkdir, create, unlink, rmdir, rename, link, opening, readdir, readdirplus, read, write, Dirent, DirentPlus}
 use Rattle.fuse_spec.specs.Calls.Paths.{Name}
 use Rattle.fuse_spec.specs.Kernel.QueueCalls.{waiting, without, after_forget}
-use Rattle.fuse_spec.specs.Kernel.Replies.{Use, usable, useless, stale, first_use, use_of, learnt, judged, heard, goes_with, kernel_reply, reply_written, reply_taken, replied_to_call, replied, odd_taken, write_result_of, is_empty_reply, is_init_reply, is_agreement, made_ready}
+use Rattle.fuse_spec.specs.Kernel.Replies.{Use, usable, useless, stale, first_use, use_of, learnt, judged, reply_received, goes_with, kernel_reply, reply_written, request_reply_written, replied_to_call, replied, interrupt_reply_written, write_result_of, is_empty_reply, is_init_reply, is_agreement, made_ready}
 use Rattle.fuse_spec.specs.Calls.Vfs.{Vfs, Advance, CallState, walking, doing, using, asked, answered, bound, opened_by, walks_on, no_more}
 use Rattle.fuse_spec.specs.Calls.Walks.{WalkPlan}
 use Rattle.fk_syscalls.specs.States.{StandsAt}
@@ -32,7 +32,7 @@ use Rattle.fuse_spec.specs.Files.Operations.{pair_with}
 use Rattle.fuse_spec.specs.declared.Counted.{Counted}
 use Rattle.fk_nodes.specs.Learning.{is_out, learnt_from, stale_by, judged_in}
 use Rattle.fk_nodes.proofs.Judged.{learnt_is, settled, stale_settled, dirents_kept}
-use Rattle.fk_kernel.proofs.Standing.{asked_is, stays, found_unused, done_unused}
+use Rattle.fk_kernel.proofs.CallStates.{asked_is, stays, found_unused, done_unused}
 
 -- the call is answered, and its request ends
 abbrev pub ended : Kernel → ℕ → Vfs Opened → ℕ → answer.Answer → Kernel
@@ -115,7 +115,7 @@ module _ (c : Vfs Opened) (call : ℕ) where
 
 -- a plain reply does nothing but answer
 module _ (k : Kernel) (call : ℕ) (operation : Operation ℕ Opened) (state : CallState Opened) (s : StandsAt operation state) where
-  pub plain_judged : (wire : WireReply) → IsPlain wire → goes_with operation wire ≡ true → heard k call state wire ≡ record k { vfs = answered k.vfs call (answer_by wire) }
+  pub plain_judged : (wire : WireReply) → IsPlain wire → goes_with operation wire ≡ true → reply_received k call state wire ≡ record k { vfs = answered k.vfs call (answer_by wire) }
   plain_judged (reply.failed errno) plain goes = ap (λ (a : Advance Opened). advanced k call a) (failed_answers k.vfs call errno state)
   plain_judged (reply.attributes x) plain goes = ap (λ (a : Advance Opened). advanced k call a) (attributes_answers k.vfs call x operation state s goes)
   plain_judged (reply.listed records) plain goes = ap (λ (a : Advance Opened). advanced k call a) (listed_answers k.vfs call records operation state s goes)
@@ -143,8 +143,8 @@ module _ (k : Kernel) (call : ℕ) where
 module _ (k : Kernel) (unique call : ℕ) (even : nat_eq (unique % 2) 1 ≡ false) (waits : waiting k.queues unique ≡ Some (Call call)) where
   taken : (wire : WireReply) → reply_written k unique wire ≡ replied_to_call (record k { queues = without k.queues unique }) call wire (get k.vfs.calls call)
   taken wire =
-      ap (λ (b : Bool). cond b (odd_taken k unique wire (waiting k.queues (unique - 1))) (reply_taken k unique wire (waiting k.queues unique))) even
-      ∙ ap (reply_taken k unique wire) waits
+      ap (λ (b : Bool). cond b (interrupt_reply_written k unique wire (waiting k.queues (unique - 1))) (request_reply_written k unique wire (waiting k.queues unique))) even
+      ∙ ap (request_reply_written k unique wire) waits
 
   stands : (state : CallState Opened) → get k.vfs.calls call ≡ Some state → (wire : WireReply)
       → reply_written k unique wire ≡ replied (record k { queues = without k.queues unique }) call state (goes_with (asked state) wire) wire
@@ -156,7 +156,7 @@ module _ (k : Kernel) (unique call : ℕ) (even : nat_eq (unique % 2) 1 ≡ fals
   wrong_is state at wire other = stands state at wire ∙ ap (λ (b : Bool). replied (record k { queues = without k.queues unique }) call state b wire) other
 
   pub goes_is : (wire : WireReply) (aw : Awaits (get k.vfs.calls call) wire)
-      → reply_written k unique wire ≡ (Accepted, after_use (heard (record k { queues = without k.queues unique }) call aw.state wire) aw.state)
+      → reply_written k unique wire ≡ (Accepted, after_use (reply_received (record k { queues = without k.queues unique }) call aw.state wire) aw.state)
   goes_is wire aw =
       stands aw.state aw.at wire
       ∙ ap (λ (b : Bool). replied (record k { queues = without k.queues unique }) call aw.state b wire) (ap (λ (o : Operation ℕ Opened). goes_with o wire) (asked_is aw.operation aw.state aw.stands) ∙ aw.goes)
@@ -248,8 +248,8 @@ module _ (k : Kernel) (unique call : ℕ) (even : nat_eq (unique % 2) 1 ≡ fals
 pub release_is : (k : Kernel) (unique : ℕ) (opened : Opened) → nat_eq (unique % 2) 1 ≡ false → waiting k.queues unique ≡ Some (Release opened) → (wire : WireReply)
     → reply_written k unique wire ≡ (write_result_of (is_empty_reply wire), record k { queues = without k.queues unique })
 release_is k unique opened even waits wire =
-    ap (λ (b : Bool). cond b (odd_taken k unique wire (waiting k.queues (unique - 1))) (reply_taken k unique wire (waiting k.queues unique))) even
-    ∙ ap (reply_taken k unique wire) waits
+    ap (λ (b : Bool). cond b (interrupt_reply_written k unique wire (waiting k.queues (unique - 1))) (request_reply_written k unique wire (waiting k.queues unique))) even
+    ∙ ap (request_reply_written k unique wire) waits
 
 -- INIT's reply makes the mount ready or aborts it
 module _ (k : Kernel) (unique : ℕ) (even : nat_eq (unique % 2) 1 ≡ false) (waits : waiting k.queues unique ≡ Some Init) where
@@ -258,8 +258,8 @@ module _ (k : Kernel) (unique : ℕ) (even : nat_eq (unique % 2) 1 ≡ false) (w
 
   pub init_is : (wire : WireReply) → reply_written k unique wire ≡ (write_result_of (is_init_reply wire), by_agreement wire (is_agreement wire))
   init_is wire =
-      ap (λ (b : Bool). cond b (odd_taken k unique wire (waiting k.queues (unique - 1))) (reply_taken k unique wire (waiting k.queues unique))) even
-      ∙ ap (reply_taken k unique wire) waits
+      ap (λ (b : Bool). cond b (interrupt_reply_written k unique wire (waiting k.queues (unique - 1))) (request_reply_written k unique wire (waiting k.queues unique))) even
+      ∙ ap (request_reply_written k unique wire) waits
 
   pub init_agreed : (wire : WireReply) → is_init_reply wire ≡ true → is_agreement wire ≡ true → reply_written k unique wire ≡ (Accepted, made_ready (record k { queues = without k.queues unique }) wire)
   init_agreed wire reply is = init_is wire ∙ ap (λ (b : Bool). (write_result_of b, by_agreement wire (is_agreement wire))) reply ∙ ap (λ (b : Bool). (Accepted, by_agreement wire b)) is

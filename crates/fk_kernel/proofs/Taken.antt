@@ -10,8 +10,8 @@ use Rattle.fuse_spec.specs.declared.WriteResult.TheVariants.{Accepted}
 use Rattle.fuse_spec.specs.Kernel.Kernel.{Kernel}
 use Rattle.fuse_spec.specs.Kernel.Messages.{WireReply}
 use Rattle.fuse_spec.specs.Kernel.QueueCalls.{waiting, without}
-use Rattle.fuse_spec.specs.Kernel.Replies.{reply_written, reply_taken, odd_taken, interrupt_replied}
-use Rattle.fk_kernel.specs.Said.{Says, SaysNothing, Awaited, nothing, gone, reply_to, awaited, awaited_by, awaited_by_interrupt, wrong_body, wrong_body_to, IsJudged, IsTaken}
+use Rattle.fuse_spec.specs.Kernel.Replies.{reply_written, request_reply_written, interrupt_reply_written, interrupt_replied}
+use Rattle.fk_kernel.specs.Said.{Says, IsNoReply, Awaited, nothing, gone, reply_to, awaited, awaited_by, awaited_by_interrupt, wrong_body, wrong_body_to, IsJudged, IsReplyWritten}
 
 abbrev pub opcode_in : Awaited → Opcode
 opcode_in (reply_to o) = o
@@ -25,8 +25,8 @@ module _ (k : Kernel) (unique : ℕ) where
 
     pub written_odd : (wire : WireReply) (purpose : Purpose) → waiting k.queues (unique - 1) ≡ Some purpose → reply_written k unique wire ≡ interrupt_replied k (unique - 1) wire
     written_odd wire purpose waits =
-        ap (λ (b : Bool). cond b (odd_taken k unique wire (waiting k.queues (unique - 1))) (reply_taken k unique wire (waiting k.queues unique))) odd
-        ∙ ap (odd_taken k unique wire) waits
+        ap (λ (b : Bool). cond b (interrupt_reply_written k unique wire (waiting k.queues (unique - 1))) (request_reply_written k unique wire (waiting k.queues unique))) odd
+        ∙ ap (interrupt_reply_written k unique wire) waits
 
   module _ (even : nat_eq (unique % 2) 1 ≡ false) (w : Option Purpose) (waits : waiting k.queues unique ≡ w) where
     pub awaited_even : awaited k unique ≡ awaited_by k w
@@ -34,7 +34,7 @@ module _ (k : Kernel) (unique : ℕ) where
         ap (λ (b : Bool). cond b (awaited_by_interrupt (waiting k.queues (unique - 1))) (awaited_by k (waiting k.queues unique))) even ∙ ap (awaited_by k) waits
 
 module _ (k : Kernel) (unique : ℕ) (bytes : List ℕ) (result : WriteResult) (after : Kernel) where
-  pub taken_none : IsTaken k unique bytes nothing result after
+  pub taken_none : IsReplyWritten k unique bytes nothing result after
   taken_none = record {
     kinds = tt;
     gone = λ e. cc;
@@ -42,7 +42,7 @@ module _ (k : Kernel) (unique : ℕ) (bytes : List ℕ) (result : WriteResult) (
     unsaid = λ o is e. cc;
   }
 
-  pub taken_gone : result ≡ Accepted → after ≡ record k { queues = without k.queues unique } → IsTaken k unique bytes gone result after
+  pub taken_gone : result ≡ Accepted → after ≡ record k { queues = without k.queues unique } → IsReplyWritten k unique bytes gone result after
   taken_gone accepted ends = record {
     kinds = tt;
     gone = λ e. (accepted, ends);
@@ -50,32 +50,32 @@ module _ (k : Kernel) (unique : ℕ) (bytes : List ℕ) (result : WriteResult) (
     unsaid = λ o is e. cc;
   }
 
-  pub taken_judged : (o : Opcode) → IsJudged o → ((wire : WireReply) → Says o bytes wire → reply_written k unique wire ≡ (result, after)) → (SaysNothing o bytes → reply_written k unique (wrong_body_to o) ≡ (result, after)) → IsTaken k unique bytes (reply_to o) result after
+  pub taken_judged : (o : Opcode) → IsJudged o → ((wire : WireReply) → Says o bytes wire → reply_written k unique wire ≡ (result, after)) → (IsNoReply o bytes → reply_written k unique (wrong_body_to o) ≡ (result, after)) → IsReplyWritten k unique bytes (reply_to o) result after
   taken_judged o is say none = record {
     kinds = is;
     gone = λ e. cc;
     said = λ other its e wire says. say wire (subst (λ (p : Opcode). Says p bytes wire) (sym (ap opcode_in e)) says);
-    unsaid = λ other its e nothing. ap (λ (p : Opcode). reply_written k unique (wrong_body_to p)) (sym (ap opcode_in e)) ∙ none (subst (λ (p : Opcode). SaysNothing p bytes) (sym (ap opcode_in e)) nothing);
+    unsaid = λ other its e nothing. ap (λ (p : Opcode). reply_written k unique (wrong_body_to p)) (sym (ap opcode_in e)) ∙ none (subst (λ (p : Opcode). IsNoReply p bytes) (sym (ap opcode_in e)) nothing);
   }
 
   -- a reply under an odd unique
   module _ (odd : nat_eq (unique % 2) 1 ≡ true) where
     module _ (original : ℕ) (before : original ≡ unique - 1)
         (said : is_some (waiting k.queues original) ≡ true → (wire : WireReply) → Says op.Interrupt bytes wire → interrupt_replied k original wire ≡ (result, after))
-        (unsaid : is_some (waiting k.queues original) ≡ true → SaysNothing op.Interrupt bytes → interrupt_replied k original wrong_body ≡ (result, after)) where
-      by_purpose : (w : Option Purpose) → waiting k.queues (unique - 1) ≡ w → IsTaken k unique bytes (awaited_by_interrupt w) result after
+        (unsaid : is_some (waiting k.queues original) ≡ true → IsNoReply op.Interrupt bytes → interrupt_replied k original wrong_body ≡ (result, after)) where
+      by_purpose : (w : Option Purpose) → waiting k.queues (unique - 1) ≡ w → IsReplyWritten k unique bytes (awaited_by_interrupt w) result after
       by_purpose None waits = taken_none
       by_purpose (Some purpose) waits =
           let there : is_some (waiting k.queues original) ≡ true = ap (λ (n : ℕ). is_some (waiting k.queues n)) before ∙ ap is_some waits in
           taken_judged op.Interrupt tt (λ wire says. written_odd k unique odd wire purpose waits ∙ ap (λ (n : ℕ). interrupt_replied k n wire) (sym before) ∙ said there wire says) (λ none. written_odd k unique odd wrong_body purpose waits ∙ ap (λ (n : ℕ). interrupt_replied k n wrong_body) (sym before) ∙ unsaid there none)
 
-      pub taken_odd : IsTaken k unique bytes (awaited k unique) result after
-      taken_odd = subst (λ (a : Awaited). IsTaken k unique bytes a result after) (sym (awaited_odd k unique odd)) (by_purpose (waiting k.queues (unique - 1)) refl)
+      pub taken_odd : IsReplyWritten k unique bytes (awaited k unique) result after
+      taken_odd = subst (λ (a : Awaited). IsReplyWritten k unique bytes a result after) (sym (awaited_odd k unique odd)) (by_purpose (waiting k.queues (unique - 1)) refl)
 
   -- a reply under an even unique
   module _ (even : nat_eq (unique % 2) 1 ≡ false) (w : Option Purpose) (waits : waiting k.queues unique ≡ w) where
-    pub taken_even : IsTaken k unique bytes (awaited_by k w) result after → IsTaken k unique bytes (awaited k unique) result after
-    taken_even cases = subst (λ (a : Awaited). IsTaken k unique bytes a result after) (sym (awaited_even k unique even w waits)) cases
+    pub taken_even : IsReplyWritten k unique bytes (awaited_by k w) result after → IsReplyWritten k unique bytes (awaited k unique) result after
+    taken_even cases = subst (λ (a : Awaited). IsReplyWritten k unique bytes a result after) (sym (awaited_even k unique even w waits)) cases
 
 pub odd_test : (u v : ℕ) → u ≡ v → u % 2 ≡ 1 → nat_eq (v % 2) 1 ≡ true
 odd_test u v same odd = subst (λ (n : ℕ). nat_eq (n % 2) 1 ≡ true) same (elim (eqb_tells (u % 2) 1) [ inl h ↦ h.0 | inr h ↦ absurd (h.1 odd) ])

@@ -24,7 +24,7 @@ use Rattle.fk_said.specs.ReplySaid.{wire_of}
 use Rattle.fk_said.specs.declared.reply_said.ReplySaid.{ReplySaid}
 use Rattle.fk_said.specs.declared.reply_said.ReplySaid.TheVariants as said
 use Rattle.fk_kernel.proofs.Phases.{none_past_end, within_ends}
-use Rattle.fk_kernel.proofs.Standing.{LooksNone, makes_found}
+use Rattle.fk_kernel.proofs.CallStates.{LooksNone, makes_found}
 use Rattle.fk_kernel.proofs.Walking.{asks_within, walk_numbers}
 use Rattle.fk_kernel.proofs.Replied.{ended, answer_by, IsPlain, plain_is, done_is, wrong_is, found_useless, found_stale, made_found, lookup_missing, made_missing, create_useless, create_stale, create_made, open_done, list_done}
 

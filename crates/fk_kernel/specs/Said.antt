@@ -14,7 +14,7 @@ use Rattle.fuse_spec.specs.Kernel.Replies.{reply_written}
 use Rattle.fuse_spec.specs.declared.WriteResult.{WriteResult}
 use Rattle.fuse_spec.specs.declared.WriteResult.TheVariants.{Accepted}
 use Rattle.fuse_spec.specs.Kernel.Kernel.{Kernel}
-pub use Rattle.fk_said.specs.Said.{Says, SaysNothing, HasReplyHead, head_unique, opcode_of}
+pub use Rattle.fk_said.specs.Said.{Says, IsNoReply, HasReplyHead, head_unique, opcode_of}
 
 -- What awaits a reply under a unique: no request, that of a call which is not unanswered, or a request of an opcode.
 pub data Awaited : Type 0 where
@@ -51,7 +51,7 @@ wrong_body_to o = wrong_body
 -- The bytes say this, or they say nothing, which is taken as a body that is no reply to the request.
 pub data Means (o : Opcode) (bytes : List ℕ) : WireReply → Type 0 where
   said : (wire : WireReply) → Says o bytes wire → Means o bytes wire
-  unsaid : SaysNothing o bytes → Means o bytes (wrong_body_to o)
+  unsaid : IsNoReply o bytes → Means o bytes (wrong_body_to o)
 
 -- The kinds of request whose replies are judged: all that the kernel sends and that await a reply.
 abbrev pub IsJudged : Opcode → Type 0
@@ -66,9 +66,9 @@ IsAwaited gone = Unit {0}
 IsAwaited (reply_to o) = IsJudged o
 
 -- What becomes of a reply with a head, by what awaits it.
-pub record IsTaken (k : Kernel) (unique : ℕ) (bytes : List ℕ) (awaits : Awaited) (result : WriteResult) (after : Kernel) : Type 0 where
+pub record IsReplyWritten (k : Kernel) (unique : ℕ) (bytes : List ℕ) (awaits : Awaited) (result : WriteResult) (after : Kernel) : Type 0 where
   pub kinds : IsAwaited awaits
   -- the call is not unanswered: the request just ends
   pub gone : awaits ≡ gone → (result ≡ Accepted) × (after ≡ record k { queues = without k.queues unique })
   pub said : (o : Opcode) → IsJudged o → awaits ≡ reply_to o → (wire : WireReply) → Says o bytes wire → reply_written k unique wire ≡ (result, after)
-  pub unsaid : (o : Opcode) → IsJudged o → awaits ≡ reply_to o → SaysNothing o bytes → reply_written k unique (wrong_body_to o) ≡ (result, after)
+  pub unsaid : (o : Opcode) → IsJudged o → awaits ≡ reply_to o → IsNoReply o bytes → reply_written k unique (wrong_body_to o) ≡ (result, after)

@@ -10,7 +10,7 @@ ghost use Rattle.fk_kernel.specs.Entries.{Awaits, EndsWithin, IsFew, nodes_heard
 ghost use Rattle.fk_nodes.specs.Learning.{is_out};
 ghost use Rattle.fk_kernel.specs.Refused.{IsWriteRefusal, PassesEnd, is_past_end};
 ghost use Rattle.fk_said.specs.ReplySaid.{wire_of, LastsADay};
-ghost use Rattle.fk_kernel.specs.Said.{Says, SaysNothing, awaited_by_call, wrong_body, IsTaken};
+ghost use Rattle.fk_kernel.specs.Said.{Says, IsNoReply, awaited_by_call, wrong_body, IsReplyWritten};
 ghost use Rattle.fk_wire.specs.Records.{records_in};
 ghost use Rattle.fuse_frames.specs.ReplyTies.{dirent_in};
 ghost use Rattle.fuse_spec.specs.Kernel.Messages.{WireReply};
@@ -40,7 +40,7 @@ impl<Q: QueueTable<Purpose> + Drop, C: CountTable<Heap = Q::Heap> + Drop> Kernel
         ensures err { OnErr result (self.new ≡ self.old) }
         ensures refusal { IfErr result (IsWriteRefusal self.old unique bytes.now (awaited_by_call (get self.old.vfs.calls call))) }
         ensures memory { IfErr result (λ refusal. refusal ≡ Refusal.NoMemory → PassesEnd self.old unique bytes.now (awaited_by_call (get self.old.vfs.calls call)) → ⊥) }
-        ensures taken { IfOk result (λ written. IsTaken self.old unique bytes.now (awaited_by_call (get self.old.vfs.calls call)) written self.new) }
+        ensures taken { IfOk result (λ written. IsReplyWritten self.old unique bytes.now (awaited_by_call (get self.old.vfs.calls call)) written self.new) }
     {
         let Some(waiting) = self.calls.get(call) else {
             let _kept = self.queues.answer(unique);
@@ -179,7 +179,7 @@ impl<Q: QueueTable<Purpose> + Drop, C: CountTable<Heap = Q::Heap> + Drop> Kernel
         requires even { nat_eq (unique % 2) 1 ≡ false }
         requires waits { (opened : OpenedFile) × (waiting self.old.queues unique ≡ Some (Purpose.Release opened)) }
         ensures said { (wire : WireReply) → Says Opcode.Release bytes.now wire → reply_written self.old unique wire ≡ (result, self.new) }
-        ensures unsaid { SaysNothing Opcode.Release bytes.now → reply_written self.old unique wrong_body ≡ (result, self.new) }
+        ensures unsaid { IsNoReply Opcode.Release bytes.now → reply_written self.old unique wrong_body ≡ (result, self.new) }
     {
         let _kept = self.queues.answer(unique);
         let Ok(_) = read_reply(Opcode::Release, bytes) else {

@@ -3,7 +3,7 @@
 ghost use Rattle.std.specs.Prelude.{◌≡◌, ◌%◌, Some, None, Ok, OnErr, IfOk, IfErr, true, false, is_some, nat_eq};
 ghost use Rattle.fuse_spec.specs.Kernel.Messages.{WireReply};
 ghost use Rattle.fuse_spec.specs.Kernel.Replies.{reply_written, interrupt_reply_of, interrupt_replied};
-ghost use Rattle.fk_kernel.specs.Said.{Says, SaysNothing, HasReplyHead, head_unique, awaited, nothing, wrong_body, wrong_body_to, IsTaken};
+ghost use Rattle.fk_kernel.specs.Said.{Says, IsNoReply, HasReplyHead, head_unique, awaited, nothing, wrong_body, wrong_body_to, IsReplyWritten};
 ghost use Rattle.fk_kernel.specs.Refused.{WriteRefused, WritePasses};
 ghost use Rattle.fuse_spec.specs.Kernel.QueueCalls.{after_interrupt_reply, waiting};
 
@@ -28,7 +28,7 @@ impl<Q: QueueTable<Purpose> + Drop, C: CountTable<Heap = Q::Heap> + Drop> Kernel
         ensures memory { IfErr result (λ refusal. refusal ≡ Refusal.NoMemory → WritePasses self.old bytes.now → ⊥) }
         ensures headless { (HasReplyHead bytes.now → ⊥) → (result ≡ Ok WriteResult.Invalid) × (self.new ≡ self.old) }
         ensures unawaited { HasReplyHead bytes.now → awaited self.old (head_unique bytes.now) ≡ nothing → (result ≡ Ok WriteResult.NoEntry) × (self.new ≡ self.old) }
-        ensures taken { HasReplyHead bytes.now → IfOk result (λ written. IsTaken self.old (head_unique bytes.now) bytes.now (awaited self.old (head_unique bytes.now)) written self.new) }
+        ensures taken { HasReplyHead bytes.now → IfOk result (λ written. IsReplyWritten self.old (head_unique bytes.now) bytes.now (awaited self.old (head_unique bytes.now)) written self.new) }
     {
         let Ok((_, unique)) = read_reply_head(bytes) else {
             return Ok(WriteResult::Invalid);
@@ -50,7 +50,7 @@ impl<Q: QueueTable<Purpose> + Drop, C: CountTable<Heap = Q::Heap> + Drop> Kernel
     fn write_to_interrupt(&mut self, original: u64, bytes: &[u8]) -> WriteResult
         ensures unawaited { waiting self.old.queues original ≡ None → (result ≡ WriteResult.NoEntry) × (self.new ≡ self.old) }
         ensures said { is_some (waiting self.old.queues original) ≡ true → (wire : WireReply) → Says Opcode.Interrupt bytes.now wire → interrupt_replied self.old original wire ≡ (result, self.new) }
-        ensures unsaid { is_some (waiting self.old.queues original) ≡ true → SaysNothing Opcode.Interrupt bytes.now → interrupt_replied self.old original wrong_body ≡ (result, self.new) }
+        ensures unsaid { is_some (waiting self.old.queues original) ≡ true → IsNoReply Opcode.Interrupt bytes.now → interrupt_replied self.old original wrong_body ≡ (result, self.new) }
     {
         if self.queues.waiting(original).is_none() {
             return WriteResult::NoEntry;
@@ -83,7 +83,7 @@ impl<Q: QueueTable<Purpose> + Drop, C: CountTable<Heap = Q::Heap> + Drop> Kernel
         requires even { nat_eq (unique % 2) 1 ≡ false }
         requires waits { waiting self.old.queues unique ≡ Some Purpose.Init }
         ensures said { (wire : WireReply) → Says Opcode.Init bytes.now wire → reply_written self.old unique wire ≡ (result, self.new) }
-        ensures unsaid { SaysNothing Opcode.Init bytes.now → reply_written self.old unique (wrong_body_to Opcode.Init) ≡ (result, self.new) }
+        ensures unsaid { IsNoReply Opcode.Init bytes.now → reply_written self.old unique (wrong_body_to Opcode.Init) ≡ (result, self.new) }
     {
         let Some(said) = said_to_init(bytes) else {
             self.give_up();

@@ -13,14 +13,14 @@ use Rattle.fuse_frames.specs.ReplyTies.{wire_said}
 use Rattle.fuse_spec.specs.Kernel.Replies.{is_init_reply}
 use Rattle.fk_said.specs.declared.said.InitSaid.{InitSaid}
 use Rattle.fk_said.specs.declared.said.InitSaid.TheVariants as init_said
-use Rattle.fk_said.specs.Said.{Says, SaysNothing, init_wire}
+use Rattle.fk_said.specs.Said.{Says, IsNoReply, init_wire}
 
 -- an error in range is read as itself
 pub same_error : (z : ℤ) → IsErrorNumber z → cast_signed w32 (cast_unsigned w32 z) ≡ z
 same_error z p = to_z-of_z w32 z (error_fits z p)
 
 -- Where nothing was read nothing is said.
-pub says_nothing : (o : Opcode) (bytes : List ℕ) (r : Result Reply WireFault) (f : WireFault) → r ≡ Err f → ((t : ReplyMessage) → SpellsReply o bytes t → IsOkAnd r (λ v. reply_message v ≡ t)) → SaysNothing o bytes
+pub says_nothing : (o : Opcode) (bytes : List ℕ) (r : Result Reply WireFault) (f : WireFault) → r ≡ Err f → ((t : ReplyMessage) → SpellsReply o bytes t → IsOkAnd r (λ v. reply_message v ≡ t)) → IsNoReply o bytes
 says_nothing o bytes r f e only wire h =
     let there : IsOkAnd r (λ v. reply_message v ≡ h.says.message) = only h.says.message h.says.spells in
     rw e at there

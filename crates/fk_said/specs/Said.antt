@@ -30,8 +30,8 @@ pub record Says (o : Opcode) (bytes : List ℕ) (wire : WireReply) : Type 0 wher
   pub says : SaysReply o bytes unique wire
 
 -- They are no reply to a request of this opcode.
-abbrev pub SaysNothing : Opcode → List ℕ → Type 0
-SaysNothing o bytes = (wire : WireReply) → Says o bytes wire → ⊥
+abbrev pub IsNoReply : Opcode → List ℕ → Type 0
+IsNoReply o bytes = (wire : WireReply) → Says o bytes wire → ⊥
 
 -- What was made out of a reply to INIT, as it was said.
 abbrev pub init_wire : InitSaid → WireReply

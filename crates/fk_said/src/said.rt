@@ -7,7 +7,7 @@ ghost use Rattle.fuse_spec.specs.Kernel.Messages.{WireReply};
 ghost use Rattle.fuse_spec.specs.Files.Operations as reply;
 ghost use Rattle.fuse_frames.specs.ReplyTies.{wire_said};
 ghost use Rattle.fuse_spec.specs.Kernel.Replies.{is_agreement, minor_agreed, files_agreed};
-ghost use Rattle.fk_said.specs.Said.{Says, SaysNothing, SaysToInit, SaysToInterrupt, init_wire};
+ghost use Rattle.fk_said.specs.Said.{Says, IsNoReply, SaysToInit, SaysToInterrupt, init_wire};
 
 use bitflags::Flags;
 use fk_wire::{InitFlags, Opcode, ReplyBody, read_reply};
@@ -80,7 +80,7 @@ pub fn files_agreed(said: &InitSaid) -> bool
 
 /// What the bytes say to INIT, if they are a reply to it.
 pub fn said_to_init(bytes: &[u8]) -> Option<InitSaid>
-    ensures { MatchOption result (SaysNothing op.Init bytes.now) (SaysToInit bytes.now) }
+    ensures { MatchOption result (IsNoReply op.Init bytes.now) (SaysToInit bytes.now) }
 {
     let Ok(reply) = read_reply(Opcode::Init, bytes) else {
         return None;
@@ -105,7 +105,7 @@ pub fn said_to_init(bytes: &[u8]) -> Option<InitSaid>
 
 /// What the bytes say to an INTERRUPT, if they are a reply to it.
 pub fn said_to_interrupt(bytes: &[u8]) -> Option<InterruptSaid>
-    ensures { MatchOption result (SaysNothing op.Interrupt bytes.now) (SaysToInterrupt bytes.now) }
+    ensures { MatchOption result (IsNoReply op.Interrupt bytes.now) (SaysToInterrupt bytes.now) }
 {
     let Ok(reply) = read_reply(Opcode::Interrupt, bytes) else {
         return None;

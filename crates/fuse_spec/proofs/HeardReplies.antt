@@ -6,14 +6,14 @@ use Rattle.fuse_spec.specs.Kernel.Kernel.{Kernel}
 use Rattle.fuse_spec.specs.Kernel.Messages.{WireReply}
 use Rattle.fuse_spec.specs.Files.Operations.{DirentPlus, found, missing, created, opened, attributes, listed, listed_plus, content, written, agreed, done, failed, files_in_reply}
 use Rattle.fuse_spec.specs.declared.Entry.{Entry}
-use Rattle.fuse_spec.specs.Kernel.Replies.{heard, judged, use_of_all}
+use Rattle.fuse_spec.specs.Kernel.Replies.{reply_received, judged, use_of_all}
 use Rattle.fuse_spec.specs.Calls.Vfs.{CallState}
 
 -- The reply isn't a list with files.
 abbrev pub IsNoListPlus : WireReply → Type 0
 IsNoListPlus wire = (pairs : List (DirentPlus Entry)) → wire ≡ listed_plus pairs → ⊥
 
-pub heard_together : (k : Kernel) (call : ℕ) (state : CallState Opened) (wire : WireReply) → IsNoListPlus wire → heard k call state wire ≡ judged k call state wire (use_of_all k.nodes (files_in_reply wire))
+pub heard_together : (k : Kernel) (call : ℕ) (state : CallState Opened) (wire : WireReply) → IsNoListPlus wire → reply_received k call state wire ≡ judged k call state wire (use_of_all k.nodes (files_in_reply wire))
 heard_together k call state (listed_plus pairs) other = absurd (other pairs refl)
 heard_together k call state (found g valid) other = refl
 heard_together k call state (missing valid) other = refl

@@ -3,7 +3,7 @@ pub mod OldCalls
 pub mod Walking
 pub mod Beginning
 pub mod Cases
-pub mod Hearing
+pub mod RepliesReceived
 pub mod RepliesReach
 pub mod Starting
 pub mod Advancing

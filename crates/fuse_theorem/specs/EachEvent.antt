@@ -57,15 +57,15 @@ pub data CanServe (choice : ℕ → ℕ) (w : World) (p : Plain) (unique : ℕ) 
       → HoldsOpens (record w { server = record w.server { held = remove w.server.held unique } }) (handle_back w.server.handles o.fh) → CanServe choice w p unique t
 
 -- A copy that the kernel can take: what awaits it, if anything, and that it says what that came to.
-pub data CanHear (w : World) (p : Plain) (sent : Sent) : Type 0 where
-  nothing : awaiting w.kernel sent.unique ≡ None → CanHear w p sent
-  of_interrupt : (kept : Purpose) → IsNumbered w → is_live w.kernel.phase ≡ true → nat_eq (sent.unique % 2) 1 ≡ true → waiting w.kernel.queues (sent.unique - 1) ≡ Some kept → CanHear w p sent
-  of_release : (o : Opened) → IsNumbered w → is_live w.kernel.phase ≡ true → nat_eq (sent.unique % 2) 1 ≡ false → waiting w.kernel.queues sent.unique ≡ Some (Release o) → CanHear w p sent
-  of_init : IsNumbered w → is_live w.kernel.phase ≡ true → nat_eq (sent.unique % 2) 1 ≡ false → waiting w.kernel.queues sent.unique ≡ Some Init → sent.wire ≡ init_reply w.server.minor init_flags → CanHear w p sent
+pub data CanReceive (w : World) (p : Plain) (sent : Sent) : Type 0 where
+  nothing : awaiting w.kernel sent.unique ≡ None → CanReceive w p sent
+  of_interrupt : (kept : Purpose) → IsNumbered w → is_live w.kernel.phase ≡ true → nat_eq (sent.unique % 2) 1 ≡ true → waiting w.kernel.queues (sent.unique - 1) ≡ Some kept → CanReceive w p sent
+  of_release : (o : Opened) → IsNumbered w → is_live w.kernel.phase ≡ true → nat_eq (sent.unique % 2) 1 ≡ false → waiting w.kernel.queues sent.unique ≡ Some (Release o) → CanReceive w p sent
+  of_init : IsNumbered w → is_live w.kernel.phase ≡ true → nat_eq (sent.unique % 2) 1 ≡ false → waiting w.kernel.queues sent.unique ≡ Some Init → sent.wire ≡ init_reply w.server.minor init_flags → CanReceive w p sent
   of_call : (call : ℕ) (state : CallState Opened) (reply : Reply ℕ ℕ) → IsNumbered w → OneId w.server.nodes → is_live w.kernel.phase ≡ true → nat_eq (sent.unique % 2) 1 ≡ false → waiting w.kernel.queues sent.unique ≡ Some (Call call)
-      → IsReply w p sent call state reply → CanHear w p sent
+      → IsReply w p sent call state reply → CanReceive w p sent
   of_declined : (call : ℕ) (state : CallState Opened) → IsNumbered w → OneId w.server.nodes → is_live w.kernel.phase ≡ true → nat_eq (sent.unique % 2) 1 ≡ false → waiting w.kernel.queues sent.unique ≡ Some (Call call) → IsDeclined w p sent call state
-      → CanHear w p sent
+      → CanReceive w p sent
 
 -- With what is given back as a copy is settled, the server still holds what is known, held and on its way.
 abbrev pub CanSettle : World → ℕ → ReplyResult → Copy → Type 0
@@ -80,7 +80,7 @@ Needs choice w p (event.read_pending k) = IsSound w.kernel.queues
 Needs choice w p (event.take k) = (r : Request) → slice_get w.requests k ≡ Some r → CanTake w p k r r.body
 Needs choice w p (event.perform unique) = (t : HeldRequest) → get w.server.held unique ≡ Some t → CanServe choice w p unique t
 Needs choice w p (event.again unique) = OneId w.server.nodes × KnownAreHeld w
-Needs choice w p (event.write k) = (sent : Sent) → slice_get w.replies k ≡ Some sent → CanHear w p sent
+Needs choice w p (event.write k) = (sent : Sent) → slice_get w.replies k ≡ Some sent → CanReceive w p sent
 Needs choice w p (event.settle k) = OneId w.server.nodes × ((result : ReplyResult) (copy : Copy) → slice_get w.results k ≡ Some result → get w.server.copies result.number ≡ Some copy → CanSettle w k result copy)
 Needs choice w p (event.intr call fatal) = IsNumberedWhileLive w × (OneId w.server.nodes × UnreadAreUnsent w)
 Needs choice w p (event.tick ms) = Unit {0}

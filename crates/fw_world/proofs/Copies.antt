@@ -26,12 +26,12 @@ use Rattle.fuse_spec.specs.Kernel.QueueCalls.{waiting}
 use Rattle.fuse_spec.specs.Kernel.Kernel.{Kernel, is_live}
 use Rattle.fuse_spec.specs.World.Events as event
 use Rattle.fuse_spec.specs.World.Steps.{is_past, RefusedWith}
-use Rattle.fuse_spec.specs.Kernel.Replies.{reply_written, reply_taken, odd_taken, goes_with, is_init_reply, is_empty_reply}
+use Rattle.fuse_spec.specs.Kernel.Replies.{reply_written, request_reply_written, interrupt_reply_written, goes_with, is_init_reply, is_empty_reply}
 use Rattle.fuse_spec.specs.Calls.Vfs.{CallState, asked}
 use Rattle.fuse_spec.specs.World.Worlds.{World, Sent, after_write}
 use Rattle.fuse_frames.specs.ReplyTies.{SaysReply}
 use Rattle.fuse_frames.specs.RequestTies.{asked_opcode}
-use Rattle.fuse_theorem.specs.EachEvent.{CanHear}
+use Rattle.fuse_theorem.specs.EachEvent.{CanReceive}
 use Rattle.fuse_theorem.specs.EachEvent as each
 use Rattle.fuse_theorem.specs.Conditions.{awaiting}
 use Rattle.fuse_theorem.specs.Reached.{IsReached}
@@ -40,7 +40,7 @@ use Rattle.fuse_theorem.proofs.Answers.Answered.{waiting_is}
 use Rattle.fuse_theorem.proofs.Calls.Finding.{All-found}
 use Rattle.fuse_theorem.proofs.Refining.Queuing.{All-at}
 use Rattle.fuse_theorem.proofs.Replies.WriteNeeds.{write_met}
-use Rattle.fk_kernel.specs.Said.{Says, HasReplyHead, head_unique, Awaited, reply_to, awaited, awaited_by, awaited_by_call, awaited_by_interrupt, opcode_of, IsTaken, IsAwaited, IsJudged, Means}
+use Rattle.fk_kernel.specs.Said.{Says, HasReplyHead, head_unique, Awaited, reply_to, awaited, awaited_by, awaited_by_call, awaited_by_interrupt, opcode_of, IsReplyWritten, IsAwaited, IsJudged, Means}
 use Rattle.fk_kernel.specs.Said.{said as means_said}
 use Rattle.fk_kernel.specs.Said as said
 use Rattle.std.specs.Option.{unwrap_or}
@@ -106,8 +106,8 @@ module _ (k : Kernel) (unique : ℕ) where
   awaits_none wire none = by (nat_eq (unique % 2) 1) refl none
     where
       by : (b : Bool) → nat_eq (unique % 2) 1 ≡ b → cond b (waiting k.queues (unique - 1)) (waiting k.queues unique) ≡ None → (awaited k unique ≡ said.nothing) × (reply_written k unique wire ≡ (NoEntry, k))
-      by true odd is = (awaits_odd None odd is, ap (λ (b : Bool). cond b (odd_taken k unique wire (waiting k.queues (unique - 1))) (reply_taken k unique wire (waiting k.queues unique))) odd ∙ ap (odd_taken k unique wire) is)
-      by false even is = (awaits_even None even is, ap (λ (b : Bool). cond b (odd_taken k unique wire (waiting k.queues (unique - 1))) (reply_taken k unique wire (waiting k.queues unique))) even ∙ ap (reply_taken k unique wire) is)
+      by true odd is = (awaits_odd None odd is, ap (λ (b : Bool). cond b (interrupt_reply_written k unique wire (waiting k.queues (unique - 1))) (request_reply_written k unique wire (waiting k.queues unique))) odd ∙ ap (interrupt_reply_written k unique wire) is)
+      by false even is = (awaits_even None even is, ap (λ (b : Bool). cond b (interrupt_reply_written k unique wire (waiting k.queues (unique - 1))) (request_reply_written k unique wire (waiting k.queues unique))) even ∙ ap (request_reply_written k unique wire) is)
 
 -- A copy that stands on the reply link, in its frame.
 module _ (w : World) (here : IsReached w) (place : ℕ) (sent : Sent) (found : slice_get w.replies place ≡ Some sent) (bytes : List ℕ)
@@ -124,7 +124,7 @@ module _ (w : World) (here : IsReached w) (place : ℕ) (sent : Sent) (found : s
   says : (o : Opcode) (wire : WireReply) → sent.wire ≡ wire → SaysReply o bytes sent.unique sent.wire → Says o bytes wire
   says o wire is h = record { unique = sent.unique; says = subst (λ (x : WireReply). SaysReply o bytes sent.unique x) is h }
 
-  can_hear : CanHear w here.plain sent
+  can_hear : CanReceive w here.plain sent
   can_hear =
       let both = here.sound.both in
       write_met (λ n. n) w here.plain both.world both.asked both.links both.served both.alike place sent found
@@ -170,7 +170,7 @@ module _ (w : World) (here : IsReached w) (place : ℕ) (sent : Sent) (found : s
       let same : reply_to other ≡ reply_to o = sym it.0 ∙ awaits in
       subst (λ (x : Opcode). Says x bytes sent.wire) (cc same) it.1
 
-  heard_by : CanHear w here.plain sent → (o : Opcode) → IsJudged o → awaited w.kernel sent.unique ≡ reply_to o → Says o bytes sent.wire
+  heard_by : CanReceive w here.plain sent → (o : Opcode) → IsJudged o → awaited w.kernel sent.unique ≡ reply_to o → Says o bytes sent.wire
   heard_by (each.nothing e) o judged awaits =
       let none = awaits_none w.kernel sent.unique sent.wire e in
       let no : said.nothing ≡ reply_to o = sym none.0 ∙ awaits in
@@ -185,9 +185,9 @@ module _ (w : World) (here : IsReached w) (place : ℕ) (sent : Sent) (found : s
   -- ---- what the kernel made of its bytes
   module _ (written : WriteResult) (new : Kernel)
       (unawaited : HasReplyHead bytes → awaited w.kernel (head_unique bytes) ≡ said.nothing → (written ≡ NoEntry) × (new ≡ w.kernel))
-      (taken : HasReplyHead bytes → IsTaken w.kernel (head_unique bytes) bytes (awaited w.kernel (head_unique bytes)) written new) where
-    taken_so : IsTaken w.kernel sent.unique bytes (awaited w.kernel sent.unique) written new
-    taken_so = subst (λ (u : ℕ). IsTaken w.kernel u bytes (awaited w.kernel u) written new) head.1 (taken head.0)
+      (taken : HasReplyHead bytes → IsReplyWritten w.kernel (head_unique bytes) bytes (awaited w.kernel (head_unique bytes)) written new) where
+    taken_so : IsReplyWritten w.kernel sent.unique bytes (awaited w.kernel sent.unique) written new
+    taken_so = subst (λ (u : ℕ). IsReplyWritten w.kernel u bytes (awaited w.kernel u) written new) head.1 (taken head.0)
 
     unawaited_so : awaited w.kernel sent.unique ≡ said.nothing → (written ≡ NoEntry) × (new ≡ w.kernel)
     unawaited_so none = unawaited head.0 (ap (awaited w.kernel) head.1 ∙ none)
@@ -198,7 +198,7 @@ module _ (w : World) (here : IsReached w) (place : ℕ) (sent : Sent) (found : s
     of_call : (state : CallState Opened) → SaysTo (opcode_of (asked state)) → reply_written w.kernel sent.unique sent.wire ≡ (written, new)
     of_call state it = let o = opcode_of (asked state) in taken_so.said o (is_judged (asked state) (kinds_of (reply_to o) it.0)) it.0 sent.wire it.1
 
-    by : CanHear w here.plain sent → reply_written w.kernel sent.unique sent.wire ≡ (written, new)
+    by : CanReceive w here.plain sent → reply_written w.kernel sent.unique sent.wire ≡ (written, new)
     by (each.nothing e) =
         let none = awaits_none w.kernel sent.unique sent.wire e in
         let so = unawaited_so none.0 in
@@ -237,7 +237,7 @@ module _ (w : World) (here : IsReached w) (place : ℕ) (sent : Sent) (found : s
       said_past : (o : Opcode) → IsJudged o → (awaited w.kernel sent.unique ≡ reply_to o) × Says o bytes sent.wire → PassesEnd w.kernel sent.unique bytes (awaited w.kernel sent.unique)
       said_past o judged it = subst (PassesEnd w.kernel sent.unique bytes) (sym it.0) (passes w.kernel sent.unique bytes o judged sent.wire it.1 past)
 
-      by : CanHear w here.plain sent → PassesEnd w.kernel sent.unique bytes (awaited w.kernel sent.unique)
+      by : CanReceive w here.plain sent → PassesEnd w.kernel sent.unique bytes (awaited w.kernel sent.unique)
       by (each.nothing e) =
           let none = awaits_none w.kernel sent.unique sent.wire e in
           absurd (true≢false (sym past ∙ ap (λ (took : WriteResult × Kernel). kernel.is_past took.1) none.1 ∙ low))

@@ -189,13 +189,13 @@ abbrev pub without_stale : Kernel → WireReply → Kernel
 without_stale k wire = record k { queues = each_forgotten k.queues (stale_in_reply k.nodes wire) }
 
 -- A reply that goes with what the call asked reaches the call.
-abbrev pub heard : Kernel → ℕ → CallState Opened → WireReply → Kernel
-heard k call state wire = judged (without_stale k wire) call state (reply_judged k.nodes wire) (use_of_reply k.nodes wire)
+abbrev pub reply_received : Kernel → ℕ → CallState Opened → WireReply → Kernel
+reply_received k call state wire = judged (without_stale k wire) call state (reply_judged k.nodes wire) (use_of_reply k.nodes wire)
 
 -- The reply to the call's request: its body goes with the request and is accepted, or is a wrong body, which is EINVAL to the writer and EIO to the call.
 -- (Linux VFS)
 abbrev pub replied : Kernel → ℕ → CallState Opened → Bool → WireReply → WriteResult × Kernel
-replied k call state true wire = (Accepted, after_use (heard k call state wire) state)
+replied k call state true wire = (Accepted, after_use (reply_received k call state wire) state)
 replied k call state false wire = (Invalid, after_use (record k { vfs = answered k.vfs call (answer.failed eio) }) state)
 
 -- The reply to a call's request reaches the call, if that is still unanswered. (Linux VFS)
@@ -215,9 +215,9 @@ ended_by k (purpose.Release o) wire = (write_result_of (is_empty_reply wire), k)
 ended_by k (purpose.Call call) wire = replied_to_call k call wire (get k.vfs.calls call)
 
 -- A reply under the unique of a request that was read and is unanswered, or of none, which is ENOENT to the writer. (Linux VFS)
-abbrev pub reply_taken : Kernel → ℕ → WireReply → Option Purpose → WriteResult × Kernel
-reply_taken k unique wire None = (NoEntry, k)
-reply_taken k unique wire (Some purpose) = ended_by (record k { queues = without k.queues unique }) purpose wire
+abbrev pub request_reply_written : Kernel → ℕ → WireReply → Option Purpose → WriteResult × Kernel
+request_reply_written k unique wire None = (NoEntry, k)
+request_reply_written k unique wire (Some purpose) = ended_by (record k { queues = without k.queues unique }) purpose wire
 
 -- What a reply to an INTERRUPT says by its error: EAGAIN, ENOSYS, or anything else. (fuse.rst)
 abbrev pub interrupt_reply_of : ℕ → InterruptReply
@@ -230,12 +230,12 @@ interrupt_replied k original done = (Accepted, k)
 interrupt_replied k original wire = (Invalid, k)
 
 -- A reply to an INTERRUPT counts while its original is read and unanswered; after that it is ENOENT to the writer. (fuse.rst)
-abbrev pub odd_taken : Kernel → ℕ → WireReply → Option Purpose → WriteResult × Kernel
-odd_taken k unique wire None = (NoEntry, k)
-odd_taken k unique wire (Some purpose) = interrupt_replied k (unique - 1) wire
+abbrev pub interrupt_reply_written : Kernel → ℕ → WireReply → Option Purpose → WriteResult × Kernel
+interrupt_reply_written k unique wire None = (NoEntry, k)
+interrupt_reply_written k unique wire (Some purpose) = interrupt_replied k (unique - 1) wire
 
 -- The kernel takes what a reply says under this unique: an even one is looked for among the requests in processing, an odd one is that of an INTERRUPT.
 -- (fuse.rst)
 abbrev pub reply_written : Kernel → ℕ → WireReply → WriteResult × Kernel
 reply_written k unique wire =
-    cond (nat_eq (unique % 2) 1) (odd_taken k unique wire (waiting k.queues (unique - 1))) (reply_taken k unique wire (waiting k.queues unique))
+    cond (nat_eq (unique % 2) 1) (interrupt_reply_written k unique wire (waiting k.queues (unique - 1))) (request_reply_written k unique wire (waiting k.queues unique))

@@ -186,12 +186,12 @@ is_found_or_not (op.failed errno) = true
 is_found_or_not reply = false
 
 -- A reply reaches the call, which stands here: where that leaves the calls, and what it asks next. (Linux VFS)
-pub data Hears (c : Vfs ℕ) (number : ℕ) : CallState ℕ → Reply ℕ ℕ → Vfs ℕ → Option (Operation ℕ ℕ) → Type 0 where
+pub data ReceivesReply (c : Vfs ℕ) (number : ℕ) : CallState ℕ → Reply ℕ ℕ → Vfs ℕ → Option (Operation ℕ ℕ) → Type 0 where
   is_found : (directory : ℕ) (word : Name) (words : List Name) (plan : WalkPlan ℕ) (file valid : ℕ) (after : Vfs ℕ) (asked : Option (Operation ℕ ℕ)) → GoesOn (in_force c directory word (Some file) valid) number file words plan after asked
-      → Hears c number (walking directory word words plan) (op.found file valid) after asked
+      → ReceivesReply c number (walking directory word words plan) (op.found file valid) after asked
   is_missing : (directory : ℕ) (word : Name) (words : List Name) (plan : WalkPlan ℕ) (valid : ℕ)
-      → Hears c number (walking directory word words plan) (op.missing valid) (is_answered (in_force c directory word None valid) number (answer.failed enoent)) None
-  is_not_told : (directory : ℕ) (word : Name) (words : List Name) (plan : WalkPlan ℕ) (errno : ℕ) → Hears c number (walking directory word words plan) (op.failed errno) (is_answered c number (answer.failed errno)) None
-  is_odd : (directory : ℕ) (word : Name) (words : List Name) (plan : WalkPlan ℕ) (reply : Reply ℕ ℕ) → is_found_or_not reply ≡ false → Hears c number (walking directory word words plan) reply (is_answered c number (answer.failed eio)) None
-  of_operation : (operation : Operation ℕ ℕ) (reply : Reply ℕ ℕ) (after : Vfs ℕ) → Answers c number operation reply after → Hears c number (doing operation) reply after None
-  of_open_file : (handle : ℕ) (operation : Operation ℕ ℕ) (reply : Reply ℕ ℕ) (after : Vfs ℕ) → Answers c number operation reply after → Hears c number (using handle operation) reply after None
+      → ReceivesReply c number (walking directory word words plan) (op.missing valid) (is_answered (in_force c directory word None valid) number (answer.failed enoent)) None
+  is_not_told : (directory : ℕ) (word : Name) (words : List Name) (plan : WalkPlan ℕ) (errno : ℕ) → ReceivesReply c number (walking directory word words plan) (op.failed errno) (is_answered c number (answer.failed errno)) None
+  is_odd : (directory : ℕ) (word : Name) (words : List Name) (plan : WalkPlan ℕ) (reply : Reply ℕ ℕ) → is_found_or_not reply ≡ false → ReceivesReply c number (walking directory word words plan) reply (is_answered c number (answer.failed eio)) None
+  of_operation : (operation : Operation ℕ ℕ) (reply : Reply ℕ ℕ) (after : Vfs ℕ) → Answers c number operation reply after → ReceivesReply c number (doing operation) reply after None
+  of_open_file : (handle : ℕ) (operation : Operation ℕ ℕ) (reply : Reply ℕ ℕ) (after : Vfs ℕ) → Answers c number operation reply after → ReceivesReply c number (using handle operation) reply after None

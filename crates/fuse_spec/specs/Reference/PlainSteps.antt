@@ -33,15 +33,15 @@ telling_call p label next ask reply None = None
 telling_call p label next ask reply (Some state) = where_so (not (is_some (get p.asks next))) (ask_told p label next ask reply state)
 
 -- The reply to a performed ask reaches its call, and a declined one answers its call EINTR, if that is unanswered.
-abbrev pub telling_ask : Plain → (label next : ℕ) → Ask → Stage → Option Plain
-telling_ask p label next ask waiting = None
-telling_ask p label next ask (performed reply) = telling_call p label next ask reply (get p.vfs.calls ask.call)
-telling_ask p label next ask declined = where_so (ask.noted && is_some (get p.vfs.calls ask.call)) (ask_interrupted p label ask)
+abbrev pub delivering_reply : Plain → (label next : ℕ) → Ask → Stage → Option Plain
+delivering_reply p label next ask waiting = None
+delivering_reply p label next ask (performed reply) = telling_call p label next ask reply (get p.vfs.calls ask.call)
+delivering_reply p label next ask declined = where_so (ask.noted && is_some (get p.vfs.calls ask.call)) (ask_interrupted p label ask)
 
 -- A reply that is accepted is told to the call of its ask, and one under a label that no ask bears takes no step.
-abbrev pub telling : Plain → (label next : ℕ) → Option Ask → Option Plain
-telling p label next None = Some p
-telling p label next (Some ask) = telling_ask p label next ask ask.stage
+abbrev pub delivering : Plain → (label next : ℕ) → Option Ask → Option Plain
+delivering p label next None = Some p
+delivering p label next (Some ask) = delivering_reply p label next ask ask.stage
 
 -- A signal is noted on an ask; one that took the request off the list also ends the ask.
 abbrev pub signalled_ask : Plain → IntrEffect → (label : ℕ) → Ask → Plain
@@ -73,7 +73,7 @@ marking p label (Some ask) = Some (ask_marked p label ask)
 abbrev pub takes : ℕ → Plain → Event → Outcome → Option Plain
 takes chosen p (event.call call) (event.begun number) = where_so (nat_eq number p.vfs.next_call && not (is_some (get p.asks chosen))) (call_put p chosen call)
 takes chosen p (event.perform unique) (event.performed u errno lost) = serving p unique (get p.asks unique)
-takes chosen p (event.write k) (event.written unique Accepted) = telling p unique chosen (get p.asks unique)
+takes chosen p (event.write k) (event.written unique Accepted) = delivering p unique chosen (get p.asks unique)
 takes chosen p (event.write k) (event.written unique NoEntry) = Some p
 takes chosen p (event.write k) (event.written unique Invalid) = Some p
 takes chosen p (event.intr call fatal) (event.interrupted c effect) = signalling p effect call chosen (get p.asks chosen)

@@ -20,7 +20,7 @@ use Rattle.fuse_spec.specs.Calls.Vfs.{CallState, Vfs}
 use Rattle.fuse_spec.specs.Reference.Plain.{Plain, Ask, waiting, performed, declined}
 use Rattle.fuse_spec.specs.World.Events.{Event, Outcome}
 use Rattle.fuse_spec.specs.World.Events as event
-use Rattle.fuse_spec.specs.Reference.PlainCalls.{is_answered, Begins, Hears, out_of_force}
+use Rattle.fuse_spec.specs.Reference.PlainCalls.{is_answered, Begins, ReceivesReply, out_of_force}
 
 -- What a call asks is put under this label, or the call asks nothing.
 pub data Asks (p : Plain) (label number : ℕ) (after : Vfs ℕ) : Option (Operation ℕ ℕ) → Plain → Type 0 where
@@ -63,7 +63,7 @@ pub data Steps (p : Plain) : Event → Outcome → Plain → Type 0 where
   performs_none : (unique u errno : ℕ) (lost : Bool) → get p.asks unique ≡ None → Steps p (event.perform unique) (event.performed u errno lost) p
   -- the reply to a performed ask reaches its call, which is unanswered; a declined ask answers it EINTR
   tells : (k unique label : ℕ) (ask : Ask) (reply : Reply ℕ ℕ) (state : CallState ℕ) (after : Vfs ℕ) (asked : Option (Operation ℕ ℕ)) (q : Plain) → get p.asks unique ≡ Some ask → ask.stage ≡ performed reply → get p.vfs.calls ask.call ≡ Some state
-      → get p.asks label ≡ None → Hears p.vfs ask.call state reply after asked → Asks (record p { asks = remove p.asks unique }) label ask.call after asked q → Steps p (event.write k) (event.written unique Accepted) q
+      → get p.asks label ≡ None → ReceivesReply p.vfs ask.call state reply after asked → Asks (record p { asks = remove p.asks unique }) label ask.call after asked q → Steps p (event.write k) (event.written unique Accepted) q
   tells_eintr : (k unique : ℕ) (ask : Ask) (state : CallState ℕ) → get p.asks unique ≡ Some ask → ask.stage ≡ declined → ask.noted ≡ true → get p.vfs.calls ask.call ≡ Some state
       → Steps p (event.write k) (event.written unique Accepted) (record p { asks = remove p.asks unique; vfs = is_answered p.vfs ask.call (failed eintr) })
   tells_none : (k unique : ℕ) → get p.asks unique ≡ None → Steps p (event.write k) (event.written unique Accepted) p

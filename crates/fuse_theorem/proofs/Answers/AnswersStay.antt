@@ -21,7 +21,7 @@ use Rattle.fuse_spec.specs.Kernel.Messages.{WireReply}
 use Rattle.fuse_spec.specs.Files.Operations.{Operation, done, failed, files_in_reply}
 use Rattle.fuse_spec.specs.Kernel.QueueCalls.{waiting, without, after_interrupt, interrupt_effect}
 use Rattle.fuse_spec.specs.Kernel.Queues.{QueueState}
-use Rattle.fuse_spec.specs.Kernel.Replies.{kernel_reply, learnt, Use, usable, useless, stale, goes_with, is_agreement, judged, replied, replied_to_call, ended_by, reply_taken, odd_taken, interrupt_replied, reply_written, heard, without_stale, reply_judged, use_of_reply, made_ready}
+use Rattle.fuse_spec.specs.Kernel.Replies.{kernel_reply, learnt, Use, usable, useless, stale, goes_with, is_agreement, judged, replied, replied_to_call, ended_by, request_reply_written, interrupt_reply_written, interrupt_replied, reply_written, reply_received, without_stale, reply_judged, use_of_reply, made_ready}
 use Rattle.fuse_spec.specs.Calls.Vfs.{asked, CallState, walking, doing, using, Vfs, Advance, answered, begun, all_answered, given_up}
 use Rattle.fuse_spec.specs.Server.Taking.{taking}
 use Rattle.fuse_spec.specs.Server.Performs.{served}
@@ -196,7 +196,7 @@ module _ (k : Kernel) (sound : AnswersSound k.vfs) where
   call_hears call wire (Some state) there = by (goes_with (asked state) wire)
     where
       by : (b : Bool) → CallsStay false k.vfs (replied k call state b wire).1.vfs
-      by true = used_after call state there (heard k call state wire) (judged_changes (without_stale k wire).queues call state (reply_judged k.nodes wire) (use_of_reply k.nodes wire))
+      by true = used_after call state there (reply_received k call state wire) (judged_changes (without_stale k wire).queues call state (reply_judged k.nodes wire) (use_of_reply k.nodes wire))
       by false = used_after call state there (record k { vfs = answered k.vfs call (answer.failed 5) }) (answered_changes k.vfs call (answer.failed 5))
 
 -- A reply is written.
@@ -212,7 +212,7 @@ reply_hears k sound unique wire = by (nat_eq (unique % 2) 1)
     ended q (purpose.Release o) s = as_they_were q.vfs s
     ended q (purpose.Call call) s = call_hears q s call wire (get q.vfs.calls call) refl
 
-    even : (o : Option Purpose) → CallsStay false k.vfs (reply_taken k unique wire o).1.vfs
+    even : (o : Option Purpose) → CallsStay false k.vfs (request_reply_written k unique wire o).1.vfs
     even None = as_they_were k.vfs sound
     even (Some kept) = ended (record k { queues = without k.queues unique }) kept sound
 
@@ -221,11 +221,11 @@ reply_hears k sound unique wire = by (nat_eq (unique % 2) 1)
     interrupts done = as_they_were k.vfs sound
     interrupts x = as_they_were k.vfs sound
 
-    odd : (o : Option Purpose) → CallsStay false k.vfs (odd_taken k unique wire o).1.vfs
+    odd : (o : Option Purpose) → CallsStay false k.vfs (interrupt_reply_written k unique wire o).1.vfs
     odd None = as_they_were k.vfs sound
     odd (Some kept) = interrupts wire
 
-    by : (b : Bool) → CallsStay false k.vfs (cond b (odd_taken k unique wire (waiting k.queues (unique - 1))) (reply_taken k unique wire (waiting k.queues unique))).1.vfs
+    by : (b : Bool) → CallsStay false k.vfs (cond b (interrupt_reply_written k unique wire (waiting k.queues (unique - 1))) (request_reply_written k unique wire (waiting k.queues unique))).1.vfs
     by true = odd (waiting k.queues (unique - 1))
     by false = even (waiting k.queues unique)
 

@@ -21,7 +21,7 @@ use Rattle.fuse_spec.specs.Kernel.Messages.{WireReply}
 use Rattle.fuse_spec.specs.Files.Operations.{Operation, getattr, mkdir, create, unlink, rmdir, rename, link, opening, readdir, readdirplus, read, write, Reply, found, missing, created, opened, attributes, listed, listed_plus, content, written, done, failed, files_in_reply}
 use Rattle.fuse_spec.specs.Kernel.QueueCalls.{waiting, without, after_interrupt, interrupt_effect}
 use Rattle.fuse_spec.specs.Kernel.Queues.{QueueState}
-use Rattle.fuse_spec.specs.Kernel.Replies.{kernel_reply, Use, usable, useless, stale, goes_with, is_agreement, judged, replied, replied_to_call, ended_by, reply_taken, odd_taken, interrupt_replied, reply_written, learnt, heard, without_stale, reply_judged, use_of_reply, made_ready}
+use Rattle.fuse_spec.specs.Kernel.Replies.{kernel_reply, Use, usable, useless, stale, goes_with, is_agreement, judged, replied, replied_to_call, ended_by, request_reply_written, interrupt_reply_written, interrupt_replied, reply_written, learnt, reply_received, without_stale, reply_judged, use_of_reply, made_ready}
 use Rattle.fuse_spec.specs.Calls.Vfs.{asked, CallState, walking, doing, using, Vfs, answered, asking, look, numbered, bound, begun, after_beginning, after_walk, all_answered, given_up}
 use Rattle.fuse_spec.specs.Calls.Walks.{Walked, looks_up, finds_none, asks, walk}
 use Rattle.fuse_spec.specs.Server.Taking.{taking}
@@ -151,7 +151,7 @@ module _ (k : Kernel) where
   hears_more call wire (Some state) = by (goes_with (asked state) wire)
     where
       by : (b : Bool) → OneMore k.vfs (replied k call state b wire).1.vfs
-      by true = used_more state (heard k call state wire) (judged_more (without_stale k wire).queues call state (reply_judged k.nodes wire) (use_of_reply k.nodes wire))
+      by true = used_more state (reply_received k call state wire) (judged_more (without_stale k wire).queues call state (reply_judged k.nodes wire) (use_of_reply k.nodes wire))
       by false = used_more state (record k { vfs = answered k.vfs call (answer.failed 5) }) (answered_more k.vfs call (answer.failed 5))
 
 written_more : (k : Kernel) (unique : ℕ) (wire : WireReply) → OneMore k.vfs (reply_written k unique wire).1.vfs
@@ -166,7 +166,7 @@ written_more k unique wire = by (nat_eq (unique % 2) 1)
     ended q (purpose.Release o) = as_many q.vfs
     ended q (purpose.Call call) = hears_more q call wire (get q.vfs.calls call)
 
-    even : (o : Option Purpose) → OneMore k.vfs (reply_taken k unique wire o).1.vfs
+    even : (o : Option Purpose) → OneMore k.vfs (request_reply_written k unique wire o).1.vfs
     even None = as_many k.vfs
     even (Some kept) = ended (record k { queues = without k.queues unique }) kept
 
@@ -175,11 +175,11 @@ written_more k unique wire = by (nat_eq (unique % 2) 1)
     interrupts done = as_many k.vfs
     interrupts x = as_many k.vfs
 
-    odd : (o : Option Purpose) → OneMore k.vfs (odd_taken k unique wire o).1.vfs
+    odd : (o : Option Purpose) → OneMore k.vfs (interrupt_reply_written k unique wire o).1.vfs
     odd None = as_many k.vfs
     odd (Some kept) = interrupts wire
 
-    by : (b : Bool) → OneMore k.vfs (cond b (odd_taken k unique wire (waiting k.queues (unique - 1))) (reply_taken k unique wire (waiting k.queues unique))).1.vfs
+    by : (b : Bool) → OneMore k.vfs (cond b (interrupt_reply_written k unique wire (waiting k.queues (unique - 1))) (request_reply_written k unique wire (waiting k.queues unique))).1.vfs
     by true = odd (waiting k.queues (unique - 1))
     by false = even (waiting k.queues unique)
 

@@ -24,7 +24,7 @@ use Rattle.fuse_theorem.specs.Numbering.{IsOneToOne, IsNumbered, IsNumberedWhile
 use Rattle.fuse_theorem.proofs.Calls.Finding.{same_is, absent}
 use Rattle.fuse_theorem.proofs.Calls.Starting.{begun_alike}
 use Rattle.fuse_theorem.proofs.Calls.Advancing.{begun_alone}
-use Rattle.fuse_theorem.proofs.Refining.Asking.{Paused, advanced_alike}
+use Rattle.fuse_theorem.proofs.Refining.Asking.{AlikeExceptCall, advanced_alike}
 use Rattle.fuse_theorem.proofs.Refining.Releasing.{next_unasked, closing_alike, released_alike}
 
 -- a call that closes an open file asks nothing
@@ -70,7 +70,7 @@ module _ (w : World) (p : Plain) (numbering : IsNumbered w) (one : IsOneToOne (M
       let few : requests_for c w.kernel.queues ≤ 0 = subst (λ (b : Bool). requests_for c w.kernel.queues ≤ cond b 1 0) (ap is_some (numbering.calls_below c (omega arith))) (numbering.one_request c) in
       omega (arith, few)
 
-  paused_new : Paused w p w.kernel.vfs.next_call
+  paused_new : AlikeExceptCall w p w.kernel.vfs.next_call
   paused_new = record {
     none_for = none_new;
     requests = same.requests;

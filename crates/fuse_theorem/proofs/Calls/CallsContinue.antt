@@ -13,7 +13,7 @@ use Rattle.fuse_spec.specs.Files.Operations.{Operation, files_in_reply}
 use Rattle.fuse_spec.specs.Calls.Vfs.{CallState, walking, doing, using, asked, Advance, answered, begun}
 use Rattle.fuse_spec.specs.Kernel.QueueCalls.{after_enqueue, after_effect, interrupt_effect}
 use Rattle.fuse_spec.specs.Kernel.Kernel.{Kernel, is_aborted, is_used, request_of, asking_for, advanced, released, released_if_idle, after_use, closed_by, closing_of, call_begun, after_signal, signalled_at, call_signalled}
-use Rattle.fuse_spec.specs.Kernel.Replies.{kernel_reply, learnt, Use, usable, useless, stale, goes_with, judged, replied, replied_to_call, heard, without_stale, reply_judged, use_of_reply}
+use Rattle.fuse_spec.specs.Kernel.Replies.{kernel_reply, learnt, Use, usable, useless, stale, goes_with, judged, replied, replied_to_call, reply_received, without_stale, reply_judged, use_of_reply}
 
 pub record GoesOn (k l : Kernel) : Type 0 where
   pub phase : l.phase ≡ k.phase
@@ -89,5 +89,5 @@ replied_goes_on k call wire (Some state) = by (goes_with (asked state) wire)
 
     by : (b : Bool) → GoesOn k (replied k call state b wire).1
     by true =
-        then_goes_on k (heard k call state wire) (after_use (heard k call state wire) state) (judged_goes_on (reply_judged k.nodes wire) (use_of_reply k.nodes wire)) (used_goes_on (heard k call state wire) state)
+        then_goes_on k (reply_received k call state wire) (after_use (reply_received k call state wire) state) (judged_goes_on (reply_judged k.nodes wire) (use_of_reply k.nodes wire)) (used_goes_on (reply_received k call state wire) state)
     by false = let went = used_goes_on (record k { vfs = answered k.vfs call (answer.failed 5) }) state in record { phase = went.phase; minor = went.minor; lists_files = went.lists_files; rises = went.rises }

@@ -22,7 +22,7 @@ use Rattle.fuse_spec.specs.Files.Operations as op
 use Rattle.fuse_spec.specs.Calls.Paths.{Name, words_of, parent_and_last}
 use Rattle.fuse_spec.specs.Kernel.QueueCalls.{waiting, without, after_effect, interrupt_effect}
 use Rattle.fuse_spec.specs.Kernel.Queues.{QueueState}
-use Rattle.fuse_spec.specs.Kernel.Replies.{kernel_reply, learnt, Use, usable, useless, stale, goes_with, is_agreement, judged, replied, replied_to_call, ended_by, reply_taken, odd_taken, interrupt_replied, reply_written, heard, without_stale, reply_judged, use_of_reply, made_ready}
+use Rattle.fuse_spec.specs.Kernel.Replies.{kernel_reply, learnt, Use, usable, useless, stale, goes_with, is_agreement, judged, replied, replied_to_call, ended_by, request_reply_written, interrupt_reply_written, interrupt_replied, reply_written, reply_received, without_stale, reply_judged, use_of_reply, made_ready}
 use Rattle.fuse_spec.specs.Server.Server.{knows}
 use Rattle.fuse_spec.specs.Calls.Vfs.{asked, CallState, walking, doing, using, Vfs, answered, look, numbered, bound, begun, after_beginning, after_walk, walks_on}
 use Rattle.fuse_spec.specs.Calls.Walks.{FinalOperation, WalkPlan, last, rename, link, WalkStop, unknown, missing, arrived, go, after_last, after_stop, operation_at, Walked, looks_up, finds_none, walk}
@@ -201,7 +201,7 @@ module _ (k : Kernel) (old : OldCalls k.vfs) where
   hears_old call wire (Some state) there = by (goes_with (asked state) wire)
     where
       by : (b : Bool) → OldCalls (replied k call state b wire).1.vfs
-      by true = used_old state (heard k call state wire) (judged_old (without_stale k wire).queues call state (All-get OldState k.vfs.calls call state old there) (reply_judged k.nodes wire) (use_of_reply k.nodes wire))
+      by true = used_old state (reply_received k call state wire) (judged_old (without_stale k wire).queues call state (All-get OldState k.vfs.calls call state old there) (reply_judged k.nodes wire) (use_of_reply k.nodes wire))
       by false = used_old state (record k { vfs = answered k.vfs call (answer.failed 5) }) (answered_old k.vfs old call (answer.failed 5))
 
 pub written_old : (k : Kernel) → OldCalls k.vfs → (unique : ℕ) (wire : WireReply) → OldCalls (reply_written k unique wire).1.vfs
@@ -216,7 +216,7 @@ written_old k old unique wire = by (nat_eq (unique % 2) 1)
     ended q (purpose.Release o) h = h
     ended q (purpose.Call call) h = hears_old q h call wire (get q.vfs.calls call) refl
 
-    even : (o : Option Purpose) → OldCalls (reply_taken k unique wire o).1.vfs
+    even : (o : Option Purpose) → OldCalls (request_reply_written k unique wire o).1.vfs
     even None = old
     even (Some kept) = ended (record k { queues = without k.queues unique }) kept old
 
@@ -225,10 +225,10 @@ written_old k old unique wire = by (nat_eq (unique % 2) 1)
     interrupts op.done = old
     interrupts x = old
 
-    odd : (o : Option Purpose) → OldCalls (odd_taken k unique wire o).1.vfs
+    odd : (o : Option Purpose) → OldCalls (interrupt_reply_written k unique wire o).1.vfs
     odd None = old
     odd (Some kept) = interrupts wire
 
-    by : (b : Bool) → OldCalls (cond b (odd_taken k unique wire (waiting k.queues (unique - 1))) (reply_taken k unique wire (waiting k.queues unique))).1.vfs
+    by : (b : Bool) → OldCalls (cond b (interrupt_reply_written k unique wire (waiting k.queues (unique - 1))) (request_reply_written k unique wire (waiting k.queues unique))).1.vfs
     by true = odd (waiting k.queues (unique - 1))
     by false = even (waiting k.queues unique)

@@ -16,7 +16,7 @@ use Rattle.fuse_spec.proofs.Tables.{put_alike}
 use Rattle.fuse_theorem.specs.Numbering.{IsOneToOne}
 use Rattle.fuse_theorem.proofs.Calls.Cases.{SameOperation, both_getattr, both_mkdir, both_create, both_unlink, both_rmdir, both_rename, both_link, both_opening, both_readdir, both_readdirplus, both_read, both_write, same_operation, SameReply, same_found, same_missing, same_created, same_opened, same_attributes, same_listed, same_listed_plus, same_content, same_written, same_done, same_failed, same_reply}
 use Rattle.fuse_theorem.proofs.Calls.Walking.{WalkedAlike, LookAlike, walk_alike}
-use Rattle.fuse_theorem.proofs.Calls.Hearing.{answered_alike, opened_alike, bound_alike, unbound_alike}
+use Rattle.fuse_theorem.proofs.Calls.RepliesReceived.{answered_alike, opened_alike, bound_alike, unbound_alike}
 
 module _ {O P : Type 0} (R : ℕ → ℕ → Type 0) (S : O → P → Type 0) (one : IsOneToOne R) where
   -- The names of a list come into force alike.

@@ -11,7 +11,7 @@ use Rattle.fuse_spec.specs.Claim.Alike.{VfsAlike}
 use Rattle.fuse_spec.proofs.Tables.{gone_alike}
 use Rattle.fuse_theorem.specs.Numbering.{IsOneToOne}
 use Rattle.fuse_theorem.proofs.Calls.Beginning.{BeginningAlike, beginning_alike}
-use Rattle.fuse_theorem.proofs.Calls.Hearing.{answered_alike}
+use Rattle.fuse_theorem.proofs.Calls.RepliesReceived.{answered_alike}
 use Rattle.fuse_theorem.proofs.Calls.RepliesReach.{AdvanceAlike, asking_alike, walks_on_alike}
 
 module _ {O P : Type 0} (R : ℕ → ℕ → Type 0) (S : O → P → Type 0) (c : Vfs O) (d : Vfs P) (same : VfsAlike R S c d) where

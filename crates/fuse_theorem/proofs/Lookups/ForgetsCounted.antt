@@ -20,7 +20,7 @@ use Rattle.fuse_spec.specs.Files.Operations.{DirentPlus, told_by, listed_plus, d
 use Rattle.fuse_spec.specs.Server.Performs.{performed, served}
 use Rattle.fuse_spec.specs.Kernel.QueueCalls.{can_read_forgets, waiting, without}
 use Rattle.fuse_spec.specs.Kernel.Queues.{pending}
-use Rattle.fuse_spec.specs.Kernel.Replies.{kernel_reply, learnt, Use, usable, useless, stale, use_counted, first_use, use_of_all, goes_with, is_agreement, judged, replied, replied_to_call, reply_taken, odd_taken, interrupt_replied, interrupt_reply_of, reply_written, heard, without_stale, reply_judged, use_of_reply, use_of, use_of_told, learnt_by, stale_in, stale_among, forgets_with, stale_in_reply, made_ready}
+use Rattle.fuse_spec.specs.Kernel.Replies.{kernel_reply, learnt, Use, usable, useless, stale, use_counted, first_use, use_of_all, goes_with, is_agreement, judged, replied, replied_to_call, request_reply_written, interrupt_reply_written, interrupt_replied, interrupt_reply_of, reply_written, reply_received, without_stale, reply_judged, use_of_reply, use_of, use_of_told, learnt_by, stale_in, stale_among, forgets_with, stale_in_reply, made_ready}
 use Rattle.fuse_spec.specs.Server.Server.{Server, HeldRequest, Kept, forgets_of}
 use Rattle.fuse_spec.specs.Server.Taking.{taking}
 use Rattle.fuse_spec.specs.Calls.Vfs.{CallState, asked, answered}
@@ -112,7 +112,7 @@ heard_forgets k old call wire (Some state) = by (goes_with (asked state) wire)
 
     by : (b : Bool) → All IsForget (replied k call state b wire).1.queues.forgets
     by true =
-        let l = heard k call state wire in
+        let l = reply_received k call state wire in
         let same = used_same l state in
         same_forgets l.queues.forgets _ same.forgets (judged_forgets (reply_judged k.nodes wire) (use_of_reply k.nodes wire) (of_reply_low k.nodes wire))
     by false = let l = record k { vfs = answered k.vfs call (answer.failed 5) } in let same = used_same l state in same_forgets k.queues.forgets _ same.forgets old
@@ -125,7 +125,7 @@ written_forgets k old unique wire = by (nat_eq (unique % 2) 1)
     interrupts done = old
     interrupts x = old
 
-    odd : (o : Option Purpose) → All IsForget (odd_taken k unique wire o).1.queues.forgets
+    odd : (o : Option Purpose) → All IsForget (interrupt_reply_written k unique wire o).1.queues.forgets
     odd None = old
     odd (Some kept) = interrupts wire
 
@@ -133,13 +133,13 @@ written_forgets k old unique wire = by (nat_eq (unique % 2) 1)
     agrees true = old
     agrees false = All-nil IsForget
 
-    even : (o : Option Purpose) → All IsForget (reply_taken k unique wire o).1.queues.forgets
+    even : (o : Option Purpose) → All IsForget (request_reply_written k unique wire o).1.queues.forgets
     even None = old
     even (Some purpose.Init) = agrees (is_agreement wire)
     even (Some (purpose.Release o)) = old
     even (Some (purpose.Call call)) = heard_forgets (record k { queues = without k.queues unique }) old call wire (get k.vfs.calls call)
 
-    by : (b : Bool) → All IsForget (cond b (odd_taken k unique wire (waiting k.queues (unique - 1))) (reply_taken k unique wire (waiting k.queues unique))).1.queues.forgets
+    by : (b : Bool) → All IsForget (cond b (interrupt_reply_written k unique wire (waiting k.queues (unique - 1))) (request_reply_written k unique wire (waiting k.queues unique))).1.queues.forgets
     by true = odd (waiting k.queues (unique - 1))
     by false = even (waiting k.queues unique)
 

@@ -24,7 +24,7 @@ use Rattle.fuse_spec.specs.Kernel.QueueCalls.{waiting, without}
 use Rattle.fuse_spec.specs.Kernel.Kernel.{Kernel, is_live, is_for, kernel_aborted, after_use}
 use Rattle.fuse_spec.specs.Server.Nodes.{NodeTable}
 use Rattle.fuse_spec.specs.Server.Server.{Copy, forgotten}
-use Rattle.fuse_spec.specs.Kernel.Replies.{kernel_reply, counted_more, learnt, usable, goes_with, is_empty_reply, is_init_reply, is_agreement, write_result_of, judged, replied, replied_to_call, ended_by, reply_taken, odd_taken, interrupt_replied, interrupt_reply_of, reply_written, made_ready}
+use Rattle.fuse_spec.specs.Kernel.Replies.{kernel_reply, counted_more, learnt, usable, goes_with, is_empty_reply, is_init_reply, is_agreement, write_result_of, judged, replied, replied_to_call, ended_by, request_reply_written, interrupt_reply_written, interrupt_replied, interrupt_reply_of, reply_written, made_ready}
 use Rattle.fuse_spec.specs.Claim.Counts.{counted, names_in, carried, refused}
 use Rattle.fuse_spec.specs.World.Worlds.{World, Sent, after_write}
 use Rattle.fuse_spec.proofs.QueueCounts.{count_by-cons}
@@ -203,7 +203,7 @@ module _ (t : NodeTable) (k : Kernel) (known : KnownIn t k.nodes) (one_request :
     where
       by : (o : Option (CallState Opened)) → get k.vfs.calls call ≡ o → Balances t k wire (replied_to_call ended call wire o)
       by None none = absurd (unanswered k one_request call unique waits none)
-      by (Some state) there = let heard = replied_balanced t ended known wire held call state in record { counts = heard.counts; known = heard.known }
+      by (Some state) there = let reply_received = replied_balanced t ended known wire held call state in record { counts = reply_received.counts; known = reply_received.known }
 
   pub written_balances : is_live (reply_written k unique wire).1.phase ≡ true → Balances t k wire (reply_written k unique wire)
   written_balances = by (nat_eq (unique % 2) 1)
@@ -216,16 +216,16 @@ module _ (t : NodeTable) (k : Kernel) (known : KnownIn t k.nodes) (one_request :
       interrupts done = names_nothing t k k done Accepted known same (λ id. refl)
       interrupts x = refuses t k k x Invalid known same (λ n. refl)
 
-      odd : (o : Option Purpose) → Balances t k wire (odd_taken k unique wire o)
+      odd : (o : Option Purpose) → Balances t k wire (interrupt_reply_written k unique wire o)
       odd None = refuses t k k wire NoEntry known same (λ n. refl)
       odd (Some kept) = interrupts wire
 
-      even : (o : Option Purpose) → waiting k.queues unique ≡ o → is_live (reply_taken k unique wire o).1.phase ≡ true → Balances t k wire (reply_taken k unique wire o)
+      even : (o : Option Purpose) → waiting k.queues unique ≡ o → is_live (request_reply_written k unique wire o).1.phase ≡ true → Balances t k wire (request_reply_written k unique wire o)
       even None waits live = refuses t k k wire NoEntry known same (λ n. refl)
       even (Some kept) waits live = ended_balanced kept waits live
 
-      by : (b : Bool) → is_live (cond b (odd_taken k unique wire (waiting k.queues (unique - 1))) (reply_taken k unique wire (waiting k.queues unique))).1.phase ≡ true
-          → Balances t k wire (cond b (odd_taken k unique wire (waiting k.queues (unique - 1))) (reply_taken k unique wire (waiting k.queues unique)))
+      by : (b : Bool) → is_live (cond b (interrupt_reply_written k unique wire (waiting k.queues (unique - 1))) (request_reply_written k unique wire (waiting k.queues unique))).1.phase ≡ true
+          → Balances t k wire (cond b (interrupt_reply_written k unique wire (waiting k.queues (unique - 1))) (request_reply_written k unique wire (waiting k.queues unique)))
       by true live = odd (waiting k.queues (unique - 1))
       by false live = even (waiting k.queues unique) refl live
 
@@ -236,16 +236,16 @@ module _ (w : World) (old : LookupsBalanced w) (sound : CopiesSound w) (k : ℕ)
   sent_held = All-at (λ (s : Sent). EntriesHeld w.server.nodes s.wire) w.replies k sent old.copies there
 
   taken_heard : (taken : WriteResult × Kernel) → Balances w.server.nodes w.kernel sent.wire taken → LookupsBalanced (after_write w k sent taken)
-  taken_heard taken heard = record {
+  taken_heard taken reply_received = record {
     balance = λ id low.
         let whole = old.balance id low in
         let gone : copies_name id (without_at w.replies k) + names_in id sent.wire ≡ copies_name id w.replies = sum_removed (λ (s : Sent). names_in id s.wire) w.replies k sent there in
         let pushed : refused_name id w.server.copies (w.results ++ result ∷ []) ≡ refused_name id w.server.copies w.results + refused taken.0 (carried (names_in id) (get w.server.copies sent.number)) =
         sum_by_push (λ (r : ReplyResult). refused r.result (carried (names_in id) (get w.server.copies r.number))) w.results result in
         let carries : refused taken.0 (carried (names_in id) (get w.server.copies sent.number)) ≡ refused taken.0 (names_in id sent.wire) = ap (λ (o : Option Copy). refused taken.0 (carried (names_in id) o)) copy.there ∙ ap (λ (x : WireReply). refused taken.0 (names_in id x)) copy.same_wire in
-        let counts = heard.counts id in
+        let counts = reply_received.counts id in
         omega (arith, whole, gone, pushed, carries, counts);
-    known = heard.known;
+    known = reply_received.known;
     copies = All-without (λ (s : Sent). EntriesHeld w.server.nodes s.wire) w.replies k old.copies;
     refused = All-push (RefusedHeld w.server.nodes w.server.copies) w.results result old.refused
         (λ other no_good at. let same : other ≡ copy.copy = cc (at, copy.there) in subst (EntriesHeld w.server.nodes) (sym copy.same_wire ∙ ap (λ (c : Copy). c.wire) (sym same)) sent_held);

@@ -46,7 +46,7 @@ use Rattle.fuse_theorem.proofs.Lookups.Lookups.{sent_forgets, kernel_moves}
 use Rattle.fuse_theorem.proofs.Lookups.LookupsHeard.{written_balanced}
 use Rattle.fuse_theorem.proofs.Lookups.LookupsServed.{taken_balanced, performed_balanced, again_balanced, settled_balanced}
 use Rattle.fuse_theorem.proofs.Nodes.NodesSound.{left_found, put_found}
-use Rattle.fuse_theorem.proofs.Requests.NumbersStay.{Hears, goes_on, ends, calls_of, written_heard, unheard, replying_kernel, numbers_stay, first_numbers}
+use Rattle.fuse_theorem.proofs.Requests.NumbersStay.{ReceivesReply, goes_on, ends, calls_of, written_heard, unheard, replying_kernel, numbers_stay, first_numbers}
 use Rattle.fuse_theorem.proofs.Lookups.PerformedCounts.{Counts, performed_counts}
 use Rattle.fuse_theorem.proofs.Requests.PerformedRest.{performed_rest}
 use Rattle.fuse_theorem.proofs.Lookups.RowCounts.{evicted_count}
@@ -258,12 +258,12 @@ module _ (choice : ℕ → ℕ) (w : World) (s : LookupsSound w) where
   written_uncounted : (sent : Sent) → is_live (reply_written w.kernel sent.unique sent.wire).1.phase ≡ false → (reply_written w.kernel sent.unique sent.wire).1.nodes ≡ []
   written_uncounted sent dead = by (is_live w.kernel.phase) refl
     where
-      heard : Hears w.kernel (reply_written w.kernel sent.unique sent.wire).1 → (reply_written w.kernel sent.unique sent.wire).1.nodes ≡ []
-      heard (goes_on live rises calls) = absurd (true≢false (sym live ∙ dead))
-      heard (ends d idle uncounted) = uncounted
+      reply_received : ReceivesReply w.kernel (reply_written w.kernel sent.unique sent.wire).1 → (reply_written w.kernel sent.unique sent.wire).1.nodes ≡ []
+      reply_received (goes_on live rises calls) = absurd (true≢false (sym live ∙ dead))
+      reply_received (ends d idle uncounted) = uncounted
 
       by : (b : Bool) → is_live w.kernel.phase ≡ b → (reply_written w.kernel sent.unique sent.wire).1.nodes ≡ []
-      by true live = let numbers = s.numbers in let old = numbers.live live in heard (written_heard w.kernel live old.queues (calls_of w old) sent.unique sent.wire)
+      by true live = let numbers = s.numbers in let old = numbers.live live in reply_received (written_heard w.kernel live old.queues (calls_of w old) sent.unique sent.wire)
       by false was = let numbers = s.numbers in ap (λ (k : Kernel). k.nodes) (unheard w.kernel (numbers.idle was) sent.unique sent.wire) ∙ s.uncounted was
 
   uncounted_after : (e : Event) (o : Outcome) (after : World) → Happened choice w e o after → is_live after.kernel.phase ≡ false → after.kernel.nodes ≡ []

@@ -21,7 +21,7 @@ use Rattle.fuse_spec.specs.Kernel.QueueCalls.{waiting, without}
 use Rattle.fuse_spec.specs.Calls.Vfs.{CallState, asked, answered}
 use Rattle.fuse_spec.specs.Kernel.Kernel.{Kernel, is_live, is_pinned, is_bound, kernel_aborted, after_use}
 use Rattle.fuse_spec.specs.Server.Performs.{served}
-use Rattle.fuse_spec.specs.Kernel.Replies.{kernel_reply, learnt, Use, usable, useless, stale, goes_with, is_agreement, judged, replied, replied_to_call, reply_taken, odd_taken, interrupt_replied, reply_written, heard, without_stale, reply_judged, use_of_reply, made_ready}
+use Rattle.fuse_spec.specs.Kernel.Replies.{kernel_reply, learnt, Use, usable, useless, stale, goes_with, is_agreement, judged, replied, replied_to_call, request_reply_written, interrupt_reply_written, interrupt_replied, reply_written, reply_received, without_stale, reply_judged, use_of_reply, made_ready}
 use Rattle.fuse_spec.specs.Server.Server.{HeldRequest, Kept, Copy, nodes_of_body}
 use Rattle.fuse_spec.specs.Server.Taking.{taking, interrupting}
 use Rattle.fuse_spec.specs.Claim.Denotes.{generation_known}
@@ -69,7 +69,7 @@ replied_grows k call wire (Some state) = by (goes_with (asked state) wire)
 
     by : (b : Bool) → Grows k.nodes (replied k call state b wire).1.nodes
     by true = λ id generation e.
-        let l = heard k call state wire in
+        let l = reply_received k call state wire in
         let same = used_same l state in
         same_grows l.nodes (after_use l state).nodes same.nodes id generation (judged_grows (reply_judged k.nodes wire) (use_of_reply k.nodes wire) id generation e)
     by false =
@@ -86,7 +86,7 @@ written_grows k unique wire live = by (nat_eq (unique % 2) 1) live
     interrupts done = λ id generation e. e
     interrupts x = λ id generation e. e
 
-    odd : (o : Option Purpose) → Grows k.nodes (odd_taken k unique wire o).1.nodes
+    odd : (o : Option Purpose) → Grows k.nodes (interrupt_reply_written k unique wire o).1.nodes
     odd None = λ id generation e. e
     odd (Some kept) = interrupts wire
 
@@ -95,14 +95,14 @@ written_grows k unique wire live = by (nat_eq (unique % 2) 1) live
     agrees true alive = λ id generation e. e
     agrees false alive = λ id generation e. absurd (true≢false (sym alive))
 
-    even : (o : Option Purpose) → is_live (reply_taken k unique wire o).1.phase ≡ true → Grows k.nodes (reply_taken k unique wire o).1.nodes
+    even : (o : Option Purpose) → is_live (request_reply_written k unique wire o).1.phase ≡ true → Grows k.nodes (request_reply_written k unique wire o).1.nodes
     even None alive = λ id generation e. e
     even (Some purpose.Init) alive = agrees (is_agreement wire) alive
     even (Some (purpose.Release o)) alive = λ id generation e. e
     even (Some (purpose.Call call)) alive = replied_grows (record k { queues = without k.queues unique }) call wire (get k.vfs.calls call)
 
-    by : (b : Bool) → is_live (cond b (odd_taken k unique wire (waiting k.queues (unique - 1))) (reply_taken k unique wire (waiting k.queues unique))).1.phase ≡ true
-        → Grows k.nodes (cond b (odd_taken k unique wire (waiting k.queues (unique - 1))) (reply_taken k unique wire (waiting k.queues unique))).1.nodes
+    by : (b : Bool) → is_live (cond b (interrupt_reply_written k unique wire (waiting k.queues (unique - 1))) (request_reply_written k unique wire (waiting k.queues unique))).1.phase ≡ true
+        → Grows k.nodes (cond b (interrupt_reply_written k unique wire (waiting k.queues (unique - 1))) (request_reply_written k unique wire (waiting k.queues unique))).1.nodes
     by true alive = odd (waiting k.queues (unique - 1))
     by false alive = even (waiting k.queues unique) alive
 

@@ -20,7 +20,7 @@ use Rattle.fuse_spec.specs.Files.Operations.{Operation, done, failed, files_in_r
 use Rattle.fuse_spec.specs.Kernel.QueueCalls.{after_effect, interrupt_effect, waiting, without}
 use Rattle.fuse_spec.specs.Calls.Vfs.{CallState, walking, doing, using, asked, Vfs, Advance, answered, begun, given_up}
 use Rattle.fuse_spec.specs.Kernel.Kernel.{Kernel, is_aborted, request_of, nodes_of_state, is_released_by, is_pinned, is_bound, kernel_aborted, asking_for, advanced, released, released_if_idle, after_use, closed_by, closing_of, call_begun, after_signal, signalled_at, call_signalled}
-use Rattle.fuse_spec.specs.Kernel.Replies.{kernel_reply, learnt, counted_more, Use, usable, useless, stale, goes_with, is_agreement, judged, replied, replied_to_call, reply_taken, odd_taken, interrupt_replied, reply_written, heard, without_stale, reply_judged, use_of_reply, made_ready}
+use Rattle.fuse_spec.specs.Kernel.Replies.{kernel_reply, learnt, counted_more, Use, usable, useless, stale, goes_with, is_agreement, judged, replied, replied_to_call, request_reply_written, interrupt_reply_written, interrupt_replied, reply_written, reply_received, without_stale, reply_judged, use_of_reply, made_ready}
 use Rattle.fuse_spec.specs.Claim.Denotes.{generation_known}
 use Rattle.fuse_spec.proofs.Tables.{get_put_here}
 use Rattle.fuse_spec.specs.Server.Taking.{taking}
@@ -141,7 +141,7 @@ heard_known k old call wire (Some state) there = by (goes_with (asked state) wir
     judged_known x (stale node) = answered_known k.nodes k.vfs old call (answer.failed 5)
 
     by : (b : Bool) → NodesKnown (replied k call state b wire).1
-    by true = used_known (heard k call state wire) state (judged_known (reply_judged k.nodes wire) (use_of_reply k.nodes wire))
+    by true = used_known (reply_received k call state wire) state (judged_known (reply_judged k.nodes wire) (use_of_reply k.nodes wire))
     by false = used_known (record k { vfs = answered k.vfs call (answer.failed 5) }) state (answered_known k.nodes k.vfs old call (answer.failed 5))
 
 -- Everything is given up, and the root is known still.
@@ -161,7 +161,7 @@ write_known k old root unique wire = by (nat_eq (unique % 2) 1)
     interrupts done = old
     interrupts x = old
 
-    odd : (o : Option Purpose) → NodesKnown (odd_taken k unique wire o).1
+    odd : (o : Option Purpose) → NodesKnown (interrupt_reply_written k unique wire o).1
     odd None = old
     odd (Some kept) = interrupts wire
 
@@ -169,13 +169,13 @@ write_known k old root unique wire = by (nat_eq (unique % 2) 1)
     agrees true = old
     agrees false = empty_known k.vfs root
 
-    even : (o : Option Purpose) → NodesKnown (reply_taken k unique wire o).1
+    even : (o : Option Purpose) → NodesKnown (request_reply_written k unique wire o).1
     even None = old
     even (Some purpose.Init) = agrees (is_agreement wire)
     even (Some (purpose.Release o)) = old
     even (Some (purpose.Call call)) = heard_known (record k { queues = without k.queues unique }) old call wire (get k.vfs.calls call) refl
 
-    by : (b : Bool) → NodesKnown (cond b (odd_taken k unique wire (waiting k.queues (unique - 1))) (reply_taken k unique wire (waiting k.queues unique))).1
+    by : (b : Bool) → NodesKnown (cond b (interrupt_reply_written k unique wire (waiting k.queues (unique - 1))) (request_reply_written k unique wire (waiting k.queues unique))).1
     by true = odd (waiting k.queues (unique - 1))
     by false = even (waiting k.queues unique)
 

@@ -18,7 +18,7 @@ use Rattle.fuse_spec.specs.Kernel.Kernel.{Kernel, kernel_aborted, is_aborted, ad
 use Rattle.fuse_spec.specs.Kernel.Messages.{WireReply}
 use Rattle.fuse_spec.specs.Files.Operations.{Operation, getattr, mkdir, create, unlink, rmdir, rename, link, opening, readdir, readdirplus, read, write, Reply, found, missing, created, opened, attributes, listed, listed_plus, content, written, done, failed, files_in_reply}
 use Rattle.fuse_spec.specs.Kernel.QueueCalls.{waiting, without, after_interrupt, interrupt_effect}
-use Rattle.fuse_spec.specs.Kernel.Replies.{kernel_reply, learnt, Use, usable, useless, stale, goes_with, is_agreement, judged, replied, replied_to_call, ended_by, reply_taken, odd_taken, interrupt_replied, reply_written, heard, without_stale, reply_judged, use_of_reply, made_ready}
+use Rattle.fuse_spec.specs.Kernel.Replies.{kernel_reply, learnt, Use, usable, useless, stale, goes_with, is_agreement, judged, replied, replied_to_call, ended_by, request_reply_written, interrupt_reply_written, interrupt_replied, reply_written, reply_received, without_stale, reply_judged, use_of_reply, made_ready}
 use Rattle.fuse_spec.specs.Calls.Vfs.{look, no_more, asked, CallState, walking, doing, using, Vfs, Advance, answered, bound, unbound, opened_by, after_walk, after_beginning, numbered, begun, given_up}
 use Rattle.fuse_spec.specs.Calls.Walks.{Walked, looks_up, finds_none, walk}
 use Rattle.fuse_spec.specs.Calls.Walks as walked
@@ -149,7 +149,7 @@ to_call_rooted k call wire None r = r
 to_call_rooted k call wire (Some state) r = by (goes_with (asked state) wire)
   where
     by : (b : Bool) → IsRooted (replied k call state b wire).1.vfs
-    by true = used_rooted (heard k call state wire) state (judged_rooted (without_stale k wire) call state (reply_judged k.nodes wire) (use_of_reply k.nodes wire) r)
+    by true = used_rooted (reply_received k call state wire) state (judged_rooted (without_stale k wire) call state (reply_judged k.nodes wire) (use_of_reply k.nodes wire) r)
     by false = used_rooted (record k { vfs = answered k.vfs call (answer.failed 5) }) state (answered_rooted k.vfs call (answer.failed 5) r)
 
 pub written_rooted : (k : Kernel) (unique : ℕ) (wire : WireReply) → IsRooted k.vfs → IsRooted (reply_written k unique wire).1.vfs
@@ -164,7 +164,7 @@ written_rooted k unique wire r = by (nat_eq (unique % 2) 1)
     ended q (purpose.Release o) s = s
     ended q (purpose.Call call) s = to_call_rooted q call wire (get q.vfs.calls call) s
 
-    even : (o : Option Purpose) → IsRooted (reply_taken k unique wire o).1.vfs
+    even : (o : Option Purpose) → IsRooted (request_reply_written k unique wire o).1.vfs
     even None = r
     even (Some kept) = ended (record k { queues = without k.queues unique }) kept r
 
@@ -173,11 +173,11 @@ written_rooted k unique wire r = by (nat_eq (unique % 2) 1)
     interrupts done = r
     interrupts x = r
 
-    odd : (o : Option Purpose) → IsRooted (odd_taken k unique wire o).1.vfs
+    odd : (o : Option Purpose) → IsRooted (interrupt_reply_written k unique wire o).1.vfs
     odd None = r
     odd (Some kept) = interrupts wire
 
-    by : (b : Bool) → IsRooted (cond b (odd_taken k unique wire (waiting k.queues (unique - 1))) (reply_taken k unique wire (waiting k.queues unique))).1.vfs
+    by : (b : Bool) → IsRooted (cond b (interrupt_reply_written k unique wire (waiting k.queues (unique - 1))) (request_reply_written k unique wire (waiting k.queues unique))).1.vfs
     by true = odd (waiting k.queues (unique - 1))
     by false = even (waiting k.queues unique)
 

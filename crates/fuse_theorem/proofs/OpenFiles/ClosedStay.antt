@@ -26,7 +26,7 @@ use Rattle.fuse_spec.specs.Kernel.Messages.{WireReply}
 use Rattle.fuse_spec.specs.Files.Operations.{Operation, Reply, getattr, mkdir, create, unlink, rmdir, rename, link, opening, readdir, readdirplus, read, write, found, missing, created, opened, attributes, listed, listed_plus, content, written, done, failed, files_in_reply}
 use Rattle.fuse_spec.specs.Calls.Paths.{Name, words_of, parent_and_last}
 use Rattle.fuse_spec.specs.Kernel.QueueCalls.{after_effect, interrupt_effect, waiting, without}
-use Rattle.fuse_spec.specs.Kernel.Replies.{kernel_reply, learnt, Use, usable, useless, stale, goes_with, is_agreement, judged, replied, replied_to_call, reply_taken, odd_taken, interrupt_replied, reply_written, heard, without_stale, reply_judged, use_of_reply, made_ready}
+use Rattle.fuse_spec.specs.Kernel.Replies.{kernel_reply, learnt, Use, usable, useless, stale, goes_with, is_agreement, judged, replied, replied_to_call, request_reply_written, interrupt_reply_written, interrupt_replied, reply_written, reply_received, without_stale, reply_judged, use_of_reply, made_ready}
 use Rattle.fuse_spec.specs.Server.Taking.{taking}
 use Rattle.fuse_spec.specs.Server.Performs.{served}
 use Rattle.fuse_spec.specs.Calls.Vfs.{CallState, walking, doing, using, asked, Vfs, Advance, answered, bound, look, after_walk, after_beginning, numbered, begun, given_up}
@@ -298,7 +298,7 @@ heard_closes k old call wire (Some state) there = by (goes_with (asked state) wi
     judged_so x (stale node) = answered_so k.vfs k.closing old call state there (answer.failed 5)
 
     by : (b : Bool) → After (replied k call state b wire).1
-    by true = used_closes (heard k call state wire) state (judged_so (reply_judged k.nodes wire) (use_of_reply k.nodes wire))
+    by true = used_closes (reply_received k call state wire) state (judged_so (reply_judged k.nodes wire) (use_of_reply k.nodes wire))
     by false = used_closes (record k { vfs = answered k.vfs call (answer.failed 5) }) state (answered_so k.vfs k.closing old call state there (answer.failed 5))
 
 -- Everything is given up.
@@ -321,7 +321,7 @@ written_closes k old unique wire = by (nat_eq (unique % 2) 1)
     interrupts done = old
     interrupts x = old
 
-    odd : (o : Option Purpose) → After (odd_taken k unique wire o).1
+    odd : (o : Option Purpose) → After (interrupt_reply_written k unique wire o).1
     odd None = old
     odd (Some kept) = interrupts wire
 
@@ -329,13 +329,13 @@ written_closes k old unique wire = by (nat_eq (unique % 2) 1)
     agrees true = old
     agrees false = none_open k.vfs
 
-    even : (o : Option Purpose) → After (reply_taken k unique wire o).1
+    even : (o : Option Purpose) → After (request_reply_written k unique wire o).1
     even None = old
     even (Some purpose.Init) = agrees (is_agreement wire)
     even (Some (purpose.Release o)) = old
     even (Some (purpose.Call call)) = heard_closes (record k { queues = without k.queues unique }) old call wire (get k.vfs.calls call) refl
 
-    by : (b : Bool) → After (cond b (odd_taken k unique wire (waiting k.queues (unique - 1))) (reply_taken k unique wire (waiting k.queues unique))).1
+    by : (b : Bool) → After (cond b (interrupt_reply_written k unique wire (waiting k.queues (unique - 1))) (request_reply_written k unique wire (waiting k.queues unique))).1
     by true = odd (waiting k.queues (unique - 1))
     by false = even (waiting k.queues unique)
 

@@ -23,7 +23,7 @@ use Rattle.fuse_spec.specs.Calls.Vfs.{later}
 use Rattle.fuse_spec.specs.Kernel.Kernel.{Kernel, is_live, call_begun}
 use Rattle.fuse_spec.specs.Server.Nodes.{HandleTable}
 use Rattle.fuse_spec.specs.Reference.Plain.{Plain}
-use Rattle.fuse_spec.specs.Kernel.Replies.{replied_to_call, reply_taken, odd_taken, reply_written}
+use Rattle.fuse_spec.specs.Kernel.Replies.{replied_to_call, request_reply_written, interrupt_reply_written, reply_written}
 use Rattle.fuse_spec.specs.Server.Server.{Server, HeldRequest, Kept, Copy}
 use Rattle.fuse_spec.specs.Server.Taking.{taking, interrupting}
 use Rattle.fuse_spec.specs.Server.Performs.{PerformResult, performed, served}
@@ -234,17 +234,17 @@ module _ (choice : ℕ → ℕ) (w : World) (p : Plain) (both : BothSound w p) (
     still_live : is_live (reply_written w.kernel sent.unique sent.wire).1.phase ≡ true
     still_live = alive choice w p both releases opens k sent at live
 
-    heard : HearsOpens Serves w.kernel sent.wire (reply_written w.kernel sent.unique sent.wire)
-    heard =
+    reply_received : HearsOpens Serves w.kernel sent.wire (reply_written w.kernel sent.unique sent.wire)
+    reply_received =
         let known = lookups.balanced live in
         written_heard Serves w.kernel opens.apart numbered.one_request sent.unique sent.wire (wire_usable w.server.nodes w.kernel.nodes known.known sent.wire (entries choice w p both releases opens k sent at live))
         (λ even call state waits there goes o e. (call, even, waits)) still_live
 
-    files : (f : Opened → ℕ) → sum_by f (open_files written) ≡ sum_by f (open_files w) + worth f heard.opens
+    files : (f : Opened → ℕ) → sum_by f (open_files written) ≡ sum_by f (open_files w) + worth f reply_received.opens
     files f =
         let before = open_sum f w in
         let after = open_sum f written in
-        let kept = heard.keeps.sums f in
+        let kept = reply_received.keeps.sums f in
         omega (arith, before, after, kept)
 
     moves : QueueMoves w.kernel.queues (reply_written w.kernel sent.unique sent.wire).1.queues
@@ -262,22 +262,22 @@ module _ (choice : ℕ → ℕ) (w : World) (p : Plain) (both : BothSound w p) (
     ends call even waits =
         let k1 = record w.kernel { queues = without w.kernel.queues sent.unique } in
         let is : reply_written w.kernel sent.unique sent.wire ≡ replied_to_call k1 call sent.wire (get w.kernel.vfs.calls call) =
-        ap (λ (b : Bool). cond b (odd_taken w.kernel sent.unique sent.wire (waiting w.kernel.queues (sent.unique - 1))) (reply_taken w.kernel sent.unique sent.wire (waiting w.kernel.queues sent.unique))) even
-        ∙ ap (reply_taken w.kernel sent.unique sent.wire) waits in
+        ap (λ (b : Bool). cond b (interrupt_reply_written w.kernel sent.unique sent.wire (waiting w.kernel.queues (sent.unique - 1))) (request_reply_written w.kernel sent.unique sent.wire (waiting w.kernel.queues sent.unique))) even
+        ∙ ap (request_reply_written w.kernel sent.unique sent.wire) waits in
         ap (λ (x : WriteResult × Kernel). request_under x.1.queues sent.unique) is
         ∙ stays_absent k1.queues (replied_to_call k1 call sent.wire (get w.kernel.vfs.calls call)).1.queues (replied_moves k1 call sent.wire (get w.kernel.vfs.calls call)) sent.unique low (request_under-without w.kernel.queues sent.unique sound.queues)
 
     written_once : OpensOnce (after_write w k sent (reply_written w.kernel sent.unique sent.wire))
-    written_once = by heard.opens refl
+    written_once = by reply_received.opens refl
       where
-        by : (x : Option Opened) → heard.opens ≡ x → OpensOnce (after_write w k sent (reply_written w.kernel sent.unique sent.wire))
+        by : (x : Option Opened) → reply_received.opens ≡ x → OpensOnce (after_write w k sent (reply_written w.kernel sent.unique sent.wire))
         by None e =
             none_new w written old (omega arith) carried (answered_still (reply_written w.kernel sent.unique sent.wire).1.queues moves)
             (λ fh. let sum = files (has_number fh) in let none = ap (worth (has_number fh)) e in omega (arith, sum, none))
         by (Some o) e =
-            let serves = heard.fits o e in
+            let serves = reply_received.fits o e in
             let request = waiting_is w.kernel.queues sent.unique (purpose.Call serves.0) serves.2 in
-            let counted = heard.counts o.fh in
+            let counted = reply_received.counts o.fh in
             let worth_is = ap (worth (has_number o.fh)) e in
             let itself : has_number o.fh o ≡ 1 = ap {B = ℕ} (λ (b : Bool). cond b 1 0) (same_is o.fh) in
             one_opened w written old sent.unique o (omega arith) carried (answered_still (reply_written w.kernel sent.unique sent.wire).1.queues moves)

@@ -16,7 +16,7 @@ use Rattle.fuse_spec.specs.Reference.Plain.{Plain}
 use Rattle.fuse_spec.specs.Kernel.Replies.{kernel_reply, goes_with}
 use Rattle.fuse_spec.specs.World.Worlds.{World, Sent}
 use Rattle.fuse_theorem.specs.Conditions.{OpensItsFile, KnownAreHeld}
-use Rattle.fuse_theorem.specs.EachEvent.{CanHear, nothing, of_interrupt, of_release, of_init, of_call, of_declined}
+use Rattle.fuse_theorem.specs.EachEvent.{CanReceive, nothing, of_interrupt, of_release, of_init, of_call, of_declined}
 use Rattle.fuse_theorem.specs.KnownNodes.{IsKnown, NodesKnown}
 use Rattle.fuse_theorem.specs.Lookups.{IsHeldAs, EntriesHeld}
 use Rattle.fuse_theorem.specs.OpenNumbers.{IsOfItsNode}
@@ -43,7 +43,7 @@ reply_fits t h operation (created g valid fh) goes its entries held o e = absurd
 reply_fits t h operation (opened fh) goes its entries held o e = absurd (true≢false (sym goes))
 reply_fits t h operation wire goes its entries held o e = absurd (cc (e))
 
-module _ (w : World) (p : Plain) (nodes : NodesKnown w.kernel) (held : KnownAreHeld w) (sent : Sent) (entries : EntriesHeld w.server.nodes sent.wire) (hears : CanHear w p sent) where
+module _ (w : World) (p : Plain) (nodes : NodesKnown w.kernel) (held : KnownAreHeld w) (sent : Sent) (entries : EntriesHeld w.server.nodes sent.wire) (hears : CanReceive w p sent) where
   -- the node that a call opens is held
   opening_held : (call : ℕ) (state : CallState Opened) → get w.kernel.vfs.calls call ≡ Some state → (node : ℕ) → asked state ≡ opening node → (generation : ℕ) × IsHeldAs w.server.nodes node generation
   opening_held call state there node is =
@@ -65,7 +65,7 @@ module _ (w : World) (p : Plain) (nodes : NodesKnown w.kernel) (held : KnownAreH
           let state_is : s ≡ state = cc (subst (λ (n : ℕ). get w.kernel.vfs.calls n ≡ Some s) call_is at, there) in
           reply_fits w.server.nodes w.server.handles (asked state) sent.wire goes (subst (λ (q : CallState Opened). OpensItsFile w.server.nodes w.server.handles (asked q) sent.wire) state_is its) entries (opening_held call state there) o e
 
-      by : CanHear w p sent → IsOfItsNode w.server o
+      by : CanReceive w p sent → IsOfItsNode w.server o
       by (nothing none) = let none_waits : waiting w.kernel.queues sent.unique ≡ None = ap (λ (b : Bool). cond b (waiting w.kernel.queues (sent.unique - 1)) (waiting w.kernel.queues sent.unique)) (sym even) ∙ none in absurd (cc (none_waits, waits))
       by (of_interrupt kept numbered live odd x) = absurd (true≢false (sym odd ∙ even))
       by (of_release other numbered live tie x) = absurd (cc (x, waits))

@@ -28,7 +28,7 @@ use Rattle.fuse_spec.specs.Kernel.Queues.{QueueState, IsSound, is_unread, pendin
 use Rattle.fuse_spec.specs.Kernel.QueueCalls.{after_reading, after_read_pending, after_reply_effect, after_interrupt_reply, pending_at, waiting, with_mark, with_interrupt, without}
 use Rattle.fuse_spec.specs.Kernel.Signals.{reply_effect}
 use Rattle.fuse_spec.specs.Kernel.Kernel.{Kernel, is_live, asked_by, body_of, kernel_aborted, after_use}
-use Rattle.fuse_spec.specs.Kernel.Replies.{kernel_reply, learnt, usable, goes_with, is_empty_reply, is_init_reply, is_agreement, write_result_of, judged, replied, replied_to_call, ended_by, reply_taken, odd_taken, interrupt_replied, interrupt_reply_of, reply_written, made_ready}
+use Rattle.fuse_spec.specs.Kernel.Replies.{kernel_reply, learnt, usable, goes_with, is_empty_reply, is_init_reply, is_agreement, write_result_of, judged, replied, replied_to_call, ended_by, request_reply_written, interrupt_reply_written, interrupt_replied, interrupt_reply_of, reply_written, made_ready}
 use Rattle.fuse_spec.proofs.QueueCounts.{lookup-found}
 use Rattle.fuse_spec.proofs.QueueReadings.{key_count-le-one}
 use Rattle.fuse_theorem.specs.OpenNumbers.{OpensApart, released_for, released_by}
@@ -218,9 +218,9 @@ module _ (P : Opened → Type 0) where
         by None none = absurd (unanswered k one_request call unique waits none)
         by (Some state) there =
             let first = ended_keeps (purpose.Call call) waits in
-            let heard = replied_heard ended old call state there wire used (each is_even call state waits there) in
-            let second = heard.keeps in
-            record { opens = heard.opens; keeps = record { sums = λ f. let a = first.sums f in let b = second.sums f in omega (arith, a, b); apart = second.apart }; counts = heard.counts; fits = heard.fits }
+            let reply_received = replied_heard ended old call state there wire used (each is_even call state waits there) in
+            let second = reply_received.keeps in
+            record { opens = reply_received.opens; keeps = record { sums = λ f. let a = first.sums f in let b = second.sums f in omega (arith, a, b); apart = second.apart }; counts = reply_received.counts; fits = reply_received.fits }
 
     pub written_heard : is_live (reply_written k unique wire).1.phase ≡ true → HearsOpens P k wire (reply_written k unique wire)
     written_heard = by (nat_eq (unique % 2) 1) refl
@@ -244,15 +244,15 @@ module _ (P : Opened → Type 0) where
         interrupts done = carries_nothing k k done Accepted (unmoved k old) (λ fh. refl)
         interrupts x = refuses k k x Invalid (unmoved k old) (λ n. refl)
 
-        odd : (o : Option Purpose) → HearsOpens P k wire (odd_taken k unique wire o)
+        odd : (o : Option Purpose) → HearsOpens P k wire (interrupt_reply_written k unique wire o)
         odd None = refuses k k wire NoEntry (unmoved k old) (λ n. refl)
         odd (Some kept) = interrupts wire
 
-        even : nat_eq (unique % 2) 1 ≡ false → (o : Option Purpose) → waiting k.queues unique ≡ o → is_live (reply_taken k unique wire o).1.phase ≡ true → HearsOpens P k wire (reply_taken k unique wire o)
+        even : nat_eq (unique % 2) 1 ≡ false → (o : Option Purpose) → waiting k.queues unique ≡ o → is_live (request_reply_written k unique wire o).1.phase ≡ true → HearsOpens P k wire (request_reply_written k unique wire o)
         even is_even None waits live = refuses k k wire NoEntry (unmoved k old) (λ n. refl)
         even is_even (Some kept) waits live = ended_heard is_even kept waits live
 
-        by : (b : Bool) → nat_eq (unique % 2) 1 ≡ b → is_live (cond b (odd_taken k unique wire (waiting k.queues (unique - 1))) (reply_taken k unique wire (waiting k.queues unique))).1.phase ≡ true
-            → HearsOpens P k wire (cond b (odd_taken k unique wire (waiting k.queues (unique - 1))) (reply_taken k unique wire (waiting k.queues unique)))
+        by : (b : Bool) → nat_eq (unique % 2) 1 ≡ b → is_live (cond b (interrupt_reply_written k unique wire (waiting k.queues (unique - 1))) (request_reply_written k unique wire (waiting k.queues unique))).1.phase ≡ true
+            → HearsOpens P k wire (cond b (interrupt_reply_written k unique wire (waiting k.queues (unique - 1))) (request_reply_written k unique wire (waiting k.queues unique)))
         by true tie live = odd (waiting k.queues (unique - 1))
         by false tie live = even tie (waiting k.queues unique) refl live

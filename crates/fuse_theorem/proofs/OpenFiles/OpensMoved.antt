@@ -82,7 +82,7 @@ forgets_same w n f = by (queues.can_read_forgets w.kernel.queues n)
 
 -- ---- a reply is written
 
-module _ (w : World) (old : OpensBalanced w) (copies : CopiesSound w) (k : ℕ) (sent : Sent) (there : slice_get w.replies k ≡ Some sent) (taken : WriteResult × Kernel) (heard : HearsOpens (IsOfItsNode w.server) w.kernel sent.wire taken) where
+module _ (w : World) (old : OpensBalanced w) (copies : CopiesSound w) (k : ℕ) (sent : Sent) (there : slice_get w.replies k ≡ Some sent) (taken : WriteResult × Kernel) (reply_received : HearsOpens (IsOfItsNode w.server) w.kernel sent.wire taken) where
   abbrev written : World
   written = after_write w k sent taken
 
@@ -90,14 +90,14 @@ module _ (w : World) (old : OpensBalanced w) (copies : CopiesSound w) (k : ℕ) 
   copy = All-at (IsKnownCopy w.server.copies) w.replies k sent copies.sent there
 
   opens : Option Opened
-  opens = heard.opens
+  opens = reply_received.opens
 
   -- What is opened is open beside the files that were.
-  pub moved : (f : Opened → ℕ) → sum_by f (open_files written) ≡ sum_by f (open_files w) + worth f heard.opens
+  pub moved : (f : Opened → ℕ) → sum_by f (open_files written) ≡ sum_by f (open_files w) + worth f reply_received.opens
   moved f =
       let before = open_sum f w in
       let after = open_sum f written in
-      let kept = heard.keeps.sums f in
+      let kept = reply_received.keeps.sums f in
       omega (arith, before, after, kept)
 
   counted : CountsOpens written
@@ -109,7 +109,7 @@ module _ (w : World) (old : OpensBalanced w) (copies : CopiesSound w) (k : ℕ) 
       sum_by_push (result_carries (opens_in fh) w.server) w.results (record { number = sent.number; unique = sent.unique; result = taken.0 }) in
       let carries : refused taken.0 (carried (opens_in fh) (get w.server.copies sent.number)) ≡ refused taken.0 (opens_in fh sent.wire) =
       ap (λ (o : Option Copy). refused taken.0 (carried (opens_in fh) o)) copy.there ∙ ap (λ (x : WireReply). refused taken.0 (opens_in fh x)) copy.same_wire in
-      let heard_counts = heard.counts fh in
+      let heard_counts = reply_received.counts fh in
       omega (arith, whole, sum, gone, pushed, carries, heard_counts)
 
   abbrev was_open : Opened → Bool
@@ -127,6 +127,6 @@ module _ (w : World) (old : OpensBalanced w) (copies : CopiesSound w) (k : ℕ) 
     files = all_pass was_open (open_files written)
         (let sum = moved (failing was_open) in
         let none = none_failing was_open (open_files w) old.files in
-        let new = new_fits heard.opens heard.fits in
+        let new = new_fits reply_received.opens reply_received.fits in
         omega (arith, sum, none, new));
   }

@@ -136,7 +136,7 @@ module _ (choice : ℕ → ℕ) (w : World) (p : Plain) (both : BothSound w p) (
   written_apart k sent there = by (is_live w.kernel.phase) refl
     where
       by : (b : Bool) → is_live w.kernel.phase ≡ b → OpensApart (reply_written w.kernel sent.unique sent.wire).1.vfs (reply_written w.kernel sent.unique sent.wire).1.closing
-      by true live = let heard = hears_opens k sent there live in let kept = heard.keeps in kept.apart
+      by true live = let reply_received = hears_opens k sent there live in let kept = reply_received.keeps in kept.apart
       by false dead = let links = both.links in none_at w.replies k sent (links.idle dead).replies there
 
   apart_after : (e : Event) (o : Outcome) (after : World) → Happened choice w e o after → OpensApart after.kernel.vfs after.kernel.closing

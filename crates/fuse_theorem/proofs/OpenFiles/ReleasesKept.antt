@@ -26,7 +26,7 @@ use Rattle.fuse_spec.specs.Kernel.Messages.{WireReply}
 use Rattle.fuse_spec.specs.Files.Operations.{Operation, done, failed, files_in_reply}
 use Rattle.fuse_spec.specs.Kernel.QueueCalls.{after_enqueue, set_mark, after_reading, after_effect, interrupt_effect, after_reply_effect, waiting, without}
 use Rattle.fuse_spec.specs.Kernel.Queues.{QueueState, mark_under}
-use Rattle.fuse_spec.specs.Kernel.Replies.{kernel_reply, learnt, Use, usable, useless, stale, goes_with, is_agreement, judged, replied, replied_to_call, reply_taken, odd_taken, interrupt_replied, interrupt_reply_of, reply_written, heard, without_stale, reply_judged, use_of_reply, made_ready}
+use Rattle.fuse_spec.specs.Kernel.Replies.{kernel_reply, learnt, Use, usable, useless, stale, goes_with, is_agreement, judged, replied, replied_to_call, request_reply_written, interrupt_reply_written, interrupt_replied, interrupt_reply_of, reply_written, reply_received, without_stale, reply_judged, use_of_reply, made_ready}
 use Rattle.fuse_spec.specs.Kernel.Signals.{reply_effect}
 use Rattle.fuse_spec.specs.Calls.Vfs.{CallState, walking, doing, using, asked, Advance, answered, begun}
 use Rattle.fuse_theorem.specs.KnownNodes.{IsKnown, NodesKnown}
@@ -157,7 +157,7 @@ heard_kept k old call wire (Some state) = by (goes_with (asked state) wire)
     judged_kept x (stale node) = record { closing = old.closing; requests = old.requests }
 
     by : (b : Bool) → KeptReleases (replied k call state b wire).1
-    by true = used_kept (heard k call state wire) state (judged_kept (reply_judged k.nodes wire) (use_of_reply k.nodes wire))
+    by true = used_kept (reply_received k call state wire) state (judged_kept (reply_judged k.nodes wire) (use_of_reply k.nodes wire))
     by false = used_kept (record k { vfs = answered k.vfs call (answer.failed 5) }) state (record { closing = old.closing; requests = old.requests })
 
 -- Everything is given up.
@@ -185,7 +185,7 @@ written_kept k old unique wire = by (nat_eq (unique % 2) 1)
     interrupts done = old
     interrupts x = old
 
-    odd : (o : Option Purpose) → KeptReleases (odd_taken k unique wire o).1
+    odd : (o : Option Purpose) → KeptReleases (interrupt_reply_written k unique wire o).1
     odd None = old
     odd (Some kept) = interrupts wire
 
@@ -196,12 +196,12 @@ written_kept k old unique wire = by (nat_eq (unique % 2) 1)
     agrees true = record { closing = ended.closing; requests = ended.requests }
     agrees false = none_kept (kernel_aborted (record k { queues = without k.queues unique })) refl refl
 
-    even : (o : Option Purpose) → KeptReleases (reply_taken k unique wire o).1
+    even : (o : Option Purpose) → KeptReleases (request_reply_written k unique wire o).1
     even None = old
     even (Some purpose.Init) = agrees (is_agreement wire)
     even (Some (purpose.Release o)) = ended
     even (Some (purpose.Call call)) = heard_kept (record k { queues = without k.queues unique }) ended call wire (get k.vfs.calls call)
 
-    by : (b : Bool) → KeptReleases (cond b (odd_taken k unique wire (waiting k.queues (unique - 1))) (reply_taken k unique wire (waiting k.queues unique))).1
+    by : (b : Bool) → KeptReleases (cond b (interrupt_reply_written k unique wire (waiting k.queues (unique - 1))) (request_reply_written k unique wire (waiting k.queues unique))).1
     by true = odd (waiting k.queues (unique - 1))
     by false = even (waiting k.queues unique)

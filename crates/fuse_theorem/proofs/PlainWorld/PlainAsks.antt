@@ -19,7 +19,7 @@ use Rattle.fuse_spec.specs.Files.Trees.{Tree, record_length, fitting, records_af
 use Rattle.fuse_spec.specs.Calls.CallReplies.{call_replied}
 use Rattle.fuse_spec.specs.Calls.Vfs.{CallState, begun}
 use Rattle.fuse_spec.specs.Reference.Plain.{Plain, Ask, Stage, waiting, performed, declined, asking, call_put, ask_performed, ask_declined, ask_told, ask_interrupted, ask_noted, ask_marked, plain_later, name_dropped, plain_aborted, plain_mounted, first_plain}
-use Rattle.fuse_spec.specs.Reference.PlainSteps.{where_so, serving_ask, serving, telling_call, telling_ask, telling, signalled_ask, signalling, marking, takes, Takes}
+use Rattle.fuse_spec.specs.Reference.PlainSteps.{where_so, serving_ask, serving, telling_call, delivering_reply, delivering, signalled_ask, signalling, marking, takes, Takes}
 use Rattle.fuse_spec.specs.Reference.PlainReplies.{RepliesTo, AskServed, AsksServed}
 use Rattle.fuse_theorem.proofs.Nodes.NodesSound.{put_found, left_found}
 
@@ -139,7 +139,7 @@ module _ (p : Plain) (old : AsksServed p) where
   served_ask label ask at q (performed reply) = λ e. absurd (cc)
   served_ask label ask at q declined = λ e. absurd (cc)
 
-  told_ask : (label next : ℕ) (ask : Ask) (q : Plain) (stage : Stage) → telling_ask p label next ask stage ≡ Some q → AsksServed q
+  told_ask : (label next : ℕ) (ask : Ask) (q : Plain) (stage : Stage) → delivering_reply p label next ask stage ≡ Some q → AsksServed q
   told_ask label next ask q waiting e = absurd (cc)
   told_ask label next ask q (performed reply) e = by (get p.vfs.calls ask.call) e
     where
@@ -168,7 +168,7 @@ module _ (p : Plain) (old : AsksServed p) where
       by (Some ask) at g = served_ask unique ask at q ask.stage g
   step_served chosen (event.write k) (event.written unique Accepted) q f = by (get p.asks unique) f
     where
-      by : (x : Option Ask) → telling p unique chosen x ≡ Some q → AsksServed q
+      by : (x : Option Ask) → delivering p unique chosen x ≡ Some q → AsksServed q
       by None g = some_served p q old g
       by (Some ask) g = told_ask unique chosen ask q ask.stage g
   step_served chosen (event.write k) (event.written unique NoEntry) q f = some_served p q old f

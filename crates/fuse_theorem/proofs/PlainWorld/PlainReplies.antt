@@ -5,7 +5,7 @@ use Rattle.fuse_spec.specs.Calls.Paths.{is_dots}
 use Rattle.fuse_spec.specs.Files.Operations as op
 use Rattle.fuse_spec.specs.Calls.Vfs.{CallState, walking, doing, using, Vfs, walks_on, bound}
 use Rattle.fuse_spec.specs.Calls.CallReplies.{name_told, names_told, all_bound, operation_replied, call_replied}
-use Rattle.fuse_spec.specs.Reference.PlainCalls.{ComeIntoForce, Answers, Hears}
+use Rattle.fuse_spec.specs.Reference.PlainCalls.{ComeIntoForce, Answers, ReceivesReply}
 use Rattle.fuse_spec.specs.Reference.PlainCalls as plain
 use Rattle.fuse_theorem.proofs.PlainWorld.PlainWalks.{goes_on}
 
@@ -41,11 +41,11 @@ module _ (c : Vfs ℕ) (number : ℕ) where
   answers operation reply = plain.is_no_reply operation reply refl
 
   -- A reply reaches the call as it does in words.
-  pub hears : (state : CallState ℕ) (reply : Reply ℕ ℕ) → Hears c number state reply (call_replied c number state reply).vfs (call_replied c number state reply).operation
+  pub hears : (state : CallState ℕ) (reply : Reply ℕ ℕ) → ReceivesReply c number state reply (call_replied c number state reply).vfs (call_replied c number state reply).operation
   hears (walking directory word words plan) (op.found file valid) =
       let known = bound c directory word (Some file) valid in
       let went = walks_on known number file words plan in
-      Hears.is_found directory word words plan file valid went.vfs went.operation (goes_on known number file words plan)
+      ReceivesReply.is_found directory word words plan file valid went.vfs went.operation (goes_on known number file words plan)
   hears (walking directory word words plan) (op.missing valid) = plain.is_missing directory word words plan valid
   hears (walking directory word words plan) (op.failed errno) = plain.is_not_told directory word words plan errno
   hears (walking directory word words plan) reply = plain.is_odd directory word words plan reply refl

@@ -14,7 +14,7 @@ use Rattle.fuse_spec.specs.Calls.Calls.{Call, spoken, lists_files_at}
 use Rattle.fuse_spec.specs.Calls.Vfs.{CallState, Vfs, begun, given_up}
 use Rattle.fuse_spec.specs.Calls.CallReplies.{call_replied}
 use Rattle.fuse_spec.specs.Reference.Plain.{Plain, Ask, Stage, waiting, performed, declined, asking, going_on, call_put, ask_performed, ask_declined, ask_told, ask_interrupted, plain_later}
-use Rattle.fuse_spec.specs.Reference.PlainSteps.{where_so, serving_ask, serving, telling_call, telling_ask, telling, may_signal, signalled_ask, signalling, marking, takes, Takes}
+use Rattle.fuse_spec.specs.Reference.PlainSteps.{where_so, serving_ask, serving, telling_call, delivering_reply, delivering, may_signal, signalled_ask, signalling, marking, takes, Takes}
 use Rattle.fuse_spec.specs.World.Events.{Event, Outcome}
 use Rattle.fuse_spec.specs.World.Events as event
 use Rattle.fuse_spec.specs.Reference.PlainWords.{one_more, Asks, Steps, PutAs}
@@ -100,7 +100,7 @@ module _ (p q : Plain) where
       by (performed reply) stage f = absurd (cc)
       by declined stage f = absurd (cc)
 
-  tells : (k unique label : ℕ) (o : Option Ask) → get p.asks unique ≡ o → telling p unique label o ≡ Some q → Steps p (event.write k) (event.written unique Accepted) q
+  tells : (k unique label : ℕ) (o : Option Ask) → get p.asks unique ≡ o → delivering p unique label o ≡ Some q → Steps p (event.write k) (event.written unique Accepted) q
   tells k unique label None there e = some_goes _ _ p e (plain.tells_none k unique there)
   tells k unique label (Some ask) there e = by ask.stage refl e
     where
@@ -114,7 +114,7 @@ module _ (p q : Plain) where
           (plain.tells k unique label ask reply state went.vfs went.operation (ask_told p unique label ask reply state) there stage stands (is_free (get p.asks label) did.so) (hears p.vfs ask.call state reply)
           (asks (record p { asks = remove p.asks unique }) label ask.call went.vfs went.operation))
 
-      by : (stage : Stage) → ask.stage ≡ stage → telling_ask p unique label ask stage ≡ Some q → Steps p (event.write k) (event.written unique Accepted) q
+      by : (stage : Stage) → ask.stage ≡ stage → delivering_reply p unique label ask stage ≡ Some q → Steps p (event.write k) (event.written unique Accepted) q
       by waiting stage f = absurd (cc)
       by (performed reply) stage f = by_call reply stage (get p.vfs.calls ask.call) refl f
       by declined stage f =

@@ -16,7 +16,7 @@ use Rattle.fuse_spec.specs.Kernel.Replies.{learnt, kernel_reply, replied, replie
 use Rattle.fuse_spec.specs.World.Worlds.{World, Sent, after_write}
 use Rattle.fuse_spec.specs.World.Events as event
 use Rattle.fuse_spec.specs.Reference.Plain.{Plain, Ask, Stage, ask_told}
-use Rattle.fuse_spec.specs.Reference.PlainSteps.{Takes, telling, telling_ask, telling_call, where_so}
+use Rattle.fuse_spec.specs.Reference.PlainSteps.{Takes, delivering, delivering_reply, telling_call, where_so}
 use Rattle.fuse_spec.specs.Claim.Denotes.{MeansIn, MeansOpenIn, OptionAlike, StateAlike, ReplyAlike}
 use Rattle.fuse_spec.specs.Claim.Alike.{Alike}
 use Rattle.fuse_spec.proofs.QueueSoundness.{IsSound-without}
@@ -53,16 +53,16 @@ module _ (w : World) (p : Plain) (numbered : IsNumbered w) (one : OneId w.server
     kept_below = numbered.kept_below;
   }
 
-  abbrev heard : Reply ℕ Opened
-  heard = kernel_reply (asked state) sent.wire
+  abbrev reply_received : Reply ℕ Opened
+  reply_received = kernel_reply (asked state) sent.wire
 
   abbrev k1 : Kernel
   k1 = record w.kernel { queues = without w.kernel.queues sent.unique; nodes = nodes' }
 
   abbrev next : Advance Opened
-  next = call_replied w.kernel.vfs call state heard
+  next = call_replied w.kernel.vfs call state reply_received
 
-  fits : ReplyAlike (MeansIn wl) (MeansOpenIn wl) heard reply
+  fits : ReplyAlike (MeansIn wl) (MeansOpenIn wl) reply_received reply
   fits = heard_fits w.kernel.nodes w.server.nodes w.server.handles (asked state) is.ask.operation sent.wire reply is.goes is.used is.opens is.same is.told
 
   other_state : (o : Option (CallState ℕ)) → OptionAlike (StateAlike (MeansIn wl) (MeansOpenIn wl)) (Some state) o → (s : CallState ℕ) × (o ≡ Some s) × StateAlike (MeansIn wl) (MeansOpenIn wl) state s
@@ -77,7 +77,7 @@ module _ (w : World) (p : Plain) (numbered : IsNumbered w) (one : OneId w.server
 
   told_alike : Alike (record w { kernel = advanced k1 call next }) q
   told_alike =
-      heard_alike wl p learnt_numbered (one_to_one nodes' w.server.nodes one) learnt_alike live sent.unique call is.request is.ask state state'.0 is.under is.serves is.there is.by_call state'.1 state'.2 reply heard is.stage fits
+      heard_alike wl p learnt_numbered (one_to_one nodes' w.server.nodes one) learnt_alike live sent.unique call is.request is.ask state state'.0 is.under is.serves is.there is.by_call state'.1 state'.2 reply reply_received is.stage fits
 
   used_after : (s : CallState Opened) → state ≡ s → Alike (record w { kernel = advanced k1 call (call_replied w.kernel.vfs call s (kernel_reply (asked s) sent.wire)) }) q
       → Alike (record w { kernel = after_use (advanced k1 call (call_replied w.kernel.vfs call s (kernel_reply (asked s) sent.wire))) s }) q
@@ -106,7 +106,7 @@ module _ (w : World) (p : Plain) (numbered : IsNumbered w) (one : OneId w.server
         q,
         (
           w.kernel.queues.next,
-          ap (λ (o : Option Ask). telling p sent.unique w.kernel.queues.next o) is.there ∙ ap (λ (s : Stage). telling_ask p sent.unique w.kernel.queues.next is.ask s) is.stage
+          ap (λ (o : Option Ask). delivering p sent.unique w.kernel.queues.next o) is.there ∙ ap (λ (s : Stage). delivering_reply p sent.unique w.kernel.queues.next is.ask s) is.stage
               ∙ ap (λ (o : Option (CallState ℕ)). telling_call p sent.unique w.kernel.queues.next is.ask reply o) (ap (λ (n : ℕ). get p.vfs.calls n) is.by_call ∙ state'.1) ∙ ap (λ (o : Option Ask). where_so (not (is_some o)) q) free,
         ),
         subst (λ (took : WriteResult × Kernel). Alike (after_write w k sent took) q) (sym replied_is)

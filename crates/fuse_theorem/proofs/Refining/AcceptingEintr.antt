@@ -18,7 +18,7 @@ use Rattle.fuse_spec.specs.Kernel.Replies.{goes_with, replied_to_call, replied, 
 use Rattle.fuse_spec.specs.World.Worlds.{World, Sent, after_write}
 use Rattle.fuse_spec.specs.World.Events as event
 use Rattle.fuse_spec.specs.Reference.Plain.{Plain, Ask, Stage, ask_interrupted}
-use Rattle.fuse_spec.specs.Reference.PlainSteps.{Takes, telling, telling_ask, where_so}
+use Rattle.fuse_spec.specs.Reference.PlainSteps.{Takes, delivering, delivering_reply, where_so}
 use Rattle.fuse_spec.specs.Claim.Denotes.{MeansIn, MeansOpenIn, OptionAlike, StateAlike, generation_known}
 use Rattle.fuse_spec.specs.Claim.Alike.{Alike}
 use Rattle.fuse_spec.proofs.QueueSoundness.{IsSound-without}
@@ -78,7 +78,7 @@ module _ (w : World) (p : Plain) (numbered : IsNumbered w) (one : OneId w.server
   pub eintr_goes : (q' : Plain) × Takes p (event.write k) (event.written sent.unique Accepted) q' × Alike (after_write w k sent (replied_to_call k1 call sent.wire (get w.kernel.vfs.calls call))) q'
   eintr_goes = (
     q,
-    (0, ap (λ (o : Option Ask). telling p sent.unique 0 o) is.there ∙ ap (λ (s : Stage). telling_ask p sent.unique 0 is.ask s) is.stage ∙ ap (λ (b : Bool). where_so (b && is_some (get p.vfs.calls is.ask.call)) q) is.noted ∙ ap (λ (b : Bool). where_so b q) unanswered),
+    (0, ap (λ (o : Option Ask). delivering p sent.unique 0 o) is.there ∙ ap (λ (s : Stage). delivering_reply p sent.unique 0 is.ask s) is.stage ∙ ap (λ (b : Bool). where_so (b && is_some (get p.vfs.calls is.ask.call)) q) is.noted ∙ ap (λ (b : Bool). where_so b q) unanswered),
     subst (λ (took : WriteResult × Kernel). Alike (after_write w k sent took) q) (sym replied_is)
         (unsent_alike (record w { kernel = after_use k2 state }) q (used_alike (record w { kernel = k2 }) q (IsSound-without w.kernel.queues sent.unique numbered.queues) live told state) k results),
   )

@@ -39,7 +39,7 @@ pub record AsksAlikeBut (w : World) (p : Plain) (call : ℕ) : Type 0 where
   pub copies : All (λ (sent : Sent). (ask : Ask) → get p.asks sent.unique ≡ Some ask → StageTold w.server.nodes w.server.handles ask.stage sent.wire) w.replies
 
 -- All is alike but for one call, for which no request is queued.
-pub record Paused (w : World) (p : Plain) (call : ℕ) : Type 0 where
+pub record AlikeExceptCall (w : World) (p : Plain) (call : ℕ) : Type 0 where
   pub none_for : requests_for call w.kernel.queues ≡ 0
   pub requests : RequestsAlike w p
   pub asks : is_live w.kernel.phase ≡ true → AsksAlikeBut w p call
@@ -69,7 +69,7 @@ body_beside k l call purpose.Init others other = refl
 body_beside k l call (purpose.Release o) others other = refl
 body_beside k l call (purpose.Call q) others other = ap asked_by (others q (λ same. true≢false (sym (subst (λ (n : ℕ). nat_eq n call ≡ true) (sym same) (same_is call)) ∙ other)))
 
-module _ (w : World) (p : Plain) (call : ℕ) (numbered : IsNumbered w) (paused : Paused w p call) where
+module _ (w : World) (p : Plain) (call : ℕ) (numbered : IsNumbered w) (paused : AlikeExceptCall w p call) where
   abbrev Mean : ℕ → ℕ → Type 0
   Mean = MeansIn w
 

@@ -10,7 +10,7 @@ use Rattle.fuse_spec.specs.Reference.PlainSteps.{Takes}
 use Rattle.fuse_spec.specs.Claim.Denotes.{MeansIn, MeansOpenIn}
 use Rattle.fuse_spec.specs.Claim.Alike.{Alike}
 use Rattle.fuse_theorem.specs.Numbering.{IsOneToOne}
-use Rattle.fuse_theorem.proofs.Calls.Hearing.{unbound_alike}
+use Rattle.fuse_theorem.proofs.Calls.RepliesReceived.{unbound_alike}
 
 module _ (w : World) (p : Plain) (one : IsOneToOne (MeansIn w)) (same : Alike w p) where
   dropped_alike : (directory file : ℕ) (name : Name) → MeansIn w directory file → Alike (after_drop w directory name) (name_dropped p file name)

@@ -20,7 +20,7 @@ use Rattle.fuse_spec.proofs.QueueCounts.{lookup-remove_entry_other}
 use Rattle.fuse_spec.proofs.QueueReadings.{key_count-le-one, request_under-without}
 use Rattle.fuse_theorem.specs.Numbering.{IsNumbered, requests_for}
 use Rattle.fuse_theorem.proofs.Calls.Finding.{same_is, other_is, no_key, All-filter, All-filter_left, find_left, count_left, found_entry}
-use Rattle.fuse_theorem.proofs.Refining.Asking.{match_more, Paused}
+use Rattle.fuse_theorem.proofs.Refining.Asking.{match_more, AlikeExceptCall}
 
 -- the plain world without the ask under a label
 abbrev pub without_ask : Plain → ℕ → Plain
@@ -94,7 +94,7 @@ module _ (w : World) (p : Plain) (numbered : IsNumbered w) (same : Alike w p) (u
 
   -- The request leaves the queues, and its ask the plain world.
   pub paused_ended : (interrupts : List ℕ) → All (λ (s : Request). s.unique ≢ unique) w.requests → get w.server.held unique ≡ None
-      → Paused (record w { kernel = record w.kernel { queues = without_request q0 unique interrupts } }) (without_ask p unique) call
+      → AlikeExceptCall (record w { kernel = record w.kernel { queues = without_request q0 unique interrupts } }) (without_ask p unique) call
   paused_ended interrupts sent_apart unheld =
       let k = record w.kernel { queues = without_request q0 unique interrupts } in
       let stays : (c v : ℕ) → request_of w.kernel c ≡ Some v → v ≢ unique → request_of k c ≡ Some v =

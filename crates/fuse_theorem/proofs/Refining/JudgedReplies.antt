@@ -10,7 +10,7 @@ use Rattle.fuse_spec.specs.Values.Maps.{Map, get, put}
 use Rattle.fuse_spec.specs.Kernel.Messages.{WireReply}
 use Rattle.fuse_spec.specs.Server.Nodes.{NodeTable}
 use Rattle.fuse_spec.specs.Files.Operations.{DirentPlus, told_by, first_told, files_told, listed_plus, files_in_reply}
-use Rattle.fuse_spec.specs.Kernel.Replies.{Use, usable, first_use, counted_more, learnt, use_of_told, pair_judged, pairs_judged, stale_in, stale_among, each_forgotten, reply_judged, use_of_reply, stale_in_reply, judged, heard}
+use Rattle.fuse_spec.specs.Kernel.Replies.{Use, usable, first_use, counted_more, learnt, use_of_told, pair_judged, pairs_judged, stale_in, stale_among, each_forgotten, reply_judged, use_of_reply, stale_in_reply, judged, reply_received}
 use Rattle.fuse_spec.specs.Calls.Vfs.{CallState}
 use Rattle.fuse_theorem.specs.Conditions.{IsUsable}
 use Rattle.fuse_theorem.specs.Lookups.{IsHeldAs, EntriesHeld}
@@ -19,7 +19,7 @@ use Rattle.fuse_theorem.proofs.Nodes.NodesSound.{put_found}
 use Rattle.fuse_theorem.proofs.Replies.RepliesGo.{use_one, all_usable}
 
 -- The kernel hears such a reply as one whose entries can all be used.
-pub heard_is : (k : Kernel) (call : ℕ) (state : CallState Opened) (wire : WireReply) → IsUsable k.nodes wire → heard k call state wire ≡ judged k call state wire usable
+pub heard_is : (k : Kernel) (call : ℕ) (state : CallState Opened) (wire : WireReply) → IsUsable k.nodes wire → reply_received k call state wire ≡ judged k call state wire usable
 heard_is k call state wire is =
     λ i. judged (record k { queues = each_forgotten k.queues (is.none_stale i) }) call state (is.judged i) (is.is_usable i)
 

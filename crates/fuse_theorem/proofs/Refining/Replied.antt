@@ -22,11 +22,11 @@ use Rattle.fuse_spec.specs.Kernel.Queues.{QueueState, mark_under}
 use Rattle.fuse_spec.specs.Kernel.QueueCalls.{waiting, without, after_reply_effect, after_interrupt_reply}
 use Rattle.fuse_spec.specs.Kernel.Messages.{WireReply}
 use Rattle.fuse_spec.specs.Kernel.Kernel.{Kernel, is_live}
-use Rattle.fuse_spec.specs.Kernel.Replies.{is_empty_reply, write_result_of, ended_by, reply_taken, odd_taken, interrupt_replied, interrupt_reply_of, reply_written, made_ready}
+use Rattle.fuse_spec.specs.Kernel.Replies.{is_empty_reply, write_result_of, ended_by, request_reply_written, interrupt_reply_written, interrupt_replied, interrupt_reply_of, reply_written, made_ready}
 use Rattle.fuse_spec.specs.World.Worlds.{World, Sent, after_write}
 use Rattle.fuse_spec.specs.World.Events as event
 use Rattle.fuse_spec.specs.Reference.Plain.{Plain, Ask}
-use Rattle.fuse_spec.specs.Reference.PlainSteps.{Takes, telling}
+use Rattle.fuse_spec.specs.Reference.PlainSteps.{Takes, delivering}
 use Rattle.fuse_spec.specs.Claim.Alike.{Alike}
 use Rattle.fuse_theorem.specs.Numbering.{IsNumbered}
 use Rattle.fuse_theorem.specs.Conditions.{awaiting}
@@ -54,14 +54,14 @@ module _ (w : World) (p : Plain) (same : Alike w p) (k : ℕ) (sent : Sent) wher
   no_entry none =
       subst (Unseen w p k sent) (sym (by (nat_eq (sent.unique % 2) 1) (waiting w.kernel.queues (sent.unique - 1)) (waiting w.kernel.queues sent.unique) none)) ((0, refl), unsent_alike w p same k (results NoEntry))
     where
-      by : (b : Bool) (odd even : Option Purpose) → cond b odd even ≡ None → cond b (odd_taken w.kernel sent.unique sent.wire odd) (reply_taken w.kernel sent.unique sent.wire even) ≡ (NoEntry, w.kernel)
-      by true odd even e = ap (odd_taken w.kernel sent.unique sent.wire) e
-      by false odd even e = ap (reply_taken w.kernel sent.unique sent.wire) e
+      by : (b : Bool) (odd even : Option Purpose) → cond b odd even ≡ None → cond b (interrupt_reply_written w.kernel sent.unique sent.wire odd) (request_reply_written w.kernel sent.unique sent.wire even) ≡ (NoEntry, w.kernel)
+      by true odd even e = ap (interrupt_reply_written w.kernel sent.unique sent.wire) e
+      by false odd even e = ap (request_reply_written w.kernel sent.unique sent.wire) e
 
   module _ (numbered : IsNumbered w) (live : is_live w.kernel.phase ≡ true) where
     -- A result takes no step where nothing is asked under the number.
     unseen_result : (r : WriteResult) → get p.asks sent.unique ≡ None → Takes p (event.write k) (event.written sent.unique r) p
-    unseen_result Accepted none = (0, ap (λ (o : Option Ask). telling p sent.unique 0 o) none)
+    unseen_result Accepted none = (0, ap (λ (o : Option Ask). delivering p sent.unique 0 o) none)
     unseen_result NoEntry none = (0, refl)
     unseen_result Invalid none = (0, refl)
 
@@ -71,8 +71,8 @@ module _ (w : World) (p : Plain) (same : Alike w p) (k : ℕ) (sent : Sent) wher
 
       written_is : (kept : Purpose) → waiting w.kernel.queues sent.unique ≡ Some kept → reply_written w.kernel sent.unique sent.wire ≡ ended_by left kept sent.wire
       written_is kept waits =
-          ap (λ (b : Bool). cond b (odd_taken w.kernel sent.unique sent.wire (waiting w.kernel.queues (sent.unique - 1))) (reply_taken w.kernel sent.unique sent.wire (waiting w.kernel.queues sent.unique))) even
-          ∙ ap (reply_taken w.kernel sent.unique sent.wire) waits
+          ap (λ (b : Bool). cond b (interrupt_reply_written w.kernel sent.unique sent.wire (waiting w.kernel.queues (sent.unique - 1))) (request_reply_written w.kernel sent.unique sent.wire (waiting w.kernel.queues sent.unique))) even
+          ∙ ap (request_reply_written w.kernel sent.unique sent.wire) waits
 
       -- A RELEASE ends, whatever the reply says.
       pub release_ends : (o : Opened) → waiting w.kernel.queues sent.unique ≡ Some (purpose.Release o) → Unseen w p k sent (reply_written w.kernel sent.unique sent.wire)
@@ -105,8 +105,8 @@ module _ (w : World) (p : Plain) (same : Alike w p) (k : ℕ) (sent : Sent) wher
       pub interrupt_replied_to : (kept : Purpose) → waiting w.kernel.queues (sent.unique - 1) ≡ Some kept → Unseen w p k sent (reply_written w.kernel sent.unique sent.wire)
       interrupt_replied_to kept waits =
           subst (Unseen w p k sent)
-          (sym (ap (λ (b : Bool). cond b (odd_taken w.kernel sent.unique sent.wire (waiting w.kernel.queues (sent.unique - 1))) (reply_taken w.kernel sent.unique sent.wire (waiting w.kernel.queues sent.unique))) odd
-          ∙ ap (odd_taken w.kernel sent.unique sent.wire) waits)) (by sent.wire)
+          (sym (ap (λ (b : Bool). cond b (interrupt_reply_written w.kernel sent.unique sent.wire (waiting w.kernel.queues (sent.unique - 1))) (request_reply_written w.kernel sent.unique sent.wire (waiting w.kernel.queues sent.unique))) odd
+          ∙ ap (interrupt_reply_written w.kernel sent.unique sent.wire) waits)) (by sent.wire)
         where
           none : get p.asks sent.unique ≡ None
           none = odd_unasked w p numbered.queues same live sent.unique (λ e. absurd (grind (arith, nat_tests, odd, e)))

@@ -35,7 +35,7 @@ use Rattle.fuse_theorem.proofs.Refining.Asking.{advanced_alike}
 use Rattle.fuse_theorem.proofs.Refining.Ending.{without_ask, not_asked, paused_ended}
 use Rattle.fuse_theorem.proofs.Calls.Finding.{same_is, other_is, all_fail, count_less, found_entry}
 use Rattle.fuse_theorem.proofs.Requests.PendingCounts.{unread_pending}
-use Rattle.fuse_theorem.proofs.Calls.Hearing.{answered_alike}
+use Rattle.fuse_theorem.proofs.Calls.RepliesReceived.{answered_alike}
 use Rattle.fuse_theorem.proofs.Refining.Noting.{noted_alike, flagged_alike, interrupted_alike}
 use Rattle.fuse_theorem.proofs.Refining.Writing.{used_alike}
 

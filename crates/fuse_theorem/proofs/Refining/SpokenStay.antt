@@ -22,7 +22,7 @@ use Rattle.fuse_spec.specs.Kernel.Messages.{Forget, RequestBody, init, asks, rel
 use Rattle.fuse_spec.specs.Files.Operations.{done, failed}
 use Rattle.fuse_spec.specs.Server.Performs.{served, init_reply}
 use Rattle.fuse_spec.specs.Kernel.QueueCalls.{waiting, without}
-use Rattle.fuse_spec.specs.Kernel.Replies.{is_agreement, minor_agreed, files_agreed, made_ready, reply_taken, odd_taken, interrupt_replied, reply_written}
+use Rattle.fuse_spec.specs.Kernel.Replies.{is_agreement, minor_agreed, files_agreed, made_ready, request_reply_written, interrupt_reply_written, interrupt_replied, reply_written}
 use Rattle.fuse_spec.specs.Server.Server.{Server, HeldRequest, Kept, Copy, knows}
 use Rattle.fuse_spec.specs.Server.Taking.{taking, interrupting}
 use Rattle.fuse_spec.specs.Kernel.Uniques.{interrupt_number}
@@ -119,7 +119,7 @@ agrees_still k first minor lists unique wire agrees = by (nat_eq (unique % 2) 1)
     interrupts done = (minor, lists)
     interrupts x = (minor, lists)
 
-    odd : (o : Option Purpose) → ((odd_taken k unique wire o).1.minor ≡ M15) × ((odd_taken k unique wire o).1.lists_files ≡ false)
+    odd : (o : Option Purpose) → ((interrupt_reply_written k unique wire o).1.minor ≡ M15) × ((interrupt_reply_written k unique wire o).1.lists_files ≡ false)
     odd None = (minor, lists)
     odd (Some kept) = interrupts wire
 
@@ -128,7 +128,7 @@ agrees_still k first minor lists unique wire agrees = by (nat_eq (unique % 2) 1)
     readied true says = (ap minor_agreed says, ap files_agreed says)
     readied false says = (minor, lists)
 
-    even : (o : Option Purpose) → waiting k.queues unique ≡ o → ((reply_taken k unique wire o).1.minor ≡ M15) × ((reply_taken k unique wire o).1.lists_files ≡ false)
+    even : (o : Option Purpose) → waiting k.queues unique ≡ o → ((request_reply_written k unique wire o).1.minor ≡ M15) × ((request_reply_written k unique wire o).1.lists_files ≡ false)
     even None waits = (minor, lists)
     even (Some purpose.Init) waits =
         let request = waiting_is k.queues unique purpose.Init waits in readied (is_agreement wire) (agrees (init_is_first k first unique request.request request.under request.serves))
@@ -136,8 +136,8 @@ agrees_still k first minor lists unique wire agrees = by (nat_eq (unique % 2) 1)
     even (Some (purpose.Call call)) waits =
         let goes = replied_goes_on (record k { queues = without k.queues unique }) call wire (get k.vfs.calls call) in (goes.minor ∙ minor, goes.lists_files ∙ lists)
 
-    by : (b : Bool) → ((cond b (odd_taken k unique wire (waiting k.queues (unique - 1))) (reply_taken k unique wire (waiting k.queues unique))).1.minor ≡ M15)
-        × ((cond b (odd_taken k unique wire (waiting k.queues (unique - 1))) (reply_taken k unique wire (waiting k.queues unique))).1.lists_files ≡ false)
+    by : (b : Bool) → ((cond b (interrupt_reply_written k unique wire (waiting k.queues (unique - 1))) (request_reply_written k unique wire (waiting k.queues unique))).1.minor ≡ M15)
+        × ((cond b (interrupt_reply_written k unique wire (waiting k.queues (unique - 1))) (request_reply_written k unique wire (waiting k.queues unique))).1.lists_files ≡ false)
     by true = odd (waiting k.queues (unique - 1))
     by false = even (waiting k.queues unique) refl
 

@@ -20,10 +20,10 @@ use Rattle.fuse_spec.specs.Claim.Alike.{StageTold, Alike}
 use Rattle.fuse_spec.proofs.QueueSoundness.{IsSound-without}
 use Rattle.fuse_theorem.specs.Numbering.{IsOneToOne, IsNumbered}
 use Rattle.fuse_theorem.proofs.Requests.Numbered.{ended_numbered}
-use Rattle.fuse_theorem.proofs.Calls.Hearing.{answered_alike}
+use Rattle.fuse_theorem.proofs.Calls.RepliesReceived.{answered_alike}
 use Rattle.fuse_theorem.proofs.Calls.RepliesReach.{AdvanceAlike, told_call_alike}
 use Rattle.fuse_theorem.proofs.Calls.Advancing.{StepsAlone, call_replied_alone, answered_alone}
-use Rattle.fuse_theorem.proofs.Refining.Asking.{Paused, advanced_alike}
+use Rattle.fuse_theorem.proofs.Refining.Asking.{AlikeExceptCall, advanced_alike}
 use Rattle.fuse_theorem.proofs.Refining.Releasing.{next_unasked, released_alike}
 use Rattle.fuse_theorem.proofs.Refining.Queuing.{All-without}
 use Rattle.fuse_theorem.proofs.Refining.Ending.{without_ask, paused_ended, none_sent, none_held}
@@ -82,7 +82,7 @@ module _ (w : World) (p : Plain) (numbered : IsNumbered w) (one : IsOneToOne (Me
   abbrev interrupts_left : List ℕ
   interrupts_left = filter (λ i. not (nat_eq unique i)) w.kernel.queues.interrupts
 
-  paused : ask.stage ≢ waiting → Paused w1 p1 call
+  paused : ask.stage ≢ waiting → AlikeExceptCall w1 p1 call
   paused over = paused_ended w p numbered same unique call r ask under serves there interrupts_left (none_sent w p numbered same unique call r ask under serves there over) (none_held w p numbered same unique call r ask under serves there over)
 
   numbered1 : IsNumbered w1
@@ -98,12 +98,12 @@ module _ (w : World) (p : Plain) (numbered : IsNumbered w) (one : IsOneToOne (Me
   label_free = next_unasked w p numbered.queues same live
 
   -- The call hears a reply that is alike to what its ask came to.
-  pub heard_alike : (reply : Reply ℕ ℕ) (heard : Reply ℕ Opened) → ask.stage ≡ performed reply → ReplyAlike (MeansIn w) (MeansOpenIn w) heard reply
-      → Alike (record w { kernel = advanced k1 call (call_replied w.kernel.vfs call state heard) }) (ask_told p unique w.kernel.queues.next ask reply state')
-  heard_alike reply heard over fits =
-      subst (λ (c : ℕ). Alike (record w { kernel = advanced k1 call (call_replied w.kernel.vfs call state heard) }) (going_on p1 w.kernel.queues.next c (call_replied p.vfs c state' reply))) (sym by_call)
-      (stepped (call_replied w.kernel.vfs call state heard) (call_replied p.vfs call state' reply) (λ e. not_waiting reply (sym over ∙ e))
-      (told_call_alike (MeansIn w) (MeansOpenIn w) one w.kernel.vfs p.vfs same.vfs call state state' heard reply states fits) (call_replied_alone w.kernel.vfs call state heard))
+  pub heard_alike : (reply : Reply ℕ ℕ) (reply_received : Reply ℕ Opened) → ask.stage ≡ performed reply → ReplyAlike (MeansIn w) (MeansOpenIn w) reply_received reply
+      → Alike (record w { kernel = advanced k1 call (call_replied w.kernel.vfs call state reply_received) }) (ask_told p unique w.kernel.queues.next ask reply state')
+  heard_alike reply reply_received over fits =
+      subst (λ (c : ℕ). Alike (record w { kernel = advanced k1 call (call_replied w.kernel.vfs call state reply_received) }) (going_on p1 w.kernel.queues.next c (call_replied p.vfs c state' reply))) (sym by_call)
+      (stepped (call_replied w.kernel.vfs call state reply_received) (call_replied p.vfs call state' reply) (λ e. not_waiting reply (sym over ∙ e))
+      (told_call_alike (MeansIn w) (MeansOpenIn w) one w.kernel.vfs p.vfs same.vfs call state state' reply_received reply states fits) (call_replied_alone w.kernel.vfs call state reply_received))
 
   -- The call hears that its ask was declined.
   pub declined_alike : ask.stage ≡ declined → Alike (record w { kernel = record k1 { vfs = answered w.kernel.vfs call (answer.failed 4) } }) (ask_interrupted p unique ask)

@@ -20,7 +20,7 @@ use Rattle.fuse_spec.specs.declared.Purpose.TheVariants as purpose
 use Rattle.std.specs.Option.{option_map_or}
 use Rattle.std.proofs.lemmas.Bool.Decides.{nat_tests}
 use Rattle.fuse_spec.specs.Kernel.Kernel.{Kernel, is_live, kernel_aborted, call_begun, call_signalled}
-use Rattle.fuse_spec.specs.Kernel.Replies.{is_agreement, ended_by, reply_taken, odd_taken, replied_to_call, reply_written, made_ready}
+use Rattle.fuse_spec.specs.Kernel.Replies.{is_agreement, ended_by, request_reply_written, interrupt_reply_written, replied_to_call, reply_written, made_ready}
 use Rattle.fuse_spec.specs.Server.Server.{HeldRequest, Kept, Copy}
 use Rattle.fuse_spec.specs.Server.Taking.{taking, interrupting}
 use Rattle.fuse_spec.specs.Server.Performs.{served}
@@ -35,7 +35,7 @@ use Rattle.fuse_spec.specs.World.Worlds.{World, Sent, first_world, after_read_pe
 use Rattle.fuse_theorem.specs.Copies.{SomeHas, here, there, KeptAreSent}
 use Rattle.fuse_theorem.specs.WorldSound.{WorldSound}
 use Rattle.fuse_theorem.proofs.Requests.DrawnNumbers.{number_even}
-use Rattle.fuse_theorem.proofs.Requests.NumbersStay.{Hears, goes_on, ends as heard_ends, calls_of, written_heard, unheard, numbers_stay}
+use Rattle.fuse_theorem.proofs.Requests.NumbersStay.{ReceivesReply, goes_on, ends as heard_ends, calls_of, written_heard, unheard, numbers_stay}
 use Rattle.fuse_theorem.proofs.Nodes.NodesSound.{put_found}
 use Rattle.fuse_theorem.proofs.Requests.PerformedRest.{performed_rest}
 use Rattle.fuse_theorem.proofs.Refining.Settling.{kept_was}
@@ -195,16 +195,16 @@ module _ (choice : ℕ → ℕ) (w : World) (sound : WorldSound w) (old : KeptAr
           let no_kept = none.kept in
           absurd (cc (at, no_kept))
 
-      taken_even : (o : Option (QueuedRequest Purpose)) → request_under w.kernel.queues u ≡ o → (b : Bool) → is_unread_in o ≡ b → is_live (reply_taken w.kernel u wire (option_map_or (λ r. cond (is_unread r.mark) None (Some r.kept)) o None)).1.phase ≡ true
-          → request_under (reply_taken w.kernel u wire (option_map_or (λ r. cond (is_unread r.mark) None (Some r.kept)) o None)).1.queues u ≡ None
+      taken_even : (o : Option (QueuedRequest Purpose)) → request_under w.kernel.queues u ≡ o → (b : Bool) → is_unread_in o ≡ b → is_live (request_reply_written w.kernel u wire (option_map_or (λ r. cond (is_unread r.mark) None (Some r.kept)) o None)).1.phase ≡ true
+          → request_under (request_reply_written w.kernel u wire (option_map_or (λ r. cond (is_unread r.mark) None (Some r.kept)) o None)).1.queues u ≡ None
       taken_even None under b is live = under
       taken_even (Some r) under true is live = absurd (unread_never r under is)
       taken_even (Some r) under false is live =
-          subst (λ (c : Bool). is_live (reply_taken w.kernel u wire (cond c None (Some r.kept))).1.phase ≡ true → request_under (reply_taken w.kernel u wire (cond c None (Some r.kept))).1.queues u ≡ None) (sym is)
+          subst (λ (c : Bool). is_live (request_reply_written w.kernel u wire (cond c None (Some r.kept))).1.phase ≡ true → request_under (request_reply_written w.kernel u wire (cond c None (Some r.kept))).1.queues u ≡ None) (sym is)
           (λ alive. ended_absent w.kernel u r.kept wire sound.queues low alive) live
 
-      by : (b : Bool) → nat_eq (u % 2) 1 ≡ b → is_live (cond b (odd_taken w.kernel u wire (waiting w.kernel.queues (u - 1))) (reply_taken w.kernel u wire (waiting w.kernel.queues u))).1.phase ≡ true
-          → request_under (cond b (odd_taken w.kernel u wire (waiting w.kernel.queues (u - 1))) (reply_taken w.kernel u wire (waiting w.kernel.queues u))).1.queues u ≡ None
+      by : (b : Bool) → nat_eq (u % 2) 1 ≡ b → is_live (cond b (interrupt_reply_written w.kernel u wire (waiting w.kernel.queues (u - 1))) (request_reply_written w.kernel u wire (waiting w.kernel.queues u))).1.phase ≡ true
+          → request_under (cond b (interrupt_reply_written w.kernel u wire (waiting w.kernel.queues (u - 1))) (request_reply_written w.kernel u wire (waiting w.kernel.queues u))).1.queues u ≡ None
       by true odd live = absurd (true≢false (sym odd ∙ other_is (u % 2) 1 (λ e. absurd (omega (arith, e, even)))))
       by false _ live = taken_even (request_under w.kernel.queues u) refl (is_unread_in (request_under w.kernel.queues u)) refl live
 
@@ -219,9 +219,9 @@ module _ (choice : ℕ → ℕ) (w : World) (sound : WorldSound w) (old : KeptAr
   written : (k : ℕ) (sent : Sent) → slice_get w.replies k ≡ Some sent → KeptAreSent (after_write w k sent (reply_written w.kernel sent.unique sent.wire))
   written k sent at_k = by (is_live w.kernel.phase) refl
     where
-      heard : is_live w.kernel.phase ≡ true → Hears w.kernel (reply_written w.kernel sent.unique sent.wire).1 → KeptAreSent (after_write w k sent (reply_written w.kernel sent.unique sent.wire))
-      heard live (heard_ends dead idle uncounted) u x at stands = absurd (stands (ap (λ (q : QueueState Purpose). request_under q u) idle))
-      heard live (goes_on alive rises calls) u x at stands =
+      reply_received : is_live w.kernel.phase ≡ true → ReceivesReply w.kernel (reply_written w.kernel sent.unique sent.wire).1 → KeptAreSent (after_write w k sent (reply_written w.kernel sent.unique sent.wire))
+      reply_received live (heard_ends dead idle uncounted) u x at stands = absurd (stands (ap (λ (q : QueueState Purpose). request_under q u) idle))
+      reply_received live (goes_on alive rises calls) u x at stands =
           let lookups = sound.lookups in
           let numbers = lookups.numbers in
           let now = numbers.live live in
@@ -238,7 +238,7 @@ module _ (choice : ℕ → ℕ) (w : World) (sound : WorldSound w) (old : KeptAr
           let lookups = sound.lookups in
           let numbers = lookups.numbers in
           let now = numbers.live live in
-          heard live (written_heard w.kernel live now.queues (calls_of w now) sent.unique sent.wire) u x at stands
+          reply_received live (written_heard w.kernel live now.queues (calls_of w now) sent.unique sent.wire) u x at stands
       by false dead u x at stands =
           let lookups = sound.lookups in
           let numbers = lookups.numbers in

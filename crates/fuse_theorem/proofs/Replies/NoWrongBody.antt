@@ -17,11 +17,11 @@ use Rattle.fuse_spec.specs.Values.Maps.{get}
 use Rattle.fuse_spec.specs.Kernel.Messages.{WireReply}
 use Rattle.fuse_spec.specs.Files.Operations.{Operation, done, failed}
 use Rattle.fuse_spec.specs.Kernel.QueueCalls.{waiting, without}
-use Rattle.fuse_spec.specs.Kernel.Replies.{is_empty_reply, is_init_reply, write_result_of, goes_with, replied, replied_to_call, reply_taken, odd_taken, interrupt_replied, reply_written}
+use Rattle.fuse_spec.specs.Kernel.Replies.{is_empty_reply, is_init_reply, write_result_of, goes_with, replied, replied_to_call, request_reply_written, interrupt_reply_written, interrupt_replied, reply_written}
 use Rattle.fuse_spec.specs.Calls.Vfs.{CallState, asked}
 use Rattle.fuse_spec.specs.World.Worlds.{World, Sent}
 use Rattle.fuse_spec.specs.Reference.Plain.{Plain}
-use Rattle.fuse_theorem.specs.EachEvent.{CanHear}
+use Rattle.fuse_theorem.specs.EachEvent.{CanReceive}
 use Rattle.fuse_theorem.specs.EachEvent as each
 use Rattle.fuse_theorem.specs.EveryList.{BothSound}
 use Rattle.fuse_theorem.specs.RepliesFit.{FitsPurpose, RepliesFit}
@@ -47,7 +47,7 @@ module _ (w : World) (p : Plain) (both : BothSound w p) (fit : RepliesFit w) (k 
   interrupt_fits done e = refl
   interrupt_fits wire e = absurd (true≢false (sym e))
 
-  odd_fits : (wire : WireReply) → is_empty_reply wire ≡ true → (o : Option Purpose) → (odd_taken w.kernel sent.unique wire o).0 ≢ Invalid
+  odd_fits : (wire : WireReply) → is_empty_reply wire ≡ true → (o : Option Purpose) → (interrupt_reply_written w.kernel sent.unique wire o).0 ≢ Invalid
   odd_fits wire e None = λ f. absurd (cc (f))
   odd_fits wire e (Some kept) = accepted (interrupt_fits wire e)
 
@@ -64,22 +64,22 @@ module _ (w : World) (p : Plain) (both : BothSound w p) (fit : RepliesFit w) (k 
   called_so call state goes (Some other) e = let same : other ≡ state = cc (e) in replied_so call other (goes_with (asked other) sent.wire) (ap (λ (s : CallState Opened). goes_with (asked s) sent.wire) same ∙ goes)
 
   -- what awaits the copy, where its number is even
-  even_so : (o : Option Purpose) → waiting w.kernel.queues sent.unique ≡ o → nat_eq (sent.unique % 2) 1 ≡ false → (reply_taken w.kernel sent.unique sent.wire o).0 ≢ Invalid → (reply_written w.kernel sent.unique sent.wire).0 ≢ Invalid
+  even_so : (o : Option Purpose) → waiting w.kernel.queues sent.unique ≡ o → nat_eq (sent.unique % 2) 1 ≡ false → (request_reply_written w.kernel sent.unique sent.wire o).0 ≢ Invalid → (reply_written w.kernel sent.unique sent.wire).0 ≢ Invalid
   even_so o waits even fits = rw (even, waits) fits
 
-  pub heard_fits : CanHear w p sent → (reply_written w.kernel sent.unique sent.wire).0 ≢ Invalid
+  pub heard_fits : CanReceive w p sent → (reply_written w.kernel sent.unique sent.wire).0 ≢ Invalid
   heard_fits (each.nothing none) = by (nat_eq (sent.unique % 2) 1) none
     where
-      odd : (o : Option Purpose) → o ≡ None → (odd_taken w.kernel sent.unique sent.wire o).0 ≢ Invalid
+      odd : (o : Option Purpose) → o ≡ None → (interrupt_reply_written w.kernel sent.unique sent.wire o).0 ≢ Invalid
       odd None e = λ f. absurd (cc (f))
       odd (Some kept) e = absurd (cc (e))
 
-      even : (o : Option Purpose) → o ≡ None → (reply_taken w.kernel sent.unique sent.wire o).0 ≢ Invalid
+      even : (o : Option Purpose) → o ≡ None → (request_reply_written w.kernel sent.unique sent.wire o).0 ≢ Invalid
       even None e = λ f. absurd (cc (f))
       even (Some kept) e = absurd (cc (e))
 
       by : (b : Bool) → cond b (waiting w.kernel.queues (sent.unique - 1)) (waiting w.kernel.queues sent.unique) ≡ None
-          → (cond b (odd_taken w.kernel sent.unique sent.wire (waiting w.kernel.queues (sent.unique - 1))) (reply_taken w.kernel sent.unique sent.wire (waiting w.kernel.queues sent.unique))).0 ≢ Invalid
+          → (cond b (interrupt_reply_written w.kernel sent.unique sent.wire (waiting w.kernel.queues (sent.unique - 1))) (request_reply_written w.kernel sent.unique sent.wire (waiting w.kernel.queues sent.unique))).0 ≢ Invalid
       by true e = odd (waiting w.kernel.queues (sent.unique - 1)) e
       by false e = even (waiting w.kernel.queues sent.unique) e
   heard_fits (each.of_interrupt kept numbered live odd waits) =

@@ -20,7 +20,7 @@ use Rattle.fuse_spec.specs.Claim.Alike.{Alike, StageTold, IsPaired}
 use Rattle.fuse_theorem.specs.AskedRequests.{RequestsAskedWhileLive}
 use Rattle.fuse_spec.specs.Reference.PlainReplies.{AskServed, AsksServed}
 use Rattle.fuse_theorem.specs.Conditions.{IsReply, IsDeclined}
-use Rattle.fuse_theorem.specs.EachEvent.{CanHear, Needs}
+use Rattle.fuse_theorem.specs.EachEvent.{CanReceive, Needs}
 use Rattle.fuse_theorem.specs.EachEvent as each
 use Rattle.fuse_theorem.specs.Links.{LinksSound}
 use Rattle.fuse_theorem.specs.Lookups.{EntriesHeld, LookupsBalanced}
@@ -120,25 +120,25 @@ module _ (w : World) (p : Plain) (sound : WorldSound w) (asked_so : RequestsAske
         wire_is = subst (λ (s : Stage). StageTold w.server.nodes w.server.handles s sent.wire) stage told;
       }
 
-      heard : nat_eq (sent.unique % 2) 1 ≡ false → (s : Stage) → pair.ask.stage ≡ s → CanHear w p sent
-      heard even plain.waiting stage = absurd (subst (λ (s : Stage). StageTold w.server.nodes w.server.handles s sent.wire) stage told)
-      heard even (performed reply) stage = let lookups = sound.lookups in let server = lookups.server in each.of_call call state reply numbered (one_id w.server.nodes server.nodes) live even waits (is_reply reply stage)
-      heard even declined stage = let lookups = sound.lookups in let server = lookups.server in each.of_declined call state numbered (one_id w.server.nodes server.nodes) live even waits (is_declined stage)
+      reply_received : nat_eq (sent.unique % 2) 1 ≡ false → (s : Stage) → pair.ask.stage ≡ s → CanReceive w p sent
+      reply_received even plain.waiting stage = absurd (subst (λ (s : Stage). StageTold w.server.nodes w.server.handles s sent.wire) stage told)
+      reply_received even (performed reply) stage = let lookups = sound.lookups in let server = lookups.server in each.of_call call state reply numbered (one_id w.server.nodes server.nodes) live even waits (is_reply reply stage)
+      reply_received even declined stage = let lookups = sound.lookups in let server = lookups.server in each.of_declined call state numbered (one_id w.server.nodes server.nodes) live even waits (is_declined stage)
 
-    call_hears : nat_eq (sent.unique % 2) 1 ≡ false → CanHear w p sent
+    call_hears : nat_eq (sent.unique % 2) 1 ≡ false → CanReceive w p sent
     call_hears even = by (get w.kernel.vfs.calls call) refl
       where
-        by : (o : Option (CallState Opened)) → get w.kernel.vfs.calls call ≡ o → CanHear w p sent
+        by : (o : Option (CallState Opened)) → get w.kernel.vfs.calls call ≡ o → CanReceive w p sent
         by None at = absurd (unanswered None at refl)
-        by (Some state) at = heard state at even (pair state at).ask.stage refl
+        by (Some state) at = reply_received state at even (pair state at).ask.stage refl
 
   -- ---- whatever awaits the copy
 
-  odd_hears : nat_eq (sent.unique % 2) 1 ≡ true → (o : Option Purpose) → waiting w.kernel.queues (sent.unique - 1) ≡ o → CanHear w p sent
+  odd_hears : nat_eq (sent.unique % 2) 1 ≡ true → (o : Option Purpose) → waiting w.kernel.queues (sent.unique - 1) ≡ o → CanReceive w p sent
   odd_hears odd None waits = each.nothing (ap (λ (b : Bool). cond b (waiting w.kernel.queues (sent.unique - 1)) (waiting w.kernel.queues sent.unique)) odd ∙ waits)
   odd_hears odd (Some kept) waits = each.of_interrupt kept numbered live odd waits
 
-  even_hears : nat_eq (sent.unique % 2) 1 ≡ false → (o : Option Purpose) → waiting w.kernel.queues sent.unique ≡ o → CanHear w p sent
+  even_hears : nat_eq (sent.unique % 2) 1 ≡ false → (o : Option Purpose) → waiting w.kernel.queues sent.unique ≡ o → CanReceive w p sent
   even_hears even None waits = each.nothing (ap (λ (b : Bool). cond b (waiting w.kernel.queues (sent.unique - 1)) (waiting w.kernel.queues sent.unique)) even ∙ waits)
   even_hears even (Some purpose.Init) waits =
       let request = waiting_is w.kernel.queues sent.unique purpose.Init waits in
@@ -147,10 +147,10 @@ module _ (w : World) (p : Plain) (sound : WorldSound w) (asked_so : RequestsAske
   even_hears even (Some (purpose.Release o)) waits = each.of_release o numbered live even waits
   even_hears even (Some (purpose.Call call)) waits = call_hears call waits even
 
-  hears : CanHear w p sent
+  hears : CanReceive w p sent
   hears = by (nat_eq (sent.unique % 2) 1) refl
     where
-      by : (b : Bool) → nat_eq (sent.unique % 2) 1 ≡ b → CanHear w p sent
+      by : (b : Bool) → nat_eq (sent.unique % 2) 1 ≡ b → CanReceive w p sent
       by true odd = odd_hears odd (waiting w.kernel.queues (sent.unique - 1)) refl
       by false even = even_hears even (waiting w.kernel.queues sent.unique) refl
 
@@ -158,6 +158,6 @@ module _ (w : World) (p : Plain) (sound : WorldSound w) (asked_so : RequestsAske
 pub write_met : (choice : ℕ → ℕ) (w : World) (p : Plain) → WorldSound w → RequestsAskedWhileLive w → LinksSound w → AsksServed p → Alike w p → (k : ℕ) → Needs choice w p (event.write k)
 write_met choice w p sound asked_so links served same k sent there = by (is_live w.kernel.phase) refl
   where
-    by : (b : Bool) → is_live w.kernel.phase ≡ b → CanHear w p sent
+    by : (b : Bool) → is_live w.kernel.phase ≡ b → CanReceive w p sent
     by true live = hears w p sound asked_so links served same live k sent there
     by false dead = none_at w.replies k sent (links.idle dead).replies there

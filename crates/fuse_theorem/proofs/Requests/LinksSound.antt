@@ -20,7 +20,7 @@ use Rattle.fuse_spec.specs.Files.Operations.{done, failed}
 use Rattle.fuse_spec.specs.Kernel.Queues.{request_under}
 use Rattle.fuse_spec.specs.Kernel.QueueCalls.{waiting, without}
 use Rattle.fuse_spec.specs.Kernel.Kernel.{Kernel, is_live, kernel_aborted, body_of}
-use Rattle.fuse_spec.specs.Kernel.Replies.{is_agreement, reply_taken, odd_taken, interrupt_replied, reply_written, made_ready}
+use Rattle.fuse_spec.specs.Kernel.Replies.{is_agreement, request_reply_written, interrupt_reply_written, interrupt_replied, reply_written, made_ready}
 use Rattle.fuse_spec.specs.Server.Server.{Server, HeldRequest, Kept, Copy}
 use Rattle.fuse_spec.specs.Server.Taking.{taking, interrupting}
 use Rattle.fuse_spec.specs.Server.Performs.{performed, served, init_reply}
@@ -106,11 +106,11 @@ stays_live k first live minor unique wire agrees = by (nat_eq (unique % 2) 1)
     interrupts done = live
     interrupts x = live
 
-    odd : (o : Option Purpose) → is_live (odd_taken k unique wire o).1.phase ≡ true
+    odd : (o : Option Purpose) → is_live (interrupt_reply_written k unique wire o).1.phase ≡ true
     odd None = live
     odd (Some kept) = interrupts wire
 
-    even : (o : Option Purpose) → waiting k.queues unique ≡ o → is_live (reply_taken k unique wire o).1.phase ≡ true
+    even : (o : Option Purpose) → waiting k.queues unique ≡ o → is_live (request_reply_written k unique wire o).1.phase ≡ true
     even None waits = live
     even (Some purpose.Init) waits =
         let request = waiting_is k.queues unique purpose.Init waits in
@@ -122,7 +122,7 @@ stays_live k first live minor unique wire agrees = by (nat_eq (unique % 2) 1)
         let goes = replied_goes_on k1 call wire (get k.vfs.calls call) in
         ap is_live goes.phase ∙ live
 
-    by : (b : Bool) → is_live (cond b (odd_taken k unique wire (waiting k.queues (unique - 1))) (reply_taken k unique wire (waiting k.queues unique))).1.phase ≡ true
+    by : (b : Bool) → is_live (cond b (interrupt_reply_written k unique wire (waiting k.queues (unique - 1))) (request_reply_written k unique wire (waiting k.queues unique))).1.phase ≡ true
     by true = odd (waiting k.queues (unique - 1))
     by false = even (waiting k.queues unique) refl
 

@@ -33,7 +33,7 @@ use Rattle.fuse_spec.specs.Server.Server.{Server, HeldRequest, Kept, Copy, witho
 use Rattle.fuse_spec.specs.Server.Taking.{TakeResult, taking, interrupting}
 use Rattle.fuse_spec.specs.Server.Performs.{performed, replying, served}
 use Rattle.fuse_spec.specs.Server.Copies.{kept_after, sent_again, given_back, after_result}
-use Rattle.fuse_spec.specs.Kernel.Replies.{is_agreement, ended_by, reply_taken, odd_taken, interrupt_replied, reply_written, interrupt_reply_of, made_ready}
+use Rattle.fuse_spec.specs.Kernel.Replies.{is_agreement, ended_by, request_reply_written, interrupt_reply_written, interrupt_replied, reply_written, interrupt_reply_of, made_ready}
 use Rattle.fuse_spec.specs.World.Worlds.{World, Sent, first_world, forget_body, after_call, after_read_interrupt, after_read_forgets, after_read_pending, after_take, after_perform, after_again, after_write, after_settle, after_drop, after_evict}
 use Rattle.fuse_spec.specs.World.Worlds as worlds
 use Rattle.fuse_spec.specs.World.Events.{Event, Outcome}
@@ -259,21 +259,21 @@ module _ (w : World) (numbered : IsNumbered w) where
 -- ---- replies
 
 -- What a reply makes of a live kernel: it goes on, or the mount is aborted.
-pub data Hears (k : Kernel) (l : Kernel) : Type 0 where
-  goes_on : is_live l.phase ≡ true → k.queues.next ≤ l.queues.next → CallsNumbered l → Hears k l
-  ends : is_live l.phase ≡ false → l.queues ≡ empty_queues → l.nodes ≡ [] → Hears k l
+pub data ReceivesReply (k : Kernel) (l : Kernel) : Type 0 where
+  goes_on : is_live l.phase ≡ true → k.queues.next ≤ l.queues.next → CallsNumbered l → ReceivesReply k l
+  ends : is_live l.phase ≡ false → l.queues ≡ empty_queues → l.nodes ≡ [] → ReceivesReply k l
 
 module _ (k : Kernel) (live : is_live k.phase ≡ true) (sound : IsSound k.queues) (numbered : CallsNumbered k) (unique : ℕ) (wire : WireReply) where
-  went : (l : Kernel) → GoesOn k l → CallsNumbered l → Hears k l
+  went : (l : Kernel) → GoesOn k l → CallsNumbered l → ReceivesReply k l
   went l goes calls = goes_on (ap is_live goes.phase ∙ live) goes.rises calls
 
-  ended_heard : (kept : Purpose) → waiting k.queues unique ≡ Some kept → Hears k (ended_by (record k { queues = without k.queues unique }) kept wire).1
+  ended_heard : (kept : Purpose) → waiting k.queues unique ≡ Some kept → ReceivesReply k (ended_by (record k { queues = without k.queues unique }) kept wire).1
   ended_heard purpose.Init waits = by (is_agreement wire)
     where
       k1 : Kernel
       k1 = record k { queues = without k.queues unique }
 
-      by : (b : Bool) → Hears k (cond b (made_ready k1 wire) (kernel_aborted k1))
+      by : (b : Bool) → ReceivesReply k (cond b (made_ready k1 wire) (kernel_aborted k1))
       by true = let calls = without_numbered k numbered unique in goes_on refl (omega arith) (record { calls_below = calls.calls_below; one_request = calls.one_request })
       by false = ends refl refl refl
   ended_heard (purpose.Release o) waits = went _ (record { phase = refl; minor = refl; lists_files = refl; rises = omega arith }) (without_numbered k numbered unique)
@@ -285,10 +285,10 @@ module _ (k : Kernel) (live : is_live k.phase ≡ true) (sound : IsSound k.queue
       went _ (record { phase = goes.phase; minor = goes.minor; lists_files = goes.lists_files; rises = goes.rises })
       (replied_numbered k1 (without_numbered k numbered unique) call wire (get k.vfs.calls call) refl (none_left k numbered call unique request.request request.under mine))
 
-  pub written_heard : Hears k (reply_written k unique wire).1
+  pub written_heard : ReceivesReply k (reply_written k unique wire).1
   written_heard = by (nat_eq (unique % 2) 1)
     where
-      even : (o : Option Purpose) → waiting k.queues unique ≡ o → Hears k (reply_taken k unique wire o).1
+      even : (o : Option Purpose) → waiting k.queues unique ≡ o → ReceivesReply k (request_reply_written k unique wire o).1
       even None waits = went k (record { phase = refl; minor = refl; lists_files = refl; rises = omega arith }) numbered
       even (Some kept) waits = ended_heard kept waits
 
@@ -304,18 +304,18 @@ module _ (k : Kernel) (live : is_live k.phase ≡ true) (sound : IsSound k.queue
           named None = refl
           named (Some m) = effect (reply_effect reply m (list_any (nat_eq original) k.queues.interrupts) k.queues.interrupts_off)
 
-      interrupts : (x : WireReply) → Hears k (interrupt_replied k (unique - 1) x).1
+      interrupts : (x : WireReply) → ReceivesReply k (interrupt_replied k (unique - 1) x).1
       interrupts (failed errno) =
           let next = reply_next (unique - 1) (interrupt_reply_of errno) in
           went _ (record { phase = refl; minor = refl; lists_files = refl; rises = omega (arith, next) }) (interrupt_replied_numbered k numbered (unique - 1) (interrupt_reply_of errno))
       interrupts done = went k (record { phase = refl; minor = refl; lists_files = refl; rises = omega arith }) numbered
       interrupts x = went k (record { phase = refl; minor = refl; lists_files = refl; rises = omega arith }) numbered
 
-      odd : (o : Option Purpose) → Hears k (odd_taken k unique wire o).1
+      odd : (o : Option Purpose) → ReceivesReply k (interrupt_reply_written k unique wire o).1
       odd None = went k (record { phase = refl; minor = refl; lists_files = refl; rises = omega arith }) numbered
       odd (Some kept) = interrupts wire
 
-      by : (b : Bool) → Hears k (cond b (odd_taken k unique wire (waiting k.queues (unique - 1))) (reply_taken k unique wire (waiting k.queues unique))).1
+      by : (b : Bool) → ReceivesReply k (cond b (interrupt_reply_written k unique wire (waiting k.queues (unique - 1))) (request_reply_written k unique wire (waiting k.queues unique))).1
       by true = odd (waiting k.queues (unique - 1))
       by false = even (waiting k.queues unique) refl
 
@@ -326,9 +326,9 @@ unheard k idle unique wire = by (nat_eq (unique % 2) 1)
     none : (u : ℕ) → waiting k.queues u ≡ None
     none u = ap (λ (q : QueueState Purpose). waiting q u) idle
 
-    by : (b : Bool) → (cond b (odd_taken k unique wire (waiting k.queues (unique - 1))) (reply_taken k unique wire (waiting k.queues unique))).1 ≡ k
-    by true = ap (λ (o : Option Purpose). (odd_taken k unique wire o).1) (none (unique - 1))
-    by false = ap (λ (o : Option Purpose). (reply_taken k unique wire o).1) (none unique)
+    by : (b : Bool) → (cond b (interrupt_reply_written k unique wire (waiting k.queues (unique - 1))) (request_reply_written k unique wire (waiting k.queues unique))).1 ≡ k
+    by true = ap (λ (o : Option Purpose). (interrupt_reply_written k unique wire o).1) (none (unique - 1))
+    by false = ap (λ (o : Option Purpose). (request_reply_written k unique wire o).1) (none unique)
 
 -- ---- events
 
@@ -356,15 +356,15 @@ module _ (w : World) (numbered : IsNumberedWhileLive w) where
       after : World
       after = after_write w k sent (reply_written w.kernel sent.unique sent.wire)
 
-      heard : is_live w.kernel.phase ≡ true → Hears w.kernel after.kernel → IsNumberedWhileLive after
-      heard live (goes_on still rises calls) =
+      reply_received : is_live w.kernel.phase ≡ true → ReceivesReply w.kernel after.kernel → IsNumberedWhileLive after
+      reply_received live (goes_on still rises calls) =
           let moved = kernel_numbered w (numbered.live live) live after.kernel rises (sound live) calls in
           still_live after still (links_numbered (record w { kernel = after.kernel }) moved w.requests w.server (without_at w.replies k) after.results moved.sent_below
           (All-without (λ (s : Sent). s.unique < after.kernel.queues.next) w.replies k moved.replies_below) moved.held_below moved.kept_below)
-      heard live (ends dead idle uncounted) = record { live = λ still. absurd (true≢false (sym still ∙ dead)); idle = λ _. idle }
+      reply_received live (ends dead idle uncounted) = record { live = λ still. absurd (true≢false (sym still ∙ dead)); idle = λ _. idle }
 
       by : (b : Bool) → is_live w.kernel.phase ≡ b → IsNumberedWhileLive after
-      by true live = let old = numbered.live live in heard live (written_heard w.kernel live old.queues (calls_of w old) sent.unique sent.wire)
+      by true live = let old = numbered.live live in reply_received live (written_heard w.kernel live old.queues (calls_of w old) sent.unique sent.wire)
       by false dead = beside w after numbered (unheard w.kernel (numbered.idle dead) sent.unique sent.wire) (λ live. absurd (true≢false (sym live ∙ dead)))
 
   moved_numbered : (k : Kernel) → is_live w.kernel.phase ≡ true → GoesOn w.kernel k → IsSound k.queues → CallsNumbered k → IsNumberedWhileLive (record w { kernel = k })

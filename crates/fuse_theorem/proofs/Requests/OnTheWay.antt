@@ -22,7 +22,7 @@ use Rattle.fuse_spec.specs.Kernel.Queues.{IsSound, is_unread, pending, request_u
 use Rattle.fuse_spec.specs.Kernel.QueueCalls.{after_reading, can_read_forgets, pending_at, waiting, without}
 use Rattle.fuse_spec.specs.Calls.Vfs.{CallState, asked}
 use Rattle.fuse_spec.specs.Kernel.Kernel.{Kernel, is_live, asked_by, body_of}
-use Rattle.fuse_spec.specs.Kernel.Replies.{ended_by, reply_taken, odd_taken, reply_written}
+use Rattle.fuse_spec.specs.Kernel.Replies.{ended_by, request_reply_written, interrupt_reply_written, reply_written}
 use Rattle.fuse_spec.specs.Server.Server.{HeldRequest, Kept, Copy}
 use Rattle.fuse_spec.specs.Server.Taking.{taking, interrupting}
 use Rattle.fuse_spec.specs.Server.Performs.{served}
@@ -75,7 +75,7 @@ read_ends k sound u r under read wire live =
     even = let is_even = request_even k.queues sound u r under in other_is (u % 2) 1 (λ e. absurd (omega (arith, e, is_even)))
 
     is : reply_written k u wire ≡ ended_by (record k { queues = without k.queues u }) r.kept wire
-    is = ap (λ (b : Bool). cond b (odd_taken k u wire (waiting k.queues (u - 1))) (reply_taken k u wire (waiting k.queues u))) even ∙ ap (reply_taken k u wire) waits
+    is = ap (λ (b : Bool). cond b (interrupt_reply_written k u wire (waiting k.queues (u - 1))) (request_reply_written k u wire (waiting k.queues u))) even ∙ ap (request_reply_written k u wire) waits
 
 -- what the kernel asks of its own will be held
 own_held : (k : Kernel) (kept : Purpose) (body : RequestBody) → body_of k kept ≡ Some body → IsToBeHeld body

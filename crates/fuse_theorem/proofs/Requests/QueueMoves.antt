@@ -26,7 +26,7 @@ use Rattle.fuse_spec.specs.Kernel.Queues.{QueueState, IsSound, is_unread, pendin
 use Rattle.fuse_spec.specs.Kernel.QueueCalls.{after_enqueue, after_forget, after_effect, after_reading, after_reply_effect, after_read_pending, set_mark, waiting, without}
 use Rattle.fuse_spec.specs.Kernel.Signals.{signal_effect, reply_effect}
 use Rattle.fuse_spec.specs.Kernel.Kernel.{Kernel, is_live, is_aborted, is_used, request_of, kernel_aborted, asking_for, advanced, released, released_if_idle, after_use, closed_by, closing_of, call_begun, after_signal, signalled_at, call_signalled}
-use Rattle.fuse_spec.specs.Kernel.Replies.{kernel_reply, learnt, Use, usable, useless, stale, goes_with, is_agreement, judged, replied, replied_to_call, reply_taken, odd_taken, interrupt_replied, interrupt_reply_of, reply_written, heard, without_stale, reply_judged, use_of_reply, made_ready}
+use Rattle.fuse_spec.specs.Kernel.Replies.{kernel_reply, learnt, Use, usable, useless, stale, goes_with, is_agreement, judged, replied, replied_to_call, request_reply_written, interrupt_reply_written, interrupt_replied, interrupt_reply_of, reply_written, reply_received, without_stale, reply_judged, use_of_reply, made_ready}
 use Rattle.fuse_spec.proofs.QueueSoundness.{mark_under-pending}
 
 -- `May` says which mark a request may get in place of which.
@@ -155,7 +155,7 @@ replied_reads_none k call wire (Some state) = by (goes_with (asked state) wire)
 
     by : (b : Bool) → ReadsNone k.queues (replied k call state b wire).1.queues
     by true =
-        let l = heard k call state wire in
+        let l = reply_received k call state wire in
         moves_on k.queues l.queues (after_use l state).queues (judged_moves (reply_judged k.nodes wire) (use_of_reply k.nodes wire)) (used_moves l state)
     by false = used_moves (record k { vfs = answered k.vfs call (answer.failed 5) }) state
 
@@ -178,7 +178,7 @@ written_reads_none k unique wire = by (nat_eq (unique % 2) 1)
     interrupts done = stays k.queues k.queues refl refl
     interrupts x = stays k.queues k.queues refl refl
 
-    odd : (o : Option Purpose) → ReadsNone k.queues (odd_taken k unique wire o).1.queues
+    odd : (o : Option Purpose) → ReadsNone k.queues (interrupt_reply_written k unique wire o).1.queues
     odd None = stays k.queues k.queues refl refl
     odd (Some kept) = interrupts wire
 
@@ -187,7 +187,7 @@ written_reads_none k unique wire = by (nat_eq (unique % 2) 1)
     init_moves true live = ends k.queues (without k.queues unique) unique refl refl
     init_moves false live = absurd (true≢false (sym live))
 
-    even : (o : Option Purpose) → is_live (reply_taken k unique wire o).1.phase ≡ true → ReadsNone k.queues (reply_taken k unique wire o).1.queues
+    even : (o : Option Purpose) → is_live (request_reply_written k unique wire o).1.phase ≡ true → ReadsNone k.queues (request_reply_written k unique wire o).1.queues
     even None live = stays k.queues k.queues refl refl
     even (Some purpose.Init) live = init_moves (is_agreement wire) live
     even (Some (purpose.Release o)) live = ends k.queues (without k.queues unique) unique refl refl
@@ -195,8 +195,8 @@ written_reads_none k unique wire = by (nat_eq (unique % 2) 1)
         let k1 = record k { queues = without k.queues unique } in
         moves_on k.queues k1.queues (replied_to_call k1 call wire (get k.vfs.calls call)).1.queues (ends k.queues k1.queues unique refl refl) (replied_reads_none k1 call wire (get k.vfs.calls call))
 
-    by : (b : Bool) → is_live (cond b (odd_taken k unique wire (waiting k.queues (unique - 1))) (reply_taken k unique wire (waiting k.queues unique))).1.phase ≡ true
-        → ReadsNone k.queues (cond b (odd_taken k unique wire (waiting k.queues (unique - 1))) (reply_taken k unique wire (waiting k.queues unique))).1.queues
+    by : (b : Bool) → is_live (cond b (interrupt_reply_written k unique wire (waiting k.queues (unique - 1))) (request_reply_written k unique wire (waiting k.queues unique))).1.phase ≡ true
+        → ReadsNone k.queues (cond b (interrupt_reply_written k unique wire (waiting k.queues (unique - 1))) (request_reply_written k unique wire (waiting k.queues unique))).1.queues
     by true live = odd (waiting k.queues (unique - 1))
     by false live = even (waiting k.queues unique) live
 

@@ -15,7 +15,7 @@ use Rattle.fuse_spec.specs.Kernel.Kernel.{Kernel, kernel_aborted, is_aborted, ad
 use Rattle.fuse_spec.specs.Kernel.Messages.{WireReply}
 use Rattle.fuse_spec.specs.Files.Operations.{Operation, done, failed, files_in_reply}
 use Rattle.fuse_spec.specs.Kernel.QueueCalls.{waiting, without, after_interrupt, interrupt_effect}
-use Rattle.fuse_spec.specs.Kernel.Replies.{kernel_reply, learnt, Use, usable, useless, stale, goes_with, is_agreement, judged, replied, replied_to_call, ended_by, reply_taken, odd_taken, interrupt_replied, reply_written, heard, without_stale, reply_judged, use_of_reply, made_ready}
+use Rattle.fuse_spec.specs.Kernel.Replies.{kernel_reply, learnt, Use, usable, useless, stale, goes_with, is_agreement, judged, replied, replied_to_call, ended_by, request_reply_written, interrupt_reply_written, interrupt_replied, reply_written, reply_received, without_stale, reply_judged, use_of_reply, made_ready}
 use Rattle.fuse_spec.specs.Calls.Vfs.{asked, CallState, walking, doing, using, Advance, answered, begun}
 use Rattle.std.specs.List.{remove as without_at}
 use Rattle.fuse_spec.specs.Kernel.QueueCalls.{pending_at, first_forgets}
@@ -177,7 +177,7 @@ replied_grows k call wire (Some state) = by (goes_with (asked state) wire)
 
     by : (b : Bool) → Grows k.queues (replied k call state b wire).1.queues
     by true =
-        then_grows k.queues (heard k call state wire).queues (after_use (heard k call state wire) state).queues (judged_grows (reply_judged k.nodes wire) (use_of_reply k.nodes wire)) (used_grows (heard k call state wire) state)
+        then_grows k.queues (reply_received k call state wire).queues (after_use (reply_received k call state wire) state).queues (judged_grows (reply_judged k.nodes wire) (use_of_reply k.nodes wire)) (used_grows (reply_received k call state wire) state)
     by false = used_grows (record k { vfs = answered k.vfs call (answer.failed 5) }) state
 
 written_sound : (k : Kernel) (unique : ℕ) (wire : WireReply) → IsSound k.queues → (reply_written k unique wire).1.queues.next ≤ 2 ^ 62 → IsSound (reply_written k unique wire).1.queues
@@ -192,7 +192,7 @@ written_sound k unique wire s = by (nat_eq (unique % 2) 1)
     ended q (purpose.Release o) sound = λ high. sound
     ended q (purpose.Call call) sound = λ high. let grows = replied_grows q call wire (get q.vfs.calls call) in grows.sound high sound
 
-    even : (o : Option Purpose) → (reply_taken k unique wire o).1.queues.next ≤ 2 ^ 62 → IsSound (reply_taken k unique wire o).1.queues
+    even : (o : Option Purpose) → (request_reply_written k unique wire o).1.queues.next ≤ 2 ^ 62 → IsSound (request_reply_written k unique wire o).1.queues
     even None high = s
     even (Some kept) high = ended (record k { queues = without k.queues unique }) kept (IsSound-without k.queues unique s) high
 
@@ -201,12 +201,12 @@ written_sound k unique wire s = by (nat_eq (unique % 2) 1)
     interrupts done = s
     interrupts x = s
 
-    odd : (o : Option Purpose) → IsSound (odd_taken k unique wire o).1.queues
+    odd : (o : Option Purpose) → IsSound (interrupt_reply_written k unique wire o).1.queues
     odd None = s
     odd (Some kept) = interrupts wire
 
-    by : (b : Bool) → (cond b (odd_taken k unique wire (waiting k.queues (unique - 1))) (reply_taken k unique wire (waiting k.queues unique))).1.queues.next ≤ 2 ^ 62
-        → IsSound (cond b (odd_taken k unique wire (waiting k.queues (unique - 1))) (reply_taken k unique wire (waiting k.queues unique))).1.queues
+    by : (b : Bool) → (cond b (interrupt_reply_written k unique wire (waiting k.queues (unique - 1))) (request_reply_written k unique wire (waiting k.queues unique))).1.queues.next ≤ 2 ^ 62
+        → IsSound (cond b (interrupt_reply_written k unique wire (waiting k.queues (unique - 1))) (request_reply_written k unique wire (waiting k.queues unique))).1.queues
     by true high = odd (waiting k.queues (unique - 1))
     by false high = even (waiting k.queues unique) high
 

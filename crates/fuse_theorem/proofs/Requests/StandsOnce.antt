@@ -38,7 +38,7 @@ use Rattle.fuse_theorem.proofs.Requests.DrawnNumbers.{number_below, number_even}
 use Rattle.fuse_theorem.proofs.Calls.CallsContinue.{begun_goes_on}
 use Rattle.fuse_theorem.proofs.RefusalCases.Happened.{Happened, by_mount, by_call, by_read_interrupt, by_read_forgets, by_read_pending, by_take, by_perform, by_again, by_write, by_settle, by_signal, by_tick, by_drop, by_evict, by_abort, happened}
 use Rattle.fuse_theorem.proofs.Lists.LinkSums.{sum_removed}
-use Rattle.fuse_theorem.proofs.Requests.NumbersStay.{Hears, goes_on, ends, calls_of, written_heard, unheard, numbers_stay}
+use Rattle.fuse_theorem.proofs.Requests.NumbersStay.{ReceivesReply, goes_on, ends, calls_of, written_heard, unheard, numbers_stay}
 use Rattle.fuse_theorem.proofs.Requests.PendingCounts.{pending_under, pending_le, pending_once, unread_pending, Fewer, moves_fewer}
 use Rattle.fuse_theorem.proofs.Requests.PerformedRest.{performed_rest}
 use Rattle.fuse_theorem.proofs.Requests.QueueMoves.{begun_moves, signalled_moves, written_moves}
@@ -273,17 +273,17 @@ module _ (b : ℕ → ℕ) (w : World) (room : HasRoom b w) (once : AtMost b w) 
   written : (k : ℕ) (sent : Sent) → (is_live w.kernel.phase ≡ true → IsSound (reply_written w.kernel sent.unique sent.wire).1.queues) → AtMost b (after_write w k sent (reply_written w.kernel sent.unique sent.wire))
   written k sent sound = by (is_live w.kernel.phase) refl
     where
-      heard : is_live w.kernel.phase ≡ true → Hears w.kernel (reply_written w.kernel sent.unique sent.wire).1 → AtMost b (record w { kernel = (reply_written w.kernel sent.unique sent.wire).1 })
-      heard live (goes_on still rises calls) u even =
+      reply_received : is_live w.kernel.phase ≡ true → ReceivesReply w.kernel (reply_written w.kernel sent.unique sent.wire).1 → AtMost b (record w { kernel = (reply_written w.kernel sent.unique sent.wire).1 })
+      reply_received live (goes_on still rises calls) u even =
           kernel_once b w room once (numbered.live live) live (reply_written w.kernel sent.unique sent.wire).1
           (moves_fewer w.kernel.queues (reply_written w.kernel sent.unique sent.wire).1.queues (written_moves w.kernel sent.unique sent.wire still)) (sound live) u even
-      heard live (ends dead idle uncounted) u even =
+      reply_received live (ends dead idle uncounted) u even =
           let old = once u even in
           let none : pending_under u (reply_written w.kernel sent.unique sent.wire).1.queues ≡ 0 = ap (pending_under u) idle in
           omega (arith, old, none)
 
       by : (c : Bool) → is_live w.kernel.phase ≡ c → AtMost b (record w { kernel = (reply_written w.kernel sent.unique sent.wire).1 })
-      by true live = let now = numbered.live live in heard live (written_heard w.kernel live now.queues (calls_of w now) sent.unique sent.wire)
+      by true live = let now = numbered.live live in reply_received live (written_heard w.kernel live now.queues (calls_of w now) sent.unique sent.wire)
       by false dead = fewer_once b w once (record w { kernel = (reply_written w.kernel sent.unique sent.wire).1 }) (unheard w.kernel (numbered.idle dead) sent.unique sent.wire) refl (λ u. omega arith)
 
   -- A call begins.

@@ -22,7 +22,7 @@ use Rattle.fuse_spec.specs.Kernel.Queues.{IsSound, is_unread, request_under, mar
 use Rattle.fuse_spec.specs.Kernel.QueueCalls.{after_reply_effect, waiting, without}
 use Rattle.fuse_spec.specs.Kernel.Signals.{reply_effect}
 use Rattle.fuse_spec.specs.Kernel.Kernel.{Kernel, is_live, is_for, kernel_aborted, after_use}
-use Rattle.fuse_spec.specs.Kernel.Replies.{kernel_reply, learnt, Use, usable, useless, stale, goes_with, is_agreement, judged, replied, replied_to_call, ended_by, reply_taken, odd_taken, interrupt_replied, interrupt_reply_of, reply_written, heard, without_stale, reply_judged, use_of_reply, made_ready}
+use Rattle.fuse_spec.specs.Kernel.Replies.{kernel_reply, learnt, Use, usable, useless, stale, goes_with, is_agreement, judged, replied, replied_to_call, ended_by, request_reply_written, interrupt_reply_written, interrupt_replied, interrupt_reply_of, reply_written, reply_received, without_stale, reply_judged, use_of_reply, made_ready}
 use Rattle.fuse_spec.proofs.QueueReadings.{request_under-without, request_under-without_other}
 use Rattle.fuse_theorem.specs.Numbering.{requests_for}
 use Rattle.fuse_theorem.specs.AskedRequests.{SignalsReachCalls, InitIsFirst}
@@ -65,7 +65,7 @@ replied_follows k call wire (Some state) none = by (goes_with (asked state) wire
 
     by : (b : Bool) → Follows k (replied k call state b wire).1
     by true =
-        let l = heard k call state wire in
+        let l = reply_received k call state wire in
         then_follows k l (after_use l state) (judged_follows (reply_judged k.nodes wire) (use_of_reply k.nodes wire)) (used_follows l state)
     by false =
         let l = record k { vfs = answered k.vfs call (answer.failed 5) } in
@@ -123,15 +123,15 @@ written_answers k sound numbered unique low wire live = by (nat_eq (unique % 2) 
     interrupts done = unmoved k k refl refl (omega arith)
     interrupts x = unmoved k k refl refl (omega arith)
 
-    odd : (o : Option Purpose) → Answers k (odd_taken k unique wire o).1 unique
+    odd : (o : Option Purpose) → Answers k (interrupt_reply_written k unique wire o).1 unique
     odd None = none_ends k k unique (unmoved k k refl refl (omega arith))
     odd (Some kept) = none_ends k (interrupt_replied k (unique - 1) wire).1 unique (interrupts wire)
 
-    even : (o : Option Purpose) → waiting k.queues unique ≡ o → is_live (reply_taken k unique wire o).1.phase ≡ true → Answers k (reply_taken k unique wire o).1 unique
+    even : (o : Option Purpose) → waiting k.queues unique ≡ o → is_live (request_reply_written k unique wire o).1.phase ≡ true → Answers k (request_reply_written k unique wire o).1 unique
     even None waits alive = none_ends k k unique (unmoved k k refl refl (omega arith))
     even (Some kept) waits alive = ended_answers k sound numbered unique low wire kept (waiting_is k.queues unique kept waits) alive
 
-    by : (b : Bool) → is_live (cond b (odd_taken k unique wire (waiting k.queues (unique - 1))) (reply_taken k unique wire (waiting k.queues unique))).1.phase ≡ true
-        → Answers k (cond b (odd_taken k unique wire (waiting k.queues (unique - 1))) (reply_taken k unique wire (waiting k.queues unique))).1 unique
+    by : (b : Bool) → is_live (cond b (interrupt_reply_written k unique wire (waiting k.queues (unique - 1))) (request_reply_written k unique wire (waiting k.queues unique))).1.phase ≡ true
+        → Answers k (cond b (interrupt_reply_written k unique wire (waiting k.queues (unique - 1))) (request_reply_written k unique wire (waiting k.queues unique))).1 unique
     by true alive = odd (waiting k.queues (unique - 1))
     by false alive = even (waiting k.queues unique) refl alive

@@ -24,7 +24,7 @@ use Rattle.fuse_spec.specs.Calls.Vfs.{CallState}
 use Rattle.fuse_spec.specs.Calls.Calls.{Call}
 use Rattle.fuse_spec.specs.Calls.Paths.{Name}
 use Rattle.fuse_spec.specs.Kernel.Kernel.{Kernel, is_live, body_of, call_signalled, is_pinned, is_bound}
-use Rattle.fuse_spec.specs.Kernel.Replies.{reply_written, reply_taken, odd_taken, replied_to_call}
+use Rattle.fuse_spec.specs.Kernel.Replies.{reply_written, request_reply_written, interrupt_reply_written, replied_to_call}
 use Rattle.fuse_spec.specs.Server.Server.{HeldRequest, Kept, Copy, holding}
 use Rattle.fuse_spec.specs.Server.Copies.{is_current, files_named}
 use Rattle.fuse_spec.specs.Server.Taking.{taking}
@@ -38,7 +38,7 @@ use Rattle.fuse_spec.specs.World.Steps.{unless, going, is_ready, is_busy, when_n
 use Rattle.fuse_spec.specs.Reference.Plain.{Plain}
 use Rattle.fuse_spec.specs.Reference.PlainSteps.{Takes, takes}
 use Rattle.fuse_spec.specs.Claim.Alike.{Alike}
-use Rattle.fuse_theorem.specs.EachEvent.{Moves, CanTake, CanServe, CanHear, CanSettle, Needs}
+use Rattle.fuse_theorem.specs.EachEvent.{Moves, CanTake, CanServe, CanReceive, CanSettle, Needs}
 use Rattle.fuse_theorem.specs.EachEvent as each
 use Rattle.fuse_theorem.proofs.Refining.Aborting.{abort_goes}
 use Rattle.fuse_theorem.proofs.RefusalCases.Accepted.{Leads, accepted, unless_ok, going_ok, ok_is, is_not}
@@ -197,13 +197,13 @@ module _ (w : World) (p : Plain) (same : Alike w p) (o : Outcome) (last : World)
       to_call : (sent : Sent) (call : ℕ) → nat_eq (sent.unique % 2) 1 ≡ false → waiting w.kernel.queues sent.unique ≡ Some (purpose.Call call)
           → reply_written w.kernel sent.unique sent.wire ≡ replied_to_call (record w.kernel { queues = without w.kernel.queues sent.unique }) call sent.wire (get w.kernel.vfs.calls call)
       to_call sent call even waits =
-          ap (λ (b : Bool). cond b (odd_taken w.kernel sent.unique sent.wire (waiting w.kernel.queues (sent.unique - 1))) (reply_taken w.kernel sent.unique sent.wire (waiting w.kernel.queues sent.unique))) even
-          ∙ ap (reply_taken w.kernel sent.unique sent.wire) waits
+          ap (λ (b : Bool). cond b (interrupt_reply_written w.kernel sent.unique sent.wire (waiting w.kernel.queues (sent.unique - 1))) (request_reply_written w.kernel sent.unique sent.wire (waiting w.kernel.queues sent.unique))) even
+          ∙ ap (request_reply_written w.kernel sent.unique sent.wire) waits
 
       accepted_as : (sent : Sent) (call : ℕ) → (Told sent call).0 ≡ Accepted → (q : Plain) × Takes p (event.write k) (event.written sent.unique Accepted) q × Alike (after_write w k sent (Told sent call)) q → Heard sent (Told sent call)
       accepted_as sent call is goes = (goes.0, subst (λ (r : WriteResult). Takes p (event.write k) (event.written sent.unique r) goes.0) (sym is) goes.1, goes.2)
 
-      hears : (sent : Sent) → CanHear w p sent → Heard sent (reply_written w.kernel sent.unique sent.wire)
+      hears : (sent : Sent) → CanReceive w p sent → Heard sent (reply_written w.kernel sent.unique sent.wire)
       hears sent (each.nothing none) = let goes = no_entry w p same k sent none in (p, goes.0, goes.1)
       hears sent (each.of_interrupt kept numbered live odd waits) = let goes = interrupt_replied_to w p same k sent numbered live odd kept waits in (p, goes.0, goes.1)
       hears sent (each.of_release x numbered live even waits) = let goes = release_ends w p same k sent numbered live even x waits in (p, goes.0, goes.1)

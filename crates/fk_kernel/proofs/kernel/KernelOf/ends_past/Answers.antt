@@ -6,7 +6,7 @@ use Rattle.fuse_spec.specs.Values.Maps.{Map, get, remove, values}
 use Rattle.fuse_spec.specs.Calls.Vfs.{CallState, using}
 use Rattle.fuse_spec.specs.declared.Opened.{Opened}
 use Rattle.fk_kernel.proofs.Evicted.{any_gone, copied_is}
-use Rattle.fk_kernel.proofs.Standing.{uses_there, not_true, not_false}
+use Rattle.fk_kernel.proofs.CallStates.{uses_there, not_true, not_false}
 use Rattle.fk_kernel.proofs.kernel.KernelOf.ends_past.Goals as goal
 
 pub returns-in_default-clause-within : goal.returns-in_default-clause-within

@@ -1,7 +1,7 @@
 use Rattle.std.proofs.Common.{sym, subst, ◌∙◌}
 use Rattle.fk_kernel.specs.Entries.{Makes}
 use Rattle.fk_kernel.proofs.CountsHeard.{entry_fits}
-use Rattle.fk_kernel.proofs.Standing.{makes_found}
+use Rattle.fk_kernel.proofs.CallStates.{makes_found}
 use Rattle.fk_kernel.proofs.kernel.KernelOf.entry_found.Goals as goal
 
 pub name_is_made-requires-clause-makes : goal.name_is_made-requires-clause-makes

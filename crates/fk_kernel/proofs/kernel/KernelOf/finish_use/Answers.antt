@@ -3,7 +3,7 @@ use Rattle.fuse_spec.specs.Kernel.Kernel.{Kernel, released_if_idle, after_use}
 use Rattle.fuse_spec.specs.Values.Maps.{get}
 use Rattle.fuse_spec.specs.Calls.Vfs.{answered}
 use Rattle.fk_syscalls.specs.Values.{answer_of}
-use Rattle.fk_kernel.proofs.Standing.{some_state, using_of, stays}
+use Rattle.fk_kernel.proofs.CallStates.{some_state, using_of, stays}
 use Rattle.fk_kernel.proofs.kernel.KernelOf.finish_use.Goals as goal
 
 pub release_if_idle-requires : goal.release_if_idle-requires

@@ -5,7 +5,7 @@ use Rattle.fuse_spec.specs.Kernel.QueueCalls.{waiting}
 use Rattle.fuse_spec.specs.Calls.Vfs.{doing}
 use Rattle.fk_kernel.proofs.Nodes.{learnt_counted, answered_is}
 use Rattle.fk_kernel.proofs.Replied.{made_found}
-use Rattle.fk_kernel.proofs.Standing.{makes_place}
+use Rattle.fk_kernel.proofs.CallStates.{makes_place}
 use Rattle.fk_kernel.proofs.kernel.KernelOf.name_is_made.Goals as goal
 
 pub bind_entry-requires-clause-names_one : goal.bind_entry-requires-clause-names_one

@@ -12,7 +12,7 @@ use Rattle.fk_nodes.specs.Told.{pairs_in}
 use Rattle.fk_kernel.proofs.CountsHeard.{pairs_below}
 use Rattle.fk_kernel.proofs.Nodes.{answered_is, listed_counted}
 use Rattle.fk_kernel.proofs.Replied.{list_done}
-use Rattle.fk_kernel.proofs.Standing.{asked_is, lists_from}
+use Rattle.fk_kernel.proofs.CallStates.{asked_is, lists_from}
 use Rattle.fk_kernel.proofs.kernel.KernelOf.pairs_listed.Goals as goal
 
 pub learn_and_bind-requires-clause-below : goal.learn_and_bind-requires-clause-below
