@@ -2,8 +2,8 @@
 
 use crate::Opened;
 
-/// One operation of a call, by its opcode (linux/fuse.h, enum fuse_opcode), on nodes. `S` holds a name or bytes: lent from a call or from
-/// a frame, or owned.
+/// One operation of a call, by its opcode (linux/fuse.h, enum fuse_opcode), on nodes. `S` holds a name or bytes: lent
+/// from a call or from a frame, or owned.
 #[derive(Debug, Drop)]
 pub enum Operation<S> {
     Lookup {

@@ -1,5 +1,5 @@
-//! The definitions of the project, in `specs/`; the plain values, error numbers and limits that definitions and code share; and worked runs, computed
-//! over the definitions.
+//! The definitions of the project, in `specs/`; the plain values, error numbers and limits that definitions and code
+//! share; and worked runs, computed over the definitions.
 #![tactic(auto)]
 
 mod asked;

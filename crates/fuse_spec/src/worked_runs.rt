@@ -1,4 +1,5 @@
-//! Worked runs, computed over the definitions: the machine of kernel, server and links, and the plain world beside it, record what each run has to record.
+//! Worked runs, computed over the definitions: the machine of kernel, server and links, and the plain world beside it,
+//! record what each run has to record.
 
 ghost use Rattle.fuse_spec.specs.Worked.IdUsedAgainWhileOlderReplyIsKept.{IsComputed as IdUsedAgainWhileOlderReplyIsKeptIsComputed};
 ghost use Rattle.fuse_spec.specs.Worked.InterruptMarkBelongsToTheRequest.{IsComputed as InterruptMarkBelongsToTheRequestIsComputed};

@@ -27,10 +27,13 @@ serves_call (purpose.Call call) = true
 pub record IsInterrupted (k : Kernel) (unique : ℕ) : Type 0 where
   pub even : unique % 2 ≡ 0
   pub drawn : unique < k.queues.next
-  pub marked : (request : QueuedRequest Purpose) → request_under k.queues unique ≡ Some request → has_interrupt request.mark ≡ true
-  pub of_call : (request : QueuedRequest Purpose) → request_under k.queues unique ≡ Some request → serves_call request.kept ≡ true
+  pub marked : (request : QueuedRequest Purpose) → request_under k.queues unique ≡ Some request
+      → has_interrupt request.mark ≡ true
+  pub of_call : (request : QueuedRequest Purpose) → request_under k.queues unique ≡ Some request
+      → serves_call request.kept ≡ true
 
--- A request on the link is its kernel's. A FORGET has no reply, so none awaits it; an INTERRUPT is one of a request that was interrupted.
+-- A request on the link is its kernel's. A FORGET has no reply, so none awaits it; an INTERRUPT is one of a request
+-- that was interrupted.
 abbrev pub SentAsked : Kernel → ℕ → RequestBody → Type 0
 SentAsked k unique (init flags) = IsAsked k unique (init flags)
 SentAsked k unique (asks operation) = IsAsked k unique (asks operation)
@@ -46,7 +49,8 @@ pub record HeldAsked (k : Kernel) (unique : ℕ) (t : HeldRequest) : Type 0 wher
 
 -- Only requests of calls bear signals.
 abbrev pub SignalsReachCalls : QueueState Purpose → Type 0
-SignalsReachCalls q = All (λ (e : ℕ × QueuedRequest Purpose). is_signalled e.1.mark ≡ true → serves_call e.1.kept ≡ true) q.requests
+SignalsReachCalls q = All (λ (e : ℕ × QueuedRequest Purpose). is_signalled e.1.mark ≡ true
+    → serves_call e.1.kept ≡ true) q.requests
 
 -- INIT bears the first number of a mount, and nothing else does.
 abbrev pub BearsFirst : ℕ → Purpose → Type 0

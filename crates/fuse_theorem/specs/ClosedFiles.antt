@@ -21,12 +21,15 @@ pub record UsesFile (c : Vfs Opened) (closing : Map Opened) (handle : ℕ) (oper
   pub of_open : (o : Opened) → get c.opens handle ≡ Some o → opens_of operation ≡ o ∷ []
   pub of_closed : (o : Opened) → get closing handle ≡ Some o → opens_of operation ≡ o ∷ []
 
--- An open file bears the number of the answered call that opened it. A call that uses one names it, and a closed file whose RELEASE is not queued is used.
+-- An open file bears the number of the answered call that opened it. A call that uses one names it, and a closed file
+-- whose RELEASE is not queued is used.
 pub record ClosedFiles (c : Vfs Opened) (closing : Map Opened) : Type 0 where
   pub calls_in_order : T (is_sorted nat_cmp c.calls)
   pub closing_in_order : T (is_sorted nat_cmp closing)
   pub calls_below : (call : ℕ) → c.next_call ≤ call → get c.calls call ≡ None
   pub opens : (handle : ℕ) (o : Opened) → get c.opens handle ≡ Some o → WasAnswered c handle
-  pub users : (call handle : ℕ) (operation : Operation ℕ Opened) → get c.calls call ≡ Some (using handle operation) → UsesFile c closing handle operation
+  pub users : (call handle : ℕ) (operation : Operation ℕ Opened) → get c.calls call ≡ Some (using handle operation)
+      → UsesFile c closing handle operation
   pub not_open : (handle : ℕ) (o : Opened) → get closing handle ≡ Some o → get c.opens handle ≡ None
-  pub used : (handle : ℕ) (o : Opened) → get closing handle ≡ Some o → list_any (is_using handle) (values c.calls) ≡ true
+  pub used : (handle : ℕ) (o : Opened) → get closing handle ≡ Some o
+      → list_any (is_using handle) (values c.calls) ≡ true

@@ -32,7 +32,8 @@ OneId t = (i j g h file : ℕ) → Denotes t i g file → Denotes t j h file →
 
 -- The server holds what the kernel knows, under the kernel's generation.
 abbrev pub KnownAreHeld : World → Type 0
-KnownAreHeld w = (id generation : ℕ) → generation_known w.kernel.nodes id ≡ Some generation → (file : ℕ) × Denotes w.server.nodes id generation file
+KnownAreHeld w = (id generation : ℕ) → generation_known w.kernel.nodes id ≡ Some generation
+    → (file : ℕ) × Denotes w.server.nodes id generation file
 
 -- The root stands in no table, and the coming open number is new.
 pub record TablesSound (s : Server) : Type 0 where
@@ -41,8 +42,10 @@ pub record TablesSound (s : Server) : Type 0 where
 
 -- The open number of a reply to CREATE or OPEN is one of the file that is created or opened.
 abbrev pub OpensItsFile : NodeTable → HandleTable → Operation ℕ Opened → WireReply → Type 0
-OpensItsFile t h operation (created g v fh) = (file : ℕ) → Denotes t g.nodeid g.generation file → is_open h fh file ≡ true
-OpensItsFile t h (opening node) (opened fh) = (generation file : ℕ) → Denotes t node generation file → is_open h fh file ≡ true
+OpensItsFile t h operation (created g v fh) = (file : ℕ) → Denotes t g.nodeid g.generation file
+    → is_open h fh file ≡ true
+OpensItsFile t h (opening node) (opened fh) = (generation file : ℕ) → Denotes t node generation file
+    → is_open h fh file ≡ true
 OpensItsFile t h operation wire = Unit {0}
 
 -- A request of a call that the server can perform: it is held alone under its number, no INTERRUPT marked it, and
@@ -63,8 +66,8 @@ pub record CanDecline (w : World) (unique : ℕ) (t : HeldRequest) (operation : 
   pub none_pending : count_by (λ (e : ℕ × QueuedRequest Purpose). nat_eq unique e.0) (pending w.kernel.queues) ≡ 0
   pub none_sent : count_by (λ (r : Request). nat_eq unique r.unique) w.requests ≡ 0
 
--- A RELEASE that the server can perform: no INTERRUPT marked it, its node is held as it was when it was taken, and its open number is
--- one of the node's file.
+-- A RELEASE that the server can perform: no INTERRUPT marked it, its node is held as it was when it was taken, and its
+-- open number is one of the node's file.
 pub record CanRelease (w : World) (unique : ℕ) (t : HeldRequest) (o : Opened) : Type 0 where
   pub there : get w.server.held unique ≡ Some t
   pub body_is : t.body ≡ release o
@@ -72,15 +75,19 @@ pub record CanRelease (w : World) (unique : ℕ) (t : HeldRequest) (o : Opened) 
   pub still : is_still_held w.server.nodes t.generations ≡ true
   pub number : is_open w.server.handles o.fh (file_of w.server.nodes o.nodeid) ≡ true
 
--- The entries of a reply can be used: the kernel takes the reply as it is, forgets nothing for it, and then knows each node under its entry's generation.
+-- The entries of a reply can be used: the kernel takes the reply as it is, forgets nothing for it, and then knows each
+-- node under its entry's generation.
 pub record IsUsable (nodes : Map Counted) (wire : WireReply) : Type 0 where
   pub judged : reply_judged nodes wire ≡ wire
   pub none_stale : stale_in_reply nodes wire ≡ []
   pub is_usable : use_of_reply nodes wire ≡ usable
-  pub known : All (λ (g : Entry). generation_known (learnt nodes (files_in_reply wire)) g.nodeid ≡ Some g.generation) (files_in_reply wire)
+  pub known : All (λ (g : Entry). generation_known (learnt nodes (files_in_reply wire)) g.nodeid ≡ Some g.generation)
+      (files_in_reply wire)
 
--- A copy that replies to the request of an unanswered call, whose ask was performed: it goes with the operation, and its entries can be used.
-pub record IsReply (w : World) (p : Plain) (sent : Sent) (call : ℕ) (state : CallState Opened) (reply : Reply ℕ ℕ) : Type 0 where
+-- A copy that replies to the request of an unanswered call, whose ask was performed: it goes with the operation, and
+-- its entries can be used.
+pub record IsReply (w : World) (p : Plain) (sent : Sent) (call : ℕ) (state : CallState Opened)
+    (reply : Reply ℕ ℕ) : Type 0 where
   pub request : QueuedRequest Purpose
   pub under : request_under w.kernel.queues sent.unique ≡ Some request
   pub serves : request.kept ≡ purpose.Call call
@@ -110,21 +117,27 @@ pub record IsDeclined (w : World) (p : Plain) (sent : Sent) (call : ℕ) (state 
 
 -- What is unread is neither on the link nor held.
 abbrev pub UnreadAreUnsent : World → Type 0
-UnreadAreUnsent w = (unique : ℕ) (r : QueuedRequest Purpose) → request_under w.kernel.queues unique ≡ Some r → is_unread r.mark ≡ true → All (λ (s : Request). s.unique ≢ unique) w.requests × (get w.server.held unique ≡ None)
+UnreadAreUnsent w = (unique : ℕ) (r : QueuedRequest Purpose) → request_under w.kernel.queues unique ≡ Some r
+    → is_unread r.mark ≡ true → All (λ (s : Request). s.unique ≢ unique) w.requests × (get w.server.held unique ≡ None)
 
 -- Each entry of the reply is held under its own generation.
 abbrev pub EntriesAreHeld : NodeTable → WireReply → Type 0
-EntriesAreHeld t wire = (g : Entry) → Contains (files_in_reply wire) g → (file : ℕ) × Denotes t g.nodeid g.generation file
+EntriesAreHeld t wire = (g : Entry) → Contains (files_in_reply wire) g
+    → (file : ℕ) × Denotes t g.nodeid g.generation file
 
--- With this table the server holds, under their generations, the nodes that the kernel knows, those of the requests that it holds, and those
--- that copies and kept replies to unanswered requests name.
+-- With this table the server holds, under their generations, the nodes that the kernel knows, those of the requests
+-- that it holds, and those that copies and kept replies to unanswered requests name.
 pub record HoldsAll (w : World) (t : NodeTable) : Type 0 where
-  pub known : (id generation : ℕ) → generation_known w.kernel.nodes id ≡ Some generation → (file : ℕ) × Denotes t id generation file
-  pub held : (unique : ℕ) (x : HeldRequest) → get w.server.held unique ≡ Some x → (id generation : ℕ) → Contains x.generations (id, generation) → (file : ℕ) × Denotes t id generation file
-  pub kept : (unique : ℕ) (k : Kept) → get w.server.kept unique ≡ Some k → request_under w.kernel.queues unique ≢ None → EntriesAreHeld t k.wire
+  pub known : (id generation : ℕ) → generation_known w.kernel.nodes id ≡ Some generation
+      → (file : ℕ) × Denotes t id generation file
+  pub held : (unique : ℕ) (x : HeldRequest) → get w.server.held unique ≡ Some x → (id generation : ℕ)
+      → Contains x.generations (id, generation) → (file : ℕ) × Denotes t id generation file
+  pub kept : (unique : ℕ) (k : Kept) → get w.server.kept unique ≡ Some k → request_under w.kernel.queues unique ≢ None
+      → EntriesAreHeld t k.wire
   pub copies : All (λ (s : Sent). request_under w.kernel.queues s.unique ≢ None → EntriesAreHeld t s.wire) w.replies
 
--- An INTERRUPT on the link bears its original's number and one. The original stands nowhere else while it is held, and a signal was noted on its ask.
+-- An INTERRUPT on the link bears its original's number and one. The original stands nowhere else while it is held, and
+-- a signal was noted on its ask.
 pub record IsInterrupt (w : World) (p : Plain) (k : ℕ) (r : Request) (original : ℕ) : Type 0 where
   pub there : slice_get w.requests k ≡ Some r
   pub body_is : r.body ≡ interrupt original
@@ -140,15 +153,19 @@ IsUnsent w node = All (λ (r : Request). list_any (nat_eq node) (nodes_of_body r
 abbrev pub IsNumber : HandleTable → ℕ → Type 0
 IsNumber h fh = get h.handles fh ≢ None
 
--- With this table the server holds the open numbers of the kernel's open files and calls, of the requests on the link and of those that it
--- holds, and those that copies and kept replies to unanswered requests name.
+-- With this table the server holds the open numbers of the kernel's open files and calls, of the requests on the link
+-- and of those that it holds, and those that copies and kept replies to unanswered requests name.
 pub record HoldsOpens (w : World) (h : HandleTable) : Type 0 where
   pub opens : (handle : ℕ) (o : Opened) → get w.kernel.vfs.opens handle ≡ Some o → IsNumber h o.fh
-  pub calls : (call : ℕ) (state : CallState Opened) → get w.kernel.vfs.calls call ≡ Some state → (o : Opened) → Contains (opens_of (asked state)) o → IsNumber h o.fh
+  pub calls : (call : ℕ) (state : CallState Opened) → get w.kernel.vfs.calls call ≡ Some state → (o : Opened)
+      → Contains (opens_of (asked state)) o → IsNumber h o.fh
   pub sent : All (λ (r : Request). (o : Opened) → Contains (opens_of_body r.body) o → IsNumber h o.fh) w.requests
-  pub held : (unique : ℕ) (x : HeldRequest) → get w.server.held unique ≡ Some x → (o : Opened) → Contains (opens_of_body x.body) o → IsNumber h o.fh
-  pub kept : (unique : ℕ) (k : Kept) → get w.server.kept unique ≡ Some k → request_under w.kernel.queues unique ≢ None → (fh : ℕ) → Contains (opens_in_reply k.wire) fh → IsNumber h fh
-  pub copies : All (λ (s : Sent). request_under w.kernel.queues s.unique ≢ None → (fh : ℕ) → Contains (opens_in_reply s.wire) fh → IsNumber h fh) w.replies
+  pub held : (unique : ℕ) (x : HeldRequest) → get w.server.held unique ≡ Some x → (o : Opened)
+      → Contains (opens_of_body x.body) o → IsNumber h o.fh
+  pub kept : (unique : ℕ) (k : Kept) → get w.server.kept unique ≡ Some k → request_under w.kernel.queues unique ≢ None
+      → (fh : ℕ) → Contains (opens_in_reply k.wire) fh → IsNumber h fh
+  pub copies : All (λ (s : Sent). request_under w.kernel.queues s.unique ≢ None → (fh : ℕ)
+      → Contains (opens_in_reply s.wire) fh → IsNumber h fh) w.replies
 
 -- What awaits a reply under a number: a request that was read, or with an odd number the request whose INTERRUPT it is.
 abbrev pub awaiting : Kernel → ℕ → Option Purpose

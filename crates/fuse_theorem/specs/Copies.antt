@@ -13,11 +13,13 @@ pub record IsKnownCopy (copies : Map Copy) (sent : Sent) : Type 0 where
   pub same_unique : copy.unique ≡ sent.unique
   pub same_wire : copy.wire ≡ sent.wire
 
--- The server knows each copy on the reply link, and each whose result is on its way back. A number stands once on the two links.
+-- The server knows each copy on the reply link, and each whose result is on its way back. A number stands once on the
+-- two links.
 pub record CopiesSound (w : World) : Type 0 where
   pub sent : All (IsKnownCopy w.server.copies) w.replies
   pub results : All (λ (r : ReplyResult). get w.server.copies r.number ≢ None) w.results
-  pub once : (number : ℕ) → count_by (λ (s : Sent). nat_eq number s.number) w.replies + count_by (λ (r : ReplyResult). nat_eq number r.number) w.results ≤ 1
+  pub once : (number : ℕ) → count_by (λ (s : Sent). nat_eq number s.number) w.replies + count_by
+      (λ (r : ReplyResult). nat_eq number r.number) w.results ≤ 1
 
 -- Some element has the property.
 pub data SomeHas {X : Type 0} (P : X → Type 0) : List X → Type 0 where
@@ -26,4 +28,6 @@ pub data SomeHas {X : Type 0} (P : X → Type 0) : List X → Type 0 where
 
 -- A kept reply whose request is unanswered has a copy on the link.
 abbrev pub KeptAreSent : World → Type 0
-KeptAreSent w = (unique : ℕ) (k : Kept) → get w.server.kept unique ≡ Some k → request_under w.kernel.queues unique ≢ None → SomeHas (λ (s : Sent). (s.unique ≡ unique) × (s.wire ≡ k.wire)) w.replies
+KeptAreSent w = (unique : ℕ) (k : Kept) → get w.server.kept unique ≡ Some k
+    → request_under w.kernel.queues unique ≢ None → SomeHas
+    (λ (s : Sent). (s.unique ≡ unique) × (s.wire ≡ k.wire)) w.replies

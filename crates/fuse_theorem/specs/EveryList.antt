@@ -33,7 +33,8 @@ ForgetsNothing (forget f) = ⊥
 ForgetsNothing (batch_forget fs) = ⊥
 ForgetsNothing (interrupt original) = Unit {0}
 
--- Every event needs no more than that but the taking of forgets, the performing of a request, and the settling of a copy.
+-- Every event needs no more than that but the taking of forgets, the performing of a request, and the settling of a
+-- copy.
 abbrev pub NeedsBothAlone : World → Event → Type 0
 NeedsBothAlone w (event.take k) = (r : Request) → slice_get w.requests k ≡ Some r → ForgetsNothing r.body
 NeedsBothAlone w (event.perform unique) = ⊥

@@ -14,8 +14,10 @@ IsKnown nodes id = generation_known nodes id ≢ None
 
 -- Each name in force stands in a known node, and leads to a known one or to none.
 pub record NamesKnown (nodes : Map Counted) (names : NameMap Binding) : Type 0 where
-  pub directories : (id : ℕ) (name : List ℕ) (bound : Binding) → get_name names (id, name) ≡ Some bound → IsKnown nodes id
-  pub targets : (id : ℕ) (name : List ℕ) (bound : Binding) → get_name names (id, name) ≡ Some bound → (target : ℕ) → bound.target ≡ Some target → IsKnown nodes target
+  pub directories : (id : ℕ) (name : List ℕ) (bound : Binding) → get_name names (id, name) ≡ Some bound
+      → IsKnown nodes id
+  pub targets : (id : ℕ) (name : List ℕ) (bound : Binding) → get_name names (id, name) ≡ Some bound → (target : ℕ)
+      → bound.target ≡ Some target → IsKnown nodes target
 
 -- What an unanswered call stands on or names is known, what an open file is of, and what a name binds.
 pub record VfsKnown (nodes : Map Counted) (c : Vfs Opened) : Type 0 where

@@ -8,7 +8,8 @@ use Rattle.fuse_spec.specs.Kernel.Kernel.{is_live}
 use Rattle.fuse_spec.specs.Server.Server.{HeldRequest, Kept}
 use Rattle.fuse_spec.specs.World.Worlds.{World, Sent}
 
--- INIT bears the first number of a mount. Each copy of its reply says the minor that the server speaks, and so does the kept reply.
+-- INIT bears the first number of a mount. Each copy of its reply says the minor that the server speaks, and so does the
+-- kept reply.
 pub record InitAgreed (w : World) : Type 0 where
   pub copies : All (λ (s : Sent). s.unique ≡ 2 → s.wire ≡ init_reply w.server.minor init_flags) w.replies
   pub kept : (x : Kept) → get w.server.kept 2 ≡ Some x → x.wire ≡ init_reply w.server.minor init_flags
@@ -21,9 +22,11 @@ pub record IsIdle (w : World) : Type 0 where
   pub kept : w.server.kept ≡ []
   pub server : (w.server.held ≡ []) ⊎ (w.server.aborted ≡ true)
 
--- INIT names no node. The server of a live mount knows of no abort and agrees on its minor, and without a live mount the links are empty.
+-- INIT names no node. The server of a live mount knows of no abort and agrees on its minor, and without a live mount
+-- the links are empty.
 pub record LinksSound (w : World) : Type 0 where
-  pub held : (unique : ℕ) (t : HeldRequest) → get w.server.held unique ≡ Some t → (flags : ℕ) → t.body ≡ init flags → t.generations ≡ []
+  pub held : (unique : ℕ) (t : HeldRequest) → get w.server.held unique ≡ Some t → (flags : ℕ) → t.body ≡ init flags
+      → t.generations ≡ []
   pub serving : is_live w.kernel.phase ≡ true → w.server.aborted ≡ false
   pub agreed : is_live w.kernel.phase ≡ true → InitAgreed w
   pub idle : is_live w.kernel.phase ≡ false → IsIdle w

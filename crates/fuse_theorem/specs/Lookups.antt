@@ -29,18 +29,22 @@ EntriesHeld t wire = All (λ (g : Entry). (2 ≤ g.nodeid) × IsHeldAs t g.nodei
 abbrev pub RefusedHeld : NodeTable → Map Copy → ReplyResult → Type 0
 RefusedHeld t copies r = (copy : Copy) → r.result ≢ Accepted → get copies r.number ≡ Some copy → EntriesHeld t copy.wire
 
--- The server's count of each node is the kernel's and what is in flight. It holds what the kernel counts, what copies name and what refused ones named.
+-- The server's count of each node is the kernel's and what is in flight. It holds what the kernel counts, what copies
+-- name and what refused ones named.
 pub record LookupsBalanced (w : World) : Type 0 where
   pub balance : Balance w
-  pub known : (id : ℕ) (node : Counted) → get w.kernel.nodes id ≡ Some node → (2 ≤ id) × (1 ≤ node.count) × IsHeldAs w.server.nodes id node.generation
+  pub known : (id : ℕ) (node : Counted) → get w.kernel.nodes id ≡ Some node
+      → (2 ≤ id) × (1 ≤ node.count) × IsHeldAs w.server.nodes id node.generation
   pub copies : All (λ (s : Sent). EntriesHeld w.server.nodes s.wire) w.replies
   pub refused : All (RefusedHeld w.server.nodes w.server.copies) w.results
 
--- While the mount is live the lookups are balanced; else the kernel counts no node. The rest is what keeps it so: no entry of a kept reply names the root.
+-- While the mount is live the lookups are balanced; else the kernel counts no node. The rest is what keeps it so: no
+-- entry of a kept reply names the root.
 pub record LookupsSound (w : World) : Type 0 where
   pub server : ServerSound w.server
   pub numbers : IsNumberedWhileLive w
   pub copies : CopiesSound w
-  pub kept : (unique : ℕ) (k : Kept) → get w.server.kept unique ≡ Some k → All (λ (g : Entry). 2 ≤ g.nodeid) (files_in_reply k.wire)
+  pub kept : (unique : ℕ) (k : Kept) → get w.server.kept unique ≡ Some k
+      → All (λ (g : Entry). 2 ≤ g.nodeid) (files_in_reply k.wire)
   pub balanced : is_live w.kernel.phase ≡ true → LookupsBalanced w
   pub uncounted : is_live w.kernel.phase ≡ false → w.kernel.nodes ≡ []

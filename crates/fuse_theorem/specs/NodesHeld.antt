@@ -1,4 +1,5 @@
--- What `Held` says of nodes alone: the server holds each node that a live kernel uses, and no request on its way names a node that is gone.
+-- What `Held` says of nodes alone: the server holds each node that a live kernel uses, and no request on its way names
+-- a node that is gone.
 use Rattle.std.specs.Prelude.{T, ◌≡◌, ℕ, List, true, Some, All, is_some, MatchOption}
 use Rattle.std.specs.Ordering.{nat_cmp}
 use Rattle.std.specs.FinMap.{is_sorted}
@@ -18,11 +19,14 @@ use Rattle.fuse_spec.specs.Server.Server.{Server, HeldRequest, nodes_of_body}
 use Rattle.fuse_spec.specs.Calls.Vfs.{CallState}
 use Rattle.fuse_spec.specs.World.Worlds.{World, Sent}
 
--- What the kernel counts, binds, opens or waits on is held by the server under the kernel's generation, and so is each entry on the reply link.
+-- What the kernel counts, binds, opens or waits on is held by the server under the kernel's generation, and so is each
+-- entry on the reply link.
 pub record NodesHeldLive (w : World) : Type 0 where
   pub nodes : (id : ℕ) (node : Counted) → get w.kernel.nodes id ≡ Some node → IsMeant w id
-  pub names : (directory : ℕ) (name : List ℕ) (bound : Binding) → get_name w.kernel.vfs.names (directory, name) ≡ Some bound → IsMeant w directory
-  pub targets : (directory : ℕ) (name : List ℕ) (bound : Binding) (id : ℕ) → get_name w.kernel.vfs.names (directory, name) ≡ Some bound → bound.target ≡ Some id → IsMeant w id
+  pub names : (directory : ℕ) (name : List ℕ) (bound : Binding)
+      → get_name w.kernel.vfs.names (directory, name) ≡ Some bound → IsMeant w directory
+  pub targets : (directory : ℕ) (name : List ℕ) (bound : Binding) (id : ℕ)
+      → get_name w.kernel.vfs.names (directory, name) ≡ Some bound → bound.target ≡ Some id → IsMeant w id
   pub calls : All (λ (state : CallState Opened). All (IsMeant w) (nodes_of_state state)) (values w.kernel.vfs.calls)
   pub opens : All (λ (o : Opened). IsMeant w o.nodeid) (values w.kernel.vfs.opens)
   pub closing : All (λ (o : Opened). IsMeant w o.nodeid) (values w.kernel.closing)
@@ -39,6 +43,7 @@ pub record TakenServable (s : Server) : Type 0 where
 
 pub record NodesHeld (w : World) : Type 0 where
   pub live : is_live w.kernel.phase ≡ true → NodesHeldLive w
-  pub pending : All (λ (e : ℕ × QueuedRequest Purpose). MatchOption (body_of w.kernel e.1.kept) ⊥ (λ (body : RequestBody). NodesServable w.server body)) (pending w.kernel.queues)
+  pub pending : All (λ (e : ℕ × QueuedRequest Purpose). MatchOption (body_of w.kernel e.1.kept) ⊥
+      (λ (body : RequestBody). NodesServable w.server body)) (pending w.kernel.queues)
   pub sent : All (λ (r : Request). NodesServable w.server r.body) w.requests
   pub taken : All (λ (t : HeldRequest). NodesServable w.server t.body) (values w.server.held)

@@ -13,19 +13,22 @@ use Rattle.fuse_spec.specs.World.Worlds.{World, Sent}
 abbrev pub requests_for : ℕ → QueueState Purpose → ℕ
 requests_for call s = count_by (λ (e : ℕ × QueuedRequest Purpose). is_for call e.1.kept) s.requests
 
--- No call of the next number or a later one is unanswered; an unanswered call has one request at most, and an answered one none.
--- What is on the links, held or kept bears a number that this mount has drawn.
+-- No call of the next number or a later one is unanswered; an unanswered call has one request at most, and an answered
+-- one none. What is on the links, held or kept bears a number that this mount has drawn.
 pub record IsNumbered (w : World) : Type 0 where
   pub queues : IsSound w.kernel.queues
   pub calls_below : (call : ℕ) → w.kernel.vfs.next_call ≤ call → get w.kernel.vfs.calls call ≡ None
   pub one_request : (call : ℕ) → requests_for call w.kernel.queues ≤ cond (is_some (get w.kernel.vfs.calls call)) 1 0
   pub sent_below : All (λ (r : Request). r.unique < w.kernel.queues.next) w.requests
   pub replies_below : All (λ (sent : Sent). sent.unique < w.kernel.queues.next) w.replies
-  pub held_below : is_live w.kernel.phase ≡ true → (unique : ℕ) (t : HeldRequest) → get w.server.held unique ≡ Some t → unique < w.kernel.queues.next
-  pub kept_below : is_live w.kernel.phase ≡ true → (unique : ℕ) (k : Kept) → get w.server.kept unique ≡ Some k → unique < w.kernel.queues.next
+  pub held_below : is_live w.kernel.phase ≡ true → (unique : ℕ) (t : HeldRequest) → get w.server.held unique ≡ Some t
+      → unique < w.kernel.queues.next
+  pub kept_below : is_live w.kernel.phase ≡ true → (unique : ℕ) (k : Kept) → get w.server.kept unique ≡ Some k
+      → unique < w.kernel.queues.next
 
--- The numbers are in order while the mount is live, and else no request is unanswered. More cannot be kept then: after an abort the server holds what
--- it held under the numbers of the mount that ended, and where INIT is not agreed on, the links stay full, until the next mount empties all.
+-- The numbers are in order while the mount is live, and else no request is unanswered. More cannot be kept then: after
+-- an abort the server holds what it held under the numbers of the mount that ended, and where INIT is not agreed on,
+-- the links stay full, until the next mount empties all.
 pub record IsNumberedWhileLive (w : World) : Type 0 where
   pub live : is_live w.kernel.phase ≡ true → IsNumbered w
   pub idle : is_live w.kernel.phase ≡ false → w.kernel.queues ≡ empty_queues

@@ -26,4 +26,5 @@ pub data IsOnItsWay (w : World) (unique : ℕ) : Type 0 where
 
 -- So is each request that was read and is unanswered, while the mount is live.
 abbrev pub ReadAreOnTheirWay : World → Type 0
-ReadAreOnTheirWay w = is_live w.kernel.phase ≡ true → (unique : ℕ) (r : QueuedRequest Purpose) → request_under w.kernel.queues unique ≡ Some r → is_unread r.mark ≡ false → IsOnItsWay w unique
+ReadAreOnTheirWay w = is_live w.kernel.phase ≡ true → (unique : ℕ) (r : QueuedRequest Purpose)
+    → request_under w.kernel.queues unique ≡ Some r → is_unread r.mark ≡ false → IsOnItsWay w unique

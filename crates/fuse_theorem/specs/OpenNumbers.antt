@@ -26,10 +26,11 @@ stands o = cond (is_some o) 1 0
 abbrev pub UsesOpen : (opens closing : Map Opened) → CallState Opened → Type 0
 UsesOpen opens closing (walking directory word words plan) = Unit {0}
 UsesOpen opens closing (doing operation) = opens_of operation ≡ []
-UsesOpen opens closing (using handle operation) = All (λ (o : Opened). (get opens handle ≡ Some o) ⊎ (get closing handle ≡ Some o)) (opens_of operation)
+UsesOpen opens closing (using handle operation) =
+    All (λ (o : Opened). (get opens handle ≡ Some o) ⊎ (get closing handle ≡ Some o)) (opens_of operation)
 
--- A number is that of an unanswered call, of an open file or of a closing one, and of one alone; the coming numbers are of none. What
--- a call reads or writes is open or closing.
+-- A number is that of an unanswered call, of an open file or of a closing one, and of one alone; the coming numbers are
+-- of none. What a call reads or writes is open or closing.
 pub record OpensApart (c : Vfs Opened) (closed : Map Opened) : Type 0 where
   pub once : (n : ℕ) → stands (get c.calls n) + stands (get c.opens n) + stands (get closed n) ≤ 1
   pub below : (n : ℕ) → c.next_call ≤ n → stands (get c.calls n) + stands (get c.opens n) + stands (get closed n) ≡ 0
@@ -70,14 +71,15 @@ released_held held = all_released (λ (t : HeldRequest). released_by t.body) (va
 
 -- The files that are open or closing, and those whose RELEASE is not performed.
 abbrev pub open_files : World → List Opened
-open_files w = values w.kernel.vfs.opens ++ values w.kernel.closing ++ released_pending w.kernel.queues ++ released_sent w.requests ++ released_held w.server.held
+open_files w = values w.kernel.vfs.opens ++ values w.kernel.closing ++ released_pending w.kernel.queues
+    ++ released_sent w.requests ++ released_held w.server.held
 
 -- The open number is one of its node's file.
 abbrev pub IsOfItsNode : Server → Opened → Type 0
 IsOfItsNode s o = is_open s.handles o.fh (file_of s.nodes o.nodeid) ≡ true
 
--- The server's count of each open number is the open files with it, and the copies that carry it, refused ones among them. The number of each
--- open file is one of its node's file.
+-- The server's count of each open number is the open files with it, and the copies that carry it, refused ones among
+-- them. The number of each open file is one of its node's file.
 pub record OpensBalanced (w : World) : Type 0 where
   pub balance : OpenBalance w
   pub files : All (IsOfItsNode w.server) (open_files w)

@@ -24,7 +24,8 @@ FitsPurpose replies kept unique (purpose.Call call) = Unit {0}
 
 -- Replies to RELEASEs and to INTERRUPTs say only whether the request failed, and no copy was refused for its body.
 pub record RepliesFit (w : World) : Type 0 where
-  pub released : All (λ (e : ℕ × QueuedRequest Purpose). FitsPurpose w.replies w.server.kept e.0 e.1.kept) w.kernel.queues.requests
+  pub released : All (λ (e : ℕ
+      × QueuedRequest Purpose). FitsPurpose w.replies w.server.kept e.0 e.1.kept) w.kernel.queues.requests
   pub interrupted : All (λ (s : Sent). s.unique % 2 ≡ 1 → is_empty_reply s.wire ≡ true) w.replies
   pub results : All (λ (r : ReplyResult). r.result ≢ Invalid) w.results
 

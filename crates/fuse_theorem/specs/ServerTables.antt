@@ -11,7 +11,8 @@ pub record TreeSound (tree : Tree) : Type 0 where
   pub names : All (λ (n : Named). n.file ≢ 0) tree.names
   pub births : 1 ≤ tree.next_birth
 
--- A node has an id from 2 up, a file that is not the root and that no other node has, a generation below the next, and a lookup.
+-- A node has an id from 2 up, a file that is not the root and that no other node has, a generation below the next, and
+-- a lookup.
 pub record NodesSound (t : NodeTable) : Type 0 where
   pub ids : (id : ℕ) (row : HeldNode) → get t.rows id ≡ Some row → 2 ≤ id
   pub files : (id : ℕ) (row : HeldNode) → get t.rows id ≡ Some row → row.file ≢ 0

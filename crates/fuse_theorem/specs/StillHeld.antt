@@ -26,9 +26,11 @@ pub record NodesStillHeld (nodes : NodeTable) (t : HeldRequest) : Type 0 where
 
 -- So it is of each held request while no mount is live.
 abbrev pub StillHeldAfterAbort : World → Type 0
-StillHeldAfterAbort w = is_live w.kernel.phase ≡ false → (unique : ℕ) (t : HeldRequest) → get w.server.held unique ≡ Some t → NodesStillHeld w.server.nodes t
+StillHeldAfterAbort w = is_live w.kernel.phase ≡ false → (unique : ℕ) (t : HeldRequest)
+    → get w.server.held unique ≡ Some t → NodesStillHeld w.server.nodes t
 
 -- While the mount is live, a held RELEASE names its node under the generation that the kernel knows.
 abbrev pub HeldReleasesKnown : World → Type 0
-HeldReleasesKnown w = is_live w.kernel.phase ≡ true → (unique : ℕ) (t : HeldRequest) → get w.server.held unique ≡ Some t → (o : Opened) → t.body ≡ release o
+HeldReleasesKnown w = is_live w.kernel.phase ≡ true → (unique : ℕ) (t : HeldRequest)
+    → get w.server.held unique ≡ Some t → (o : Opened) → t.body ≡ release o
     → All (λ (g : ℕ × ℕ). generation_known w.kernel.nodes g.0 ≡ Some g.1) t.generations

@@ -14,12 +14,15 @@ use Rattle.fuse_spec.specs.World.Worlds.{World}
 abbrev pub releases_held : Map HeldRequest → ℕ → ℕ
 releases_held held fh = sum_by (λ (t : HeldRequest). releases_in fh t.body) (values held)
 
--- Each open number that a held request names is one of its node's file. It is counted as often as held RELEASEs release it, and once more where a held read
--- or write uses it.
+-- Each open number that a held request names is one of its node's file. It is counted as often as held RELEASEs release
+-- it, and once more where a held read or write uses it.
 pub record NumbersStillOpen (nodes : NodeTable) (handles : HandleTable) (held : Map HeldRequest) : Type 0 where
-  pub files : (unique : ℕ) (t : HeldRequest) → get held unique ≡ Some t → (o : Opened) → Contains (opens_of_body t.body) o → is_open handles o.fh (file_of nodes o.nodeid) ≡ true
+  pub files : (unique : ℕ) (t : HeldRequest) → get held unique ≡ Some t → (o : Opened)
+      → Contains (opens_of_body t.body) o → is_open handles o.fh (file_of nodes o.nodeid) ≡ true
   pub released : (fh : ℕ) → releases_held held fh ≤ handle_count (get handles.handles fh)
-  pub used : (unique : ℕ) (t : HeldRequest) → get held unique ≡ Some t → (operation : Operation ℕ Opened) → t.body ≡ asks operation → (o : Opened) → Contains (opens_of operation) o → releases_held held o.fh + 1 ≤ handle_count (get handles.handles o.fh)
+  pub used : (unique : ℕ) (t : HeldRequest) → get held unique ≡ Some t → (operation : Operation ℕ Opened)
+      → t.body ≡ asks operation → (o : Opened) → Contains (opens_of operation) o
+      → releases_held held o.fh + 1 ≤ handle_count (get handles.handles o.fh)
 
 abbrev pub HeldNumbersOpen : World → Type 0
 HeldNumbersOpen w = NumbersStillOpen w.server.nodes w.server.handles w.server.held

@@ -11,9 +11,11 @@ use Rattle.fuse_spec.specs.World.Worlds.{World, Sent}
 -- How often a request that is not performed stands under a number: pending, on the link, or held.
 abbrev pub unperformed : World → ℕ → ℕ
 unperformed w unique =
-    count_by (λ (e : ℕ × QueuedRequest Purpose). nat_eq unique e.0) (pending w.kernel.queues) + count_by (λ (r : Request). nat_eq unique r.unique) w.requests + cond (is_some (get w.server.held unique)) 1 0
+    count_by (λ (e : ℕ × QueuedRequest Purpose). nat_eq unique e.0) (pending w.kernel.queues) + count_by
+    (λ (r : Request). nat_eq unique r.unique) w.requests + cond (is_some (get w.server.held unique)) 1 0
 
--- Under an even number one request at most is pending, on the link or held. INTERRUPTs, which bear odd numbers, may be queued anew.
+-- Under an even number one request at most is pending, on the link or held. INTERRUPTs, which bear odd numbers, may be
+-- queued anew.
 abbrev pub StandsOnce : World → Type 0
 StandsOnce w = (unique : ℕ) → unique % 2 ≡ 0 → unperformed w unique ≤ 1
 

@@ -14,7 +14,8 @@ pub record WorldSound (w : World) : Type 0 where
   pub lookups : LookupsSound w
   pub requests : RequestsSound w
 
--- A mount, a call, the reading of requests, one more copy, a signal, the time, a name that is dropped, and an abort need no more of the world than that.
+-- A mount, a call, the reading of requests, one more copy, a signal, the time, a name that is dropped, and an abort
+-- need no more of the world than that.
 abbrev pub NeedsNoMore : Event → Type 0
 NeedsNoMore (event.mount found_ms missing_ms minor) = Unit {0}
 NeedsNoMore (event.call call) = Unit {0}

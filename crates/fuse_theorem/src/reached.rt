@@ -19,34 +19,51 @@ ghost use Rattle.fuse_theorem.specs.SessionRecorded.{SessionRecorded};
 /// All that is sound before the first mount stays so with any event, and as answers are collected, one or all.
 pub fn reached_worlds()
     ensures first { IsReached first_world }
-    ensures next { (w : World) → IsReached w → (e : Event) (o : Outcome) (after : World) → Happens w e o after → IsReached after }
-    ensures handing_out { (w : World) (call : ℕ) → IsReached w → IsReached (record w { kernel = record w.kernel { vfs = record w.kernel.vfs { answers = remove w.kernel.vfs.answers call } } }) }
+    ensures next { (w : World) → IsReached w → (e : Event) (o : Outcome) (after : World) → Happens w e o after
+        → IsReached after }
+    ensures handing_out { (w : World) (call : ℕ) → IsReached w
+        → IsReached (record w { kernel = record w.kernel { vfs = record w.kernel.vfs { answers = remove w.kernel.vfs.answers call } } }) }
     ensures collecting { (w : World) → IsReached w → IsReached (collected w) }
 {}
 
-/// A world that events led to refines some plain world, and keeps the reference protocol. Whatever plain world it refines takes the step of an event that happens,
-/// in words of its own, and is refined again; so it is as an answer is collected, and along a list of events. A call that is over stays so.
+/// A world that events led to refines some plain world, and keeps the reference protocol. Whatever plain world it
+/// refines takes the step of an event that happens, in words of its own, and is refined again; so it is as an answer is
+/// collected, and along a list of events. A call that is over stays so.
 pub fn reached_worlds_refine()
     ensures some { (w : World) → IsReached w → (p : Plain) × Refines w p }
     ensures protocol { (w : World) → IsReached w → Keeps w }
-    ensures event { (w : World) → IsReached w → (e : Event) (o : Outcome) (after : World) → Happens w e o after → (p : Plain) → Refines w p → (q : Plain) × Steps p e o q × Refines after q }
-    ensures over { (w : World) → IsReached w → (e : Event) (o : Outcome) (after : World) → Happens w e o after → (call : ℕ) → IsOver w call → IsOver after call }
-    ensures handing_out { (w : World) → IsReached w → (call : ℕ) (p : Plain) → Refines w p → Refines (record w { kernel = record w.kernel { vfs = record w.kernel.vfs { answers = remove w.kernel.vfs.answers call } } }) (plain_handed_out p call) }
-    ensures list { (w : World) → IsReached w → (events : List Event) (records : List Record) (after : World) → Recorded w events records after → (p : Plain) → Refines w p → (q : Plain) × Run w p events records after q × Refines after q }
-    ensures answers { (w : World) → IsReached w → (events : List Event) (records : List Record) (after : World) → Recorded w events records after → AnswersOnce records × CallsEnd w records after }
+    ensures event { (w : World) → IsReached w → (e : Event) (o : Outcome) (after : World) → Happens w e o after
+        → (p : Plain) → Refines w p → (q : Plain) × Steps p e o q × Refines after q }
+    ensures over { (w : World) → IsReached w → (e : Event) (o : Outcome) (after : World) → Happens w e o after
+        → (call : ℕ) → IsOver w call → IsOver after call }
+    ensures handing_out { (w : World) → IsReached w → (call : ℕ) (p : Plain) → Refines w p
+        → Refines (record w { kernel = record w.kernel { vfs = record w.kernel.vfs { answers = remove w.kernel.vfs.answers call } } }) (plain_handed_out p call) }
+    ensures list { (w : World) → IsReached w → (events : List Event) (records : List Record) (after : World)
+        → Recorded w events records after → (p : Plain) → Refines w p
+        → (q : Plain) × Run w p events records after q × Refines after q }
+    ensures answers { (w : World) → IsReached w → (events : List Event) (records : List Record) (after : World)
+        → Recorded w events records after → AnswersOnce records × CallsEnd w records after }
 {}
 
-/// Over a link that may fail, too: along a list of events whatever plain world a session's world refines takes its steps in words of its own, and is refined
-/// again. The reference protocol is kept, and each call is answered at most once and over with its answer.
+/// Over a link that may fail, too: along a list of events whatever plain world a session's world refines takes its
+/// steps in words of its own, and is refined again. The reference protocol is kept, and each call is answered at most
+/// once and over with its answer.
 pub fn reached_sessions_refine()
-    ensures list { (s : Session) → IsReached s.world → (events : List Event) (records : List Record) (after : Session) → SessionRecorded s events records after → (p : Plain) → Refines s.world p → (q : Plain) × SessionRun s p events records after q × Refines after.world q }
-    ensures protocol { (s : Session) → IsReached s.world → (events : List Event) (records : List Record) (after : Session) → SessionRecorded s events records after → Keeps after.world }
-    ensures answers { (s : Session) → IsReached s.world → (events : List Event) (records : List Record) (after : Session) → SessionRecorded s events records after → AnswersOnce records × CallsEnd s.world records after.world }
+    ensures list { (s : Session) → IsReached s.world → (events : List Event) (records : List Record) (after : Session)
+        → SessionRecorded s events records after → (p : Plain) → Refines s.world p
+        → (q : Plain) × SessionRun s p events records after q × Refines after.world q }
+    ensures protocol { (s : Session) → IsReached s.world
+        → (events : List Event) (records : List Record) (after : Session) → SessionRecorded s events records after
+        → Keeps after.world }
+    ensures answers { (s : Session) → IsReached s.world
+        → (events : List Event) (records : List Record) (after : Session) → SessionRecorded s events records after
+        → AnswersOnce records × CallsEnd s.world records after.world }
 {}
 
-/// Any event, in any world, leaves at most one call more that is unanswered or whose answer waits. In a world that events led to no more calls are unanswered
-/// than may be.
+/// Any event, in any world, leaves at most one call more that is unanswered or whose answer waits. In a world that
+/// events led to no more calls are unanswered than may be.
 pub fn calls_wait_one_by_one()
-    ensures one_more { (w : World) (e : Event) (o : Outcome) (after : World) → Happens w e o after → length after.kernel.vfs.answers + length after.kernel.vfs.calls ≤ length w.kernel.vfs.answers + length w.kernel.vfs.calls + 1 }
+    ensures one_more { (w : World) (e : Event) (o : Outcome) (after : World) → Happens w e o after
+        → length after.kernel.vfs.answers + length after.kernel.vfs.calls ≤ length w.kernel.vfs.answers + length w.kernel.vfs.calls + 1 }
     ensures few { (w : World) → IsReached w → length w.kernel.vfs.calls ≤ max_calls }
 {}

@@ -23,12 +23,15 @@ whole_path path then = elim (words_of path) [ Err fault ↦ faulty fault | Ok wo
 
 -- A path that is walked up to its last word, which it must have: `/` alone is EINVAL. (this project's rule)
 abbrev pub parent_path : {F O : Type 0} → List ℕ → (List Name → Name → Beginning F O) → Beginning F O
-parent_path path then = whole_path path (λ words. elim (parent_and_last words) [ None ↦ faulty einval | Some parts ↦ then parts.0 parts.1 ])
+parent_path path then = whole_path path (λ words. elim
+    (parent_and_last words) [ None ↦ faulty einval | Some parts ↦ then parts.0 parts.1 ])
 
--- A read or write of an open file: EBADF for a number that isn't open, and EINVAL past the largest offset or length. (this project's rule)
+-- A read or write of an open file: EBADF for a number that isn't open, and EINVAL past the largest offset or length.
+-- (this project's rule)
 abbrev pub using : {F O : Type 0} → ℕ → Option O → (offset size : ℕ) → (O → Operation F O) → Beginning F O
 using handle None offset size then = faulty ebadf
-using handle (Some opened) offset size then = cond (nat_lt max_file offset || nat_lt max_transfer size) (faulty einval) (uses handle (then opened))
+using handle (Some opened) offset size then = cond (nat_lt max_file offset || nat_lt max_transfer size) (faulty einval)
+    (uses handle (then opened))
 
 -- A close of an open file, or EBADF. (POSIX, close)
 abbrev pub closing : {F O : Type 0} → ℕ → Option O → Beginning F O
@@ -45,8 +48,12 @@ beginning opens (call.mkdir path) = parent_path path (λ words name. sets_out wo
 beginning opens (call.create path) = parent_path path (λ words name. sets_out words (last (final.create name)))
 beginning opens (call.unlink path) = parent_path path (λ words name. sets_out words (last (final.unlink name)))
 beginning opens (call.rmdir path) = parent_path path (λ words name. sets_out words (last (final.rmdir name)))
-beginning opens (call.rename old new) = parent_path old (λ words from. parent_path new (λ more to. sets_out words (rename from more to)))
-beginning opens (call.link old new) = whole_path old (λ words. parent_path new (λ more name. sets_out words (link more name)))
-beginning opens (call.read handle offset size) = using handle (get opens handle) offset size (λ opened. op.read opened offset size)
-beginning opens (call.write handle offset bytes) = using handle (get opens handle) offset (length bytes) (λ opened. op.write opened offset bytes)
+beginning opens (call.rename old new) = parent_path old
+    (λ words from. parent_path new (λ more to. sets_out words (rename from more to)))
+beginning opens (call.link old new) = whole_path old
+    (λ words. parent_path new (λ more name. sets_out words (link more name)))
+beginning opens (call.read handle offset size) =
+    using handle (get opens handle) offset size (λ opened. op.read opened offset size)
+beginning opens (call.write handle offset bytes) =
+    using handle (get opens handle) offset (length bytes) (λ opened. op.write opened offset bytes)
 beginning opens (call.close handle) = closing handle (get opens handle)

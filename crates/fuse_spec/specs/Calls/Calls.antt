@@ -3,7 +3,8 @@ use Rattle.std.specs.Prelude.{ℕ, Bool, true, false, List}
 use Rattle.fuse_spec.specs.declared.Minor.{Minor}
 use Rattle.fuse_spec.specs.declared.Minor.TheVariants.{M15, M31}
 
--- The system calls, as their callers put them; an open file is known by the number of the call that opened it. (this project's rule)
+-- The system calls, as their callers put them; an open file is known by the number of the call that opened it. (this
+-- project's rule)
 pub data Call : Type 0 where
   stat : (path : List ℕ) → Call
   list : (path : List ℕ) (after : ℕ) → Call
@@ -19,7 +20,8 @@ pub data Call : Type 0 where
   rename : (old new : List ℕ) → Call
   link : (old new : List ℕ) → Call
 
--- A call as it is put: where files may not be listed with their names, the names are listed alone. (this project's rule)
+-- A call as it is put: where files may not be listed with their names, the names are listed alone. (this project's
+-- rule)
 abbrev pub spoken : (lists_files : Bool) → Call → Call
 spoken true call = call
 spoken false (listplus path after) = list path after

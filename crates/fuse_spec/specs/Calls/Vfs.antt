@@ -1,5 +1,5 @@
--- The side of the system calls, which the kernel and the plain world keep alike: the calls, the names in force and the open files.
--- A file is known by a number (the kernel's node id, the plain world's birth), an open file as O says.
+-- The side of the system calls, which the kernel and the plain world keep alike: the calls, the names in force and the
+-- open files. A file is known by a number (the kernel's node id, the plain world's birth), an open file as O says.
 use Rattle.std.specs.Prelude.{ℕ, ◌+◌, Bool, cond, List, [], ◌∷◌, Option, Some, None, nat_lt}
 use Rattle.fuse_spec.specs.declared.Binding.{Binding}
 use Rattle.fuse_spec.specs.Values.Maps.{Map, put, remove, NameMap, get_name, put_name, remove_name}
@@ -23,8 +23,8 @@ asked (walking directory word words plan) = lookup directory word
 asked (doing operation) = operation
 asked (using handle operation) = operation
 
--- The unanswered calls, the names in force, the open files by the numbers of the calls that opened them, the answers that are not yet collected, the next
--- call's number, the time in milliseconds, and how the root is named.
+-- The unanswered calls, the names in force, the open files by the numbers of the calls that opened them, the answers
+-- that are not yet collected, the next call's number, the time in milliseconds, and how the root is named.
 pub record Vfs (O : Type 0) : Type 0 where
   pub calls : Map (CallState O)
   pub names : NameMap Binding
@@ -51,7 +51,8 @@ answered c call answer = record c { calls = remove c.calls call; answers = put c
 abbrev pub asking : {O : Type 0} → Vfs O → ℕ → CallState O → Advance O
 asking c call state = record { vfs = record c { calls = put c.calls call state }; operation = Some (asked state) }
 
--- What a name in force leads to while the time is before its end; after that it has to be looked up anew. (linux/fuse.h, struct fuse_entry_out)
+-- What a name in force leads to while the time is before its end; after that it has to be looked up anew.
+-- (linux/fuse.h, struct fuse_entry_out)
 abbrev pub valid_at : ℕ → Option Binding → Option (Option ℕ)
 valid_at now None = None
 valid_at now (Some bound) = cond (nat_lt now bound.until) (Some bound.target) None
@@ -62,7 +63,10 @@ look c directory name = valid_at c.clock (get_name c.names (directory, name))
 
 -- The name leads to this file, or to none, for so many milliseconds from now on. (linux/fuse.h, struct fuse_entry_out)
 abbrev pub bound : {O : Type 0} → Vfs O → ℕ → Name → Option ℕ → ℕ → Vfs O
-bound c directory name target valid = record c { names = put_name c.names (directory, name) (record { target = target; until = c.clock + valid }) }
+bound c directory name target valid = record c {
+  names =
+      put_name c.names (directory, name) (record { target = target; until = c.clock + valid });
+}
 
 -- The name is in force no longer. (Linux VFS)
 abbrev pub unbound : {O : Type 0} → Vfs O → ℕ → Name → Vfs O
@@ -87,7 +91,8 @@ abbrev pub after_beginning : {O : Type 0} → Vfs O → ℕ → Beginning ℕ O 
 after_beginning c call (faulty errno) = no_more (answered c call (failed errno))
 after_beginning c call (sets_out words plan) = walks_on c call c.root words plan
 after_beginning c call (uses handle operation) = asking c call (using handle operation)
-after_beginning c call (closes handle opened) = no_more (answered (record c { opens = remove c.opens handle }) call done)
+after_beginning c call (closes handle opened) = no_more
+    (answered (record c { opens = remove c.opens handle }) call done)
 
 -- The next call's number is drawn.
 abbrev pub numbered : {O : Type 0} → Vfs O → Vfs O
@@ -96,7 +101,8 @@ numbered c = record c { next_call = c.next_call + 1 }
 -- A call of the next number begins; once the mount is aborted it is answered ENOTCONN. (Linux VFS)
 abbrev pub begun : {O : Type 0} → Bool → Vfs O → Call → Advance O
 begun aborted c call =
-    cond aborted (no_more (answered (numbered c) c.next_call (failed enotconn))) (after_beginning (numbered c) c.next_call (beginning c.opens call))
+    cond aborted (no_more (answered (numbered c) c.next_call (failed enotconn)))
+    (after_beginning (numbered c) c.next_call (beginning c.opens call))
 
 -- The answers once each of these calls has this one.
 abbrev pub all_answered : {X : Type 0} → Answer → Map X → Map Answer → Map Answer
@@ -105,7 +111,12 @@ all_answered answer (call ∷ calls) answers = put (all_answered answer calls an
 
 -- Every unanswered call is answered ECONNABORTED, and no name and no open file is left. (fuse.rst)
 abbrev pub given_up : {O : Type 0} → Vfs O → Vfs O
-given_up c = record c { calls = []; names = []; opens = []; answers = all_answered (failed econnaborted) c.calls c.answers }
+given_up c = record c {
+  calls = [];
+  names = [];
+  opens = [];
+  answers = all_answered (failed econnaborted) c.calls c.answers;
+}
 
 -- The same so many milliseconds later.
 abbrev pub later : {O : Type 0} → Vfs O → ℕ → Vfs O

@@ -18,7 +18,8 @@ pub data FinalOperation (F : Type 0) : Type 0 where
   rename_from : (directory : F) (old new : Name) → FinalOperation F
   link_to : (file : F) (name : Name) → FinalOperation F
 
--- What a walk is for: an operation at its end, or a rename or link, which walk a second time, along the words given. (Linux VFS)
+-- What a walk is for: an operation at its end, or a rename or link, which walk a second time, along the words given.
+-- (Linux VFS)
 pub data WalkPlan (F : Type 0) : Type 0 where
   last : (final : FinalOperation F) → WalkPlan F
   rename : (old : Name) (words : List Name) (new : Name) → WalkPlan F
@@ -37,16 +38,19 @@ operation_at (rmdir name) file = op.rmdir file name
 operation_at (rename_from directory old new) file = op.rename directory old file new
 operation_at (link_to linked name) file = op.link linked file name
 
--- Where the names in force leave a walk: at a name that has to be looked up, at a missing one, or at its end. (Linux VFS)
+-- Where the names in force leave a walk: at a name that has to be looked up, at a missing one, or at its end. (Linux
+-- VFS)
 pub data WalkStop (F : Type 0) : Type 0 where
   unknown : (directory : F) (word : Name) (words : List Name) → WalkStop F
   missing : WalkStop F
   arrived : (file : F) → WalkStop F
 
--- Along the words as far as names in force lead; `look` says what a valid name in force leads to, if there is one. (Linux VFS)
+-- Along the words as far as names in force lead; `look` says what a valid name in force leads to, if there is one.
+-- (Linux VFS)
 abbrev pub go : {F : Type 0} → (F → Name → Option (Option F)) → F → List Name → WalkStop F
 go look at [] = arrived at
-go look at (word ∷ words) = elim (look at word) [ None ↦ unknown at word words | Some found ↦ elim found [ None ↦ missing | Some file ↦ go look file words ] ]
+go look at (word ∷ words) =
+    elim (look at word) [ None ↦ unknown at word words | Some found ↦ elim found [ None ↦ missing | Some file ↦ go look file words ] ]
 
 -- What a call that walks comes to: a name to be looked up, no such file, or its operation. (Linux VFS)
 pub data Walked (F O : Type 0) : Type 0 where

@@ -24,12 +24,14 @@ pub record TreeAlike (s : Server) (tree : Tree) : Type 0 where
   pub names : s.tree.names ≡ tree.names
   pub next_birth : s.tree.next_birth ≡ tree.next_birth
   pub next_serial : s.tree.next_serial ≡ tree.next_serial
-  pub files : (file : ℕ) → get s.tree.files file ≡ cond (not (is_nameless tree file) || is_file_held s file) (get tree.files file) None
+  pub files : (file : ℕ) → get s.tree.files file ≡ cond (not (is_nameless tree file) || is_file_held s file)
+      (get tree.files file) None
 
--- With each file named as R says, and each open file as S says, the names in force, the open files, the unanswered calls and the answers that aren't
--- collected are the same.
+-- With each file named as R says, and each open file as S says, the names in force, the open files, the unanswered
+-- calls and the answers that aren't collected are the same.
 pub record VfsAlike {O P : Type 0} (R : ℕ → ℕ → Type 0) (S : O → P → Type 0) (c : Vfs O) (d : Vfs P) : Type 0 where
-  pub names : (id file : ℕ) (name : List ℕ) → R id file → OptionAlike (BindingAlike R) (get_name c.names (id, name)) (get_name d.names (file, name))
+  pub names : (id file : ℕ) (name : List ℕ) → R id file
+      → OptionAlike (BindingAlike R) (get_name c.names (id, name)) (get_name d.names (file, name))
   pub names_meant : (id : ℕ) (name : List ℕ) → get_name c.names (id, name) ≢ None → (file : ℕ) × R id file
   pub names_reached : (file : ℕ) (name : List ℕ) → get_name d.names (file, name) ≢ None → (id : ℕ) × R id file
   pub opens : (handle : ℕ) → OptionAlike S (get c.opens handle) (get d.opens handle)
@@ -39,22 +41,28 @@ pub record VfsAlike {O P : Type 0} (R : ℕ → ℕ → Type 0) (S : O → P →
   pub clock : c.clock ≡ d.clock
   pub roots : R c.root d.root
 
--- An ask that isn't performed yet, that is marked as its request is, and on which a signal is noted where its request was signalled or is marked.
+-- An ask that isn't performed yet, that is marked as its request is, and on which a signal is noted where its request
+-- was signalled or is marked.
 pub record IsWaiting (ask : Ask) (signalled marked : Bool) : Type 0 where
   pub stage : ask.stage ≡ waiting
   pub noted : signalled || marked ≡ true → ask.noted ≡ true
   pub marked_too : ask.marked ≡ marked
 
--- The ask of a request that the server hasn't performed: it stands under the request's unique, waits, and asks the same.
-pub record AskedBy (asks : Map Ask) (unique : ℕ) (signalled marked : Bool) (SameDeed : Operation ℕ ℕ → Type 0) : Type 0 where
+-- The ask of a request that the server hasn't performed: it stands under the request's unique, waits, and asks the
+-- same.
+pub record AskedBy (asks : Map Ask) (unique : ℕ) (signalled marked : Bool)
+    (SameDeed : Operation ℕ ℕ → Type 0) : Type 0 where
   pub ask : Ask
   pub there : get asks unique ≡ Some ask
   pub is_waiting : IsWaiting ask signalled marked
   pub same : SameDeed ask.operation
 
--- Only the request of a call has an ask, under its unique, of the same operation on the files that R and S say its nodes and open files mean.
-abbrev pub RequestBodyAsked : Map Ask → (unique : ℕ) → (signalled marked : Bool) → (ℕ → ℕ → Type 0) → (Opened → ℕ → Type 0) → RequestBody → Type 0
-RequestBodyAsked all unique signalled marked R S (asks operation) = AskedBy all unique signalled marked (OperationAlike R S operation)
+-- Only the request of a call has an ask, under its unique, of the same operation on the files that R and S say its
+-- nodes and open files mean.
+abbrev pub RequestBodyAsked : Map Ask → (unique : ℕ) → (signalled marked : Bool) → (ℕ → ℕ → Type 0)
+    → (Opened → ℕ → Type 0) → RequestBody → Type 0
+RequestBodyAsked all unique signalled marked R S (asks operation) =
+    AskedBy all unique signalled marked (OperationAlike R S operation)
 RequestBodyAsked all unique signalled marked R S (init flags) = get all unique ≡ None
 RequestBodyAsked all unique signalled marked R S (release o) = get all unique ≡ None
 RequestBodyAsked all unique signalled marked R S (forget f) = get all unique ≡ None
@@ -63,9 +71,11 @@ RequestBodyAsked all unique signalled marked R S (interrupt original) = get all 
 
 -- A pending request, under its unique. That of a call is one of an unanswered call.
 abbrev pub PurposeAsked : World → Plain → ℕ × QueuedRequest Purpose → Type 0
-PurposeAsked w p e = MatchOption (body_of w.kernel e.1.kept) ⊥ (RequestBodyAsked p.asks e.0 (is_signalled e.1.mark) false (MeansIn w) (MeansOpenIn w))
+PurposeAsked w p e = MatchOption (body_of w.kernel e.1.kept) ⊥
+    (RequestBodyAsked p.asks e.0 (is_signalled e.1.mark) false (MeansIn w) (MeansOpenIn w))
 
--- The reply says what its ask came to: the plain reply, or EINTR where the ask was declined; an ask that waits has no reply.
+-- The reply says what its ask came to: the plain reply, or EINTR where the ask was declined; an ask that waits has no
+-- reply.
 abbrev pub StageTold : NodeTable → HandleTable → Stage → WireReply → Type 0
 StageTold t h waiting wire = ⊥
 StageTold t h (performed reply) wire = ReplyAlike (Names t) (Opens h) wire reply
@@ -78,16 +88,20 @@ pub record Meant (t : NodeTable) (generations : List (ℕ × ℕ)) (id file : �
   pub denotes : Denotes t id generation file
 
 -- The same for an open file: its node means this file still, and its number is an open number of it.
-pub record MeantOpen (t : NodeTable) (h : HandleTable) (generations : List (ℕ × ℕ)) (o : Opened) (file : ℕ) : Type 0 where
+pub record MeantOpen (t : NodeTable) (h : HandleTable) (generations : List (ℕ × ℕ)) (o : Opened)
+    (file : ℕ) : Type 0 where
   pub node_meant : Meant t generations o.nodeid file
   pub is_number : is_open h o.fh file ≡ true
 
--- In any mount, also after an abort: each request that is pending, on its link or held by the server has its ask, which waits.
+-- In any mount, also after an abort: each request that is pending, on its link or held by the server has its ask, which
+-- waits.
 pub record RequestsAlike (w : World) (p : Plain) : Type 0 where
   pub pending : All (PurposeAsked w p) (pending w.kernel.queues)
-  pub sent : All (λ (r : Request). RequestBodyAsked p.asks r.unique false false (MeansIn w) (MeansOpenIn w) r.body) w.requests
+  pub sent : All (λ (r : Request). RequestBodyAsked p.asks r.unique false false (MeansIn w)
+      (MeansOpenIn w) r.body) w.requests
   pub held : (unique : ℕ) (t : HeldRequest) → get w.server.held unique ≡ Some t
-      → RequestBodyAsked p.asks unique false t.marked (Meant w.server.nodes t.generations) (MeantOpen w.server.nodes w.server.handles t.generations) t.body
+      → RequestBodyAsked p.asks unique false t.marked (Meant w.server.nodes t.generations)
+      (MeantOpen w.server.nodes w.server.handles t.generations) t.body
 
 -- The ask of an unanswered call's current request: the same operation on the same files.
 pub record IsPaired (w : World) (p : Plain) (call : ℕ) (state : CallState Opened) : Type 0 where
@@ -98,16 +112,22 @@ pub record IsPaired (w : World) (p : Plain) (call : ℕ) (state : CallState Open
   pub by : ask.call ≡ call
   pub same : OperationAlike (MeansIn w) (MeansOpenIn w) (asked state) ask.operation
 
--- In a live mount: each unanswered call has its ask, there is no other ask, and each copy and kept reply says what its ask came to.
+-- In a live mount: each unanswered call has its ask, there is no other ask, and each copy and kept reply says what its
+-- ask came to.
 pub record AsksAlike (w : World) (p : Plain) : Type 0 where
-  pub of_calls : (call : ℕ) (state : CallState Opened) → get w.kernel.vfs.calls call ≡ Some state → IsPaired w p call state
+  pub of_calls : (call : ℕ) (state : CallState Opened) → get w.kernel.vfs.calls call ≡ Some state
+      → IsPaired w p call state
   pub no_other : (unique : ℕ) (ask : Ask) → get p.asks unique ≡ Some ask → request_of w.kernel ask.call ≡ Some unique
-  pub signalled : (unique : ℕ) (request : QueuedRequest Purpose) (ask : Ask) → request_under w.kernel.queues unique ≡ Some request → get p.asks unique ≡ Some ask → is_signalled request.mark ≡ true → ask.noted ≡ true
-  pub kept : (unique : ℕ) (kept : Kept) (ask : Ask) → get w.server.kept unique ≡ Some kept → get p.asks unique ≡ Some ask → StageTold w.server.nodes w.server.handles ask.stage kept.wire
-  pub copies : All (λ (sent : Sent). (ask : Ask) → get p.asks sent.unique ≡ Some ask → StageTold w.server.nodes w.server.handles ask.stage sent.wire) w.replies
+  pub signalled : (unique : ℕ) (request : QueuedRequest Purpose) (ask : Ask)
+      → request_under w.kernel.queues unique ≡ Some request → get p.asks unique ≡ Some ask
+      → is_signalled request.mark ≡ true → ask.noted ≡ true
+  pub kept : (unique : ℕ) (kept : Kept) (ask : Ask) → get w.server.kept unique ≡ Some kept
+      → get p.asks unique ≡ Some ask → StageTold w.server.nodes w.server.handles ask.stage kept.wire
+  pub copies : All (λ (sent : Sent). (ask : Ask) → get p.asks sent.unique ≡ Some ask
+      → StageTold w.server.nodes w.server.handles ask.stage sent.wire) w.replies
 
--- The world and the plain world are alike: with each node replaced by the file that it denotes, tree, calls, names in force, open files, asks, validities and the
--- minor are the same.
+-- The world and the plain world are alike: with each node replaced by the file that it denotes, tree, calls, names in
+-- force, open files, asks, validities and the minor are the same.
 pub record Alike (w : World) (p : Plain) : Type 0 where
   pub tree : TreeAlike w.server p.tree
   pub vfs : VfsAlike (MeansIn w) (MeansOpenIn w) w.kernel.vfs p.vfs

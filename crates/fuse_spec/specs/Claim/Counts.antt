@@ -47,11 +47,13 @@ refused Invalid n = n
 abbrev pub result_carries : (WireReply → ℕ) → Server → ReplyResult → ℕ
 result_carries f s result = refused result.result (carried f (get s.copies result.number))
 
--- In flight for a node: forgets that are queued or on the request link, copies on the reply link that name it, and refused ones on the result link.
+-- In flight for a node: forgets that are queued or on the request link, copies on the reply link that name it, and
+-- refused ones on the result link.
 abbrev pub in_flight : World → ℕ → ℕ
 in_flight w id =
     forgotten id w.kernel.queues.forgets + sum_by (λ (r : Request). forgotten id (forgets_of r.body)) w.requests
-    + sum_by (λ (sent : Sent). names_in id sent.wire) w.replies + sum_by (result_carries (names_in id) w.server) w.results
+    + sum_by (λ (sent : Sent). names_in id sent.wire) w.replies + sum_by
+    (result_carries (names_in id) w.server) w.results
 
 -- Balance: the server's count of each node from 2 up is the kernel's and what is in flight.
 abbrev pub Balance : World → Type 0
@@ -71,12 +73,14 @@ releases_for fh purpose.Init = 0
 releases_for fh (purpose.Release o) = cond (nat_eq o.fh fh) 1 0
 releases_for fh (purpose.Call call) = 0
 
--- In flight for an open number: RELEASEs that are pending, on the request link or held by the server, copies on the reply link that carry it, and refused
--- ones on the result link.
+-- In flight for an open number: RELEASEs that are pending, on the request link or held by the server, copies on the
+-- reply link that carry it, and refused ones on the result link.
 abbrev pub open_in_flight : World → ℕ → ℕ
 open_in_flight w fh =
-    sum_by (λ (e : ℕ × QueuedRequest Purpose). releases_for fh e.1.kept) (pending w.kernel.queues) + sum_by (λ (r : Request). releases_in fh r.body) w.requests
-    + sum_by (λ (taken : HeldRequest). releases_in fh taken.body) (values w.server.held) + sum_by (λ (sent : Sent). opens_in fh sent.wire) w.replies
+    sum_by (λ (e : ℕ × QueuedRequest Purpose). releases_for fh e.1.kept) (pending w.kernel.queues) + sum_by
+    (λ (r : Request). releases_in fh r.body) w.requests
+    + sum_by (λ (taken : HeldRequest). releases_in fh taken.body) (values w.server.held) + sum_by
+    (λ (sent : Sent). opens_in fh sent.wire) w.replies
     + sum_by (result_carries (opens_in fh) w.server) w.results
 
 -- The server's count of an open number, which is 0 where there is none.
@@ -88,9 +92,11 @@ handle_count (Some handle) = handle.count
 abbrev pub open_in_kernel : Kernel → ℕ → ℕ
 open_in_kernel k fh = count_by (λ (o : Opened). nat_eq o.fh fh) (values k.vfs.opens ++ values k.closing)
 
--- Balance of open numbers: the server's count of each is the number of the kernel's files that have it and what is in flight.
+-- Balance of open numbers: the server's count of each is the number of the kernel's files that have it and what is in
+-- flight.
 abbrev pub OpenBalance : World → Type 0
-OpenBalance w = (fh : ℕ) → handle_count (get w.server.handles.handles fh) ≡ open_in_kernel w.kernel fh + open_in_flight w fh
+OpenBalance w = (fh : ℕ) → handle_count (get w.server.handles.handles fh)
+    ≡ open_in_kernel w.kernel fh + open_in_flight w fh
 
 -- The kernel's node means some file.
 abbrev pub IsMeant : World → ℕ → Type 0
@@ -110,12 +116,15 @@ ReleaseMeant w purpose.Init = Unit {0}
 ReleaseMeant w (purpose.Release o) = IsMeant w o.nodeid
 ReleaseMeant w (purpose.Call call) = Unit {0}
 
--- In a live mount: the nodes that the kernel counts, those from and to which its names lead, those of its calls, its open and closed files and its
--- unanswered RELEASEs are held by the server under the kernel's generation, and each entry on the reply link under its own.
+-- In a live mount: the nodes that the kernel counts, those from and to which its names lead, those of its calls, its
+-- open and closed files and its unanswered RELEASEs are held by the server under the kernel's generation, and each
+-- entry on the reply link under its own.
 pub record HeldLive (w : World) : Type 0 where
   pub nodes : (id : ℕ) (node : Counted) → get w.kernel.nodes id ≡ Some node → IsMeant w id
-  pub names : (directory : ℕ) (name : List ℕ) (bound : Binding) → get_name w.kernel.vfs.names (directory, name) ≡ Some bound → IsMeant w directory
-  pub targets : (directory : ℕ) (name : List ℕ) (bound : Binding) (id : ℕ) → get_name w.kernel.vfs.names (directory, name) ≡ Some bound → bound.target ≡ Some id → IsMeant w id
+  pub names : (directory : ℕ) (name : List ℕ) (bound : Binding)
+      → get_name w.kernel.vfs.names (directory, name) ≡ Some bound → IsMeant w directory
+  pub targets : (directory : ℕ) (name : List ℕ) (bound : Binding) (id : ℕ)
+      → get_name w.kernel.vfs.names (directory, name) ≡ Some bound → bound.target ≡ Some id → IsMeant w id
   pub calls : All (λ state. All (IsMeant w) (nodes_of_state state)) (values w.kernel.vfs.calls)
   pub opens : All (IsOpenMeant w) (values w.kernel.vfs.opens)
   pub closing : All (IsOpenMeant w) (values w.kernel.closing)
@@ -141,15 +150,17 @@ pub record IsServable (s : Server) (body : RequestBody) : Type 0 where
   pub nodes : All (λ id. is_some (row_of s.nodes id) ≡ true) (nodes_of_body body)
   pub opens : All (λ (o : Opened). is_open s.handles o.fh (file_of s.nodes o.nodeid) ≡ true) (opens_of_body body)
 
--- Held: while the mount is live what HeldLive says, and in any mount no request that is pending, on its link or held by the server names a node or open
--- number that is gone.
+-- Held: while the mount is live what HeldLive says, and in any mount no request that is pending, on its link or held by
+-- the server names a node or open number that is gone.
 pub record Held (w : World) : Type 0 where
   pub live : is_live w.kernel.phase ≡ true → HeldLive w
-  pub pending : All (λ (e : ℕ × QueuedRequest Purpose). MatchOption (body_of w.kernel e.1.kept) ⊥ (λ body. IsServable w.server body)) (pending w.kernel.queues)
+  pub pending : All (λ (e : ℕ × QueuedRequest Purpose). MatchOption (body_of w.kernel e.1.kept) ⊥
+      (λ body. IsServable w.server body)) (pending w.kernel.queues)
   pub sent : All (λ (r : Request). IsServable w.server r.body) w.requests
   pub taken : All (λ (t : HeldRequest). IsServable w.server t.body) (values w.server.held)
 
--- Nothing is under way: the mount is live, no request, INTERRUPT or forget is queued, the links are empty, and the server holds no request.
+-- Nothing is under way: the mount is live, no request, INTERRUPT or forget is queued, the links are empty, and the
+-- server holds no request.
 pub record AtRest (w : World) : Type 0 where
   pub live : is_live w.kernel.phase ≡ true
   pub pending : pending w.kernel.queues ≡ []
@@ -162,21 +173,25 @@ pub record AtRest (w : World) : Type 0 where
 
 -- The same node on both sides, or none: equal generations and counts.
 abbrev pub SameNode : Option Counted → Option HeldNode → Type 0
-SameNode a b = OptionAlike (λ (node : Counted) (row : HeldNode). (node.generation ≡ row.generation) × (node.count ≡ row.count)) a b
+SameNode a b = OptionAlike (λ (node : Counted) (row : HeldNode). (node.generation ≡ row.generation)
+    × (node.count ≡ row.count)) a b
 
--- At rest no call waits, and the two sides hold the same nodes and open files, with the same counts: each open number is one of its node's file and counted
--- once, and there is none beside.
+-- At rest no call waits, and the two sides hold the same nodes and open files, with the same counts: each open number
+-- is one of its node's file and counted once, and there is none beside.
 pub record Settled (w : World) : Type 0 where
   pub processing : processing w.kernel.queues ≡ []
   pub calls : w.kernel.vfs.calls ≡ []
   pub nodes : (id : ℕ) → SameNode (get w.kernel.nodes id) (get w.server.nodes.rows id)
-  pub opens : (fh : ℕ) → handle_count (get w.server.handles.handles fh) ≡ count_by (λ (o : Opened). nat_eq o.fh fh) (values w.kernel.vfs.opens)
+  pub opens : (fh : ℕ) → handle_count (get w.server.handles.handles fh)
+      ≡ count_by (λ (o : Opened). nat_eq o.fh fh) (values w.kernel.vfs.opens)
   pub once : (fh : ℕ) → handle_count (get w.server.handles.handles fh) ≤ 1
   pub counted : (fh : ℕ) (handle : OpenNumber) → get w.server.handles.handles fh ≡ Some handle → 1 ≤ handle.count
-  pub files : All (λ (o : Opened). is_open w.server.handles o.fh (file_of w.server.nodes o.nodeid) ≡ true) (values w.kernel.vfs.opens)
+  pub files : All (λ (o : Opened). is_open w.server.handles o.fh (file_of w.server.nodes o.nodeid) ≡ true)
+      (values w.kernel.vfs.opens)
 
--- The reference protocol, which is to hold after each event: Balance, of nodes and of open numbers, each of which one file of the kernel has at most; Held, no
--- fault in a request on its link, no reply with a wrong body, and what is true at rest.
+-- The reference protocol, which is to hold after each event: Balance, of nodes and of open numbers, each of which one
+-- file of the kernel has at most; Held, no fault in a request on its link, no reply with a wrong body, and what is true
+-- at rest.
 pub record Keeps (w : World) : Type 0 where
   pub balance : is_live w.kernel.phase ≡ true → Balance w
   pub open_balance : is_live w.kernel.phase ≡ true → OpenBalance w

@@ -60,7 +60,8 @@ OptionAlike R None (Some y) = ⊥
 OptionAlike R (Some x) None = ⊥
 
 -- The same operation, on files that R says are the same and open files that S says are.
-abbrev pub OperationAlike : {F O G P : Type 0} → (F → G → Type 0) → (O → P → Type 0) → Operation F O → Operation G P → Type 0
+abbrev pub OperationAlike : {F O G P : Type 0} → (F → G → Type 0) → (O → P → Type 0) → Operation F O → Operation G P
+    → Type 0
 OperationAlike R S (lookup d name) (lookup e other) = R d e × (name ≡ other)
 OperationAlike R S (getattr x) (getattr y) = R x y
 OperationAlike R S (mkdir d name) (mkdir e other) = R d e × (name ≡ other)
@@ -119,13 +120,15 @@ FinalAlike R a b = ⊥
 -- Two walks for the same end, over files that R says are the same.
 abbrev pub WalkPlanAlike : {F G : Type 0} → (F → G → Type 0) → WalkPlan F → WalkPlan G → Type 0
 WalkPlanAlike R (last a) (last b) = FinalAlike R a b
-WalkPlanAlike R (final.rename old words new) (final.rename old' words' new') = (old ≡ old') × (words ≡ words') × (new ≡ new')
+WalkPlanAlike R (final.rename old words new) (final.rename old' words' new') =
+    (old ≡ old') × (words ≡ words') × (new ≡ new')
 WalkPlanAlike R (final.link words name) (final.link words' name') = (words ≡ words') × (name ≡ name')
 WalkPlanAlike R a b = ⊥
 
 -- Two calls that wait for the same, over files that R says are the same and open files that S says are.
 abbrev pub StateAlike : {O P : Type 0} → (ℕ → ℕ → Type 0) → (O → P → Type 0) → CallState O → CallState P → Type 0
-StateAlike R S (walking d word words plan) (walking e word' words' plan') = R d e × (word ≡ word') × (words ≡ words') × WalkPlanAlike R plan plan'
+StateAlike R S (walking d word words plan) (walking e word' words' plan') =
+    R d e × (word ≡ word') × (words ≡ words') × WalkPlanAlike R plan plan'
 StateAlike R S (doing a) (doing b) = OperationAlike R S a b
 StateAlike R S (using handle a) (using handle' b) = (handle ≡ handle') × OperationAlike R S a b
 StateAlike R S a b = ⊥

@@ -12,7 +12,8 @@ use Rattle.fuse_spec.specs.Reference.PlainWords.{Steps}
 use Rattle.fuse_spec.specs.Claim.Counts.{Keeps}
 use Rattle.fuse_spec.specs.Claim.Alike.{Alike}
 
--- The world refines the plain world: that is one whose replies go with what was asked, and the two are alike. This is the refinement relation of the headline.
+-- The world refines the plain world: that is one whose replies go with what was asked, and the two are alike. This is
+-- the refinement relation of the headline.
 pub record Refines (w : World) (p : Plain) : Type 0 where
   pub alike : Alike w p
   pub served : AsksServed p
@@ -25,9 +26,10 @@ plain_handed_out p call = record p { vfs = record p.vfs { answers = remove p.vfs
 abbrev pub plain_collected : Plain → Plain
 plain_collected p = record p { vfs = record p.vfs { answers = [] } }
 
--- An accepted event: the world moves as it may, the plain world takes in words of its own the step of the event and its outcome, the two are alike again,
--- and the records are the outcome and then the answers that the plain world gave.
-pub record Accepts (w : World) (p : Plain) (event : Event) (records : List Record) (w' : World) (p' : Plain) : Type 0 where
+-- An accepted event: the world moves as it may, the plain world takes in words of its own the step of the event and its
+-- outcome, the two are alike again, and the records are the outcome and then the answers that the plain world gave.
+pub record Accepts (w : World) (p : Plain) (event : Event) (records : List Record) (w' : World)
+    (p' : Plain) : Type 0 where
   pub outcome_of : Outcome
   pub mid : World
   pub plain : Plain
@@ -40,7 +42,8 @@ pub record Accepts (w : World) (p : Plain) (event : Event) (records : List Recor
   pub plain_after : p' ≡ plain_collected plain
 
 -- A refused event changes nothing, and its refusal is what is recorded: the machine's, or want of memory.
-pub record Refuses (w : World) (p : Plain) (event : Event) (records : List Record) (w' : World) (p' : Plain) : Type 0 where
+pub record Refuses (w : World) (p : Plain) (event : Event) (records : List Record) (w' : World)
+    (p' : Plain) : Type 0 where
   pub refusal : Refusal
   pub judged : RefusedWith w event refusal
   pub recorded : records ≡ refused refusal ∷ []
@@ -55,7 +58,8 @@ Moves w p event records w' p' = Accepts w p event records w' p' ⊎ Refuses w p 
 abbrev pub Run : World → Plain → List Event → List Record → World → Plain → Type 0
 Run w p [] records w' p' = (records ≡ []) × (w' ≡ w) × (p' ≡ p)
 Run w p (event ∷ events) records w' p' =
-    (first : List Record) × (rest : List Record) × (mid : World) × (plain : Plain) × (records ≡ first ++ rest) × Moves w p event first mid plain × Run mid plain events rest w' p'
+    (first : List Record) × (rest : List Record) × (mid : World) × (plain : Plain) × (records ≡ first ++ rest)
+    × Moves w p event first mid plain × Run mid plain events rest w' p'
 
 -- Two records that don't answer the same call.
 abbrev pub AnswersApart : Record → Record → Type 0
@@ -77,7 +81,8 @@ abbrev pub EndsCall : World → World → Record → Type 0
 EndsCall old new (answered call a) = (IsOver old call → ⊥) × IsOver new call
 EndsCall old new other = Unit {0}
 
--- Each call that these records answer is over with them, and one that was over stays so: so it is answered in no later list.
+-- Each call that these records answer is over with them, and one that was over stays so: so it is answered in no later
+-- list.
 pub record CallsEnd (old : World) (records : List Record) (new : World) : Type 0 where
   pub ended : All (EndsCall old new) records
   pub stay : (call : ℕ) → IsOver old call → IsOver new call

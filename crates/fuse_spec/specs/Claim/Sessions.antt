@@ -24,9 +24,11 @@ linked w = record { world = w; is_lost = false }
 abbrev pub lost : World → Session
 lost w = record { world = w; is_lost = true }
 
--- An accepted event in which the link is lost: the event happens, and then the mount is aborted. The plain world takes the steps of both, and is alike to the world after
--- each. The records are the outcome, that the link is lost, and then the answers that the plain world gave in both steps.
-pub record Loses (w : World) (p : Plain) (event : Event) (records : List Record) (w' : World) (p' : Plain) : Type 0 where
+-- An accepted event in which the link is lost: the event happens, and then the mount is aborted. The plain world takes
+-- the steps of both, and is alike to the world after each. The records are the outcome, that the link is lost, and then
+-- the answers that the plain world gave in both steps.
+pub record Loses (w : World) (p : Plain) (event : Event) (records : List Record) (w' : World)
+    (p' : Plain) : Type 0 where
   pub outcome_of : Outcome
   pub mid : World
   pub plain : Plain
@@ -44,14 +46,18 @@ pub record Loses (w : World) (p : Plain) (event : Event) (records : List Record)
   pub after : w' ≡ collected last
   pub plain_after : p' ≡ plain_collected plain_last
 
--- One event of a session: as in a world while the link is not lost, or the link is lost in it, or it was before and every event is refused and changes nothing.
+-- One event of a session: as in a world while the link is not lost, or the link is lost in it, or it was before and
+-- every event is refused and changes nothing.
 pub data SessionMoves (p : Plain) (event : Event) (records : List Record) : Session → Session → Plain → Type 0 where
-  moves : (w w' : World) (p' : Plain) → Moves w p event records w' p' → SessionMoves p event records (linked w) (linked w') p'
-  loses : (w w' : World) (p' : Plain) → Loses w p event records w' p' → SessionMoves p event records (linked w) (lost w') p'
+  moves : (w w' : World) (p' : Plain) → Moves w p event records w' p'
+      → SessionMoves p event records (linked w) (linked w') p'
+  loses : (w w' : World) (p' : Plain) → Loses w p event records w' p'
+      → SessionMoves p event records (linked w) (lost w') p'
   refuses : (w : World) → records ≡ refused LinkLost ∷ [] → SessionMoves p event records (lost w) (lost w) p
 
 -- A list of events does, one event after another.
 abbrev pub SessionRun : Session → Plain → List Event → List Record → Session → Plain → Type 0
 SessionRun s p [] records s' p' = (records ≡ []) × (s' ≡ s) × (p' ≡ p)
 SessionRun s p (event ∷ events) records s' p' =
-    (first : List Record) × (rest : List Record) × (mid : Session) × (plain : Plain) × (records ≡ first ++ rest) × SessionMoves p event first s mid plain × SessionRun mid plain events rest s' p'
+    (first : List Record) × (rest : List Record) × (mid : Session) × (plain : Plain) × (records ≡ first ++ rest)
+    × SessionMoves p event first s mid plain × SessionRun mid plain events rest s' p'

@@ -14,7 +14,8 @@ operation_of bytes_of (Mkdir directory name) = operation.mkdir directory (bytes_
 operation_of bytes_of (Create directory name) = operation.create directory (bytes_of name)
 operation_of bytes_of (Unlink directory name) = operation.unlink directory (bytes_of name)
 operation_of bytes_of (Rmdir directory name) = operation.rmdir directory (bytes_of name)
-operation_of bytes_of (Rename directory old newdir new) = operation.rename directory (bytes_of old) newdir (bytes_of new)
+operation_of bytes_of (Rename directory old newdir new) =
+    operation.rename directory (bytes_of old) newdir (bytes_of new)
 operation_of bytes_of (Link node directory name) = operation.link node directory (bytes_of name)
 operation_of bytes_of (Open node) = operation.opening node
 operation_of bytes_of (Readdir directory after size) = operation.readdir directory after size

@@ -4,7 +4,8 @@ use Rattle.fuse_spec.specs.Calls.Paths.{Name, is_dots}
 use Rattle.fuse_spec.specs.declared.Kind.{Kind}
 use Rattle.fuse_spec.specs.declared.Attributes.{Attributes}
 
--- One operation of a call, by its opcode, with files named as F says and open files as O says. (linux/fuse.h, enum fuse_opcode)
+-- One operation of a call, by its opcode, with files named as F says and open files as O says. (linux/fuse.h, enum
+-- fuse_opcode)
 pub data Operation (F O : Type 0) : Type 0 where
   lookup : (directory : F) (name : Name) → Operation F O
   getattr : (file : F) → Operation F O
@@ -27,15 +28,15 @@ pub record Dirent : Type 0 where
   pub kind : Kind
   pub name : Name
 
--- A name that a directory lists together with its file, to which it leads for so many milliseconds, or with none, as an entry of nodeid 0 says.
--- (linux/fuse.h, struct fuse_direntplus)
+-- A name that a directory lists together with its file, to which it leads for so many milliseconds, or with none, as an
+-- entry of nodeid 0 says. (linux/fuse.h, struct fuse_direntplus)
 pub record DirentPlus (F : Type 0) : Type 0 where
   pub file : Option F
   pub valid : ℕ
   pub dirent : Dirent
 
--- The reply to an operation, with files named as F says and open files as O says; a name leads to a file, or to none, for so many milliseconds.
--- (linux/fuse.h, struct fuse_out_header)
+-- The reply to an operation, with files named as F says and open files as O says; a name leads to a file, or to none,
+-- for so many milliseconds. (linux/fuse.h, struct fuse_out_header)
 pub data Reply (F O : Type 0) : Type 0 where
   found : (file : F) (valid : ℕ) → Reply F O
   missing : (valid : ℕ) → Reply F O
@@ -85,7 +86,8 @@ reply_with f g (agreed major minor flags) = agreed major minor flags
 reply_with f g done = done
 reply_with f g (failed errno) = failed errno
 
--- The files that an operation names; an open file stands for the files that `h` gives for it. (linux/fuse.h, struct fuse_in_header)
+-- The files that an operation names; an open file stands for the files that `h` gives for it. (linux/fuse.h, struct
+-- fuse_in_header)
 abbrev pub files_in : {F O : Type 0} → (O → List F) → Operation F O → List F
 files_in h (lookup d name) = d ∷ []
 files_in h (getattr x) = x ∷ []
@@ -101,7 +103,8 @@ files_in h (readdirplus d after size) = d ∷ []
 files_in h (read o offset size) = h o
 files_in h (write o offset bytes) = h o
 
--- The next three are the files that names in a list tell, in order; `.` and `..` tell none. (linux/fuse.h, struct fuse_direntplus)
+-- The next three are the files that names in a list tell, in order; `.` and `..` tell none. (linux/fuse.h, struct
+-- fuse_direntplus)
 abbrev pub told_by : {F : Type 0} → DirentPlus F → Option F
 told_by pair = cond (is_dots pair.dirent.name) None pair.file
 
@@ -113,7 +116,8 @@ abbrev pub files_told : {F : Type 0} → List (DirentPlus F) → List F
 files_told [] = []
 files_told (pair ∷ pairs) = first_told (told_by pair) (files_told pairs)
 
--- The files that the entries of a reply name, as often as they do: each is one lookup more of its node. (libfuse, low-level: lookup)
+-- The files that the entries of a reply name, as often as they do: each is one lookup more of its node. (libfuse,
+-- low-level: lookup)
 abbrev pub files_in_reply : {F O : Type 0} → Reply F O → List F
 files_in_reply (found x valid) = x ∷ []
 files_in_reply (created x valid o) = x ∷ []

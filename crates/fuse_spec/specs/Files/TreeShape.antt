@@ -10,21 +10,23 @@ use Rattle.fuse_spec.specs.Files.FileOperations.{FileOperation}
 -- The file is `top`, or a name of it stands in a directory that is `top` or below it. (POSIX, rename)
 pub data IsBelow (tree : Tree) (top : ℕ) : ℕ → Type 0 where
   is_top : (file : ℕ) → file ≡ top → IsBelow tree top file
-  is_in : (n : Named) (file : ℕ) → Contains tree.names n → n.file ≡ file → IsBelow tree top n.directory → IsBelow tree top file
+  is_in : (n : Named) (file : ℕ) → Contains tree.names n → n.file ≡ file → IsBelow tree top n.directory
+      → IsBelow tree top file
 
 -- How many names lead to the file. (POSIX, link count)
 abbrev pub names_of : Tree → ℕ → ℕ
 names_of tree file = count_by (λ n. nat_eq n.file file) tree.names
 
--- The name stands in a directory of the tree that is not nameless, and leads to a file of the tree that is not the root.
+-- The name stands in a directory of the tree that is not nameless, and leads to a file of the tree that is not the
+-- root.
 pub record Stands (tree : Tree) (n : Named) : Type 0 where
   pub directory : is_directory tree n.directory ≡ true
   pub named : is_nameless tree n.directory ≡ false
   pub file : IsSome (get tree.files n.file)
   pub not_root : n.file ≢ 0
 
--- The root is a directory, a directory has one name at most, each name stands, no two names stand at one place, and no file has a
--- birth from the next on.
+-- The root is a directory, a directory has one name at most, each name stands, no two names stand at one place, and no
+-- file has a birth from the next on.
 pub record IsShaped (tree : Tree) : Type 0 where
   pub root : is_directory tree 0 ≡ true
   pub one_name : (file : ℕ) → is_directory tree file ≡ true → names_of tree file ≤ 1
@@ -32,7 +34,8 @@ pub record IsShaped (tree : Tree) : Type 0 where
   pub once : (directory : ℕ) (name : Name) → count_by (is_at directory name) tree.names ≤ 1
   pub unborn : (file : ℕ) → tree.next_birth ≤ file → get tree.files file ≡ None
 
--- What is written is a regular file. The operations do not judge that: a file that is open for writing is regular. (this project's rule)
+-- What is written is a regular file. The operations do not judge that: a file that is open for writing is regular.
+-- (this project's rule)
 abbrev pub WritesRegular : Tree → FileOperation → Type 0
 WritesRegular tree (write file offset bytes) = kind_of (get tree.files file) ≡ Regular
 WritesRegular tree operation = Unit {0}

@@ -20,7 +20,8 @@ pub record Named : Type 0 where
   pub file : ℕ
   pub serial : ℕ
 
--- The file tree: the files by birth, of which the root is 0, the names in rising serial, and the next birth and serial. (this project's rule)
+-- The file tree: the files by birth, of which the root is 0, the names in rising serial, and the next birth and serial.
+-- (this project's rule)
 pub record Tree : Type 0 where
   pub files : Map Content
   pub names : List Named
@@ -80,14 +81,15 @@ is_empty tree dir = nat_eq (length (names_in tree dir)) 0
 abbrev pub is_within : ℕ → List Named → ℕ → ℕ → Bool
 is_within zero names top dir = nat_eq dir top
 is_within (suc steps) names top dir =
-    cond (nat_eq dir top) true (elim (find (λ n. nat_eq n.file dir) names) [ None ↦ false | Some n ↦ is_within steps names top n.directory ])
+    cond (nat_eq dir top) true
+    (elim (find (λ n. nat_eq n.file dir) names) [ None ↦ false | Some n ↦ is_within steps names top n.directory ])
 
 -- Whether the directory is `top` or below it. (POSIX, rename)
 abbrev pub is_below : Tree → ℕ → ℕ → Bool
 is_below tree top dir = is_within (length tree.names) tree.names top dir
 
--- The attributes of a file: its inode number is its birth and 1, its size the number of its bytes, its link count the number of its names.
--- (this project's rule)
+-- The attributes of a file: its inode number is its birth and 1, its size the number of its bytes, its link count the
+-- number of its names. (this project's rule)
 abbrev pub attributes_of : Tree → ℕ → Attributes
 attributes_of tree file =
     record {
@@ -112,7 +114,10 @@ without_name tree dir name = record tree { names = filter (λ n. not (is_at dir 
 -- The tree with a new file under a new name.
 abbrev pub with_birth : Tree → ℕ → Name → Content → Tree
 with_birth tree dir name content =
-    with_name (record tree { files = put tree.files tree.next_birth content; next_birth = tree.next_birth + 1 }) dir name tree.next_birth
+    with_name (record tree {
+      files = put tree.files tree.next_birth content;
+      next_birth = tree.next_birth + 1;
+    }) dir name tree.next_birth
 
 -- The bytes with others written over them from an offset on; a gap is zeros. (POSIX, write)
 abbrev pub overwritten : List ℕ → ℕ → List ℕ → List ℕ
@@ -124,7 +129,8 @@ overwritten old offset (b ∷ bytes) =
 abbrev pub record_length : Dirent → ℕ
 record_length r = (31 + length r.name) / 8 * 8
 
--- A name as READDIR lists it: the inode number, the serial as the offset from which to read on, the kind and the name. (this project's rule)
+-- A name as READDIR lists it: the inode number, the serial as the offset from which to read on, the kind and the name.
+-- (this project's rule)
 abbrev pub record_of : Tree → Named → Dirent
 record_of tree n = record { ino = n.file + 1; offset = n.serial; kind = kind_of (get tree.files n.file); name = n.name }
 
@@ -133,7 +139,8 @@ abbrev pub fitting : ℕ → List Dirent → List Dirent
 fitting room [] = []
 fitting room (r ∷ records) = cond (nat_le (record_length r) room) (r ∷ fitting (room - record_length r) records) []
 
--- The records of the names in a directory whose serial is over `after`, which is the offset from which to read on. (libfuse, low-level: readdir)
+-- The records of the names in a directory whose serial is over `after`, which is the offset from which to read on.
+-- (libfuse, low-level: readdir)
 abbrev pub records_after : Tree → ℕ → ℕ → List Dirent
 records_after tree dir after = map (record_of tree) (filter (λ n. nat_lt after n.serial) (names_in tree dir))
 
@@ -141,7 +148,8 @@ records_after tree dir after = map (record_of tree) (filter (λ n. nat_lt after 
 abbrev pub pair_length : {F : Type 0} → DirentPlus F → ℕ
 pair_length pair = 128 + record_length pair.dirent
 
--- A name as READDIRPLUS lists it: with its file, to which it leads for so many milliseconds. (linux/fuse.h, struct fuse_direntplus)
+-- A name as READDIRPLUS lists it: with its file, to which it leads for so many milliseconds. (linux/fuse.h, struct
+-- fuse_direntplus)
 abbrev pub pair_of : (valid : ℕ) → Tree → Named → DirentPlus ℕ
 pair_of valid tree n = record { file = Some n.file; valid = valid; dirent = record_of tree n }
 

@@ -24,8 +24,8 @@ use Rattle.fuse_spec.specs.Kernel.Messages.{Forget, RequestBody, init, asks, rel
 use Rattle.fuse_spec.specs.Kernel.Queues.{QueueState, empty_queues}
 use Rattle.fuse_spec.specs.Kernel.QueueCalls.{first_forgets, after_enqueue, after_forget, interrupt_effect, after_interrupt}
 
--- The kernel: its mount's phase, the system calls' side, the queues, the nodes with their counts, and in `closing` the files that are closed while a read or
--- write of them is unanswered.
+-- The kernel: its mount's phase, the system calls' side, the queues, the nodes with their counts, and in `closing` the
+-- files that are closed while a read or write of them is unanswered.
 pub record Kernel : Type 0 where
   pub phase : Phase
   pub vfs : Vfs Opened
@@ -62,7 +62,8 @@ abbrev pub asked_by : Option (CallState Opened) → Option RequestBody
 asked_by None = None
 asked_by (Some state) = Some (asks (asked state))
 
--- What a request asks of the server, by what the kernel keeps of it: INIT, RELEASE, or the operation of an unanswered call. (linux/fuse.h, enum fuse_opcode)
+-- What a request asks of the server, by what the kernel keeps of it: INIT, RELEASE, or the operation of an unanswered
+-- call. (linux/fuse.h, enum fuse_opcode)
 abbrev pub body_of : Kernel → Purpose → Option RequestBody
 body_of k purpose.Init = Some (init init_flags)
 body_of k (purpose.Release opened) = Some (release opened)
@@ -99,7 +100,8 @@ is_using handle (using other operation) = nat_eq other handle
 abbrev pub is_used : Kernel → ℕ → Bool
 is_used k handle = list_any (is_using handle) (values k.vfs.calls)
 
--- A closed file is released once no read or write of it is unanswered: its RELEASE is queued. (libfuse, low-level: release)
+-- A closed file is released once no read or write of it is unanswered: its RELEASE is queued. (libfuse, low-level:
+-- release)
 abbrev pub released : Kernel → ℕ → Option Opened → Kernel
 released k handle None = k
 released k handle (Some opened) =
@@ -112,7 +114,8 @@ released k handle (Some opened) =
 abbrev pub released_if_idle : Kernel → ℕ → Kernel
 released_if_idle k handle = released k handle (get k.closing handle)
 
--- After the call that stood here is answered, the file that it read or wrote may be released. (libfuse, low-level: release)
+-- After the call that stood here is answered, the file that it read or wrote may be released. (libfuse, low-level:
+-- release)
 abbrev pub after_use : Kernel → CallState Opened → Kernel
 after_use k (walking directory word words plan) = k
 after_use k (doing operation) = k
@@ -138,9 +141,11 @@ closing_of k (Some file) = closed k file.0 (Some file.1)
 -- A call begins, and the open file that it closes is released. (Linux VFS)
 abbrev pub call_begun : Kernel → Call → Kernel
 call_begun k call =
-    closing_of (advanced k k.vfs.next_call (begun (is_aborted k.phase) k.vfs call)) (cond (is_aborted k.phase) None (closed_by k.vfs.opens call))
+    closing_of (advanced k k.vfs.next_call (begun (is_aborted k.phase) k.vfs call))
+    (cond (is_aborted k.phase) None (closed_by k.vfs.opens call))
 
--- A call begins as the kernel may put it: before READDIRPLUS, its names are listed alone. (linux/fuse.h, FUSE_READDIRPLUS)
+-- A call begins as the kernel may put it: before READDIRPLUS, its names are listed alone. (linux/fuse.h,
+-- FUSE_READDIRPLUS)
 abbrev pub call_put : Kernel → Call → Kernel
 call_put k call = call_begun k (spoken k.lists_files call)
 
@@ -150,7 +155,15 @@ forgets_read k n = cond (forgets_singly k.minor && nat_lt 1 n) None (first_forge
 
 -- Everything is given up: calls, names, nodes, open files and the four lists. (this project's rule)
 abbrev pub all_given_up : Kernel → Phase → Kernel
-all_given_up k phase = record { phase = phase; vfs = given_up k.vfs; queues = empty_queues; nodes = []; closing = []; minor = k.minor; lists_files = k.lists_files }
+all_given_up k phase = record {
+  phase = phase;
+  vfs = given_up k.vfs;
+  queues = empty_queues;
+  nodes = [];
+  closing = [];
+  minor = k.minor;
+  lists_files = k.lists_files;
+}
 
 -- An abort: every unanswered call is answered an error, and the connection is gone. (fuse.rst)
 abbrev pub kernel_aborted : Kernel → Kernel
@@ -158,7 +171,15 @@ kernel_aborted k = all_given_up k Aborted
 
 -- A mount gives up everything, without forgets, and queues INIT. (this project's rule)
 abbrev pub kernel_mounted : Kernel → Kernel
-kernel_mounted k = record { phase = Starting; vfs = given_up k.vfs; queues = after_enqueue empty_queues purpose.Init; nodes = []; closing = []; minor = M15; lists_files = false }
+kernel_mounted k = record {
+  phase = Starting;
+  vfs = given_up k.vfs;
+  queues = after_enqueue empty_queues purpose.Init;
+  nodes = [];
+  closing = [];
+  minor = M15;
+  lists_files = false;
+}
 
 -- ---- signals
 
@@ -172,8 +193,12 @@ after_signal k call state NoEffect = k
 -- A signal to a call whose current request has this unique; without a request nothing happens. (fuse.rst)
 abbrev pub signalled_at : Kernel → ℕ → CallState Opened → Bool → Option ℕ → IntrEffect × Kernel
 signalled_at k call state fatal None = (NoEffect, k)
-signalled_at k call state fatal (Some unique) =
-    (interrupt_effect k.queues unique fatal, after_signal (record k { queues = after_interrupt k.queues unique fatal }) call state (interrupt_effect k.queues unique fatal))
+signalled_at k call state fatal (Some unique) = (
+  interrupt_effect k.queues unique fatal,
+  after_signal
+      (record k { queues = after_interrupt k.queues unique fatal }) call state
+      (interrupt_effect k.queues unique fatal),
+)
 
 -- A signal to an unanswered call, which stands here. (fuse.rst)
 abbrev pub call_signalled : Kernel → ℕ → CallState Opened → Bool → IntrEffect × Kernel
@@ -201,7 +226,8 @@ is_released_by node (purpose.Call call) = false
 abbrev pub is_pinned : Kernel → ℕ → Bool
 is_pinned k node =
     list_any (λ state. list_any (nat_eq node) (nodes_of_state state)) (values k.vfs.calls)
-    || (list_any (λ (opened : Opened). nat_eq opened.nodeid node) (values k.vfs.opens) || list_any (λ e. is_released_by node e.1.kept) k.queues.requests)
+    || (list_any (λ (opened : Opened). nat_eq opened.nodeid node) (values k.vfs.opens)
+    || list_any (λ e. is_released_by node e.1.kept) k.queues.requests)
 
 -- Whether a name leads to this node.
 abbrev pub leads_to : ℕ → Option ℕ → Bool

@@ -8,8 +8,8 @@ use Rattle.fuse_spec.specs.Files.Operations.{Operation, Reply}
 abbrev pub Forget : Type 0
 Forget = ℕ × ℕ
 
--- What a request asks, by its opcode: INIT with the flags that it offers, an operation, RELEASE, FORGET, BATCH_FORGET or INTERRUPT.
--- (linux/fuse.h, enum fuse_opcode)
+-- What a request asks, by its opcode: INIT with the flags that it offers, an operation, RELEASE, FORGET, BATCH_FORGET
+-- or INTERRUPT. (linux/fuse.h, enum fuse_opcode)
 pub data RequestBody : Type 0 where
   init : (flags : ℕ) → RequestBody
   asks : (operation : Operation ℕ Opened) → RequestBody

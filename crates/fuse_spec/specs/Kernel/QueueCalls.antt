@@ -20,7 +20,10 @@ module _ {W : Type 0} where
 
   -- A request goes last among the pending ones, under the coming number. (fuse.rst)
   abbrev pub after_enqueue : QueueState W → W → QueueState W
-  after_enqueue s kept = record s { requests = s.requests ++ (s.next, record { mark = Unread; kept = kept }) ∷ []; next = s.next + 2 }
+  after_enqueue s kept = record s {
+    requests = s.requests ++ (s.next, record { mark = Unread; kept = kept }) ∷ [];
+    next = s.next + 2;
+  }
 
   -- A forget goes last on the list of forgets. (libfuse, low-level: forget)
   abbrev pub after_forget : QueueState W → ℕ → ℕ → QueueState W
@@ -35,7 +38,8 @@ module _ {W : Type 0} where
   -- The requests, where that under a number has this mark.
   abbrev pub set_mark : ℕ → List (ℕ × QueuedRequest W) → Mark → List (ℕ × QueuedRequest W)
   set_mark unique [] mark = []
-  set_mark unique (e ∷ es) mark = if nat_eq unique e.0 then (e.0, record { mark = mark; kept = e.1.kept }) ∷ es else e ∷ set_mark unique es mark
+  set_mark unique (e ∷ es) mark = if nat_eq unique e.0 then
+      (e.0, record { mark = mark; kept = e.1.kept }) ∷ es else e ∷ set_mark unique es mark
 
   -- The request under a number gets this mark. (fuse.rst)
   abbrev pub with_mark : QueueState W → ℕ → Mark → QueueState W
@@ -43,9 +47,13 @@ module _ {W : Type 0} where
 
   -- The INTERRUPT of a request goes last on its list, unless none is queued any more. (fuse.rst)
   abbrev pub with_interrupt : QueueState W → ℕ → QueueState W
-  with_interrupt s unique = record s { interrupts = if s.interrupts_off then s.interrupts else s.interrupts ++ unique ∷ [] }
+  with_interrupt s unique = record s {
+    interrupts = if s.interrupts_off then s.interrupts else s.interrupts
+        ++ unique ∷ [];
+  }
 
-  -- A pending request is in processing once it is read, and the INTERRUPT of a flagged one is queued, unless none is queued any more. (fuse.rst)
+  -- A pending request is in processing once it is read, and the INTERRUPT of a flagged one is queued, unless none is
+  -- queued any more. (fuse.rst)
   abbrev pub after_reading : QueueState W → ℕ → Mark → QueueState W
   after_reading s unique Unread = with_mark s unique Read
   after_reading s unique Flagged = with_interrupt (with_mark s unique Interrupted) unique
@@ -62,23 +70,31 @@ module _ {W : Type 0} where
   abbrev pub after_read_interrupt : QueueState W → QueueState W
   after_read_interrupt s = record s { interrupts = drop 1 s.interrupts }
 
-  -- Whether so many forgets can be read as one frame: it has room for 1 to `max_forgets`, and so many have to be queued. (this project's rule)
+  -- Whether so many forgets can be read as one frame: it has room for 1 to `max_forgets`, and so many have to be
+  -- queued. (this project's rule)
   abbrev pub can_read_forgets : QueueState W → ℕ → Bool
   can_read_forgets s count = nat_lt 0 count && (nat_le count max_forgets && nat_le count (length s.forgets))
 
-  -- The number that the frame of so many forgets draws as it is read, and these forgets, the oldest first. (this project's rule)
+  -- The number that the frame of so many forgets draws as it is read, and these forgets, the oldest first. (this
+  -- project's rule)
   abbrev pub first_forgets : QueueState W → ℕ → Option (ℕ × List (ℕ × ℕ))
   first_forgets s count = if can_read_forgets s count then Some (s.next, take count s.forgets) else None
 
   -- The queues once so many forgets are read as one frame, which draws a number.
   abbrev pub after_read_forgets : QueueState W → ℕ → QueueState W
-  after_read_forgets s count = if can_read_forgets s count then record s { forgets = drop count s.forgets; next = s.next + 2 } else s
+  after_read_forgets s count = if can_read_forgets s count then record s {
+    forgets = drop count s.forgets;
+    next = s.next + 2;
+  } else s
 
   -- ending a request
 
   -- The request under a number is gone, and its INTERRUPT with it. (fuse.rst)
   abbrev pub without : QueueState W → ℕ → QueueState W
-  without s unique = record s { requests = remove_entry (nat_eq unique) s.requests; interrupts = filter (λ i. not (nat_eq unique i)) s.interrupts }
+  without s unique = record s {
+    requests = remove_entry (nat_eq unique) s.requests;
+    interrupts = filter (λ i. not (nat_eq unique i)) s.interrupts;
+  }
 
   -- What an answer under a number ends: a request that was read and is unanswered. (fuse.rst)
   abbrev pub waiting : QueueState W → ℕ → Option W
@@ -92,7 +108,8 @@ module _ {W : Type 0} where
 
   -- The effect of a signal on the request under a number; where there is none, nothing. (fuse.rst)
   abbrev pub interrupt_effect : QueueState W → ℕ → Bool → IntrEffect
-  interrupt_effect s unique fatal = option_map_or (λ r. signal_effect r.mark fatal s.interrupts_off) (request_under s unique) NoEffect
+  interrupt_effect s unique fatal = option_map_or (λ r. signal_effect r.mark fatal s.interrupts_off)
+      (request_under s unique) NoEffect
 
   -- An unread request is gone; it has no INTERRUPT queued. (fuse.rst)
   abbrev pub after_dequeue : QueueState W → ℕ → QueueState W
@@ -111,7 +128,8 @@ module _ {W : Type 0} where
 
   -- replies to an INTERRUPT
 
-  -- ENOSYS to an INTERRUPT: the list of INTERRUPTs is emptied, and none is queued again in this mount. (this project's rule)
+  -- ENOSYS to an INTERRUPT: the list of INTERRUPTs is emptied, and none is queued again in this mount. (this project's
+  -- rule)
   abbrev pub after_no_interrupts : QueueState W → QueueState W
   after_no_interrupts s = record s { interrupts = []; interrupts_off = true }
 
@@ -121,6 +139,9 @@ module _ {W : Type 0} where
   after_reply_effect s unique TurnedOff = after_no_interrupts s
   after_reply_effect s unique NoReplyEffect = s
 
-  -- The queues after a reply to the INTERRUPT of the request under a number; where no request is left under it, as they were. (fuse.rst)
+  -- The queues after a reply to the INTERRUPT of the request under a number; where no request is left under it, as they
+  -- were. (fuse.rst)
   abbrev pub after_interrupt_reply : QueueState W → ℕ → InterruptReply → QueueState W
-  after_interrupt_reply s unique reply = option_map_or (λ mark. after_reply_effect s unique (reply_effect reply mark (list_any (nat_eq unique) s.interrupts) s.interrupts_off)) (mark_under s unique) s
+  after_interrupt_reply s unique reply = option_map_or
+      (λ mark. after_reply_effect s unique (reply_effect reply mark
+      (list_any (nat_eq unique) s.interrupts) s.interrupts_off)) (mark_under s unique) s

@@ -7,8 +7,8 @@ use Rattle.fuse_spec.specs.declared.Mark.{Mark}
 use Rattle.fuse_spec.specs.declared.Mark.TheVariants.{Unread, Flagged, Read, Interrupted}
 use Rattle.fuse_spec.specs.declared.QueuedRequest.{QueuedRequest}
 
--- The requests in order of queuing, each under its number: those unread are pending, those read are in processing, and to read one changes its mark alone;
--- `W` is what the kernel keeps of a request. (fuse.rst)
+-- The requests in order of queuing, each under its number: those unread are pending, those read are in processing, and
+-- to read one changes its mark alone; `W` is what the kernel keeps of a request. (fuse.rst)
 pub record QueueState (W : Type 0) : Type 0 where
   pub requests : List (ℕ × QueuedRequest W)
   -- the numbers of the requests whose INTERRUPT is queued, the oldest first
@@ -61,7 +61,8 @@ request_under s unique = lookup (nat_eq unique) s.requests
 abbrev pub mark_under : {W : Type 0} → QueueState W → ℕ → Option Mark
 mark_under s unique = option_map (λ r. r.mark) (request_under s unique)
 
--- Whether the request under a number was read, is unanswered, and bears a signal, so that its INTERRUPT was due. (fuse.rst)
+-- Whether the request under a number was read, is unanswered, and bears a signal, so that its INTERRUPT was due.
+-- (fuse.rst)
 abbrev pub is_interrupted : {W : Type 0} → QueueState W → ℕ → Bool
 is_interrupted s unique = option_map_or has_interrupt (mark_under s unique) false
 
@@ -74,5 +75,6 @@ pub record IsSound {W : Type 0} (s : QueueState W) : Type 0 where
   pub next : IsNextNumber s.next
   -- a number that was drawn has one request at most, and no other number has one
   pub requests : (u : ℕ) → count_by (λ e. nat_eq u e.0) s.requests ≤ (if was_drawn s.next u then 1 else 0)
-  -- a number stands on the list of INTERRUPTs once at most, and only while its request is read, interrupted and unanswered
+  -- a number stands on the list of INTERRUPTs once at most, and only while its request is read, interrupted and
+  -- unanswered
   pub interrupts : (u : ℕ) → count_by (nat_eq u) s.interrupts ≤ (if is_interrupted s u then 1 else 0)

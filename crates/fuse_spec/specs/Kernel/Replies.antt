@@ -25,8 +25,8 @@ use Rattle.fuse_spec.specs.Kernel.Queues.{QueueState}
 use Rattle.fuse_spec.specs.Kernel.QueueCalls.{waiting, without, after_interrupt_reply, after_forget}
 use Rattle.fuse_spec.specs.Kernel.Kernel.{Kernel, advanced, after_use, kernel_aborted}
 
--- Whether this is a body of a reply to the operation: of its kind, with no more data than was asked, and no more written than was sent; an error goes with
--- any. (linux/fuse.h, enum fuse_opcode)
+-- Whether this is a body of a reply to the operation: of its kind, with no more data than was asked, and no more
+-- written than was sent; an error goes with any. (linux/fuse.h, enum fuse_opcode)
 abbrev pub goes_with : Operation ℕ Opened → WireReply → Bool
 goes_with operation (failed errno) = true
 goes_with (lookup d name) (found g valid) = true
@@ -58,7 +58,8 @@ abbrev pub is_agreement : WireReply → Bool
 is_agreement (agreed major minor flags) = nat_eq major 7 && (nat_eq minor 15 || nat_le 31 minor)
 is_agreement wire = false
 
--- The minor that the reply to INIT agrees on, and whether READDIRPLUS may be asked, which minor 15 doesn't know. (linux/fuse.h, struct fuse_init_out)
+-- The minor that the reply to INIT agrees on, and whether READDIRPLUS may be asked, which minor 15 doesn't know.
+-- (linux/fuse.h, struct fuse_init_out)
 abbrev pub minor_agreed : WireReply → Minor
 minor_agreed (agreed major minor flags) = cond (nat_eq minor 15) M15 M31
 minor_agreed wire = M31
@@ -77,7 +78,8 @@ is_init_reply (agreed major minor flags) = true
 is_init_reply (failed errno) = true
 is_init_reply wire = false
 
--- Whether the entries of a reply can be used: they can, or one is useless, or one names a counted node under another generation.
+-- Whether the entries of a reply can be used: they can, or one is useless, or one names a counted node under another
+-- generation.
 pub data Use : Type 0 where
   usable useless : Use
   stale : (node : ℕ) → Use
@@ -87,7 +89,8 @@ abbrev pub use_counted : Entry → Option Counted → Use
 use_counted g None = usable
 use_counted g (Some counted) = cond (nat_eq counted.generation g.generation) usable (stale g.nodeid)
 
--- Whether an entry can be used: not if it names the root or no node, nor if its node is counted under another generation. (this project's rule)
+-- Whether an entry can be used: not if it names the root or no node, nor if its node is counted under another
+-- generation. (this project's rule)
 abbrev pub use_of : Map Counted → Entry → Use
 use_of nodes g = cond (nat_lt g.nodeid 2) useless (use_counted g (get nodes g.nodeid))
 
@@ -117,18 +120,23 @@ node_opened (opening node) entries = node
 node_opened operation [] = 0
 node_opened operation (g ∷ gs) = g.nodeid
 
--- What the reply says, with the files named as the kernel names them: by nodeid, and an open file by its node and its number.
--- (linux/fuse.h, struct fuse_entry_out)
+-- What the reply says, with the files named as the kernel names them: by nodeid, and an open file by its node and its
+-- number. (linux/fuse.h, struct fuse_entry_out)
 abbrev pub kernel_reply : Operation ℕ Opened → WireReply → Reply ℕ Opened
-kernel_reply operation wire = reply_with (λ (g : Entry). g.nodeid) (λ fh. record { nodeid = node_opened operation (files_in_reply wire); fh = fh }) wire
+kernel_reply operation wire = reply_with (λ (g : Entry). g.nodeid)
+    (λ fh. record { nodeid = node_opened operation (files_in_reply wire); fh = fh }) wire
 
--- A reply whose entries are judged reaches the call: one that can't be used is EIO and counts nothing, and where the generation is another, one lookup is
--- forgotten at once. (this project's rule)
+-- A reply whose entries are judged reaches the call: one that can't be used is EIO and counts nothing, and where the
+-- generation is another, one lookup is forgotten at once. (this project's rule)
 abbrev pub judged : Kernel → ℕ → CallState Opened → WireReply → Use → Kernel
 judged k call state wire usable =
-    advanced (record k { nodes = learnt k.nodes (files_in_reply wire) }) call (call_replied k.vfs call state (kernel_reply (asked state) wire))
+    advanced (record k { nodes = learnt k.nodes (files_in_reply wire) }) call
+    (call_replied k.vfs call state (kernel_reply (asked state) wire))
 judged k call state wire useless = record k { vfs = answered k.vfs call (answer.failed eio) }
-judged k call state wire (stale node) = record k { vfs = answered k.vfs call (answer.failed eio); queues = after_forget k.queues node 1 }
+judged k call state wire (stale node) = record k {
+  vfs = answered k.vfs call (answer.failed eio);
+  queues = after_forget k.queues node 1;
+}
 
 -- ---- names in a list, with their files
 
@@ -150,7 +158,8 @@ learnt_by nodes pair = learnt nodes (files_told (pair_judged pair (use_of_told n
 -- The names of a list, each judged by the counts that those before it left. (this project's rule)
 abbrev pub pairs_judged : Map Counted → List (DirentPlus Entry) → List (DirentPlus Entry)
 pairs_judged nodes [] = []
-pairs_judged nodes (pair ∷ pairs) = pair_judged pair (use_of_told nodes (told_by pair)) ∷ pairs_judged (learnt_by nodes pair) pairs
+pairs_judged nodes (pair ∷ pairs) = pair_judged pair (use_of_told nodes (told_by pair)) ∷ pairs_judged
+    (learnt_by nodes pair) pairs
 
 -- The next two are the nodes that names of a list tell under another generation than they are counted.
 abbrev pub stale_in : Use → List ℕ
@@ -160,7 +169,8 @@ stale_in (stale node) = node ∷ []
 
 abbrev pub stale_among : Map Counted → List (DirentPlus Entry) → List ℕ
 stale_among nodes [] = []
-stale_among nodes (pair ∷ pairs) = stale_in (use_of_told nodes (told_by pair)) ++ stale_among (learnt_by nodes pair) pairs
+stale_among nodes (pair ∷ pairs) = stale_in (use_of_told nodes (told_by pair))
+    ++ stale_among (learnt_by nodes pair) pairs
 
 -- The next two forget one lookup of each of these nodes, in turn. (libfuse, low-level: forget)
 abbrev pub forgets_with : List Forget → List ℕ → List Forget
@@ -170,8 +180,8 @@ forgets_with forgets (node ∷ nodes) = forgets_with (forgets ++ (node, 1) ∷ [
 abbrev pub each_forgotten : QueueState Purpose → List ℕ → QueueState Purpose
 each_forgotten q nodes = record q { forgets = forgets_with q.forgets nodes }
 
--- The next three are a reply as the kernel takes it, whether its entries can be used, and the nodes to be forgotten once. The names of a list are judged one by
--- one, which never fails the call. (this project's rule)
+-- The next three are a reply as the kernel takes it, whether its entries can be used, and the nodes to be forgotten
+-- once. The names of a list are judged one by one, which never fails the call. (this project's rule)
 abbrev pub reply_judged : Map Counted → WireReply → WireReply
 reply_judged nodes (listed_plus pairs) = listed_plus (pairs_judged nodes pairs)
 reply_judged nodes wire = wire
@@ -190,13 +200,18 @@ without_stale k wire = record k { queues = each_forgotten k.queues (stale_in_rep
 
 -- A reply that goes with what the call asked reaches the call.
 abbrev pub reply_received : Kernel → ℕ → CallState Opened → WireReply → Kernel
-reply_received k call state wire = judged (without_stale k wire) call state (reply_judged k.nodes wire) (use_of_reply k.nodes wire)
+reply_received k call state wire = judged (without_stale k wire) call state (reply_judged k.nodes wire)
+    (use_of_reply k.nodes wire)
 
--- The reply to the call's request: its body goes with the request and is accepted, or is a wrong body, which is EINVAL to the writer and EIO to the call.
--- (Linux VFS)
+-- The reply to the call's request: its body goes with the request and is accepted, or is a wrong body, which is EINVAL
+-- to the writer and EIO to the call. (Linux VFS)
 abbrev pub replied : Kernel → ℕ → CallState Opened → Bool → WireReply → WriteResult × Kernel
 replied k call state true wire = (Accepted, after_use (reply_received k call state wire) state)
-replied k call state false wire = (Invalid, after_use (record k { vfs = answered k.vfs call (answer.failed eio) }) state)
+replied k call state false wire = (
+  Invalid,
+  after_use
+      (record k { vfs = answered k.vfs call (answer.failed eio) }) state,
+)
 
 -- The reply to a call's request reaches the call, if that is still unanswered. (Linux VFS)
 abbrev pub replied_to_call : Kernel → ℕ → WireReply → Option (CallState Opened) → WriteResult × Kernel
@@ -208,16 +223,22 @@ abbrev pub write_result_of : Bool → WriteResult
 write_result_of true = Accepted
 write_result_of false = Invalid
 
--- A reply to a request, which ends with it: INIT makes the kernel ready, or aborts the mount; a RELEASE just ends. (this project's rule)
+-- A reply to a request, which ends with it: INIT makes the kernel ready, or aborts the mount; a RELEASE just ends.
+-- (this project's rule)
 abbrev pub ended_by : Kernel → Purpose → WireReply → WriteResult × Kernel
-ended_by k purpose.Init wire = (write_result_of (is_init_reply wire), cond (is_agreement wire) (made_ready k wire) (kernel_aborted k))
+ended_by k purpose.Init wire = (
+  write_result_of (is_init_reply wire),
+  cond (is_agreement wire) (made_ready k wire) (kernel_aborted k),
+)
 ended_by k (purpose.Release o) wire = (write_result_of (is_empty_reply wire), k)
 ended_by k (purpose.Call call) wire = replied_to_call k call wire (get k.vfs.calls call)
 
--- A reply under the unique of a request that was read and is unanswered, or of none, which is ENOENT to the writer. (Linux VFS)
+-- A reply under the unique of a request that was read and is unanswered, or of none, which is ENOENT to the writer.
+-- (Linux VFS)
 abbrev pub request_reply_written : Kernel → ℕ → WireReply → Option Purpose → WriteResult × Kernel
 request_reply_written k unique wire None = (NoEntry, k)
-request_reply_written k unique wire (Some purpose) = ended_by (record k { queues = without k.queues unique }) purpose wire
+request_reply_written k unique wire (Some purpose) =
+    ended_by (record k { queues = without k.queues unique }) purpose wire
 
 -- What a reply to an INTERRUPT says by its error: EAGAIN, ENOSYS, or anything else. (fuse.rst)
 abbrev pub interrupt_reply_of : ℕ → InterruptReply
@@ -225,17 +246,22 @@ interrupt_reply_of errno = cond (nat_eq errno enosys) NotSupported (cond (nat_eq
 
 -- A reply to the INTERRUPT of a request that waits: only one without a body is accepted. (fuse.rst)
 abbrev pub interrupt_replied : Kernel → (original : ℕ) → WireReply → WriteResult × Kernel
-interrupt_replied k original (failed errno) = (Accepted, record k { queues = after_interrupt_reply k.queues original (interrupt_reply_of errno) })
+interrupt_replied k original (failed errno) = (
+  Accepted,
+  record k { queues = after_interrupt_reply k.queues original (interrupt_reply_of errno) },
+)
 interrupt_replied k original done = (Accepted, k)
 interrupt_replied k original wire = (Invalid, k)
 
--- A reply to an INTERRUPT counts while its original is read and unanswered; after that it is ENOENT to the writer. (fuse.rst)
+-- A reply to an INTERRUPT counts while its original is read and unanswered; after that it is ENOENT to the writer.
+-- (fuse.rst)
 abbrev pub interrupt_reply_written : Kernel → ℕ → WireReply → Option Purpose → WriteResult × Kernel
 interrupt_reply_written k unique wire None = (NoEntry, k)
 interrupt_reply_written k unique wire (Some purpose) = interrupt_replied k (unique - 1) wire
 
--- The kernel takes what a reply says under this unique: an even one is looked for among the requests in processing, an odd one is that of an INTERRUPT.
--- (fuse.rst)
+-- The kernel takes what a reply says under this unique: an even one is looked for among the requests in processing, an
+-- odd one is that of an INTERRUPT. (fuse.rst)
 abbrev pub reply_written : Kernel → ℕ → WireReply → WriteResult × Kernel
 reply_written k unique wire =
-    cond (nat_eq (unique % 2) 1) (interrupt_reply_written k unique wire (waiting k.queues (unique - 1))) (request_reply_written k unique wire (waiting k.queues unique))
+    cond (nat_eq (unique % 2) 1) (interrupt_reply_written k unique wire (waiting k.queues (unique - 1)))
+    (request_reply_written k unique wire (waiting k.queues unique))

@@ -9,7 +9,8 @@ use Rattle.fuse_spec.specs.declared.InterruptReply.TheVariants.{Again, NotSuppor
 use Rattle.fuse_spec.specs.declared.InterruptReplyEffect.{InterruptReplyEffect}
 use Rattle.fuse_spec.specs.declared.InterruptReplyEffect.TheVariants.{QueuedAgain, TurnedOff, None as NoReplyEffect}
 
--- The effect of a signal, fatal or not, on a request with this mark; `off` says that an INTERRUPT of this mount was answered ENOSYS. (fuse.rst)
+-- The effect of a signal, fatal or not, on a request with this mark; `off` says that an INTERRUPT of this mount was
+-- answered ENOSYS. (fuse.rst)
 abbrev pub signal_effect : (mark : Mark) (fatal off : Bool) → IntrEffect
 -- unread: a fatal signal takes it out, whatever else; the first other one flags it
 signal_effect Unread true off = Dequeued
@@ -22,8 +23,8 @@ signal_effect Read fatal false = Queued
 signal_effect Read fatal true = NoEffect
 signal_effect Interrupted fatal off = NoEffect
 
--- The effect of a reply to the INTERRUPT of a request with this mark; `queued` says that the INTERRUPT stands on its list, and `off` that one of this mount
--- was answered ENOSYS. (fuse.rst)
+-- The effect of a reply to the INTERRUPT of a request with this mark; `queued` says that the INTERRUPT stands on its
+-- list, and `off` that one of this mount was answered ENOSYS. (fuse.rst)
 abbrev pub reply_effect : (reply : InterruptReply) (mark : Mark) (queued off : Bool) → InterruptReplyEffect
 -- EAGAIN: the INTERRUPT of a request that was signalled and waits is queued once more, unless it is queued
 reply_effect Again Interrupted false false = QueuedAgain

@@ -23,6 +23,7 @@ pub record IsNextNumber (n : ℕ) : Type 0 where
 abbrev pub interrupt_number : ℕ → ℕ
 interrupt_number unique = unique - unique % 2 + 1
 
--- The number of the request that an INTERRUPT is for: the INTERRUPT's own, with the lowest bit cleared. (this project's rule)
+-- The number of the request that an INTERRUPT is for: the INTERRUPT's own, with the lowest bit cleared. (this project's
+-- rule)
 abbrev pub original_number : ℕ → ℕ
 original_number unique = unique - unique % 2

@@ -1,5 +1,5 @@
--- The plain world: a tree, the system calls' side and what was asked, over the files themselves. It has no node id, generation,
--- count, unique, queue, message or table.
+-- The plain world: a tree, the system calls' side and what was asked, over the files themselves. It has no node id,
+-- generation, count, unique, queue, message or table.
 use Rattle.std.specs.Prelude.{ℕ, Bool, true, false, [], ◌∷◌, Option, Some, None}
 use Rattle.fuse_spec.specs.declared.Validity.{Validity}
 use Rattle.fuse_spec.specs.Values.Maps.{Map, put, remove, remove_name}
@@ -21,7 +21,8 @@ pub data Stage : Type 0 where
   performed : (reply : Reply ℕ ℕ) → Stage
   declined : Stage
 
--- One operation on files, put by one call. `noted`: a signal to the call was accepted. `marked`: an interrupt reached it.
+-- One operation on files, put by one call. `noted`: a signal to the call was accepted. `marked`: an interrupt reached
+-- it.
 pub record Ask : Type 0 where
   pub call : ℕ
   pub operation : FileOperation
@@ -29,8 +30,8 @@ pub record Ask : Type 0 where
   pub noted : Bool
   pub marked : Bool
 
--- The plain world: its tree, the system calls' side, the asks under labels by which later events of a run mean them, the validities and the minor of the
--- mount, and whether it is aborted.
+-- The plain world: its tree, the system calls' side, the asks under labels by which later events of a run mean them,
+-- the validities and the minor of the mount, and whether it is aborted.
 pub record Plain : Type 0 where
   pub tree : Tree
   pub vfs : Vfs ℕ
@@ -42,7 +43,10 @@ pub record Plain : Type 0 where
 -- The call's ask is put under this label, where it asks an operation.
 abbrev pub asking : Plain → (label call : ℕ) → Option FileOperation → Plain
 asking p label call None = p
-asking p label call (Some operation) = record p { asks = put p.asks label (record { call = call; operation = operation; stage = waiting; noted = false; marked = false }) }
+asking p label call (Some operation) = record p {
+  asks =
+      put p.asks label (record { call = call; operation = operation; stage = waiting; noted = false; marked = false });
+}
 
 -- The system calls' side as a step of the call left it.
 abbrev pub going_on : Plain → (label call : ℕ) → Advance ℕ → Plain
@@ -68,9 +72,11 @@ ask_performed p label ask =
 abbrev pub ask_declined : Plain → (label : ℕ) → Ask → Plain
 ask_declined p label ask = record p { asks = put p.asks label (record ask { stage = declined }) }
 
--- A performed ask goes, and its reply reaches its call, which stands here. What the call asks next bears the label `next`.
+-- A performed ask goes, and its reply reaches its call, which stands here. What the call asks next bears the label
+-- `next`.
 abbrev pub ask_told : Plain → (label next : ℕ) → Ask → Reply ℕ ℕ → CallState ℕ → Plain
-ask_told p label next ask reply state = going_on (record p { asks = remove p.asks label }) next ask.call (call_replied p.vfs ask.call state reply)
+ask_told p label next ask reply state = going_on (record p { asks = remove p.asks label }) next ask.call
+    (call_replied p.vfs ask.call state reply)
 
 -- An ask goes, and its call is answered EINTR. (fuse.rst)
 abbrev pub ask_interrupted : Plain → (label : ℕ) → Ask → Plain
@@ -98,7 +104,13 @@ plain_aborted p = record p { vfs = given_up p.vfs; aborted = true }
 
 -- A mount: the asks go, no name and no open file is left, and the validities are set.
 abbrev pub plain_mounted : Plain → Validity → Minor → Plain
-plain_mounted p validity minor = record p { vfs = given_up p.vfs; asks = []; validity = validity; minor = minor; aborted = false }
+plain_mounted p validity minor = record p {
+  vfs = given_up p.vfs;
+  asks = [];
+  validity = validity;
+  minor = minor;
+  aborted = false;
+}
 
 -- The plain world before the first mount: its tree is the root alone.
 abbrev pub first_plain : Plain

@@ -1,4 +1,5 @@
--- The system calls of the plain world in words of its own. It shares with the kernel's side types alone, and how the text of a path is read.
+-- The system calls of the plain world in words of its own. It shares with the kernel's side types alone, and how the
+-- text of a path is read.
 use Rattle.std.specs.Prelude.{◌≡◌, ◌⊎◌, ◌≤◌, ◌<◌, ℕ, ◌+◌, Bool, true, false, List, [], ◌∷◌, ◌++◌, Option, Some, None, Ok, Err, length, map}
 use Rattle.fuse_spec.specs.declared.Attributes.{Attributes}
 use Rattle.fuse_spec.specs.declared.Binding.{Binding}
@@ -26,11 +27,15 @@ pub record LeadsTo (c : Vfs ℕ) (directory : ℕ) (name : Name) (target : Optio
 
 -- No name is in force there, or its time is over. (linux/fuse.h, struct fuse_entry_out)
 abbrev pub IsNotInForce : Vfs ℕ → ℕ → Name → Type 0
-IsNotInForce c directory name = (bound : Binding) → get_name c.names (directory, name) ≡ Some bound → bound.until ≤ c.clock
+IsNotInForce c directory name = (bound : Binding) → get_name c.names (directory, name) ≡ Some bound
+    → bound.until ≤ c.clock
 
 -- A name comes into force for so many milliseconds from now on. (linux/fuse.h, struct fuse_entry_out)
 abbrev pub in_force : Vfs ℕ → ℕ → Name → Option ℕ → (valid_ms : ℕ) → Vfs ℕ
-in_force c directory name target valid_ms = record c { names = put_name c.names (directory, name) (record { target = target; until = c.clock + valid_ms }) }
+in_force c directory name target valid_ms = record c {
+  names =
+      put_name c.names (directory, name) (record { target = target; until = c.clock + valid_ms });
+}
 
 -- A name goes out of force. (Linux VFS)
 abbrev pub out_of_force : Vfs ℕ → ℕ → Name → Vfs ℕ
@@ -38,12 +43,15 @@ out_of_force c directory name = record c { names = remove_name c.names (director
 
 -- ---- walks
 
--- A walk from a file along words: a name in force leads on; a missing name ends it, and so does one that has to be asked for. (Linux VFS)
+-- A walk from a file along words: a name in force leads on; a missing name ends it, and so does one that has to be
+-- asked for. (Linux VFS)
 pub data Walks (c : Vfs ℕ) : ℕ → List Name → WalkStop ℕ → Type 0 where
   is_there : (file : ℕ) → Walks c file [] (arrived file)
-  goes_on : (at next : ℕ) (word : Name) (words : List Name) (stop : WalkStop ℕ) → LeadsTo c at word (Some next) → Walks c next words stop → Walks c at (word ∷ words) stop
+  goes_on : (at next : ℕ) (word : Name) (words : List Name) (stop : WalkStop ℕ) → LeadsTo c at word (Some next)
+      → Walks c next words stop → Walks c at (word ∷ words) stop
   finds_none : (at : ℕ) (word : Name) (words : List Name) → LeadsTo c at word None → Walks c at (word ∷ words) missing
-  has_to_ask : (at : ℕ) (word : Name) (words : List Name) → IsNotInForce c at word → Walks c at (word ∷ words) (unknown at word words)
+  has_to_ask : (at : ℕ) (word : Name) (words : List Name) → IsNotInForce c at word
+      → Walks c at (word ∷ words) (unknown at word words)
 
 -- What is asked at the file to which the last walk led. (Linux VFS)
 pub data AsksAt : FinalOperation ℕ → ℕ → Operation ℕ ℕ → Type 0 where
@@ -55,7 +63,8 @@ pub data AsksAt : FinalOperation ℕ → ℕ → Operation ℕ ℕ → Type 0 wh
   to_create : (name : Name) (file : ℕ) → AsksAt (final.create name) file (op.create file name)
   to_unlink : (name : Name) (file : ℕ) → AsksAt (final.unlink name) file (op.unlink file name)
   to_rmdir : (name : Name) (file : ℕ) → AsksAt (final.rmdir name) file (op.rmdir file name)
-  to_rename : (directory : ℕ) (old new : Name) (file : ℕ) → AsksAt (final.rename_from directory old new) file (op.rename directory old file new)
+  to_rename : (directory : ℕ) (old new : Name) (file : ℕ)
+      → AsksAt (final.rename_from directory old new) file (op.rename directory old file new)
   to_link : (linked : ℕ) (name : Name) (file : ℕ) → AsksAt (final.link_to linked name) file (op.link linked file name)
 
 -- The call is answered, and waits no longer. (Linux VFS)
@@ -66,32 +75,51 @@ is_answered c number a = record c { calls = remove c.calls number; answers = put
 abbrev pub is_waiting : Vfs ℕ → ℕ → CallState ℕ → Vfs ℕ
 is_waiting c number state = record c { calls = put c.calls number state }
 
--- A call goes on from a file along words: where that leaves the calls, and what it asks. A rename and a link walk a second time, from the root. (Linux VFS)
+-- A call goes on from a file along words: where that leaves the calls, and what it asks. A rename and a link walk a
+-- second time, from the root. (Linux VFS)
 pub data GoesOn (c : Vfs ℕ) (number : ℕ) : ℕ → List Name → WalkPlan ℕ → Vfs ℕ → Option (Operation ℕ ℕ) → Type 0 where
-  asks_name : (at : ℕ) (words : List Name) (plan : WalkPlan ℕ) (directory : ℕ) (word : Name) (rest : List Name) → Walks c at words (unknown directory word rest)
-      → GoesOn c number at words plan (is_waiting c number (walking directory word rest plan)) (Some (op.lookup directory word))
-  has_none : (at : ℕ) (words : List Name) (plan : WalkPlan ℕ) → Walks c at words missing → GoesOn c number at words plan (is_answered c number (answer.failed enoent)) None
-  asks_operation : (at : ℕ) (words : List Name) (last_one : FinalOperation ℕ) (file : ℕ) (operation : Operation ℕ ℕ) → Walks c at words (arrived file) → AsksAt last_one file operation
+  asks_name : (at : ℕ) (words : List Name) (plan : WalkPlan ℕ) (directory : ℕ) (word : Name) (rest : List Name)
+      → Walks c at words (unknown directory word rest)
+      → GoesOn c number at words plan (is_waiting c number (walking directory word rest plan))
+      (Some (op.lookup directory word))
+  has_none : (at : ℕ) (words : List Name) (plan : WalkPlan ℕ) → Walks c at words missing
+      → GoesOn c number at words plan (is_answered c number (answer.failed enoent)) None
+  asks_operation : (at : ℕ) (words : List Name) (last_one : FinalOperation ℕ) (file : ℕ) (operation : Operation ℕ ℕ)
+      → Walks c at words (arrived file) → AsksAt last_one file operation
       → GoesOn c number at words (last last_one) (is_waiting c number (doing operation)) (Some operation)
-  renames : (at : ℕ) (words : List Name) (old : Name) (more : List Name) (new : Name) (file : ℕ) (after : Vfs ℕ) (asked : Option (Operation ℕ ℕ)) → Walks c at words (arrived file)
-      → GoesOn c number c.root more (last (final.rename_from file old new)) after asked → GoesOn c number at words (rename old more new) after asked
-  links : (at : ℕ) (words more : List Name) (name : Name) (file : ℕ) (after : Vfs ℕ) (asked : Option (Operation ℕ ℕ)) → Walks c at words (arrived file)
-      → GoesOn c number c.root more (last (final.link_to file name)) after asked → GoesOn c number at words (link more name) after asked
+  renames : (at : ℕ) (words : List Name) (old : Name) (more : List Name) (new : Name) (file : ℕ) (after : Vfs ℕ)
+      (asked : Option (Operation ℕ ℕ)) → Walks c at words (arrived file)
+      → GoesOn c number c.root more (last (final.rename_from file old new)) after asked
+      → GoesOn c number at words (rename old more new) after asked
+  links : (at : ℕ) (words more : List Name) (name : Name) (file : ℕ) (after : Vfs ℕ) (asked : Option (Operation ℕ ℕ))
+      → Walks c at words (arrived file)
+      → GoesOn c number c.root more (last (final.link_to file name)) after asked
+      → GoesOn c number at words (link more name) after asked
 
 -- ---- a call begins
 
 -- The walk that a call takes. Where it makes, removes or moves a name, that is the last word of the path. (Linux VFS)
 pub data TakesWalk : Call → List Name → WalkPlan ℕ → Type 0 where
-  stats : (path : List ℕ) (words : List Name) → words_of path ≡ Ok words → TakesWalk (call.stat path) words (last final.stat)
-  lists : (path : List ℕ) (after : ℕ) (words : List Name) → words_of path ≡ Ok words → TakesWalk (call.list path after) words (last (final.list after))
-  lists_files : (path : List ℕ) (after : ℕ) (words : List Name) → words_of path ≡ Ok words → TakesWalk (call.listplus path after) words (last (final.listplus after))
-  opens : (path : List ℕ) (words : List Name) → words_of path ≡ Ok words → TakesWalk (call.opening path) words (last final.opening)
-  mkdirs : (path : List ℕ) (words : List Name) (name : Name) → words_of path ≡ Ok (words ++ name ∷ []) → TakesWalk (call.mkdir path) words (last (final.mkdir name))
-  creates : (path : List ℕ) (words : List Name) (name : Name) → words_of path ≡ Ok (words ++ name ∷ []) → TakesWalk (call.create path) words (last (final.create name))
-  unlinks : (path : List ℕ) (words : List Name) (name : Name) → words_of path ≡ Ok (words ++ name ∷ []) → TakesWalk (call.unlink path) words (last (final.unlink name))
-  rmdirs : (path : List ℕ) (words : List Name) (name : Name) → words_of path ≡ Ok (words ++ name ∷ []) → TakesWalk (call.rmdir path) words (last (final.rmdir name))
-  renames : (old new : List ℕ) (words more : List Name) (from to : Name) → words_of old ≡ Ok (words ++ from ∷ []) → words_of new ≡ Ok (more ++ to ∷ []) → TakesWalk (call.rename old new) words (rename from more to)
-  links : (old new : List ℕ) (words more : List Name) (name : Name) → words_of old ≡ Ok words → words_of new ≡ Ok (more ++ name ∷ []) → TakesWalk (call.link old new) words (link more name)
+  stats : (path : List ℕ) (words : List Name) → words_of path ≡ Ok words
+      → TakesWalk (call.stat path) words (last final.stat)
+  lists : (path : List ℕ) (after : ℕ) (words : List Name) → words_of path ≡ Ok words
+      → TakesWalk (call.list path after) words (last (final.list after))
+  lists_files : (path : List ℕ) (after : ℕ) (words : List Name) → words_of path ≡ Ok words
+      → TakesWalk (call.listplus path after) words (last (final.listplus after))
+  opens : (path : List ℕ) (words : List Name) → words_of path ≡ Ok words
+      → TakesWalk (call.opening path) words (last final.opening)
+  mkdirs : (path : List ℕ) (words : List Name) (name : Name) → words_of path ≡ Ok (words ++ name ∷ [])
+      → TakesWalk (call.mkdir path) words (last (final.mkdir name))
+  creates : (path : List ℕ) (words : List Name) (name : Name) → words_of path ≡ Ok (words ++ name ∷ [])
+      → TakesWalk (call.create path) words (last (final.create name))
+  unlinks : (path : List ℕ) (words : List Name) (name : Name) → words_of path ≡ Ok (words ++ name ∷ [])
+      → TakesWalk (call.unlink path) words (last (final.unlink name))
+  rmdirs : (path : List ℕ) (words : List Name) (name : Name) → words_of path ≡ Ok (words ++ name ∷ [])
+      → TakesWalk (call.rmdir path) words (last (final.rmdir name))
+  renames : (old new : List ℕ) (words more : List Name) (from to : Name) → words_of old ≡ Ok (words ++ from ∷ [])
+      → words_of new ≡ Ok (more ++ to ∷ []) → TakesWalk (call.rename old new) words (rename from more to)
+  links : (old new : List ℕ) (words more : List Name) (name : Name) → words_of old ≡ Ok words
+      → words_of new ≡ Ok (more ++ name ∷ []) → TakesWalk (call.link old new) words (link more name)
 
 -- A path that can't be walked; one whose last word is to be made or removed must have one.
 pub data HasNoName : List ℕ → ℕ → Type 0 where
@@ -102,31 +130,45 @@ pub data HasNoName : List ℕ → ℕ → Type 0 where
 pub data Fails (opens : Map ℕ) : Call → ℕ → Type 0 where
   of_stat : (path : List ℕ) (errno : ℕ) → words_of path ≡ Err errno → Fails opens (call.stat path) errno
   of_list : (path : List ℕ) (after errno : ℕ) → words_of path ≡ Err errno → Fails opens (call.list path after) errno
-  of_listplus : (path : List ℕ) (after errno : ℕ) → words_of path ≡ Err errno → Fails opens (call.listplus path after) errno
+  of_listplus : (path : List ℕ) (after errno : ℕ) → words_of path ≡ Err errno
+      → Fails opens (call.listplus path after) errno
   of_open : (path : List ℕ) (errno : ℕ) → words_of path ≡ Err errno → Fails opens (call.opening path) errno
   of_mkdir : (path : List ℕ) (errno : ℕ) → HasNoName path errno → Fails opens (call.mkdir path) errno
   of_create : (path : List ℕ) (errno : ℕ) → HasNoName path errno → Fails opens (call.create path) errno
   of_unlink : (path : List ℕ) (errno : ℕ) → HasNoName path errno → Fails opens (call.unlink path) errno
   of_rmdir : (path : List ℕ) (errno : ℕ) → HasNoName path errno → Fails opens (call.rmdir path) errno
   of_old : (old new : List ℕ) (errno : ℕ) → HasNoName old errno → Fails opens (call.rename old new) errno
-  of_new : (old new : List ℕ) (words : List Name) (from : Name) (errno : ℕ) → words_of old ≡ Ok (words ++ from ∷ []) → HasNoName new errno → Fails opens (call.rename old new) errno
+  of_new : (old new : List ℕ) (words : List Name) (from : Name) (errno : ℕ) → words_of old ≡ Ok (words ++ from ∷ [])
+      → HasNoName new errno → Fails opens (call.rename old new) errno
   of_linked : (old new : List ℕ) (errno : ℕ) → words_of old ≡ Err errno → Fails opens (call.link old new) errno
-  of_link : (old new : List ℕ) (words : List Name) (errno : ℕ) → words_of old ≡ Ok words → HasNoName new errno → Fails opens (call.link old new) errno
+  of_link : (old new : List ℕ) (words : List Name) (errno : ℕ) → words_of old ≡ Ok words → HasNoName new errno
+      → Fails opens (call.link old new) errno
   read_of_none : (handle offset size : ℕ) → get opens handle ≡ None → Fails opens (call.read handle offset size) ebadf
-  read_too_far : (handle offset size file : ℕ) → get opens handle ≡ Some file → (max_file < offset) ⊎ (max_transfer < size) → Fails opens (call.read handle offset size) einval
-  write_to_none : (handle offset : ℕ) (bytes : List ℕ) → get opens handle ≡ None → Fails opens (call.write handle offset bytes) ebadf
-  write_too_far : (handle offset file : ℕ) (bytes : List ℕ) → get opens handle ≡ Some file → (max_file < offset) ⊎ (max_transfer < length bytes) → Fails opens (call.write handle offset bytes) einval
+  read_too_far : (handle offset size file : ℕ) → get opens handle ≡ Some file
+      → (max_file < offset) ⊎ (max_transfer < size) → Fails opens (call.read handle offset size) einval
+  write_to_none : (handle offset : ℕ) (bytes : List ℕ) → get opens handle ≡ None
+      → Fails opens (call.write handle offset bytes) ebadf
+  write_too_far : (handle offset file : ℕ) (bytes : List ℕ) → get opens handle ≡ Some file
+      → (max_file < offset) ⊎ (max_transfer < length bytes) → Fails opens (call.write handle offset bytes) einval
   close_of_none : (handle : ℕ) → get opens handle ≡ None → Fails opens (call.close handle) ebadf
 
--- A call begins under a number: it fails at once, sets out from the root, asks of an open file, or closes one. (Linux VFS)
+-- A call begins under a number: it fails at once, sets out from the root, asks of an open file, or closes one. (Linux
+-- VFS)
 pub data Begins (c : Vfs ℕ) (number : ℕ) : Call → Vfs ℕ → Option (Operation ℕ ℕ) → Type 0 where
-  fails : (x : Call) (errno : ℕ) → Fails c.opens x errno → Begins c number x (is_answered c number (answer.failed errno)) None
-  sets_out : (x : Call) (words : List Name) (plan : WalkPlan ℕ) (after : Vfs ℕ) (asked : Option (Operation ℕ ℕ)) → TakesWalk x words plan → GoesOn c number c.root words plan after asked → Begins c number x after asked
+  fails : (x : Call) (errno : ℕ) → Fails c.opens x errno
+      → Begins c number x (is_answered c number (answer.failed errno)) None
+  sets_out : (x : Call) (words : List Name) (plan : WalkPlan ℕ) (after : Vfs ℕ) (asked : Option (Operation ℕ ℕ))
+      → TakesWalk x words plan → GoesOn c number c.root words plan after asked → Begins c number x after asked
   reads : (handle offset size file : ℕ) → get c.opens handle ≡ Some file → offset ≤ max_file → size ≤ max_transfer
-      → Begins c number (call.read handle offset size) (is_waiting c number (using handle (op.read file offset size))) (Some (op.read file offset size))
-  writes : (handle offset : ℕ) (bytes : List ℕ) (file : ℕ) → get c.opens handle ≡ Some file → offset ≤ max_file → length bytes ≤ max_transfer
-      → Begins c number (call.write handle offset bytes) (is_waiting c number (using handle (op.write file offset bytes))) (Some (op.write file offset bytes))
-  closes : (handle file : ℕ) → get c.opens handle ≡ Some file → Begins c number (call.close handle) (is_answered (record c { opens = remove c.opens handle }) number answer.done) None
+      → Begins c number (call.read handle offset size) (is_waiting c number (using handle (op.read file offset size)))
+      (Some (op.read file offset size))
+  writes : (handle offset : ℕ) (bytes : List ℕ) (file : ℕ) → get c.opens handle ≡ Some file → offset ≤ max_file
+      → length bytes ≤ max_transfer
+      → Begins c number (call.write handle offset bytes)
+      (is_waiting c number (using handle (op.write file offset bytes))) (Some (op.write file offset bytes))
+  closes : (handle file : ℕ) → get c.opens handle ≡ Some file
+      → Begins c number (call.close handle) (is_answered
+      (record c { opens = remove c.opens handle }) number answer.done) None
 
 -- ---- a reply reaches a call
 
@@ -147,38 +189,65 @@ is_reply_to (op.read file offset size) (op.content bytes) = true
 is_reply_to (op.write file offset bytes) (op.written size) = true
 is_reply_to operation reply = false
 
--- Names of a list come into force in the directory, one after another: each with its file, but `.` and `..` and those that tell none.
--- (linux/fuse.h, struct fuse_direntplus)
+-- Names of a list come into force in the directory, one after another: each with its file, but `.` and `..` and those
+-- that tell none. (linux/fuse.h, struct fuse_direntplus)
 pub data ComeIntoForce (directory : ℕ) : Vfs ℕ → List (DirentPlus ℕ) → Vfs ℕ → Type 0 where
   none_left : (c : Vfs ℕ) → ComeIntoForce directory c [] c
-  comes : (c : Vfs ℕ) (pair : DirentPlus ℕ) (pairs : List (DirentPlus ℕ)) (file : ℕ) (after : Vfs ℕ) → is_dots pair.dirent.name ≡ false → pair.file ≡ Some file
-      → ComeIntoForce directory (in_force c directory pair.dirent.name (Some file) pair.valid) pairs after → ComeIntoForce directory c (pair ∷ pairs) after
-  is_dot : (c : Vfs ℕ) (pair : DirentPlus ℕ) (pairs : List (DirentPlus ℕ)) (after : Vfs ℕ) → is_dots pair.dirent.name ≡ true
+  comes : (c : Vfs ℕ) (pair : DirentPlus ℕ) (pairs : List (DirentPlus ℕ)) (file : ℕ) (after : Vfs ℕ)
+      → is_dots pair.dirent.name ≡ false → pair.file ≡ Some file
+      → ComeIntoForce directory (in_force c directory pair.dirent.name (Some file) pair.valid) pairs after
+      → ComeIntoForce directory c (pair ∷ pairs) after
+  is_dot : (c : Vfs ℕ) (pair : DirentPlus ℕ) (pairs : List (DirentPlus ℕ)) (after : Vfs ℕ)
+      → is_dots pair.dirent.name ≡ true
       → ComeIntoForce directory c pairs after → ComeIntoForce directory c (pair ∷ pairs) after
   tells_none : (c : Vfs ℕ) (pair : DirentPlus ℕ) (pairs : List (DirentPlus ℕ)) (after : Vfs ℕ) → pair.file ≡ None
       → ComeIntoForce directory c pairs after → ComeIntoForce directory c (pair ∷ pairs) after
 
--- The reply to a call's own operation, the answer that it is, and the names that come into force or go out of it. (Linux VFS)
+-- The reply to a call's own operation, the answer that it is, and the names that come into force or go out of it.
+-- (Linux VFS)
 pub data Answers (c : Vfs ℕ) (number : ℕ) : Operation ℕ ℕ → Reply ℕ ℕ → Vfs ℕ → Type 0 where
-  attributes_are : (file : ℕ) (a : Attributes) → Answers c number (op.getattr file) (op.attributes a) (is_answered c number (answer.attributes a))
-  is_made : (directory : ℕ) (name : Name) (file valid : ℕ) → Answers c number (op.mkdir directory name) (op.found file valid) (is_answered (in_force c directory name (Some file) valid) number answer.done)
+  attributes_are : (file : ℕ) (a : Attributes) → Answers c number (op.getattr file) (op.attributes a)
+      (is_answered c number (answer.attributes a))
+  is_made : (directory : ℕ) (name : Name) (file valid : ℕ)
+      → Answers c number (op.mkdir directory name) (op.found file valid)
+      (is_answered (in_force c directory name (Some file) valid) number answer.done)
   is_created : (directory : ℕ) (name : Name) (file valid opened : ℕ)
-      → Answers c number (op.create directory name) (op.created file valid opened) (is_answered (record (in_force c directory name (Some file) valid) { opens = put c.opens number opened }) number answer.done)
-  is_linked : (linked directory : ℕ) (name : Name) (file valid : ℕ) → Answers c number (op.link linked directory name) (op.found file valid) (is_answered (in_force c directory name (Some file) valid) number answer.done)
-  is_unlinked : (directory : ℕ) (name : Name) → Answers c number (op.unlink directory name) op.done (is_answered (out_of_force c directory name) number answer.done)
-  is_removed : (directory : ℕ) (name : Name) → Answers c number (op.rmdir directory name) op.done (is_answered (out_of_force c directory name) number answer.done)
-  is_renamed : (directory : ℕ) (old : Name) (newdir : ℕ) (new : Name) → Answers c number (op.rename directory old newdir new) op.done (is_answered (out_of_force (out_of_force c directory old) newdir new) number answer.done)
-  is_opened : (file opened : ℕ) → Answers c number (op.opening file) (op.opened opened) (is_answered (record c { opens = put c.opens number opened }) number answer.done)
-  names_are : (directory after size : ℕ) (records : List Dirent) → Answers c number (op.readdir directory after size) (op.listed records) (is_answered c number (answer.listing records))
-  names_and_files_are : (directory after size : ℕ) (pairs : List (DirentPlus ℕ)) (named : Vfs ℕ) → ComeIntoForce directory c pairs named
-      → Answers c number (op.readdirplus directory after size) (op.listed_plus pairs) (is_answered named number (answer.listing (map (λ pair. pair.dirent) pairs)))
-  content_is : (file offset size : ℕ) (bytes : List ℕ) → Answers c number (op.read file offset size) (op.content bytes) (is_answered c number (answer.content bytes))
-  is_written : (file offset : ℕ) (bytes : List ℕ) (size : ℕ) → Answers c number (op.write file offset bytes) (op.written size) (is_answered c number (answer.written size))
-  has_failed : (operation : Operation ℕ ℕ) (errno : ℕ) → Answers c number operation (op.failed errno) (is_answered c number (answer.failed errno))
+      → Answers c number (op.create directory name) (op.created file valid opened)
+      (is_answered (record (in_force c directory name (Some file) valid) {
+        opens =
+            put c.opens number opened;
+      }) number answer.done)
+  is_linked : (linked directory : ℕ) (name : Name) (file valid : ℕ)
+      → Answers c number (op.link linked directory name) (op.found file valid)
+      (is_answered (in_force c directory name (Some file) valid) number answer.done)
+  is_unlinked : (directory : ℕ) (name : Name) → Answers c number (op.unlink directory name) op.done
+      (is_answered (out_of_force c directory name) number answer.done)
+  is_removed : (directory : ℕ) (name : Name) → Answers c number (op.rmdir directory name) op.done
+      (is_answered (out_of_force c directory name) number answer.done)
+  is_renamed : (directory : ℕ) (old : Name) (newdir : ℕ) (new : Name)
+      → Answers c number (op.rename directory old newdir new) op.done
+      (is_answered (out_of_force (out_of_force c directory old) newdir new) number answer.done)
+  is_opened : (file opened : ℕ) → Answers c number (op.opening file) (op.opened opened)
+      (is_answered (record c { opens = put c.opens number opened }) number answer.done)
+  names_are : (directory after size : ℕ) (records : List Dirent)
+      → Answers c number (op.readdir directory after size) (op.listed records)
+      (is_answered c number (answer.listing records))
+  names_and_files_are : (directory after size : ℕ) (pairs : List (DirentPlus ℕ)) (named : Vfs ℕ)
+      → ComeIntoForce directory c pairs named
+      → Answers c number (op.readdirplus directory after size) (op.listed_plus pairs)
+      (is_answered named number (answer.listing (map (λ pair. pair.dirent) pairs)))
+  content_is : (file offset size : ℕ) (bytes : List ℕ)
+      → Answers c number (op.read file offset size) (op.content bytes) (is_answered c number (answer.content bytes))
+  is_written : (file offset : ℕ) (bytes : List ℕ) (size : ℕ)
+      → Answers c number (op.write file offset bytes) (op.written size) (is_answered c number (answer.written size))
+  has_failed : (operation : Operation ℕ ℕ) (errno : ℕ)
+      → Answers c number operation (op.failed errno) (is_answered c number (answer.failed errno))
   -- a reply that is none to this operation
-  is_no_reply : (operation : Operation ℕ ℕ) (reply : Reply ℕ ℕ) → is_reply_to operation reply ≡ false → Answers c number operation reply (is_answered c number (answer.failed eio))
+  is_no_reply : (operation : Operation ℕ ℕ) (reply : Reply ℕ ℕ) → is_reply_to operation reply ≡ false
+      → Answers c number operation reply (is_answered c number (answer.failed eio))
 
--- Whether a reply to the look-up of a name says that the name leads somewhere, or nowhere, or that it failed. (linux/fuse.h, FUSE_LOOKUP)
+-- Whether a reply to the look-up of a name says that the name leads somewhere, or nowhere, or that it failed.
+-- (linux/fuse.h, FUSE_LOOKUP)
 abbrev pub is_found_or_not : Reply ℕ ℕ → Bool
 is_found_or_not (op.found file valid) = true
 is_found_or_not (op.missing valid) = true
@@ -186,12 +255,22 @@ is_found_or_not (op.failed errno) = true
 is_found_or_not reply = false
 
 -- A reply reaches the call, which stands here: where that leaves the calls, and what it asks next. (Linux VFS)
-pub data ReceivesReply (c : Vfs ℕ) (number : ℕ) : CallState ℕ → Reply ℕ ℕ → Vfs ℕ → Option (Operation ℕ ℕ) → Type 0 where
-  is_found : (directory : ℕ) (word : Name) (words : List Name) (plan : WalkPlan ℕ) (file valid : ℕ) (after : Vfs ℕ) (asked : Option (Operation ℕ ℕ)) → GoesOn (in_force c directory word (Some file) valid) number file words plan after asked
+pub data ReceivesReply (c : Vfs ℕ) (number : ℕ) : CallState ℕ → Reply ℕ ℕ → Vfs ℕ → Option (Operation ℕ ℕ)
+    → Type 0 where
+  is_found : (directory : ℕ) (word : Name) (words : List Name) (plan : WalkPlan ℕ) (file valid : ℕ) (after : Vfs ℕ)
+      (asked : Option (Operation ℕ ℕ)) → GoesOn (in_force c directory word
+      (Some file) valid) number file words plan after asked
       → ReceivesReply c number (walking directory word words plan) (op.found file valid) after asked
   is_missing : (directory : ℕ) (word : Name) (words : List Name) (plan : WalkPlan ℕ) (valid : ℕ)
-      → ReceivesReply c number (walking directory word words plan) (op.missing valid) (is_answered (in_force c directory word None valid) number (answer.failed enoent)) None
-  is_not_told : (directory : ℕ) (word : Name) (words : List Name) (plan : WalkPlan ℕ) (errno : ℕ) → ReceivesReply c number (walking directory word words plan) (op.failed errno) (is_answered c number (answer.failed errno)) None
-  is_odd : (directory : ℕ) (word : Name) (words : List Name) (plan : WalkPlan ℕ) (reply : Reply ℕ ℕ) → is_found_or_not reply ≡ false → ReceivesReply c number (walking directory word words plan) reply (is_answered c number (answer.failed eio)) None
-  of_operation : (operation : Operation ℕ ℕ) (reply : Reply ℕ ℕ) (after : Vfs ℕ) → Answers c number operation reply after → ReceivesReply c number (doing operation) reply after None
-  of_open_file : (handle : ℕ) (operation : Operation ℕ ℕ) (reply : Reply ℕ ℕ) (after : Vfs ℕ) → Answers c number operation reply after → ReceivesReply c number (using handle operation) reply after None
+      → ReceivesReply c number (walking directory word words plan) (op.missing valid)
+      (is_answered (in_force c directory word None valid) number (answer.failed enoent)) None
+  is_not_told : (directory : ℕ) (word : Name) (words : List Name) (plan : WalkPlan ℕ) (errno : ℕ)
+      → ReceivesReply c number (walking directory word words plan) (op.failed errno)
+      (is_answered c number (answer.failed errno)) None
+  is_odd : (directory : ℕ) (word : Name) (words : List Name) (plan : WalkPlan ℕ) (reply : Reply ℕ ℕ)
+      → is_found_or_not reply ≡ false → ReceivesReply c number (walking directory word words plan) reply
+      (is_answered c number (answer.failed eio)) None
+  of_operation : (operation : Operation ℕ ℕ) (reply : Reply ℕ ℕ) (after : Vfs ℕ)
+      → Answers c number operation reply after → ReceivesReply c number (doing operation) reply after None
+  of_open_file : (handle : ℕ) (operation : Operation ℕ ℕ) (reply : Reply ℕ ℕ) (after : Vfs ℕ)
+      → Answers c number operation reply after → ReceivesReply c number (using handle operation) reply after None

@@ -6,7 +6,8 @@ use Rattle.fuse_spec.specs.Files.FileOperations.{FileOperation}
 use Rattle.fuse_spec.specs.Files.Trees.{record_length, pair_length}
 use Rattle.fuse_spec.specs.Reference.Plain.{Plain, Ask, performed, declined}
 
--- The reply is one to the operation: an open file is the file that is created or opened, and no more is listed, read or written than was asked.
+-- The reply is one to the operation: an open file is the file that is created or opened, and no more is listed, read or
+-- written than was asked.
 abbrev pub RepliesTo : FileOperation → Reply ℕ ℕ → Type 0
 RepliesTo (lookup d name) (found x valid) = Unit {0}
 RepliesTo (lookup d name) (missing valid) = Unit {0}

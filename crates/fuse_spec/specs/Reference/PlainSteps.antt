@@ -1,5 +1,5 @@
--- Which steps the plain world takes with an event and its outcome. `chosen` is the label of the ask that the event puts,
--- if it puts one, or of the ask that a signal reaches, or the directory in which a name is dropped.
+-- Which steps the plain world takes with an event and its outcome. `chosen` is the label of the ask that the event
+-- puts, if it puts one, or of the ask that a signal reaches, or the directory in which a name is dropped.
 use Rattle.std.specs.Prelude.{◌≡◌, ℕ, ◌+◌, ◌-◌, Bool, true, false, ◌&&◌, cond, not, Option, Some, None, nat_eq, is_some}
 use Rattle.fuse_spec.specs.Values.Maps.{get}
 use Rattle.fuse_spec.specs.Calls.Vfs.{CallState}
@@ -18,7 +18,8 @@ where_so condition p = cond condition (Some p) None
 
 -- An ask is performed, or declined if it is marked and a signal was noted. Only a waiting one is.
 abbrev pub serving_ask : Plain → ℕ → Ask → Stage → Option Plain
-serving_ask p label ask waiting = cond ask.marked (where_so ask.noted (ask_declined p label ask)) (Some (ask_performed p label ask))
+serving_ask p label ask waiting = cond ask.marked (where_so ask.noted (ask_declined p label ask))
+    (Some (ask_performed p label ask))
 serving_ask p label ask (performed reply) = None
 serving_ask p label ask declined = None
 
@@ -30,13 +31,15 @@ serving p label (Some ask) = serving_ask p label ask ask.stage
 -- The reply to a performed ask reaches its call, if that is unanswered and what it asks next can bear the coming label.
 abbrev pub telling_call : Plain → (label next : ℕ) → Ask → Reply ℕ ℕ → Option (CallState ℕ) → Option Plain
 telling_call p label next ask reply None = None
-telling_call p label next ask reply (Some state) = where_so (not (is_some (get p.asks next))) (ask_told p label next ask reply state)
+telling_call p label next ask reply (Some state) =
+    where_so (not (is_some (get p.asks next))) (ask_told p label next ask reply state)
 
 -- The reply to a performed ask reaches its call, and a declined one answers its call EINTR, if that is unanswered.
 abbrev pub delivering_reply : Plain → (label next : ℕ) → Ask → Stage → Option Plain
 delivering_reply p label next ask waiting = None
 delivering_reply p label next ask (performed reply) = telling_call p label next ask reply (get p.vfs.calls ask.call)
-delivering_reply p label next ask declined = where_so (ask.noted && is_some (get p.vfs.calls ask.call)) (ask_interrupted p label ask)
+delivering_reply p label next ask declined = where_so (ask.noted && is_some (get p.vfs.calls ask.call))
+    (ask_interrupted p label ask)
 
 -- A reply that is accepted is told to the call of its ask, and one under a label that no ask bears takes no step.
 abbrev pub delivering : Plain → (label next : ℕ) → Option Ask → Option Plain
@@ -62,7 +65,9 @@ may_signal effect.None stage = true
 -- A signal reaches the ask of its call, if that is unanswered.
 abbrev pub signalling : Plain → IntrEffect → (call label : ℕ) → Option Ask → Option Plain
 signalling p signal call label None = None
-signalling p signal call label (Some ask) = where_so (is_some (get p.vfs.calls call) && (nat_eq ask.call call && may_signal signal ask.stage)) (signalled_ask p signal label ask)
+signalling p signal call label (Some ask) = where_so
+    (is_some (get p.vfs.calls call) && (nat_eq ask.call call && may_signal signal ask.stage))
+    (signalled_ask p signal label ask)
 
 -- An INTERRUPT marks the ask of its original, if there is one.
 abbrev pub marking : Plain → ℕ → Option Ask → Option Plain
@@ -71,18 +76,21 @@ marking p label (Some ask) = Some (ask_marked p label ask)
 
 -- The plain world after an event with this outcome. With any other outcome than the event can have there is no step.
 abbrev pub takes : ℕ → Plain → Event → Outcome → Option Plain
-takes chosen p (event.call call) (event.begun number) = where_so (nat_eq number p.vfs.next_call && not (is_some (get p.asks chosen))) (call_put p chosen call)
+takes chosen p (event.call call) (event.begun number) =
+    where_so (nat_eq number p.vfs.next_call && not (is_some (get p.asks chosen))) (call_put p chosen call)
 takes chosen p (event.perform unique) (event.performed u errno lost) = serving p unique (get p.asks unique)
 takes chosen p (event.write k) (event.written unique Accepted) = delivering p unique chosen (get p.asks unique)
 takes chosen p (event.write k) (event.written unique NoEntry) = Some p
 takes chosen p (event.write k) (event.written unique Invalid) = Some p
-takes chosen p (event.intr call fatal) (event.interrupted c effect) = signalling p effect call chosen (get p.asks chosen)
+takes chosen p (event.intr call fatal) (event.interrupted c effect) =
+    signalling p effect call chosen (get p.asks chosen)
 takes chosen p (event.take k) (event.taken unique word.Marked) = marking p (unique - 1) (get p.asks (unique - 1))
 takes chosen p (event.take k) (event.taken unique other) = Some p
 takes chosen p (event.tick ms) (event.now clock) = where_so (nat_eq clock (p.vfs.clock + ms)) (plain_later p ms)
 takes chosen p (event.drop_name node name) event.dropped = Some (name_dropped p chosen name)
 takes chosen p event.abort event.aborted = Some (plain_aborted p)
-takes chosen p (event.mount found_ms missing_ms minor) event.mounted = Some (plain_mounted p (record { found_ms = found_ms; missing_ms = missing_ms }) minor)
+takes chosen p (event.mount found_ms missing_ms minor) event.mounted =
+    Some (plain_mounted p (record { found_ms = found_ms; missing_ms = missing_ms }) minor)
 -- these are no steps of the plain world
 takes chosen p event.read_interrupt (event.is_read unique) = Some p
 takes chosen p (event.read_forgets n) (event.is_read unique) = Some p

@@ -12,9 +12,11 @@ use Rattle.fuse_spec.specs.Kernel.Messages.{WireReply}
 use Rattle.fuse_spec.specs.Server.Nodes.{NodeTable, file_of, is_held, row_more, taken_back, HandleTable, handle_more, handle_back}
 use Rattle.fuse_spec.specs.Server.Server.{Server, Kept, Copy, without_unheld_files, sending}
 
--- Whether each node and open number that the reply names is still held, the node under the same generation. (this project's rule)
+-- Whether each node and open number that the reply names is still held, the node under the same generation. (this
+-- project's rule)
 abbrev pub is_current : Server → WireReply → Bool
-is_current s wire = list_all (λ (g : Entry). is_held s.nodes g.nodeid g.generation) (files_in_reply wire) && list_all (λ fh. is_some (get s.handles.handles fh)) (opens_in_reply wire)
+is_current s wire = list_all (λ (g : Entry). is_held s.nodes g.nodeid g.generation) (files_in_reply wire)
+    && list_all (λ fh. is_some (get s.handles.handles fh)) (opens_in_reply wire)
 
 -- The files of the nodes that the reply names, as often as it does. (libfuse, low-level: lookup)
 abbrev pub files_named : Server → WireReply → List ℕ
@@ -33,9 +35,13 @@ handles_counted t (fh ∷ fhs) = handles_counted (handle_more t fh) fhs
 -- One more copy of a kept reply counts one more for each node and open number that it names. (this project's rule)
 abbrev pub sent_again : Server → ℕ → Kept → Server
 sent_again s unique kept =
-    sending (record s { nodes = rows_counted s.nodes (files_in_reply kept.wire); handles = handles_counted s.handles (opens_in_reply kept.wire) }) unique kept.wire kept.first
+    sending (record s {
+      nodes = rows_counted s.nodes (files_in_reply kept.wire);
+      handles = handles_counted s.handles (opens_in_reply kept.wire);
+    }) unique kept.wire kept.first
 
--- One lookup of the entry's node is given back, where the node is still held under the entry's generation. (this project's rule)
+-- One lookup of the entry's node is given back, where the node is still held under the entry's generation. (this
+-- project's rule)
 abbrev pub row_back : NodeTable → Entry → NodeTable
 row_back t g = cond (is_held t g.nodeid g.generation) (taken_back t g.nodeid 1) t
 
@@ -51,9 +57,13 @@ handles_back t (fh ∷ fhs) = handles_back (handle_back t fh) fhs
 
 -- What a copy carried is given back, where it is still held, and files that nothing holds then go.
 abbrev pub given_back : Server → WireReply → Server
-given_back s wire = without_unheld_files (record s { nodes = rows_back s.nodes (files_in_reply wire); handles = handles_back s.handles (opens_in_reply wire) })
+given_back s wire = without_unheld_files (record s {
+  nodes = rows_back s.nodes (files_in_reply wire);
+  handles = handles_back s.handles (opens_in_reply wire);
+})
 
--- The kept replies once a copy is settled: the reply of which it was a copy isn't kept any longer. (this project's rule)
+-- The kept replies once a copy is settled: the reply of which it was a copy isn't kept any longer. (this project's
+-- rule)
 abbrev pub kept_after : Map Kept → Copy → Option Kept → Map Kept
 kept_after kept copy None = kept
 kept_after kept copy (Some k) = cond (nat_eq k.first copy.first) (remove kept copy.unique) kept
@@ -67,14 +77,18 @@ after_result s wire Invalid = given_back s wire
 -- A copy is settled: its reply isn't kept any longer, and a refused copy is counted back. (this project's rule)
 abbrev pub settled : Server → ℕ → Copy → WriteResult → Server
 settled s number copy result =
-    after_result (record s { copies = remove s.copies number; kept = kept_after s.kept copy (get s.kept copy.unique) }) copy.wire result
+    after_result (record s {
+      copies = remove s.copies number;
+      kept = kept_after s.kept copy (get s.kept copy.unique);
+    }) copy.wire result
 
--- An abort reaches the server: its kept replies and its copies go, and the rest stays until the next mount. (this project's rule)
+-- An abort reaches the server: its kept replies and its copies go, and the rest stays until the next mount. (this
+-- project's rule)
 abbrev pub connection_lost : Server → Server
 connection_lost s = record s { kept = []; copies = []; aborted = true }
 
--- A mount empties the tables, the held requests, the kept replies and the copies; the tree, the generations, the open numbers and the copy numbers go on.
--- (this project's rule)
+-- A mount empties the tables, the held requests, the kept replies and the copies; the tree, the generations, the open
+-- numbers and the copy numbers go on. (this project's rule)
 abbrev pub remounted : Server → Validity → Minor → Server
 remounted s validity minor =
     without_unheld_files (record s {

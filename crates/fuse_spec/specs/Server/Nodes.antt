@@ -10,7 +10,8 @@ pub record HeldNode : Type 0 where
   pub generation : ℕ
   pub count : ℕ
 
--- The nodes by id, without the root, and the generation that is given next; no generation is given twice. (libfuse, low-level: generation)
+-- The nodes by id, without the root, and the generation that is given next; no generation is given twice. (libfuse,
+-- low-level: generation)
 pub record NodeTable : Type 0 where
   pub rows : Map HeldNode
   pub next_generation : ℕ
@@ -43,11 +44,13 @@ is_held t id generation = is_row_of generation (row_of t id)
 abbrev pub IsUnheld : NodeTable → ℕ → Type 0
 IsUnheld t file = (id : ℕ) (row : HeldNode) → get t.rows id ≡ Some row → row.file ≢ file
 
--- The id may name the file: it does already, or no node has the file and the id is any free one from 2 up. (this project's rule)
+-- The id may name the file: it does already, or no node has the file and the id is any free one from 2 up. (this
+-- project's rule)
 abbrev pub MayName : NodeTable → ℕ → ℕ → Type 0
 MayName t file id = MatchOption (get t.rows id) ((2 ≤ id) × IsUnheld t file) (λ row. row.file ≡ file)
 
--- The row of a file that is told in one more entry: one lookup more, or a new node of the next generation with one lookup. (libfuse, low-level: lookup)
+-- The row of a file that is told in one more entry: one lookup more, or a new node of the next generation with one
+-- lookup. (libfuse, low-level: lookup)
 abbrev pub given_row : NodeTable → ℕ → Option HeldNode → HeldNode
 given_row t file None = record { file = file; generation = t.next_generation; count = 1 }
 given_row t file (Some row) = record row { count = row.count + 1 }
@@ -59,7 +62,10 @@ generation_after t (Some row) = t.next_generation
 
 -- One lookup more of the file under this id; a new node has the next generation. (libfuse, low-level: lookup)
 abbrev pub given : NodeTable → ℕ → ℕ → NodeTable
-given t file id = record { rows = put t.rows id (given_row t file (get t.rows id)); next_generation = generation_after t (get t.rows id) }
+given t file id = record {
+  rows = put t.rows id (given_row t file (get t.rows id));
+  next_generation = generation_after t (get t.rows id);
+}
 
 -- The same for each of these files, under the ids that are chosen. (libfuse, low-level: lookup)
 abbrev pub all_given : (ℕ → ℕ) → NodeTable → List ℕ → NodeTable
@@ -71,19 +77,23 @@ abbrev pub MayChoose : (ℕ → ℕ) → NodeTable → List ℕ → Type 0
 MayChoose choice t [] = Unit {0}
 MayChoose choice t (file ∷ files) = MayName t file (choice file) × MayChoose choice (given t file (choice file)) files
 
--- Whether a node's lookups would come to the end of counters, once each of these files is told once more. (this project's rule)
+-- Whether a node's lookups would come to the end of counters, once each of these files is told once more. (this
+-- project's rule)
 abbrev pub counts_out : NodeTable → List ℕ → Bool
-counts_out t files = list_any (λ (row : HeldNode). nat_le counter_end (row.count + count_by (nat_eq row.file) files)) (values t.rows)
+counts_out t files = list_any (λ (row : HeldNode). nat_le counter_end (row.count + count_by (nat_eq row.file) files))
+    (values t.rows)
 
 -- The next two give so many lookups of a node back; at none left the node goes. (libfuse, low-level: forget)
 abbrev pub rows_less : Map HeldNode → ℕ → ℕ → Option HeldNode → Map HeldNode
 rows_less rows id n None = rows
-rows_less rows id n (Some row) = cond (nat_lt n row.count) (put rows id (record row { count = row.count - n })) (remove rows id)
+rows_less rows id n (Some row) = cond (nat_lt n row.count) (put rows id (record row { count = row.count - n }))
+    (remove rows id)
 
 abbrev pub taken_back : NodeTable → ℕ → ℕ → NodeTable
 taken_back t id n = record t { rows = rows_less t.rows id n (get t.rows id) }
 
--- An open number of the server: its file, and a count of one for each copy that carried it and was neither refused nor released. (this project's rule)
+-- An open number of the server: its file, and a count of one for each copy that carried it and was neither refused nor
+-- released. (this project's rule)
 pub record OpenNumber : Type 0 where
   pub file : ℕ
   pub count : ℕ
@@ -103,7 +113,10 @@ is_open t fh file = is_file_of file (get t.handles fh)
 
 -- The file is opened under the next number, with one use. (libfuse, low-level: open)
 abbrev pub handle_opened : HandleTable → ℕ → HandleTable
-handle_opened t file = record { handles = put t.handles t.next_fh (record { file = file; count = 1 }); next_fh = t.next_fh + 1 }
+handle_opened t file = record {
+  handles = put t.handles t.next_fh (record { file = file; count = 1 });
+  next_fh = t.next_fh + 1;
+}
 
 -- Each of these files is opened, in turn, under the next number. (libfuse, low-level: open)
 abbrev pub all_opened : HandleTable → List ℕ → HandleTable
@@ -113,7 +126,8 @@ all_opened t (file ∷ files) = all_opened (handle_opened t file) files
 -- The next two give one use of an open number back; at none left it goes. (libfuse, low-level: release)
 abbrev pub handles_less : Map OpenNumber → ℕ → Option OpenNumber → Map OpenNumber
 handles_less handles fh None = handles
-handles_less handles fh (Some handle) = cond (nat_lt 1 handle.count) (put handles fh (record handle { count = handle.count - 1 })) (remove handles fh)
+handles_less handles fh (Some handle) = cond (nat_lt 1 handle.count)
+    (put handles fh (record handle { count = handle.count - 1 })) (remove handles fh)
 
 abbrev pub handle_back : HandleTable → ℕ → HandleTable
 handle_back t fh = record t { handles = handles_less t.handles fh (get t.handles fh) }

@@ -30,16 +30,21 @@ is_open_for s (read o offset size) = is_open s.handles o.fh (file_of s.nodes o.n
 is_open_for s (write o offset bytes) = is_open s.handles o.fh (file_of s.nodes o.nodeid)
 is_open_for s operation = true
 
--- A file as an entry names it: by the id that is chosen for it, that node's generation, and its attributes. (linux/fuse.h, struct fuse_entry_out)
+-- A file as an entry names it: by the id that is chosen for it, that node's generation, and its attributes.
+-- (linux/fuse.h, struct fuse_entry_out)
 abbrev pub entry_for : (ℕ → ℕ) → NodeTable → Tree → ℕ → Entry
-entry_for choice t tree file = record { nodeid = choice file; generation = generation_in (row_of t (choice file)); attributes = attributes_of tree file }
+entry_for choice t tree file = record {
+  nodeid = choice file;
+  generation = generation_in (row_of t (choice file));
+  attributes = attributes_of tree file;
+}
 
 -- The reply of the tree, as it is sent: files by the ids that are chosen, an open file by the next number.
 abbrev pub wire_of : (ℕ → ℕ) → NodeTable → Tree → (fh : ℕ) → Reply ℕ ℕ → WireReply
 wire_of choice nodes tree fh reply = reply_with (entry_for choice nodes tree) (λ file. fh) reply
 
--- The operation is done, and nodes and open numbers are given for what the reply names. After an abort it is done, but nothing is given, and the reply says
--- only whether it failed.
+-- The operation is done, and nodes and open numbers are given for what the reply names. After an abort it is done, but
+-- nothing is given, and the reply says only whether it failed.
 abbrev pub doing : (ℕ → ℕ) → Server → FileOperation → PerformResult
 doing choice s operation =
     let tree = tree_after s.tree operation in
@@ -68,36 +73,42 @@ abbrev pub flags_known : Minor → ℕ
 flags_known M15 = async_read
 flags_known M31 = init_flags
 
--- The reply to an INIT that offers these flags: the minor that the server speaks, and those of the flags that it knows. (linux/fuse.h, struct fuse_init_out)
+-- The reply to an INIT that offers these flags: the minor that the server speaks, and those of the flags that it knows.
+-- (linux/fuse.h, struct fuse_init_out)
 abbrev pub init_reply : Minor → (flags : ℕ) → WireReply
 init_reply minor flags = agreed 7 (minor_number minor) (bit_and flags (flags_known minor))
 
--- What a held request asks is done: INIT is answered the minor, a read, write or RELEASE without its open number EBADF, and forgets and INTERRUPTs are never
--- held. (this project's rule)
+-- What a held request asks is done: INIT is answered the minor, a read, write or RELEASE without its open number EBADF,
+-- and forgets and INTERRUPTs are never held. (this project's rule)
 abbrev pub performing : (ℕ → ℕ) → Server → RequestBody → PerformResult
 performing choice s (init flags) = record { server = s; wire = init_reply s.minor flags }
-performing choice s (asks operation) = cond (is_open_for s operation) (doing choice s (file_operation_of s.nodes operation)) (refusing s ebadf)
+performing choice s (asks operation) = cond (is_open_for s operation)
+    (doing choice s (file_operation_of s.nodes operation)) (refusing s ebadf)
 performing choice s (release o) =
-    cond (is_open s.handles o.fh (file_of s.nodes o.nodeid)) (record { server = record s { handles = handle_back s.handles o.fh }; wire = done }) (refusing s ebadf)
+    cond (is_open s.handles o.fh (file_of s.nodes o.nodeid))
+    (record { server = record s { handles = handle_back s.handles o.fh }; wire = done }) (refusing s ebadf)
 performing choice s (forget f) = refusing s eio
 performing choice s (batch_forget fs) = refusing s eio
 performing choice s (interrupt original) = refusing s eio
 
--- Whether each node is still held under the generation that it had when the request was taken. (libfuse, low-level: generation)
+-- Whether each node is still held under the generation that it had when the request was taken. (libfuse, low-level:
+-- generation)
 abbrev pub is_still_held : NodeTable → List (ℕ × ℕ) → Bool
 is_still_held t generations = list_all (λ (g : ℕ × ℕ). is_held t g.0 g.1) generations
 
 -- A marked request is answered EINTR, one whose node is gone EIO, and any other is performed. (fuse.rst)
 abbrev pub performed : (ℕ → ℕ) → Server → HeldRequest → PerformResult
 performed choice s taken =
-    cond taken.marked (refusing s eintr) (cond (is_still_held s.nodes taken.generations) (performing choice s taken.body) (refusing s eio))
+    cond taken.marked (refusing s eintr) (cond (is_still_held s.nodes taken.generations)
+    (performing choice s taken.body) (refusing s eio))
 
 -- The reply is kept, and one copy of it goes out, unless the mount is aborted.
 abbrev pub replying : Server → ℕ → WireReply → Server
 replying s unique wire =
     record s {
       kept = cond s.aborted s.kept (put s.kept unique (record { wire = wire; first = s.next_copy }));
-      copies = cond s.aborted s.copies (put s.copies s.next_copy (record { unique = unique; wire = wire; first = s.next_copy }));
+      copies = cond s.aborted s.copies (put s.copies s.next_copy
+          (record { unique = unique; wire = wire; first = s.next_copy }));
       next_copy = cond s.aborted s.next_copy (s.next_copy + 1);
     }
 
@@ -109,13 +120,16 @@ served choice s unique taken =
 
 -- The files to which an operation gives nodes.
 abbrev pub files_by : Server → RequestBody → List ℕ
-files_by s (asks operation) = cond (is_open_for s operation) (files_in_reply (reply_by s.validity s.tree (file_operation_of s.nodes operation))) []
+files_by s (asks operation) = cond (is_open_for s operation)
+    (files_in_reply (reply_by s.validity s.tree (file_operation_of s.nodes operation))) []
 files_by s (init flags) = []
 files_by s (release o) = []
 files_by s (forget f) = []
 files_by s (batch_forget fs) = []
 files_by s (interrupt original) = []
 
--- The files to which performing the request gives nodes: none after an abort, nor if it is marked or one of its nodes is gone.
+-- The files to which performing the request gives nodes: none after an abort, nor if it is marked or one of its nodes
+-- is gone.
 abbrev pub files_given : Server → HeldRequest → List ℕ
-files_given s taken = cond (s.aborted || (taken.marked || not (is_still_held s.nodes taken.generations))) [] (files_by s taken.body)
+files_given s taken = cond (s.aborted || (taken.marked || not (is_still_held s.nodes taken.generations))) []
+    (files_by s taken.body)

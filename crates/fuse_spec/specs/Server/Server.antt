@@ -11,8 +11,8 @@ use Rattle.fuse_spec.specs.Kernel.Messages.{Forget, RequestBody, init, asks, rel
 use Rattle.fuse_spec.specs.Kernel.Kernel.{opened_nodes}
 use Rattle.fuse_spec.specs.Server.Nodes.{NodeTable, HeldNode, row_of, taken_back, HandleTable, OpenNumber}
 
--- A request that is held until it is performed: what it asks, the nodes that it names with their generations at that time, and whether an INTERRUPT marked
--- it. (this project's rule)
+-- A request that is held until it is performed: what it asks, the nodes that it names with their generations at that
+-- time, and whether an INTERRUPT marked it. (this project's rule)
 pub record HeldRequest : Type 0 where
   pub body : RequestBody
   pub generations : List (ℕ × ℕ)
@@ -29,8 +29,8 @@ pub record Copy : Type 0 where
   pub wire : WireReply
   pub first : ℕ
 
--- The server: its tree, its nodes and open files, the requests that it holds, its kept replies and its copies, the next copy's number, the validities, the
--- minor that it speaks, and whether the mount is aborted.
+-- The server: its tree, its nodes and open files, the requests that it holds, its kept replies and its copies, the next
+-- copy's number, the validities, the minor that it speaks, and whether the mount is aborted.
 pub record Server : Type 0 where
   pub tree : Tree
   pub nodes : NodeTable
@@ -89,24 +89,32 @@ abbrev pub count_in : Option HeldNode → ℕ
 count_in None = 0
 count_in (Some row) = row.count
 
--- The fault of a request: an opcode that the minor doesn't know, an unknown node, more forgets than lookups, or a unique that is held or whose reply is kept.
--- (this project's rule)
+-- The fault of a request: an opcode that the minor doesn't know, an unknown node, more forgets than lookups, or a
+-- unique that is held or whose reply is kept. (this project's rule)
 abbrev pub fault_of : Server → Request → Option RequestFault
 fault_of s request =
     cond (knows s.minor request.body)
-    (cond (list_all (is_known s.nodes) (nodes_of_body request.body) && list_all (is_forgettable s.nodes) (forgets_of request.body))
-    (cond (list_any (λ f. nat_lt (count_in (get s.nodes.rows f.0)) (forgotten f.0 (forgets_of request.body))) (forgets_of request.body)) (Some too_many_forgets)
+    (cond (list_all (is_known s.nodes) (nodes_of_body request.body)
+    && list_all (is_forgettable s.nodes) (forgets_of request.body))
+    (cond (list_any (λ f. nat_lt (count_in (get s.nodes.rows f.0)) (forgotten f.0 (forgets_of request.body)))
+    (forgets_of request.body)) (Some too_many_forgets)
     (cond (is_some (get s.held request.unique) || is_some (get s.kept request.unique)) (Some repeated_unique) None))
     (Some unknown_node))
     (Some unknown_opcode)
 
 -- Whether a node but the root, or an open number, holds the file. (libfuse, low-level: forget)
 abbrev pub is_file_held : Server → ℕ → Bool
-is_file_held s file = list_any (λ (row : HeldNode). nat_eq row.file file) (values s.nodes.rows) || list_any (λ (h : OpenNumber). nat_eq h.file file) (values s.handles.handles)
+is_file_held s file = list_any (λ (row : HeldNode). nat_eq row.file file) (values s.nodes.rows)
+    || list_any (λ (h : OpenNumber). nat_eq h.file file) (values s.handles.handles)
 
 -- The server without the nameless files that no node and no open number holds. (libfuse, low-level: unlink)
 abbrev pub without_unheld_files : Server → Server
-without_unheld_files s = record s { tree = record s.tree { files = filter (λ e. not (is_nameless s.tree e.0) || is_file_held s e.0) s.tree.files } }
+without_unheld_files s = record s {
+  tree = record s.tree {
+    files =
+        filter (λ e. not (is_nameless s.tree e.0) || is_file_held s e.0) s.tree.files;
+  };
+}
 
 -- The lookups are given back, pair by pair. (libfuse, low-level: forget)
 abbrev pub all_taken_back : NodeTable → List Forget → NodeTable
@@ -118,10 +126,17 @@ abbrev pub generation_in : Option HeldNode → ℕ
 generation_in None = 0
 generation_in (Some row) = row.generation
 
--- A request is held under its unique, with the generations that its nodes have now, and not marked. (this project's rule)
+-- A request is held under its unique, with the generations that its nodes have now, and not marked. (this project's
+-- rule)
 abbrev pub holding : Server → ℕ → RequestBody → Server
 holding s unique body =
-    record s { held = put s.held unique (record { body = body; generations = map (λ id. (id, generation_in (row_of s.nodes id))) (nodes_of_body body); marked = false }) }
+    record s {
+      held = put s.held unique (record {
+        body = body;
+        generations = map (λ id. (id, generation_in (row_of s.nodes id))) (nodes_of_body body);
+        marked = false;
+      });
+    }
 
 -- The lookups are given back, and nameless files that nothing holds then go. (libfuse, low-level: forget)
 abbrev pub forgetting : Server → List Forget → Server
@@ -129,4 +144,8 @@ forgetting s fs = without_unheld_files (record s { nodes = all_taken_back s.node
 
 -- One copy of a reply goes out, under the next copy number.
 abbrev pub sending : Server → ℕ → WireReply → ℕ → Server
-sending s unique wire first = record s { copies = put s.copies s.next_copy (record { unique = unique; wire = wire; first = first }); next_copy = s.next_copy + 1 }
+sending s unique wire first = record s {
+  copies =
+      put s.copies s.next_copy (record { unique = unique; wire = wire; first = first });
+  next_copy = s.next_copy + 1;
+}

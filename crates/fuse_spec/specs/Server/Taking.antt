@@ -14,13 +14,24 @@ pub record TakeResult : Type 0 where
   pub server : Server
   pub reply : Option WireReply
 
--- An INTERRUPT marks an original that is held, is ignored while the original's reply is kept, and else is answered EAGAIN. (fuse.rst)
+-- An INTERRUPT marks an original that is held, is ignored while the original's reply is kept, and else is answered
+-- EAGAIN. (fuse.rst)
 abbrev pub interrupting : Server → (unique original : ℕ) → Option HeldRequest → Option Kept → TakeResult
-interrupting s unique original (Some taken) kept = record { word = Marked; server = record s { held = put s.held original (record taken { marked = true }) }; reply = None }
+interrupting s unique original (Some taken) kept =
+    record {
+      word = Marked;
+      server = record s { held = put s.held original (record taken { marked = true }) };
+      reply = None;
+    }
 interrupting s unique original None (Some kept) = record { word = Ignored; server = s; reply = None }
-interrupting s unique original None None = record { word = Again; server = sending s unique (failed eagain) s.next_copy; reply = Some (failed eagain) }
+interrupting s unique original None None = record {
+  word = Again;
+  server = sending s unique (failed eagain) s.next_copy;
+  reply = Some (failed eagain);
+}
 
--- A request is taken: forgets and INTERRUPTs are done at once, and any other request is held until it is performed. (this project's rule)
+-- A request is taken: forgets and INTERRUPTs are done at once, and any other request is held until it is performed.
+-- (this project's rule)
 abbrev pub taking : Server → ℕ → RequestBody → TakeResult
 taking s unique (init flags) = record { word = Held; server = holding s unique (init flags); reply = None }
 taking s unique (asks operation) = record { word = Held; server = holding s unique (asks operation); reply = None }

@@ -73,7 +73,12 @@ records_0 =
     outcome (event.taken 8 word.Held) ∷
     outcome (event.performed 8 0 false) ∷
     outcome (event.written 8 result.Accepted) ∷
-    answered 3 (answer.listing (record { ino = 2; offset = 1; kind = kind.Directory; name = codes "a" } ∷ record { ino = 3; offset = 2; kind = kind.Regular; name = codes "bb" } ∷ [])) ∷
+    answered 3 (answer.listing (record {
+      ino = 2;
+      offset = 1;
+      kind = kind.Directory;
+      name = codes "a";
+    } ∷ record { ino = 3; offset = 2; kind = kind.Regular; name = codes "bb" } ∷ [])) ∷
     outcome (event.settled 8 result.Accepted) ∷
     outcome (event.begun 4) ∷
     outcome (event.is_read 10) ∷

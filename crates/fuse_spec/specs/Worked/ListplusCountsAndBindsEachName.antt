@@ -11,7 +11,8 @@ use Rattle.fuse_spec.specs.declared.Taken.TheVariants as word
 use Rattle.fuse_spec.specs.declared.WriteResult.TheVariants as result
 use Rattle.fuse_spec.specs.declared.Kind.TheVariants as kind
 
--- The events of the run and of its further parts, what both worlds have to record of them, and both worlds after them. (this project's rule)
+-- The events of the run and of its further parts, what both worlds have to record of them, and both worlds after them.
+-- (this project's rule)
 abbrev pub events_0 : List Event
 events_0 =
     event.mount 1000 0 minor.M31 ∷
@@ -69,7 +70,12 @@ records_0 =
     outcome (event.taken 8 word.Held) ∷
     outcome (event.performed 8 0 false) ∷
     outcome (event.written 8 result.Accepted) ∷
-    answered 3 (answer.listing (record { ino = 2; offset = 1; kind = kind.Directory; name = codes "a" } ∷ record { ino = 3; offset = 2; kind = kind.Regular; name = codes "bb" } ∷ [])) ∷
+    answered 3 (answer.listing (record {
+      ino = 2;
+      offset = 1;
+      kind = kind.Directory;
+      name = codes "a";
+    } ∷ record { ino = 3; offset = 2; kind = kind.Regular; name = codes "bb" } ∷ [])) ∷
     outcome (event.settled 8 result.Accepted) ∷
     []
 
@@ -102,4 +108,5 @@ worlds_1 = after_all (emptied worlds_0) events_1
 
 -- Both worlds record this, and the kernel and the server hold these nodes. (this project's rule)
 abbrev pub IsComputed : Type 0
-IsComputed = IsRecorded worlds_0 records_0 × (nodes_shown worlds_0 ≡ (((2, 1, 2) ∷ (3, 2, 2) ∷ []), ((2, 1, 2) ∷ (3, 2, 2) ∷ []))) × IsRecorded worlds_1 records_1
+IsComputed = IsRecorded worlds_0 records_0 × (nodes_shown worlds_0
+    ≡ (((2, 1, 2) ∷ (3, 2, 2) ∷ []), ((2, 1, 2) ∷ (3, 2, 2) ∷ []))) × IsRecorded worlds_1 records_1

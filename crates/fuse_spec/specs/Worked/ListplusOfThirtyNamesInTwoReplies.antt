@@ -443,14 +443,150 @@ records_0 =
     outcome (event.taken 64 word.Held) ∷
     outcome (event.performed 64 0 false) ∷
     outcome (event.written 64 result.Accepted) ∷
-    answered 31 (answer.listing (record { ino = 2; offset = 1; kind = kind.Directory; name = codes "d00" } ∷ record { ino = 3; offset = 2; kind = kind.Directory; name = codes "d01" } ∷ record { ino = 4; offset = 3; kind = kind.Directory; name = codes "d02" } ∷ record { ino = 5; offset = 4; kind = kind.Directory; name = codes "d03" } ∷ record { ino = 6; offset = 5; kind = kind.Directory; name = codes "d04" } ∷ record { ino = 7; offset = 6; kind = kind.Directory; name = codes "d05" } ∷ record { ino = 8; offset = 7; kind = kind.Directory; name = codes "d06" } ∷ record { ino = 9; offset = 8; kind = kind.Directory; name = codes "d07" } ∷ record { ino = 10; offset = 9; kind = kind.Directory; name = codes "d08" } ∷ record { ino = 11; offset = 10; kind = kind.Directory; name = codes "d09" } ∷ record { ino = 12; offset = 11; kind = kind.Directory; name = codes "d10" } ∷ record { ino = 13; offset = 12; kind = kind.Directory; name = codes "d11" } ∷ record { ino = 14; offset = 13; kind = kind.Directory; name = codes "d12" } ∷ record { ino = 15; offset = 14; kind = kind.Directory; name = codes "d13" } ∷ record { ino = 16; offset = 15; kind = kind.Directory; name = codes "d14" } ∷ record { ino = 17; offset = 16; kind = kind.Directory; name = codes "d15" } ∷ record { ino = 18; offset = 17; kind = kind.Directory; name = codes "d16" } ∷ record { ino = 19; offset = 18; kind = kind.Directory; name = codes "d17" } ∷ record { ino = 20; offset = 19; kind = kind.Directory; name = codes "d18" } ∷ record { ino = 21; offset = 20; kind = kind.Directory; name = codes "d19" } ∷ record { ino = 22; offset = 21; kind = kind.Directory; name = codes "d20" } ∷ record { ino = 23; offset = 22; kind = kind.Directory; name = codes "d21" } ∷ record { ino = 24; offset = 23; kind = kind.Directory; name = codes "d22" } ∷ record { ino = 25; offset = 24; kind = kind.Directory; name = codes "d23" } ∷ record { ino = 26; offset = 25; kind = kind.Directory; name = codes "d24" } ∷ [])) ∷
+    answered 31 (answer.listing (record {
+      ino = 2;
+      offset = 1;
+      kind = kind.Directory;
+      name = codes "d00";
+    } ∷ record {
+      ino = 3;
+      offset = 2;
+      kind = kind.Directory;
+      name =
+          codes "d01";
+    } ∷ record { ino = 4; offset = 3; kind = kind.Directory; name = codes "d02" } ∷ record {
+      ino =
+          5;
+      offset = 4;
+      kind = kind.Directory;
+      name = codes "d03";
+    } ∷ record {
+      ino = 6;
+      offset = 5;
+      kind =
+          kind.Directory;
+      name = codes "d04";
+    } ∷ record {
+      ino = 7;
+      offset = 6;
+      kind = kind.Directory;
+      name =
+          codes "d05";
+    } ∷ record { ino = 8; offset = 7; kind = kind.Directory; name = codes "d06" } ∷ record {
+      ino =
+          9;
+      offset = 8;
+      kind = kind.Directory;
+      name = codes "d07";
+    } ∷ record {
+      ino = 10;
+      offset = 9;
+      kind =
+          kind.Directory;
+      name = codes "d08";
+    } ∷ record {
+      ino = 11;
+      offset = 10;
+      kind = kind.Directory;
+      name =
+          codes "d09";
+    } ∷ record { ino = 12; offset = 11; kind = kind.Directory; name = codes "d10" } ∷ record {
+      ino =
+          13;
+      offset = 12;
+      kind = kind.Directory;
+      name = codes "d11";
+    } ∷ record {
+      ino = 14;
+      offset = 13;
+      kind =
+          kind.Directory;
+      name = codes "d12";
+    } ∷ record {
+      ino = 15;
+      offset = 14;
+      kind = kind.Directory;
+      name =
+          codes "d13";
+    } ∷ record { ino = 16; offset = 15; kind = kind.Directory; name = codes "d14" } ∷ record {
+      ino =
+          17;
+      offset = 16;
+      kind = kind.Directory;
+      name = codes "d15";
+    } ∷ record {
+      ino = 18;
+      offset = 17;
+      kind =
+          kind.Directory;
+      name = codes "d16";
+    } ∷ record {
+      ino = 19;
+      offset = 18;
+      kind = kind.Directory;
+      name =
+          codes "d17";
+    } ∷ record { ino = 20; offset = 19; kind = kind.Directory; name = codes "d18" } ∷ record {
+      ino =
+          21;
+      offset = 20;
+      kind = kind.Directory;
+      name = codes "d19";
+    } ∷ record {
+      ino = 22;
+      offset = 21;
+      kind =
+          kind.Directory;
+      name = codes "d20";
+    } ∷ record {
+      ino = 23;
+      offset = 22;
+      kind = kind.Directory;
+      name =
+          codes "d21";
+    } ∷ record { ino = 24; offset = 23; kind = kind.Directory; name = codes "d22" } ∷ record {
+      ino =
+          25;
+      offset = 24;
+      kind = kind.Directory;
+      name = codes "d23";
+    } ∷ record {
+      ino = 26;
+      offset = 25;
+      kind =
+          kind.Directory;
+      name = codes "d24";
+    } ∷ [])) ∷
     outcome (event.settled 64 result.Accepted) ∷
     outcome (event.begun 32) ∷
     outcome (event.is_read 66) ∷
     outcome (event.taken 66 word.Held) ∷
     outcome (event.performed 66 0 false) ∷
     outcome (event.written 66 result.Accepted) ∷
-    answered 32 (answer.listing (record { ino = 27; offset = 26; kind = kind.Directory; name = codes "d25" } ∷ record { ino = 28; offset = 27; kind = kind.Directory; name = codes "d26" } ∷ record { ino = 29; offset = 28; kind = kind.Directory; name = codes "d27" } ∷ record { ino = 30; offset = 29; kind = kind.Directory; name = codes "d28" } ∷ record { ino = 31; offset = 30; kind = kind.Directory; name = codes "d29" } ∷ [])) ∷
+    answered 32 (answer.listing (record {
+      ino = 27;
+      offset = 26;
+      kind = kind.Directory;
+      name = codes "d25";
+    } ∷ record {
+      ino = 28;
+      offset = 27;
+      kind = kind.Directory;
+      name =
+          codes "d26";
+    } ∷ record { ino = 29; offset = 28; kind = kind.Directory; name = codes "d27" } ∷ record {
+      ino =
+          30;
+      offset = 29;
+      kind = kind.Directory;
+      name = codes "d28";
+    } ∷ record {
+      ino = 31;
+      offset = 30;
+      kind =
+          kind.Directory;
+      name = codes "d29";
+    } ∷ [])) ∷
     outcome (event.settled 66 result.Accepted) ∷
     outcome (event.begun 33) ∷
     outcome (event.is_read 68) ∷

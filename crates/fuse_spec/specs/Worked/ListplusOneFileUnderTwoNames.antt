@@ -67,7 +67,12 @@ records_0 =
     outcome (event.taken 8 word.Held) ∷
     outcome (event.performed 8 0 false) ∷
     outcome (event.written 8 result.Accepted) ∷
-    answered 3 (answer.listing (record { ino = 2; offset = 1; kind = kind.Regular; name = codes "a" } ∷ record { ino = 2; offset = 2; kind = kind.Regular; name = codes "b" } ∷ [])) ∷
+    answered 3 (answer.listing (record {
+      ino = 2;
+      offset = 1;
+      kind = kind.Regular;
+      name = codes "a";
+    } ∷ record { ino = 2; offset = 2; kind = kind.Regular; name = codes "b" } ∷ [])) ∷
     outcome (event.settled 8 result.Accepted) ∷
     []
 

@@ -11,7 +11,8 @@ use Rattle.fuse_spec.specs.declared.Taken.TheVariants as word
 use Rattle.fuse_spec.specs.declared.WriteResult.TheVariants as result
 use Rattle.fuse_spec.specs.declared.Kind.TheVariants as kind
 
--- The events of the run and of its further parts, what both worlds have to record of them, and both worlds after them. (this project's rule)
+-- The events of the run and of its further parts, what both worlds have to record of them, and both worlds after them.
+-- (this project's rule)
 abbrev pub events_0 : List Event
 events_0 =
     event.mount 1000 0 minor.M31 ∷
@@ -72,7 +73,12 @@ records_0 =
     outcome (event.performed 8 0 false) ∷
     outcome (event.sent_again 8) ∷
     outcome (event.written 8 result.Accepted) ∷
-    answered 3 (answer.listing (record { ino = 2; offset = 1; kind = kind.Directory; name = codes "a" } ∷ record { ino = 3; offset = 2; kind = kind.Regular; name = codes "bb" } ∷ [])) ∷
+    answered 3 (answer.listing (record {
+      ino = 2;
+      offset = 1;
+      kind = kind.Directory;
+      name = codes "a";
+    } ∷ record { ino = 3; offset = 2; kind = kind.Regular; name = codes "bb" } ∷ [])) ∷
     outcome (event.written 8 result.NoEntry) ∷
     outcome (event.settled 8 result.Accepted) ∷
     []
@@ -95,4 +101,6 @@ worlds_1 = after_all (emptied worlds_0) events_1
 
 -- Both worlds record this, and the kernel and the server hold these nodes. (this project's rule)
 abbrev pub IsComputed : Type 0
-IsComputed = IsRecorded worlds_0 records_0 × (nodes_shown worlds_0 ≡ (((2, 1, 2) ∷ (3, 2, 2) ∷ []), ((2, 1, 3) ∷ (3, 2, 3) ∷ []))) × IsRecorded worlds_1 records_1 × (nodes_shown worlds_1 ≡ (((2, 1, 2) ∷ (3, 2, 2) ∷ []), ((2, 1, 2) ∷ (3, 2, 2) ∷ [])))
+IsComputed = IsRecorded worlds_0 records_0 × (nodes_shown worlds_0
+    ≡ (((2, 1, 2) ∷ (3, 2, 2) ∷ []), ((2, 1, 3) ∷ (3, 2, 3) ∷ []))) × IsRecorded worlds_1 records_1
+    × (nodes_shown worlds_1 ≡ (((2, 1, 2) ∷ (3, 2, 2) ∷ []), ((2, 1, 2) ∷ (3, 2, 2) ∷ [])))

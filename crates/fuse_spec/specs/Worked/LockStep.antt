@@ -24,7 +24,8 @@ id_or free (Some e) = e.0
 
 -- The id that the file has, or else the least free one.
 abbrev pub chosen : World → ℕ → ℕ
-chosen w file = id_or (least_free w.server.nodes.rows 2) (find (λ (e : ℕ × HeldNode). nat_eq e.1.file file) w.server.nodes.rows)
+chosen w file = id_or (least_free w.server.nodes.rows 2)
+    (find (λ (e : ℕ × HeldNode). nat_eq e.1.file file) w.server.nodes.rows)
 
 -- The two worlds, and what each has recorded. The plain world is gone once it can't take the steps of an outcome.
 pub record Both : Type 0 where
@@ -38,8 +39,8 @@ abbrev pub number_or : ℕ → Option ℕ → ℕ
 number_or other None = other
 number_or other (Some n) = n
 
--- The label that the plain world's step takes: the unique that the kernel gives next, that of the request of the call that is signalled, or the file of a
--- dropped name's directory.
+-- The label that the plain world's step takes: the unique that the kernel gives next, that of the request of the call
+-- that is signalled, or the file of a dropped name's directory.
 abbrev pub label : World → Event → ℕ
 label w (event.drop_name node name) = file_of w.server.nodes node
 label w (event.intr call fatal) = number_or 0 (request_of w.kernel call)
@@ -57,7 +58,10 @@ plain_answers (Some p) = answers_of p.vfs.answers
 
 -- Both worlds after an event, with what each records and with the answers collected; a refused event is recorded alone.
 abbrev pub moved : Both → Event → Stepped → Both
-moved b e (Err refusal) = record b { records = b.records ++ refused refusal ∷ []; plain_records = b.plain_records ++ refused refusal ∷ [] }
+moved b e (Err refusal) = record b {
+  records = b.records ++ refused refusal ∷ [];
+  plain_records = b.plain_records ++ refused refusal ∷ [];
+}
 moved b e (Ok parts) =
     let p = taken b.world e parts.0 b.plain in
     record {
@@ -86,5 +90,7 @@ IsRecorded b expected = (b.records ≡ expected) × (b.plain_records ≡ expecte
 
 -- The kernel's nodes and the server's: id, generation and count.
 abbrev pub nodes_shown : Both → List (ℕ × ℕ × ℕ) × List (ℕ × ℕ × ℕ)
-nodes_shown b =
-    (map (λ (e : ℕ × Counted). (e.0, e.1.generation, e.1.count)) b.world.kernel.nodes, map (λ (e : ℕ × HeldNode). (e.0, e.1.generation, e.1.count)) b.world.server.nodes.rows)
+nodes_shown b = (
+  map (λ (e : ℕ × Counted). (e.0, e.1.generation, e.1.count)) b.world.kernel.nodes,
+  map (λ (e : ℕ × HeldNode). (e.0, e.1.generation, e.1.count)) b.world.server.nodes.rows,
+)

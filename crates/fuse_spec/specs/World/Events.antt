@@ -7,7 +7,8 @@ use Rattle.fuse_spec.specs.declared.IntrEffect.{IntrEffect}
 use Rattle.fuse_spec.specs.declared.WriteResult.{WriteResult}
 use Rattle.fuse_spec.specs.declared.Taken.{Taken}
 
--- What may happen in one atomic step; a place k counts from 0 among the pending requests or on a link. (this project's rule)
+-- What may happen in one atomic step; a place k counts from 0 among the pending requests or on a link. (this project's
+-- rule)
 pub data Event : Type 0 where
   mount : (found_ms missing_ms : ℕ) (minor : Minor) → Event
   call : (call : Call) → Event

@@ -1,4 +1,5 @@
--- What a run of events records: of each event its outcome or refusal, and then the answers of the calls that it answered.
+-- What a run of events records: of each event its outcome or refusal, and then the answers of the calls that it
+-- answered.
 use Rattle.std.specs.Prelude.{ℕ, List, [], map}
 use Rattle.fuse_spec.specs.declared.Refusal.{Refusal}
 use Rattle.fuse_spec.specs.Values.Maps.{Map}

@@ -1,4 +1,5 @@
--- One event: exactly which refusal it gets, or what it does. The server may choose the ids that it gives; all else is determined.
+-- One event: exactly which refusal it gets, or what it does. The server may choose the ids that it gives; all else is
+-- determined.
 use Rattle.std.specs.Prelude.{◌≡◌, ◌⊎◌, ℕ, ◌+◌, Bool, true, false, ◌&&◌, ◌||◌, cond, not, List, [], ◌∷◌, Option, Some, None, Result, Ok, Err, length, nat_eq, nat_lt, nat_le, slice_get, max}
 use Rattle.std.specs.List.{list_any}
 use Rattle.fuse_spec.specs.Values.Maps.{get, get_name, values}
@@ -47,8 +48,10 @@ is_counted_out k = list_any (λ (node : Counted). nat_le counter_end node.count)
 abbrev pub is_past : World → Bool
 is_past w =
     nat_lt counter_end w.kernel.queues.next || (nat_lt counter_end w.kernel.vfs.next_call
-    || (nat_lt counter_end w.server.tree.next_birth || (nat_lt counter_end w.server.tree.next_serial || (nat_lt counter_end w.server.nodes.next_generation
-    || (nat_lt counter_end w.server.handles.next_fh || (nat_lt counter_end w.server.next_copy || is_counted_out w.kernel))))))
+    || (nat_lt counter_end w.server.tree.next_birth ||
+    (nat_lt counter_end w.server.tree.next_serial || (nat_lt counter_end w.server.nodes.next_generation
+    || (nat_lt counter_end w.server.handles.next_fh ||
+    (nat_lt counter_end w.server.next_copy || is_counted_out w.kernel))))))
 
 -- The outcome, unless a counter would have to go past its end or a node's count to come to it.
 abbrev pub going : Outcome → World → Stepped
@@ -71,12 +74,14 @@ when_live w stepped = unless (not (is_live w.kernel.phase)) refusal.NotReady ste
 
 -- While an interrupt is queued, nothing else may be read. (fuse.rst)
 abbrev pub when_not_interrupted : World → Stepped → Stepped
-when_not_interrupted w stepped = unless (not (nat_eq (length w.kernel.queues.interrupts) 0)) refusal.InterruptFirst stepped
+when_not_interrupted w stepped = unless (not (nat_eq
+    (length w.kernel.queues.interrupts) 0)) refusal.InterruptFirst stepped
 
 -- The oldest INTERRUPT is read, or there is none.
 abbrev pub reading_interrupt : World → List ℕ → Stepped
 reading_interrupt w [] = Err refusal.NoSuch
-reading_interrupt w (original ∷ rest) = going (event.is_read (interrupt_number original)) (after_read_interrupt w original)
+reading_interrupt w (original ∷ rest) = going (event.is_read (interrupt_number original))
+    (after_read_interrupt w original)
 
 -- So many forgets are read as one request, or they aren't there.
 abbrev pub reading_forgets : World → ℕ → Option (ℕ × List Forget) → Stepped
@@ -104,20 +109,23 @@ taking_request w k (Some request) = taken_as w k request.unique (taking w.server
 
 -- A held request is performed, with the error of its reply.
 abbrev pub performed_as : World → ℕ → PerformResult → Stepped
-performed_as w unique did = going (event.performed unique (errno_of did.wire) w.server.aborted) (after_perform w unique did)
+performed_as w unique did = going (event.performed unique (errno_of did.wire) w.server.aborted)
+    (after_perform w unique did)
 
 -- The held request under this unique is performed, or there is none.
 abbrev pub performing_held : (ℕ → ℕ) → World → ℕ → Option HeldRequest → Stepped
 performing_held choice w unique None = Err refusal.NoSuch
 performing_held choice w unique (Some taken) =
-    unless (counts_out w.server.nodes (files_given w.server taken)) refusal.Exhausted (performed_as w unique (served choice w.server unique taken))
+    unless (counts_out w.server.nodes (files_given w.server taken)) refusal.Exhausted
+    (performed_as w unique (served choice w.server unique taken))
 
 -- One more copy of a kept reply goes out; none where no reply is kept, or what it names is gone.
 abbrev pub sending_again : World → ℕ → Option Kept → Stepped
 sending_again w unique None = Err refusal.NoCopy
 sending_again w unique (Some kept) =
     unless (not (is_current w.server kept.wire)) refusal.NoCopy
-    (unless (counts_out w.server.nodes (files_named w.server kept.wire)) refusal.Exhausted (going (event.sent_again unique) (after_again w unique kept)))
+    (unless (counts_out w.server.nodes (files_named w.server kept.wire)) refusal.Exhausted
+    (going (event.sent_again unique) (after_again w unique kept)))
 
 -- A copy is taken by the kernel, with the result for its writer.
 abbrev pub written_as : World → ℕ → Sent → WriteResult × Kernel → Stepped
@@ -131,7 +139,10 @@ writing_copy w k (Some sent) = written_as w k sent (reply_written w.kernel sent.
 -- The result at this place of its link is taken by the server, or there is none.
 abbrev pub settling : World → ℕ → Option ReplyResult → Stepped
 settling w k None = Err refusal.NoSuch
-settling w k (Some result) = Ok (event.settled result.unique result.result, after_settle w k result (get w.server.copies result.number))
+settling w k (Some result) = Ok (
+  event.settled result.unique result.result,
+  after_settle w k result (get w.server.copies result.number),
+)
 
 -- A call is signalled, with the effect of the signal.
 abbrev pub signalled_as : World → ℕ → IntrEffect × Kernel → Stepped
@@ -151,32 +162,39 @@ dropping after (Some bound) = Ok (event.dropped, after)
 abbrev pub evicting : World → ℕ → Option Counted → Stepped
 evicting w node None = Err refusal.NoSuch
 evicting w node (Some counted) =
-    unless (is_pinned w.kernel node || is_bound w.kernel node) refusal.Busy (Ok (event.evicted node counted.count, after_evict w node counted))
+    unless (is_pinned w.kernel node || is_bound w.kernel node) refusal.Busy
+    (Ok (event.evicted node counted.count, after_evict w node counted))
 
--- The event in this world, with these ids for the files that get a node. The refusals stand in the order in which they are judged. Want of memory, which
--- comes last, isn't a matter of the state. (this project's rule)
+-- The event in this world, with these ids for the files that get a node. The refusals stand in the order in which they
+-- are judged. Want of memory, which comes last, isn't a matter of the state. (this project's rule)
 abbrev pub step : (ℕ → ℕ) → World → Event → Stepped
 step choice w (event.mount found_ms missing_ms minor) =
-    unless (nat_lt max_validity (max found_ms missing_ms)) refusal.BadTime (unless (is_busy w.kernel) refusal.Busy (Ok (event.mounted, after_mount w found_ms missing_ms minor)))
+    unless (nat_lt max_validity (max found_ms missing_ms)) refusal.BadTime
+    (unless (is_busy w.kernel) refusal.Busy (Ok (event.mounted, after_mount w found_ms missing_ms minor)))
 step choice w (event.call call) =
-    unless (not (is_ready w.kernel.phase)) refusal.NotReady (unless (nat_le max_calls (length w.kernel.vfs.calls)) refusal.Full
+    unless (not (is_ready w.kernel.phase)) refusal.NotReady
+    (unless (nat_le max_calls (length w.kernel.vfs.calls)) refusal.Full
     (going (event.begun w.kernel.vfs.next_call) (after_call w call)))
 step choice w event.read_interrupt = when_live w (reading_interrupt w w.kernel.queues.interrupts)
-step choice w (event.read_forgets n) = when_live w (when_not_interrupted w (reading_forgets w n (forgets_read w.kernel n)))
-step choice w (event.read_pending k) = when_live w (when_not_interrupted w (reading_pending w k (pending_at w.kernel.queues k)))
+step choice w (event.read_forgets n) = when_live w
+    (when_not_interrupted w (reading_forgets w n (forgets_read w.kernel n)))
+step choice w (event.read_pending k) = when_live w
+    (when_not_interrupted w (reading_pending w k (pending_at w.kernel.queues k)))
 step choice w (event.take k) = taking_request w k (slice_get w.requests k)
 step choice w (event.perform unique) = performing_held choice w unique (get w.server.held unique)
 step choice w (event.again unique) = sending_again w unique (get w.server.kept unique)
 step choice w (event.write k) = writing_copy w k (slice_get w.replies k)
 step choice w (event.settle k) = settling w k (slice_get w.results k)
 step choice w (event.intr call fatal) = when_live w (signalling w call fatal (get w.kernel.vfs.calls call))
-step choice w (event.tick ms) = unless (nat_le clock_end (w.kernel.vfs.clock + ms)) refusal.BadTime (Ok (event.now (w.kernel.vfs.clock + ms), after_tick w ms))
+step choice w (event.tick ms) = unless (nat_le clock_end (w.kernel.vfs.clock + ms)) refusal.BadTime
+    (Ok (event.now (w.kernel.vfs.clock + ms), after_tick w ms))
 step choice w (event.drop_name directory name) =
     when_live w (dropping (after_drop w directory name) (get_name w.kernel.vfs.names (directory, name)))
 step choice w (event.evict node) = when_live w (evicting w node (get w.kernel.nodes node))
 step choice w event.abort = when_live w (Ok (event.aborted, after_abort w))
 
--- Which ids the server may choose for the files that get a node in this event: the id that a file has, or else any free one. (this project's rule)
+-- Which ids the server may choose for the files that get a node in this event: the id that a file has, or else any free
+-- one. (this project's rule)
 abbrev pub MayChooseFor : (ℕ → ℕ) → World → Option HeldRequest → Type 0
 MayChooseFor choice w None = Unit {0}
 MayChooseFor choice w (Some taken) = MayChoose choice w.server.nodes (files_given w.server taken)

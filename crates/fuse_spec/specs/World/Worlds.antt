@@ -28,7 +28,8 @@ pub record Sent : Type 0 where
   pub unique : ℕ
   pub wire : WireReply
 
--- The world: one kernel, one server, and the three links with the requests, the copies of replies and their results that are on their way.
+-- The world: one kernel, one server, and the three links with the requests, the copies of replies and their results
+-- that are on their way.
 pub record World : Type 0 where
   pub kernel : Kernel
   pub server : Server
@@ -60,7 +61,8 @@ requesting w unique body = record w { requests = w.requests ++ record { unique =
 -- The oldest INTERRUPT goes onto the request link, under the number of its original with the lowest bit set. (fuse.rst)
 abbrev pub after_read_interrupt : World → (original : ℕ) → World
 after_read_interrupt w original =
-    requesting (record w { kernel = record w.kernel { queues = queues.after_read_interrupt w.kernel.queues } }) (interrupt_number original) (interrupt original)
+    requesting (record w { kernel = record w.kernel { queues = queues.after_read_interrupt w.kernel.queues } })
+    (interrupt_number original) (interrupt original)
 
 -- The request that forgets these: FORGET for one, else BATCH_FORGET. (linux/fuse.h, struct fuse_batch_forget_in)
 abbrev pub forget_body : List Forget → RequestBody
@@ -71,28 +73,46 @@ forget_body (f ∷ g ∷ fs) = batch_forget (f ∷ g ∷ fs)
 -- So many forgets go onto the request link as one request, which draws a number. (this project's rule)
 abbrev pub after_read_forgets : World → ℕ → List Forget → World
 after_read_forgets w n read =
-    requesting (record w { kernel = record w.kernel { queues = queues.after_read_forgets w.kernel.queues n } }) w.kernel.queues.next (forget_body read)
+    requesting (record w {
+      kernel = record w.kernel {
+        queues =
+            queues.after_read_forgets w.kernel.queues n;
+      };
+    }) w.kernel.queues.next (forget_body read)
 
 -- A pending request goes onto the request link, and is in processing. (fuse.rst)
 abbrev pub after_read_pending : World → (k unique : ℕ) → RequestBody → World
-after_read_pending w k unique body = requesting (record w { kernel = record w.kernel { queues = queues.after_read_pending w.kernel.queues k } }) unique body
+after_read_pending w k unique body = requesting (record w {
+  kernel =
+      record w.kernel { queues = queues.after_read_pending w.kernel.queues k };
+}) unique body
 
 -- A copy goes onto the reply link, if there is one.
 abbrev pub replying : World → (number unique : ℕ) → Option WireReply → World
 replying w number unique None = w
-replying w number unique (Some wire) = record w { replies = w.replies ++ record { number = number; unique = unique; wire = wire } ∷ [] }
+replying w number unique (Some wire) = record w {
+  replies = w.replies
+      ++ record { number = number; unique = unique; wire = wire } ∷ [];
+}
 
--- The server takes the request at this place of the request link, and a reply that it gives at once goes onto the reply link.
+-- The server takes the request at this place of the request link, and a reply that it gives at once goes onto the reply
+-- link.
 abbrev pub after_take : World → ℕ → ℕ → TakeResult → World
-after_take w k unique took = replying (record w { requests = without w.requests k; server = took.server }) w.server.next_copy unique took.reply
+after_take w k unique took = replying (record w {
+  requests = without w.requests k;
+  server = took.server;
+}) w.server.next_copy unique took.reply
 
--- The server performs a held request, and the first copy of its reply goes onto the reply link, unless the mount is aborted.
+-- The server performs a held request, and the first copy of its reply goes onto the reply link, unless the mount is
+-- aborted.
 abbrev pub after_perform : World → ℕ → PerformResult → World
-after_perform w unique did = replying (record w { server = did.server }) w.server.next_copy unique (cond w.server.aborted None (Some did.wire))
+after_perform w unique did = replying (record w { server = did.server }) w.server.next_copy unique
+    (cond w.server.aborted None (Some did.wire))
 
 -- One more copy of a kept reply goes onto the reply link.
 abbrev pub after_again : World → ℕ → Kept → World
-after_again w unique kept = replying (record w { server = sent_again w.server unique kept }) w.server.next_copy unique (Some kept.wire)
+after_again w unique kept = replying (record w { server = sent_again w.server unique kept }) w.server.next_copy unique
+    (Some kept.wire)
 
 -- The kernel takes the copy at this place of the reply link, and its result goes onto the result link.
 abbrev pub after_write : World → ℕ → Sent → WriteResult × Kernel → World
@@ -119,7 +139,14 @@ after_tick w ms = record w { kernel = record w.kernel { vfs = later w.kernel.vfs
 -- A name in force is dropped.
 abbrev pub after_drop : World → ℕ → Name → World
 after_drop w directory name =
-    record w { kernel = record w.kernel { vfs = record w.kernel.vfs { names = remove_name w.kernel.vfs.names (directory, name) } } }
+    record w {
+      kernel = record w.kernel {
+        vfs = record w.kernel.vfs {
+          names =
+              remove_name w.kernel.vfs.names (directory, name);
+        };
+      };
+    }
 
 -- The kernel gives a node up, and its whole count is to be forgotten. (libfuse, low-level: forget)
 abbrev pub after_evict : World → ℕ → Counted → World
@@ -127,7 +154,13 @@ after_evict w node counted = record w { kernel = evicted w.kernel node counted }
 
 -- An abort empties the three links, and tells the server that the connection is lost. (this project's rule)
 abbrev pub after_abort : World → World
-after_abort w = record { kernel = kernel_aborted w.kernel; server = connection_lost w.server; requests = []; replies = []; results = [] }
+after_abort w = record {
+  kernel = kernel_aborted w.kernel;
+  server = connection_lost w.server;
+  requests = [];
+  replies = [];
+  results = [];
+}
 
 -- The kernel before the first mount.
 abbrev pub first_kernel : Kernel
