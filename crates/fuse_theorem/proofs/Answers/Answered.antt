@@ -1,5 +1,5 @@
--- A reply ends a request that serves no call, INIT or a RELEASE: that is no step of the plain world. Nor is a reply that nothing awaits, or
--- one to an INTERRUPT.
+-- A reply ends a request that serves no call, INIT or a RELEASE: that is no step of the plain world. Nor is a reply
+-- that nothing awaits, or one to an INTERRUPT.
 use Rattle.fuse_spec.specs.Values.Numbers.{init_flags}
 use Rattle.fuse_spec.specs.Kernel.Replies.{made_ready, minor_agreed, files_agreed}
 use Rattle.fuse_spec.specs.Server.Performs.{init_reply}
@@ -43,19 +43,22 @@ pub record Waits (q : QueueState Purpose) (unique : ℕ) (purpose : Purpose) : T
   pub under : request_under q unique ≡ Some request
   pub serves : request.kept ≡ purpose
 
-pub waiting_is : (q : QueueState Purpose) (unique : ℕ) (purpose : Purpose) → waiting q unique ≡ Some purpose → Waits q unique purpose
+pub waiting_is : (q : QueueState Purpose) (unique : ℕ) (purpose : Purpose) → waiting q unique ≡ Some purpose
+    → Waits q unique purpose
 waiting_is q unique purpose e = by (request_under q unique) refl e
   where
     read : (r : QueuedRequest Purpose) (b : Bool) → cond b None (Some r.kept) ≡ Some purpose → r.kept ≡ purpose
     read r true f = absurd (cc)
     read r false f = cc
 
-    by : (o : Option (QueuedRequest Purpose)) → request_under q unique ≡ o → option_map_or (λ r. cond (is_unread r.mark) None (Some r.kept)) o None ≡ Some purpose → Waits q unique purpose
+    by : (o : Option (QueuedRequest Purpose)) → request_under q unique ≡ o
+        → option_map_or (λ r. cond (is_unread r.mark) None (Some r.kept)) o None ≡ Some purpose → Waits q unique purpose
     by None under f = absurd (cc)
     by (Some r) under f = record { request = r; under = under; serves = read r (is_unread r.mark) f }
 
 -- A request that waits ends.
-module _ (w : World) (p : Plain) (numbered : IsNumbered w) (same : Alike w p) (live : is_live w.kernel.phase ≡ true) (unique : ℕ) (purpose : Purpose) (waits : waiting w.kernel.queues unique ≡ Some purpose) where
+module _ (w : World) (p : Plain) (numbered : IsNumbered w) (same : Alike w p) (live : is_live w.kernel.phase ≡ true)
+    (unique : ℕ) (purpose : Purpose) (waits : waiting w.kernel.queues unique ≡ Some purpose) where
   abbrev q0 : QueueState Purpose
   q0 = w.kernel.queues
 
@@ -66,7 +69,8 @@ module _ (w : World) (p : Plain) (numbered : IsNumbered w) (same : Alike w p) (l
   is_waiting = waiting_is q0 unique purpose waits
 
   pub same_pending : pending q1 ≡ pending q0
-  same_pending = subst (λ (o : Option Purpose). pending (cond (is_some o) q1 q0) ≡ pending q0) waits (pending-answer q0 unique purpose waits)
+  same_pending = subst (λ (o : Option Purpose). pending (cond (is_some o) q1 q0) ≡ pending q0) waits
+      (pending-answer q0 unique purpose waits)
 
   -- where the request serves no call, no ask stands under its number
   pub unasked : ((call : ℕ) → is_for call purpose ≡ false) → get p.asks unique ≡ None
@@ -75,9 +79,11 @@ module _ (w : World) (p : Plain) (numbered : IsNumbered w) (same : Alike w p) (l
       by : (o : Option Ask) → get p.asks unique ≡ o → o ≡ None
       by None e = refl
       by (Some ask) e =
-          let found = found_entry (λ (x : ℕ × QueuedRequest Purpose). is_for ask.call x.1.kept) q0.requests unique (key_count-le-one q0 unique numbered.queues) ((same.asks live).no_other unique ask e) in
+          let found = found_entry (λ (x : ℕ × QueuedRequest Purpose). is_for ask.call x.1.kept) q0.requests unique
+          (key_count-le-one q0 unique numbered.queues) ((same.asks live).no_other unique ask e) in
           let is_r : found.0 ≡ is_waiting.request = cc (found.1, is_waiting.under) in
-          absurd (true≢false (sym found.2 ∙ ap (λ (r : QueuedRequest Purpose). is_for ask.call r.kept) is_r ∙ ap (λ (x : Purpose). is_for ask.call x) is_waiting.serves ∙ no_call ask.call))
+          absurd (true≢false (sym found.2 ∙ ap (λ (r : QueuedRequest Purpose). is_for ask.call r.kept) is_r ∙ ap
+          (λ (x : Purpose). is_for ask.call x) is_waiting.serves ∙ no_call ask.call))
 
   -- .. and all stays alike as it ends
   pub ended_stay : ((call : ℕ) → is_for call purpose ≡ false) → QueuesStay w p q1
@@ -87,13 +93,18 @@ module _ (w : World) (p : Plain) (numbered : IsNumbered w) (same : Alike w p) (l
         ap (λ (o : Option (ℕ × QueuedRequest Purpose)). option_map (λ (x : ℕ × QueuedRequest Purpose). x.0) o)
         (find_beside (λ (x : ℕ × QueuedRequest Purpose). is_for call x.1.kept) unique is_waiting.request q0.requests is_waiting.under (ap (λ (x : Purpose). is_for call x) is_waiting.serves ∙ no_call call));
     signalled = λ alive u request ask under at bears. elim (cases_eq u unique) [
-      | inl e ↦ absurd (cc (subst (λ (n : ℕ). request_under q1 n ≡ Some request) e under, request_under-without q0 unique numbered.queues))
-      | inr ne ↦ (same.asks alive).signalled u request ask (sym (request_under-without_other q0 u unique (other_is u unique ne)) ∙ under) at bears
+      | inl e ↦ absurd (cc (
+        subst (λ (n : ℕ). request_under q1 n ≡ Some request) e under,
+        request_under-without q0 unique numbered.queues,
+      ))
+      | inr ne ↦ (same.asks alive).signalled u request ask
+          (sym (request_under-without_other q0 u unique (other_is u unique ne)) ∙ under) at bears
     ];
   }
 
 -- What the reply to INIT agrees on is the minor that the server speaks.
-pub init_agrees : (m : Minor) → (minor_agreed (init_reply m init_flags) ≡ m) × (files_agreed (init_reply m init_flags) ≡ lists_files_at m)
+pub init_agrees : (m : Minor) → (minor_agreed (init_reply m init_flags) ≡ m)
+    × (files_agreed (init_reply m init_flags) ≡ lists_files_at m)
 init_agrees M15 = (refl, refl)
 init_agrees M31 = (refl, refl)
 
@@ -118,7 +129,9 @@ module _ (w : World) (live : is_live w.kernel.phase ≡ true) where
     requests = record {
       pending = λ i e lt.
           let entry = get_or (pending w.kernel.queues) i e in
-          subst (λ (o : Option RequestBody). MatchOption o ⊥ (RequestBodyAsked p.asks entry.0 (is_signalled entry.1.mark) false (MeansIn w) (MeansOpenIn w))) (sym (same_asked ready_kernel w.kernel refl entry.1.kept)) (same.requests.pending i e lt);
+          subst (λ (o : Option RequestBody). MatchOption o ⊥
+          (RequestBodyAsked p.asks entry.0 (is_signalled entry.1.mark) false (MeansIn w) (MeansOpenIn w)))
+          (sym (same_asked ready_kernel w.kernel refl entry.1.kept)) (same.requests.pending i e lt);
       sent = same.requests.sent;
       held = same.requests.held;
     };
@@ -127,7 +140,14 @@ module _ (w : World) (live : is_live w.kernel.phase ≡ true) where
         record {
           of_calls = λ q state is.
               let pair = old.of_calls q state is in
-              record { unique = pair.unique; ask = pair.ask; request = pair.request; there = pair.there; by = pair.by; same = pair.same };
+              record {
+                unique = pair.unique;
+                ask = pair.ask;
+                request = pair.request;
+                there = pair.there;
+                by = pair.by;
+                same = pair.same;
+              };
           no_other = old.no_other;
           signalled = old.signalled;
           kept = old.kept;

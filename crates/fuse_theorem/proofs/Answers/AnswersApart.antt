@@ -29,7 +29,9 @@ both_second false b h = absurd h
 -- a call below all others has no answer among theirs
 none_below : (call : ℕ) (answers : Map Answer) → T (below_all nat_cmp call answers) → get answers call ≡ None
 none_below call [] below = refl
-none_below call (e ∷ answers) below = by (nat_cmp call e.0) (both_first (is_lt (nat_cmp call e.0)) (below_all nat_cmp call answers) below) ∙ none_below call answers (both_second (is_lt (nat_cmp call e.0)) (below_all nat_cmp call answers) below)
+none_below call (e ∷ answers) below = by (nat_cmp call e.0)
+    (both_first (is_lt (nat_cmp call e.0)) (below_all nat_cmp call answers) below) ∙ none_below call answers
+    (both_second (is_lt (nat_cmp call e.0)) (below_all nat_cmp call answers) below)
   where
     by : (r : Ordering) → T (is_lt r) → cond (is_eq r) (Some e.1) (get answers call) ≡ get answers call
     by Less h = refl
@@ -37,27 +39,36 @@ none_below call (e ∷ answers) below = by (nat_cmp call e.0) (both_first (is_lt
     by Greater h = absurd h
 
 -- Where a call has no answer, no record of the answers answers it.
-pub none_answers : (call : ℕ) (a : Answer) (answers : Map Answer) → get answers call ≡ None → Unanswered call a (answers_of answers)
+pub none_answers : (call : ℕ) (a : Answer) (answers : Map Answer) → get answers call ≡ None
+    → Unanswered call a (answers_of answers)
 none_answers call a [] none = All-nil (AnswersApart (answered call a))
 none_answers call a (e ∷ answers) none = by (eq_by_cmp nat_cmp call e.0) refl none (none_answers call a answers)
   where
-    by : (b : Bool) → eq_by_cmp nat_cmp call e.0 ≡ b → cond b (Some e.1) (get answers call) ≡ None → (get answers call ≡ None → Unanswered call a (answers_of answers)) → Unanswered call a (answers_of (e ∷ answers))
+    by : (b : Bool) → eq_by_cmp nat_cmp call e.0 ≡ b → cond b (Some e.1) (get answers call) ≡ None
+        → (get answers call ≡ None → Unanswered call a (answers_of answers))
+        → Unanswered call a (answers_of (e ∷ answers))
     by true is there others = absurd (cc (there))
     by false is none others =
         All-cons (AnswersApart (answered call a)) (answered e.0 e.1) (answers_of answers)
-        (λ same. true≢false (ap is_eq (sym (cmp_same call)) ∙ ap (λ (n : ℕ). eq_by_cmp nat_cmp call n) same ∙ is)) (others none)
+        (λ same. true≢false (ap is_eq (sym (cmp_same call)) ∙ ap (λ (n : ℕ). eq_by_cmp nat_cmp call n) same ∙ is))
+        (others none)
 
 -- The answers of these, and then records that answer none of them, answer each call once.
-pub apart_then : (answers : Map Answer) (more : List Record) → T (is_sorted nat_cmp answers) → ((call : ℕ) (a : Answer) → get answers call ≡ Some a → (b : Answer) → Unanswered call b more) → AnswersOnce more → AnswersOnce (answers_of answers ++ more)
+pub apart_then : (answers : Map Answer) (more : List Record) → T (is_sorted nat_cmp answers)
+    → ((call : ℕ) (a : Answer) → get answers call ≡ Some a → (b : Answer) → Unanswered call b more) → AnswersOnce more
+    → AnswersOnce (answers_of answers ++ more)
 apart_then [] more sorted apart once = once
 apart_then (e ∷ answers) more sorted apart once =
     let below = both_first (below_all nat_cmp e.0 answers) (is_sorted nat_cmp answers) sorted in
-    let here : get (e ∷ answers) e.0 ≡ Some e.1 = ap (λ (r : Ordering). cond (is_eq r) (Some e.1) (get answers e.0)) (cmp_same e.0) in
+    let here : get (e ∷ answers) e.0 ≡ Some e.1 = ap (λ (r : Ordering). cond (is_eq r) (Some e.1) (get answers e.0))
+    (cmp_same e.0) in
     AllPairs-cons AnswersApart (answered e.0 e.1) (answers_of answers ++ more)
-    (All-append (AnswersApart (answered e.0 e.1)) (answers_of answers) more (none_answers e.0 e.1 answers (none_below e.0 answers below)) (apart e.0 e.1 here e.1))
+    (All-append (AnswersApart (answered e.0 e.1)) (answers_of answers) more
+    (none_answers e.0 e.1 answers (none_below e.0 answers below)) (apart e.0 e.1 here e.1))
     (apart_then answers more (both_second (below_all nat_cmp e.0 answers) (is_sorted nat_cmp answers) sorted) rest once)
   where
-    found : (call : ℕ) (a : Answer) (b : Bool) → get answers call ≡ Some a → (x : Answer) × (cond b (Some e.1) (get answers call) ≡ Some x)
+    found : (call : ℕ) (a : Answer) (b : Bool) → get answers call ≡ Some a
+        → (x : Answer) × (cond b (Some e.1) (get answers call) ≡ Some x)
     found call a true at = (e.1, refl)
     found call a false at = (a, at)
 

@@ -42,12 +42,15 @@ pub record IsCollected (c : Vfs Opened) (call : ℕ) : Type 0 where
   pub not_waiting : get c.calls call ≡ None
   pub no_answer : get c.answers call ≡ None
 
--- What becomes of the calls: all end, or they stay as they are, or one of them goes on or ends, or one begins where that may be and there is room for it.
+-- What becomes of the calls: all end, or they stay as they are, or one of them goes on or ends, or one begins where
+-- that may be and there is room for it.
 pub data CallsMove (begins : Bool) (c d : Vfs Opened) : Type 0 where
   all_end : d.calls ≡ [] → d.answers ≡ all_answered (answer.failed 103) c.calls c.answers → CallsMove begins c d
   all_stay : d.calls ≡ c.calls → d.answers ≡ c.answers → CallsMove begins c d
-  one_goes_on : (call : ℕ) (state : CallState Opened) → get c.calls call ≡ Some state → get c.answers call ≡ None → ChangesCall c call d → CallsMove begins c d
-  one_begins : begins ≡ true → length c.calls < max_calls → ((q : ℕ) → q ≢ c.next_call → get d.calls q ≡ get c.calls q) → CallsMove begins c d
+  one_goes_on : (call : ℕ) (state : CallState Opened) → get c.calls call ≡ Some state → get c.answers call ≡ None
+      → ChangesCall c call d → CallsMove begins c d
+  one_begins : begins ≡ true → length c.calls < max_calls → ((q : ℕ) → q ≢ c.next_call → get d.calls q ≡ get c.calls q)
+      → CallsMove begins c d
 
 -- The calls stay sound, and a call whose answer was collected stays so.
 pub record CallsStay (begins : Bool) (c d : Vfs Opened) : Type 0 where
@@ -67,19 +70,24 @@ module _ (c : Vfs Opened) (sound : AnswersSound c) where
   as_they_were = record { sound = sound; still_collected = λ call before. before; moves = all_stay refl refl }
 
   -- One call takes a step, which is not one whose answer was collected.
-  stepped : (coming call : ℕ) (d : Vfs Opened) → ChangesOnly c.calls c.answers coming call d → call < coming → c.next_call ≤ coming → get c.answers call ≡ None → ((q : ℕ) → IsCollected c q → q ≢ call) → (begins : Bool) → CallsMove begins c d → CallsStay begins c d
+  stepped : (coming call : ℕ) (d : Vfs Opened) → ChangesOnly c.calls c.answers coming call d → call < coming
+      → c.next_call ≤ coming → get c.answers call ≡ None → ((q : ℕ) → IsCollected c q → q ≢ call) → (begins : Bool)
+      → CallsMove begins c d → CallsStay begins c d
   stepped coming call d alone low later none apart begins moves = record {
     sound = record {
       one = λ q a at. elim (cases_eq q call) [
-        | inl e ↦ subst (λ (n : ℕ). get d.calls n ≡ None) (sym e) (alone.one none a (subst (λ (n : ℕ). get d.answers n ≡ Some a) e at))
+        | inl e ↦ subst (λ (n : ℕ). get d.calls n ≡ None) (sym e)
+            (alone.one none a (subst (λ (n : ℕ). get d.answers n ≡ Some a) e at))
         | inr ne ↦ alone.other_calls q ne ∙ sound.one q a (sym (alone.other_answers q ne) ∙ at)
       ];
       calls_below = λ q le.
           let high : coming ≤ q = subst (λ (n : ℕ). n ≤ q) alone.coming_call le in
-          alone.other_calls q (λ e. absurd (omega (arith, e, high, low))) ∙ sound.calls_below q (omega (arith, later, high));
+          alone.other_calls q (λ e. absurd (omega (arith, e, high, low))) ∙ sound.calls_below q
+          (omega (arith, later, high));
       answers_below = λ q le.
           let high : coming ≤ q = subst (λ (n : ℕ). n ≤ q) alone.coming_call le in
-          alone.other_answers q (λ e. absurd (omega (arith, e, high, low))) ∙ sound.answers_below q (omega (arith, later, high));
+          alone.other_answers q (λ e. absurd (omega (arith, e, high, low))) ∙ sound.answers_below q
+          (omega (arith, later, high));
     };
     still_collected = λ q before.
         let ne = apart q before in
@@ -95,13 +103,18 @@ module _ (c : Vfs Opened) (sound : AnswersSound c) where
   begins : (aborted : Bool) (call : Call) → length c.calls < max_calls → CallsStay true c (begun aborted c call).vfs
   begins aborted call room =
       let alone = begun_changes aborted c call in
-      stepped (c.next_call + 1) c.next_call (begun aborted c call).vfs alone (omega arith) (omega arith) (sound.answers_below c.next_call (omega arith))
-      (λ q before e. let low = before.begun in absurd (omega (arith, low, e))) true (one_begins refl room alone.other_calls)
+      stepped (c.next_call + 1) c.next_call (begun aborted c call).vfs alone (omega arith) (omega arith)
+      (sound.answers_below c.next_call (omega arith))
+      (λ q before e. let low = before.begun in absurd (omega (arith, low, e))) true
+      (one_begins refl room alone.other_calls)
 
-  call_changes : (call : ℕ) (state : CallState Opened) → get c.calls call ≡ Some state → (d : Vfs Opened) → ChangesCall c call d → CallsStay false c d
+  call_changes : (call : ℕ) (state : CallState Opened) → get c.calls call ≡ Some state → (d : Vfs Opened)
+      → ChangesCall c call d → CallsStay false c d
   call_changes call state there d alone =
-      stepped c.next_call call d alone (low (nat_lt call c.next_call) refl) (omega arith) (unanswered (get c.answers call) refl)
-      (λ q before e. absurd (cc (there, subst (λ (n : ℕ). get c.calls n ≡ None) e before.not_waiting))) false (one_goes_on call state there (unanswered (get c.answers call) refl) alone)
+      stepped c.next_call call d alone (low (nat_lt call c.next_call) refl) (omega arith)
+      (unanswered (get c.answers call) refl)
+      (λ q before e. absurd (cc (there, subst (λ (n : ℕ). get c.calls n ≡ None) e before.not_waiting))) false
+      (one_goes_on call state there (unanswered (get c.answers call) refl) alone)
     where
       low : (b : Bool) → nat_lt call c.next_call ≡ b → call < c.next_call
       low true e = grind (arith, nat_tests, e)
@@ -112,11 +125,15 @@ module _ (c : Vfs Opened) (sound : AnswersSound c) where
       unanswered (Some a) e = absurd (cc (there, sound.one call a e))
 
 -- The answers to calls that are not among these stay.
-answers_left : (a : Answer) (calls : Map (CallState Opened)) (answers : Map Answer) (call : ℕ) → get calls call ≡ None → get (all_answered a calls answers) call ≡ get answers call
+answers_left : (a : Answer) (calls : Map (CallState Opened)) (answers : Map Answer) (call : ℕ) → get calls call ≡ None
+    → get (all_answered a calls answers) call ≡ get answers call
 answers_left a [] answers call none = refl
-answers_left a (e ∷ calls) answers call none = get_put (all_answered a calls answers) e.0 a call ∙ by (eq_by_cmp nat_cmp call e.0) none (answers_left a calls answers call)
+answers_left a (e ∷ calls) answers call none = get_put (all_answered a calls answers) e.0 a call ∙ by
+    (eq_by_cmp nat_cmp call e.0) none (answers_left a calls answers call)
   where
-    by : (b : Bool) → cond b (Some e.1) (get calls call) ≡ None → (get calls call ≡ None → get (all_answered a calls answers) call ≡ get answers call) → cond b (Some a) (get (all_answered a calls answers) call) ≡ get answers call
+    by : (b : Bool) → cond b (Some e.1) (get calls call) ≡ None
+        → (get calls call ≡ None → get (all_answered a calls answers) call ≡ get answers call)
+        → cond b (Some a) (get (all_answered a calls answers) call) ≡ get answers call
     by true there rest = absurd (cc (there))
     by false there rest = rest there
 
@@ -126,9 +143,14 @@ gives_up c sound = record {
   sound = record {
     one = λ call a at. refl;
     calls_below = λ call le. refl;
-    answers_below = λ call le. answers_left (answer.failed 103) c.calls c.answers call (sound.calls_below call le) ∙ sound.answers_below call le;
+    answers_below = λ call le. answers_left (answer.failed 103) c.calls c.answers call
+        (sound.calls_below call le) ∙ sound.answers_below call le;
   };
-  still_collected = λ call before. record { begun = before.begun; not_waiting = refl; no_answer = answers_left (answer.failed 103) c.calls c.answers call before.not_waiting ∙ before.no_answer };
+  still_collected = λ call before. record {
+    begun = before.begun;
+    not_waiting = refl;
+    no_answer = answers_left (answer.failed 103) c.calls c.answers call before.not_waiting ∙ before.no_answer;
+  };
   moves = all_end refl refl;
 }
 
@@ -163,18 +185,27 @@ module _ (k : Kernel) (sound : AnswersSound k.vfs) where
   call_begins call room =
       let next = begun (is_aborted k.phase) k.vfs call in
       let asking = advanced k k.vfs.next_call next in
-      subst (λ (d : Vfs Opened). CallsStay true k.vfs d) (sym (closing_vfs asking (cond (is_aborted k.phase) None (closed_by k.vfs.opens call)) ∙ advanced_vfs k k.vfs.next_call next)) (begins k.vfs sound (is_aborted k.phase) call room)
+      subst (λ (d : Vfs Opened). CallsStay true k.vfs d)
+      (sym (closing_vfs asking (cond (is_aborted k.phase) None
+      (closed_by k.vfs.opens call)) ∙ advanced_vfs k k.vfs.next_call next))
+      (begins k.vfs sound (is_aborted k.phase) call room)
 
   -- A call is answered, and then its file released.
-  used_after : (call : ℕ) (state : CallState Opened) → get k.vfs.calls call ≡ Some state → (q : Kernel) → ChangesCall k.vfs call q.vfs → CallsStay false k.vfs (after_use q state).vfs
-  used_after call state there q alone = subst (λ (d : Vfs Opened). CallsStay false k.vfs d) (sym (used_vfs q state)) (call_changes k.vfs sound call state there q.vfs alone)
+  used_after : (call : ℕ) (state : CallState Opened) → get k.vfs.calls call ≡ Some state → (q : Kernel)
+      → ChangesCall k.vfs call q.vfs → CallsStay false k.vfs (after_use q state).vfs
+  used_after call state there q alone = subst (λ (d : Vfs Opened). CallsStay false k.vfs d) (sym (used_vfs q state))
+      (call_changes k.vfs sound call state there q.vfs alone)
 
   -- A signal reaches a call.
-  call_signals : (call : ℕ) (state : CallState Opened) (fatal : Bool) → get k.vfs.calls call ≡ Some state → CallsStay false k.vfs (call_signalled k call state fatal).1.vfs
+  call_signals : (call : ℕ) (state : CallState Opened) (fatal : Bool) → get k.vfs.calls call ≡ Some state
+      → CallsStay false k.vfs (call_signalled k call state fatal).1.vfs
   call_signals call state fatal there = by (request_of k call)
     where
-      effect : (unique : ℕ) (x : IntrEffect) → CallsStay false k.vfs (after_signal (record k { queues = after_interrupt k.queues unique fatal }) call state x).vfs
-      effect unique Dequeued = used_after call state there (record k { queues = after_interrupt k.queues unique fatal; vfs = answered k.vfs call (answer.failed 4) }) (answered_changes k.vfs call (answer.failed 4))
+      effect : (unique : ℕ) (x : IntrEffect) → CallsStay false k.vfs
+          (after_signal (record k { queues = after_interrupt k.queues unique fatal }) call state x).vfs
+      effect unique Dequeued = used_after call state there
+          (record k { queues = after_interrupt k.queues unique fatal; vfs = answered k.vfs call (answer.failed 4) })
+          (answered_changes k.vfs call (answer.failed 4))
       effect unique Flagged = as_they_were k.vfs sound
       effect unique Queued = as_they_were k.vfs sound
       effect unique NoEffect = as_they_were k.vfs sound
@@ -183,24 +214,32 @@ module _ (k : Kernel) (sound : AnswersSound k.vfs) where
       by None = as_they_were k.vfs sound
       by (Some unique) = effect unique (interrupt_effect k.queues unique fatal)
 
-  judged_changes : (q : QueueState Purpose) (call : ℕ) (state : CallState Opened) (wire : WireReply) (u : Use) → ChangesCall k.vfs call (judged (record k { queues = q }) call state wire u).vfs
+  judged_changes : (q : QueueState Purpose) (call : ℕ) (state : CallState Opened) (wire : WireReply) (u : Use)
+      → ChangesCall k.vfs call (judged (record k { queues = q }) call state wire u).vfs
   judged_changes q call state wire usable =
       let next = call_replied k.vfs call state (kernel_reply (asked state) wire) in
-      subst (λ (d : Vfs Opened). ChangesCall k.vfs call d) (sym (advanced_vfs (record k { queues = q; nodes = learnt k.nodes (files_in_reply wire) }) call next)) (replied_changes k.vfs call state (kernel_reply (asked state) wire))
+      subst (λ (d : Vfs Opened). ChangesCall k.vfs call d)
+      (sym (advanced_vfs (record k { queues = q; nodes = learnt k.nodes (files_in_reply wire) }) call next))
+      (replied_changes k.vfs call state (kernel_reply (asked state) wire))
   judged_changes q call state wire useless = answered_changes k.vfs call (answer.failed 5)
   judged_changes q call state wire (stale node) = answered_changes k.vfs call (answer.failed 5)
 
   -- A reply reaches a call.
-  call_hears : (call : ℕ) (wire : WireReply) (o : Option (CallState Opened)) → get k.vfs.calls call ≡ o → CallsStay false k.vfs (replied_to_call k call wire o).1.vfs
+  call_hears : (call : ℕ) (wire : WireReply) (o : Option (CallState Opened)) → get k.vfs.calls call ≡ o
+      → CallsStay false k.vfs (replied_to_call k call wire o).1.vfs
   call_hears call wire None there = as_they_were k.vfs sound
   call_hears call wire (Some state) there = by (goes_with (asked state) wire)
     where
       by : (b : Bool) → CallsStay false k.vfs (replied k call state b wire).1.vfs
-      by true = used_after call state there (reply_received k call state wire) (judged_changes (without_stale k wire).queues call state (reply_judged k.nodes wire) (use_of_reply k.nodes wire))
-      by false = used_after call state there (record k { vfs = answered k.vfs call (answer.failed 5) }) (answered_changes k.vfs call (answer.failed 5))
+      by true = used_after call state there (reply_received k call state wire)
+          (judged_changes (without_stale k wire).queues call state (reply_judged k.nodes wire)
+          (use_of_reply k.nodes wire))
+      by false = used_after call state there (record k { vfs = answered k.vfs call (answer.failed 5) })
+          (answered_changes k.vfs call (answer.failed 5))
 
 -- A reply is written.
-reply_hears : (k : Kernel) → AnswersSound k.vfs → (unique : ℕ) (wire : WireReply) → CallsStay false k.vfs (reply_written k unique wire).1.vfs
+reply_hears : (k : Kernel) → AnswersSound k.vfs → (unique : ℕ) (wire : WireReply)
+    → CallsStay false k.vfs (reply_written k unique wire).1.vfs
 reply_hears k sound unique wire = by (nat_eq (unique % 2) 1)
   where
     ended : (q : Kernel) (kept : Purpose) → AnswersSound q.vfs → CallsStay false q.vfs (ended_by q kept wire).1.vfs
@@ -225,24 +264,30 @@ reply_hears k sound unique wire = by (nat_eq (unique % 2) 1)
     odd None = as_they_were k.vfs sound
     odd (Some kept) = interrupts wire
 
-    by : (b : Bool) → CallsStay false k.vfs (cond b (interrupt_reply_written k unique wire (waiting k.queues (unique - 1))) (request_reply_written k unique wire (waiting k.queues unique))).1.vfs
+    by : (b : Bool) → CallsStay false k.vfs (cond b (interrupt_reply_written k unique wire
+        (waiting k.queues (unique - 1))) (request_reply_written k unique wire (waiting k.queues unique))).1.vfs
     by true = odd (waiting k.queues (unique - 1))
     by false = even (waiting k.queues unique)
 
 -- ---- events
 
 -- A reply that goes out leaves the kernel as it is.
-sent_off : (w : World) → AnswersSound w.kernel.vfs → (number unique : ℕ) (wire : Option WireReply) → CallsStay false w.kernel.vfs (worlds.replying w number unique wire).kernel.vfs
+sent_off : (w : World) → AnswersSound w.kernel.vfs → (number unique : ℕ) (wire : Option WireReply)
+    → CallsStay false w.kernel.vfs (worlds.replying w number unique wire).kernel.vfs
 sent_off w sound number unique None = as_they_were w.kernel.vfs sound
 sent_off w sound number unique (Some wire) = as_they_were w.kernel.vfs sound
 
 -- The time and the names in force are no matter of the calls.
-as_before : (c d : Vfs Opened) → AnswersSound c → d.calls ≡ c.calls → d.answers ≡ c.answers → d.next_call ≡ c.next_call → CallsStay false c d
+as_before : (c d : Vfs Opened) → AnswersSound c → d.calls ≡ c.calls → d.answers ≡ c.answers → d.next_call ≡ c.next_call
+    → CallsStay false c d
 as_before c d sound calls answers coming = record {
   sound = record {
-    one = λ call a at. ap (λ (m : Map (CallState Opened)). get m call) calls ∙ sound.one call a (sym (ap (λ (m : Map Answer). get m call) answers) ∙ at);
-    calls_below = λ call le. ap (λ (m : Map (CallState Opened)). get m call) calls ∙ sound.calls_below call (subst (λ (n : ℕ). n ≤ call) coming le);
-    answers_below = λ call le. ap (λ (m : Map Answer). get m call) answers ∙ sound.answers_below call (subst (λ (n : ℕ). n ≤ call) coming le);
+    one = λ call a at. ap (λ (m : Map (CallState Opened)). get m call) calls ∙ sound.one call a
+        (sym (ap (λ (m : Map Answer). get m call) answers) ∙ at);
+    calls_below = λ call le. ap (λ (m : Map (CallState Opened)). get m call) calls ∙ sound.calls_below call
+        (subst (λ (n : ℕ). n ≤ call) coming le);
+    answers_below = λ call le. ap (λ (m : Map Answer). get m call) answers ∙ sound.answers_below call
+        (subst (λ (n : ℕ). n ≤ call) coming le);
   };
   still_collected = λ call before. record {
     begun = subst (λ (n : ℕ). call < n) (sym coming) before.begun;
@@ -252,32 +297,44 @@ as_before c d sound calls answers coming = record {
   moves = all_stay calls answers;
 }
 
-by_event : (choice : ℕ → ℕ) (w : World) → AnswersSound w.kernel.vfs → (e : Event) (o : Outcome) (after : World) → Happened choice w e o after → CallsStay (begins_call e) w.kernel.vfs after.kernel.vfs
+by_event : (choice : ℕ → ℕ) (w : World) → AnswersSound w.kernel.vfs → (e : Event) (o : Outcome) (after : World)
+    → Happened choice w e o after → CallsStay (begins_call e) w.kernel.vfs after.kernel.vfs
 by_event choice w s e o after (by_mount f m v idle) = gives_up w.kernel.vfs s
-by_event choice w s e o after (by_call call ready room within) = call_begins w.kernel s (spoken w.kernel.lists_files call) (grind (arith, nat_tests, room))
+by_event choice w s e o after (by_call call ready room within) =
+    call_begins w.kernel s (spoken w.kernel.lists_files call) (grind (arith, nat_tests, room))
 by_event choice w s e o after (by_read_interrupt original rest live there within) = as_they_were w.kernel.vfs s
 by_event choice w s e o after (by_read_forgets n live free can within few) = as_they_were w.kernel.vfs s
-by_event choice w s e o after (by_read_pending k unique kept body live free there says within) = as_they_were w.kernel.vfs s
+by_event choice w s e o after (by_read_pending k unique kept body live free there says within) =
+    as_they_were w.kernel.vfs s
 by_event choice w s e o after (by_take k q there within) =
-    let took = taking w.server q.unique q.body in sent_off (record w { requests = without_at w.requests k; server = took.server }) s w.server.next_copy q.unique took.reply
+    let took = taking w.server q.unique q.body in sent_off
+    (record w { requests = without_at w.requests k; server = took.server }) s w.server.next_copy q.unique took.reply
 by_event choice w s e o after (by_perform unique t there within) =
-    let did = served choice w.server unique t in sent_off (record w { server = did.server }) s w.server.next_copy unique (cond w.server.aborted None (Some did.wire))
+    let did = served choice w.server unique t in sent_off
+    (record w { server = did.server }) s w.server.next_copy unique (cond w.server.aborted None (Some did.wire))
 by_event choice w s e o after (by_again unique kept there current within) = as_they_were w.kernel.vfs s
 by_event choice w s e o after (by_write k sent there within) = reply_hears w.kernel s sent.unique sent.wire
 by_event choice w s e o after (by_settle k result there) = as_they_were w.kernel.vfs s
-by_event choice w s e o after (by_signal call fatal state live there within) = call_signals w.kernel s call state fatal there
+by_event choice w s e o after (by_signal call fatal state live there within) =
+    call_signals w.kernel s call state fatal there
 by_event choice w s e o after (by_tick ms timely) = as_before w.kernel.vfs after.kernel.vfs s refl refl refl
-by_event choice w s e o after (by_drop directory name bound live there) = as_before w.kernel.vfs after.kernel.vfs s refl refl refl
+by_event choice w s e o after (by_drop directory name bound live there) =
+    as_before w.kernel.vfs after.kernel.vfs s refl refl refl
 by_event choice w s e o after (by_evict node counted live there unused) = as_they_were w.kernel.vfs s
 by_event choice w s e o after (by_abort live) = gives_up w.kernel.vfs s
 
 -- The calls stay sound, and a call whose answer was collected stays so, whatever the event.
-pub calls_stay : (w : World) → AnswersSound w.kernel.vfs → (e : Event) (o : Outcome) (after : World) → Happens w e o after → CallsStay (begins_call e) w.kernel.vfs after.kernel.vfs
+pub calls_stay : (w : World) → AnswersSound w.kernel.vfs → (e : Event) (o : Outcome) (after : World)
+    → Happens w e o after → CallsStay (begins_call e) w.kernel.vfs after.kernel.vfs
 calls_stay w sound e o after happens = by_event happens.0 w sound e o after (happened happens.0 w o after e happens.2)
 
 -- So they do as all answers are collected.
 pub collected_sound : (w : World) → AnswersSound w.kernel.vfs → AnswersSound (collected w).kernel.vfs
-collected_sound w sound = record { one = λ call a at. absurd (cc (at)); calls_below = sound.calls_below; answers_below = λ call le. refl }
+collected_sound w sound = record {
+  one = λ call a at. absurd (cc (at));
+  calls_below = sound.calls_below;
+  answers_below = λ call le. refl;
+}
 
 pub first_sound : AnswersSound first_world.kernel.vfs
 first_sound = record { one = λ call a at. refl; calls_below = λ call le. refl; answers_below = λ call le. refl }

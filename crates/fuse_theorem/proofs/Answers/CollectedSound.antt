@@ -49,7 +49,8 @@ module _ (w : World) (answers : Map Answer) (sorted : T (is_sorted nat_cmp answe
     numbers = numbers old.numbers;
     copies = copies old.copies;
     kept = old.kept;
-    balanced = λ live. let at = old.balanced live in record { balance = at.balance; known = at.known; copies = at.copies; refused = at.refused };
+    balanced = λ live. let at = old.balanced live in
+        record { balance = at.balance; known = at.known; copies = at.copies; refused = at.refused };
     uncounted = old.uncounted;
   }
 
@@ -57,21 +58,35 @@ module _ (w : World) (answers : Map Answer) (sorted : T (is_sorted nat_cmp answe
   requests old = record {
     once = old.once;
     numbers = old.numbers;
-    unanswered = λ unique even stands. let none = old.unanswered unique even stands in record { copies = none.copies; kept = none.kept };
+    unanswered = λ unique even stands. let none = old.unanswered unique even stands in
+        record { copies = none.copies; kept = none.kept };
   }
 
   pub collected_world : WorldSound w → WorldSound (with_answers w answers)
-  collected_world old = record { rooted = record { root = old.rooted.root; answers = sorted }; queues = old.queues; lookups = lookups old.lookups; requests = requests old.requests }
+  collected_world old = record {
+    rooted = record { root = old.rooted.root; answers = sorted };
+    queues = old.queues;
+    lookups = lookups old.lookups;
+    requests = requests old.requests;
+  }
 
   asked : RequestsAskedWhileLive w → RequestsAskedWhileLive (with_answers w answers)
-  asked old live = moved_asked w (old live) (with_answers w answers).kernel (unmoved w.kernel (with_answers w answers).kernel refl refl (omega (arith))) (omega (arith)) (λ unique low none. none)
+  asked old live = moved_asked w (old live) (with_answers w answers).kernel
+      (unmoved w.kernel (with_answers w answers).kernel refl refl (omega (arith))) (omega (arith))
+      (λ unique low none. none)
 
   links : LinksSound w → LinksSound (with_answers w answers)
   links old = record {
     held = old.held;
     serving = old.serving;
     agreed = λ live. let at = old.agreed live in record { copies = at.copies; kept = at.kept };
-    idle = λ dead. let at = old.idle dead in record { requests = at.requests; replies = at.replies; results = at.results; kept = at.kept; server = at.server };
+    idle = λ dead. let at = old.idle dead in record {
+      requests = at.requests;
+      replies = at.replies;
+      results = at.results;
+      kept = at.kept;
+      server = at.server;
+    };
   }
 
   held : HeldKnownWhileLive w → HeldKnownWhileLive (with_answers w answers)
@@ -84,7 +99,12 @@ module _ (w : World) (answers : Map Answer) (sorted : T (is_sorted nat_cmp answe
         world = collected_world both.world;
         asked = asked both.asked;
         links = links both.links;
-        nodes = record { root = both.nodes.root; names = both.nodes.names; calls = both.nodes.calls; opens = both.nodes.opens };
+        nodes = record {
+          root = both.nodes.root;
+          names = both.nodes.names;
+          calls = both.nodes.calls;
+          opens = both.nodes.opens;
+        };
         held = held both.held;
         kept = both.kept;
         served = both.served;
@@ -98,11 +118,16 @@ module _ (w : World) (answers : Map Answer) (sorted : T (is_sorted nat_cmp answe
           calls_in_order = files.calls_in_order;
           closing_in_order = files.closing_in_order;
           calls_below = files.calls_below;
-          opens = λ handle o at. let was = files.opens handle o at in record { begun = was.begun; not_waiting = was.not_waiting };
+          opens = λ handle o at. let was = files.opens handle o at in
+              record { begun = was.begun; not_waiting = was.not_waiting };
           users = λ call handle operation at.
               let uses = files.users call handle operation at in
               let opener = uses.opener in
-              record { opener = record { begun = opener.begun; not_waiting = opener.not_waiting }; of_open = uses.of_open; of_closed = uses.of_closed };
+              record {
+                opener = record { begun = opener.begun; not_waiting = opener.not_waiting };
+                of_open = uses.of_open;
+                of_closed = uses.of_closed;
+              };
           not_open = files.not_open;
           used = files.used;
         };
@@ -116,8 +141,13 @@ module _ (w : World) (answers : Map Answer) (sorted : T (is_sorted nat_cmp answe
     queued = old.queued;
     sent = old.sent;
     kept = old.kept;
-    spoken = λ live is. let at = old.spoken live is in record { minor = at.minor; lists_files = at.lists_files; calls = at.calls; sent = at.sent };
+    spoken = λ live is. let at = old.spoken live is in
+        record { minor = at.minor; lists_files = at.lists_files; calls = at.calls; sent = at.sent };
   }
 
   pub collected_fits : RepliesFitWhileLive w → RepliesFitWhileLive (with_answers w answers)
-  collected_fits old live = let at = old live in record { released = at.released; interrupted = at.interrupted; results = at.results }
+  collected_fits old live = let at = old live in record {
+    released = at.released;
+    interrupted = at.interrupted;
+    results = at.results;
+  }

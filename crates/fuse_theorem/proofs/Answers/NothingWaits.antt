@@ -30,7 +30,8 @@ none_has P xs empty (there x rest h) = absurd (cc (empty))
 
 -- the first entry of a map stands under its key
 pub first_found : {X : Type 0} (m : Map X) (key : ℕ) (x : X) (rest : Map X) → m ≡ (key, x) ∷ rest → get m key ≡ Some x
-first_found {X = X} m key x rest is = ap (λ (n : Map X). get n key) is ∙ ap (λ r. cond (is_eq r) (Some x) (get rest key)) (cmp_same key)
+first_found {X = X} m key x rest is = ap (λ (n : Map X). get n key) is ∙ ap
+    (λ r. cond (is_eq r) (Some x) (get rest key)) (cmp_same key)
 
 module _ (w : World) (sound : WorldSound w) (way : ReadAreOnTheirWay w) (rest : AtRest w) where
   none_on_its_way : (unique : ℕ) → IsOnItsWay w unique → ⊥
@@ -38,19 +39,23 @@ module _ (w : World) (sound : WorldSound w) (way : ReadAreOnTheirWay w) (rest : 
   none_on_its_way unique (held h) = h (ap (λ (m : Map HeldRequest). get m unique) rest.held)
   none_on_its_way unique (replied h) = none_has (IsCopy unique) w.replies rest.replies h
 
-  none_read : (unique : ℕ) (r : QueuedRequest Purpose) → request_under w.kernel.queues unique ≡ Some r → is_unread r.mark ≡ false → ⊥
+  none_read : (unique : ℕ) (r : QueuedRequest Purpose) → request_under w.kernel.queues unique ≡ Some r
+      → is_unread r.mark ≡ false → ⊥
   none_read unique r under read = none_on_its_way unique (way rest.live unique r under read)
 
-  none_unread : (unique : ℕ) (r : QueuedRequest Purpose) → request_under w.kernel.queues unique ≡ Some r → is_unread r.mark ≡ true → ⊥
+  none_unread : (unique : ℕ) (r : QueuedRequest Purpose) → request_under w.kernel.queues unique ≡ Some r
+      → is_unread r.mark ≡ true → ⊥
   none_unread unique r under unread =
       let stands = unread_pending unique w.kernel.queues r under unread in
-      let none = ap (λ (es : List (ℕ × QueuedRequest Purpose)). count_by (λ (e : ℕ × QueuedRequest Purpose). nat_eq unique e.0) es) rest.pending in
+      let none = ap (λ (es : List (ℕ × QueuedRequest Purpose)). count_by
+      (λ (e : ℕ × QueuedRequest Purpose). nat_eq unique e.0) es) rest.pending in
       absurd (omega (arith, stands, none))
 
   no_request : (unique : ℕ) → request_under w.kernel.queues unique ≢ None → ⊥
   no_request unique some = by (request_under w.kernel.queues unique) refl
     where
-      either : (r : QueuedRequest Purpose) → request_under w.kernel.queues unique ≡ Some r → (b : Bool) → is_unread r.mark ≡ b → ⊥
+      either : (r : QueuedRequest Purpose) → request_under w.kernel.queues unique ≡ Some r → (b : Bool)
+          → is_unread r.mark ≡ b → ⊥
       either r under true unread = none_unread unique r under unread
       either r under false read = none_read unique r under read
 
@@ -68,10 +73,15 @@ module _ (w : World) (sound : WorldSound w) (way : ReadAreOnTheirWay w) (rest : 
       by : (es : List (ℕ × QueuedRequest Purpose)) → processing w.kernel.queues ≡ es → es ≡ []
       by [] is = refl
       by (e ∷ es) is =
-          let first : slice_get (processing w.kernel.queues) zero ≡ Some e = ap (λ (xs : List (ℕ × QueuedRequest Purpose)). slice_get xs zero) is in
-          let under = lookup-found (λ (x : ℕ × QueuedRequest Purpose). not (is_unread x.1.mark)) w.kernel.queues.requests zero e first (key_count-le-one w.kernel.queues e.0 sound.queues) in
-          let passes = subst (All (λ (x : ℕ × QueuedRequest Purpose). not (is_unread x.1.mark) ≡ true)) is (filtered (λ (x : ℕ × QueuedRequest Purpose). not (is_unread x.1.mark)) w.kernel.queues.requests) in
-          absurd (none_read e.0 e.1 under (is_read (is_unread e.1.mark) (All-head (λ (x : ℕ × QueuedRequest Purpose). not (is_unread x.1.mark) ≡ true) e es passes)))
+          let first : slice_get (processing w.kernel.queues) zero ≡ Some e =
+          ap (λ (xs : List (ℕ × QueuedRequest Purpose)). slice_get xs zero) is in
+          let under = lookup-found (λ (x : ℕ × QueuedRequest Purpose). not
+          (is_unread x.1.mark)) w.kernel.queues.requests zero e first
+          (key_count-le-one w.kernel.queues e.0 sound.queues) in
+          let passes = subst (All (λ (x : ℕ × QueuedRequest Purpose). not (is_unread x.1.mark) ≡ true)) is
+          (filtered (λ (x : ℕ × QueuedRequest Purpose). not (is_unread x.1.mark)) w.kernel.queues.requests) in
+          absurd (none_read e.0 e.1 under (is_read (is_unread e.1.mark)
+          (All-head (λ (x : ℕ × QueuedRequest Purpose). not (is_unread x.1.mark) ≡ true) e es passes)))
 
   pub none_called : (p : Plain) → Alike w p → w.kernel.vfs.calls ≡ []
   none_called p same = by w.kernel.vfs.calls refl
@@ -80,4 +90,5 @@ module _ (w : World) (sound : WorldSound w) (way : ReadAreOnTheirWay w) (rest : 
       by [] is = refl
       by (e ∷ m) is =
           let pair = (same.asks rest.live).of_calls e.0 e.1 (first_found w.kernel.vfs.calls e.0 e.1 m is) in
-          absurd (no_request pair.unique (found_key (λ (x : ℕ × QueuedRequest Purpose). is_for e.0 x.1.kept) w.kernel.queues.requests pair.unique pair.request))
+          absurd (no_request pair.unique (found_key (λ (x : ℕ
+          × QueuedRequest Purpose). is_for e.0 x.1.kept) w.kernel.queues.requests pair.unique pair.request))

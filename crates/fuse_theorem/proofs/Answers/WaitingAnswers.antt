@@ -39,7 +39,8 @@ length_put : {X : Type 0} (m : Map X) (k : ℕ) (x : X) → length (put m k x) �
 length_put [] k x = omega arith
 length_put (e ∷ m) k x =
     let rest = length_put m k x in
-    elim (nat_cmp k e.0) as (λ r. length (by_order r ((k, x) ∷ e ∷ m) ((e.0, x) ∷ m) (e ∷ put m k x)) ≤ length (e ∷ m) + 1) [ Less ↦ omega arith | Equal ↦ omega arith | Greater ↦ omega arith ]
+    elim (nat_cmp k e.0) as (λ r. length (by_order r ((k, x) ∷ e ∷ m) ((e.0, x) ∷ m) (e ∷ put m k x)) ≤ length
+    (e ∷ m) + 1) [ Less ↦ omega arith | Equal ↦ omega arith | Greater ↦ omega arith ]
 
 length_remove : {X : Type 0} (m : Map X) (k : ℕ) → length (remove m k) ≤ length m
 length_remove [] k = omega arith
@@ -49,9 +50,14 @@ length_remove (e ∷ m) k = by (not (nat_eq e.0 k)) (length_remove m k)
     by true rest = omega (arith, rest)
     by false rest = omega (arith, rest)
 
-pub length_all : {X : Type 0} (a : Answer) (calls : Map X) (answers : Map Answer) → length (all_answered a calls answers) ≤ length calls + length answers
+pub length_all : {X : Type 0} (a : Answer) (calls : Map X) (answers : Map Answer)
+    → length (all_answered a calls answers) ≤ length calls + length answers
 length_all a [] answers = omega arith
-length_all a (call ∷ calls) answers = omega (arith, length_put (all_answered a calls answers) call.0 a, length_all a calls answers)
+length_all a (call ∷ calls) answers = omega (
+  arith,
+  length_put (all_answered a calls answers) call.0 a,
+  length_all a calls answers,
+)
 
 -- ---- the calls alone
 
@@ -89,7 +95,8 @@ begun_more : (aborted : Bool) (c : Vfs Opened) (call : Call) → OneMore c (begu
 begun_more true c call = answered_more c c.next_call _
 begun_more false c call = beginning_more (numbered c) c.next_call (beginning c.opens call)
 
-operation_more : (c : Vfs Opened) (call : ℕ) (operation : Operation ℕ Opened) (reply : Reply ℕ Opened) → OneMore c (operation_replied c call operation reply)
+operation_more : (c : Vfs Opened) (call : ℕ) (operation : Operation ℕ Opened) (reply : Reply ℕ Opened)
+    → OneMore c (operation_replied c call operation reply)
 operation_more c call operation (failed errno) = answered_more c call _
 operation_more c call (getattr file) (attributes a) = answered_more c call _
 operation_more c call (mkdir d name) (found file valid) = answered_more c call _
@@ -105,7 +112,8 @@ operation_more c call (read o offset size) (content bytes) = answered_more c cal
 operation_more c call (write o offset bytes) (written size) = answered_more c call _
 operation_more c call operation reply = answered_more c call _
 
-replied_more : (c : Vfs Opened) (call : ℕ) (state : CallState Opened) (reply : Reply ℕ Opened) → OneMore c (call_replied c call state reply).vfs
+replied_more : (c : Vfs Opened) (call : ℕ) (state : CallState Opened) (reply : Reply ℕ Opened)
+    → OneMore c (call_replied c call state reply).vfs
 replied_more c call (walking d word words plan) (found file valid) =
     let c1 = bound c d word (Some file) valid in walked_more c1 call (walk (look c1) c1.root file words plan)
 replied_more c call (walking d word words plan) (missing valid) = answered_more c call _
@@ -121,16 +129,22 @@ module _ (k : Kernel) where
   begins_more call =
       let next = begun (is_aborted k.phase) k.vfs call in
       let asking = advanced k k.vfs.next_call next in
-      subst (OneMore k.vfs) (sym (closing_vfs asking (cond (is_aborted k.phase) None (closed_by k.vfs.opens call)) ∙ advanced_vfs k k.vfs.next_call next)) (begun_more (is_aborted k.phase) k.vfs call)
+      subst (OneMore k.vfs) (sym (closing_vfs asking (cond (is_aborted k.phase) None
+      (closed_by k.vfs.opens call)) ∙ advanced_vfs k k.vfs.next_call next)) (begun_more (is_aborted k.phase) k.vfs call)
 
   used_more : (state : CallState Opened) (q : Kernel) → OneMore k.vfs q.vfs → OneMore k.vfs (after_use q state).vfs
   used_more state q more = subst (OneMore k.vfs) (sym (used_vfs q state)) more
 
-  signal_more : (call : ℕ) (state : CallState Opened) (fatal : Bool) → OneMore k.vfs (call_signalled k call state fatal).1.vfs
+  signal_more : (call : ℕ) (state : CallState Opened) (fatal : Bool)
+      → OneMore k.vfs (call_signalled k call state fatal).1.vfs
   signal_more call state fatal = by (request_of k call)
     where
-      effect : (unique : ℕ) (x : IntrEffect) → OneMore k.vfs (after_signal (record k { queues = after_interrupt k.queues unique fatal }) call state x).vfs
-      effect unique Dequeued = used_more state (record k { queues = after_interrupt k.queues unique fatal; vfs = answered k.vfs call (answer.failed 4) }) (answered_more k.vfs call (answer.failed 4))
+      effect : (unique : ℕ) (x : IntrEffect) → OneMore k.vfs
+          (after_signal (record k { queues = after_interrupt k.queues unique fatal }) call state x).vfs
+      effect unique Dequeued = used_more state (record k {
+        queues = after_interrupt k.queues unique fatal;
+        vfs = answered k.vfs call (answer.failed 4);
+      }) (answered_more k.vfs call (answer.failed 4))
       effect unique Flagged = as_many k.vfs
       effect unique Queued = as_many k.vfs
       effect unique NoEffect = as_many k.vfs
@@ -139,20 +153,28 @@ module _ (k : Kernel) where
       by None = as_many k.vfs
       by (Some unique) = effect unique (interrupt_effect k.queues unique fatal)
 
-  judged_more : (q : QueueState Purpose) (call : ℕ) (state : CallState Opened) (wire : WireReply) (u : Use) → OneMore k.vfs (judged (record k { queues = q }) call state wire u).vfs
+  judged_more : (q : QueueState Purpose) (call : ℕ) (state : CallState Opened) (wire : WireReply) (u : Use)
+      → OneMore k.vfs (judged (record k { queues = q }) call state wire u).vfs
   judged_more q call state wire usable =
       let next = call_replied k.vfs call state (kernel_reply (asked state) wire) in
-      subst (OneMore k.vfs) (sym (advanced_vfs (record k { queues = q; nodes = learnt k.nodes (files_in_reply wire) }) call next)) (replied_more k.vfs call state (kernel_reply (asked state) wire))
+      subst (OneMore k.vfs) (sym (advanced_vfs (record k {
+        queues = q;
+        nodes = learnt k.nodes (files_in_reply wire);
+      }) call next))
+      (replied_more k.vfs call state (kernel_reply (asked state) wire))
   judged_more q call state wire useless = answered_more k.vfs call (answer.failed 5)
   judged_more q call state wire (stale node) = answered_more k.vfs call (answer.failed 5)
 
-  hears_more : (call : ℕ) (wire : WireReply) (o : Option (CallState Opened)) → OneMore k.vfs (replied_to_call k call wire o).1.vfs
+  hears_more : (call : ℕ) (wire : WireReply) (o : Option (CallState Opened))
+      → OneMore k.vfs (replied_to_call k call wire o).1.vfs
   hears_more call wire None = as_many k.vfs
   hears_more call wire (Some state) = by (goes_with (asked state) wire)
     where
       by : (b : Bool) → OneMore k.vfs (replied k call state b wire).1.vfs
-      by true = used_more state (reply_received k call state wire) (judged_more (without_stale k wire).queues call state (reply_judged k.nodes wire) (use_of_reply k.nodes wire))
-      by false = used_more state (record k { vfs = answered k.vfs call (answer.failed 5) }) (answered_more k.vfs call (answer.failed 5))
+      by true = used_more state (reply_received k call state wire)
+          (judged_more (without_stale k wire).queues call state (reply_judged k.nodes wire) (use_of_reply k.nodes wire))
+      by false = used_more state (record k { vfs = answered k.vfs call (answer.failed 5) })
+          (answered_more k.vfs call (answer.failed 5))
 
 written_more : (k : Kernel) (unique : ℕ) (wire : WireReply) → OneMore k.vfs (reply_written k unique wire).1.vfs
 written_more k unique wire = by (nat_eq (unique % 2) 1)
@@ -179,17 +201,20 @@ written_more k unique wire = by (nat_eq (unique % 2) 1)
     odd None = as_many k.vfs
     odd (Some kept) = interrupts wire
 
-    by : (b : Bool) → OneMore k.vfs (cond b (interrupt_reply_written k unique wire (waiting k.queues (unique - 1))) (request_reply_written k unique wire (waiting k.queues unique))).1.vfs
+    by : (b : Bool) → OneMore k.vfs (cond b (interrupt_reply_written k unique wire (waiting k.queues (unique - 1)))
+        (request_reply_written k unique wire (waiting k.queues unique))).1.vfs
     by true = odd (waiting k.queues (unique - 1))
     by false = even (waiting k.queues unique)
 
 -- ---- events
 
-sent_more : (w : World) (number unique : ℕ) (wire : Option WireReply) → OneMore w.kernel.vfs (worlds.replying w number unique wire).kernel.vfs
+sent_more : (w : World) (number unique : ℕ) (wire : Option WireReply)
+    → OneMore w.kernel.vfs (worlds.replying w number unique wire).kernel.vfs
 sent_more w number unique None = as_many w.kernel.vfs
 sent_more w number unique (Some wire) = as_many w.kernel.vfs
 
-by_event : (choice : ℕ → ℕ) (w : World) (e : Event) (o : Outcome) (after : World) → Happened choice w e o after → OneMore w.kernel.vfs after.kernel.vfs
+by_event : (choice : ℕ → ℕ) (w : World) (e : Event) (o : Outcome) (after : World) → Happened choice w e o after
+    → OneMore w.kernel.vfs after.kernel.vfs
 by_event choice w e o after (by_mount f m v idle) = given_up_more w.kernel.vfs
 by_event choice w e o after (by_call call ready room within) = begins_more w.kernel (spoken w.kernel.lists_files call)
 by_event choice w e o after (by_read_interrupt original rest live there within) = as_many w.kernel.vfs
@@ -197,7 +222,10 @@ by_event choice w e o after (by_read_forgets n live free can within few) = as_ma
 by_event choice w e o after (by_read_pending k unique kept body live free there says within) = as_many w.kernel.vfs
 by_event choice w e o after (by_take k q there within) =
     let took = taking w.server q.unique q.body in
-    sent_more (record w { requests = without_at w.requests k; server = took.server }) w.server.next_copy q.unique took.reply
+    sent_more (record w {
+      requests = without_at w.requests k;
+      server = took.server;
+    }) w.server.next_copy q.unique took.reply
 by_event choice w e o after (by_perform unique t there within) =
     let did = served choice w.server unique t in
     sent_more (record w { server = did.server }) w.server.next_copy unique (cond w.server.aborted None (Some did.wire))

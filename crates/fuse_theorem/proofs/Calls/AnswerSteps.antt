@@ -11,8 +11,10 @@ use Rattle.fuse_spec.specs.Calls.Vfs.{CallState, walking, doing, using, Vfs, loo
 use Rattle.fuse_spec.specs.Calls.Walks.{Walked, looks_up, finds_none, asks, walk}
 use Rattle.fuse_spec.proofs.Tables.{get_put_there, get_gone_here, get_gone_there}
 
--- Of these calls and answers only those of one call may have changed, and it is not both unanswered and answered where it had no answer.
-pub record ChangesOnly (calls : Map (CallState Opened)) (answers : Map Answer) (coming call : ℕ) (d : Vfs Opened) : Type 0 where
+-- Of these calls and answers only those of one call may have changed, and it is not both unanswered and answered where
+-- it had no answer.
+pub record ChangesOnly (calls : Map (CallState Opened)) (answers : Map Answer) (coming call : ℕ)
+    (d : Vfs Opened) : Type 0 where
   pub other_calls : (q : ℕ) → q ≢ call → get d.calls q ≡ get calls q
   pub other_answers : (q : ℕ) → q ≢ call → get d.answers q ≡ get answers q
   pub one : get answers call ≡ None → (a : Answer) → get d.answers call ≡ Some a → get d.calls call ≡ None
@@ -43,23 +45,28 @@ walked_changes c call (looks_up d word words plan) = asking_changes c call (walk
 walked_changes c call finds_none = answered_changes c call _
 walked_changes c call (asks operation) = asking_changes c call (doing operation)
 
-beginning_changes : (c : Vfs Opened) (call : ℕ) (b : Beginning ℕ Opened) → ChangesCall c call (after_beginning c call b).vfs
+beginning_changes : (c : Vfs Opened) (call : ℕ) (b : Beginning ℕ Opened)
+    → ChangesCall c call (after_beginning c call b).vfs
 beginning_changes c call (faulty errno) = answered_changes c call _
 beginning_changes c call (sets_out words plan) = walked_changes c call (walk (look c) c.root c.root words plan)
 beginning_changes c call (uses handle operation) = asking_changes c call (using handle operation)
 beginning_changes c call (closes handle o) = answered_changes (record c { opens = remove c.opens handle }) call _
 
 -- A call begins, and draws its number.
-pub begun_changes : (aborted : Bool) (c : Vfs Opened) (call : Call) → ChangesOnly c.calls c.answers (c.next_call + 1) c.next_call (begun aborted c call).vfs
+pub begun_changes : (aborted : Bool) (c : Vfs Opened) (call : Call)
+    → ChangesOnly c.calls c.answers (c.next_call + 1) c.next_call (begun aborted c call).vfs
 begun_changes true c call = answered_changes (numbered c) c.next_call _
 begun_changes false c call = beginning_changes (numbered c) c.next_call (beginning c.opens call)
 
-operation_changes : (c : Vfs Opened) (call : ℕ) (operation : Operation ℕ Opened) (reply : Reply ℕ Opened) → ChangesCall c call (operation_replied c call operation reply)
+operation_changes : (c : Vfs Opened) (call : ℕ) (operation : Operation ℕ Opened) (reply : Reply ℕ Opened)
+    → ChangesCall c call (operation_replied c call operation reply)
 operation_changes c call operation (failed errno) = answered_changes c call _
 operation_changes c call (getattr file) (attributes a) = answered_changes c call _
 operation_changes c call (mkdir d name) (found file valid) = answered_changes (bound c d name (Some file) valid) call _
-operation_changes c call (create d name) (created file valid o) = answered_changes (opened_by (bound c d name (Some file) valid) call o) call _
-operation_changes c call (link linked d name) (found file valid) = answered_changes (bound c d name (Some file) valid) call _
+operation_changes c call (create d name) (created file valid o) =
+    answered_changes (opened_by (bound c d name (Some file) valid) call o) call _
+operation_changes c call (link linked d name) (found file valid) =
+    answered_changes (bound c d name (Some file) valid) call _
 operation_changes c call (unlink d name) done = answered_changes (unbound c d name) call _
 operation_changes c call (rmdir d name) done = answered_changes (unbound c d name) call _
 operation_changes c call (rename d old e new) done = answered_changes (unbound (unbound c d old) e new) call _
@@ -71,7 +78,8 @@ operation_changes c call (write o offset bytes) (written size) = answered_change
 operation_changes c call operation reply = answered_changes c call _
 
 -- A reply reaches the call.
-pub replied_changes : (c : Vfs Opened) (call : ℕ) (state : CallState Opened) (reply : Reply ℕ Opened) → ChangesCall c call (call_replied c call state reply).vfs
+pub replied_changes : (c : Vfs Opened) (call : ℕ) (state : CallState Opened) (reply : Reply ℕ Opened)
+    → ChangesCall c call (call_replied c call state reply).vfs
 replied_changes c call (walking d word words plan) (found file valid) =
     let c1 = bound c d word (Some file) valid in walked_changes c1 call (walk (look c1) c1.root file words plan)
 replied_changes c call (walking d word words plan) (missing valid) = answered_changes (bound c d word None valid) call _

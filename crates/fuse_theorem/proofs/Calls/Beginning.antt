@@ -18,24 +18,31 @@ module _ {F O G P : Type 0} (R : F → G → Type 0) (S : O → P → Type 0) wh
   BeginningAlike (closes h o) (closes h' p) = (h ≡ h') × S o p
   BeginningAlike a b = ⊥
 
-  whole_alike : (path : List ℕ) (f : List Name → Beginning F O) (g : List Name → Beginning G P) → ((words : List Name) → BeginningAlike (f words) (g words))
+  whole_alike : (path : List ℕ) (f : List Name → Beginning F O) (g : List Name → Beginning G P)
+      → ((words : List Name) → BeginningAlike (f words) (g words))
       → BeginningAlike (whole_path path f) (whole_path path g)
   whole_alike path f g on = by (words_of path)
     where
-      by : (r : Result (List Name) ℕ) → BeginningAlike (elim r [ Err fault ↦ faulty fault | Ok words ↦ f words ]) (elim r [ Err fault ↦ faulty fault | Ok words ↦ g words ])
+      by : (r : Result (List Name) ℕ) → BeginningAlike (elim r [ Err fault ↦ faulty fault | Ok words ↦ f words ])
+          (elim r [ Err fault ↦ faulty fault | Ok words ↦ g words ])
       by (Err fault) = refl
       by (Ok words) = on words
 
-  parent_alike : (path : List ℕ) (f : List Name → Name → Beginning F O) (g : List Name → Name → Beginning G P) → ((words : List Name) (name : Name) → BeginningAlike (f words name) (g words name))
+  parent_alike : (path : List ℕ) (f : List Name → Name → Beginning F O) (g : List Name → Name → Beginning G P)
+      → ((words : List Name) (name : Name) → BeginningAlike (f words name) (g words name))
       → BeginningAlike (parent_path path f) (parent_path path g)
   parent_alike path f g on = whole_alike path _ _ (λ words. by (parent_and_last words))
     where
-      by : (o : Option (List Name × Name)) → BeginningAlike (elim o [ None ↦ faulty 22 | Some parts ↦ f parts.0 parts.1 ]) (elim o [ None ↦ faulty 22 | Some parts ↦ g parts.0 parts.1 ])
+      by : (o : Option (List Name × Name)) → BeginningAlike
+          (elim o [ None ↦ faulty 22 | Some parts ↦ f parts.0 parts.1 ])
+          (elim o [ None ↦ faulty 22 | Some parts ↦ g parts.0 parts.1 ])
       by None = refl
       by (Some parts) = on parts.0 parts.1
 
-  using_alike : (handle : ℕ) (a : Option O) (b : Option P) (offset size : ℕ) (f : O → Operation F O) (g : P → Operation G P) → OptionAlike S a b
-      → ((o : O) (p : P) → S o p → OperationAlike R S (f o) (g p)) → BeginningAlike (using handle a offset size f) (using handle b offset size g)
+  using_alike : (handle : ℕ) (a : Option O) (b : Option P) (offset size : ℕ) (f : O → Operation F O)
+      (g : P → Operation G P) → OptionAlike S a b
+      → ((o : O) (p : P) → S o p → OperationAlike R S (f o) (g p))
+      → BeginningAlike (using handle a offset size f) (using handle b offset size g)
   using_alike handle None None offset size f g h on = refl
   using_alike handle (Some o) (Some p) offset size f g h on = by (nat_lt max_file offset || nat_lt max_transfer size)
     where
@@ -45,14 +52,16 @@ module _ {F O G P : Type 0} (R : F → G → Type 0) (S : O → P → Type 0) wh
   using_alike handle None (Some p) offset size f g h on = absurd h
   using_alike handle (Some o) None offset size f g h on = absurd h
 
-  closing_alike : (handle : ℕ) (a : Option O) (b : Option P) → OptionAlike S a b → BeginningAlike (closing handle a) (closing handle b)
+  closing_alike : (handle : ℕ) (a : Option O) (b : Option P) → OptionAlike S a b
+      → BeginningAlike (closing handle a) (closing handle b)
   closing_alike handle None None h = refl
   closing_alike handle (Some o) (Some p) h = (refl, h)
   closing_alike handle None (Some p) h = absurd h
   closing_alike handle (Some o) None h = absurd h
 
   -- Every call begins alike.
-  pub beginning_alike : (opens : Map O) (others : Map P) → ((handle : ℕ) → OptionAlike S (get opens handle) (get others handle)) → (c : Call)
+  pub beginning_alike : (opens : Map O) (others : Map P)
+      → ((handle : ℕ) → OptionAlike S (get opens handle) (get others handle)) → (c : Call)
       → BeginningAlike (beginning opens c) (beginning others c)
   beginning_alike opens others same (call.stat path) = whole_alike path _ _ (λ words. (refl, tt))
   beginning_alike opens others same (call.list path after) = whole_alike path _ _ (λ words. (refl, refl))
@@ -62,10 +71,14 @@ module _ {F O G P : Type 0} (R : F → G → Type 0) (S : O → P → Type 0) wh
   beginning_alike opens others same (call.create path) = parent_alike path _ _ (λ words name. (refl, refl))
   beginning_alike opens others same (call.unlink path) = parent_alike path _ _ (λ words name. (refl, refl))
   beginning_alike opens others same (call.rmdir path) = parent_alike path _ _ (λ words name. (refl, refl))
-  beginning_alike opens others same (call.rename old new) = parent_alike old _ _ (λ words from. parent_alike new _ _ (λ more to. (refl, (refl, refl, refl))))
-  beginning_alike opens others same (call.link old new) = whole_alike old _ _ (λ words. parent_alike new _ _ (λ more name. (refl, (refl, refl))))
+  beginning_alike opens others same (call.rename old new) =
+      parent_alike old _ _ (λ words from. parent_alike new _ _ (λ more to. (refl, (refl, refl, refl))))
+  beginning_alike opens others same (call.link old new) =
+      whole_alike old _ _ (λ words. parent_alike new _ _ (λ more name. (refl, (refl, refl))))
   beginning_alike opens others same (call.read handle offset size) =
       using_alike handle (get opens handle) (get others handle) offset size _ _ (same handle) (λ o p s. (s, refl, refl))
   beginning_alike opens others same (call.write handle offset bytes) =
-      using_alike handle (get opens handle) (get others handle) offset (length bytes) _ _ (same handle) (λ o p s. (s, refl, refl))
-  beginning_alike opens others same (call.close handle) = closing_alike handle (get opens handle) (get others handle) (same handle)
+      using_alike handle (get opens handle) (get others handle) offset (length bytes) _ _ (same handle)
+      (λ o p s. (s, refl, refl))
+  beginning_alike opens others same (call.close handle) =
+      closing_alike handle (get opens handle) (get others handle) (same handle)

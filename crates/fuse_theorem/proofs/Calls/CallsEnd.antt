@@ -22,13 +22,18 @@ pub is_over : (w : World) (call : ℕ) → IsCollected w.kernel.vfs call → IsO
 is_over w call is = record { begun = is.begun; not_waiting = is.not_waiting; no_answer = is.no_answer }
 
 -- what holds of each call that has an answer holds of the records of all answers
-pub all_answers : (P : ℕ → Type 0) (R : Record → Type 0) → ((call : ℕ) (a : Answer) → P call → R (answered call a)) → (answers : Map Answer) → ((call : ℕ) (a : Answer) → get answers call ≡ Some a → P call) → All R (answers_of answers)
+pub all_answers : (P : ℕ → Type 0) (R : Record → Type 0) → ((call : ℕ) (a : Answer) → P call → R (answered call a))
+    → (answers : Map Answer) → ((call : ℕ) (a : Answer) → get answers call ≡ Some a → P call)
+    → All R (answers_of answers)
 all_answers P R told [] each = All-nil R
 all_answers P R told (e ∷ answers) each =
-    let here : get (e ∷ answers) e.0 ≡ Some e.1 = ap (λ (r : Ordering). cond (is_eq r) (Some e.1) (get answers e.0)) (cmp_same e.0) in
-    All-cons R (answered e.0 e.1) (answers_of answers) (told e.0 e.1 (each e.0 e.1 here)) (all_answers P R told answers rest)
+    let here : get (e ∷ answers) e.0 ≡ Some e.1 = ap (λ (r : Ordering). cond (is_eq r) (Some e.1) (get answers e.0))
+    (cmp_same e.0) in
+    All-cons R (answered e.0 e.1) (answers_of answers) (told e.0 e.1 (each e.0 e.1 here))
+    (all_answers P R told answers rest)
   where
-    found : (call : ℕ) (a : Answer) (b : Bool) → get answers call ≡ Some a → (x : Answer) × (cond b (Some e.1) (get answers call) ≡ Some x)
+    found : (call : ℕ) (a : Answer) (b : Bool) → get answers call ≡ Some a
+        → (x : Answer) × (cond b (Some e.1) (get answers call) ≡ Some x)
     found call a true at = (e.1, refl)
     found call a false at = (a, at)
 
@@ -36,15 +41,18 @@ all_answers P R told (e ∷ answers) each =
     rest call a at = let there = found call a (eq_by_cmp nat_cmp call e.0) at in each call there.0 there.1
 
 -- what ends a call that was not over, where more calls were not
-pub ends_before : (old mid new : World) → ((call : ℕ) → IsOver old call → IsOver mid call) → (r : Record) → EndsCall mid new r → EndsCall old new r
+pub ends_before : (old mid new : World) → ((call : ℕ) → IsOver old call → IsOver mid call) → (r : Record)
+    → EndsCall mid new r → EndsCall old new r
 ends_before old mid new stay (answered call a) ends = ((λ over. ends.0 (stay call over)), ends.1)
 ends_before old mid new stay (outcome o) ends = tt
 ends_before old mid new stay (refused r) ends = tt
 ends_before old mid new stay link_lost ends = tt
 
 -- Whatever is recorded of a list of events, each call that it answers is over with it, and one that was over stays so.
-pub calls_end : (w : World) → AnswersSound w.kernel.vfs → (events : List Event) (records : List Record) (after : World) → Recorded w events records after → CallsEnd w records after
-calls_end w sound events records after (none_left v) = record { ended = All-nil (EndsCall v v); stay = λ call over. over }
+pub calls_end : (w : World) → AnswersSound w.kernel.vfs → (events : List Event) (records : List Record) (after : World)
+    → Recorded w events records after → CallsEnd w records after
+calls_end w sound events records after (none_left v) =
+    record { ended = All-nil (EndsCall v v); stay = λ call over. over }
 calls_end w sound events records after (one_refused v event refusal rest more last judged recorded) =
     let next = calls_end w sound rest more last recorded in
     record { ended = All-cons (EndsCall v last) (refused refusal) more tt next.ended; stay = next.stay }
@@ -52,12 +60,19 @@ calls_end w sound events records after (one_accepted v event o mid rest more las
     let stay = calls_stay v sound event o mid happens in
     let next = calls_end (collected mid) (collected_sound mid stay.sound) rest more last recorded in
     let answers = mid.kernel.vfs.answers in
-    let kept : (call : ℕ) → IsOver v call → IsCollected mid.kernel.vfs call = λ call over. stay.still_collected call (over_is v call over) in
-    let first : (call : ℕ) → IsOver v call → IsOver (collected mid) call = λ call over. let now = kept call over in record { begun = now.begun; not_waiting = now.not_waiting; no_answer = refl } in
+    let kept : (call : ℕ) → IsOver v call → IsCollected mid.kernel.vfs call =
+    λ call over. stay.still_collected call (over_is v call over) in
+    let first : (call : ℕ) → IsOver v call → IsOver (collected mid) call = λ call over. let now =
+    kept call over in record { begun = now.begun; not_waiting = now.not_waiting; no_answer = refl } in
     let one : All (EndsCall v last) (answers_of answers) =
     all_answers (λ call. (IsOver v call → ⊥) × IsOver last call) (EndsCall v last) (λ call a ends. ends) answers
-    (λ call a at. ((λ over. let now = kept call over in absurd (cc (at, now.no_answer))), next.stay call (is_over (collected mid) call (answered_collected mid stay.sound call a at)))) in
+    (λ call a at. (
+      (λ over. let now = kept call over in absurd (cc (at, now.no_answer))),
+      next.stay call (is_over (collected mid) call (answered_collected mid stay.sound call a at)),
+    )) in
     record {
-      ended = All-cons (EndsCall v last) (outcome o) (answers_of answers ++ more) tt (All-append (EndsCall v last) (answers_of answers) more one (λ i r lt. ends_before v (collected mid) last first (get_or more i r) (next.ended i r lt)));
+      ended = All-cons (EndsCall v last) (outcome o) (answers_of answers ++ more) tt
+          (All-append (EndsCall v last) (answers_of answers) more one
+          (λ i r lt. ends_before v (collected mid) last first (get_or more i r) (next.ended i r lt)));
       stay = λ call over. next.stay call (first call over);
     }

@@ -33,24 +33,30 @@ module _ (nodes : Map Counted) where
   BeginsKnown (uses handle operation) = All (IsKnown nodes) (files_in opened_nodes operation)
   BeginsKnown (closes handle opened) = Unit {0}
 
-  whole : (path : List ℕ) (then : List Name → Beginning ℕ Opened) → ((words : List Name) → BeginsKnown (then words)) → BeginsKnown (whole_path path then)
+  whole : (path : List ℕ) (then : List Name → Beginning ℕ Opened) → ((words : List Name) → BeginsKnown (then words))
+      → BeginsKnown (whole_path path then)
   whole path then each = by (words_of path)
     where
-      by : (o : Result (List Name) ℕ) → BeginsKnown (elim o as (λ x. Beginning ℕ Opened) [ Err fault ↦ faulty fault | Ok words ↦ then words ])
+      by : (o : Result (List Name) ℕ) → BeginsKnown (elim o as
+          (λ x. Beginning ℕ Opened) [ Err fault ↦ faulty fault | Ok words ↦ then words ])
       by (Err fault) = tt
       by (Ok words) = each words
 
-  parent : (path : List ℕ) (then : List Name → Name → Beginning ℕ Opened) → ((words : List Name) (name : Name) → BeginsKnown (then words name)) → BeginsKnown (parent_path path then)
+  parent : (path : List ℕ) (then : List Name → Name → Beginning ℕ Opened)
+      → ((words : List Name) (name : Name) → BeginsKnown (then words name)) → BeginsKnown (parent_path path then)
   parent path then each = whole path _ (λ words. by words (parent_and_last words))
     where
-      by : (words : List Name) (o : Option (List Name × Name)) → BeginsKnown (elim o as (λ x. Beginning ℕ Opened) [ None ↦ faulty 22 | Some parts ↦ then parts.0 parts.1 ])
+      by : (words : List Name) (o : Option (List Name × Name))
+          → BeginsKnown (elim o as (λ x. Beginning ℕ Opened) [ None ↦ faulty 22 | Some parts ↦ then parts.0 parts.1 ])
       by words None = tt
       by words (Some parts) = each parts.0 parts.1
 
   nothing : All (IsKnown nodes) []
   nothing = All-nil (IsKnown nodes)
 
-  used : (handle : ℕ) (o : Option Opened) (offset size : ℕ) (then : Opened → Operation ℕ Opened) → ((x : Opened) → o ≡ Some x → All (IsKnown nodes) (files_in opened_nodes (then x))) → BeginsKnown (begins.using handle o offset size then)
+  used : (handle : ℕ) (o : Option Opened) (offset size : ℕ) (then : Opened → Operation ℕ Opened)
+      → ((x : Opened) → o ≡ Some x → All (IsKnown nodes) (files_in opened_nodes (then x)))
+      → BeginsKnown (begins.using handle o offset size then)
   used handle None offset size then each = tt
   used handle (Some x) offset size then each = by (nat_lt 65536 offset || nat_lt 4096 size)
     where
@@ -74,12 +80,15 @@ module _ (nodes : Map Counted) where
   beginning_known c old (call.rename from to) = parent from _ (λ words name. parent to _ (λ more other. nothing))
   beginning_known c old (call.link from to) = whole from _ (λ words. parent to _ (λ more name. nothing))
   beginning_known c old (call.read handle offset size) =
-      used handle (get c.opens handle) offset size (λ o. op.read o offset size) (λ x at. All-cons (IsKnown nodes) x.nodeid [] (All-get (OpenKnown nodes) c.opens handle x old.opens at) nothing)
+      used handle (get c.opens handle) offset size (λ o. op.read o offset size)
+      (λ x at. All-cons (IsKnown nodes) x.nodeid [] (All-get (OpenKnown nodes) c.opens handle x old.opens at) nothing)
   beginning_known c old (call.write handle offset bytes) =
-      used handle (get c.opens handle) offset (length bytes) (λ o. op.write o offset bytes) (λ x at. All-cons (IsKnown nodes) x.nodeid [] (All-get (OpenKnown nodes) c.opens handle x old.opens at) nothing)
+      used handle (get c.opens handle) offset (length bytes) (λ o. op.write o offset bytes)
+      (λ x at. All-cons (IsKnown nodes) x.nodeid [] (All-get (OpenKnown nodes) c.opens handle x old.opens at) nothing)
   beginning_known c old (call.close handle) = closing_known handle (get c.opens handle)
 
-  pub begun_known : (aborted : Bool) (c : Vfs Opened) → VfsKnown nodes c → (x : Call) → VfsKnown nodes (begun aborted c x).vfs
+  pub begun_known : (aborted : Bool) (c : Vfs Opened) → VfsKnown nodes c → (x : Call)
+      → VfsKnown nodes (begun aborted c x).vfs
   begun_known true c old x = let next = old_numbered in answered_known nodes (numbered c) next c.next_call _
     where
       old_numbered : VfsKnown nodes (numbered c)
@@ -94,21 +103,34 @@ module _ (nodes : Map Counted) where
       by (sets_out words plan) h = walks_on_known nodes (numbered c) next c.next_call c.root old.root words plan h
       by (uses handle operation) h = asking_known nodes (numbered c) next c.next_call (using handle operation) h
       by (closes handle o) h =
-          let closed : VfsKnown nodes (record (numbered c) { opens = remove c.opens handle }) = record { root = old.root; names = old.names; calls = old.calls; opens = All-gone (OpenKnown nodes) c.opens handle old.opens } in
+          let closed : VfsKnown nodes (record (numbered c) { opens = remove c.opens handle }) =
+          record {
+            root = old.root;
+            names = old.names;
+            calls = old.calls;
+            opens = All-gone (OpenKnown nodes) c.opens handle old.opens;
+          } in
           answered_known nodes (record (numbered c) { opens = remove c.opens handle }) closed c.next_call _
 
   -- ---- a call hears a reply
 
   -- the names of a list lead to known nodes
-  all_bound_known : (d : ℕ) → IsKnown nodes d → (pairs : List (DirentPlus ℕ)) (c : Vfs Opened) → VfsKnown nodes c → All (IsKnown nodes) (op.files_told pairs) → VfsKnown nodes (all_bound c d pairs)
+  all_bound_known : (d : ℕ) → IsKnown nodes d → (pairs : List (DirentPlus ℕ)) (c : Vfs Opened) → VfsKnown nodes c
+      → All (IsKnown nodes) (op.files_told pairs) → VfsKnown nodes (all_bound c d pairs)
   all_bound_known d from [] c old known = old
-  all_bound_known d from (pair ∷ pairs) c old known = by (op.told_by pair) known (λ e olds k. all_bound_known d from pairs e olds k)
+  all_bound_known d from (pair ∷ pairs) c old known =
+      by (op.told_by pair) known (λ e olds k. all_bound_known d from pairs e olds k)
     where
-      by : (o : Option ℕ) → All (IsKnown nodes) (op.first_told o (op.files_told pairs)) → ((e : Vfs Opened) → VfsKnown nodes e → All (IsKnown nodes) (op.files_told pairs) → VfsKnown nodes (all_bound e d pairs)) → VfsKnown nodes (record c { names = names_told c.clock d (name_told c.clock d c.names pair o) pairs })
+      by : (o : Option ℕ) → All (IsKnown nodes) (op.first_told o (op.files_told pairs))
+          → ((e : Vfs Opened) → VfsKnown nodes e → All (IsKnown nodes) (op.files_told pairs)
+          → VfsKnown nodes (all_bound e d pairs)) → VfsKnown nodes
+          (record c { names = names_told c.clock d (name_told c.clock d c.names pair o) pairs })
       by None k rest = rest c old k
       by (Some file) k rest =
           rest (bound c d pair.dirent.name (Some file) pair.valid)
-          (bound_known nodes c old d pair.dirent.name (Some file) pair.valid from (λ other e. let is : file ≡ other = cc in subst (IsKnown nodes) is (All-head (IsKnown nodes) file (op.files_told pairs) k)))
+          (bound_known nodes c old d pair.dirent.name (Some file) pair.valid from
+          (λ other e. let is : file ≡ other = cc in subst (IsKnown nodes) is
+          (All-head (IsKnown nodes) file (op.files_told pairs) k)))
           (All-tail (IsKnown nodes) file (op.files_told pairs) k)
 
   module _ (c : Vfs Opened) (old : VfsKnown nodes c) (call : ℕ) where
@@ -121,32 +143,48 @@ module _ (nodes : Map Counted) where
     leads : (id : ℕ) → IsKnown nodes id → (file : ℕ) → Some id ≡ Some file → IsKnown nodes file
     leads id h file e = let is : id ≡ file = cc in subst (IsKnown nodes) is h
 
-    operation_known : (a : Operation ℕ Opened) (wire : WireReply) → All (IsKnown nodes) (files_in opened_nodes a) → All (λ (g : Entry). IsKnown nodes g.nodeid) (files_in_reply wire) → VfsKnown nodes (operation_replied c call a (kernel_reply a wire))
+    operation_known : (a : Operation ℕ Opened) (wire : WireReply) → All (IsKnown nodes) (files_in opened_nodes a)
+        → All (λ (g : Entry). IsKnown nodes g.nodeid) (files_in_reply wire)
+        → VfsKnown nodes (operation_replied c call a (kernel_reply a wire))
     operation_known a (op.failed errno) h k = answered_known nodes c old call _
-    operation_known (op.mkdir d name) (op.found g valid) h k = answered_known nodes _ (bound_known nodes c old d name (Some g.nodeid) valid (head d [] h) (leads g.nodeid (named g k))) call _
+    operation_known (op.mkdir d name) (op.found g valid) h k =
+        answered_known nodes _ (bound_known nodes c old d name (Some g.nodeid) valid (head d [] h)
+        (leads g.nodeid (named g k))) call _
     operation_known (op.create d name) (op.created g valid fh) h k =
         let binds = bound_known nodes c old d name (Some g.nodeid) valid (head d [] h) (leads g.nodeid (named g k)) in
-        answered_known nodes _ (opened_known nodes (bound c d name (Some g.nodeid) valid) binds call (record { nodeid = g.nodeid; fh = fh }) (named g k)) call _
-    operation_known (op.link x d name) (op.found g valid) h k = answered_known nodes _ (bound_known nodes c old d name (Some g.nodeid) valid (head d (x ∷ []) h) (leads g.nodeid (named g k))) call _
+        answered_known nodes _ (opened_known nodes (bound c d name (Some g.nodeid) valid) binds call
+        (record { nodeid = g.nodeid; fh = fh }) (named g k)) call _
+    operation_known (op.link x d name) (op.found g valid) h k =
+        answered_known nodes _ (bound_known nodes c old d name (Some g.nodeid) valid (head d (x ∷ []) h)
+        (leads g.nodeid (named g k))) call _
     operation_known (op.unlink d name) op.done h k = answered_known nodes _ (unbound_known nodes c old d name) call _
     operation_known (op.rmdir d name) op.done h k = answered_known nodes _ (unbound_known nodes c old d name) call _
-    operation_known (op.rename d from e to) op.done h k = answered_known nodes _ (unbound_known nodes (unbound c d from) (unbound_known nodes c old d from) e to) call _
-    operation_known (op.opening x) (op.opened fh) h k = answered_known nodes _ (opened_known nodes c old call (record { nodeid = x; fh = fh }) (head x [] h)) call _
+    operation_known (op.rename d from e to) op.done h k =
+        answered_known nodes _ (unbound_known nodes (unbound c d from) (unbound_known nodes c old d from) e to) call _
+    operation_known (op.opening x) (op.opened fh) h k =
+        answered_known nodes _ (opened_known nodes c old call (record { nodeid = x; fh = fh }) (head x [] h)) call _
     operation_known (op.getattr x) (op.attributes m) h k = answered_known nodes c old call _
     operation_known (op.readdir d after size) (op.listed records) h k = answered_known nodes c old call _
     operation_known (op.readdirplus d after size) (op.listed_plus pairs) h k =
         let ids = map (op.pair_with (λ (g : Entry). g.nodeid)) pairs in
-        let known = subst (All (IsKnown nodes)) (sym (told_files_with (λ (g : Entry). g.nodeid) pairs)) (All-map (IsKnown nodes) (λ (g : Entry). g.nodeid) (op.files_told pairs) k) in
+        let known = subst (All (IsKnown nodes)) (sym (told_files_with (λ (g : Entry). g.nodeid) pairs))
+        (All-map (IsKnown nodes) (λ (g : Entry). g.nodeid) (op.files_told pairs) k) in
         answered_known nodes _ (all_bound_known d (head d [] h) ids c old known) call _
     operation_known (op.read o offset size) (op.content bytes) h k = answered_known nodes c old call _
     operation_known (op.write o offset bytes) (op.written size) h k = answered_known nodes c old call _
     operation_known a wire h k = answered_known nodes c old call _
 
-    pub replied_known : (state : CallState Opened) (wire : WireReply) → All (IsKnown nodes) (nodes_of_state state) → All (λ (g : Entry). IsKnown nodes g.nodeid) (files_in_reply wire) → VfsKnown nodes (call_replied c call state (kernel_reply (asked state) wire)).vfs
+    pub replied_known : (state : CallState Opened) (wire : WireReply) → All (IsKnown nodes) (nodes_of_state state)
+        → All (λ (g : Entry). IsKnown nodes g.nodeid) (files_in_reply wire)
+        → VfsKnown nodes (call_replied c call state (kernel_reply (asked state) wire)).vfs
     replied_known (walking d word words plan) (op.found g valid) h k =
-        walks_on_known nodes (bound c d word (Some g.nodeid) valid) (bound_known nodes c old d word (Some g.nodeid) valid (head d (files_of_plan plan) h) (leads g.nodeid (named g k))) call g.nodeid (named g k) words plan
+        walks_on_known nodes (bound c d word (Some g.nodeid) valid)
+        (bound_known nodes c old d word (Some g.nodeid) valid (head d (files_of_plan plan) h)
+        (leads g.nodeid (named g k))) call g.nodeid (named g k) words plan
         (All-tail (IsKnown nodes) d (files_of_plan plan) h)
-    replied_known (walking d word words plan) (op.missing valid) h k = answered_known nodes _ (bound_known nodes c old d word None valid (head d (files_of_plan plan) h) (λ file e. absurd (cc))) call _
+    replied_known (walking d word words plan) (op.missing valid) h k =
+        answered_known nodes _ (bound_known nodes c old d word None valid (head d (files_of_plan plan) h)
+        (λ file e. absurd (cc))) call _
     replied_known (walking d word words plan) (op.failed errno) h k = answered_known nodes c old call _
     replied_known (walking d word words plan) wire h k = answered_known nodes c old call _
     replied_known (doing operation) wire h k = operation_known operation wire h k

@@ -49,17 +49,24 @@ module _ (nodes : Map Counted) where
   WalkedKnown finds_none = Unit {0}
   WalkedKnown (asks operation) = All (IsKnown nodes) (files_in opened_nodes operation)
 
-  stops_known : (seen : ℕ → Name → Option (Option ℕ)) → ((d : ℕ) (name : Name) (file : ℕ) → seen d name ≡ Some (Some file) → K file) → (words : List Name) (at : ℕ) → K at → StopKnown (go seen at words)
+  stops_known : (seen : ℕ → Name → Option (Option ℕ))
+      → ((d : ℕ) (name : Name) (file : ℕ) → seen d name ≡ Some (Some file) → K file) → (words : List Name) (at : ℕ)
+      → K at → StopKnown (go seen at words)
   stops_known seen leads [] at h = h
   stops_known seen leads (word ∷ words) at h = by (seen at word) refl (λ file g. stops_known seen leads words file g)
     where
       by : (o : Option (Option ℕ)) → seen at word ≡ o → ((file : ℕ) → K file → StopKnown (go seen file words))
-          → StopKnown (elim o as (λ x. WalkStop ℕ) [ None ↦ unknown at word words | Some found ↦ elim found as (λ x. WalkStop ℕ) [ None ↦ missing | Some file ↦ go seen file words ] ])
+          → StopKnown (elim o as (λ x. WalkStop ℕ) [
+            | None ↦ unknown at word words
+            | Some found ↦ elim found as
+                (λ x. WalkStop ℕ) [ None ↦ missing | Some file ↦ go seen file words ]
+          ])
       by None e rest = h
       by (Some None) e rest = tt
       by (Some (Some file)) e rest = rest file (leads at word file e)
 
-  final_known : (final : FinalOperation ℕ) (file : ℕ) → All (IsKnown nodes) (files_of_plan (last final)) → K file → All (IsKnown nodes) (files_in opened_nodes (operation_at {O = Opened} final file))
+  final_known : (final : FinalOperation ℕ) (file : ℕ) → All (IsKnown nodes) (files_of_plan (last final)) → K file
+      → All (IsKnown nodes) (files_in opened_nodes (operation_at {O = Opened} final file))
   final_known stat file h g = one file g
   final_known (list after) file h g = one file g
   final_known (listplus after) file h g = one file g
@@ -71,16 +78,21 @@ module _ (nodes : Map Counted) where
   final_known (rename_from directory old new) file h g = two directory file (only directory [] h) g
   final_known (link_to linked name) file h g = two file linked g (only linked [] h)
 
-  last_known : (final : FinalOperation ℕ) (stop : WalkStop ℕ) → All (IsKnown nodes) (files_of_plan (last final)) → StopKnown stop → WalkedKnown (after_last final stop)
+  last_known : (final : FinalOperation ℕ) (stop : WalkStop ℕ) → All (IsKnown nodes) (files_of_plan (last final))
+      → StopKnown stop → WalkedKnown (after_last final stop)
   last_known final (unknown at word words) h g = (g, h)
   last_known final missing h g = tt
   last_known final (arrived file) h g = final_known final file h g
 
-  walk_known : (seen : ℕ → Name → Option (Option ℕ)) → ((d : ℕ) (name : Name) (file : ℕ) → seen d name ≡ Some (Some file) → K file) → (root at : ℕ) → K root → K at → (words : List Name) (plan : WalkPlan ℕ) → All (IsKnown nodes) (files_of_plan plan)
+  walk_known : (seen : ℕ → Name → Option (Option ℕ))
+      → ((d : ℕ) (name : Name) (file : ℕ) → seen d name ≡ Some (Some file) → K file) → (root at : ℕ) → K root → K at
+      → (words : List Name) (plan : WalkPlan ℕ) → All (IsKnown nodes) (files_of_plan plan)
       → WalkedKnown (walk seen root at words plan)
-  walk_known seen leads root at top h words plan names = by plan (go seen at words) names (stops_known seen leads words at h)
+  walk_known seen leads root at top h words plan names =
+      by plan (go seen at words) names (stops_known seen leads words at h)
     where
-      by : (plan : WalkPlan ℕ) (stop : WalkStop ℕ) → All (IsKnown nodes) (files_of_plan plan) → StopKnown stop → WalkedKnown (after_stop seen root plan stop)
+      by : (plan : WalkPlan ℕ) (stop : WalkStop ℕ) → All (IsKnown nodes) (files_of_plan plan) → StopKnown stop
+          → WalkedKnown (after_stop seen root plan stop)
       by (last final) (unknown d word more) named g = (g, named)
       by (rename old more new) (unknown d word others) named g = (g, named)
       by (link more name) (unknown d word others) named g = (g, named)
@@ -88,21 +100,42 @@ module _ (nodes : Map Counted) where
       by (rename old more new) missing named g = tt
       by (link more name) missing named g = tt
       by (last final) (arrived file) named g = final_known final file named g
-      by (rename old more new) (arrived file) named g = last_known (rename_from file old new) (go seen root more) (one file g) (stops_known seen leads more root top)
-      by (link more name) (arrived file) named g = last_known (link_to file name) (go seen root more) (one file g) (stops_known seen leads more root top)
+      by (rename old more new) (arrived file) named g =
+          last_known (rename_from file old new) (go seen root more) (one file g) (stops_known seen leads more root top)
+      by (link more name) (arrived file) named g = last_known (link_to file name) (go seen root more) (one file g)
+          (stops_known seen leads more root top)
 
   -- ---- the system calls' side
 
-  pub answered_known : (c : Vfs Opened) → VfsKnown nodes c → (call : ℕ) (a : Answer) → VfsKnown nodes (answered c call a)
-  answered_known c old call a = record { root = old.root; names = old.names; calls = All-gone (StateKnown nodes) c.calls call old.calls; opens = old.opens }
+  pub answered_known : (c : Vfs Opened) → VfsKnown nodes c → (call : ℕ) (a : Answer)
+      → VfsKnown nodes (answered c call a)
+  answered_known c old call a = record {
+    root = old.root;
+    names = old.names;
+    calls = All-gone (StateKnown nodes) c.calls call old.calls;
+    opens = old.opens;
+  }
 
-  pub asking_known : (c : Vfs Opened) → VfsKnown nodes c → (call : ℕ) (state : CallState Opened) → All (IsKnown nodes) (nodes_of_state state) → VfsKnown nodes (asking c call state).vfs
-  asking_known c old call state new = record { root = old.root; names = old.names; calls = All-put (StateKnown nodes) c.calls call state old.calls new; opens = old.opens }
+  pub asking_known : (c : Vfs Opened) → VfsKnown nodes c → (call : ℕ) (state : CallState Opened)
+      → All (IsKnown nodes) (nodes_of_state state) → VfsKnown nodes (asking c call state).vfs
+  asking_known c old call state new = record {
+    root = old.root;
+    names = old.names;
+    calls = All-put (StateKnown nodes) c.calls call state old.calls new;
+    opens = old.opens;
+  }
 
-  pub opened_known : (c : Vfs Opened) → VfsKnown nodes c → (call : ℕ) (o : Opened) → K o.nodeid → VfsKnown nodes (opened_by c call o)
-  opened_known c old call o new = record { root = old.root; names = old.names; calls = old.calls; opens = All-put (OpenKnown nodes) c.opens call o old.opens new }
+  pub opened_known : (c : Vfs Opened) → VfsKnown nodes c → (call : ℕ) (o : Opened) → K o.nodeid
+      → VfsKnown nodes (opened_by c call o)
+  opened_known c old call o new = record {
+    root = old.root;
+    names = old.names;
+    calls = old.calls;
+    opens = All-put (OpenKnown nodes) c.opens call o old.opens new;
+  }
 
-  pub bound_known : (c : Vfs Opened) → VfsKnown nodes c → (d : ℕ) (name : Name) (target : Option ℕ) (valid : ℕ) → K d → ((file : ℕ) → target ≡ Some file → K file) → VfsKnown nodes (bound c d name target valid)
+  pub bound_known : (c : Vfs Opened) → VfsKnown nodes c → (d : ℕ) (name : Name) (target : Option ℕ) (valid : ℕ) → K d
+      → ((file : ℕ) → target ≡ Some file → K file) → VfsKnown nodes (bound c d name target valid)
   bound_known c old d name target valid from to = record {
     root = old.root;
     names = record {
@@ -110,7 +143,8 @@ module _ (nodes : Map Counted) where
         | inl e ↦ subst (λ (n : ℕ). K n) (sym e) from
         | inr ne ↦ old.names.directories id other b (sym (name_put_there c.names d id name other new ne) ∙ at)
       ];
-      targets = λ id other b at. which id other b (eq_by_cmp place_cmp (id, other) (d, name)) (sym (name_put c.names (d, name) new (id, other)) ∙ at);
+      targets = λ id other b at. which id other b (eq_by_cmp place_cmp (id, other) (d, name))
+          (sym (name_put c.names (d, name) new (id, other)) ∙ at);
     };
     calls = old.calls;
     opens = old.opens;
@@ -119,30 +153,40 @@ module _ (nodes : Map Counted) where
       new : Binding
       new = record { target = target; until = c.clock + valid }
 
-      which : (id : ℕ) (other : List ℕ) (b : Binding) (tie : Bool) → cond tie (Some (record { target = target; until = c.clock + valid })) (get_name c.names (id, other)) ≡ Some b → (file : ℕ) → b.target ≡ Some file → K file
-      which id other b true at file is = let same : record { target = target; until = c.clock + valid } ≡ b = cc in to file (ap (λ (x : Binding). x.target) same ∙ is)
+      which : (id : ℕ) (other : List ℕ) (b : Binding) (tie : Bool)
+          → cond tie (Some (record { target = target; until = c.clock + valid })) (get_name c.names (id, other))
+          ≡ Some b → (file : ℕ) → b.target ≡ Some file → K file
+      which id other b true at file is = let same : record { target = target; until = c.clock + valid } ≡ b =
+          cc in to file (ap (λ (x : Binding). x.target) same ∙ is)
       which id other b false at file is = old.names.targets id other b at file is
 
   pub unbound_known : (c : Vfs Opened) → VfsKnown nodes c → (d : ℕ) (name : Name) → VfsKnown nodes (unbound c d name)
   unbound_known c old d name = record {
     root = old.root;
     names = record {
-      directories = λ id other b at. old.names.directories id other b (was id other b (not (eq_by_cmp place_cmp (d, name) (id, other))) (sym (name_gone c.names (d, name) (id, other)) ∙ at));
-      targets = λ id other b at. old.names.targets id other b (was id other b (not (eq_by_cmp place_cmp (d, name) (id, other))) (sym (name_gone c.names (d, name) (id, other)) ∙ at));
+      directories = λ id other b at. old.names.directories id other b
+          (was id other b (not (eq_by_cmp place_cmp (d, name) (id, other)))
+          (sym (name_gone c.names (d, name) (id, other)) ∙ at));
+      targets = λ id other b at. old.names.targets id other b
+          (was id other b (not (eq_by_cmp place_cmp (d, name) (id, other)))
+          (sym (name_gone c.names (d, name) (id, other)) ∙ at));
     };
     calls = old.calls;
     opens = old.opens;
   }
     where
-      was : (id : ℕ) (other : List ℕ) (b : Binding) (left : Bool) → cond left (get_name c.names (id, other)) None ≡ Some b → get_name c.names (id, other) ≡ Some b
+      was : (id : ℕ) (other : List ℕ) (b : Binding) (left : Bool)
+          → cond left (get_name c.names (id, other)) None ≡ Some b → get_name c.names (id, other) ≡ Some b
       was id other b true at = at
       was id other b false at = absurd (cc)
 
   -- what a valid name leads to
-  look_known : (c : Vfs Opened) → VfsKnown nodes c → (d : ℕ) (name : Name) (file : ℕ) → look c d name ≡ Some (Some file) → K file
+  look_known : (c : Vfs Opened) → VfsKnown nodes c → (d : ℕ) (name : Name) (file : ℕ)
+      → look c d name ≡ Some (Some file) → K file
   look_known c old d name file e = by (get_name c.names (d, name)) refl e
     where
-      valid : (b : Binding) → get_name c.names (d, name) ≡ Some b → (t : Bool) → cond t (Some b.target) None ≡ Some (Some file) → K file
+      valid : (b : Binding) → get_name c.names (d, name) ≡ Some b → (t : Bool)
+          → cond t (Some b.target) None ≡ Some (Some file) → K file
       valid b at true f = let is : b.target ≡ Some file = cc in old.names.targets d name b at file is
       valid b at false f = absurd (cc)
 
@@ -150,10 +194,16 @@ module _ (nodes : Map Counted) where
       by None at f = absurd (cc)
       by (Some b) at f = valid b at (nat_lt c.clock b.until) f
 
-  walked_known : (c : Vfs Opened) → VfsKnown nodes c → (call : ℕ) (went : Walked ℕ Opened) → WalkedKnown went → VfsKnown nodes (after_walk c call went).vfs
-  walked_known c old call (looks_up d word words plan) h = asking_known c old call (walking d word words plan) (All-cons (IsKnown nodes) d (files_of_plan plan) h.0 h.1)
+  walked_known : (c : Vfs Opened) → VfsKnown nodes c → (call : ℕ) (went : Walked ℕ Opened) → WalkedKnown went
+      → VfsKnown nodes (after_walk c call went).vfs
+  walked_known c old call (looks_up d word words plan) h =
+      asking_known c old call (walking d word words plan) (All-cons (IsKnown nodes) d (files_of_plan plan) h.0 h.1)
   walked_known c old call finds_none h = answered_known c old call _
   walked_known c old call (asks operation) h = asking_known c old call (doing operation) h
 
-  pub walks_on_known : (c : Vfs Opened) → VfsKnown nodes c → (call file : ℕ) → K file → (words : List Name) (plan : WalkPlan ℕ) → All (IsKnown nodes) (files_of_plan plan) → VfsKnown nodes (walks_on c call file words plan).vfs
-  walks_on_known c old call file h words plan named = walked_known c old call (walk (look c) c.root file words plan) (walk_known (look c) (look_known c old) c.root file old.root h words plan named)
+  pub walks_on_known : (c : Vfs Opened) → VfsKnown nodes c → (call file : ℕ) → K file
+      → (words : List Name) (plan : WalkPlan ℕ) → All (IsKnown nodes) (files_of_plan plan)
+      → VfsKnown nodes (walks_on c call file words plan).vfs
+  walks_on_known c old call file h words plan named =
+      walked_known c old call (walk (look c) c.root file words plan)
+      (walk_known (look c) (look_known c old) c.root file old.root h words plan named)

@@ -20,7 +20,9 @@ second_of x y xs = (1, omega arith, refl)
 
 -- what holds of an operation's files and open files alone
 pub operation_more : (R R' : ℕ → ℕ → Type 0) (S S' : Opened → ℕ → Type 0) (a : Operation ℕ Opened) (b : Operation ℕ ℕ)
-    → ((id file : ℕ) → Contains (files_in opened_nodes a) id → R id file → R' id file) → ((o : Opened) (file : ℕ) → Contains (files_in opened_nodes a) o.nodeid → Contains (opens_of a) o → S o file → S' o file)
+    → ((id file : ℕ) → Contains (files_in opened_nodes a) id → R id file → R' id file)
+    → ((o : Opened) (file : ℕ) → Contains (files_in opened_nodes a) o.nodeid → Contains (opens_of a) o → S o file
+    → S' o file)
     → OperationAlike R S a b → OperationAlike R' S' a b
 operation_more R R' S S' (lookup d name) (lookup e other) f g h = (f d e (first_of d []) h.0, h.1)
 operation_more R R' S S' (getattr x) (getattr y) f g h = f x y (first_of x []) h
@@ -28,19 +30,25 @@ operation_more R R' S S' (mkdir d name) (mkdir e other) f g h = (f d e (first_of
 operation_more R R' S S' (create d name) (create e other) f g h = (f d e (first_of d []) h.0, h.1)
 operation_more R R' S S' (unlink d name) (unlink e other) f g h = (f d e (first_of d []) h.0, h.1)
 operation_more R R' S S' (rmdir d name) (rmdir e other) f g h = (f d e (first_of d []) h.0, h.1)
-operation_more R R' S S' (rename d old e new) (rename d' old' e' new') f g h = (f d d' (first_of d (e ∷ [])) h.0, h.1, f e e' (second_of d e []) h.2, h.3)
-operation_more R R' S S' (link x d name) (link y e other) f g h = (f x y (second_of d x []) h.0, f d e (first_of d (x ∷ [])) h.1, h.2)
+operation_more R R' S S' (rename d old e new) (rename d' old' e' new') f g h =
+    (f d d' (first_of d (e ∷ [])) h.0, h.1, f e e' (second_of d e []) h.2, h.3)
+operation_more R R' S S' (link x d name) (link y e other) f g h =
+    (f x y (second_of d x []) h.0, f d e (first_of d (x ∷ [])) h.1, h.2)
 operation_more R R' S S' (opening x) (opening y) f g h = f x y (first_of x []) h
 operation_more R R' S S' (readdir d after size) (readdir e after' size') f g h = (f d e (first_of d []) h.0, h.1, h.2)
-operation_more R R' S S' (readdirplus d after size) (readdirplus e after' size') f g h = (f d e (first_of d []) h.0, h.1, h.2)
-operation_more R R' S S' (read o offset size) (read o' offset' size') f g h = (g o o' (first_of o.nodeid []) (first_of o []) h.0, h.1, h.2)
-operation_more R R' S S' (write o offset bytes) (write o' offset' bytes') f g h = (g o o' (first_of o.nodeid []) (first_of o []) h.0, h.1, h.2)
+operation_more R R' S S' (readdirplus d after size) (readdirplus e after' size') f g h =
+    (f d e (first_of d []) h.0, h.1, h.2)
+operation_more R R' S S' (read o offset size) (read o' offset' size') f g h =
+    (g o o' (first_of o.nodeid []) (first_of o []) h.0, h.1, h.2)
+operation_more R R' S S' (write o offset bytes) (write o' offset' bytes') f g h =
+    (g o o' (first_of o.nodeid []) (first_of o []) h.0, h.1, h.2)
 operation_more R R' S S' a b f g h = absurd h
 
 Contains-map : {X Y : Type 0} (f : X → Y) (xs : List X) (x : X) → Contains xs x → Contains (map f xs) (f x)
 Contains-map f [] x at = absurd (let lt = at.1 in omega (arith, lt))
 Contains-map f (y ∷ xs) x (zero, lt, is) = (0, omega (arith), ap f is)
-Contains-map f (y ∷ xs) x (suc k, lt, is) = let rest = Contains-map f xs x (k, omega (arith, lt), is) in let low = rest.1 in (suc rest.0, omega (arith, low), rest.2)
+Contains-map f (y ∷ xs) x (suc k, lt, is) = let rest = Contains-map f xs x (k, omega (arith, lt), is) in let low =
+    rest.1 in (suc rest.0, omega (arith, low), rest.2)
 
 module _ (nodes : Map Counted) (t : NodeTable) (h : HandleTable) (ids : List ℕ) where
   -- the generations under which the server holds these nodes
@@ -50,8 +58,19 @@ module _ (nodes : Map Counted) (t : NodeTable) (h : HandleTable) (ids : List ℕ
   -- What the kernel's node means is what it meant when the request that names it was taken.
   pub means_meant : (id file : ℕ) → Contains ids id → Means nodes t id file → Meant t generations_of id file
   means_meant id file among means =
-      let same : generation_in (row_of t id) ≡ means.generation = ap generation_in means.denotes.there ∙ means.denotes.same_generation in
-      record { generation = means.generation; then_held = subst (λ (g : ℕ). Contains generations_of (id, g)) same (Contains-map (λ i. (i, generation_in (row_of t i))) ids id among); denotes = means.denotes }
+      let same : generation_in (row_of t id) ≡ means.generation =
+      ap generation_in means.denotes.there ∙ means.denotes.same_generation in
+      record {
+        generation = means.generation;
+        then_held =
+            subst (λ (g : ℕ). Contains generations_of (id, g)) same
+            (Contains-map (λ i. (i, generation_in (row_of t i))) ids id among);
+        denotes = means.denotes;
+      }
 
-  pub means_open_meant : (o : Opened) (file : ℕ) → Contains ids o.nodeid → MeansOpen nodes t h o file → MeantOpen t h generations_of o file
-  means_open_meant o file among means = record { node_meant = means_meant o.nodeid file among means.node_means; is_number = means.is_number }
+  pub means_open_meant : (o : Opened) (file : ℕ) → Contains ids o.nodeid → MeansOpen nodes t h o file
+      → MeantOpen t h generations_of o file
+  means_open_meant o file among means = record {
+    node_meant = means_meant o.nodeid file among means.node_means;
+    is_number = means.is_number;
+  }

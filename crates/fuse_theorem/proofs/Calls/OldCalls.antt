@@ -41,7 +41,8 @@ OldWalk (looks_up d word words plan) = OldPlan plan
 OldWalk finds_none = Unit {0}
 OldWalk (final.asks operation) = knows M15 (asks operation) ≡ true
 
-final_old : (f : FinalOperation ℕ) (file : ℕ) → OldPlan (last f) → knows M15 (asks (operation_at {O = Opened} f file)) ≡ true
+final_old : (f : FinalOperation ℕ) (file : ℕ) → OldPlan (last f)
+    → knows M15 (asks (operation_at {O = Opened} f file)) ≡ true
 final_old final.stat file h = refl
 final_old (final.list after) file h = refl
 final_old (final.listplus after) file h = absurd h
@@ -58,11 +59,13 @@ last_old f (unknown at word words) h = h
 last_old f missing h = tt
 last_old f (arrived file) h = final_old f file h
 
-stop_old : (seen : ℕ → Name → Option (Option ℕ)) (root : ℕ) (plan : WalkPlan ℕ) (stop : WalkStop ℕ) → OldPlan plan → OldWalk (after_stop seen root plan stop)
+stop_old : (seen : ℕ → Name → Option (Option ℕ)) (root : ℕ) (plan : WalkPlan ℕ) (stop : WalkStop ℕ) → OldPlan plan
+    → OldWalk (after_stop seen root plan stop)
 stop_old seen root plan (unknown at word words) h = h
 stop_old seen root plan missing h = tt
 stop_old seen root (last f) (arrived file) h = final_old f file h
-stop_old seen root (rename old words new) (arrived file) h = last_old (final.rename_from file old new) (go seen root words) tt
+stop_old seen root (rename old words new) (arrived file) h =
+    last_old (final.rename_from file old new) (go seen root words) tt
 stop_old seen root (link words name) (arrived file) h = last_old (final.link_to file name) (go seen root words) tt
 
 -- ---- the calls
@@ -70,13 +73,16 @@ stop_old seen root (link words name) (arrived file) h = last_old (final.link_to 
 answered_old : (c : Vfs Opened) → OldCalls c → (call : ℕ) (a : answer.Answer) → OldCalls (answered c call a)
 answered_old c old call a = All-gone OldState c.calls call old
 
-walked_old : (c : Vfs Opened) → OldCalls c → (call : ℕ) (x : Walked ℕ Opened) → OldWalk x → OldCalls (after_walk c call x).vfs
+walked_old : (c : Vfs Opened) → OldCalls c → (call : ℕ) (x : Walked ℕ Opened) → OldWalk x
+    → OldCalls (after_walk c call x).vfs
 walked_old c old call (looks_up d word words plan) h = All-put OldState c.calls call (walking d word words plan) old h
 walked_old c old call finds_none h = All-gone OldState c.calls call old
 walked_old c old call (final.asks operation) h = All-put OldState c.calls call (doing operation) old h
 
-walks_on_old : (c : Vfs Opened) → OldCalls c → (call file : ℕ) (words : List Name) (plan : WalkPlan ℕ) → OldPlan plan → OldCalls (walks_on c call file words plan).vfs
-walks_on_old c old call file words plan h = walked_old c old call (walk (look c) c.root file words plan) (stop_old (look c) c.root plan (go (look c) file words) h)
+walks_on_old : (c : Vfs Opened) → OldCalls c → (call file : ℕ) (words : List Name) (plan : WalkPlan ℕ) → OldPlan plan
+    → OldCalls (walks_on c call file words plan).vfs
+walks_on_old c old call file words plan h = walked_old c old call (walk (look c) c.root file words plan)
+    (stop_old (look c) c.root plan (go (look c) file words) h)
 
 -- ---- a call begins
 
@@ -86,21 +92,26 @@ OldBeginning (sets_out words plan) = OldPlan plan
 OldBeginning (uses handle operation) = knows M15 (asks operation) ≡ true
 OldBeginning (closes handle opened) = Unit {0}
 
-whole : (path : List ℕ) (then : List Name → Beginning ℕ Opened) → ((words : List Name) → OldBeginning (then words)) → OldBeginning (whole_path path then)
+whole : (path : List ℕ) (then : List Name → Beginning ℕ Opened) → ((words : List Name) → OldBeginning (then words))
+    → OldBeginning (whole_path path then)
 whole path then each = by (words_of path)
   where
-    by : (o : Result (List Name) ℕ) → OldBeginning (elim o as (λ x. Beginning ℕ Opened) [ Err fault ↦ faulty fault | Ok words ↦ then words ])
+    by : (o : Result (List Name) ℕ) → OldBeginning (elim o as
+        (λ x. Beginning ℕ Opened) [ Err fault ↦ faulty fault | Ok words ↦ then words ])
     by (Err fault) = tt
     by (Ok words) = each words
 
-parent : (path : List ℕ) (then : List Name → Name → Beginning ℕ Opened) → ((words : List Name) (name : Name) → OldBeginning (then words name)) → OldBeginning (parent_path path then)
+parent : (path : List ℕ) (then : List Name → Name → Beginning ℕ Opened)
+    → ((words : List Name) (name : Name) → OldBeginning (then words name)) → OldBeginning (parent_path path then)
 parent path then each = whole path _ (λ words. by words (parent_and_last words))
   where
-    by : (words : List Name) (o : Option (List Name × Name)) → OldBeginning (elim o as (λ x. Beginning ℕ Opened) [ None ↦ faulty 22 | Some parts ↦ then parts.0 parts.1 ])
+    by : (words : List Name) (o : Option (List Name × Name))
+        → OldBeginning (elim o as (λ x. Beginning ℕ Opened) [ None ↦ faulty 22 | Some parts ↦ then parts.0 parts.1 ])
     by words None = tt
     by words (Some parts) = each parts.0 parts.1
 
-used : (handle : ℕ) (o : Option Opened) (offset size : ℕ) (then : Opened → Operation ℕ Opened) → ((x : Opened) → knows M15 (asks (then x)) ≡ true) → OldBeginning (begins.using handle o offset size then)
+used : (handle : ℕ) (o : Option Opened) (offset size : ℕ) (then : Opened → Operation ℕ Opened)
+    → ((x : Opened) → knows M15 (asks (then x)) ≡ true) → OldBeginning (begins.using handle o offset size then)
 used handle None offset size then each = tt
 used handle (Some x) offset size then each = by (nat_lt 65536 offset || nat_lt 4096 size)
   where
@@ -125,10 +136,12 @@ beginning_old opens (call.rmdir path) = parent path _ (λ words name. tt)
 beginning_old opens (call.rename from to) = parent from _ (λ words name. parent to _ (λ more other. tt))
 beginning_old opens (call.link from to) = whole from _ (λ words. parent to _ (λ more name. tt))
 beginning_old opens (call.read handle offset size) = used handle (get opens handle) offset size _ (λ x. refl)
-beginning_old opens (call.write handle offset bytes) = used handle (get opens handle) offset (length bytes) _ (λ x. refl)
+beginning_old opens (call.write handle offset bytes) =
+    used handle (get opens handle) offset (length bytes) _ (λ x. refl)
 beginning_old opens (call.close handle) = closing_old handle (get opens handle)
 
-begun_old : (aborted : Bool) (c : Vfs Opened) → OldCalls c → (x : Call) → OldCalls (begun aborted c (spoken false x)).vfs
+begun_old : (aborted : Bool) (c : Vfs Opened) → OldCalls c → (x : Call)
+    → OldCalls (begun aborted c (spoken false x)).vfs
 begun_old true c old x = All-gone OldState c.calls c.next_call old
 begun_old false c old x = by (beginning c.opens (spoken false x)) (beginning_old c.opens x)
   where
@@ -140,7 +153,8 @@ begun_old false c old x = by (beginning c.opens (spoken false x)) (beginning_old
 
 -- ---- a call hears a reply
 
-operation_old : (c : Vfs Opened) → OldCalls c → (call : ℕ) (operation : Operation ℕ Opened) (reply : Reply ℕ Opened) → OldCalls (operation_replied c call operation reply)
+operation_old : (c : Vfs Opened) → OldCalls c → (call : ℕ) (operation : Operation ℕ Opened) (reply : Reply ℕ Opened)
+    → OldCalls (operation_replied c call operation reply)
 operation_old c old call operation (op.failed errno) = All-gone OldState c.calls call old
 operation_old c old call (op.getattr file) (op.attributes a) = All-gone OldState c.calls call old
 operation_old c old call (op.mkdir d name) (op.found file valid) = All-gone OldState c.calls call old
@@ -156,8 +170,10 @@ operation_old c old call (op.read o offset size) (op.content bytes) = All-gone O
 operation_old c old call (op.write o offset bytes) (op.written size) = All-gone OldState c.calls call old
 operation_old c old call operation reply = All-gone OldState c.calls call old
 
-replied_old : (c : Vfs Opened) → OldCalls c → (call : ℕ) (state : CallState Opened) → OldState state → (reply : Reply ℕ Opened) → OldCalls (call_replied c call state reply).vfs
-replied_old c old call (walking d word words plan) h (op.found file valid) = walks_on_old (bound c d word (Some file) valid) old call file words plan h
+replied_old : (c : Vfs Opened) → OldCalls c → (call : ℕ) (state : CallState Opened) → OldState state
+    → (reply : Reply ℕ Opened) → OldCalls (call_replied c call state reply).vfs
+replied_old c old call (walking d word words plan) h (op.found file valid) =
+    walks_on_old (bound c d word (Some file) valid) old call file words plan h
 replied_old c old call (walking d word words plan) h (op.missing valid) = All-gone OldState c.calls call old
 replied_old c old call (walking d word words plan) h (op.failed errno) = All-gone OldState c.calls call old
 replied_old c old call (walking d word words plan) h reply = All-gone OldState c.calls call old
@@ -171,16 +187,23 @@ module _ (k : Kernel) (old : OldCalls k.vfs) where
   begins_old x =
       let next = begun (is_aborted k.phase) k.vfs (spoken false x) in
       let asking_it = advanced k k.vfs.next_call next in
-      subst OldCalls (sym (closing_vfs asking_it (cond (is_aborted k.phase) None (closed_by k.vfs.opens (spoken false x))) ∙ advanced_vfs k k.vfs.next_call next)) (begun_old (is_aborted k.phase) k.vfs old x)
+      subst OldCalls (sym (closing_vfs asking_it (cond (is_aborted k.phase) None
+      (closed_by k.vfs.opens (spoken false x))) ∙ advanced_vfs k k.vfs.next_call next))
+      (begun_old (is_aborted k.phase) k.vfs old x)
 
   used_old : (state : CallState Opened) (q : Kernel) → OldCalls q.vfs → OldCalls (after_use q state).vfs
   used_old state q h = subst OldCalls (sym (used_vfs q state)) h
 
-  pub signal_old : (call : ℕ) (state : CallState Opened) (fatal : Bool) → OldCalls (call_signalled k call state fatal).1.vfs
+  pub signal_old : (call : ℕ) (state : CallState Opened) (fatal : Bool)
+      → OldCalls (call_signalled k call state fatal).1.vfs
   signal_old call state fatal = by (request_of k call)
     where
-      effect : (unique : ℕ) (x : IntrEffect) → OldCalls (after_signal (record k { queues = after_effect k.queues unique x }) call state x).vfs
-      effect unique Dequeued = used_old state (record k { queues = after_effect k.queues unique Dequeued; vfs = answered k.vfs call (answer.failed 4) }) (answered_old k.vfs old call (answer.failed 4))
+      effect : (unique : ℕ) (x : IntrEffect) → OldCalls
+          (after_signal (record k { queues = after_effect k.queues unique x }) call state x).vfs
+      effect unique Dequeued = used_old state (record k {
+        queues = after_effect k.queues unique Dequeued;
+        vfs = answered k.vfs call (answer.failed 4);
+      }) (answered_old k.vfs old call (answer.failed 4))
       effect unique Flagged = old
       effect unique Queued = old
       effect unique NoEffect = old
@@ -189,22 +212,32 @@ module _ (k : Kernel) (old : OldCalls k.vfs) where
       by None = old
       by (Some unique) = effect unique (interrupt_effect k.queues unique fatal)
 
-  judged_old : (q : QueueState Purpose) (call : ℕ) (state : CallState Opened) → OldState state → (wire : WireReply) (u : Use) → OldCalls (judged (record k { queues = q }) call state wire u).vfs
+  judged_old : (q : QueueState Purpose) (call : ℕ) (state : CallState Opened) → OldState state
+      → (wire : WireReply) (u : Use) → OldCalls (judged (record k { queues = q }) call state wire u).vfs
   judged_old q call state h wire usable =
       let next = call_replied k.vfs call state (kernel_reply (asked state) wire) in
-      subst OldCalls (sym (advanced_vfs (record k { queues = q; nodes = learnt k.nodes (files_in_reply wire) }) call next)) (replied_old k.vfs old call state h (kernel_reply (asked state) wire))
+      subst OldCalls (sym (advanced_vfs (record k {
+        queues = q;
+        nodes = learnt k.nodes (files_in_reply wire);
+      }) call next))
+      (replied_old k.vfs old call state h (kernel_reply (asked state) wire))
   judged_old q call state h wire useless = answered_old k.vfs old call (answer.failed 5)
   judged_old q call state h wire (stale node) = answered_old k.vfs old call (answer.failed 5)
 
-  pub hears_old : (call : ℕ) (wire : WireReply) (o : Option (CallState Opened)) → get k.vfs.calls call ≡ o → OldCalls (replied_to_call k call wire o).1.vfs
+  pub hears_old : (call : ℕ) (wire : WireReply) (o : Option (CallState Opened)) → get k.vfs.calls call ≡ o
+      → OldCalls (replied_to_call k call wire o).1.vfs
   hears_old call wire None there = old
   hears_old call wire (Some state) there = by (goes_with (asked state) wire)
     where
       by : (b : Bool) → OldCalls (replied k call state b wire).1.vfs
-      by true = used_old state (reply_received k call state wire) (judged_old (without_stale k wire).queues call state (All-get OldState k.vfs.calls call state old there) (reply_judged k.nodes wire) (use_of_reply k.nodes wire))
-      by false = used_old state (record k { vfs = answered k.vfs call (answer.failed 5) }) (answered_old k.vfs old call (answer.failed 5))
+      by true = used_old state (reply_received k call state wire)
+          (judged_old (without_stale k wire).queues call state (All-get OldState k.vfs.calls call state old there)
+          (reply_judged k.nodes wire) (use_of_reply k.nodes wire))
+      by false = used_old state (record k { vfs = answered k.vfs call (answer.failed 5) })
+          (answered_old k.vfs old call (answer.failed 5))
 
-pub written_old : (k : Kernel) → OldCalls k.vfs → (unique : ℕ) (wire : WireReply) → OldCalls (reply_written k unique wire).1.vfs
+pub written_old : (k : Kernel) → OldCalls k.vfs → (unique : ℕ) (wire : WireReply)
+    → OldCalls (reply_written k unique wire).1.vfs
 written_old k old unique wire = by (nat_eq (unique % 2) 1)
   where
     ended : (q : Kernel) (kept : Purpose) → OldCalls q.vfs → OldCalls (ended_by q kept wire).1.vfs
@@ -229,6 +262,7 @@ written_old k old unique wire = by (nat_eq (unique % 2) 1)
     odd None = old
     odd (Some kept) = interrupts wire
 
-    by : (b : Bool) → OldCalls (cond b (interrupt_reply_written k unique wire (waiting k.queues (unique - 1))) (request_reply_written k unique wire (waiting k.queues unique))).1.vfs
+    by : (b : Bool) → OldCalls (cond b (interrupt_reply_written k unique wire (waiting k.queues (unique - 1)))
+        (request_reply_written k unique wire (waiting k.queues unique))).1.vfs
     by true = odd (waiting k.queues (unique - 1))
     by false = even (waiting k.queues unique)

@@ -37,7 +37,8 @@ answered_steps c call a = record {
   waits = λ state at. absurd (cc (get_gone_here c.calls call, at));
 }
 
-opened_steps : (c : Vfs Opened) (call : ℕ) (o : Opened) (a : Answer) → CallSteps c (answered (opened_by c call o) call a) call (Some o)
+opened_steps : (c : Vfs Opened) (call : ℕ) (o : Opened) (a : Answer)
+    → CallSteps c (answered (opened_by c call o) call a) call (Some o)
 opened_steps c call o a = record {
   others = λ n ne. get_gone_there c.calls call n ne;
   opens = refl;
@@ -45,12 +46,14 @@ opened_steps c call o a = record {
   waits = λ state at. absurd (cc (get_gone_here c.calls call, at));
 }
 
-asking_steps : (c : Vfs Opened) (call : ℕ) (state : CallState Opened) → ((closing : Map Opened) → UsesOpen c.opens closing state) → CallSteps c (asking c call state).vfs call None
+asking_steps : (c : Vfs Opened) (call : ℕ) (state : CallState Opened)
+    → ((closing : Map Opened) → UsesOpen c.opens closing state) → CallSteps c (asking c call state).vfs call None
 asking_steps c call state uses_it = record {
   others = λ n ne. get_put_there c.calls call state n ne;
   opens = refl;
   next = refl;
-  waits = λ other at. let is : state ≡ other = cc (get_put_here c.calls call state, at) in (refl, λ closing. subst (UsesOpen c.opens closing) is (uses_it closing));
+  waits = λ other at. let is : state ≡ other = cc (get_put_here c.calls call state, at) in
+      (refl, λ closing. subst (UsesOpen c.opens closing) is (uses_it closing));
 }
 
 -- ---- walks end in no read or write
@@ -77,7 +80,8 @@ last_plain final (unknown at word words) = tt
 last_plain final walks.missing = tt
 last_plain final (arrived file) = final_plain final file
 
-walk_plain : (seen : ℕ → Name → Option (Option ℕ)) (root at : ℕ) (words : List Name) (plan : WalkPlan ℕ) → WalkPlain (walk seen root at words plan)
+walk_plain : (seen : ℕ → Name → Option (Option ℕ)) (root at : ℕ) (words : List Name) (plan : WalkPlan ℕ)
+    → WalkPlain (walk seen root at words plan)
 walk_plain seen root at words plan = by plan (go seen at words)
   where
     by : (plan : WalkPlan ℕ) (stop : WalkStop ℕ) → WalkPlain (after_stop seen root plan stop)
@@ -91,7 +95,8 @@ walk_plain seen root at words plan = by plan (go seen at words)
     by (walks.rename old more new) (arrived file) = last_plain (walks.rename_from file old new) (go seen root more)
     by (walks.link more name) (arrived file) = last_plain (walks.link_to file name) (go seen root more)
 
-walked_steps : (c : Vfs Opened) (call : ℕ) (x : Walked ℕ Opened) → WalkPlain x → CallSteps c (after_walk c call x).vfs call None
+walked_steps : (c : Vfs Opened) (call : ℕ) (x : Walked ℕ Opened) → WalkPlain x
+    → CallSteps c (after_walk c call x).vfs call None
 walked_steps c call (looks_up d word words plan) h = asking_steps c call (walking d word words plan) (λ closing. tt)
 walked_steps c call finds_none h = answered_steps c call _
 walked_steps c call (asks operation) h = asking_steps c call (doing operation) (λ closing. h)
@@ -102,25 +107,34 @@ walked_steps c call (asks operation) h = asking_steps c call (doing operation) (
 pub data BeginsAs (opens : Map Opened) : Beginning ℕ Opened → Option (ℕ × Opened) → Type 0 where
   faults : (errno : ℕ) → BeginsAs opens (faulty errno) None
   leads : (words : List Name) (plan : WalkPlan ℕ) → BeginsAs opens (sets_out words plan) None
-  reads : (handle : ℕ) (operation : Operation ℕ Opened) (o : Opened) → get opens handle ≡ Some o → opens_of operation ≡ o ∷ [] → BeginsAs opens (uses handle operation) None
+  reads : (handle : ℕ) (operation : Operation ℕ Opened) (o : Opened) → get opens handle ≡ Some o
+      → opens_of operation ≡ o ∷ [] → BeginsAs opens (uses handle operation) None
   ends : (handle : ℕ) (o : Opened) → get opens handle ≡ Some o → BeginsAs opens (closes handle o) (Some (handle, o))
 
 module _ (opens : Map Opened) where
-  whole : (path : List ℕ) (then : List Name → Beginning ℕ Opened) → ((words : List Name) → BeginsAs opens (then words) None) → BeginsAs opens (whole_path path then) None
+  whole : (path : List ℕ) (then : List Name → Beginning ℕ Opened)
+      → ((words : List Name) → BeginsAs opens (then words) None) → BeginsAs opens (whole_path path then) None
   whole path then each = by (words_of path)
     where
-      by : (o : Result (List Name) ℕ) → BeginsAs opens (elim o as (λ x. Beginning ℕ Opened) [ Err fault ↦ faulty fault | Ok words ↦ then words ]) None
+      by : (o : Result (List Name) ℕ) → BeginsAs opens
+          (elim o as (λ x. Beginning ℕ Opened) [ Err fault ↦ faulty fault | Ok words ↦ then words ]) None
       by (Err fault) = faults fault
       by (Ok words) = each words
 
-  parent : (path : List ℕ) (then : List Name → Name → Beginning ℕ Opened) → ((words : List Name) (name : Name) → BeginsAs opens (then words name) None) → BeginsAs opens (parent_path path then) None
+  parent : (path : List ℕ) (then : List Name → Name → Beginning ℕ Opened)
+      → ((words : List Name) (name : Name) → BeginsAs opens (then words name) None)
+      → BeginsAs opens (parent_path path then) None
   parent path then each = whole path _ (λ words. by words (parent_and_last words))
     where
-      by : (words : List Name) (o : Option (List Name × Name)) → BeginsAs opens (elim o as (λ x. Beginning ℕ Opened) [ None ↦ faulty 22 | Some parts ↦ then parts.0 parts.1 ]) None
+      by : (words : List Name) (o : Option (List Name × Name))
+          → BeginsAs opens (elim o as
+          (λ x. Beginning ℕ Opened) [ None ↦ faulty 22 | Some parts ↦ then parts.0 parts.1 ]) None
       by words None = faults 22
       by words (Some parts) = each parts.0 parts.1
 
-  used : (handle : ℕ) (o : Option Opened) → get opens handle ≡ o → (offset size : ℕ) (then : Opened → Operation ℕ Opened) → ((x : Opened) → opens_of (then x) ≡ x ∷ []) → BeginsAs opens (begins.using handle o offset size then) None
+  used : (handle : ℕ) (o : Option Opened) → get opens handle ≡ o
+      → (offset size : ℕ) (then : Opened → Operation ℕ Opened) → ((x : Opened) → opens_of (then x) ≡ x ∷ [])
+      → BeginsAs opens (begins.using handle o offset size then) None
   used handle None at offset size then each = faults 9
   used handle (Some x) at offset size then each = by (nat_lt 65536 offset || nat_lt 4096 size)
     where
@@ -143,16 +157,20 @@ module _ (opens : Map Opened) where
   begins_as (call.write handle offset bytes) = used handle (get opens handle) refl offset (length bytes) _ (λ x. refl)
   begins_as (call.close handle) = by (get opens handle) refl
     where
-      by : (o : Option Opened) → get opens handle ≡ o → BeginsAs opens (begins.closing handle o) (elim o as (λ x. Option (ℕ × Opened)) [ None ↦ None | Some x ↦ Some (handle, x) ])
+      by : (o : Option Opened) → get opens handle ≡ o → BeginsAs opens (begins.closing handle o)
+          (elim o as (λ x. Option (ℕ × Opened)) [ None ↦ None | Some x ↦ Some (handle, x) ])
       by None at = faults 9
       by (Some x) at = ends handle x at
 
 -- A call that closes nothing begins.
-pub begun_steps : (c : Vfs Opened) (call : ℕ) (b : Beginning ℕ Opened) → BeginsAs c.opens b None → CallSteps c (after_beginning c call b).vfs call None
+pub begun_steps : (c : Vfs Opened) (call : ℕ) (b : Beginning ℕ Opened) → BeginsAs c.opens b None
+    → CallSteps c (after_beginning c call b).vfs call None
 begun_steps c call b (faults errno) = answered_steps c call _
-begun_steps c call b (leads words plan) = walked_steps c call (walk (look c) c.root c.root words plan) (walk_plain (look c) c.root c.root words plan)
+begun_steps c call b (leads words plan) = walked_steps c call (walk (look c) c.root c.root words plan)
+    (walk_plain (look c) c.root c.root words plan)
 begun_steps c call b (reads handle operation o at is) =
-    asking_steps c call (using handle operation) (λ closing. subst (λ (os : List Opened). All (IsThere closing) os) (sym is) (All-cons (IsThere closing) o [] (inl at) (All-nil (IsThere closing))))
+    asking_steps c call (using handle operation) (λ closing. subst (λ (os : List Opened). All (IsThere closing) os)
+    (sym is) (All-cons (IsThere closing) o [] (inl at) (All-nil (IsThere closing))))
   where
     IsThere : Map Opened → Opened → Type 0
     IsThere closing x = (get c.opens handle ≡ Some x) ⊎ (get closing handle ≡ Some x)
@@ -171,7 +189,8 @@ gained (walking d word words plan) reply = None
 gained (doing operation) reply = gained_by operation reply
 gained (using handle operation) reply = gained_by operation reply
 
-operation_steps : (c : Vfs Opened) (call : ℕ) (operation : Operation ℕ Opened) (reply : Reply ℕ Opened) → CallSteps c (operation_replied c call operation reply) call (gained_by operation reply)
+operation_steps : (c : Vfs Opened) (call : ℕ) (operation : Operation ℕ Opened) (reply : Reply ℕ Opened)
+    → CallSteps c (operation_replied c call operation reply) call (gained_by operation reply)
 operation_steps c call operation (failed errno) = answered_steps c call _
 operation_steps c call (getattr file) (attributes a) = answered_steps c call _
 operation_steps c call (readdir d after size) (listed records) = answered_steps c call _
@@ -180,7 +199,8 @@ operation_steps c call (read o offset size) (content bytes) = answered_steps c c
 operation_steps c call (write o offset bytes) (written size) = answered_steps c call _
 operation_steps c call (mkdir d name) (found file valid) = answered_steps (bound c d name (Some file) valid) call _
 operation_steps c call (create d name) (created file valid o) = opened_steps (bound c d name (Some file) valid) call o _
-operation_steps c call (link linked d name) (found file valid) = answered_steps (bound c d name (Some file) valid) call _
+operation_steps c call (link linked d name) (found file valid) =
+    answered_steps (bound c d name (Some file) valid) call _
 operation_steps c call (unlink d name) done = answered_steps (unbound c d name) call _
 operation_steps c call (rmdir d name) done = answered_steps (unbound c d name) call _
 operation_steps c call (rename d old e new) done = answered_steps (unbound (unbound c d old) e new) call _
@@ -188,9 +208,11 @@ operation_steps c call (opening file) (opened o) = opened_steps c call o _
 operation_steps c call operation reply = answered_steps c call _
 
 -- A reply reaches the call.
-pub replied_steps : (c : Vfs Opened) (call : ℕ) (state : CallState Opened) (reply : Reply ℕ Opened) → CallSteps c (call_replied c call state reply).vfs call (gained state reply)
+pub replied_steps : (c : Vfs Opened) (call : ℕ) (state : CallState Opened) (reply : Reply ℕ Opened)
+    → CallSteps c (call_replied c call state reply).vfs call (gained state reply)
 replied_steps c call (walking d word words plan) (found file valid) =
-    let c1 = bound c d word (Some file) valid in walked_steps c1 call (walk (look c1) c1.root file words plan) (walk_plain (look c1) c1.root file words plan)
+    let c1 = bound c d word (Some file) valid in walked_steps c1 call (walk (look c1) c1.root file words plan)
+    (walk_plain (look c1) c1.root file words plan)
 replied_steps c call (walking d word words plan) (missing valid) = answered_steps (bound c d word None valid) call _
 replied_steps c call (walking d word words plan) (failed errno) = answered_steps c call _
 replied_steps c call (walking d word words plan) reply = answered_steps c call _
@@ -199,7 +221,8 @@ replied_steps c call (using handle operation) reply = operation_steps c call ope
 
 -- ---- what it opens is what the copy carries
 
-pub gained_counts : (fh : ℕ) (operation : Operation ℕ Opened) (wire : WireReply) → goes_with operation wire ≡ true → worth (has_number fh) (gained_by operation (kernel_reply operation wire)) ≡ opens_in fh wire
+pub gained_counts : (fh : ℕ) (operation : Operation ℕ Opened) (wire : WireReply) → goes_with operation wire ≡ true
+    → worth (has_number fh) (gained_by operation (kernel_reply operation wire)) ≡ opens_in fh wire
 gained_counts fh (create d name) (created g valid n) goes = number_alone n fh
 gained_counts fh (opening file) (opened n) goes = number_alone n fh
 gained_counts fh operation (created g valid n) goes = absurd (true≢false (sym goes))

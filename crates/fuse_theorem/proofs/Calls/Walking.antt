@@ -15,7 +15,8 @@ module _ {F O G P : Type 0} (R : F → G → Type 0) (S : O → P → Type 0) wh
 
   -- what a walk comes to
   abbrev pub WalkedAlike : Walked F O → Walked G P → Type 0
-  WalkedAlike (looks_up d word words plan) (looks_up e word' words' plan') = R d e × (word ≡ word') × (words ≡ words') × WalkPlanAlike R plan plan'
+  WalkedAlike (looks_up d word words plan) (looks_up e word' words' plan') =
+      R d e × (word ≡ word') × (words ≡ words') × WalkPlanAlike R plan plan'
   WalkedAlike finds_none finds_none = Unit {0}
   WalkedAlike (asks a) (asks b) = OperationAlike R S a b
   WalkedAlike a b = ⊥
@@ -25,7 +26,8 @@ module _ {F O G P : Type 0} (R : F → G → Type 0) (S : O → P → Type 0) wh
   LookAlike look see = (d : F) (e : G) (name : Name) → R d e → OptionAlike (OptionAlike R) (look d name) (see e name)
 
   module _ (look : F → Name → Option (Option F)) (see : G → Name → Option (Option G)) (leads : LookAlike look see) where
-    step_alike : (word : Name) (words : List Name) (d : F) (e : G) (a : Option (Option F)) (b : Option (Option G)) → R d e → OptionAlike (OptionAlike R) a b
+    step_alike : (word : Name) (words : List Name) (d : F) (e : G) (a : Option (Option F)) (b : Option (Option G))
+        → R d e → OptionAlike (OptionAlike R) a b
         → ((x : F) (y : G) → R x y → WalkStopAlike (go look x words) (go see y words))
         → WalkStopAlike (elim a [ None ↦ unknown d word words | Some found ↦ elim found [ None ↦ missing | Some file ↦ go look file words ] ])
         (elim b [ None ↦ unknown e word words | Some found ↦ elim found [ None ↦ missing | Some file ↦ go see file words ] ])
@@ -40,9 +42,11 @@ module _ {F O G P : Type 0} (R : F → G → Type 0) (S : O → P → Type 0) wh
     -- Along the same words, from files that are alike, walks stop alike.
     pub go_alike : (words : List Name) (d : F) (e : G) → R d e → WalkStopAlike (go look d words) (go see e words)
     go_alike [] d e r = r
-    go_alike (word ∷ words) d e r = step_alike word words d e (look d word) (see e word) r (leads d e word r) (λ x y h. go_alike words x y h)
+    go_alike (word ∷ words) d e r = step_alike word words d e (look d word) (see e word) r (leads d e word r)
+        (λ x y h. go_alike words x y h)
 
-    pub operation_alike : (a : FinalOperation F) (b : FinalOperation G) (x : F) (y : G) → FinalAlike R a b → R x y → OperationAlike {O = O} {P = P} R S (operation_at a x) (operation_at b y)
+    pub operation_alike : (a : FinalOperation F) (b : FinalOperation G) (x : F) (y : G) → FinalAlike R a b → R x y
+        → OperationAlike {O = O} {P = P} R S (operation_at a x) (operation_at b y)
     operation_alike final.stat final.stat x y h r = r
     operation_alike (final.list after) (final.list after') x y h r = (r, h, refl)
     operation_alike (final.listplus after) (final.listplus after') x y h r = (r, h, refl)
@@ -55,25 +59,30 @@ module _ {F O G P : Type 0} (R : F → G → Type 0) (S : O → P → Type 0) wh
     operation_alike (final.link_to d name) (final.link_to e name') x y h r = (h.0, r, h.1)
     operation_alike a b x y h r = absurd h
 
-    last_alike : (a : FinalOperation F) (b : FinalOperation G) (s : WalkStop F) (t : WalkStop G) → FinalAlike R a b → WalkStopAlike s t → WalkedAlike (after_last a s) (after_last b t)
+    last_alike : (a : FinalOperation F) (b : FinalOperation G) (s : WalkStop F) (t : WalkStop G) → FinalAlike R a b
+        → WalkStopAlike s t → WalkedAlike (after_last a s) (after_last b t)
     last_alike a b (unknown d word words) (unknown e word' words') h r = (r.0, r.1, r.2, h)
     last_alike a b missing missing h r = tt
     last_alike a b (arrived x) (arrived y) h r = operation_alike a b x y h r
     last_alike a b s t h r = absurd r
 
     module _ (root : F) (root' : G) (roots : R root root') where
-      second_alike : (a : FinalOperation F) (b : FinalOperation G) (words words' : List Name) → FinalAlike R a b → words ≡ words' → WalkedAlike (after_last a (go look root words)) (after_last b (go see root' words'))
+      second_alike : (a : FinalOperation F) (b : FinalOperation G) (words words' : List Name) → FinalAlike R a b
+          → words ≡ words' → WalkedAlike (after_last a (go look root words)) (after_last b (go see root' words'))
       second_alike a b words words' h same =
-          subst (λ (ws : List Name). WalkedAlike (after_last a (go look root words)) (after_last b (go see root' ws))) same
+          subst (λ (ws : List Name). WalkedAlike (after_last a (go look root words))
+          (after_last b (go see root' ws))) same
           (last_alike a b (go look root words) (go see root' words) h (go_alike words root root' roots))
 
-      stop_alike : (x : WalkPlan F) (y : WalkPlan G) (s : WalkStop F) (t : WalkStop G) → WalkPlanAlike R x y → WalkStopAlike s t → WalkedAlike (after_stop look root x s) (after_stop see root' y t)
+      stop_alike : (x : WalkPlan F) (y : WalkPlan G) (s : WalkStop F) (t : WalkStop G) → WalkPlanAlike R x y
+          → WalkStopAlike s t → WalkedAlike (after_stop look root x s) (after_stop see root' y t)
       stop_alike x y (unknown d word words) (unknown e word' words') h r = (r.0, r.1, r.2, h)
       stop_alike x y missing missing h r = tt
       stop_alike (last a) (last b) (arrived d) (arrived e) h r = operation_alike a b d e h r
       stop_alike (rename old words new) (rename old' words' new') (arrived d) (arrived e) h r =
           second_alike (final.rename_from d old new) (final.rename_from e old' new') words words' (r, h.0, h.2) h.1
-      stop_alike (link words name) (link words' name') (arrived d) (arrived e) h r = second_alike (final.link_to d name) (final.link_to e name') words words' (r, h.1) h.0
+      stop_alike (link words name) (link words' name') (arrived d) (arrived e) h r =
+          second_alike (final.link_to d name) (final.link_to e name') words words' (r, h.1) h.0
       stop_alike x y (unknown d word words) missing h r = absurd r
       stop_alike x y (unknown d word words) (arrived e) h r = absurd r
       stop_alike x y missing (unknown e word words) h r = absurd r
@@ -88,7 +97,8 @@ module _ {F O G P : Type 0} (R : F → G → Type 0) (S : O → P → Type 0) wh
       stop_alike (link words name) (rename old words' new) (arrived d) (arrived e) h r = absurd h
 
       -- Whole walks, along the same words on the same plan, come to the same.
-      pub walk_alike : (d : F) (e : G) (words words' : List Name) (x : WalkPlan F) (y : WalkPlan G) → R d e → words ≡ words' → WalkPlanAlike R x y
+      pub walk_alike : (d : F) (e : G) (words words' : List Name) (x : WalkPlan F) (y : WalkPlan G) → R d e
+          → words ≡ words' → WalkPlanAlike R x y
           → WalkedAlike (walk look root d words x) (walk see root' e words' y)
       walk_alike d e words words' x y r same h =
           subst (λ (ws : List Name). WalkedAlike (walk look root d words x) (walk see root' e ws y)) same

@@ -9,9 +9,11 @@ use Rattle.std.proofs.lemmas.Option.{slice_get_cases, get_or_from_slice_get}
 module _ {X : Type 0} (f : X → ℕ) where
   -- the sum without the element at a place
   pub sum_removed : (xs : List X) (k : ℕ) (x : X) → slice_get xs k ≡ Some x → sum_by f (remove xs k) + f x ≡ sum_by f xs
-  sum_removed xs k x there = subst (λ (y : X). sum_by f (remove xs k) + f y ≡ sum_by f xs) (get_or_from_slice_get xs k x x there) (sum_by-remove f xs k x (inside (slice_get_cases xs k)))
+  sum_removed xs k x there = subst (λ (y : X). sum_by f (remove xs k) + f y ≡ sum_by f xs)
+      (get_or_from_slice_get xs k x x there) (sum_by-remove f xs k x (inside (slice_get_cases xs k)))
     where
-      inside : (slice_get xs k ≡ slice_get xs k) × (((y : X) × (k < length xs) × (slice_get xs k ≡ Some y) × (get_or xs k y ≡ y)) ⊎ ((length xs ≤ k) × (slice_get xs k ≡ None))) → k < length xs
+      inside : (slice_get xs k ≡ slice_get xs k) × (((y : X) × (k < length xs) × (slice_get xs k ≡ Some y)
+          × (get_or xs k y ≡ y)) ⊎ ((length xs ≤ k) × (slice_get xs k ≡ None))) → k < length xs
       inside (e, inl h) = h.1
       inside (e, inr h) = absurd (cc (h.1, there))
 

@@ -37,7 +37,8 @@ none_from [] low k below le = refl
 none_from (e ∷ m) low k below le =
     let first = less_is low e.0 (both_first (is_lt (nat_cmp low e.0)) (below_all nat_cmp low m) below) in
     let apart = tie_no k e.0 (λ same. absurd (omega (arith, same, first, le))) in
-    ap (λ (b : Bool). cond b (Some e.1) (get m k)) apart ∙ none_from m low k (both_second (is_lt (nat_cmp low e.0)) (below_all nat_cmp low m) below) le
+    ap (λ (b : Bool). cond b (Some e.1) (get m k)) apart ∙ none_from m low k
+    (both_second (is_lt (nat_cmp low e.0)) (below_all nat_cmp low m) below) le
 
 module _ {X : Type 0} (e : ℕ × X) (m : Map X) (rises : Rises (e ∷ m)) where
   pub rest_rises : Rises m
@@ -67,7 +68,8 @@ module _ {X : Type 0} (f : X → ℕ) where
       whole = sum_by-cons f e.1 (values m)
 
       by : (r : Ordering) → nat_cmp k e.0 ≡ r → values_sum (put m k x) + worth (get m k) ≡ values_sum m + f x
-          → values_sum (by_order r ((k, x) ∷ e ∷ m) ((e.0, x) ∷ m) (e ∷ put m k x)) + worth (cond (is_eq r) (Some e.1) (get m k)) ≡ values_sum (e ∷ m) + f x
+          → values_sum (by_order r ((k, x) ∷ e ∷ m) ((e.0, x) ∷ m) (e ∷ put m k x)) + worth
+          (cond (is_eq r) (Some e.1) (get m k)) ≡ values_sum (e ∷ m) + f x
       by Less is rest =
           let low : k < e.0 = less_is k e.0 (subst T (sym (ap is_lt is)) tt) in
           let none = ap worth (first_apart e m rises k (omega (arith, low))) in
@@ -89,10 +91,13 @@ module _ {X : Type 0} (f : X → ℕ) where
       by true is rest =
           let key : k ≡ e.0 = grind (arith, nat_tests, is) in
           let none = ap worth (first_apart e m rises k (omega (arith, key))) in
-          let here : worth (get (e ∷ m) k) ≡ f e.1 = ap (λ (n : ℕ). worth (cond (is_eq (nat_cmp n e.0)) (Some e.1) (get m n))) key ∙ ap (λ (r : Ordering). worth (cond (is_eq r) (Some e.1) (get m e.0))) (cmp_same e.0) in
+          let here : worth (get (e ∷ m) k) ≡ f e.1 = ap (λ (n : ℕ). worth
+          (cond (is_eq (nat_cmp n e.0)) (Some e.1) (get m n))) key ∙ ap
+          (λ (r : Ordering). worth (cond (is_eq r) (Some e.1) (get m e.0))) (cmp_same e.0) in
           omega (arith, whole, none, here, rest)
       by false is rest =
           let other = tie_no k e.0 (λ same. absurd (grind (arith, nat_tests, is, same))) in
-          let there : worth (get (e ∷ m) k) ≡ worth (get m k) = ap (λ (b : Bool). worth (cond b (Some e.1) (get m k))) other in
+          let there : worth (get (e ∷ m) k) ≡ worth (get m k) =
+          ap (λ (b : Bool). worth (cond b (Some e.1) (get m k))) other in
           let more = sum_by-cons f e.1 (values (remove m k)) in
           omega (arith, whole, there, more, rest)

@@ -34,7 +34,8 @@ module _ (f : Opened → ℕ) where
   abbrev pub kernel_sum : Kernel → ℕ
   kernel_sum k = values_sum f k.vfs.opens + values_sum f k.closing + pending_sum k.queues
 
-  pub released_sum : {X : Type 0} (released : X → List Opened) (xs : List X) → sum_by f (all_released released xs) ≡ sum_by (λ x. sum_by f (released x)) xs
+  pub released_sum : {X : Type 0} (released : X → List Opened) (xs : List X)
+      → sum_by f (all_released released xs) ≡ sum_by (λ x. sum_by f (released x)) xs
   released_sum released [] = refl
   released_sum released (x ∷ xs) =
       let rest = released_sum released xs in
@@ -42,7 +43,8 @@ module _ (f : Opened → ℕ) where
       let whole = sum_by-cons (λ y. sum_by f (released y)) x xs in
       omega (arith, rest, both, whole)
 
-  pub open_sum : (w : World) → sum_by f (open_files w) ≡ kernel_sum w.kernel + sent_sum w.requests + held_sum w.server.held
+  pub open_sum : (w : World) → sum_by f (open_files w)
+      ≡ kernel_sum w.kernel + sent_sum w.requests + held_sum w.server.held
   open_sum w =
       let opens = values w.kernel.vfs.opens in
       let closing = values w.kernel.closing in
@@ -65,7 +67,8 @@ has_number fh o = cond (nat_eq o.fh fh) 1 0
 
 -- How often copies carry the number, refused ones among them.
 abbrev pub copies_carry : ℕ → World → ℕ
-copies_carry fh w = sum_by (λ (s : Sent). opens_in fh s.wire) w.replies + sum_by (result_carries (opens_in fh) w.server) w.results
+copies_carry fh w = sum_by (λ (s : Sent). opens_in fh s.wire) w.replies + sum_by
+    (result_carries (opens_in fh) w.server) w.results
 
 releases_for_is : (fh : ℕ) (kept : Purpose) → sum_by (has_number fh) (released_for kept) ≡ releases_for fh kept
 releases_for_is fh purpose.Init = refl
@@ -81,18 +84,24 @@ releases_in_is fh (batch_forget fs) = refl
 releases_in_is fh (interrupt original) = refl
 
 -- What the balance counts: open files, and what copies carry.
-pub balance_counts : (w : World) (fh : ℕ) → open_in_kernel w.kernel fh + open_in_flight w fh ≡ sum_by (has_number fh) (open_files w) + copies_carry fh w
+pub balance_counts : (w : World) (fh : ℕ) → open_in_kernel w.kernel fh + open_in_flight w fh
+    ≡ sum_by (has_number fh) (open_files w) + copies_carry fh w
 balance_counts w fh =
     let whole = open_sum (has_number fh) w in
     let both = sum_by-append (has_number fh) (values w.kernel.vfs.opens) (values w.kernel.closing) in
-    let waits = sum_same (λ (e : ℕ × QueuedRequest Purpose). sum_by (has_number fh) (released_for e.1.kept)) (λ (e : ℕ × QueuedRequest Purpose). releases_for fh e.1.kept) (pending w.kernel.queues) (λ i d lt. releases_for_is fh _) in
-    let sent = sum_same (λ (r : Request). sum_by (has_number fh) (released_by r.body)) (λ (r : Request). releases_in fh r.body) w.requests (λ i d lt. releases_in_is fh _) in
-    let held = sum_same (λ (t : HeldRequest). sum_by (has_number fh) (released_by t.body)) (λ (t : HeldRequest). releases_in fh t.body) (values w.server.held) (λ i d lt. releases_in_is fh _) in
+    let waits = sum_same (λ (e : ℕ × QueuedRequest Purpose). sum_by (has_number fh) (released_for e.1.kept))
+    (λ (e : ℕ × QueuedRequest Purpose). releases_for fh e.1.kept) (pending w.kernel.queues)
+    (λ i d lt. releases_for_is fh _) in
+    let sent = sum_same (λ (r : Request). sum_by (has_number fh) (released_by r.body))
+    (λ (r : Request). releases_in fh r.body) w.requests (λ i d lt. releases_in_is fh _) in
+    let held = sum_same (λ (t : HeldRequest). sum_by (has_number fh) (released_by t.body))
+    (λ (t : HeldRequest). releases_in fh t.body) (values w.server.held) (λ i d lt. releases_in_is fh _) in
     omega (arith, whole, both, waits, sent, held)
 
 -- The balance, so counted.
 abbrev pub CountsOpens : World → Type 0
-CountsOpens w = (fh : ℕ) → handle_count (get w.server.handles.handles fh) ≡ sum_by (has_number fh) (open_files w) + copies_carry fh w
+CountsOpens w = (fh : ℕ) → handle_count (get w.server.handles.handles fh)
+    ≡ sum_by (has_number fh) (open_files w) + copies_carry fh w
 
 pub counts_opens : (w : World) → OpenBalance w → CountsOpens w
 counts_opens w old fh = old fh ∙ balance_counts w fh
@@ -131,12 +140,14 @@ module _ {X : Type 0} (test : X → Bool) where
       whole : sum_by failing (x ∷ xs) ≡ failing x + sum_by failing xs
       whole = sum_by-cons failing x xs
 
-      by : (b : Bool) → test x ≡ b → (sum_by failing xs ≡ 0 → All (λ y. test y ≡ true) xs) → All (λ y. test y ≡ true) (x ∷ xs)
+      by : (b : Bool) → test x ≡ b → (sum_by failing xs ≡ 0 → All (λ y. test y ≡ true) xs)
+          → All (λ y. test y ≡ true) (x ∷ xs)
       by true is rest = All-cons (λ y. test y ≡ true) x xs is (rest (omega (arith, whole, none)))
       by false is rest = let one = ap {B = ℕ} (λ (b : Bool). cond b 0 1) is in absurd (omega (arith, whole, none, one))
 
 -- Each passes still where no more of any are left.
-pub fewer_pass : {X : Type 0} (test : X → Bool) (xs ys : List X) → ((f : X → ℕ) → sum_by f ys ≤ sum_by f xs) → All (λ x. test x ≡ true) xs → All (λ x. test x ≡ true) ys
+pub fewer_pass : {X : Type 0} (test : X → Bool) (xs ys : List X) → ((f : X → ℕ) → sum_by f ys ≤ sum_by f xs)
+    → All (λ x. test x ≡ true) xs → All (λ x. test x ≡ true) ys
 fewer_pass test xs ys fewer h =
     let none = none_failing test xs h in
     let less = fewer (failing test) in

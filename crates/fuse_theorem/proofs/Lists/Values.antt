@@ -16,7 +16,8 @@ module _ {X : Type 0} (P : X → Type 0) where
   All-put [] k x h new = All-cons P x [] new (All-nil P)
   All-put (e ∷ m) k x h new = by (nat_cmp k e.0) (All-put m k x (All-tail P e.1 (values m) h) new)
     where
-      by : (r : Ordering) → All P (values (put m k x)) → All P (values (by_order r ((k, x) ∷ e ∷ m) ((e.0, x) ∷ m) (e ∷ put m k x)))
+      by : (r : Ordering) → All P (values (put m k x))
+          → All P (values (by_order r ((k, x) ∷ e ∷ m) ((e.0, x) ∷ m) (e ∷ put m k x)))
       by Less rest = All-cons P x (values (e ∷ m)) new h
       by Equal rest = All-cons P x (values m) new (All-tail P e.1 (values m) h)
       by Greater rest = All-cons P e.1 (values (put m k x)) (All-head P e.1 (values m) h) rest
@@ -52,7 +53,8 @@ module _ {X : Type 0} where
   -- nothing is found at a key below all
   below_none : (k : ℕ) (m : Map X) → T (below_all nat_cmp k m) → get m k ≡ None
   below_none k [] h = refl
-  below_none k (e ∷ m) h = by (nat_cmp k e.0) (sorted_head _ _ h) (below_none k m (sorted_tail (is_lt (nat_cmp k e.0)) (below_all nat_cmp k m) h))
+  below_none k (e ∷ m) h = by (nat_cmp k e.0) (sorted_head _ _ h)
+      (below_none k m (sorted_tail (is_lt (nat_cmp k e.0)) (below_all nat_cmp k m) h))
     where
       by : (r : Ordering) → T (is_lt r) → get m k ≡ None → cond (is_eq r) (Some e.1) (get m k) ≡ None
       by Less t rest = rest
@@ -60,9 +62,14 @@ module _ {X : Type 0} where
       by Greater t rest = absurd t
 
   -- what is found behind the first entry is found still
-  found_behind : (e : ℕ × X) (m : Map X) → T (is_sorted nat_cmp (e ∷ m)) → (k : ℕ) (x : X) → get m k ≡ Some x → get (e ∷ m) k ≡ Some x
+  found_behind : (e : ℕ × X) (m : Map X) → T (is_sorted nat_cmp (e ∷ m)) → (k : ℕ) (x : X) → get m k ≡ Some x
+      → get (e ∷ m) k ≡ Some x
   found_behind e m sorted k x at = elim (cases_eq k e.0) [
-    | inl same ↦ absurd (cc (at, subst (λ (n : ℕ). get m n ≡ None) (sym same) (below_none e.0 m (sorted_head (below_all nat_cmp e.0 m) (is_sorted nat_cmp m) sorted))))
+    | inl same ↦ absurd (cc (
+      at,
+      subst (λ (n : ℕ). get m n ≡ None) (sym same)
+          (below_none e.0 m (sorted_head (below_all nat_cmp e.0 m) (is_sorted nat_cmp m) sorted)),
+    ))
     | inr ne ↦ ap (λ (b : Bool). cond b (Some e.1) (get m k)) (tie_no k e.0 ne) ∙ at
   ]
 
@@ -70,20 +77,27 @@ module _ {X : Type 0} where
   found_first e m = ap (λ (r : Ordering). cond (is_eq r) (Some e.1) (get m e.0)) (cmp_same e.0)
 
   -- a value that passes a test is found at its key
-  pub any_found : (test : X → Bool) (m : Map X) → T (is_sorted nat_cmp m) → list_any test (values m) ≡ true → (k : ℕ) × (x : X) × (get m k ≡ Some x) × (test x ≡ true)
+  pub any_found : (test : X → Bool) (m : Map X) → T (is_sorted nat_cmp m) → list_any test (values m) ≡ true
+      → (k : ℕ) × (x : X) × (get m k ≡ Some x) × (test x ≡ true)
   any_found test [] sorted any = absurd (true≢false (sym any))
-  any_found test (e ∷ m) sorted any = by (test e.1) refl any (any_found test m (sorted_tail (below_all nat_cmp e.0 m) (is_sorted nat_cmp m) sorted))
+  any_found test (e ∷ m) sorted any = by (test e.1) refl any
+      (any_found test m (sorted_tail (below_all nat_cmp e.0 m) (is_sorted nat_cmp m) sorted))
     where
-      later : (k : ℕ) × (x : X) × (get m k ≡ Some x) × (test x ≡ true) → (k : ℕ) × (x : X) × (get (e ∷ m) k ≡ Some x) × (test x ≡ true)
+      later : (k : ℕ) × (x : X) × (get m k ≡ Some x) × (test x ≡ true)
+          → (k : ℕ) × (x : X) × (get (e ∷ m) k ≡ Some x) × (test x ≡ true)
       later (k, x, at, holds) = (k, x, found_behind e m sorted k x at, holds)
 
-      by : (b : Bool) → test e.1 ≡ b → (b || list_any test (values m)) ≡ true → (list_any test (values m) ≡ true → (k : ℕ) × (x : X) × (get m k ≡ Some x) × (test x ≡ true))
+      by : (b : Bool) → test e.1 ≡ b → (b || list_any test (values m)) ≡ true
+          → (list_any test (values m) ≡ true → (k : ℕ) × (x : X) × (get m k ≡ Some x) × (test x ≡ true))
           → (k : ℕ) × (x : X) × (get (e ∷ m) k ≡ Some x) × (test x ≡ true)
       by true holds any rest = (e.0, e.1, found_first e m, holds)
       by false fails any rest = later (rest any)
 
   -- what is true of each that is found is true of each value
-  pub All-found_values : (P : X → Type 0) (m : Map X) → T (is_sorted nat_cmp m) → ((k : ℕ) (x : X) → get m k ≡ Some x → P x) → All P (values m)
+  pub All-found_values : (P : X → Type 0) (m : Map X) → T (is_sorted nat_cmp m)
+      → ((k : ℕ) (x : X) → get m k ≡ Some x → P x) → All P (values m)
   All-found_values P [] sorted each = All-nil P
   All-found_values P (e ∷ m) sorted each =
-      All-cons P e.1 (values m) (each e.0 e.1 (found_first e m)) (All-found_values P m (sorted_tail (below_all nat_cmp e.0 m) (is_sorted nat_cmp m) sorted) (λ k x at. each k x (found_behind e m sorted k x at)))
+      All-cons P e.1 (values m) (each e.0 e.1 (found_first e m))
+      (All-found_values P m (sorted_tail (below_all nat_cmp e.0 m) (is_sorted nat_cmp m) sorted)
+      (λ k x at. each k x (found_behind e m sorted k x at)))

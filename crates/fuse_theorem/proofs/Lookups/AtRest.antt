@@ -14,8 +14,10 @@ use Rattle.fuse_theorem.proofs.Lookups.WireCounts.{row_there}
 module _ (w : World) (sound : LookupsSound w) (rest : AtRest w) (id : ℕ) where
   none_in_flight : in_flight w id ≡ 0
   none_in_flight =
-      let parts : in_flight w id ≡ forgotten id [] + sent_forgets id [] + copies_name id [] + refused_name id w.server.copies [] =
-      λ i. forgotten id (rest.forgets i) + sent_forgets id (rest.requests i) + copies_name id (rest.replies i) + refused_name id w.server.copies (rest.results i) in
+      let parts : in_flight w id
+      ≡ forgotten id [] + sent_forgets id [] + copies_name id [] + refused_name id w.server.copies [] =
+      λ i. forgotten id (rest.forgets i) + sent_forgets id (rest.requests i) + copies_name id
+      (rest.replies i) + refused_name id w.server.copies (rest.results i) in
       omega (arith, parts)
 
   -- the two sides' counts of the node
@@ -29,19 +31,24 @@ module _ (w : World) (sound : LookupsSound w) (rest : AtRest w) (id : ℕ) where
   pub same_node : SameNode (get w.kernel.nodes id) (get w.server.nodes.rows id)
   same_node = by (get w.kernel.nodes id) (get w.server.nodes.rows id) refl refl
     where
-      by : (a : Option Counted) (b : Option HeldNode) → get w.kernel.nodes id ≡ a → get w.server.nodes.rows id ≡ b → SameNode a b
+      by : (a : Option Counted) (b : Option HeldNode) → get w.kernel.nodes id ≡ a → get w.server.nodes.rows id ≡ b
+          → SameNode a b
       by None None counts holds = tt
       by (Some c) (Some row) counts holds =
           let old = sound.balanced rest.live in
           let known = old.known id c counts in
           let low = known.0 in
           let d = known.2.1 in
-          let is_row : row_of w.server.nodes id ≡ Some row = ap (λ (x : Bool). cond x (Some root_row) (get w.server.nodes.rows id)) (other_is id 1 (λ e. absurd (omega (arith, e, low)))) ∙ holds in
+          let is_row : row_of w.server.nodes id ≡ Some row =
+          ap (λ (x : Bool). cond x (Some root_row) (get w.server.nodes.rows id))
+          (other_is id 1 (λ e. absurd (omega (arith, e, low)))) ∙ holds in
           let same : d.row ≡ row = cc (d.there, is_row) in
           let count = same_count low in
           let server_count = ap count_in holds in
-          let kernel_count = ap counted counts in
-          (sym d.same_generation ∙ ap (λ (r : HeldNode). r.generation) same, omega (arith, count, server_count, kernel_count))
+          let kernel_count = ap counted counts in (
+            sym d.same_generation ∙ ap (λ (r : HeldNode). r.generation) same,
+            omega (arith, count, server_count, kernel_count),
+          )
       by (Some c) None counts holds =
           let old = sound.balanced rest.live in
           let known = old.known id c counts in

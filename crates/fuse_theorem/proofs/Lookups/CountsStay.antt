@@ -41,7 +41,8 @@ advanced_same k call next = by next.operation
 idle_same : (k : Kernel) (handle : ℕ) → SameCounts k (released_if_idle k handle)
 idle_same k handle = by (get k.closing handle)
   where
-    unless_used : (b : Bool) (o : Opened) → (cond b k.queues (after_enqueue k.queues (purpose.Release o))).forgets ≡ k.queues.forgets
+    unless_used : (b : Bool) (o : Opened) → (cond b k.queues (after_enqueue k.queues (purpose.Release o))).forgets
+        ≡ k.queues.forgets
     unless_used true o = refl
     unless_used false o = refl
 
@@ -59,19 +60,27 @@ pub begun_same : (k : Kernel) (call : Call) → SameCounts k (call_begun k call)
 begun_same k call =
     let next = begun (is_aborted k.phase) k.vfs call in
     let asking = advanced k k.vfs.next_call next in
-    then_same k asking (call_begun k call) (advanced_same k k.vfs.next_call next) (closes_one asking (cond (is_aborted k.phase) None (closed_by k.vfs.opens call)))
+    then_same k asking (call_begun k call) (advanced_same k k.vfs.next_call next)
+    (closes_one asking (cond (is_aborted k.phase) None (closed_by k.vfs.opens call)))
   where
     closes_one : (q : Kernel) (file : Option (ℕ × Opened)) → SameCounts q (closing_of q file)
     closes_one q None = record { nodes = refl; forgets = refl }
-    closes_one q (Some file) = let idle = idle_same (record q { closing = put q.closing file.0 file.1 }) file.0 in record { nodes = idle.nodes; forgets = idle.forgets }
+    closes_one q (Some file) = let idle = idle_same (record q { closing = put q.closing file.0 file.1 }) file.0 in
+        record { nodes = idle.nodes; forgets = idle.forgets }
 
 -- A signal reaches a call.
-pub signalled_same : (k : Kernel) (call : ℕ) (state : CallState Opened) (fatal : Bool) → SameCounts k (call_signalled k call state fatal).1
+pub signalled_same : (k : Kernel) (call : ℕ) (state : CallState Opened) (fatal : Bool)
+    → SameCounts k (call_signalled k call state fatal).1
 signalled_same k call state fatal = by (request_of k call)
   where
-    effect : (unique : ℕ) (x : IntrEffect) → SameCounts k (after_signal (record k { queues = after_effect k.queues unique x }) call state x)
+    effect : (unique : ℕ) (x : IntrEffect) → SameCounts k
+        (after_signal (record k { queues = after_effect k.queues unique x }) call state x)
     effect unique Dequeued =
-        let idle = used_same (record k { queues = after_effect k.queues unique Dequeued; vfs = answered k.vfs call (answer.failed 4) }) state in record { nodes = idle.nodes; forgets = idle.forgets }
+        let idle = used_same (record k {
+          queues = after_effect k.queues unique Dequeued;
+          vfs = answered k.vfs call (answer.failed 4);
+        }) state in
+        record { nodes = idle.nodes; forgets = idle.forgets }
     effect unique Flagged = record { nodes = refl; forgets = refl }
     effect unique Queued = record { nodes = refl; forgets = refl }
     effect unique NoEffect = record { nodes = refl; forgets = refl }
@@ -81,7 +90,8 @@ signalled_same k call state fatal = by (request_of k call)
     by (Some unique) = effect unique (interrupt_effect k.queues unique fatal)
 
 -- A pending request is read.
-pub read_same : (q : QueueState Purpose) (o : Option (ℕ × QueuedRequest Purpose)) → (option_map_or (λ e. after_reading q e.0 e.1.mark) o q).forgets ≡ q.forgets
+pub read_same : (q : QueueState Purpose) (o : Option (ℕ × QueuedRequest Purpose))
+    → (option_map_or (λ e. after_reading q e.0 e.1.mark) o q).forgets ≡ q.forgets
 read_same q None = refl
 read_same q (Some e) = by e.0 e.1.mark
   where
@@ -92,7 +102,8 @@ read_same q (Some e) = by e.0 e.1.mark
     by unique mark.Interrupted = refl
 
 -- An INTERRUPT is replied to.
-pub interrupt_reply_same : (q : QueueState Purpose) (original : ℕ) (reply : InterruptReply) → (after_interrupt_reply q original reply).forgets ≡ q.forgets
+pub interrupt_reply_same : (q : QueueState Purpose) (original : ℕ) (reply : InterruptReply)
+    → (after_interrupt_reply q original reply).forgets ≡ q.forgets
 interrupt_reply_same q original reply = by (mark_under q original)
   where
     effect : (x : InterruptReplyEffect) → (after_reply_effect q original x).forgets ≡ q.forgets
@@ -100,6 +111,7 @@ interrupt_reply_same q original reply = by (mark_under q original)
     effect TurnedOff = refl
     effect NoReplyEffect = refl
 
-    by : (o : Option Mark) → (option_map_or (λ m. after_reply_effect q original (reply_effect reply m (list_any (nat_eq original) q.interrupts) q.interrupts_off)) o q).forgets ≡ q.forgets
+    by : (o : Option Mark) → (option_map_or (λ m. after_reply_effect q original
+        (reply_effect reply m (list_any (nat_eq original) q.interrupts) q.interrupts_off)) o q).forgets ≡ q.forgets
     by None = refl
     by (Some m) = effect (reply_effect reply m (list_any (nat_eq original) q.interrupts) q.interrupts_off)

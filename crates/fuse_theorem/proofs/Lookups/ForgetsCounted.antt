@@ -1,4 +1,5 @@
--- Each forget that is queued or sent is of a node from 2 up and of one lookup at least, and no reply is kept under the number of an INTERRUPT.
+-- Each forget that is queued or sent is of a node from 2 up and of one lookup at least, and no reply is kept under the
+-- number of an INTERRUPT.
 use Rattle.fuse_theorem.proofs.Refining.SpokenStay.{spoken_after}
 use Rattle.fuse_spec.specs.Calls.Calls.{spoken}
 use Rattle.std.proofs.Common.{◌≡◌, ℕ, ◌+◌, ◌-◌, ◌≤◌, Bool, true, false, true≢false, cond, List, [], ◌∷◌, ◌++◌, take, drop, Option, Some, None, nat_eq, slice_get, refl, ap, sym, subst, ◌∙◌, arith, inl, inr, All}
@@ -56,15 +57,19 @@ stale_low : (nodes : Map Counted) (gs : List Entry) (node : ℕ) → use_of_all 
 stale_low nodes [] node e = absurd (cc (e))
 stale_low nodes (g ∷ gs) node e = by (nat_lt g.nodeid 2) refl (get nodes g.nodeid) e (stale_low nodes gs node)
   where
-    of_counted : (o : Option Counted) → 2 ≤ g.nodeid → first_use (use_counted g o) (use_of_all nodes gs) ≡ stale node → (use_of_all nodes gs ≡ stale node → 2 ≤ node) → 2 ≤ node
+    of_counted : (o : Option Counted) → 2 ≤ g.nodeid → first_use (use_counted g o) (use_of_all nodes gs) ≡ stale node
+        → (use_of_all nodes gs ≡ stale node → 2 ≤ node) → 2 ≤ node
     of_counted None low f rest = rest f
     of_counted (Some c) low f rest = generation (nat_eq c.generation g.generation) f
       where
-        generation : (b : Bool) → first_use (cond b usable (stale g.nodeid)) (use_of_all nodes gs) ≡ stale node → 2 ≤ node
+        generation : (b : Bool) → first_use (cond b usable (stale g.nodeid)) (use_of_all nodes gs) ≡ stale node
+            → 2 ≤ node
         generation true h = rest h
         generation false h = let same : g.nodeid ≡ node = cc (h) in subst (λ (n : ℕ). 2 ≤ n) same low
 
-    by : (b : Bool) → nat_lt g.nodeid 2 ≡ b → (o : Option Counted) → first_use (cond b useless (use_counted g o)) (use_of_all nodes gs) ≡ stale node → (use_of_all nodes gs ≡ stale node → 2 ≤ node) → 2 ≤ node
+    by : (b : Bool) → nat_lt g.nodeid 2 ≡ b → (o : Option Counted)
+        → first_use (cond b useless (use_counted g o)) (use_of_all nodes gs) ≡ stale node
+        → (use_of_all nodes gs ≡ stale node → 2 ≤ node) → 2 ≤ node
     by true is o f rest = absurd (cc (f))
     by false is o f rest = of_counted o (grind (arith, nat_tests, is)) f rest
 
@@ -76,11 +81,13 @@ told_low nodes (Some g) = by (use_of nodes g) refl
     by : (u : Use) → use_of nodes g ≡ u → All Low (stale_in u)
     by usable e = All-nil Low
     by useless e = All-nil Low
-    by (stale node) e = All-cons Low node [] (stale_low nodes (g ∷ []) node (ap (λ (u : Use). first_use u usable) e)) (All-nil Low)
+    by (stale node) e = All-cons Low node [] (stale_low nodes (g ∷ []) node (ap (λ (u : Use). first_use u usable) e))
+        (All-nil Low)
 
 among_low : (pairs : List (DirentPlus Entry)) (nodes : Map Counted) → All Low (stale_among nodes pairs)
 among_low [] nodes = All-nil Low
-among_low (pair ∷ pairs) nodes = All-append Low (stale_in (use_of_told nodes (told_by pair))) (stale_among (learnt_by nodes pair) pairs) (told_low nodes (told_by pair)) (among_low pairs (learnt_by nodes pair))
+among_low (pair ∷ pairs) nodes = All-append Low (stale_in (use_of_told nodes (told_by pair)))
+    (stale_among (learnt_by nodes pair) pairs) (told_low nodes (told_by pair)) (among_low pairs (learnt_by nodes pair))
 
 in_reply_low : (nodes : Map Counted) (wire : WireReply) → All Low (stale_in_reply nodes wire)
 in_reply_low nodes (listed_plus pairs) = among_low pairs nodes
@@ -90,38 +97,48 @@ of_reply_low : (nodes : Map Counted) (wire : WireReply) (node : ℕ) → use_of_
 of_reply_low nodes (listed_plus pairs) node e = absurd (cc (e))
 of_reply_low nodes wire node e = stale_low nodes (files_in_reply wire) node e
 
-each_forget : (nodes : List ℕ) (forgets : List Forget) → All IsForget forgets → All Low nodes → All IsForget (forgets_with forgets nodes)
+each_forget : (nodes : List ℕ) (forgets : List Forget) → All IsForget forgets → All Low nodes
+    → All IsForget (forgets_with forgets nodes)
 each_forget [] forgets old h = old
 each_forget (node ∷ nodes) forgets old h =
-    each_forget nodes (forgets ++ (node, 1) ∷ []) (All-push IsForget forgets (node, 1) old (All-head Low node nodes h, omega arith)) (All-tail Low node nodes h)
+    each_forget nodes (forgets ++ (node, 1) ∷ []) (All-push IsForget forgets (node, 1) old
+    (All-head Low node nodes h, omega arith)) (All-tail Low node nodes h)
 
-heard_forgets : (k : Kernel) → All IsForget k.queues.forgets → (call : ℕ) (wire : WireReply) (o : Option (CallState Opened)) → All IsForget (replied_to_call k call wire o).1.queues.forgets
+heard_forgets : (k : Kernel) → All IsForget k.queues.forgets
+    → (call : ℕ) (wire : WireReply) (o : Option (CallState Opened))
+    → All IsForget (replied_to_call k call wire o).1.queues.forgets
 heard_forgets k old call wire None = old
 heard_forgets k old call wire (Some state) = by (goes_with (asked state) wire)
   where
     stale_old : All IsForget (without_stale k wire).queues.forgets
     stale_old = each_forget (stale_in_reply k.nodes wire) k.queues.forgets old (in_reply_low k.nodes wire)
 
-    judged_forgets : (x : WireReply) (u : Use) → ((node : ℕ) → u ≡ stale node → 2 ≤ node) → All IsForget (judged (without_stale k wire) call state x u).queues.forgets
+    judged_forgets : (x : WireReply) (u : Use) → ((node : ℕ) → u ≡ stale node → 2 ≤ node)
+        → All IsForget (judged (without_stale k wire) call state x u).queues.forgets
     judged_forgets x usable low =
         let k1 = record (without_stale k wire) { nodes = learnt k.nodes (files_in_reply x) } in
         let same = advanced_same k1 call (call_replied k.vfs call state (kernel_reply (asked state) x)) in
         same_forgets (without_stale k wire).queues.forgets _ same.forgets stale_old
     judged_forgets x useless low = stale_old
-    judged_forgets x (stale node) low = All-push IsForget (without_stale k wire).queues.forgets (node, 1) stale_old (low node refl, omega arith)
+    judged_forgets x (stale node) low = All-push IsForget (without_stale k wire).queues.forgets (node, 1) stale_old
+        (low node refl, omega arith)
 
     by : (b : Bool) → All IsForget (replied k call state b wire).1.queues.forgets
     by true =
         let l = reply_received k call state wire in
         let same = used_same l state in
-        same_forgets l.queues.forgets _ same.forgets (judged_forgets (reply_judged k.nodes wire) (use_of_reply k.nodes wire) (of_reply_low k.nodes wire))
-    by false = let l = record k { vfs = answered k.vfs call (answer.failed 5) } in let same = used_same l state in same_forgets k.queues.forgets _ same.forgets old
+        same_forgets l.queues.forgets _ same.forgets (judged_forgets (reply_judged k.nodes wire)
+        (use_of_reply k.nodes wire) (of_reply_low k.nodes wire))
+    by false = let l = record k { vfs = answered k.vfs call (answer.failed 5) } in let same =
+        used_same l state in same_forgets k.queues.forgets _ same.forgets old
 
-written_forgets : (k : Kernel) → All IsForget k.queues.forgets → (unique : ℕ) (wire : WireReply) → All IsForget (reply_written k unique wire).1.queues.forgets
+written_forgets : (k : Kernel) → All IsForget k.queues.forgets → (unique : ℕ) (wire : WireReply)
+    → All IsForget (reply_written k unique wire).1.queues.forgets
 written_forgets k old unique wire = by (nat_eq (unique % 2) 1)
   where
     interrupts : (x : WireReply) → All IsForget (interrupt_replied k (unique - 1) x).1.queues.forgets
-    interrupts (failed errno) = same_forgets k.queues.forgets _ (interrupt_reply_same k.queues (unique - 1) (interrupt_reply_of errno)) old
+    interrupts (failed errno) = same_forgets k.queues.forgets _
+        (interrupt_reply_same k.queues (unique - 1) (interrupt_reply_of errno)) old
     interrupts done = old
     interrupts x = old
 
@@ -129,7 +146,8 @@ written_forgets k old unique wire = by (nat_eq (unique % 2) 1)
     odd None = old
     odd (Some kept) = interrupts wire
 
-    agrees : (b : Bool) → All IsForget (cond b (made_ready (record k { queues = without k.queues unique }) wire) (kernel_aborted (record k { queues = without k.queues unique }))).queues.forgets
+    agrees : (b : Bool) → All IsForget (cond b (made_ready (record k { queues = without k.queues unique }) wire)
+        (kernel_aborted (record k { queues = without k.queues unique }))).queues.forgets
     agrees true = old
     agrees false = All-nil IsForget
 
@@ -137,9 +155,11 @@ written_forgets k old unique wire = by (nat_eq (unique % 2) 1)
     even None = old
     even (Some purpose.Init) = agrees (is_agreement wire)
     even (Some (purpose.Release o)) = old
-    even (Some (purpose.Call call)) = heard_forgets (record k { queues = without k.queues unique }) old call wire (get k.vfs.calls call)
+    even (Some (purpose.Call call)) = heard_forgets (record k { queues = without k.queues unique }) old call wire
+        (get k.vfs.calls call)
 
-    by : (b : Bool) → All IsForget (cond b (interrupt_reply_written k unique wire (waiting k.queues (unique - 1))) (request_reply_written k unique wire (waiting k.queues unique))).1.queues.forgets
+    by : (b : Bool) → All IsForget (cond b (interrupt_reply_written k unique wire (waiting k.queues (unique - 1)))
+        (request_reply_written k unique wire (waiting k.queues unique))).1.queues.forgets
     by true = odd (waiting k.queues (unique - 1))
     by false = even (waiting k.queues unique)
 
@@ -160,29 +180,41 @@ forgets_spelled (f ∷ g ∷ fs) = refl
 
 -- ---- every event
 
-module _ (choice : ℕ → ℕ) (w : World) (sound : WorldSound w) (requests : RequestsAskedWhileLive w) (links : LinksSound w) (old : Faultless w) where
-  queued_after : (e : Event) (o : Outcome) (after : World) → Happened choice w e o after → All IsForget after.kernel.queues.forgets
+module _ (choice : ℕ → ℕ) (w : World) (sound : WorldSound w) (requests : RequestsAskedWhileLive w)
+    (links : LinksSound w) (old : Faultless w) where
+  queued_after : (e : Event) (o : Outcome) (after : World) → Happened choice w e o after
+      → All IsForget after.kernel.queues.forgets
   queued_after e o after (by_mount f m v idle) = All-nil IsForget
-  queued_after e o after (by_call call ready room within) = let same = begun_same w.kernel (spoken w.kernel.lists_files call) in same_forgets w.kernel.queues.forgets _ same.forgets old.queued
+  queued_after e o after (by_call call ready room within) = let same =
+      begun_same w.kernel (spoken w.kernel.lists_files call) in
+      same_forgets w.kernel.queues.forgets _ same.forgets old.queued
   queued_after e o after (by_read_interrupt original rest live there within) = old.queued
   queued_after e o after (by_read_forgets n live free can within few) = by (can_read_forgets w.kernel.queues n)
     where
-      by : (b : Bool) → All IsForget (cond b (record w.kernel.queues { forgets = drop n w.kernel.queues.forgets; next = w.kernel.queues.next + 2 }) w.kernel.queues).forgets
+      by : (b : Bool) → All IsForget (cond b (record w.kernel.queues {
+        forgets = drop n w.kernel.queues.forgets;
+        next = w.kernel.queues.next + 2;
+      }) w.kernel.queues).forgets
       by true = All-drop IsForget n w.kernel.queues.forgets old.queued
       by false = old.queued
-  queued_after e o after (by_read_pending k unique kept body live free there says within) = same_forgets w.kernel.queues.forgets _ (read_same w.kernel.queues (slice_get (pending w.kernel.queues) k)) old.queued
+  queued_after e o after (by_read_pending k unique kept body live free there says within) =
+      same_forgets w.kernel.queues.forgets _ (read_same w.kernel.queues
+      (slice_get (pending w.kernel.queues) k)) old.queued
   queued_after e o after (by_take k r there within) =
       let took = taking w.server r.unique r.body in
       let v = record w { requests = without_at w.requests k; server = took.server } in
-      subst (λ (q : Kernel). All IsForget q.queues.forgets) (sym (replying_kernel v w.server.next_copy r.unique took.reply)) old.queued
+      subst (λ (q : Kernel). All IsForget q.queues.forgets)
+      (sym (replying_kernel v w.server.next_copy r.unique took.reply)) old.queued
   queued_after e o after (by_perform unique t there within) =
       let did = served choice w.server unique t in
       let v = record w { server = did.server } in
-      subst (λ (q : Kernel). All IsForget q.queues.forgets) (sym (replying_kernel v w.server.next_copy unique (cond w.server.aborted None (Some did.wire)))) old.queued
+      subst (λ (q : Kernel). All IsForget q.queues.forgets)
+      (sym (replying_kernel v w.server.next_copy unique (cond w.server.aborted None (Some did.wire)))) old.queued
   queued_after e o after (by_again unique kept there current within) = old.queued
   queued_after e o after (by_write k sent there within) = written_forgets w.kernel old.queued sent.unique sent.wire
   queued_after e o after (by_settle k result there) = old.queued
-  queued_after e o after (by_signal call fatal state live there within) = let same = signalled_same w.kernel call state fatal in same_forgets w.kernel.queues.forgets _ same.forgets old.queued
+  queued_after e o after (by_signal call fatal state live there within) = let same =
+      signalled_same w.kernel call state fatal in same_forgets w.kernel.queues.forgets _ same.forgets old.queued
   queued_after e o after (by_tick ms timely) = old.queued
   queued_after e o after (by_drop directory name bound live there) = old.queued
   queued_after e o after (by_evict node counted live there unused) =
@@ -195,24 +227,36 @@ module _ (choice : ℕ → ℕ) (w : World) (sound : WorldSound w) (requests : R
   abbrev SentFine : Request → Type 0
   SentFine r = All IsForget (forgets_of r.body)
 
-  replying_requests : (v : World) (number unique : ℕ) (o : Option WireReply) → (replying v number unique o).requests ≡ v.requests
+  replying_requests : (v : World) (number unique : ℕ) (o : Option WireReply)
+      → (replying v number unique o).requests ≡ v.requests
   replying_requests v number unique None = refl
   replying_requests v number unique (Some wire) = refl
 
-  sent_after : (e : Event) (o : Outcome) (after : World) → Happened choice w e o after → All (λ (r : Request). All IsForget (forgets_of r.body)) after.requests
+  sent_after : (e : Event) (o : Outcome) (after : World) → Happened choice w e o after
+      → All (λ (r : Request). All IsForget (forgets_of r.body)) after.requests
   sent_after e o after (by_mount f m v idle) = All-nil SentFine
   sent_after e o after (by_call call ready room within) = old.sent
-  sent_after e o after (by_read_interrupt original rest live there within) = All-push SentFine w.requests (record { unique = interrupt_number original; body = interrupt original }) old.sent (All-nil IsForget)
+  sent_after e o after (by_read_interrupt original rest live there within) =
+      All-push SentFine w.requests (record { unique = interrupt_number original; body = interrupt original }) old.sent
+      (All-nil IsForget)
   sent_after e o after (by_read_forgets n live free can within few) =
       let fs = take n w.kernel.queues.forgets in
-      All-push SentFine w.requests (record { unique = w.kernel.queues.next; body = forget_body fs }) old.sent (same_forgets fs (forgets_of (forget_body fs)) (forgets_spelled fs) (All-take IsForget n w.kernel.queues.forgets old.queued))
-  sent_after e o after (by_read_pending k unique kept body live free there says within) = All-push SentFine w.requests (record { unique = unique; body = body }) old.sent (gives_nothing_back body (asks_reply w.kernel kept body says))
+      All-push SentFine w.requests (record { unique = w.kernel.queues.next; body = forget_body fs }) old.sent
+      (same_forgets fs (forgets_of (forget_body fs)) (forgets_spelled fs)
+      (All-take IsForget n w.kernel.queues.forgets old.queued))
+  sent_after e o after (by_read_pending k unique kept body live free there says within) =
+      All-push SentFine w.requests (record { unique = unique; body = body }) old.sent
+      (gives_nothing_back body (asks_reply w.kernel kept body says))
   sent_after e o after (by_take k r there within) =
       let took = taking w.server r.unique r.body in
-      subst (All SentFine) (sym (replying_requests (record w { requests = without_at w.requests k; server = took.server }) w.server.next_copy r.unique took.reply)) (All-without SentFine w.requests k old.sent)
+      subst (All SentFine) (sym (replying_requests (record w {
+        requests = without_at w.requests k;
+        server = took.server;
+      }) w.server.next_copy r.unique took.reply)) (All-without SentFine w.requests k old.sent)
   sent_after e o after (by_perform unique t there within) =
       let did = served choice w.server unique t in
-      subst (All SentFine) (sym (replying_requests (record w { server = did.server }) w.server.next_copy unique (cond w.server.aborted None (Some did.wire)))) old.sent
+      subst (All SentFine) (sym (replying_requests (record w { server = did.server }) w.server.next_copy unique
+      (cond w.server.aborted None (Some did.wire)))) old.sent
   sent_after e o after (by_again unique kept there current within) = old.sent
   sent_after e o after (by_write k sent there within) = old.sent
   sent_after e o after (by_settle k result there) = old.sent
@@ -227,23 +271,30 @@ module _ (choice : ℕ → ℕ) (w : World) (sound : WorldSound w) (requests : R
   abbrev KeptEven : Map Kept → Type 0
   KeptEven kept = (unique : ℕ) (k : Kept) → get kept unique ≡ Some k → unique % 2 ≡ 0
 
-  performed_kept : (unique : ℕ) (t : HeldRequest) → get w.server.held unique ≡ Some t → KeptEven (served choice w.server unique t).server.kept
+  performed_kept : (unique : ℕ) (t : HeldRequest) → get w.server.held unique ≡ Some t
+      → KeptEven (served choice w.server unique t).server.kept
   performed_kept unique t there = by (is_live w.kernel.phase) refl
     where
       did : Server
       did = (performed choice (record w.server { held = remove w.server.held unique }) t).server
 
       kept_same : did.kept ≡ w.server.kept
-      kept_same = let rest = performed_rest choice (record w.server { held = remove w.server.held unique }) t in rest.kept
+      kept_same = let rest = performed_rest choice (record w.server { held = remove w.server.held unique }) t in
+          rest.kept
 
       was : KeptEven did.kept
       was u k at = old.kept u k (sym (ap (λ (m : Map Kept). get m u) kept_same) ∙ at)
 
       put_even : unique % 2 ≡ 0 → (new : Kept) (b : Bool) → KeptEven (cond b did.kept (put did.kept unique new))
       put_even even new true u k at = was u k at
-      put_even even new false u k at = elim (put_found did.kept unique new u k at) [ inl h ↦ subst (λ (n : ℕ). n % 2 ≡ 0) (sym h.0) even | inr h ↦ was u k h ]
+      put_even even new false u k at = elim (put_found did.kept unique new u k at) [
+        | inl h ↦ subst
+            (λ (n : ℕ). n % 2 ≡ 0) (sym h.0) even
+        | inr h ↦ was u k h
+      ]
 
-      keeps_none : did.aborted ≡ true → (new : Kept) (b : Bool) → did.aborted ≡ b → KeptEven (cond b did.kept (put did.kept unique new))
+      keeps_none : did.aborted ≡ true → (new : Kept) (b : Bool) → did.aborted ≡ b
+          → KeptEven (cond b did.kept (put did.kept unique new))
       keeps_none aborted new true is u k at = was u k at
       keeps_none aborted new false is u k at = absurd (true≢false (sym aborted ∙ is))
 
@@ -253,10 +304,12 @@ module _ (choice : ℕ → ℕ) (w : World) (sound : WorldSound w) (requests : R
           put_even (request_even w.kernel.queues sound.queues unique asked.request asked.under) _ did.aborted
       by false dead = elim (links.idle dead).server [
         | inl none ↦ none_in w.server.held unique t none there
-        | inr aborted ↦ let rest = performed_rest choice (record w.server { held = remove w.server.held unique }) t in keeps_none (rest.aborted ∙ aborted) _ did.aborted refl
+        | inr aborted ↦ let rest = performed_rest choice (record w.server { held = remove w.server.held unique }) t in
+            keeps_none (rest.aborted ∙ aborted) _ did.aborted refl
       ]
 
-  sent_off : (v : World) (number unique : ℕ) (o : Option WireReply) → KeptEven v.server.kept → KeptEven (replying v number unique o).server.kept
+  sent_off : (v : World) (number unique : ℕ) (o : Option WireReply) → KeptEven v.server.kept
+      → KeptEven (replying v number unique o).server.kept
   sent_off v number unique None h = h
   sent_off v number unique (Some wire) h = h
 
@@ -268,12 +321,19 @@ module _ (choice : ℕ → ℕ) (w : World) (sound : WorldSound w) (requests : R
   kept_even e o after (by_read_pending k unique kept body live free there says within) = old.kept
   kept_even e o after (by_take k r there within) =
       let took = taking w.server r.unique r.body in
-      sent_off (record w { requests = without_at w.requests k; server = took.server }) w.server.next_copy r.unique took.reply (subst KeptEven (sym (taken_kept w.server r.unique r.body)) old.kept)
+      sent_off (record w {
+        requests = without_at w.requests k;
+        server = took.server;
+      }) w.server.next_copy r.unique took.reply
+      (subst KeptEven (sym (taken_kept w.server r.unique r.body)) old.kept)
   kept_even e o after (by_perform unique t there within) =
-      let did = served choice w.server unique t in sent_off (record w { server = did.server }) w.server.next_copy unique (cond w.server.aborted None (Some did.wire)) (performed_kept unique t there)
+      let did = served choice w.server unique t in sent_off
+      (record w { server = did.server }) w.server.next_copy unique (cond w.server.aborted None (Some did.wire))
+      (performed_kept unique t there)
   kept_even e o after (by_again unique kept there current within) = old.kept
   kept_even e o after (by_write k sent there within) = old.kept
-  kept_even e o after (by_settle k result there) = λ u x at. old.kept u x (settled_kept w.server result (get w.server.copies result.number) u x at)
+  kept_even e o after (by_settle k result there) =
+      λ u x at. old.kept u x (settled_kept w.server result (get w.server.copies result.number) u x at)
   kept_even e o after (by_signal call fatal state live there within) = old.kept
   kept_even e o after (by_tick ms timely) = old.kept
   kept_even e o after (by_drop directory name bound live there) = old.kept
@@ -281,10 +341,18 @@ module _ (choice : ℕ → ℕ) (w : World) (sound : WorldSound w) (requests : R
   kept_even e o after (by_abort live) = λ u k at. absurd (cc)
 
 -- All that is kept, whatever the event.
-pub faultless_stay : (w : World) → WorldSound w → RequestsAskedWhileLive w → LinksSound w → Faultless w → (e : Event) (o : Outcome) (after : World) → Happens w e o after → Faultless after
+pub faultless_stay : (w : World) → WorldSound w → RequestsAskedWhileLive w → LinksSound w → Faultless w
+    → (e : Event) (o : Outcome) (after : World) → Happens w e o after → Faultless after
 faultless_stay w sound requests links old e o after h =
     let did = happened h.0 w o after e h.2 in
-    record { queued = queued_after h.0 w sound requests links old e o after did; sent = sent_after h.0 w sound requests links old e o after did; kept = kept_even h.0 w sound requests links old e o after did; spoken = spoken_after h.0 w requests links old.spoken e o after did }
+    record {
+      queued = queued_after h.0 w sound requests links old e o after did;
+      sent = sent_after h.0 w sound requests links old e o after did;
+      kept =
+          kept_even h.0 w sound requests links old e o after did;
+      spoken =
+          spoken_after h.0 w requests links old.spoken e o after did;
+    }
 
 pub first_faultless : Faultless first_world
 first_faultless = record {

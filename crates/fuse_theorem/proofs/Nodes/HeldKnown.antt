@@ -25,30 +25,40 @@ use Rattle.fuse_theorem.proofs.Nodes.NodesKnown.{known_some, All-more}
 use Rattle.fuse_theorem.proofs.Lists.Values.{All-get}
 
 -- What a request of a call names is known.
-pub state_names : (nodes : Map Counted) (state : CallState Opened) → All (IsKnown nodes) (nodes_of_state state) → All (IsKnown nodes) (files_in opened_nodes (asked state))
-state_names nodes (walking d word words plan) h = All-cons (IsKnown nodes) d [] (All-head (IsKnown nodes) d _ h) (All-nil (IsKnown nodes))
+pub state_names : (nodes : Map Counted) (state : CallState Opened) → All (IsKnown nodes) (nodes_of_state state)
+    → All (IsKnown nodes) (files_in opened_nodes (asked state))
+state_names nodes (walking d word words plan) h =
+    All-cons (IsKnown nodes) d [] (All-head (IsKnown nodes) d _ h) (All-nil (IsKnown nodes))
 state_names nodes (doing operation) h = h
 state_names nodes (using handle operation) h = h
 
-pub names_known : (k : Kernel) → NodesKnown k → (unique : ℕ) (operation : Operation ℕ Opened) → IsAsked k unique (asks operation) → All (IsKnown k.nodes) (files_in opened_nodes operation)
+pub names_known : (k : Kernel) → NodesKnown k → (unique : ℕ) (operation : Operation ℕ Opened)
+    → IsAsked k unique (asks operation) → All (IsKnown k.nodes) (files_in opened_nodes operation)
 names_known k known unique operation is = by is.request.kept is.asks
   where
-    of_call : (o : Option (CallState Opened)) (call : ℕ) → get k.vfs.calls call ≡ o → asked_by o ≡ Some (asks operation) → All (IsKnown k.nodes) (files_in opened_nodes operation)
+    of_call : (o : Option (CallState Opened)) (call : ℕ) → get k.vfs.calls call ≡ o
+        → asked_by o ≡ Some (asks operation) → All (IsKnown k.nodes) (files_in opened_nodes operation)
     of_call None call at e = absurd (cc)
     of_call (Some state) call at e =
         let same : asked state ≡ operation = cc (e) in
-        subst (λ (x : Operation ℕ Opened). All (IsKnown k.nodes) (files_in opened_nodes x)) same (state_names k.nodes state (All-get (StateKnown k.nodes) k.vfs.calls call state known.calls at))
+        subst (λ (x : Operation ℕ Opened). All (IsKnown k.nodes) (files_in opened_nodes x)) same
+        (state_names k.nodes state (All-get (StateKnown k.nodes) k.vfs.calls call state known.calls at))
 
-    by : (kept : Purpose) → body_of k kept ≡ Some (asks operation) → All (IsKnown k.nodes) (files_in opened_nodes operation)
+    by : (kept : Purpose) → body_of k kept ≡ Some (asks operation)
+        → All (IsKnown k.nodes) (files_in opened_nodes operation)
     by purpose.Init e = absurd (cc)
     by (purpose.Release o) e = absurd (cc)
     by (purpose.Call call) e = of_call (get k.vfs.calls call) call refl e
 
 -- The generations of nodes that the kernel knows are its own.
-taken_known : (w : World) → KnownAreHeld w → (ids : List ℕ) → All (IsKnown w.kernel.nodes) ids → All (λ (g : ℕ × ℕ). generation_known w.kernel.nodes g.0 ≡ Some g.1) (map (λ (id : ℕ). (id, generation_in (row_of w.server.nodes id))) ids)
+taken_known : (w : World) → KnownAreHeld w → (ids : List ℕ) → All (IsKnown w.kernel.nodes) ids
+    → All (λ (g : ℕ × ℕ). generation_known w.kernel.nodes g.0 ≡ Some g.1)
+    (map (λ (id : ℕ). (id, generation_in (row_of w.server.nodes id))) ids)
 taken_known w held [] h = All-nil (λ (g : ℕ × ℕ). generation_known w.kernel.nodes g.0 ≡ Some g.1)
 taken_known w held (id ∷ ids) h =
-    All-cons (λ (g : ℕ × ℕ). generation_known w.kernel.nodes g.0 ≡ Some g.1) (id, generation_in (row_of w.server.nodes id)) (map (λ (x : ℕ). (x, generation_in (row_of w.server.nodes x))) ids) same
+    All-cons (λ (g : ℕ × ℕ). generation_known w.kernel.nodes g.0 ≡ Some g.1)
+    (id, generation_in (row_of w.server.nodes id)) (map
+    (λ (x : ℕ). (x, generation_in (row_of w.server.nodes x))) ids) same
     (taken_known w held ids (All-tail (IsKnown w.kernel.nodes) id ids h))
   where
     same : generation_known w.kernel.nodes id ≡ Some (generation_in (row_of w.server.nodes id))
@@ -62,23 +72,32 @@ named_ids : (f : ℕ → ℕ) (ids : List ℕ) → map (λ (g : ℕ × ℕ). g.0
 named_ids f [] = refl
 named_ids f (id ∷ ids) = ap (λ (xs : List ℕ). id ∷ xs) (named_ids f ids)
 
--- A held request's generations are of the nodes that it names, and where it is one of these, they are those that the kernel knows.
+-- A held request's generations are of the nodes that it names, and where it is one of these, they are those that the
+-- kernel knows.
 pub record HeldOf (Which : RequestBody → Type 0) (w : World) (t : HeldRequest) : Type 0 where
   pub names : map (λ (g : ℕ × ℕ). g.0) t.generations ≡ nodes_of_body t.body
   pub known : Which t.body → All (λ (g : ℕ × ℕ). generation_known w.kernel.nodes g.0 ≡ Some g.1) t.generations
 
 -- A request that the server takes is held so, where the kernel knows what it names.
-pub taken_held : (Which : RequestBody → Type 0) (w : World) → KnownAreHeld w → (body : RequestBody) → (Which body → All (IsKnown w.kernel.nodes) (nodes_of_body body)) → (t : HeldRequest) → t.body ≡ body → t.generations ≡ map (λ (id : ℕ). (id, generation_in (row_of w.server.nodes id))) (nodes_of_body body) → HeldOf Which w t
+pub taken_held : (Which : RequestBody → Type 0) (w : World) → KnownAreHeld w → (body : RequestBody)
+    → (Which body → All (IsKnown w.kernel.nodes) (nodes_of_body body)) → (t : HeldRequest) → t.body ≡ body
+    → t.generations ≡ map (λ (id : ℕ). (id, generation_in (row_of w.server.nodes id))) (nodes_of_body body)
+    → HeldOf Which w t
 taken_held Which w held body known t body_is generations_are = record {
-  names = ap (map (λ (g : ℕ × ℕ). g.0)) generations_are ∙ named_ids (λ id. generation_in (row_of w.server.nodes id)) (nodes_of_body body) ∙ ap nodes_of_body (sym body_is);
-  known = λ which. subst (All (λ (g : ℕ × ℕ). generation_known w.kernel.nodes g.0 ≡ Some g.1)) (sym generations_are) (taken_known w held (nodes_of_body body) (known (subst Which body_is which)));
+  names = ap (map (λ (g : ℕ × ℕ). g.0)) generations_are ∙ named_ids (λ id. generation_in (row_of w.server.nodes id))
+      (nodes_of_body body) ∙ ap nodes_of_body (sym body_is);
+  known = λ which. subst (All (λ (g : ℕ × ℕ). generation_known w.kernel.nodes g.0 ≡ Some g.1)) (sym generations_are)
+      (taken_known w held (nodes_of_body body) (known (subst Which body_is which)));
 }
 
 -- What the kernel knows, the server holds.
-pub known_nodes_held : (w : World) → KnownAreHeld w → (gs : List (ℕ × ℕ)) → All (λ (g : ℕ × ℕ). generation_known w.kernel.nodes g.0 ≡ Some g.1) gs → All (λ (g : ℕ × ℕ). IsHeldAs w.server.nodes g.0 g.1) gs
+pub known_nodes_held : (w : World) → KnownAreHeld w → (gs : List (ℕ × ℕ))
+    → All (λ (g : ℕ × ℕ). generation_known w.kernel.nodes g.0 ≡ Some g.1) gs
+    → All (λ (g : ℕ × ℕ). IsHeldAs w.server.nodes g.0 g.1) gs
 known_nodes_held w held gs h = All-more gs (λ g known. held g.0 g.1 known) h
 
-pub all_still_held : (t : NodeTable) (gs : List (ℕ × ℕ)) → All (λ (g : ℕ × ℕ). IsHeldAs t g.0 g.1) gs → is_still_held t gs ≡ true
+pub all_still_held : (t : NodeTable) (gs : List (ℕ × ℕ)) → All (λ (g : ℕ × ℕ). IsHeldAs t g.0 g.1) gs
+    → is_still_held t gs ≡ true
 all_still_held t [] h = refl
 all_still_held t (g ∷ gs) h =
     let row = (All-head (λ (x : ℕ × ℕ). IsHeldAs t x.0 x.1) g gs h).1 in
@@ -87,5 +106,6 @@ all_still_held t (g ∷ gs) h =
     rw here (all_still_held t gs (All-tail (λ (x : ℕ × ℕ). IsHeldAs t x.0 x.1) g gs h))
 
 -- So its nodes are held still.
-pub still_held : (w : World) → KnownAreHeld w → (gs : List (ℕ × ℕ)) → All (λ (g : ℕ × ℕ). generation_known w.kernel.nodes g.0 ≡ Some g.1) gs → is_still_held w.server.nodes gs ≡ true
+pub still_held : (w : World) → KnownAreHeld w → (gs : List (ℕ × ℕ))
+    → All (λ (g : ℕ × ℕ). generation_known w.kernel.nodes g.0 ≡ Some g.1) gs → is_still_held w.server.nodes gs ≡ true
 still_held w held gs h = all_still_held w.server.nodes gs (known_nodes_held w held gs h)

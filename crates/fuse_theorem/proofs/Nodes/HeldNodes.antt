@@ -21,7 +21,8 @@ use Rattle.fuse_theorem.proofs.Requests.LinksSound.{none_in}
 use Rattle.fuse_theorem.proofs.Lookups.LookupsStay.{known_held}
 
 entries_held : (t : NodeTable) (wire : WireReply) → EntriesHeld t wire → EntriesAreHeld t wire
-entries_held t wire held g among = (All-contains (λ (x : Entry). (2 ≤ x.nodeid) × IsHeldAs t x.nodeid x.generation) (files_in_reply wire) g held among).1
+entries_held t wire held g among = (All-contains (λ (x : Entry). (2 ≤ x.nodeid) × IsHeldAs t x.nodeid x.generation)
+    (files_in_reply wire) g held among).1
 
 -- what each element has, some element has too
 some_of : {X : Type 0} (P Q : X → Type 0) (xs : List X) → All Q xs → SomeHas P xs → (x : X) × P x × Q x
@@ -29,11 +30,16 @@ some_of P Q xs all (here x rest p) = (x, p, All-head Q x rest all)
 some_of P Q xs all (there x rest h) = some_of P Q rest (All-tail Q x rest all) h
 
 -- Where it holds the nodes of the requests that it holds.
-pub nodes_held : (w : World) → WorldSound w → LinksSound w → KeptAreSent w → ((unique : ℕ) (t : HeldRequest) → get w.server.held unique ≡ Some t → NodesStillHeld w.server.nodes t) → HoldsAll w w.server.nodes
+pub nodes_held : (w : World) → WorldSound w → LinksSound w → KeptAreSent w
+    → ((unique : ℕ) (t : HeldRequest) → get w.server.held unique ≡ Some t → NodesStillHeld w.server.nodes t)
+    → HoldsAll w w.server.nodes
 nodes_held w sound links kept held = by (is_live w.kernel.phase) refl
   where
-    held_nodes : (unique : ℕ) (t : HeldRequest) → get w.server.held unique ≡ Some t → (id generation : ℕ) → Contains t.generations (id, generation) → IsHeldAs w.server.nodes id generation
-    held_nodes unique t at id generation among = let now = held unique t at in All-contains (λ (g : ℕ × ℕ). IsHeldAs w.server.nodes g.0 g.1) t.generations (id, generation) now.held among
+    held_nodes : (unique : ℕ) (t : HeldRequest) → get w.server.held unique ≡ Some t → (id generation : ℕ)
+        → Contains t.generations (id, generation) → IsHeldAs w.server.nodes id generation
+    held_nodes unique t at id generation among = let now =
+        held unique t at in All-contains (λ (g : ℕ × ℕ). IsHeldAs w.server.nodes g.0 g.1) t.generations
+        (id, generation) now.held among
 
     by : (b : Bool) → is_live w.kernel.phase ≡ b → HoldsAll w w.server.nodes
     by true live =
@@ -43,7 +49,9 @@ nodes_held w sound links kept held = by (is_live w.kernel.phase) refl
           known = known_held w sound.lookups;
           held = held_nodes;
           kept = λ unique k at awaited.
-              let sent = some_of (λ (s : Sent). (s.unique ≡ unique) × (s.wire ≡ k.wire)) (λ (s : Sent). EntriesHeld w.server.nodes s.wire) w.replies balanced.copies (kept unique k at awaited) in
+              let sent = some_of (λ (s : Sent). (s.unique ≡ unique) × (s.wire ≡ k.wire))
+              (λ (s : Sent). EntriesHeld w.server.nodes s.wire) w.replies balanced.copies
+              (kept unique k at awaited) in
               entries_held w.server.nodes k.wire (subst (EntriesHeld w.server.nodes) sent.1.1 sent.2);
           copies = λ i s lt awaited. entries_held w.server.nodes (get_or w.replies i s).wire (balanced.copies i s lt);
         }
@@ -53,5 +61,6 @@ nodes_held w sound links kept held = by (is_live w.kernel.phase) refl
           known = known_held w sound.lookups;
           held = held_nodes;
           kept = λ unique k at awaited. none_in w.server.kept unique k idle.kept at;
-          copies = subst (All (λ (s : Sent). request_under w.kernel.queues s.unique ≢ None → EntriesAreHeld w.server.nodes s.wire)) (sym idle.replies) (All-nil (λ (s : Sent). _));
+          copies = subst (All (λ (s : Sent). request_under w.kernel.queues s.unique ≢ None
+              → EntriesAreHeld w.server.nodes s.wire)) (sym idle.replies) (All-nil (λ (s : Sent). _));
         }

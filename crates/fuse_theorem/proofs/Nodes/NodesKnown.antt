@@ -45,10 +45,14 @@ pub All-more : {X : Type 0} {P Q : X → Type 0} (xs : List X) → ((x : X) → 
 All-more xs more h = λ i d lt. more _ (h i d lt)
 
 -- What is known stays so where more is known.
-known_more : (nodes nodes' : Map Counted) → ((id : ℕ) → IsKnown nodes id → IsKnown nodes' id) → (c : Vfs Opened) → VfsKnown nodes c → VfsKnown nodes' c
+known_more : (nodes nodes' : Map Counted) → ((id : ℕ) → IsKnown nodes id → IsKnown nodes' id) → (c : Vfs Opened)
+    → VfsKnown nodes c → VfsKnown nodes' c
 known_more nodes nodes' more c old = record {
   root = more c.root old.root;
-  names = record { directories = λ id name b at. more id (old.names.directories id name b at); targets = λ id name b at target is. more target (old.names.targets id name b at target is) };
+  names = record {
+    directories = λ id name b at. more id (old.names.directories id name b at);
+    targets = λ id name b at target is. more target (old.names.targets id name b at target is);
+  };
   calls = All-more (values c.calls) (λ state h. All-more (nodes_of_state state) more h) old.calls;
   opens = All-more (values c.opens) (λ o h. more o.nodeid h) old.opens;
 }
@@ -56,37 +60,45 @@ known_more nodes nodes' more c old = record {
 some_known : (nodes : Map Counted) (id generation : ℕ) → generation_known nodes id ≡ Some generation → IsKnown nodes id
 some_known nodes id generation e none = absurd (cc (e, none))
 
-pub known_some : (nodes : Map Counted) (id : ℕ) → IsKnown nodes id → (generation : ℕ) × (generation_known nodes id ≡ Some generation)
+pub known_some : (nodes : Map Counted) (id : ℕ) → IsKnown nodes id
+    → (generation : ℕ) × (generation_known nodes id ≡ Some generation)
 known_some nodes id known = by (generation_known nodes id) refl
   where
-    by : (o : Option ℕ) → generation_known nodes id ≡ o → (generation : ℕ) × (generation_known nodes id ≡ Some generation)
+    by : (o : Option ℕ) → generation_known nodes id ≡ o
+        → (generation : ℕ) × (generation_known nodes id ≡ Some generation)
     by None e = absurd (known e)
     by (Some g) e = (g, e)
 
 pub learnt_more : (gs : List Entry) (nodes : Map Counted) (id : ℕ) → IsKnown nodes id → IsKnown (learnt nodes gs) id
-learnt_more gs nodes id known = let some = known_some nodes id known in some_known (learnt nodes gs) id some.0 (learnt_known gs nodes id some.0 some.1)
+learnt_more gs nodes id known = let some = known_some nodes id known in
+    some_known (learnt nodes gs) id some.0 (learnt_known gs nodes id some.0 some.1)
 
 -- what a reply names is known from then on
 entries_known : (gs : List Entry) (nodes : Map Counted) → All (λ (g : Entry). IsKnown (learnt nodes gs) g.nodeid) gs
 entries_known [] nodes = All-nil (λ (g : Entry). IsKnown nodes g.nodeid)
 entries_known (g ∷ gs) nodes =
     let next = put nodes g.nodeid (counted_more g (get nodes g.nodeid)) in
-    All-cons (λ (x : Entry). IsKnown (learnt nodes (g ∷ gs)) x.nodeid) g gs (learnt_more gs next g.nodeid (put_known (counted_more g (get nodes g.nodeid)))) (entries_known gs next)
+    All-cons (λ (x : Entry). IsKnown (learnt nodes (g ∷ gs)) x.nodeid) g gs
+    (learnt_more gs next g.nodeid (put_known (counted_more g (get nodes g.nodeid)))) (entries_known gs next)
   where
     put_known : (x : Counted) → IsKnown (put nodes g.nodeid x) g.nodeid
     put_known x = by (nat_eq g.nodeid 1)
       where
-        by : (b : Bool) → cond b (Some 0) (option_map (λ (c : Counted). c.generation) (get (put nodes g.nodeid x) g.nodeid)) ≢ None
+        by : (b : Bool) → cond b (Some 0) (option_map (λ (c : Counted). c.generation)
+            (get (put nodes g.nodeid x) g.nodeid)) ≢ None
         by true e = absurd (cc (e))
-        by false e = let here = get_put_here nodes g.nodeid x in let is : Some x.generation ≡ None = sym (ap (option_map (λ (c : Counted). c.generation)) here) ∙ e in absurd (cc (is))
+        by false e = let here = get_put_here nodes g.nodeid x in let is : Some x.generation ≡ None =
+            sym (ap (option_map (λ (c : Counted). c.generation)) here) ∙ e in absurd (cc (is))
 
 -- ---- the kernel goes on
 
 -- The same nodes, names, calls and open files.
 same_known : (k l : Kernel) → l.nodes ≡ k.nodes → l.vfs ≡ k.vfs → NodesKnown k → NodesKnown l
-same_known k l nodes vfs old = subst (λ (n : Map Counted). VfsKnown n l.vfs) (sym nodes) (subst (λ (c : Vfs Opened). VfsKnown k.nodes c) (sym vfs) old)
+same_known k l nodes vfs old = subst (λ (n : Map Counted). VfsKnown n l.vfs) (sym nodes)
+    (subst (λ (c : Vfs Opened). VfsKnown k.nodes c) (sym vfs) old)
 
-advanced_known : (k : Kernel) (call : ℕ) (next : Advance Opened) → VfsKnown k.nodes next.vfs → NodesKnown (advanced k call next)
+advanced_known : (k : Kernel) (call : ℕ) (next : Advance Opened) → VfsKnown k.nodes next.vfs
+    → NodesKnown (advanced k call next)
 advanced_known k call next new = by next.operation
   where
     by : (o : Option (Operation ℕ Opened)) → NodesKnown (asking_for (record k { vfs = next.vfs }) call o)
@@ -108,17 +120,24 @@ used_known k (using handle operation) old = idle_known k handle old
 pub call_known : (k : Kernel) → NodesKnown k → (call : Call) → NodesKnown (call_begun k call)
 call_known k old call =
     let next = begun (is_aborted k.phase) k.vfs call in
-    closes_one (advanced k k.vfs.next_call next) (advanced_known k k.vfs.next_call next (begun_known k.nodes (is_aborted k.phase) k.vfs old call)) (cond (is_aborted k.phase) None (closed_by k.vfs.opens call))
+    closes_one (advanced k k.vfs.next_call next) (advanced_known k k.vfs.next_call next
+    (begun_known k.nodes (is_aborted k.phase) k.vfs old call))
+    (cond (is_aborted k.phase) None (closed_by k.vfs.opens call))
   where
     closes_one : (q : Kernel) → NodesKnown q → (file : Option (ℕ × Opened)) → NodesKnown (closing_of q file)
     closes_one q h None = h
     closes_one q h (Some file) = idle_known (record q { closing = put q.closing file.0 file.1 }) file.0 h
 
-pub signal_known : (k : Kernel) → NodesKnown k → (call : ℕ) (state : CallState Opened) (fatal : Bool) → NodesKnown (call_signalled k call state fatal).1
+pub signal_known : (k : Kernel) → NodesKnown k → (call : ℕ) (state : CallState Opened) (fatal : Bool)
+    → NodesKnown (call_signalled k call state fatal).1
 signal_known k old call state fatal = by (request_of k call)
   where
-    effect : (unique : ℕ) (x : IntrEffect) → NodesKnown (after_signal (record k { queues = after_effect k.queues unique x }) call state x)
-    effect unique Dequeued = used_known (record k { queues = after_effect k.queues unique Dequeued; vfs = answered k.vfs call (answer.failed 4) }) state (answered_known k.nodes k.vfs old call (answer.failed 4))
+    effect : (unique : ℕ) (x : IntrEffect) → NodesKnown
+        (after_signal (record k { queues = after_effect k.queues unique x }) call state x)
+    effect unique Dequeued = used_known (record k {
+      queues = after_effect k.queues unique Dequeued;
+      vfs = answered k.vfs call (answer.failed 4);
+    }) state (answered_known k.nodes k.vfs old call (answer.failed 4))
     effect unique Flagged = old
     effect unique Queued = old
     effect unique NoEffect = old
@@ -127,7 +146,8 @@ signal_known k old call state fatal = by (request_of k call)
     by None = old
     by (Some unique) = effect unique (interrupt_effect k.queues unique fatal)
 
-heard_known : (k : Kernel) → NodesKnown k → (call : ℕ) (wire : WireReply) (o : Option (CallState Opened)) → get k.vfs.calls call ≡ o → NodesKnown (replied_to_call k call wire o).1
+heard_known : (k : Kernel) → NodesKnown k → (call : ℕ) (wire : WireReply) (o : Option (CallState Opened))
+    → get k.vfs.calls call ≡ o → NodesKnown (replied_to_call k call wire o).1
 heard_known k old call wire None there = old
 heard_known k old call wire (Some state) there = by (goes_with (asked state) wire)
   where
@@ -135,14 +155,19 @@ heard_known k old call wire (Some state) there = by (goes_with (asked state) wir
     judged_known x usable =
         let gs = files_in_reply x in
         let more = known_more k.nodes (learnt k.nodes gs) (learnt_more gs k.nodes) k.vfs old in
-        advanced_known (record (without_stale k wire) { nodes = learnt k.nodes gs }) call (call_replied k.vfs call state (kernel_reply (asked state) x))
-        (replied_known (learnt k.nodes gs) k.vfs more call state x (All-get (StateKnown (learnt k.nodes gs)) k.vfs.calls call state more.calls there) (entries_known gs k.nodes))
+        advanced_known (record (without_stale k wire) { nodes = learnt k.nodes gs }) call
+        (call_replied k.vfs call state (kernel_reply (asked state) x))
+        (replied_known (learnt k.nodes gs) k.vfs more call state x
+        (All-get (StateKnown (learnt k.nodes gs)) k.vfs.calls call state more.calls there)
+        (entries_known gs k.nodes))
     judged_known x useless = answered_known k.nodes k.vfs old call (answer.failed 5)
     judged_known x (stale node) = answered_known k.nodes k.vfs old call (answer.failed 5)
 
     by : (b : Bool) → NodesKnown (replied k call state b wire).1
-    by true = used_known (reply_received k call state wire) state (judged_known (reply_judged k.nodes wire) (use_of_reply k.nodes wire))
-    by false = used_known (record k { vfs = answered k.vfs call (answer.failed 5) }) state (answered_known k.nodes k.vfs old call (answer.failed 5))
+    by true = used_known (reply_received k call state wire) state
+        (judged_known (reply_judged k.nodes wire) (use_of_reply k.nodes wire))
+    by false = used_known (record k { vfs = answered k.vfs call (answer.failed 5) }) state
+        (answered_known k.nodes k.vfs old call (answer.failed 5))
 
 -- Everything is given up, and the root is known still.
 empty_known : (c : Vfs Opened) → c.root ≡ 1 → VfsKnown [] (given_up c)
@@ -153,7 +178,8 @@ empty_known c root = record {
   opens = All-nil (OpenKnown []);
 }
 
-pub write_known : (k : Kernel) → NodesKnown k → k.vfs.root ≡ 1 → (unique : ℕ) (wire : WireReply) → NodesKnown (reply_written k unique wire).1
+pub write_known : (k : Kernel) → NodesKnown k → k.vfs.root ≡ 1 → (unique : ℕ) (wire : WireReply)
+    → NodesKnown (reply_written k unique wire).1
 write_known k old root unique wire = by (nat_eq (unique % 2) 1)
   where
     interrupts : (x : WireReply) → NodesKnown (interrupt_replied k (unique - 1) x).1
@@ -165,7 +191,8 @@ write_known k old root unique wire = by (nat_eq (unique % 2) 1)
     odd None = old
     odd (Some kept) = interrupts wire
 
-    agrees : (b : Bool) → NodesKnown (cond b (made_ready (record k { queues = without k.queues unique }) wire) (kernel_aborted (record k { queues = without k.queues unique })))
+    agrees : (b : Bool) → NodesKnown (cond b (made_ready (record k { queues = without k.queues unique }) wire)
+        (kernel_aborted (record k { queues = without k.queues unique })))
     agrees true = old
     agrees false = empty_known k.vfs root
 
@@ -173,9 +200,11 @@ write_known k old root unique wire = by (nat_eq (unique % 2) 1)
     even None = old
     even (Some purpose.Init) = agrees (is_agreement wire)
     even (Some (purpose.Release o)) = old
-    even (Some (purpose.Call call)) = heard_known (record k { queues = without k.queues unique }) old call wire (get k.vfs.calls call) refl
+    even (Some (purpose.Call call)) = heard_known (record k { queues = without k.queues unique }) old call wire
+        (get k.vfs.calls call) refl
 
-    by : (b : Bool) → NodesKnown (cond b (interrupt_reply_written k unique wire (waiting k.queues (unique - 1))) (request_reply_written k unique wire (waiting k.queues unique))).1
+    by : (b : Bool) → NodesKnown (cond b (interrupt_reply_written k unique wire (waiting k.queues (unique - 1)))
+        (request_reply_written k unique wire (waiting k.queues unique))).1
     by true = odd (waiting k.queues (unique - 1))
     by false = even (waiting k.queues unique)
 
@@ -183,9 +212,12 @@ write_known k old root unique wire = by (nat_eq (unique % 2) 1)
 
 -- Another node is known still.
 pub still_known : (nodes : Map Counted) (node id : ℕ) → id ≢ node → IsKnown nodes id → IsKnown (remove nodes node) id
-still_known nodes node id ne known = let some = known_some nodes id known in some_known (remove nodes node) id some.0 (known_still nodes node id some.0 ne some.1)
+still_known nodes node id ne known = let some = known_some nodes id known in
+    some_known (remove nodes node) id some.0 (known_still nodes node id some.0 ne some.1)
 
-module _ (k : Kernel) (old : NodesKnown k) (root : k.vfs.root ≡ 1) (node : ℕ) (counted : Counted) (there : get k.nodes node ≡ Some counted) (low : 2 ≤ node) (unpinned : is_pinned k node ≡ false) (free : is_bound k node ≡ false) where
+module _ (k : Kernel) (old : NodesKnown k) (root : k.vfs.root ≡ 1) (node : ℕ) (counted : Counted)
+    (there : get k.nodes node ≡ Some counted) (low : 2 ≤ node) (unpinned : is_pinned k node ≡ false)
+    (free : is_bound k node ≡ false) where
   still : (id : ℕ) → id ≢ node → IsKnown k.nodes id → IsKnown (remove k.nodes node) id
   still id ne known = still_known k.nodes node id ne known
 
@@ -195,25 +227,35 @@ module _ (k : Kernel) (old : NodesKnown k) (root : k.vfs.root ≡ 1) (node : ℕ
   abbrev OfOpens : Opened → Bool
   OfOpens o = nat_eq o.nodeid node
 
-  first : (list_any OfCalls (values k.vfs.calls) ≡ false) × ((list_any OfOpens (values k.vfs.opens) || list_any (λ (e : ℕ × QueuedRequest Purpose). is_released_by node e.1.kept) k.queues.requests) ≡ false)
+  first : (list_any OfCalls (values k.vfs.calls) ≡ false)
+      × ((list_any OfOpens (values k.vfs.opens) || list_any
+      (λ (e : ℕ × QueuedRequest Purpose). is_released_by node e.1.kept) k.queues.requests) ≡ false)
   first = or_false (list_any OfCalls (values k.vfs.calls)) _ unpinned
 
   -- those of a list that the node is not among
-  others : (ids : List ℕ) → list_any (nat_eq node) ids ≡ false → All (IsKnown k.nodes) ids → All (IsKnown (remove k.nodes node)) ids
-  others ids none h = λ i d lt. still _ (λ e. true≢false (sym (subst (λ (n : ℕ). nat_eq node n ≡ true) (sym e) (same_is node)) ∙ each_fails (nat_eq node) ids none i d lt)) (h i d lt)
+  others : (ids : List ℕ) → list_any (nat_eq node) ids ≡ false → All (IsKnown k.nodes) ids
+      → All (IsKnown (remove k.nodes node)) ids
+  others ids none h = λ i d lt. still _ (λ e. true≢false
+      (sym (subst (λ (n : ℕ). nat_eq node n ≡ true) (sym e) (same_is node)) ∙ each_fails
+      (nat_eq node) ids none i d lt)) (h i d lt)
 
   pub evict_known : VfsKnown (remove k.nodes node) k.vfs
   evict_known = record {
     root = still k.vfs.root (λ e. absurd (omega (arith, e, root, low))) old.root;
     names = record {
-      directories = λ id name b at. still id (unbound node k.vfs.names id name b free at).0 (old.names.directories id name b at);
-      targets = λ id name b at target is. still target (not_target node b.target target (unbound node k.vfs.names id name b free at).1 is) (old.names.targets id name b at target is);
+      directories = λ id name b at. still id (unbound node k.vfs.names id name b free at).0
+          (old.names.directories id name b at);
+      targets = λ id name b at target is. still target
+          (not_target node b.target target (unbound node k.vfs.names id name b free at).1 is)
+          (old.names.targets id name b at target is);
     };
     calls = λ i d lt. others _ (each_fails OfCalls (values k.vfs.calls) first.0 i d lt) (old.calls i d lt);
     opens = λ i d lt.
-        let fails = each_fails OfOpens (values k.vfs.opens) (or_false (list_any OfOpens (values k.vfs.opens)) _ first.1).0 i d lt in
+        let fails = each_fails OfOpens (values k.vfs.opens)
+        (or_false (list_any OfOpens (values k.vfs.opens)) _ first.1).0 i d lt in
         let o = get_or (values k.vfs.opens) i d in
-        still o.nodeid (λ e. true≢false (sym (subst (λ (n : ℕ). nat_eq n node ≡ true) (sym e) (same_is node)) ∙ fails)) (old.opens i d lt);
+        still o.nodeid (λ e. true≢false (sym (subst (λ (n : ℕ). nat_eq n node ≡ true) (sym e) (same_is node)) ∙ fails))
+        (old.opens i d lt);
   }
 
 -- ---- every event
@@ -222,7 +264,8 @@ module _ (choice : ℕ → ℕ) (w : World) (sound : WorldSound w) (old : NodesK
   root_is : w.kernel.vfs.root ≡ 1
   root_is = sound.rooted.root
 
-  replying_same : (v : World) (number unique : ℕ) (o : Option WireReply) → NodesKnown v.kernel → NodesKnown (replying v number unique o).kernel
+  replying_same : (v : World) (number unique : ℕ) (o : Option WireReply) → NodesKnown v.kernel
+      → NodesKnown (replying v number unique o).kernel
   replying_same v number unique None h = h
   replying_same v number unique (Some wire) h = h
 
@@ -232,14 +275,26 @@ module _ (choice : ℕ → ℕ) (w : World) (sound : WorldSound w) (old : NodesK
   by_event e o after (by_read_interrupt original rest live there within) = old
   by_event e o after (by_read_forgets n live free can within few) = old
   by_event e o after (by_read_pending k unique kept body live free there says within) = old
-  by_event e o after (by_take k r there within) = replying_same (record w { requests = without_at w.requests k; server = (taking w.server r.unique r.body).server }) w.server.next_copy r.unique (taking w.server r.unique r.body).reply old
+  by_event e o after (by_take k r there within) = replying_same
+      (record w {
+        requests = without_at w.requests k;
+        server =
+            (taking w.server r.unique r.body).server;
+      }) w.server.next_copy r.unique
+      (taking w.server r.unique r.body).reply old
   by_event e o after (by_perform unique t there within) =
-      replying_same (record w { server = (served choice w.server unique t).server }) w.server.next_copy unique (cond w.server.aborted None (Some (served choice w.server unique t).wire)) old
+      replying_same (record w { server = (served choice w.server unique t).server }) w.server.next_copy unique
+      (cond w.server.aborted None (Some (served choice w.server unique t).wire)) old
   by_event e o after (by_again unique kept there current within) = old
   by_event e o after (by_write k sent there within) = write_known w.kernel old root_is sent.unique sent.wire
   by_event e o after (by_settle k result there) = old
   by_event e o after (by_signal call fatal state live there within) = signal_known w.kernel old call state fatal
-  by_event e o after (by_tick ms timely) = record { root = old.root; names = old.names; calls = old.calls; opens = old.opens }
+  by_event e o after (by_tick ms timely) = record {
+    root = old.root;
+    names = old.names;
+    calls = old.calls;
+    opens = old.opens;
+  }
   by_event e o after (by_drop directory name bound live there) =
       let gone = unbound_known w.kernel.nodes w.kernel.vfs old directory name in
       record { root = gone.root; names = gone.names; calls = gone.calls; opens = gone.opens }
@@ -251,7 +306,8 @@ module _ (choice : ℕ → ℕ) (w : World) (sound : WorldSound w) (old : NodesK
   by_event e o after (by_abort live) = empty_known w.kernel.vfs root_is
 
 -- The kernel knows each node that it uses, whatever the event.
-pub nodes_stay_known : (w : World) → WorldSound w → NodesKnown w.kernel → (e : Event) (o : Outcome) (after : World) → Happens w e o after → NodesKnown after.kernel
+pub nodes_stay_known : (w : World) → WorldSound w → NodesKnown w.kernel → (e : Event) (o : Outcome) (after : World)
+    → Happens w e o after → NodesKnown after.kernel
 nodes_stay_known w sound old e o after h = by_event h.0 w sound old e o after (happened h.0 w o after e h.2)
 
 pub first_known : NodesKnown first_world.kernel

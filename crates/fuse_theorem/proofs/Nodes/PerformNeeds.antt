@@ -35,7 +35,8 @@ use Rattle.fuse_theorem.proofs.Nodes.ServerSound.{one_id, tables_sound}
 use Rattle.fuse_theorem.proofs.Requests.StandsOnce.{one_held}
 use Rattle.fuse_theorem.proofs.Nodes.StillHeld.{live_still_held, now_still_held}
 
-module _ (w : World) (p : Plain) (both : BothSound w p) (unique : ℕ) (t : HeldRequest) (there : get w.server.held unique ≡ Some t) where
+module _ (w : World) (p : Plain) (both : BothSound w p) (unique : ℕ) (t : HeldRequest)
+    (there : get w.server.held unique ≡ Some t) where
   -- how often the number stands before the server holds it
   abbrev PendingUnder : ℕ
   PendingUnder = count_by (λ (e : ℕ × QueuedRequest Purpose). nat_eq unique e.0) (pending w.kernel.queues)
@@ -44,7 +45,8 @@ module _ (w : World) (p : Plain) (both : BothSound w p) (unique : ℕ) (t : Held
   SentUnder = count_by (λ (r : Request). nat_eq unique r.unique) w.requests
 
   one : OneId w.server.nodes
-  one = let world = both.world in let lookups = world.lookups in let server = lookups.server in one_id w.server.nodes server.nodes
+  one = let world = both.world in let lookups = world.lookups in let server =
+      lookups.server in one_id w.server.nodes server.nodes
 
   -- The server of a mount that is not live, but holds something, knows of the abort.
   knows_abort : is_live w.kernel.phase ≡ false → w.server.aborted ≡ true
@@ -63,7 +65,8 @@ module _ (w : World) (p : Plain) (both : BothSound w p) (unique : ℕ) (t : Held
           let asked = both.asked live in
           let request = (asked.held unique t there).is_asked in
           let requests = world.requests in
-          let once = requests.once unique (request_even w.kernel.queues world.queues unique request.request request.under) in
+          let once = requests.once unique
+          (request_even w.kernel.queues world.queues unique request.request request.under) in
           let held : one_held (get w.server.held unique) ≡ 1 = ap one_held there in
           (omega (arith, once, held), omega (arith, once, held))
       by false dead =
@@ -72,7 +75,8 @@ module _ (w : World) (p : Plain) (both : BothSound w p) (unique : ℕ) (t : Held
           let numbers = lookups.numbers in
           let links = both.links in
           let idle = links.idle dead in (
-            ap (λ (q : QueueState Purpose). count_by (λ (e : ℕ × QueuedRequest Purpose). nat_eq unique e.0) (pending q)) (numbers.idle dead),
+            ap (λ (q : QueueState Purpose). count_by (λ (e : ℕ × QueuedRequest Purpose). nat_eq unique e.0)
+                (pending q)) (numbers.idle dead),
             ap (count_by (λ (r : Request). nat_eq unique r.unique)) idle.requests,
           )
 
@@ -83,11 +87,19 @@ module _ (w : World) (p : Plain) (both : BothSound w p) (unique : ℕ) (t : Held
     marked_as : (body : RequestBody) → t.body ≡ body → IsHeldMarked t.marked body
     marked_as body is = subst (IsHeldMarked t.marked) is now.mark
 
-    performs : (choice : ℕ → ℕ) → MayChoose choice w.server.nodes (files_given w.server t) → (operation : Operation ℕ Opened) → t.body ≡ asks operation → t.marked ≡ false → CanServe choice w p unique t
+    performs : (choice : ℕ → ℕ) → MayChoose choice w.server.nodes (files_given w.server t)
+        → (operation : Operation ℕ Opened) → t.body ≡ asks operation → t.marked ≡ false → CanServe choice w p unique t
     performs choice may operation is unmarked = by (is_live w.kernel.phase) refl
       where
         can : CanPerform w unique t operation
-        can = record { there = there; body_is = is; unmarked = unmarked; still = still; none_pending = held_alone.0; none_sent = held_alone.1 }
+        can = record {
+          there = there;
+          body_is = is;
+          unmarked = unmarked;
+          still = still;
+          none_pending = held_alone.0;
+          none_sent = held_alone.1;
+        }
 
         by : (b : Bool) → is_live w.kernel.phase ≡ b → CanServe choice w p unique t
         by true live =
@@ -95,15 +107,26 @@ module _ (w : World) (p : Plain) (both : BothSound w p) (unique : ℕ) (t : Held
             let lookups = world.lookups in
             let links = both.links in
             let serving = links.serving live in
-            each.performs operation can serving (tables_sound w.server lookups.server) one (known_held w world.lookups) (may_choose w p both.alike choice unique t operation can serving may)
-        by false dead = each.performs_unheard operation can (knows_abort dead) (one_to_one w.kernel.nodes w.server.nodes one)
+            each.performs operation can serving (tables_sound w.server lookups.server) one (known_held w world.lookups)
+            (may_choose w p both.alike choice unique t operation can serving may)
+        by false dead = each.performs_unheard operation can (knows_abort dead)
+            (one_to_one w.kernel.nodes w.server.nodes one)
 
     -- Whatever is held, but that what the performing of a RELEASE needs is given.
-    pub serves : (choice : ℕ → ℕ) → MayChoose choice w.server.nodes (files_given w.server t) → ((o : Opened) → t.body ≡ release o → CanServe choice w p unique t) → CanServe choice w p unique t
+    pub serves : (choice : ℕ → ℕ) → MayChoose choice w.server.nodes (files_given w.server t)
+        → ((o : Opened) → t.body ≡ release o → CanServe choice w p unique t) → CanServe choice w p unique t
     serves choice may releases = by t.body refl
       where
-        by_mark : (operation : Operation ℕ Opened) → t.body ≡ asks operation → (b : Bool) → t.marked ≡ b → CanServe choice w p unique t
-        by_mark operation is true marked = each.declines operation (record { there = there; body_is = is; marked = marked; none_pending = held_alone.0; none_sent = held_alone.1 })
+        by_mark : (operation : Operation ℕ Opened) → t.body ≡ asks operation → (b : Bool) → t.marked ≡ b
+            → CanServe choice w p unique t
+        by_mark operation is true marked = each.declines operation
+            (record {
+              there = there;
+              body_is = is;
+              marked = marked;
+              none_pending = held_alone.0;
+              none_sent = held_alone.1;
+            })
         by_mark operation is false unmarked = performs choice may operation is unmarked
 
         by : (body : RequestBody) → t.body ≡ body → CanServe choice w p unique t
@@ -115,37 +138,66 @@ module _ (w : World) (p : Plain) (both : BothSound w p) (unique : ℕ) (t : Held
         by (interrupt original) is = absurd (marked_as (interrupt original) is)
 
     -- A RELEASE, where the server holds the nodes and the open numbers that are used.
-    pub serves_release : (choice : ℕ → ℕ) (o : Opened) → t.body ≡ release o → is_open w.server.handles o.fh (file_of w.server.nodes o.nodeid) ≡ true → HoldsAll w w.server.nodes → HoldsOpens (unheld w unique) (handle_back w.server.handles o.fh)
+    pub serves_release : (choice : ℕ → ℕ) (o : Opened) → t.body ≡ release o
+        → is_open w.server.handles o.fh (file_of w.server.nodes o.nodeid) ≡ true → HoldsAll w w.server.nodes
+        → HoldsOpens (unheld w unique) (handle_back w.server.handles o.fh)
         → CanServe choice w p unique t
     serves_release choice o is number all opens =
-        each.releases o (record { there = there; body_is = is; unmarked = marked_as (release o) is; still = still; number = number }) one
-        (record { known = all.known; held = λ u x at. all.held u x (left_found w.server.held unique u x at); kept = all.kept; copies = all.copies }) opens
+        each.releases o (record {
+          there = there;
+          body_is = is;
+          unmarked = marked_as (release o) is;
+          still = still;
+          number = number;
+        }) one
+        (record {
+          known = all.known;
+          held = λ u x at. all.held u x (left_found w.server.held unique u x at);
+          kept = all.kept;
+          copies = all.copies;
+        }) opens
 
 -- What is held keeps, of any request but a RELEASE.
-pub perform_met : (w : World) (p : Plain) → BothSound w p → StillHeldAfterAbort w → (choice : ℕ → ℕ) (unique : ℕ) → MayStep choice w (event.perform unique) → ((t : HeldRequest) (o : Opened) → get w.server.held unique ≡ Some t → t.body ≢ release o)
+pub perform_met : (w : World) (p : Plain) → BothSound w p → StillHeldAfterAbort w → (choice : ℕ → ℕ) (unique : ℕ)
+    → MayStep choice w (event.perform unique) → ((t : HeldRequest) (o : Opened) → get w.server.held unique ≡ Some t
+    → t.body ≢ release o)
     → Needs choice w p (event.perform unique)
 perform_met w p both still choice unique may other t there =
-    serves w p both unique t there (now (is_live w.kernel.phase) refl) choice (subst (MayChooseFor choice w) there may) (λ o is. absurd (other t o there is))
+    serves w p both unique t there (now (is_live w.kernel.phase) refl) choice (subst (MayChooseFor choice w) there may)
+    (λ o is. absurd (other t o there is))
   where
     now : (b : Bool) → is_live w.kernel.phase ≡ b → NodesStillHeld w.server.nodes t
-    now true live = live_still_held w both.world both.asked both.links both.held live unique t there (λ o is. absurd (other t o there is))
+    now true live = live_still_held w both.world both.asked both.links both.held live unique t there
+        (λ o is. absurd (other t o there is))
     now false dead = still dead unique t there
 
 -- So of a RELEASE, with its open number.
-pub release_met : (w : World) (p : Plain) → BothSound w p → HeldReleasesKnown w → StillHeldAfterAbort w → (choice : ℕ → ℕ) (unique : ℕ) (t : HeldRequest) (o : Opened) → get w.server.held unique ≡ Some t → t.body ≡ release o
-    → is_open w.server.handles o.fh (file_of w.server.nodes o.nodeid) ≡ true → HoldsOpens (unheld w unique) (handle_back w.server.handles o.fh) → CanServe choice w p unique t
+pub release_met : (w : World) (p : Plain) → BothSound w p → HeldReleasesKnown w → StillHeldAfterAbort w
+    → (choice : ℕ → ℕ) (unique : ℕ) (t : HeldRequest) (o : Opened) → get w.server.held unique ≡ Some t
+    → t.body ≡ release o
+    → is_open w.server.handles o.fh (file_of w.server.nodes o.nodeid) ≡ true
+    → HoldsOpens (unheld w unique) (handle_back w.server.handles o.fh) → CanServe choice w p unique t
 release_met w p both releases still choice unique t o there is number opens =
     let held = now_still_held w both.world both.asked both.links both.held releases still in
-    serves_release w p both unique t there (held unique t there) choice o is number (nodes_held w both.world both.links both.kept held) opens
+    serves_release w p both unique t there (held unique t there) choice o is number
+    (nodes_held w both.world both.links both.kept held) opens
 
 -- So of any request; after an abort the open numbers are held too.
-pub any_met : (w : World) (p : Plain) → BothSound w p → HeldReleasesKnown w → StillHeldAfterAbort w → OpensAfterAbort w → (unique : ℕ)
-    → (is_live w.kernel.phase ≡ true → (t : HeldRequest) (o : Opened) → get w.server.held unique ≡ Some t → t.body ≡ release o
-    → (is_open w.server.handles o.fh (file_of w.server.nodes o.nodeid) ≡ true) × HoldsOpens (unheld w unique) (handle_back w.server.handles o.fh))
+pub any_met : (w : World) (p : Plain) → BothSound w p → HeldReleasesKnown w → StillHeldAfterAbort w → OpensAfterAbort w
+    → (unique : ℕ)
+    → (is_live w.kernel.phase ≡ true → (t : HeldRequest) (o : Opened) → get w.server.held unique ≡ Some t
+    → t.body ≡ release o
+    → (is_open w.server.handles o.fh (file_of w.server.nodes o.nodeid) ≡ true)
+    × HoldsOpens (unheld w unique) (handle_back w.server.handles o.fh))
     → (choice : ℕ → ℕ) → MayStep choice w (event.perform unique) → Needs choice w p (event.perform unique)
 any_met w p both releases still opens unique live_opens choice may t there =
-    serves w p both unique t there (now_still_held w both.world both.asked both.links both.held releases still unique t there) choice (subst (MayChooseFor choice w) there may) (λ o is. by o is (is_live w.kernel.phase) refl)
+    serves w p both unique t there
+    (now_still_held w both.world both.asked both.links both.held releases still unique t there) choice
+    (subst (MayChooseFor choice w) there may) (λ o is. by o is (is_live w.kernel.phase) refl)
   where
     by : (o : Opened) → t.body ≡ release o → (b : Bool) → is_live w.kernel.phase ≡ b → CanServe choice w p unique t
-    by o is true live = let numbers = live_opens live t o there is in release_met w p both releases still choice unique t o there is numbers.0 numbers.1
-    by o is false dead = release_met w p both releases still choice unique t o there is (number_open w both.links opens dead unique t there o is) (numbers_held w both.links opens dead unique t there o is)
+    by o is true live = let numbers = live_opens live t o there is in
+        release_met w p both releases still choice unique t o there is numbers.0 numbers.1
+    by o is false dead = release_met w p both releases still choice unique t o there is
+        (number_open w both.links opens dead unique t there o is)
+        (numbers_held w both.links opens dead unique t there o is)

@@ -37,7 +37,10 @@ use Rattle.fuse_theorem.proofs.Refining.GivingUp.{answers_sorted}
 -- ---- what a call does
 
 answered_rooted : (c : Vfs Opened) (call : ℕ) (a : Answer) → IsRooted c → IsRooted (answered c call a)
-answered_rooted c call a r = record { root = r.root; answers = is_sorted-put nat_cmp nat_cmp_total call a c.answers r.answers }
+answered_rooted c call a r = record {
+  root = r.root;
+  answers = is_sorted-put nat_cmp nat_cmp_total call a c.answers r.answers;
+}
 
 after_walk_rooted : (c : Vfs Opened) (call : ℕ) (x : Walked ℕ Opened) → IsRooted c → IsRooted (after_walk c call x).vfs
 after_walk_rooted c call (looks_up d word words plan) r = record { root = r.root; answers = r.answers }
@@ -52,35 +55,51 @@ begun_rooted aborted c call r = by aborted
 
     begins : (b : Beginning ℕ Opened) → IsRooted (after_beginning (numbered c) c.next_call b).vfs
     begins (faulty errno) = answered_rooted (numbered c) c.next_call (answer.failed errno) next
-    begins (sets_out words plan) = after_walk_rooted (numbered c) c.next_call (walk (look (numbered c)) c.root c.root words plan) next
+    begins (sets_out words plan) = after_walk_rooted (numbered c) c.next_call
+        (walk (look (numbered c)) c.root c.root words plan) next
     begins (uses handle operation) = record { root = r.root; answers = r.answers }
-    begins (closes handle o) = answered_rooted (record (numbered c) { opens = remove c.opens handle }) c.next_call answer.done (record { root = r.root; answers = r.answers })
+    begins (closes handle o) = answered_rooted (record
+        (numbered c) { opens = remove c.opens handle }) c.next_call answer.done
+        (record { root = r.root; answers = r.answers })
 
-    by : (b : Bool) → IsRooted (cond b (no_more (answered (numbered c) c.next_call (answer.failed 107))) (after_beginning (numbered c) c.next_call (beginning c.opens call))).vfs
+    by : (b : Bool) → IsRooted (cond b (no_more (answered (numbered c) c.next_call (answer.failed 107)))
+        (after_beginning (numbered c) c.next_call (beginning c.opens call))).vfs
     by true = answered_rooted (numbered c) c.next_call (answer.failed 107) next
     by false = begins (beginning c.opens call)
 
-operation_rooted : (c : Vfs Opened) (call : ℕ) (operation : Operation ℕ Opened) (reply : Reply ℕ Opened) → IsRooted c → IsRooted (operation_replied c call operation reply)
+operation_rooted : (c : Vfs Opened) (call : ℕ) (operation : Operation ℕ Opened) (reply : Reply ℕ Opened) → IsRooted c
+    → IsRooted (operation_replied c call operation reply)
 operation_rooted c call operation (failed errno) r = answered_rooted c call (answer.failed errno) r
 operation_rooted c call (getattr file) (attributes a) r = answered_rooted c call (answer.attributes a) r
-operation_rooted c call (mkdir d name) (found file valid) r = answered_rooted (bound c d name (Some file) valid) call answer.done (record { root = r.root; answers = r.answers })
-operation_rooted c call (create d name) (created file valid o) r = answered_rooted (opened_by (bound c d name (Some file) valid) call o) call answer.done (record { root = r.root; answers = r.answers })
-operation_rooted c call (link linked d name) (found file valid) r = answered_rooted (bound c d name (Some file) valid) call answer.done (record { root = r.root; answers = r.answers })
-operation_rooted c call (unlink d name) done r = answered_rooted (unbound c d name) call answer.done (record { root = r.root; answers = r.answers })
-operation_rooted c call (rmdir d name) done r = answered_rooted (unbound c d name) call answer.done (record { root = r.root; answers = r.answers })
-operation_rooted c call (rename d old e new) done r = answered_rooted (unbound (unbound c d old) e new) call answer.done (record { root = r.root; answers = r.answers })
-operation_rooted c call (opening file) (opened o) r = answered_rooted (opened_by c call o) call answer.done (record { root = r.root; answers = r.answers })
+operation_rooted c call (mkdir d name) (found file valid) r =
+    answered_rooted (bound c d name (Some file) valid) call answer.done (record { root = r.root; answers = r.answers })
+operation_rooted c call (create d name) (created file valid o) r =
+    answered_rooted (opened_by (bound c d name (Some file) valid) call o) call answer.done
+    (record { root = r.root; answers = r.answers })
+operation_rooted c call (link linked d name) (found file valid) r =
+    answered_rooted (bound c d name (Some file) valid) call answer.done (record { root = r.root; answers = r.answers })
+operation_rooted c call (unlink d name) done r =
+    answered_rooted (unbound c d name) call answer.done (record { root = r.root; answers = r.answers })
+operation_rooted c call (rmdir d name) done r = answered_rooted (unbound c d name) call answer.done
+    (record { root = r.root; answers = r.answers })
+operation_rooted c call (rename d old e new) done r =
+    answered_rooted (unbound (unbound c d old) e new) call answer.done (record { root = r.root; answers = r.answers })
+operation_rooted c call (opening file) (opened o) r =
+    answered_rooted (opened_by c call o) call answer.done (record { root = r.root; answers = r.answers })
 operation_rooted c call (readdir d after size) (listed records) r = answered_rooted c call (answer.listing records) r
-operation_rooted c call (readdirplus d after size) (listed_plus pairs) r = answered_rooted (all_bound c d pairs) call _ (record { root = r.root; answers = r.answers })
+operation_rooted c call (readdirplus d after size) (listed_plus pairs) r =
+    answered_rooted (all_bound c d pairs) call _ (record { root = r.root; answers = r.answers })
 operation_rooted c call (read o offset size) (content bytes) r = answered_rooted c call (answer.content bytes) r
 operation_rooted c call (write o offset bytes) (written size) r = answered_rooted c call (answer.written size) r
 operation_rooted c call operation reply r = answered_rooted c call (answer.failed 5) r
 
-replied_rooted : (c : Vfs Opened) (call : ℕ) (state : CallState Opened) (reply : Reply ℕ Opened) → IsRooted c → IsRooted (call_replied c call state reply).vfs
+replied_rooted : (c : Vfs Opened) (call : ℕ) (state : CallState Opened) (reply : Reply ℕ Opened) → IsRooted c
+    → IsRooted (call_replied c call state reply).vfs
 replied_rooted c call (walking d word words plan) (found file valid) r =
     let c1 = bound c d word (Some file) valid in
     after_walk_rooted c1 call (walk (look c1) c1.root file words plan) (record { root = r.root; answers = r.answers })
-replied_rooted c call (walking d word words plan) (missing valid) r = answered_rooted (bound c d word None valid) call (answer.failed 2) (record { root = r.root; answers = r.answers })
+replied_rooted c call (walking d word words plan) (missing valid) r =
+    answered_rooted (bound c d word None valid) call (answer.failed 2) (record { root = r.root; answers = r.answers })
 replied_rooted c call (walking d word words plan) (failed errno) r = answered_rooted c call (answer.failed errno) r
 replied_rooted c call (walking d word words plan) reply r = answered_rooted c call (answer.failed 5) r
 replied_rooted c call (doing operation) reply r = operation_rooted c call operation reply r
@@ -88,7 +107,8 @@ replied_rooted c call (using handle operation) reply r = operation_rooted c call
 
 -- ---- what the kernel does beside it
 
-advanced_rooted : (k : Kernel) (call : ℕ) (next : Advance Opened) → IsRooted next.vfs → IsRooted (advanced k call next).vfs
+advanced_rooted : (k : Kernel) (call : ℕ) (next : Advance Opened) → IsRooted next.vfs
+    → IsRooted (advanced k call next).vfs
 advanced_rooted k call next r = by next.operation
   where
     by : (o : Option (Operation ℕ Opened)) → IsRooted (asking_for (record k { vfs = next.vfs }) call o).vfs
@@ -113,30 +133,36 @@ closing_rooted k (Some file) r = idle_rooted (record k { closing = put k.closing
 
 pub begins_rooted : (k : Kernel) (call : Call) → IsRooted k.vfs → IsRooted (call_begun k call).vfs
 begins_rooted k call r =
-    closing_rooted (advanced k k.vfs.next_call (begun (is_aborted k.phase) k.vfs call)) (cond (is_aborted k.phase) None (closed_by k.vfs.opens call))
-    (advanced_rooted k k.vfs.next_call (begun (is_aborted k.phase) k.vfs call) (begun_rooted (is_aborted k.phase) k.vfs call r))
+    closing_rooted (advanced k k.vfs.next_call (begun (is_aborted k.phase) k.vfs call))
+    (cond (is_aborted k.phase) None (closed_by k.vfs.opens call))
+    (advanced_rooted k k.vfs.next_call (begun (is_aborted k.phase) k.vfs call)
+    (begun_rooted (is_aborted k.phase) k.vfs call r))
 
 pub given_up_rooted : (c : Vfs Opened) → IsRooted c → IsRooted (given_up c)
 given_up_rooted c r = record { root = r.root; answers = answers_sorted (answer.failed 103) c.calls c.answers r.answers }
 
 -- ---- signals
 
-pub signalled_rooted : (k : Kernel) (call : ℕ) (state : CallState Opened) (fatal : Bool) → IsRooted k.vfs → IsRooted (call_signalled k call state fatal).1.vfs
+pub signalled_rooted : (k : Kernel) (call : ℕ) (state : CallState Opened) (fatal : Bool) → IsRooted k.vfs
+    → IsRooted (call_signalled k call state fatal).1.vfs
 signalled_rooted k call state fatal r = by (request_of k call)
   where
     effect : (q : Kernel) (x : IntrEffect) → IsRooted q.vfs → IsRooted (after_signal q call state x).vfs
-    effect q Dequeued s = used_rooted (record q { vfs = answered q.vfs call (answer.failed 4) }) state (answered_rooted q.vfs call (answer.failed 4) s)
+    effect q Dequeued s = used_rooted (record q { vfs = answered q.vfs call (answer.failed 4) }) state
+        (answered_rooted q.vfs call (answer.failed 4) s)
     effect q Flagged s = s
     effect q Queued s = s
     effect q NoEffect s = s
 
     by : (o : Option ℕ) → IsRooted (signalled_at k call state fatal o).1.vfs
     by None = r
-    by (Some unique) = effect (record k { queues = after_interrupt k.queues unique fatal }) (interrupt_effect k.queues unique fatal) r
+    by (Some unique) = effect (record k { queues = after_interrupt k.queues unique fatal })
+        (interrupt_effect k.queues unique fatal) r
 
 -- ---- replies
 
-judged_rooted : (k : Kernel) (call : ℕ) (state : CallState Opened) (wire : WireReply) (u : Use) → IsRooted k.vfs → IsRooted (judged k call state wire u).vfs
+judged_rooted : (k : Kernel) (call : ℕ) (state : CallState Opened) (wire : WireReply) (u : Use) → IsRooted k.vfs
+    → IsRooted (judged k call state wire u).vfs
 judged_rooted k call state wire usable r =
     let next = call_replied k.vfs call state (kernel_reply (asked state) wire) in
     advanced_rooted (record k { nodes = learnt k.nodes (files_in_reply wire) }) call next
@@ -144,15 +170,19 @@ judged_rooted k call state wire usable r =
 judged_rooted k call state wire useless r = answered_rooted k.vfs call (answer.failed 5) r
 judged_rooted k call state wire (stale node) r = answered_rooted k.vfs call (answer.failed 5) r
 
-to_call_rooted : (k : Kernel) (call : ℕ) (wire : WireReply) (o : Option (CallState Opened)) → IsRooted k.vfs → IsRooted (replied_to_call k call wire o).1.vfs
+to_call_rooted : (k : Kernel) (call : ℕ) (wire : WireReply) (o : Option (CallState Opened)) → IsRooted k.vfs
+    → IsRooted (replied_to_call k call wire o).1.vfs
 to_call_rooted k call wire None r = r
 to_call_rooted k call wire (Some state) r = by (goes_with (asked state) wire)
   where
     by : (b : Bool) → IsRooted (replied k call state b wire).1.vfs
-    by true = used_rooted (reply_received k call state wire) state (judged_rooted (without_stale k wire) call state (reply_judged k.nodes wire) (use_of_reply k.nodes wire) r)
-    by false = used_rooted (record k { vfs = answered k.vfs call (answer.failed 5) }) state (answered_rooted k.vfs call (answer.failed 5) r)
+    by true = used_rooted (reply_received k call state wire) state
+        (judged_rooted (without_stale k wire) call state (reply_judged k.nodes wire) (use_of_reply k.nodes wire) r)
+    by false = used_rooted (record k { vfs = answered k.vfs call (answer.failed 5) }) state
+        (answered_rooted k.vfs call (answer.failed 5) r)
 
-pub written_rooted : (k : Kernel) (unique : ℕ) (wire : WireReply) → IsRooted k.vfs → IsRooted (reply_written k unique wire).1.vfs
+pub written_rooted : (k : Kernel) (unique : ℕ) (wire : WireReply) → IsRooted k.vfs
+    → IsRooted (reply_written k unique wire).1.vfs
 written_rooted k unique wire r = by (nat_eq (unique % 2) 1)
   where
     ended : (q : Kernel) (kept : Purpose) → IsRooted q.vfs → IsRooted (ended_by q kept wire).1.vfs
@@ -177,36 +207,44 @@ written_rooted k unique wire r = by (nat_eq (unique % 2) 1)
     odd None = r
     odd (Some kept) = interrupts wire
 
-    by : (b : Bool) → IsRooted (cond b (interrupt_reply_written k unique wire (waiting k.queues (unique - 1))) (request_reply_written k unique wire (waiting k.queues unique))).1.vfs
+    by : (b : Bool) → IsRooted (cond b (interrupt_reply_written k unique wire (waiting k.queues (unique - 1)))
+        (request_reply_written k unique wire (waiting k.queues unique))).1.vfs
     by true = odd (waiting k.queues (unique - 1))
     by false = even (waiting k.queues unique)
 
 -- ---- events
 
 -- a reply that goes out leaves the kernel as it is
-sent_off : (w : World) (number unique : ℕ) (wire : Option WireReply) → IsRooted w.kernel.vfs → IsRooted (worlds.replying w number unique wire).kernel.vfs
+sent_off : (w : World) (number unique : ℕ) (wire : Option WireReply) → IsRooted w.kernel.vfs
+    → IsRooted (worlds.replying w number unique wire).kernel.vfs
 sent_off w number unique None rooted = rooted
 sent_off w number unique (Some wire) rooted = rooted
 
-by_event : (choice : ℕ → ℕ) (w : World) → IsRooted w.kernel.vfs → (e : Event) (o : Outcome) (after : World) → Happened choice w e o after → IsRooted after.kernel.vfs
+by_event : (choice : ℕ → ℕ) (w : World) → IsRooted w.kernel.vfs → (e : Event) (o : Outcome) (after : World)
+    → Happened choice w e o after → IsRooted after.kernel.vfs
 by_event choice w r e o after (by_mount f m v idle) = given_up_rooted w.kernel.vfs r
-by_event choice w r e o after (by_call call ready room within) = begins_rooted w.kernel (spoken w.kernel.lists_files call) r
+by_event choice w r e o after (by_call call ready room within) =
+    begins_rooted w.kernel (spoken w.kernel.lists_files call) r
 by_event choice w r e o after (by_read_interrupt original rest live there within) = r
 by_event choice w r e o after (by_read_forgets n live free can within few) = r
 by_event choice w r e o after (by_read_pending k unique kept body live free there says within) = r
 by_event choice w r e o after (by_take k q there within) =
-    let took = taking w.server q.unique q.body in sent_off (record w { requests = without_at w.requests k; server = took.server }) w.server.next_copy q.unique took.reply r
+    let took = taking w.server q.unique q.body in sent_off
+    (record w { requests = without_at w.requests k; server = took.server }) w.server.next_copy q.unique took.reply r
 by_event choice w r e o after (by_perform unique t there within) =
-    let did = served choice w.server unique t in sent_off (record w { server = did.server }) w.server.next_copy unique (cond w.server.aborted None (Some did.wire)) r
+    let did = served choice w.server unique t in sent_off (record w { server = did.server }) w.server.next_copy unique
+    (cond w.server.aborted None (Some did.wire)) r
 by_event choice w r e o after (by_again unique kept there current within) = r
 by_event choice w r e o after (by_write k sent there within) = written_rooted w.kernel sent.unique sent.wire r
 by_event choice w r e o after (by_settle k result there) = r
-by_event choice w r e o after (by_signal call fatal state live there within) = signalled_rooted w.kernel call state fatal r
+by_event choice w r e o after (by_signal call fatal state live there within) =
+    signalled_rooted w.kernel call state fatal r
 by_event choice w r e o after (by_tick ms timely) = record { root = r.root; answers = r.answers }
 by_event choice w r e o after (by_drop directory name bound live there) = record { root = r.root; answers = r.answers }
 by_event choice w r e o after (by_evict node counted live there unused) = r
 by_event choice w r e o after (by_abort live) = given_up_rooted w.kernel.vfs r
 
 -- The root and the order of the answers stay, whatever the event.
-pub stays_rooted : (choice : ℕ → ℕ) (w : World) → IsRooted w.kernel.vfs → (o : Outcome) (last : World) (e : Event) → step choice w e ≡ Ok (o, last) → IsRooted last.kernel.vfs
+pub stays_rooted : (choice : ℕ → ℕ) (w : World) → IsRooted w.kernel.vfs → (o : Outcome) (last : World) (e : Event)
+    → step choice w e ≡ Ok (o, last) → IsRooted last.kernel.vfs
 stays_rooted choice w r o last e stepped = by_event choice w r e o last (happened choice w o last e stepped)

@@ -62,27 +62,35 @@ module _ (s : Server) (old : InOrder s.held) where
       by None (Some k) = old
       by None None = old
 
-  performed_held : (choice : ℕ → ℕ) (unique : ℕ) (t : HeldRequest) → (served choice s unique t).server.held ≡ remove s.held unique
-  performed_held choice unique t = let rest = performed_rest choice (record s { held = remove s.held unique }) t in rest.held
+  performed_held : (choice : ℕ → ℕ) (unique : ℕ) (t : HeldRequest)
+      → (served choice s unique t).server.held ≡ remove s.held unique
+  performed_held choice unique t = let rest = performed_rest choice (record s { held = remove s.held unique }) t in
+      rest.held
 
   performed_in_order : (choice : ℕ → ℕ) (unique : ℕ) (t : HeldRequest) → InOrder (served choice s unique t).server.held
-  performed_in_order choice unique t = subst InOrder (sym (performed_held choice unique t)) (is_sorted-where_key nat_cmp (λ (x : ℕ). not (nat_eq x unique)) s.held old)
+  performed_in_order choice unique t = subst InOrder (sym (performed_held choice unique t))
+      (is_sorted-where_key nat_cmp (λ (x : ℕ). not (nat_eq x unique)) s.held old)
 
   settled_held : (result : ReplyResult) (o : Option Copy) → (server_settled s result o).held ≡ s.held
   settled_held result None = refl
   settled_held result (Some copy) = by result.result
     where
-      by : (r : WriteResult) → (after_result (record s { copies = remove s.copies result.number; kept = kept_after s.kept copy (get s.kept copy.unique) }) copy.wire r).held ≡ s.held
+      by : (r : WriteResult) → (after_result (record s {
+        copies = remove s.copies result.number;
+        kept = kept_after s.kept copy (get s.kept copy.unique);
+      }) copy.wire r).held ≡ s.held
       by Accepted = refl
       by NoEntry = refl
       by Invalid = refl
 
-replying_server : (w : World) (number unique : ℕ) (o : Option WireReply) → (replying w number unique o).server ≡ w.server
+replying_server : (w : World) (number unique : ℕ) (o : Option WireReply)
+    → (replying w number unique o).server ≡ w.server
 replying_server w number unique None = refl
 replying_server w number unique (Some wire) = refl
 
 module _ (choice : ℕ → ℕ) (w : World) (old : InOrder w.server.held) where
-  sent_off : (v : World) (number unique : ℕ) (o : Option WireReply) → InOrder v.server.held → InOrder (replying v number unique o).server.held
+  sent_off : (v : World) (number unique : ℕ) (o : Option WireReply) → InOrder v.server.held
+      → InOrder (replying v number unique o).server.held
   sent_off v number unique o h = subst (λ (s : Server). InOrder s.held) (sym (replying_server v number unique o)) h
 
   order_stays : (e : Event) (o : Outcome) (after : World) → Happened choice w e o after → InOrder after.server.held
@@ -92,12 +100,20 @@ module _ (choice : ℕ → ℕ) (w : World) (old : InOrder w.server.held) where
   order_stays e o after (by_read_forgets n live free can within few) = old
   order_stays e o after (by_read_pending k unique kept body live free there says within) = old
   order_stays e o after (by_take k r there within) =
-      let took = taking w.server r.unique r.body in sent_off (record w { requests = without_at w.requests k; server = took.server }) w.server.next_copy r.unique took.reply (taken_in_order w.server old r.unique r.body)
+      let took = taking w.server r.unique r.body in sent_off
+      (record w {
+        requests = without_at w.requests k;
+        server =
+            took.server;
+      }) w.server.next_copy r.unique took.reply (taken_in_order w.server old r.unique r.body)
   order_stays e o after (by_perform unique t there within) =
-      let did = served choice w.server unique t in sent_off (record w { server = did.server }) w.server.next_copy unique (cond w.server.aborted None (Some did.wire)) (performed_in_order w.server old choice unique t)
+      let did = served choice w.server unique t in sent_off
+      (record w { server = did.server }) w.server.next_copy unique (cond w.server.aborted None (Some did.wire))
+      (performed_in_order w.server old choice unique t)
   order_stays e o after (by_again unique kept there current within) = old
   order_stays e o after (by_write k sent there within) = old
-  order_stays e o after (by_settle k result there) = subst InOrder (sym (settled_held w.server old result (get w.server.copies result.number))) old
+  order_stays e o after (by_settle k result there) =
+      subst InOrder (sym (settled_held w.server old result (get w.server.copies result.number))) old
   order_stays e o after (by_signal call fatal state live there within) = old
   order_stays e o after (by_tick ms timely) = old
   order_stays e o after (by_drop directory name bound live there) = old
@@ -106,34 +122,50 @@ module _ (choice : ℕ → ℕ) (w : World) (old : InOrder w.server.held) where
 
 -- ---- in a live mount
 
-held_there : (w : World) → WorldSound w → (gs : List (ℕ × ℕ)) → All (λ (g : ℕ × ℕ). generation_known w.kernel.nodes g.0 ≡ Some g.1) gs → All (λ (id : ℕ). is_some (row_of w.server.nodes id) ≡ true) (map (λ (g : ℕ × ℕ). g.0) gs)
+held_there : (w : World) → WorldSound w → (gs : List (ℕ × ℕ))
+    → All (λ (g : ℕ × ℕ). generation_known w.kernel.nodes g.0 ≡ Some g.1) gs
+    → All (λ (id : ℕ). is_some (row_of w.server.nodes id) ≡ true) (map (λ (g : ℕ × ℕ). g.0) gs)
 held_there w sound [] h = All-nil (λ (id : ℕ). is_some (row_of w.server.nodes id) ≡ true)
 held_there w sound (g ∷ gs) h =
-    let denotes = (known_held w sound.lookups g.0 g.1 (All-head (λ (x : ℕ × ℕ). generation_known w.kernel.nodes x.0 ≡ Some x.1) g gs h)).1 in
-    All-cons (λ (id : ℕ). is_some (row_of w.server.nodes id) ≡ true) g.0 (map (λ (x : ℕ × ℕ). x.0) gs) (ap (λ (o : Option HeldNode). is_some o) denotes.there)
+    let denotes = (known_held w sound.lookups g.0 g.1
+    (All-head (λ (x : ℕ × ℕ). generation_known w.kernel.nodes x.0 ≡ Some x.1) g gs h)).1 in
+    All-cons (λ (id : ℕ). is_some (row_of w.server.nodes id) ≡ true) g.0 (map (λ (x : ℕ × ℕ). x.0) gs)
+    (ap (λ (o : Option HeldNode). is_some o) denotes.there)
     (held_there w sound gs (All-tail (λ (x : ℕ × ℕ). generation_known w.kernel.nodes x.0 ≡ Some x.1) g gs h))
 
-live_servable : (w : World) → WorldSound w → RequestsAskedWhileLive w → LinksSound w → HeldKnownWhileLive w → ReleasesKnown w → InOrder w.server.held → is_live w.kernel.phase ≡ true → All (λ (t : HeldRequest). NodesServable w.server t.body) (values w.server.held)
+live_servable : (w : World) → WorldSound w → RequestsAskedWhileLive w → LinksSound w → HeldKnownWhileLive w
+    → ReleasesKnown w → InOrder w.server.held → is_live w.kernel.phase ≡ true
+    → All (λ (t : HeldRequest). NodesServable w.server t.body) (values w.server.held)
 live_servable w sound requests links held releases in_order live =
     All-found_values (λ (t : HeldRequest). NodesServable w.server t.body) w.server.held in_order (λ unique t at.
     let mine = held live unique t at in
-    subst (λ (ids : List ℕ). All (λ (id : ℕ). is_some (row_of w.server.nodes id) ≡ true) ids) mine.names (held_there w sound t.generations (held_known w sound requests links held releases live unique t at)))
+    subst (λ (ids : List ℕ). All (λ (id : ℕ). is_some (row_of w.server.nodes id) ≡ true) ids) mine.names
+    (held_there w sound t.generations (held_known w sound requests links held releases live unique t at)))
 
 -- ---- without one
 
 module _ (choice : ℕ → ℕ) (w : World) (links : LinksSound w) (old : TakenServable w.server) where
   -- after an abort the nodes stand as they stood
-  performed_nodes : (unique : ℕ) (t : HeldRequest) → w.server.aborted ≡ true → (served choice w.server unique t).server.nodes ≡ w.server.nodes
+  performed_nodes : (unique : ℕ) (t : HeldRequest) → w.server.aborted ≡ true
+      → (served choice w.server unique t).server.nodes ≡ w.server.nodes
   performed_nodes unique t aborted = by_mark t.marked
     where
       s : Server
       s = record w.server { held = remove w.server.held unique }
 
-      does : (b : Bool) (operation : Operation ℕ Opened) → (cond b (doing choice s (file_operation_of s.nodes operation)) (refusing s 9)).server.nodes ≡ w.server.nodes
-      does true operation = ap (λ (b : Bool). cond b w.server.nodes (all_given choice w.server.nodes (files_in_reply (reply_by w.server.validity w.server.tree (file_operation_of w.server.nodes operation))))) aborted
+      does : (b : Bool) (operation : Operation ℕ Opened)
+          → (cond b (doing choice s (file_operation_of s.nodes operation)) (refusing s 9)).server.nodes ≡ w.server.nodes
+      does true operation = ap (λ (b : Bool). cond b w.server.nodes
+          (all_given choice w.server.nodes (files_in_reply
+          (reply_by w.server.validity w.server.tree (file_operation_of w.server.nodes operation))))) aborted
       does false operation = refl
 
-      releases : (b : Bool) (o : Opened) → (cond b (record { server = record s { handles = handle_back s.handles o.fh }; wire = done }) (refusing s 9)).server.nodes ≡ w.server.nodes
+      releases : (b : Bool) (o : Opened) → (cond b (record {
+        server =
+            record s { handles = handle_back s.handles o.fh };
+        wire = done;
+      }) (refusing s 9)).server.nodes
+          ≡ w.server.nodes
       releases true o = refl
       releases false o = refl
 
@@ -149,22 +181,30 @@ module _ (choice : ℕ → ℕ) (w : World) (links : LinksSound w) (old : TakenS
       by_held true = by_body t.body
       by_held false = refl
 
-      by_mark : (b : Bool) → (cond b (refusing s 4) (cond (is_still_held s.nodes t.generations) (performing choice s t.body) (refusing s 5))).server.nodes ≡ w.server.nodes
+      by_mark : (b : Bool) → (cond b (refusing s 4) (cond (is_still_held s.nodes t.generations)
+          (performing choice s t.body) (refusing s 5))).server.nodes ≡ w.server.nodes
       by_mark true = refl
       by_mark false = by_held (is_still_held s.nodes t.generations)
 
   abbrev Servable : NodeTable → Map HeldRequest → Type 0
-  Servable nodes held = All (λ (t : HeldRequest). All (λ (id : ℕ). is_some (row_of nodes id) ≡ true) (nodes_of_body t.body)) (values held)
+  Servable nodes held = All (λ (t : HeldRequest). All (λ (id : ℕ). is_some (row_of nodes id) ≡ true)
+      (nodes_of_body t.body)) (values held)
 
-  performed_servable : (unique : ℕ) (t : HeldRequest) → get w.server.held unique ≡ Some t → is_live w.kernel.phase ≡ false → (s : Server) → s ≡ (served choice w.server unique t).server → Servable s.nodes s.held
+  performed_servable : (unique : ℕ) (t : HeldRequest) → get w.server.held unique ≡ Some t
+      → is_live w.kernel.phase ≡ false → (s : Server) → s ≡ (served choice w.server unique t).server
+      → Servable s.nodes s.held
   performed_servable unique t there dead s same = elim (links.idle dead).server [
     | inl none ↦ none_in w.server.held unique t none there
     | inr aborted ↦ subst (λ (x : Server). Servable x.nodes x.held) (sym same)
-        (subst (λ (n : NodeTable). Servable n (served choice w.server unique t).server.held) (sym (performed_nodes unique t aborted))
-        (subst (λ (m : Map HeldRequest). Servable w.server.nodes m) (sym (performed_held w.server old.in_order choice unique t)) (All-gone (λ (x : HeldRequest). NodesServable w.server x.body) w.server.held unique old.nodes)))
+        (subst (λ (n : NodeTable). Servable n (served choice w.server unique t).server.held)
+        (sym (performed_nodes unique t aborted))
+        (subst (λ (m : Map HeldRequest). Servable w.server.nodes m)
+        (sym (performed_held w.server old.in_order choice unique t))
+        (All-gone (λ (x : HeldRequest). NodesServable w.server x.body) w.server.held unique old.nodes)))
   ]
 
-  dead_servable : (e : Event) (o : Outcome) (after : World) → Happened choice w e o after → is_live after.kernel.phase ≡ false → Servable after.server.nodes after.server.held
+  dead_servable : (e : Event) (o : Outcome) (after : World) → Happened choice w e o after
+      → is_live after.kernel.phase ≡ false → Servable after.server.nodes after.server.held
   dead_servable e o after (by_mount f m v idle) dead = absurd (true≢false dead)
   dead_servable e o after (by_call call ready room within) dead = old.nodes
   dead_servable e o after (by_read_interrupt original rest live there within) dead = old.nodes
@@ -172,13 +212,20 @@ module _ (choice : ℕ → ℕ) (w : World) (links : LinksSound w) (old : TakenS
   dead_servable e o after (by_read_pending k unique kept body live free there says within) dead = old.nodes
   dead_servable e o after (by_take k r there within) dead =
       let took = taking w.server r.unique r.body in
-      none_at w.requests k r (links.idle (subst (λ (q : Kernel). is_live q.phase ≡ false) (replying_kernel (record w { requests = without_at w.requests k; server = took.server }) w.server.next_copy r.unique took.reply) dead)).requests there
+      none_at w.requests k r (links.idle (subst (λ (q : Kernel). is_live q.phase ≡ false)
+      (replying_kernel (record w {
+        requests = without_at w.requests k;
+        server = took.server;
+      }) w.server.next_copy r.unique took.reply) dead)).requests there
   dead_servable e o after (by_perform unique t there within) dead =
       let did = served choice w.server unique t in
       let v = record w { server = did.server } in
       let sends = cond w.server.aborted None (Some did.wire) in
-      performed_servable unique t there (subst (λ (q : Kernel). is_live q.phase ≡ false) (replying_kernel v w.server.next_copy unique sends) dead) after.server (replying_server v w.server.next_copy unique sends)
-  dead_servable e o after (by_again unique kept there current within) dead = none_in w.server.kept unique kept (links.idle dead).kept there
+      performed_servable unique t there (subst (λ (q : Kernel). is_live q.phase ≡ false)
+      (replying_kernel v w.server.next_copy unique sends) dead) after.server
+      (replying_server v w.server.next_copy unique sends)
+  dead_servable e o after (by_again unique kept there current within) dead =
+      none_in w.server.kept unique kept (links.idle dead).kept there
   dead_servable e o after (by_write k sent there within) dead = old.nodes
   dead_servable e o after (by_settle k result there) dead = none_at w.results k result (links.idle dead).results there
   dead_servable e o after (by_signal call fatal state live there within) dead = old.nodes
@@ -190,16 +237,21 @@ module _ (choice : ℕ → ℕ) (w : World) (links : LinksSound w) (old : TakenS
 -- ---- every event
 
 -- What is held can be served as far as nodes go, whatever the event.
-pub taken_stay_servable : (w : World) → WorldSound w → RequestsAskedWhileLive w → LinksSound w → NodesKnown w.kernel → HeldKnownWhileLive w → ReleasesKnown w → TakenServable w.server → (e : Event) (o : Outcome) (after : World) → Happens w e o after
+pub taken_stay_servable : (w : World) → WorldSound w → RequestsAskedWhileLive w → LinksSound w → NodesKnown w.kernel
+    → HeldKnownWhileLive w → ReleasesKnown w → TakenServable w.server → (e : Event) (o : Outcome) (after : World)
+    → Happens w e o after
     → TakenServable after.server
-taken_stay_servable w sound requests links nodes held releases old e o after h = record { in_order = in_order; nodes = by (is_live after.kernel.phase) refl }
+taken_stay_servable w sound requests links nodes held releases old e o after h =
+    record { in_order = in_order; nodes = by (is_live after.kernel.phase) refl }
   where
     in_order : InOrder after.server.held
     in_order = order_stays h.0 w old.in_order e o after (happened h.0 w o after e h.2)
 
-    by : (b : Bool) → is_live after.kernel.phase ≡ b → All (λ (t : HeldRequest). NodesServable after.server t.body) (values after.server.held)
+    by : (b : Bool) → is_live after.kernel.phase ≡ b
+        → All (λ (t : HeldRequest). NodesServable after.server t.body) (values after.server.held)
     by true live =
-        live_servable after (worlds_stay w sound e o after h) (requests_stay_asked w sound requests e o after h) (links_stay w sound requests links e o after h) (held_stay_known w sound requests links nodes held e o after h)
+        live_servable after (worlds_stay w sound e o after h) (requests_stay_asked w sound requests e o after h)
+        (links_stay w sound requests links e o after h) (held_stay_known w sound requests links nodes held e o after h)
         (releases_stay_known w sound requests links nodes held releases e o after h) in_order live
     by false dead = dead_servable h.0 w links old e o after (happened h.0 w o after e h.2) dead
 

@@ -23,9 +23,12 @@ use Rattle.fuse_theorem.proofs.Refining.PerformingUnasked.{unheld}
 open_number : (h : HandleTable) (fh file : ℕ) → is_open h fh file ≡ true → IsNumber h fh
 open_number h fh file is none = true≢false (sym is ∙ ap (is_file_of file) none)
 
-module _ (w : World) (links : LinksSound w) (old : OpensAfterAbort w) (dead : is_live w.kernel.phase ≡ false) (unique : ℕ) (t : HeldRequest) (there : get w.server.held unique ≡ Some t) (o : Opened) (body_is : t.body ≡ release o) where
+module _ (w : World) (links : LinksSound w) (old : OpensAfterAbort w) (dead : is_live w.kernel.phase ≡ false)
+    (unique : ℕ) (t : HeldRequest) (there : get w.server.held unique ≡ Some t) (o : Opened)
+    (body_is : t.body ≡ release o) where
   pub number_open : is_open w.server.handles o.fh (file_of w.server.nodes o.nodeid) ≡ true
-  number_open = let now = (old dead).numbers in now.files unique t there o (subst (λ (b : RequestBody). Contains (opens_of_body b) o) (sym body_is) (first_of o []))
+  number_open = let now = (old dead).numbers in now.files unique t there o
+      (subst (λ (b : RequestBody). Contains (opens_of_body b) o) (sym body_is) (first_of o []))
 
   abbrev back : HandleTable
   back = handle_back w.server.handles o.fh
@@ -34,13 +37,18 @@ module _ (w : World) (links : LinksSound w) (old : OpensAfterAbort w) (dead : is
   numbers_held =
       let idle = links.idle dead in
       let left = old dead in
-      let now : NumbersStillOpen w.server.nodes back (remove w.server.held unique) = released_open w.server.nodes w.server.handles w.server.held left.numbers unique t there o body_is in
+      let now : NumbersStillOpen w.server.nodes back (remove w.server.held unique) =
+      released_open w.server.nodes w.server.handles w.server.held left.numbers unique t there o body_is in
       record {
         opens = λ handle x at. none_in w.kernel.vfs.opens handle x left.opens at;
         calls = λ call state at x among. none_in w.kernel.vfs.calls call state left.calls at;
-        sent = subst (All (λ (r : Request). (x : Opened) → Contains (opens_of_body r.body) x → IsNumber back x.fh)) (sym idle.requests) (All-nil (λ (r : Request). (x : Opened) → Contains (opens_of_body r.body) x → IsNumber back x.fh));
+        sent = subst (All (λ (r : Request). (x : Opened) → Contains (opens_of_body r.body) x → IsNumber back x.fh))
+            (sym idle.requests) (All-nil (λ (r : Request). (x : Opened) → Contains (opens_of_body r.body) x
+            → IsNumber back x.fh));
         held = λ u x at y among. open_number back y.fh (file_of w.server.nodes y.nodeid) (now.files u x at y among);
         kept = λ u k at awaited fh among. none_in w.server.kept u k idle.kept at;
-        copies = subst (All (λ (s : Sent). request_under w.kernel.queues s.unique ≢ None → (fh : ℕ) → Contains (opens_in_reply s.wire) fh → IsNumber back fh)) (sym idle.replies)
-            (All-nil (λ (s : Sent). request_under w.kernel.queues s.unique ≢ None → (fh : ℕ) → Contains (opens_in_reply s.wire) fh → IsNumber back fh));
+        copies = subst (All (λ (s : Sent). request_under w.kernel.queues s.unique ≢ None → (fh : ℕ)
+            → Contains (opens_in_reply s.wire) fh → IsNumber back fh)) (sym idle.replies)
+            (All-nil (λ (s : Sent). request_under w.kernel.queues s.unique ≢ None → (fh : ℕ)
+            → Contains (opens_in_reply s.wire) fh → IsNumber back fh));
       }

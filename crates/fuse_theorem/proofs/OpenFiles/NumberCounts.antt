@@ -25,22 +25,29 @@ number_count h fh = handle_count (get h.handles fh)
 abbrev pub one_at : ℕ → ℕ → ℕ
 one_at n fh = cond (nat_eq n fh) 1 0
 
-put_count : (m : Map OpenNumber) (n fh : ℕ) (new : OpenNumber) → handle_count (get (put m n new) fh) ≡ cond (nat_eq n fh) new.count (handle_count (get m fh))
+put_count : (m : Map OpenNumber) (n fh : ℕ) (new : OpenNumber)
+    → handle_count (get (put m n new) fh) ≡ cond (nat_eq n fh) new.count (handle_count (get m fh))
 put_count m n fh new = elim (cases_eq n fh) [
   | inl e ↦
-      let here : handle_count (get (put m n new) fh) ≡ new.count = subst (λ (x : ℕ). handle_count (get (put m n new) x) ≡ new.count) e (ap handle_count (get_put_here m n new)) in
+      let here : handle_count (get (put m n new) fh) ≡ new.count =
+      subst (λ (x : ℕ). handle_count (get (put m n new) x) ≡ new.count) e
+      (ap handle_count (get_put_here m n new)) in
       let tie : nat_eq n fh ≡ true = subst (λ (x : ℕ). nat_eq n x ≡ true) e (same_is n) in
       here ∙ ap (λ (b : Bool). cond b new.count (handle_count (get m fh))) (sym tie)
-  | inr ne ↦ ap handle_count (get_put_there m n new fh (λ e. ne (sym e))) ∙ ap (λ (b : Bool). cond b new.count (handle_count (get m fh))) (sym (other_is n fh ne))
+  | inr ne ↦ ap handle_count (get_put_there m n new fh (λ e. ne (sym e))) ∙ ap
+      (λ (b : Bool). cond b new.count (handle_count (get m fh))) (sym (other_is n fh ne))
 ]
 
-gone_count : (m : Map OpenNumber) (n fh : ℕ) → handle_count (get (remove m n) fh) ≡ cond (nat_eq n fh) 0 (handle_count (get m fh))
+gone_count : (m : Map OpenNumber) (n fh : ℕ) → handle_count (get (remove m n) fh)
+    ≡ cond (nat_eq n fh) 0 (handle_count (get m fh))
 gone_count m n fh = elim (cases_eq n fh) [
   | inl e ↦
-      let here : handle_count (get (remove m n) fh) ≡ 0 = subst (λ (x : ℕ). handle_count (get (remove m n) x) ≡ 0) e (ap handle_count (get_gone_here m n)) in
+      let here : handle_count (get (remove m n) fh) ≡ 0 =
+      subst (λ (x : ℕ). handle_count (get (remove m n) x) ≡ 0) e (ap handle_count (get_gone_here m n)) in
       let tie : nat_eq n fh ≡ true = subst (λ (x : ℕ). nat_eq n x ≡ true) e (same_is n) in
       here ∙ ap (λ (b : Bool). cond b 0 (handle_count (get m fh))) (sym tie)
-  | inr ne ↦ ap handle_count (get_gone_there m n fh (λ e. ne (sym e))) ∙ ap (λ (b : Bool). cond b 0 (handle_count (get m fh))) (sym (other_is n fh ne))
+  | inr ne ↦ ap handle_count (get_gone_there m n fh (λ e. ne (sym e))) ∙ ap
+      (λ (b : Bool). cond b 0 (handle_count (get m fh))) (sym (other_is n fh ne))
 ]
 
 -- ---- one number
@@ -49,14 +56,16 @@ gone_count m n fh = elim (cases_eq n fh) [
 pub back_count : (h : HandleTable) (n fh : ℕ) → number_count (handle_back h n) fh ≡ number_count h fh - one_at n fh
 back_count h n fh = by (get h.handles n) refl
   where
-    tied : (b : Bool) → nat_eq n fh ≡ b → number_count h fh - cond b 1 0 ≡ cond b (number_count h n - 1) (number_count h fh)
+    tied : (b : Bool) → nat_eq n fh ≡ b → number_count h fh - cond b 1 0
+        ≡ cond b (number_count h n - 1) (number_count h fh)
     tied true e = ap (λ (m : ℕ). number_count h m - 1) (sym key)
       where
         key : n ≡ fh
         key = grind (arith, nat_tests, e)
     tied false e = omega arith
 
-    by : (o : Option OpenNumber) → get h.handles n ≡ o → number_count (record h { handles = handles_less h.handles n o }) fh ≡ number_count h fh - one_at n fh
+    by : (o : Option OpenNumber) → get h.handles n ≡ o
+        → number_count (record h { handles = handles_less h.handles n o }) fh ≡ number_count h fh - one_at n fh
     by None at = none (nat_eq n fh) refl
       where
         none : (b : Bool) → nat_eq n fh ≡ b → number_count h fh ≡ number_count h fh - cond b 1 0
@@ -70,30 +79,42 @@ back_count h n fh = by (get h.handles n) refl
         mine : number_count h n ≡ x.count
         mine = ap handle_count at
 
-        less : (b : Bool) → nat_lt 1 x.count ≡ b → number_count (record h { handles = cond b (put h.handles n (record x { count = x.count - 1 })) (remove h.handles n) }) fh ≡ number_count h fh - one_at n fh
-        less true more = put_count h.handles n fh (record x { count = x.count - 1 }) ∙ ap (λ (m : ℕ). cond (nat_eq n fh) (m - 1) (number_count h fh)) (sym mine) ∙ sym (tied (nat_eq n fh) refl)
+        less : (b : Bool) → nat_lt 1 x.count ≡ b → number_count
+            (record h {
+              handles = cond b (put h.handles n (record x { count = x.count - 1 }))
+                  (remove h.handles n);
+            }) fh ≡ number_count h fh - one_at n fh
+        less true more = put_count h.handles n fh (record x { count = x.count - 1 }) ∙ ap
+            (λ (m : ℕ). cond (nat_eq n fh) (m - 1) (number_count h fh)) (sym mine) ∙ sym (tied (nat_eq n fh) refl)
         less false all =
             let none : 0 ≡ number_count h n - 1 = grind (arith, nat_tests, all, mine) in
-            gone_count h.handles n fh ∙ ap (λ (m : ℕ). cond (nat_eq n fh) m (number_count h fh)) none ∙ sym (tied (nat_eq n fh) refl)
+            gone_count h.handles n fh ∙ ap (λ (m : ℕ). cond (nat_eq n fh) m (number_count h fh)) none ∙ sym
+            (tied (nat_eq n fh) refl)
 
 -- A number that is there is counted once more.
-pub more_count : (h : HandleTable) (n fh : ℕ) → get h.handles n ≢ None → number_count (handle_more h n) fh ≡ number_count h fh + one_at n fh
+pub more_count : (h : HandleTable) (n fh : ℕ) → get h.handles n ≢ None
+    → number_count (handle_more h n) fh ≡ number_count h fh + one_at n fh
 more_count h n fh there = by (get h.handles n) refl
   where
-    tied : (x : OpenNumber) → get h.handles n ≡ Some x → (b : Bool) → nat_eq n fh ≡ b → cond b (x.count + 1) (number_count h fh) ≡ number_count h fh + cond b 1 0
+    tied : (x : OpenNumber) → get h.handles n ≡ Some x → (b : Bool) → nat_eq n fh ≡ b
+        → cond b (x.count + 1) (number_count h fh) ≡ number_count h fh + cond b 1 0
     tied x at true e =
         let key : n ≡ fh = grind (arith, nat_tests, e) in
-        let mine : number_count h fh ≡ x.count = subst (λ (m : ℕ). number_count h m ≡ x.count) key (ap handle_count at) in
+        let mine : number_count h fh ≡ x.count = subst (λ (m : ℕ). number_count h m ≡ x.count) key
+        (ap handle_count at) in
         omega (arith, mine)
     tied x at false e = omega arith
 
-    by : (o : Option OpenNumber) → get h.handles n ≡ o → number_count (record h { handles = handles_more h.handles n o }) fh ≡ number_count h fh + one_at n fh
+    by : (o : Option OpenNumber) → get h.handles n ≡ o
+        → number_count (record h { handles = handles_more h.handles n o }) fh ≡ number_count h fh + one_at n fh
     by None at = absurd (there at)
     by (Some x) at = put_count h.handles n fh (record x { count = x.count + 1 }) ∙ tied x at (nat_eq n fh) refl
 
 -- A new number is counted once.
-pub new_count : (h : HandleTable) (file fh : ℕ) → get h.handles h.next_fh ≡ None → number_count (handle_opened h file) fh ≡ number_count h fh + one_at h.next_fh fh
-new_count h file fh none = put_count h.handles h.next_fh fh (record { file = file; count = 1 }) ∙ tied (nat_eq h.next_fh fh) refl
+pub new_count : (h : HandleTable) (file fh : ℕ) → get h.handles h.next_fh ≡ None
+    → number_count (handle_opened h file) fh ≡ number_count h fh + one_at h.next_fh fh
+new_count h file fh none = put_count h.handles h.next_fh fh (record { file = file; count = 1 }) ∙ tied
+    (nat_eq h.next_fh fh) refl
   where
     tied : (b : Bool) → nat_eq h.next_fh fh ≡ b → cond b 1 (number_count h fh) ≡ number_count h fh + cond b 1 0
     tied true e =
@@ -133,14 +154,17 @@ number_alone n fh =
     omega (arith, alone, back)
 
 -- One more copy of a current reply.
-pub counted_counts : (h : HandleTable) (wire : WireReply) → list_all (λ (fh : ℕ). is_some (get h.handles fh)) (opens_in_reply wire) ≡ true → (fh : ℕ) → number_count (handles_counted h (opens_in_reply wire)) fh ≡ number_count h fh + opens_in fh wire
+pub counted_counts : (h : HandleTable) (wire : WireReply)
+    → list_all (λ (fh : ℕ). is_some (get h.handles fh)) (opens_in_reply wire) ≡ true → (fh : ℕ)
+    → number_count (handles_counted h (opens_in_reply wire)) fh ≡ number_count h fh + opens_in fh wire
 counted_counts h wire current fh = by (opens_in_reply wire) (opens_one wire) current
   where
     there : (o : Option OpenNumber) (b : Bool) → (is_some o && b) ≡ true → o ≢ None
     there None b e is = true≢false (sym e)
     there (Some x) b e is = absurd (cc (is))
 
-    by : (ns : List ℕ) → OneAtMost ns → list_all (λ (n : ℕ). is_some (get h.handles n)) ns ≡ true → number_count (handles_counted h ns) fh ≡ number_count h fh + count_by (nat_eq fh) ns
+    by : (ns : List ℕ) → OneAtMost ns → list_all (λ (n : ℕ). is_some (get h.handles n)) ns ≡ true
+        → number_count (handles_counted h ns) fh ≡ number_count h fh + count_by (nat_eq fh) ns
     by ns nothing e = omega arith
     by ns (one n) e =
         let more = more_count h n fh (there (get h.handles n) true e) in
@@ -148,10 +172,12 @@ counted_counts h wire current fh = by (opens_in_reply wire) (opens_one wire) cur
         omega (arith, more, alone)
 
 -- A refused copy comes back.
-pub given_back_counts : (h : HandleTable) (wire : WireReply) (fh : ℕ) → number_count (handles_back h (opens_in_reply wire)) fh ≡ number_count h fh - opens_in fh wire
+pub given_back_counts : (h : HandleTable) (wire : WireReply) (fh : ℕ)
+    → number_count (handles_back h (opens_in_reply wire)) fh ≡ number_count h fh - opens_in fh wire
 given_back_counts h wire fh = by (opens_in_reply wire) (opens_one wire)
   where
-    by : (ns : List ℕ) → OneAtMost ns → number_count (handles_back h ns) fh ≡ number_count h fh - count_by (nat_eq fh) ns
+    by : (ns : List ℕ) → OneAtMost ns → number_count (handles_back h ns) fh
+        ≡ number_count h fh - count_by (nat_eq fh) ns
     by ns nothing = omega arith
     by ns (one n) =
         let less = back_count h n fh in
@@ -159,10 +185,14 @@ given_back_counts h wire fh = by (opens_in_reply wire) (opens_one wire)
         omega (arith, less, alone)
 
 -- A new reply.
-pub wire_opened : (choice : ℕ → ℕ) (t : NodeTable) (tree : Tree) (h : HandleTable) → get h.handles h.next_fh ≡ None → (reply : Reply ℕ ℕ) (fh : ℕ)
-    → number_count (all_opened h (opens_in_reply reply)) fh ≡ number_count h fh + opens_in fh (wire_of choice t tree h.next_fh reply)
-wire_opened choice t tree h none (created file v o) fh = let new = new_count h o fh none in let alone = number_alone h.next_fh fh in omega (arith, new, alone)
-wire_opened choice t tree h none (opened o) fh = let new = new_count h o fh none in let alone = number_alone h.next_fh fh in omega (arith, new, alone)
+pub wire_opened : (choice : ℕ → ℕ) (t : NodeTable) (tree : Tree) (h : HandleTable) → get h.handles h.next_fh ≡ None
+    → (reply : Reply ℕ ℕ) (fh : ℕ)
+    → number_count (all_opened h (opens_in_reply reply)) fh
+    ≡ number_count h fh + opens_in fh (wire_of choice t tree h.next_fh reply)
+wire_opened choice t tree h none (created file v o) fh = let new = new_count h o fh none in let alone =
+    number_alone h.next_fh fh in omega (arith, new, alone)
+wire_opened choice t tree h none (opened o) fh = let new = new_count h o fh none in let alone =
+    number_alone h.next_fh fh in omega (arith, new, alone)
 wire_opened choice t tree h none (found file v) fh = omega arith
 wire_opened choice t tree h none (missing v) fh = omega arith
 wire_opened choice t tree h none (attributes a) fh = omega arith

@@ -33,15 +33,19 @@ module _ {X : Type 0} (f : X → ℕ) where
       elim (cases_eq k e.0) [
         | inl same ↦
             let is : nat_eq e.0 k ≡ true = subst (λ (n : ℕ). nat_eq e.0 n ≡ true) (sym same) (same_is e.0) in
-            let tie : is_eq (nat_cmp k e.0) ≡ true = subst (λ (n : ℕ). is_eq (nat_cmp n e.0) ≡ true) (sym same) (ap is_eq (cmp_same e.0)) in
-            let gone : sum_by f (values (remove (e ∷ m) k)) ≡ sum_by f (values (remove m k)) = ap (λ (b : Bool). sum_by f (values (cond (not b) (e ∷ remove m k) (remove m k)))) is in
+            let tie : is_eq (nat_cmp k e.0) ≡ true = subst (λ (n : ℕ). is_eq (nat_cmp n e.0) ≡ true) (sym same)
+            (ap is_eq (cmp_same e.0)) in
+            let gone : sum_by f (values (remove (e ∷ m) k)) ≡ sum_by f (values (remove m k)) =
+            ap (λ (b : Bool). sum_by f (values (cond (not b) (e ∷ remove m k) (remove m k)))) is in
             let found : worth (get (e ∷ m) k) ≡ f e.1 = ap (λ (b : Bool). worth (cond b (Some e.1) (get m k))) tie in
             omega (arith, whole, gone, found, rest)
         | inr ne ↦
             let is : nat_eq e.0 k ≡ false = other_is e.0 k (λ q. ne (sym q)) in
-            let stays : sum_by f (values (remove (e ∷ m) k)) ≡ sum_by f (values (e ∷ remove m k)) = ap (λ (b : Bool). sum_by f (values (cond (not b) (e ∷ remove m k) (remove m k)))) is in
+            let stays : sum_by f (values (remove (e ∷ m) k)) ≡ sum_by f (values (e ∷ remove m k)) =
+            ap (λ (b : Bool). sum_by f (values (cond (not b) (e ∷ remove m k) (remove m k)))) is in
             let more = sum_by-cons f e.1 (values (remove m k)) in
-            let found : worth (get (e ∷ m) k) ≡ worth (get m k) = ap (λ (b : Bool). worth (cond b (Some e.1) (get m k))) (tie_no k e.0 ne) in
+            let found : worth (get (e ∷ m) k) ≡ worth (get m k) =
+            ap (λ (b : Bool). worth (cond b (Some e.1) (get m k))) (tie_no k e.0 ne) in
             omega (arith, whole, stays, more, found, rest)
       ]
 
@@ -51,34 +55,44 @@ module _ {X : Type 0} (f : X → ℕ) where
 abbrev back_if : ℕ → ℕ → ℕ
 back_if fh q = cond (nat_eq fh q) 1 0
 
-back_count : (h : HandleTable) (fh q : ℕ) → handle_count (get h.handles q) ≤ handle_count (get (handle_back h fh).handles q) + back_if fh q
+back_count : (h : HandleTable) (fh q : ℕ) → handle_count (get h.handles q) ≤ handle_count
+    (get (handle_back h fh).handles q) + back_if fh q
 back_count h fh q = elim (cases_eq q fh) [
   | inl same ↦
-      let one : back_if fh q ≡ 1 = ap (λ (b : Bool). cond b 1 0) (subst (λ (n : ℕ). nat_eq fh n ≡ true) (sym same) (same_is fh)) in
+      let one : back_if fh q ≡ 1 = ap (λ (b : Bool). cond b 1 0)
+      (subst (λ (n : ℕ). nat_eq fh n ≡ true) (sym same) (same_is fh)) in
       let here = by (get h.handles fh) refl in
-      let few = subst (λ (n : ℕ). handle_count (get h.handles n) ≤ handle_count (get (handle_back h fh).handles n) + 1) (sym same) here in
+      let few = subst (λ (n : ℕ). handle_count (get h.handles n) ≤ handle_count (get (handle_back h fh).handles n) + 1)
+      (sym same) here in
       omega (arith, one, few)
   | inr ne ↦ let there = ap handle_count (other (get h.handles fh) ne) in omega (arith, there)
 ]
   where
-    counted : (x : OpenNumber) (b : Bool) → nat_lt 1 x.count ≡ b → x.count ≤ handle_count (get (cond b (put h.handles fh (record x { count = x.count - 1 })) (remove h.handles fh)) fh) + 1
-    counted x true many = let is = ap handle_count (get_put_here h.handles fh (record x { count = x.count - 1 })) in let low : 1 < x.count = grind (arith, nat_tests, many) in omega (arith, is, low)
+    counted : (x : OpenNumber) (b : Bool) → nat_lt 1 x.count ≡ b
+        → x.count ≤ handle_count (get (cond b (put h.handles fh (record x { count = x.count - 1 }))
+        (remove h.handles fh)) fh) + 1
+    counted x true many = let is = ap handle_count (get_put_here h.handles fh (record x { count = x.count - 1 })) in
+        let low : 1 < x.count = grind (arith, nat_tests, many) in omega (arith, is, low)
     counted x false few = let low : x.count ≤ 1 = grind (arith, nat_tests, few) in omega (arith, low)
 
-    by : (o : Option OpenNumber) → get h.handles fh ≡ o → handle_count (get h.handles fh) ≤ handle_count (get (handles_less h.handles fh o) fh) + 1
+    by : (o : Option OpenNumber) → get h.handles fh ≡ o
+        → handle_count (get h.handles fh) ≤ handle_count (get (handles_less h.handles fh o) fh) + 1
     by None at = let none = ap handle_count at in omega (arith, none)
-    by (Some x) at = let is = ap handle_count at in let few = counted x (nat_lt 1 x.count) refl in omega (arith, is, few)
+    by (Some x) at = let is = ap handle_count at in let few =
+        counted x (nat_lt 1 x.count) refl in omega (arith, is, few)
 
     other : (o : Option OpenNumber) → q ≢ fh → get (handles_less h.handles fh o) q ≡ get h.handles q
     other None ne = refl
     other (Some x) ne = either (nat_lt 1 x.count)
       where
-        either : (b : Bool) → get (cond b (put h.handles fh (record x { count = x.count - 1 })) (remove h.handles fh)) q ≡ get h.handles q
+        either : (b : Bool) → get (cond b (put h.handles fh (record x { count = x.count - 1 }))
+            (remove h.handles fh)) q ≡ get h.handles q
         either true = get_put_there h.handles fh (record x { count = x.count - 1 }) q ne
         either false = get_gone_there h.handles fh q ne
 
 -- A number that is counted still is one of the same file.
-still_open : (h : HandleTable) (fh q file : ℕ) → is_open h q file ≡ true → 1 ≤ handle_count (get (handle_back h fh).handles q) → is_open (handle_back h fh) q file ≡ true
+still_open : (h : HandleTable) (fh q file : ℕ) → is_open h q file ≡ true
+    → 1 ≤ handle_count (get (handle_back h fh).handles q) → is_open (handle_back h fh) q file ≡ true
 still_open h fh q file was counted = by (get (handle_back h fh).handles q) refl counted
   where
     by : (o : Option OpenNumber) → get (handle_back h fh).handles q ≡ o → 1 ≤ handle_count o → is_file_of file o ≡ true
@@ -90,15 +104,18 @@ still_open h fh q file was counted = by (get (handle_back h fh).handles q) refl 
 
 -- ---- what is held
 
-module _ (nodes : NodeTable) (handles : HandleTable) (held : Map HeldRequest) (old : NumbersStillOpen nodes handles held) (unique : ℕ) where
+module _ (nodes : NodeTable) (handles : HandleTable) (held : Map HeldRequest)
+    (old : NumbersStillOpen nodes handles held) (unique : ℕ) where
   abbrev left : Map HeldRequest
   left = remove held unique
 
   -- those that are left release no number more often
-  releases_left : (fh : ℕ) (t : HeldRequest) → get held unique ≡ Some t → releases_held left fh + releases_in fh t.body ≤ releases_held held fh
+  releases_left : (fh : ℕ) (t : HeldRequest) → get held unique ≡ Some t
+      → releases_held left fh + releases_in fh t.body ≤ releases_held held fh
   releases_left fh t there =
       let few = sum_left (λ (x : HeldRequest). releases_in fh x.body) held unique in
-      let is : worth (λ (x : HeldRequest). releases_in fh x.body) (get held unique) ≡ releases_in fh t.body = ap (worth (λ (x : HeldRequest). releases_in fh x.body)) there in
+      let is : worth (λ (x : HeldRequest). releases_in fh x.body) (get held unique) ≡ releases_in fh t.body =
+      ap (worth (λ (x : HeldRequest). releases_in fh x.body)) there in
       omega (arith, few, is)
 
   fewer_left : (fh : ℕ) → releases_held left fh ≤ releases_held held fh
@@ -109,10 +126,12 @@ module _ (nodes : NodeTable) (handles : HandleTable) (held : Map HeldRequest) (o
   left_open = record {
     files = λ u x at o among. old.files u x (left_found held unique u x at) o among;
     released = λ fh. let few = fewer_left fh in let enough = old.released fh in omega (arith, few, enough);
-    used = λ u x at operation is o among. let few = fewer_left o.fh in let enough = old.used u x (left_found held unique u x at) operation is o among in omega (arith, few, enough);
+    used = λ u x at operation is o among. let few = fewer_left o.fh in let enough =
+        old.used u x (left_found held unique u x at) operation is o among in omega (arith, few, enough);
   }
 
-  module _ (t : HeldRequest) (there : get held unique ≡ Some t) (given : Opened) (body_is : t.body ≡ release given) where
+  module _ (t : HeldRequest) (there : get held unique ≡ Some t) (given : Opened)
+      (body_is : t.body ≡ release given) where
     abbrev back : HandleTable
     back = handle_back handles given.fh
 
@@ -129,7 +148,9 @@ module _ (nodes : NodeTable) (handles : HandleTable) (held : Map HeldRequest) (o
         let counts = back_count handles given.fh fh in
         omega (arith, few, enough, counts)
 
-    enough_used : (u : ℕ) (x : HeldRequest) → get left u ≡ Some x → (operation : Operation ℕ Opened) → x.body ≡ asks operation → (o : Opened) → Contains (opens_of operation) o → releases_held left o.fh + 1 ≤ handle_count (get back.handles o.fh)
+    enough_used : (u : ℕ) (x : HeldRequest) → get left u ≡ Some x → (operation : Operation ℕ Opened)
+        → x.body ≡ asks operation → (o : Opened) → Contains (opens_of operation) o
+        → releases_held left o.fh + 1 ≤ handle_count (get back.handles o.fh)
     enough_used u x at operation is o among =
         let few = fewer_by_one o.fh in
         let enough = old.used u x (left_found held unique u x at) operation is o among in
@@ -137,13 +158,17 @@ module _ (nodes : NodeTable) (handles : HandleTable) (held : Map HeldRequest) (o
         omega (arith, few, enough, counts)
 
     -- what is held is counted
-    counted_still : (u : ℕ) (x : HeldRequest) → get left u ≡ Some x → (o : Opened) (body : RequestBody) → x.body ≡ body → Contains (opens_of_body body) o → 1 ≤ handle_count (get back.handles o.fh)
+    counted_still : (u : ℕ) (x : HeldRequest) → get left u ≡ Some x → (o : Opened) (body : RequestBody) → x.body ≡ body
+        → Contains (opens_of_body body) o → 1 ≤ handle_count (get back.handles o.fh)
     counted_still u x at o (init flags) is among = absurd (let lt = among.1 in omega (arith, lt))
-    counted_still u x at o (asks operation) is among = let enough = enough_used u x at operation is o among in omega (arith, enough)
+    counted_still u x at o (asks operation) is among = let enough =
+        enough_used u x at operation is o among in omega (arith, enough)
     counted_still u x at o (release other) is (zero, lt, same) =
-        let number : releases_in o.fh x.body ≡ 1 = ap (releases_in o.fh) is ∙ ap (λ (y : Opened). cond (nat_eq y.fh o.fh) 1 0) same ∙ ap (λ (b : Bool). cond b 1 0) (same_is o.fh) in
+        let number : releases_in o.fh x.body ≡ 1 = ap (releases_in o.fh) is ∙ ap
+        (λ (y : Opened). cond (nat_eq y.fh o.fh) 1 0) same ∙ ap (λ (b : Bool). cond b 1 0) (same_is o.fh) in
         let some = sum_left (λ (y : HeldRequest). releases_in o.fh y.body) left u in
-        let here : worth (λ (y : HeldRequest). releases_in o.fh y.body) (get left u) ≡ releases_in o.fh x.body = ap (worth (λ (y : HeldRequest). releases_in o.fh y.body)) at in
+        let here : worth (λ (y : HeldRequest). releases_in o.fh y.body) (get left u) ≡ releases_in o.fh x.body =
+        ap (worth (λ (y : HeldRequest). releases_in o.fh y.body)) at in
         let enough = enough_left o.fh in
         omega (arith, number, some, here, enough)
     counted_still u x at o (release other) is (suc i, lt, same) = absurd (omega (arith, lt))
@@ -154,7 +179,8 @@ module _ (nodes : NodeTable) (handles : HandleTable) (held : Map HeldRequest) (o
     -- A RELEASE is held no longer, and its number is given back.
     pub released_open : NumbersStillOpen nodes back left
     released_open = record {
-      files = λ u x at o among. still_open handles given.fh o.fh (file_of nodes o.nodeid) (old.files u x (left_found held unique u x at) o among) (counted_still u x at o x.body refl among);
+      files = λ u x at o among. still_open handles given.fh o.fh (file_of nodes o.nodeid)
+          (old.files u x (left_found held unique u x at) o among) (counted_still u x at o x.body refl among);
       released = enough_left;
       used = enough_used;
     }

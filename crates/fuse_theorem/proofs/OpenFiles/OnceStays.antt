@@ -69,10 +69,12 @@ one_of P Q xs (here x rest p) h = (x, p, All-head Q x rest h)
 one_of P Q xs (there x rest s) h = one_of P Q rest s (All-tail Q x rest h)
 
 -- The number of a request whose reply carries an open number was drawn.
-carries_below : (w : World) → IsNumbered w → is_live w.kernel.phase ≡ true → (unique fh : ℕ) → Carries w unique fh → unique < w.kernel.queues.next
+carries_below : (w : World) → IsNumbered w → is_live w.kernel.phase ≡ true → (unique fh : ℕ) → Carries w unique fh
+    → unique < w.kernel.queues.next
 carries_below w numbered live unique fh (inl kept) = numbered.kept_below live unique kept.0 kept.1
 carries_below w numbered live unique fh (inr sent) =
-    let found = one_of (λ (s : Sent). (s.unique ≡ unique) × (1 ≤ opens_in fh s.wire)) (λ (s : Sent). s.unique < w.kernel.queues.next) w.replies sent numbered.replies_below in
+    let found = one_of (λ (s : Sent). (s.unique ≡ unique) × (1 ≤ opens_in fh s.wire))
+    (λ (s : Sent). s.unique < w.kernel.queues.next) w.replies sent numbered.replies_below in
     let low = found.2 in
     let is = found.1.0 in
     omega (arith, low, is)
@@ -90,7 +92,8 @@ fresh_once w f m v = record {
     none u fh (inl kept) = let at = kept.1 in cc (at)
     none u fh (inr sent) = has_none (λ (s : Sent). (s.unique ≡ u) × (1 ≤ opens_in fh s.wire)) [] sent refl
 
-module _ (choice : ℕ → ℕ) (w : World) (p : Plain) (both : BothSound w p) (releases : ReleasesKnown w) (opens : OpensSound w) (live : is_live w.kernel.phase ≡ true) (old : OpensOnce w) where
+module _ (choice : ℕ → ℕ) (w : World) (p : Plain) (both : BothSound w p) (releases : ReleasesKnown w)
+    (opens : OpensSound w) (live : is_live w.kernel.phase ≡ true) (old : OpensOnce w) where
   sound : WorldSound w
   sound = both.world
 
@@ -106,19 +109,29 @@ module _ (choice : ℕ → ℕ) (w : World) (p : Plain) (both : BothSound w p) (
   -- ---- the kernel moves
 
   -- What was answered stays so.
-  answered_still : (q : QueueState Purpose) → QueueMoves w.kernel.queues q → (u fh : ℕ) → Carries w u fh → request_under q u ≢ None → request_under w.kernel.queues u ≢ None
-  answered_still q moves u fh c waits none = waits (stays_absent w.kernel.queues q moves u (carries_below w numbered live u fh c) none)
+  answered_still : (q : QueueState Purpose) → QueueMoves w.kernel.queues q → (u fh : ℕ) → Carries w u fh
+      → request_under q u ≢ None → request_under w.kernel.queues u ≢ None
+  answered_still q moves u fh c waits none = waits
+      (stays_absent w.kernel.queues q moves u (carries_below w numbered live u fh c) none)
 
-  moved : (k : Kernel) (requests : List Request) → SameOpen w k requests → ((u fh : ℕ) → Carries w u fh → request_under k.queues u ≢ None → request_under w.kernel.queues u ≢ None) → OpensOnce (record w { kernel = k; requests = requests })
-  moved k requests same still = none_new w (record w { kernel = k; requests = requests }) old (omega arith) (λ u fh c. c) still (λ fh. let sum = open_same w k requests same (has_number fh) in omega (arith, sum))
+  moved : (k : Kernel) (requests : List Request) → SameOpen w k requests
+      → ((u fh : ℕ) → Carries w u fh → request_under k.queues u ≢ None → request_under w.kernel.queues u ≢ None)
+      → OpensOnce (record w { kernel = k; requests = requests })
+  moved k requests same still = none_new w (record w { kernel = k; requests = requests }) old (omega arith)
+      (λ u fh c. c) still (λ fh. let sum = open_same w k requests same (has_number fh) in omega (arith, sum))
 
-  forgets_under : (n u : ℕ) (b : Bool) → request_under (cond b (record w.kernel.queues { forgets = drop n w.kernel.queues.forgets; next = w.kernel.queues.next + 2 }) w.kernel.queues) u ≡ request_under w.kernel.queues u
+  forgets_under : (n u : ℕ) (b : Bool) → request_under
+      (cond b (record w.kernel.queues {
+        forgets = drop n w.kernel.queues.forgets;
+        next = w.kernel.queues.next + 2;
+      }) w.kernel.queues) u ≡ request_under w.kernel.queues u
   forgets_under n u true = refl
   forgets_under n u false = refl
 
   -- ---- the server takes, sends again and settles
 
-  taken_carries : (k unique : ℕ) (body : RequestBody) (u fh : ℕ) → Carries (after_take w k unique (taking w.server unique body)) u fh → Carries w u fh
+  taken_carries : (k unique : ℕ) (body : RequestBody) (u fh : ℕ)
+      → Carries (after_take w k unique (taking w.server unique body)) u fh → Carries w u fh
   taken_carries k unique (init flags) u fh c = c
   taken_carries k unique (asks operation) u fh c = c
   taken_carries k unique (release o) u fh c = c
@@ -126,57 +139,97 @@ module _ (choice : ℕ → ℕ) (w : World) (p : Plain) (both : BothSound w p) (
   taken_carries k unique (batch_forget fs) u fh c = c
   taken_carries k unique (interrupt original) u fh c = by (get w.server.held original) (get w.server.kept original) c
     where
-      by : (h : Option HeldRequest) (o : Option Kept) → Carries (after_take w k unique (interrupting w.server unique original h o)) u fh → Carries w u fh
+      by : (h : Option HeldRequest) (o : Option Kept) → Carries
+          (after_take w k unique (interrupting w.server unique original h o)) u fh → Carries w u fh
       by (Some t) o n = n
       by None (Some x) n = n
       by None None (inl kept) = inl kept
-      by None None (inr sent) = elim (has_old (λ (s : Sent). (s.unique ≡ u) × (1 ≤ opens_in fh s.wire)) w.replies _ sent) [ inl e ↦ absurd (let some = e.1 in omega (arith, some)) | inr h ↦ inr h ]
+      by None None (inr sent) = elim (has_old (λ (s : Sent). (s.unique ≡ u)
+          × (1 ≤ opens_in fh s.wire)) w.replies _ sent) [
+            | inl e ↦ absurd
+                (let some = e.1 in omega (arith, some))
+            | inr h ↦ inr h
+          ]
 
-  taken_once : (k : ℕ) (r : Request) → slice_get w.requests k ≡ Some r → OpensOnce (after_take w k r.unique (taking w.server r.unique r.body))
+  taken_once : (k : ℕ) (r : Request) → slice_get w.requests k ≡ Some r
+      → OpensOnce (after_take w k r.unique (taking w.server r.unique r.body))
   taken_once k r at =
       let took = taking w.server r.unique r.body in
       let left = record w { requests = without_at w.requests k; server = took.server } in
       let kernel = replying_kernel left w.server.next_copy r.unique took.reply in
       let next = ap (λ (s : Server). s.handles.next_fh) (replying_server left w.server.next_copy r.unique took.reply) in
       let same = ap (λ (h : HandleTable). h.next_fh) (taken_handles w r.unique r.body) in
-      none_new w (after_take w k r.unique took) old (omega (arith, next, same)) (taken_carries k r.unique r.body) (λ u fh c waits e. waits (ap (λ (l : Kernel). request_under l.queues u) kernel ∙ e))
-      (λ fh. let files = taken_files w p both live releases opens.held balanced k r at (has_number fh) in omega (arith, files))
+      none_new w (after_take w k r.unique took) old (omega (arith, next, same)) (taken_carries k r.unique r.body)
+      (λ u fh c waits e. waits (ap (λ (l : Kernel). request_under l.queues u) kernel ∙ e))
+      (λ fh. let files = taken_files w p both live releases opens.held balanced k r at (has_number fh) in
+      omega (arith, files))
 
   again_once : (unique : ℕ) (kept : Kept) → get w.server.kept unique ≡ Some kept → OpensOnce (after_again w unique kept)
   again_once unique kept at =
-      none_new w (after_again w unique kept) old (let same = counted_next (opens_in_reply kept.wire) w.server.handles in omega (arith, same)) carried (λ u fh c waits. waits) (λ fh. omega arith)
+      none_new w (after_again w unique kept) old (let same =
+      counted_next (opens_in_reply kept.wire) w.server.handles in omega (arith, same)) carried
+      (λ u fh c waits. waits) (λ fh. omega arith)
     where
       carried : (u fh : ℕ) → Carries (after_again w unique kept) u fh → Carries w u fh
       carried u fh (inl x) = inl x
-      carried u fh (inr sent) = elim (has_old (λ (s : Sent). (s.unique ≡ u) × (1 ≤ opens_in fh s.wire)) w.replies _ sent) [ inl e ↦ inl (kept, subst (λ (n : ℕ). get w.server.kept n ≡ Some kept) e.0 at, e.1) | inr h ↦ inr h ]
+      carried u fh (inr sent) = elim (has_old (λ (s : Sent). (s.unique ≡ u)
+          × (1 ≤ opens_in fh s.wire)) w.replies _ sent) [
+            | inl e ↦ inl
+                (kept, subst (λ (n : ℕ). get w.server.kept n ≡ Some kept) e.0 at, e.1)
+            | inr h ↦ inr h
+          ]
 
   module _ (k : ℕ) (result : ReplyResult) (copy : Copy) where
     abbrev less : Server
-    less = record w.server { copies = remove w.server.copies result.number; kept = kept_after w.server.kept copy (get w.server.kept copy.unique) }
+    less = record w.server {
+      copies = remove w.server.copies result.number;
+      kept = kept_after w.server.kept copy (get w.server.kept copy.unique);
+    }
 
-    fewer : (s : Server) → s.kept ≡ kept_after w.server.kept copy (get w.server.kept copy.unique) → (u fh : ℕ) → Carries (record w { results = without_at w.results k; server = s }) u fh → Carries w u fh
-    fewer s same u fh (inl x) = inl (x.0, kept_was w.server.kept copy (get w.server.kept copy.unique) u x.0 (ap (λ (m : Map Kept). get m u) (sym same) ∙ x.1), x.2)
+    fewer : (s : Server) → s.kept ≡ kept_after w.server.kept copy (get w.server.kept copy.unique) → (u fh : ℕ)
+        → Carries (record w { results = without_at w.results k; server = s }) u fh → Carries w u fh
+    fewer s same u fh (inl x) = inl (
+      x.0,
+      kept_was w.server.kept copy (get w.server.kept copy.unique) u x.0
+          (ap (λ (m : Map Kept). get m u) (sym same) ∙ x.1),
+      x.2,
+    )
     fewer s same u fh (inr sent) = inr sent
 
     next : w.server.handles.next_fh ≤ (handles_back w.server.handles (opens_in_reply copy.wire)).next_fh
     next = let same = given_back_next (opens_in_reply copy.wire) w.server.handles in omega (arith, same)
 
-    settled_as : (r : WriteResult) → OpensOnce (record w { results = without_at w.results k; server = after_result less copy.wire r })
-    settled_as Accepted = none_new w (record w { results = without_at w.results k; server = less }) old (omega arith) (fewer less refl) (λ u fh c waits. waits) (λ fh. omega arith)
-    settled_as NoEntry = none_new w (record w { results = without_at w.results k; server = given_back less copy.wire }) old next (fewer (given_back less copy.wire) refl) (λ u fh c waits. waits) (λ fh. omega arith)
-    settled_as Invalid = none_new w (record w { results = without_at w.results k; server = given_back less copy.wire }) old next (fewer (given_back less copy.wire) refl) (λ u fh c waits. waits) (λ fh. omega arith)
+    settled_as : (r : WriteResult) → OpensOnce (record w {
+      results = without_at w.results k;
+      server = after_result less copy.wire r;
+    })
+    settled_as Accepted = none_new w (record w { results = without_at w.results k; server = less }) old (omega arith)
+        (fewer less refl) (λ u fh c waits. waits) (λ fh. omega arith)
+    settled_as NoEntry = none_new w (record w {
+      results = without_at w.results k;
+      server = given_back less copy.wire;
+    }) old next (fewer (given_back less copy.wire) refl) (λ u fh c waits. waits)
+        (λ fh. omega arith)
+    settled_as Invalid = none_new w (record w {
+      results = without_at w.results k;
+      server = given_back less copy.wire;
+    }) old next (fewer (given_back less copy.wire) refl) (λ u fh c waits. waits)
+        (λ fh. omega arith)
 
   settled_once : (k : ℕ) (result : ReplyResult) (o : Option Copy) → OpensOnce (after_settle w k result o)
-  settled_once k result None = none_new w (after_settle w k result None) old (omega arith) (λ u fh c. c) (λ u fh c waits. waits) (λ fh. omega arith)
+  settled_once k result None = none_new w (after_settle w k result None) old (omega arith) (λ u fh c. c)
+      (λ u fh c waits. waits) (λ fh. omega arith)
   settled_once k result (Some copy) = settled_as k result copy result.result
 
   -- ---- a request is performed
 
-  module _ (unique : ℕ) (t : HeldRequest) (at : get w.server.held unique ≡ Some t) (may : MayChooseFor choice w (Some t)) where
+  module _ (unique : ℕ) (t : HeldRequest) (at : get w.server.held unique ≡ Some t)
+      (may : MayChooseFor choice w (Some t)) where
     did : PerformResult
     did = performed choice (record w.server { held = remove w.server.held unique }) t
 
-    draws : Draws (record w.server { held = remove w.server.held unique }) (performed choice (record w.server { held = remove w.server.held unique }) t)
+    draws : Draws (record w.server { held = remove w.server.held unique })
+        (performed choice (record w.server { held = remove w.server.held unique }) t)
     draws = performed_draws choice (record w.server { held = remove w.server.held unique }) t
 
     -- no file has the coming number
@@ -194,29 +247,79 @@ module _ (choice : ℕ → ℕ) (w : World) (p : Plain) (both : BothSound w p) (
         serving : w.server.aborted ≡ false
         serving = let links = both.links in links.serving live
 
-        kept_is : (performed choice (record w.server { held = remove w.server.held unique }) t).server.kept ≡ w.server.kept
-        kept_is = let rest = performed_rest choice (record w.server { held = remove w.server.held unique }) t in rest.kept
+        kept_is : (performed choice (record w.server { held = remove w.server.held unique }) t).server.kept
+            ≡ w.server.kept
+        kept_is = let rest = performed_rest choice (record w.server { held = remove w.server.held unique }) t in
+            rest.kept
 
         -- the reply is kept and goes out
-        carried : (b : Bool) → (performed choice (record w.server { held = remove w.server.held unique }) t).server.aborted ≡ b → (u fh : ℕ) → Carries (replying (record w { server = (served choice w.server unique t).server }) w.server.next_copy unique (Some (served choice w.server unique t).wire)) u fh
-            → ((u ≡ unique) × (1 ≤ opens_in fh (performed choice (record w.server { held = remove w.server.held unique }) t).wire)) ⊎ Carries w u fh
-        carried b aborted u fh (inr sent) = elim (has_old (λ (s : Sent). (s.unique ≡ u) × (1 ≤ opens_in fh s.wire)) w.replies _ sent) [ inl e ↦ inl (sym e.0, e.1) | inr h ↦ inr (inr h) ]
-        carried b aborted u fh (inl x) = of_kept b (subst (λ (c : Bool). get (cond c (performed choice (record w.server { held = remove w.server.held unique }) t).server.kept (put (performed choice (record w.server { held = remove w.server.held unique }) t).server.kept unique (record { wire = (performed choice (record w.server { held = remove w.server.held unique }) t).wire; first = (performed choice (record w.server { held = remove w.server.held unique }) t).server.next_copy }))) u ≡ Some x.0) aborted x.1)
-          where
-            of_kept : (c : Bool) → get (cond c (performed choice (record w.server { held = remove w.server.held unique }) t).server.kept (put (performed choice (record w.server { held = remove w.server.held unique }) t).server.kept unique (record { wire = (performed choice (record w.server { held = remove w.server.held unique }) t).wire; first = (performed choice (record w.server { held = remove w.server.held unique }) t).server.next_copy }))) u ≡ Some x.0
-                → ((u ≡ unique) × (1 ≤ opens_in fh (performed choice (record w.server { held = remove w.server.held unique }) t).wire)) ⊎ Carries w u fh
-            of_kept true e = inr (inl (x.0, ap (λ (m : Map Kept). get m u) (sym kept_is) ∙ e, x.2))
-            of_kept false e = elim (put_found (performed choice (record w.server { held = remove w.server.held unique }) t).server.kept unique _ u x.0 e) [
-              | inl h ↦ inl (h.0, subst (λ (k : Kept). 1 ≤ opens_in fh k.wire) (sym h.1) x.2)
-              | inr h ↦ inr (inl (x.0, ap (λ (m : Map Kept). get m u) (sym kept_is) ∙ h, x.2))
+        carried : (b : Bool) → (performed choice (record w.server {
+          held =
+              remove w.server.held unique;
+        }) t).server.aborted ≡ b → (u fh : ℕ)
+            → Carries (replying (record w {
+              server =
+                  (served choice w.server unique t).server;
+            }) w.server.next_copy unique
+            (Some (served choice w.server unique t).wire)) u fh
+            → ((u ≡ unique) × (1 ≤ opens_in fh (performed choice
+            (record w.server { held = remove w.server.held unique }) t).wire)) ⊎ Carries w u fh
+        carried b aborted u fh (inr sent) = elim (has_old
+            (λ (s : Sent). (s.unique ≡ u) × (1 ≤ opens_in fh s.wire)) w.replies _ sent) [
+              | inl e ↦ inl
+                  (sym e.0, e.1)
+              | inr h ↦ inr (inr h)
             ]
+        carried b aborted u fh (inl x) = of_kept b (subst
+            (λ (c : Bool). get (cond c (performed choice (record w.server {
+              held =
+                  remove w.server.held unique;
+            }) t).server.kept (put
+            (performed choice (record w.server { held = remove w.server.held unique }) t).server.kept unique
+            (record {
+              wire = (performed choice (record w.server { held = remove w.server.held unique }) t).wire;
+              first = (performed choice (record w.server {
+                held =
+                    remove w.server.held unique;
+              }) t).server.next_copy;
+            }))) u ≡ Some x.0) aborted x.1)
+          where
+            of_kept : (c : Bool) → get (cond c (performed choice
+                (record w.server { held = remove w.server.held unique }) t).server.kept
+                (put (performed choice (record w.server { held = remove w.server.held unique }) t).server.kept unique
+                (record {
+                  wire = (performed choice (record w.server { held = remove w.server.held unique }) t).wire;
+                  first = (performed choice (record w.server {
+                    held =
+                        remove w.server.held unique;
+                  }) t).server.next_copy;
+                }))) u ≡ Some x.0
+                → ((u ≡ unique) × (1 ≤ opens_in fh (performed choice
+                (record w.server { held = remove w.server.held unique }) t).wire)) ⊎ Carries w u fh
+            of_kept true e = inr (inl (x.0, ap (λ (m : Map Kept). get m u) (sym kept_is) ∙ e, x.2))
+            of_kept false e = elim (put_found (performed choice
+                (record w.server { held = remove w.server.held unique }) t).server.kept unique _ u x.0 e) [
+                  | inl h ↦ inl (h.0, subst (λ (k : Kept). 1 ≤ opens_in fh k.wire) (sym h.1) x.2)
+                  | inr h ↦ inr (inl (x.0, ap (λ (m : Map Kept). get m u) (sym kept_is) ∙ h, x.2))
+                ]
 
-        by : (b : Bool) → w.server.aborted ≡ b → OpensOnce (replying (record w { server = (served choice w.server unique t).server }) w.server.next_copy unique (cond b None (Some (served choice w.server unique t).wire)))
+        by : (b : Bool) → w.server.aborted ≡ b → OpensOnce
+            (replying (record w { server = (served choice w.server unique t).server }) w.server.next_copy unique
+            (cond b None (Some (served choice w.server unique t).wire)))
         by true aborted = absurd (true≢false (sym aborted ∙ serving))
         by false alive_still =
-            one_new w (replying (record w { server = (served choice w.server unique t).server }) w.server.next_copy unique (Some (served choice w.server unique t).wire)) old unique
-            (λ u fh c. elim (carried _ refl u fh c) [ inl e ↦ inl (e.0, (draws.new fh e.1).0, (draws.new fh e.1).1) | inr d ↦ inr d ]) draws.rises refl none_coming
-            (λ fh. let files = performed_files w p both live releases opens.held balanced choice unique t at may (Some (served choice w.server unique t).wire) (has_number fh) in omega (arith, files))
+            one_new w (replying (record w {
+              server =
+                  (served choice w.server unique t).server;
+            }) w.server.next_copy unique
+            (Some (served choice w.server unique t).wire)) old unique
+            (λ u fh c. elim (carried _ refl u fh c) [
+              | inl e ↦ inl
+                  (e.0, (draws.new fh e.1).0, (draws.new fh e.1).1)
+              | inr d ↦ inr d
+            ]) draws.rises refl none_coming
+            (λ fh. let files = performed_files w p both live releases opens.held balanced choice unique t at may
+            (Some (served choice w.server unique t).wire) (has_number fh) in omega (arith, files))
 
   -- ---- a reply is written
 
@@ -229,7 +332,8 @@ module _ (choice : ℕ → ℕ) (w : World) (p : Plain) (both : BothSound w p) (
 
     -- what the copy's request serves, where a file is opened
     abbrev Serves : Opened → Type 0
-    Serves o = (call : ℕ) × (nat_eq (sent.unique % 2) 1 ≡ false) × (waiting w.kernel.queues sent.unique ≡ Some (purpose.Call call))
+    Serves o = (call : ℕ) × (nat_eq (sent.unique % 2) 1 ≡ false)
+        × (waiting w.kernel.queues sent.unique ≡ Some (purpose.Call call))
 
     still_live : is_live (reply_written w.kernel sent.unique sent.wire).1.phase ≡ true
     still_live = alive choice w p both releases opens k sent at live
@@ -237,7 +341,9 @@ module _ (choice : ℕ → ℕ) (w : World) (p : Plain) (both : BothSound w p) (
     reply_received : HearsOpens Serves w.kernel sent.wire (reply_written w.kernel sent.unique sent.wire)
     reply_received =
         let known = lookups.balanced live in
-        written_heard Serves w.kernel opens.apart numbered.one_request sent.unique sent.wire (wire_usable w.server.nodes w.kernel.nodes known.known sent.wire (entries choice w p both releases opens k sent at live))
+        written_heard Serves w.kernel opens.apart numbered.one_request sent.unique sent.wire
+        (wire_usable w.server.nodes w.kernel.nodes known.known sent.wire
+        (entries choice w p both releases opens k sent at live))
         (λ even call state waits there goes o e. (call, even, waits)) still_live
 
     files : (f : Opened → ℕ) → sum_by f (open_files written) ≡ sum_by f (open_files w) + worth f reply_received.opens
@@ -258,57 +364,89 @@ module _ (choice : ℕ → ℕ) (w : World) (p : Plain) (both : BothSound w p) (
     low = All-at (λ (s : Sent). s.unique < w.kernel.queues.next) w.replies k sent numbered.replies_below at
 
     -- the request ends with the reply
-    ends : (call : ℕ) → nat_eq (sent.unique % 2) 1 ≡ false → waiting w.kernel.queues sent.unique ≡ Some (purpose.Call call) → request_under (reply_written w.kernel sent.unique sent.wire).1.queues sent.unique ≡ None
+    ends : (call : ℕ) → nat_eq (sent.unique % 2) 1 ≡ false
+        → waiting w.kernel.queues sent.unique ≡ Some (purpose.Call call)
+        → request_under (reply_written w.kernel sent.unique sent.wire).1.queues sent.unique ≡ None
     ends call even waits =
         let k1 = record w.kernel { queues = without w.kernel.queues sent.unique } in
-        let is : reply_written w.kernel sent.unique sent.wire ≡ replied_to_call k1 call sent.wire (get w.kernel.vfs.calls call) =
-        ap (λ (b : Bool). cond b (interrupt_reply_written w.kernel sent.unique sent.wire (waiting w.kernel.queues (sent.unique - 1))) (request_reply_written w.kernel sent.unique sent.wire (waiting w.kernel.queues sent.unique))) even
+        let is : reply_written w.kernel sent.unique sent.wire
+        ≡ replied_to_call k1 call sent.wire (get w.kernel.vfs.calls call) =
+        ap (λ (b : Bool). cond b (interrupt_reply_written w.kernel sent.unique sent.wire
+        (waiting w.kernel.queues (sent.unique - 1))) (request_reply_written w.kernel sent.unique sent.wire
+        (waiting w.kernel.queues sent.unique))) even
         ∙ ap (request_reply_written w.kernel sent.unique sent.wire) waits in
         ap (λ (x : WriteResult × Kernel). request_under x.1.queues sent.unique) is
-        ∙ stays_absent k1.queues (replied_to_call k1 call sent.wire (get w.kernel.vfs.calls call)).1.queues (replied_moves k1 call sent.wire (get w.kernel.vfs.calls call)) sent.unique low (request_under-without w.kernel.queues sent.unique sound.queues)
+        ∙ stays_absent k1.queues (replied_to_call k1 call sent.wire (get w.kernel.vfs.calls call)).1.queues
+        (replied_moves k1 call sent.wire (get w.kernel.vfs.calls call)) sent.unique low
+        (request_under-without w.kernel.queues sent.unique sound.queues)
 
     written_once : OpensOnce (after_write w k sent (reply_written w.kernel sent.unique sent.wire))
     written_once = by reply_received.opens refl
       where
-        by : (x : Option Opened) → reply_received.opens ≡ x → OpensOnce (after_write w k sent (reply_written w.kernel sent.unique sent.wire))
+        by : (x : Option Opened) → reply_received.opens ≡ x
+            → OpensOnce (after_write w k sent (reply_written w.kernel sent.unique sent.wire))
         by None e =
-            none_new w written old (omega arith) carried (answered_still (reply_written w.kernel sent.unique sent.wire).1.queues moves)
-            (λ fh. let sum = files (has_number fh) in let none = ap (worth (has_number fh)) e in omega (arith, sum, none))
+            none_new w written old (omega arith) carried (answered_still
+            (reply_written w.kernel sent.unique sent.wire).1.queues moves)
+            (λ fh. let sum = files (has_number fh) in let none = ap (worth (has_number fh)) e in
+            omega (arith, sum, none))
         by (Some o) e =
             let serves = reply_received.fits o e in
             let request = waiting_is w.kernel.queues sent.unique (purpose.Call serves.0) serves.2 in
             let counted = reply_received.counts o.fh in
             let worth_is = ap (worth (has_number o.fh)) e in
             let itself : has_number o.fh o ≡ 1 = ap {B = ℕ} (λ (b : Bool). cond b 1 0) (same_is o.fh) in
-            one_opened w written old sent.unique o (omega arith) carried (answered_still (reply_written w.kernel sent.unique sent.wire).1.queues moves)
-            (inr (has_at (λ (x : Sent). (x.unique ≡ sent.unique) × (1 ≤ opens_in o.fh x.wire)) w.replies k sent at (refl, omega (arith, counted, worth_is, itself))))
-            (λ none. absurd (cc (none, request.under))) (ends serves.0 serves.1 serves.2) (λ fh. let sum = files (has_number fh) in let is = ap (worth (has_number fh)) e in omega (arith, sum, is))
+            one_opened w written old sent.unique o (omega arith) carried
+            (answered_still (reply_written w.kernel sent.unique sent.wire).1.queues moves)
+            (inr (has_at (λ (x : Sent). (x.unique ≡ sent.unique) × (1 ≤ opens_in o.fh x.wire)) w.replies k sent at
+            (refl, omega (arith, counted, worth_is, itself))))
+            (λ none. absurd (cc (none, request.under))) (ends serves.0 serves.1 serves.2)
+            (λ fh. let sum = files (has_number fh) in let is = ap (worth (has_number fh)) e in
+            omega (arith, sum, is))
 
   -- ---- every event
 
-  once_after : (e : Event) (o : Outcome) (after : World) → MayStep choice w e → Happened choice w e o after → is_live after.kernel.phase ≡ true → OpensOnce after
+  once_after : (e : Event) (o : Outcome) (after : World) → MayStep choice w e → Happened choice w e o after
+      → is_live after.kernel.phase ≡ true → OpensOnce after
   once_after e o after may (by_mount f m v idle) alive_now = fresh_once w f m v
   once_after e o after may (by_call call ready room within) alive_now =
-      moved (call_begun w.kernel (spoken w.kernel.lists_files call)) w.requests (keeps_same w (call_begun w.kernel (spoken w.kernel.lists_files call)) (begun_keeps w.kernel opens.apart (spoken w.kernel.lists_files call))) (answered_still (call_begun w.kernel (spoken w.kernel.lists_files call)).queues (begun_moves w.kernel (spoken w.kernel.lists_files call)))
-  once_after e o after may (by_read_interrupt original rest was found within) alive_now = moved after.kernel after.requests (interrupt_same w original) (λ u fh c waits. waits)
+      moved (call_begun w.kernel (spoken w.kernel.lists_files call)) w.requests
+      (keeps_same w (call_begun w.kernel (spoken w.kernel.lists_files call))
+      (begun_keeps w.kernel opens.apart (spoken w.kernel.lists_files call)))
+      (answered_still (call_begun w.kernel (spoken w.kernel.lists_files call)).queues
+      (begun_moves w.kernel (spoken w.kernel.lists_files call)))
+  once_after e o after may (by_read_interrupt original rest was found within) alive_now =
+      moved after.kernel after.requests (interrupt_same w original) (λ u fh c waits. waits)
   once_after e o after may (by_read_forgets n was free can within few) alive_now =
-      moved after.kernel after.requests (forgets_same w n) (λ u fh c waits none. waits (forgets_under n u (can_read_forgets w.kernel.queues n) ∙ none))
+      moved after.kernel after.requests (forgets_same w n)
+      (λ u fh c waits none. waits (forgets_under n u (can_read_forgets w.kernel.queues n) ∙ none))
   once_after e o after may (by_read_pending k unique kept body was free found says within) alive_now =
-      moved after.kernel after.requests (pending_same w k unique body (read_sum w.kernel sound.queues k unique kept body found says)) (answered_still after.kernel.queues (read_moves w.kernel.queues sound.queues k))
+      moved after.kernel after.requests (pending_same w k unique body
+      (read_sum w.kernel sound.queues k unique kept body found says))
+      (answered_still after.kernel.queues (read_moves w.kernel.queues sound.queues k))
   once_after e o after may (by_take k r found within) alive_now = taken_once k r found
-  once_after e o after may (by_perform unique t found within) alive_now = performed_once unique t found (subst (MayChooseFor choice w) found may)
+  once_after e o after may (by_perform unique t found within) alive_now =
+      performed_once unique t found (subst (MayChooseFor choice w) found may)
   once_after e o after may (by_again unique kept found current within) alive_now = again_once unique kept found
   once_after e o after may (by_write k sent found within) alive_now = written_once k sent found
-  once_after e o after may (by_settle k result found) alive_now = settled_once k result (get w.server.copies result.number)
+  once_after e o after may (by_settle k result found) alive_now =
+      settled_once k result (get w.server.copies result.number)
   once_after e o after may (by_signal call fatal state was found within) alive_now =
-      moved after.kernel w.requests (keeps_same w after.kernel (signalled_keeps w.kernel opens.apart sound.queues call state found fatal)) (answered_still after.kernel.queues (signalled_moves w.kernel call state fatal))
-  once_after e o after may (by_tick ms timely) alive_now = moved (record w.kernel { vfs = later w.kernel.vfs ms }) w.requests (λ f. refl) (λ u fh c waits. waits)
-  once_after e o after may (by_drop directory name bound was found) alive_now = moved (after_drop w directory name).kernel w.requests (λ f. refl) (λ u fh c waits. waits)
-  once_after e o after may (by_evict node counted was found unused) alive_now = moved (after_evict w node counted).kernel w.requests (λ f. refl) (λ u fh c waits. waits)
+      moved after.kernel w.requests (keeps_same w after.kernel
+      (signalled_keeps w.kernel opens.apart sound.queues call state found fatal))
+      (answered_still after.kernel.queues (signalled_moves w.kernel call state fatal))
+  once_after e o after may (by_tick ms timely) alive_now =
+      moved (record w.kernel { vfs = later w.kernel.vfs ms }) w.requests (λ f. refl) (λ u fh c waits. waits)
+  once_after e o after may (by_drop directory name bound was found) alive_now =
+      moved (after_drop w directory name).kernel w.requests (λ f. refl) (λ u fh c waits. waits)
+  once_after e o after may (by_evict node counted was found unused) alive_now =
+      moved (after_evict w node counted).kernel w.requests (λ f. refl) (λ u fh c waits. waits)
   once_after e o after may (by_abort was) alive_now = absurd (true≢false (sym alive_now))
 
 -- A world that is not live comes to life by a mount alone.
-mounted_once : (choice : ℕ → ℕ) (w : World) (sound : WorldSound w) → is_live w.kernel.phase ≡ false → (e : Event) (o : Outcome) (after : World) → Happened choice w e o after → is_live after.kernel.phase ≡ true → OpensOnce after
+mounted_once : (choice : ℕ → ℕ) (w : World) (sound : WorldSound w) → is_live w.kernel.phase ≡ false
+    → (e : Event) (o : Outcome) (after : World) → Happened choice w e o after → is_live after.kernel.phase ≡ true
+    → OpensOnce after
 mounted_once choice w sound dead e o after did live = by e o after did live
   where
     same : (v : World) → v.kernel ≡ w.kernel → is_live v.kernel.phase ≡ true → ⊥
@@ -319,21 +457,31 @@ mounted_once choice w sound dead e o after did live = by e o after did live
 
     by : (x : Event) (r : Outcome) (v : World) → Happened choice w x r v → is_live v.kernel.phase ≡ true → OpensOnce v
     by x r y (by_mount f m v idle) now = fresh_once w f m v
-    by x r v (by_call call ready room within) now = let goes = begun_goes_on w.kernel (spoken w.kernel.lists_files call) in absurd (true≢false (sym now ∙ ap is_live goes.phase ∙ dead))
+    by x r v (by_call call ready room within) now = let goes =
+        begun_goes_on w.kernel (spoken w.kernel.lists_files call) in
+        absurd (true≢false (sym now ∙ ap is_live goes.phase ∙ dead))
     by x r v (by_read_interrupt original rest lives found within) now = absurd (was lives)
     by x r v (by_read_forgets n lives free can within few) now = absurd (was lives)
     by x r v (by_read_pending k unique kept body lives free found says within) now = absurd (was lives)
     by x r v (by_take k q found within) now =
         let took = taking w.server q.unique q.body in
-        absurd (same (after_take w k q.unique took) (replying_kernel (record w { requests = without_at w.requests k; server = took.server }) w.server.next_copy q.unique took.reply) now)
+        absurd (same (after_take w k q.unique took) (replying_kernel
+        (record w {
+          requests = without_at w.requests k;
+          server =
+              took.server;
+        }) w.server.next_copy q.unique took.reply) now)
     by x r v (by_perform unique t found within) now =
         let did_it = served choice w.server unique t in
-        absurd (same (after_perform w unique did_it) (replying_kernel (record w { server = did_it.server }) w.server.next_copy unique (cond w.server.aborted None (Some did_it.wire))) now)
+        absurd (same (after_perform w unique did_it) (replying_kernel
+        (record w { server = did_it.server }) w.server.next_copy unique
+        (cond w.server.aborted None (Some did_it.wire))) now)
     by x r v (by_again unique kept found current within) now = absurd (was now)
     by x r v (by_write k sent found within) now =
         let lookups = sound.lookups in
         let numbers = lookups.numbers in
-        absurd (same (after_write w k sent (reply_written w.kernel sent.unique sent.wire)) (unheard w.kernel (numbers.idle dead) sent.unique sent.wire) now)
+        absurd (same (after_write w k sent (reply_written w.kernel sent.unique sent.wire))
+        (unheard w.kernel (numbers.idle dead) sent.unique sent.wire) now)
     by x r v (by_settle k result found) now = absurd (was now)
     by x r v (by_signal call fatal state lives found within) now = absurd (was lives)
     by x r v (by_tick ms timely) now = absurd (was now)
@@ -342,7 +490,8 @@ mounted_once choice w sound dead e o after did live = by e o after did live
     by x r v (by_abort lives) now = absurd (was lives)
 
 -- Open numbers stand once, whatever the event.
-pub once_stays : (w : World) (p : Plain) → BothSound w p → ReleasesKnown w → OpensSound w → OpensOnceWhileLive w → (e : Event) (o : Outcome) (after : World) → Happens w e o after → OpensOnceWhileLive after
+pub once_stays : (w : World) (p : Plain) → BothSound w p → ReleasesKnown w → OpensSound w → OpensOnceWhileLive w
+    → (e : Event) (o : Outcome) (after : World) → Happens w e o after → OpensOnceWhileLive after
 once_stays w p both releases opens old e o after h now = by (is_live w.kernel.phase) refl
   where
     did : Happened h.0 w e o after
@@ -353,12 +502,15 @@ once_stays w p both releases opens old e o after h now = by (is_live w.kernel.ph
     by false dead = mounted_once h.0 w both.world dead e o after did now
 
 -- Where nothing is under way, the server counts each open number once at most.
-pub once_at_rest : (w : World) → OpensSound w → OpensOnceWhileLive w → AtRest w → (fh : ℕ) → handle_count (get w.server.handles.handles fh) ≤ 1
+pub once_at_rest : (w : World) → OpensSound w → OpensOnceWhileLive w → AtRest w → (fh : ℕ)
+    → handle_count (get w.server.handles.handles fh) ≤ 1
 once_at_rest w opens old rest fh =
     let balanced = opens.balanced rest.live in
     let whole = counts_opens w balanced.balance fh in
-    let sent : sum_by (λ (s : Sent). opens_in fh s.wire) w.replies ≡ 0 = ap (λ (ss : List Sent). sum_by (λ (s : Sent). opens_in fh s.wire) ss) rest.replies in
-    let back : sum_by (result_carries (opens_in fh) w.server) w.results ≡ 0 = ap (λ (rs : List ReplyResult). sum_by (result_carries (opens_in fh) w.server) rs) rest.results in
+    let sent : sum_by (λ (s : Sent). opens_in fh s.wire) w.replies ≡ 0 =
+    ap (λ (ss : List Sent). sum_by (λ (s : Sent). opens_in fh s.wire) ss) rest.replies in
+    let back : sum_by (result_carries (opens_in fh) w.server) w.results ≡ 0 =
+    ap (λ (rs : List ReplyResult). sum_by (result_carries (opens_in fh) w.server) rs) rest.results in
     let once = (old rest.live).once fh in
     omega (arith, whole, sent, back, once)
 

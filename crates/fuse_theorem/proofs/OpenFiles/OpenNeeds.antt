@@ -39,7 +39,8 @@ use Rattle.fuse_theorem.proofs.Requests.StayAsked.{requests_stay_asked}
 
 -- ---- what every event keeps
 
-module _ (w : World) (p : Plain) (both : BothSound w p) (old : OpensSound w) (live : is_live w.kernel.phase ≡ true) where
+module _ (w : World) (p : Plain) (both : BothSound w p) (old : OpensSound w)
+    (live : is_live w.kernel.phase ≡ true) where
   balanced : OpensBalanced w
   balanced = old.balanced live
 
@@ -48,18 +49,25 @@ module _ (w : World) (p : Plain) (both : BothSound w p) (old : OpensSound w) (li
 
   -- The server holds the numbers that are in use and on their way.
   pub opens_held : HoldsOpens w w.server.handles
-  opens_held = counted_held w w.server.handles old.apart (both.asked live) both.kept (numbers_there w counts) (copies_there w counts)
+  opens_held = counted_held w w.server.handles old.apart (both.asked live) both.kept (numbers_there w counts)
+      (copies_there w counts)
 
   -- ---- a RELEASE is performed
 
-  module _ (unique : ℕ) (t : HeldRequest) (at : get w.server.held unique ≡ Some t) (o : Opened) (is : t.body ≡ release o) where
+  module _ (unique : ℕ) (t : HeldRequest) (at : get w.server.held unique ≡ Some t) (o : Opened)
+      (is : t.body ≡ release o) where
     -- Its number is one of its node's file.
     pub release_number : is_open w.server.handles o.fh (file_of w.server.nodes o.nodeid) ≡ true
     release_number = held_fits w balanced.files unique t at o is
 
     -- the world where it is not held any longer, and its number is given back
     abbrev after : World
-    after = record w { server = record w.server { held = remove w.server.held unique; handles = handle_back w.server.handles o.fh } }
+    after = record w {
+      server = record w.server {
+        held = remove w.server.held unique;
+        handles = handle_back w.server.handles o.fh;
+      };
+    }
 
     abbrev unheld : World
     unheld = record w { server = record w.server { held = remove w.server.held unique } }
@@ -86,47 +94,74 @@ module _ (w : World) (p : Plain) (both : BothSound w p) (old : OpensSound w) (li
         omega (arith, less, files, whole))
 
     asked_after : RequestsAsked after
-    asked_after = let asked = both.asked live in record { sent = asked.sent; held = λ u x there. asked.held u x (left_found w.server.held unique u x there); signals = asked.signals; first = asked.first }
+    asked_after = let asked = both.asked live in record {
+      sent = asked.sent;
+      held = λ u x there. asked.held u x (left_found w.server.held unique u x there);
+      signals =
+          asked.signals;
+      first = asked.first;
+    }
 
     -- The server holds the other numbers still.
     pub released_held_still : HoldsOpens unheld (handle_back w.server.handles o.fh)
     released_held_still =
-        let held = counted_held after (handle_back w.server.handles o.fh) old.apart asked_after both.kept (numbers_there after counts_after) (copies_there after counts_after) in
-        record { opens = held.opens; calls = held.calls; sent = held.sent; held = held.held; kept = held.kept; copies = held.copies }
+        let held = counted_held after (handle_back w.server.handles o.fh) old.apart asked_after both.kept
+        (numbers_there after counts_after) (copies_there after counts_after) in
+        record {
+          opens = held.opens;
+          calls = held.calls;
+          sent = held.sent;
+          held = held.held;
+          kept = held.kept;
+          copies = held.copies;
+        }
 
   -- ---- what held requests name
 
   -- Each number that a held request names is counted often enough for all of them.
   pub held_numbers : HeldNumbersOpen w
   held_numbers =
-      balanced_open w p both.alike both.asked live balanced.balance (λ unique t at o is. release_number unique t at o is)
+      balanced_open w p both.alike both.asked live balanced.balance
+      (λ unique t at o is. release_number unique t at o is)
       (λ call state at o named.
-      let used = All-contains (λ (x : Opened). 1 ≤ values_sum (has_number x.fh) w.kernel.vfs.opens + values_sum (has_number x.fh) w.kernel.closing) (opens_of (asked state)) o (used_counted w.kernel.vfs w.kernel.closing old.apart call state at) named in
+      let used = All-contains (λ (x : Opened). 1 ≤ values_sum (has_number x.fh) w.kernel.vfs.opens + values_sum
+      (has_number x.fh) w.kernel.closing) (opens_of (asked state)) o
+      (used_counted w.kernel.vfs w.kernel.closing old.apart call state at) named in
       let both_lists = sum_by-append (has_number o.fh) (values w.kernel.vfs.opens) (values w.kernel.closing) in
       omega (arith, used, both_lists))
 
 -- ---- a copy is settled
 
 -- After a copy is settled the server holds the numbers that are in use and on their way.
-pub settled_held : (w : World) (p : Plain) → BothSound w p → ReleasesKnown w → OpensSound w → (k : ℕ) (result : ReplyResult) (copy : Copy) → slice_get w.results k ≡ Some result → get w.server.copies result.number ≡ Some copy
+pub settled_held : (w : World) (p : Plain) → BothSound w p → ReleasesKnown w → OpensSound w
+    → (k : ℕ) (result : ReplyResult) (copy : Copy) → slice_get w.results k ≡ Some result
+    → get w.server.copies result.number ≡ Some copy
     → HoldsOpens (after_settle w k result (Some copy)) (after_settle w k result (Some copy)).server.handles
 settled_held w p both releases old k result copy there known = by (is_live w.kernel.phase) refl
   where
     v : World
     v = after_settle w k result (get w.server.copies result.number)
 
-    happens : Happens w (event.settle k) (event.settled result.unique result.result) (after_settle w k result (get w.server.copies result.number))
+    happens : Happens w (event.settle k) (event.settled result.unique result.result)
+        (after_settle w k result (get w.server.copies result.number))
     happens = (λ n. n, tt, ap (settling w k) there)
 
-    settled : is_live w.kernel.phase ≡ true → HoldsOpens (after_settle w k result (get w.server.copies result.number)) (after_settle w k result (get w.server.copies result.number)).server.handles
+    settled : is_live w.kernel.phase ≡ true → HoldsOpens (after_settle w k result (get w.server.copies result.number))
+        (after_settle w k result (get w.server.copies result.number)).server.handles
     settled live =
-        let next = opens_stay w p both releases old (event.settle k) (event.settled result.unique result.result) v happens in
+        let next = opens_stay w p both releases old (event.settle k)
+        (event.settled result.unique result.result) v happens in
         let after = next.balanced live in
         let counted = counts_opens v after.balance in
-        let asked_so = requests_stay_asked w both.world both.asked (event.settle k) (event.settled result.unique result.result) v happens live in
-        let kept = kept_stay_sent w both.world both.kept (event.settle k) (event.settled result.unique result.result) v happens in
+        let asked_so = requests_stay_asked w both.world both.asked (event.settle k)
+        (event.settled result.unique result.result) v happens live in
+        let kept = kept_stay_sent w both.world both.kept (event.settle k)
+        (event.settled result.unique result.result) v happens in
         counted_held v v.server.handles next.apart asked_so kept (numbers_there v counted) (copies_there v counted)
 
-    by : (b : Bool) → is_live w.kernel.phase ≡ b → HoldsOpens (after_settle w k result (Some copy)) (after_settle w k result (Some copy)).server.handles
-    by true live = subst (λ (o : Option Copy). HoldsOpens (after_settle w k result o) (after_settle w k result o).server.handles) known (settled live)
-    by false dead = let links = both.links in let idle = links.idle dead in none_at w.results k result idle.results there
+    by : (b : Bool) → is_live w.kernel.phase ≡ b → HoldsOpens (after_settle w k result (Some copy))
+        (after_settle w k result (Some copy)).server.handles
+    by true live = subst (λ (o : Option Copy). HoldsOpens (after_settle w k result o)
+        (after_settle w k result o).server.handles) known (settled live)
+    by false dead = let links = both.links in let idle =
+        links.idle dead in none_at w.results k result idle.results there

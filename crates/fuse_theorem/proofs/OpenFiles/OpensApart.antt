@@ -24,17 +24,21 @@ opened_more opens call None = opens
 opened_more opens call (Some o) = put opens call o
 
 -- A call takes a step: it is answered, or waits and opens nothing; what it opens stands under its number.
-pub record StepsFrom (calls : Map (CallState Opened)) (opened : Map Opened) (coming : ℕ) (d : Vfs Opened) (call : ℕ) (gained : Option Opened) : Type 0 where
+pub record StepsFrom (calls : Map (CallState Opened)) (opened : Map Opened) (coming : ℕ) (d : Vfs Opened) (call : ℕ)
+    (gained : Option Opened) : Type 0 where
   pub others : (n : ℕ) → n ≢ call → get d.calls n ≡ get calls n
   pub opens : d.opens ≡ opened_more opened call gained
   pub next : d.next_call ≡ coming
-  pub waits : (state : CallState Opened) → get d.calls call ≡ Some state → (gained ≡ None) × ((closing : Map Opened) → UsesOpen opened closing state)
+  pub waits : (state : CallState Opened) → get d.calls call ≡ Some state
+      → (gained ≡ None) × ((closing : Map Opened) → UsesOpen opened closing state)
 
 abbrev pub CallSteps : Vfs Opened → Vfs Opened → ℕ → Option Opened → Type 0
 CallSteps c d call gained = StepsFrom c.calls c.opens c.next_call d call gained
 
 -- What is used is still there where no open or closing file is another one.
-pub uses_still : (opens closing opens' closing' : Map Opened) → ((handle : ℕ) (o : Opened) → (get opens handle ≡ Some o) ⊎ (get closing handle ≡ Some o) → (get opens' handle ≡ Some o) ⊎ (get closing' handle ≡ Some o))
+pub uses_still : (opens closing opens' closing' : Map Opened)
+    → ((handle : ℕ) (o : Opened) → (get opens handle ≡ Some o) ⊎ (get closing handle ≡ Some o)
+    → (get opens' handle ≡ Some o) ⊎ (get closing' handle ≡ Some o))
     → (state : CallState Opened) → UsesOpen opens closing state → UsesOpen opens' closing' state
 uses_still opens closing opens' closing' still (walking d word words plan) h = tt
 uses_still opens closing opens' closing' still (doing operation) h = h
@@ -42,11 +46,14 @@ uses_still opens closing opens' closing' still (using handle operation) h = λ i
 
 module _ (c : Vfs Opened) (closing : Map Opened) (old : OpensApart c closing) where
   -- the number of an unanswered call is of no open or closing file
-  pub call_apart : (call : ℕ) (state : CallState Opened) → get c.calls call ≡ Some state → (get c.opens call ≡ None) × (get closing call ≡ None)
+  pub call_apart : (call : ℕ) (state : CallState Opened) → get c.calls call ≡ Some state
+      → (get c.opens call ≡ None) × (get closing call ≡ None)
   call_apart call state at =
       let once = old.once call in
-      let here = some_stands (get c.calls call) state at in
-      (stands_none (get c.opens call) (omega (arith, once, here)), stands_none (get closing call) (omega (arith, once, here)))
+      let here = some_stands (get c.calls call) state at in (
+        stands_none (get c.opens call) (omega (arith, once, here)),
+        stands_none (get closing call) (omega (arith, once, here)),
+      )
 
   pub call_below : (call : ℕ) (state : CallState Opened) → get c.calls call ≡ Some state → call < c.next_call
   call_below call state at = by (cases_below call c.next_call)
@@ -56,9 +63,11 @@ module _ (c : Vfs Opened) (closing : Map Opened) (old : OpensApart c closing) wh
 
       by : (call < c.next_call) ⊎ (c.next_call ≤ call) → call < c.next_call
       by (inl low) = low
-      by (inr high) = let none = old.below call high in let here = some_stands (get c.calls call) state at in absurd (omega (arith, none, here))
+      by (inr high) = let none = old.below call high in let here =
+          some_stands (get c.calls call) state at in absurd (omega (arith, none, here))
 
-  module _ (d : Vfs Opened) (call : ℕ) (free : get c.opens call ≡ None) (unclosed : get closing call ≡ None) (low : call < c.next_call) where
+  module _ (d : Vfs Opened) (call : ℕ) (free : get c.opens call ≡ None) (unclosed : get closing call ≡ None)
+      (low : call < c.next_call) where
     module _ (gained : Option Opened) (steps : CallSteps c d call gained) where
       pub opens_more : (f : Opened → ℕ) → values_sum f d.opens ≡ values_sum f c.opens + worth f gained
       opens_more f = ap (values_sum f) steps.opens ∙ by gained
@@ -88,13 +97,16 @@ module _ (c : Vfs Opened) (closing : Map Opened) (old : OpensApart c closing) wh
           by None at = le_one (get d.opens call)
           by (Some state) at =
               let waits = steps.waits state at in
-              let none : get d.opens call ≡ None = ap (λ (m : Map Opened). get m call) steps.opens ∙ ap (λ (o : Option Opened). get (opened_more c.opens call o) call) waits.0 ∙ free in
+              let none : get d.opens call ≡ None = ap (λ (m : Map Opened). get m call) steps.opens ∙ ap
+              (λ (o : Option Opened). get (opened_more c.opens call o) call) waits.0 ∙ free in
               let no = ap stands none in
               omega (arith, no)
 
-      still_there : (handle : ℕ) (o : Opened) → (get c.opens handle ≡ Some o) ⊎ (get closing handle ≡ Some o) → (get d.opens handle ≡ Some o) ⊎ (get closing handle ≡ Some o)
+      still_there : (handle : ℕ) (o : Opened) → (get c.opens handle ≡ Some o) ⊎ (get closing handle ≡ Some o)
+          → (get d.opens handle ≡ Some o) ⊎ (get closing handle ≡ Some o)
       still_there handle o (inr h) = inr h
-      still_there handle o (inl h) = inl (other_opens handle (λ e. absurd (cc (h, subst (λ (n : ℕ). get c.opens n ≡ None) (sym e) free))) ∙ h)
+      still_there handle o (inl h) = inl (other_opens handle
+          (λ e. absurd (cc (h, subst (λ (n : ℕ). get c.opens n ≡ None) (sym e) free))) ∙ h)
 
       pub stepped_apart : OpensApart d closing
       stepped_apart = record {
@@ -122,7 +134,8 @@ module _ (c : Vfs Opened) (closing : Map Opened) (old : OpensApart c closing) wh
           | inl e ↦
               let here = (steps.waits state (subst (λ (m : ℕ). get d.calls m ≡ Some state) e at)).1 closing in
               uses_still c.opens closing d.opens closing still_there state here
-          | inr ne ↦ uses_still c.opens closing d.opens closing still_there state (old.uses n state (sym (steps.others n ne) ∙ at))
+          | inr ne ↦ uses_still c.opens closing d.opens closing still_there state
+              (old.uses n state (sym (steps.others n ne) ∙ at))
         ];
       }
         where

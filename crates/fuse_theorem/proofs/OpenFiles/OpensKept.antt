@@ -38,15 +38,22 @@ pub record KeepsOpen (k l : Kernel) (gained : Option Opened) : Type 0 where
   pub sums : (f : Opened → ℕ) → kernel_sum f l ≡ kernel_sum f k + worth f gained
   pub apart : OpensApart l.vfs l.closing
 
-pub then_keeps : (k l m : Kernel) (gained : Option Opened) → KeepsOpen k l gained → KeepsOpen l m None → KeepsOpen k m gained
-then_keeps k l m gained a b = record { sums = λ f. let x = a.sums f in let y = b.sums f in omega (arith, x, y); apart = b.apart }
+pub then_keeps : (k l m : Kernel) (gained : Option Opened) → KeepsOpen k l gained → KeepsOpen l m None
+    → KeepsOpen k m gained
+then_keeps k l m gained a b = record {
+  sums = λ f. let x = a.sums f in let y = b.sums f in
+      omega (arith, x, y);
+  apart = b.apart;
+}
 
 pub unmoved : (k : Kernel) → OpensApart k.vfs k.closing → KeepsOpen k k None
 unmoved k old = record { sums = λ f. omega arith; apart = old }
 
 -- ---- a call takes a step, and what it asks is queued
 
-pub advanced_keeps : (k : Kernel) → OpensApart k.vfs k.closing → (call : ℕ) → get k.vfs.opens call ≡ None → get k.closing call ≡ None → call < k.vfs.next_call → (next : Advance Opened) (gained : Option Opened) → CallSteps k.vfs next.vfs call gained
+pub advanced_keeps : (k : Kernel) → OpensApart k.vfs k.closing → (call : ℕ) → get k.vfs.opens call ≡ None
+    → get k.closing call ≡ None → call < k.vfs.next_call → (next : Advance Opened) (gained : Option Opened)
+    → CallSteps k.vfs next.vfs call gained
     → KeepsOpen k (advanced k call next) gained
 advanced_keeps k old call free unclosed low next gained steps = by next.operation
   where
@@ -71,17 +78,20 @@ advanced_keeps k old call free unclosed low next gained steps = by next.operatio
 module _ (k : Kernel) (old : OpensApart k.vfs k.closing) (handle : ℕ) where
   module _ (o : Opened) (at : get k.closing handle ≡ Some o) (unused : is_used k handle ≡ false) where
     -- no call uses the closed file
-    uses_others : (state : CallState Opened) → is_using handle state ≡ false → UsesOpen k.vfs.opens k.closing state → UsesOpen k.vfs.opens (remove k.closing handle) state
+    uses_others : (state : CallState Opened) → is_using handle state ≡ false → UsesOpen k.vfs.opens k.closing state
+        → UsesOpen k.vfs.opens (remove k.closing handle) state
     uses_others (walking d word words plan) other_one h = tt
     uses_others (doing operation) other_one h = h
-    uses_others (using other operation) other_one h = λ i d lt. elim (h i d lt) [ inl e ↦ inl e | inr e ↦ inr (get_gone_there k.closing handle other apart ∙ e) ]
+    uses_others (using other operation) other_one h =
+        λ i d lt. elim (h i d lt) [ inl e ↦ inl e | inr e ↦ inr (get_gone_there k.closing handle other apart ∙ e) ]
       where
         apart : other ≢ handle
         apart e = true≢false (sym (same_is handle) ∙ ap (λ (n : ℕ). nat_eq n handle) (sym e) ∙ other_one)
 
     fewer : (n : ℕ) → stands (get (remove k.closing handle) n) ≤ stands (get k.closing n)
     fewer n = elim (cases_eq n handle) [
-      | inl e ↦ let none = ap stands (subst (λ (m : ℕ). get (remove k.closing handle) m ≡ None) (sym e) (get_gone_here k.closing handle)) in omega (arith, none)
+      | inl e ↦ let none = ap stands (subst (λ (m : ℕ). get (remove k.closing handle) m ≡ None) (sym e)
+          (get_gone_here k.closing handle)) in omega (arith, none)
       | inr ne ↦ let same = ap stands (get_gone_there k.closing handle n ne) in omega (arith, same)
     ]
 
@@ -91,7 +101,8 @@ module _ (k : Kernel) (old : OpensApart k.vfs k.closing) (handle : ℕ) where
       below = λ n high. let was = old.below n high in let less = fewer n in omega (arith, was, less);
       opens = old.opens;
       closing = gone_rises k.closing handle old.closing;
-      uses = λ call state there. uses_others state (found_fails (is_using handle) k.vfs.calls call state unused there) (old.uses call state there);
+      uses = λ call state there. uses_others state (found_fails (is_using handle) k.vfs.calls call state unused there)
+          (old.uses call state there);
     }
 
   -- A closed file is released once nothing uses it.
@@ -99,7 +110,10 @@ module _ (k : Kernel) (old : OpensApart k.vfs k.closing) (handle : ℕ) where
   idle_keeps = by (get k.closing handle) refl
     where
       unless_used : (o : Opened) → get k.closing handle ≡ Some o → (b : Bool) → is_used k handle ≡ b
-          → KeepsOpen k (record k { closing = cond b k.closing (remove k.closing handle); queues = cond b k.queues (after_enqueue k.queues (purpose.Release o)) }) None
+          → KeepsOpen k (record k {
+            closing = cond b k.closing (remove k.closing handle);
+            queues = cond b k.queues (after_enqueue k.queues (purpose.Release o));
+          }) None
       unless_used o at true used = unmoved k old
       unless_used o at false unused = record {
         sums = λ f.
@@ -115,40 +129,50 @@ module _ (k : Kernel) (old : OpensApart k.vfs k.closing) (handle : ℕ) where
       by None at = unmoved k old
       by (Some o) at = unless_used o at (is_used k handle) refl
 
-pub used_keeps : (k : Kernel) → OpensApart k.vfs k.closing → (state : CallState Opened) → KeepsOpen k (after_use k state) None
+pub used_keeps : (k : Kernel) → OpensApart k.vfs k.closing → (state : CallState Opened)
+    → KeepsOpen k (after_use k state) None
 used_keeps k old (walking d word words plan) = unmoved k old
 used_keeps k old (doing operation) = unmoved k old
 used_keeps k old (using handle operation) = idle_keeps k old handle
 
 -- ---- an open file is closed
 
-module _ (c : Vfs Opened) (closing : Map Opened) (old : OpensApart c closing) (handle : ℕ) (o : Opened) (at : get c.opens handle ≡ Some o) where
+module _ (c : Vfs Opened) (closing : Map Opened) (old : OpensApart c closing) (handle : ℕ) (o : Opened)
+    (at : get c.opens handle ≡ Some o) where
   unclosed : get closing handle ≡ None
   unclosed =
       let once = old.once handle in
       let here = some_stands (get c.opens handle) o at in
       stands_none (get closing handle) (omega (arith, once, here))
 
-  moved_there : (n : ℕ) (x : Opened) → (get c.opens n ≡ Some x) ⊎ (get closing n ≡ Some x) → (get (remove c.opens handle) n ≡ Some x) ⊎ (get (put closing handle o) n ≡ Some x)
+  moved_there : (n : ℕ) (x : Opened) → (get c.opens n ≡ Some x) ⊎ (get closing n ≡ Some x)
+      → (get (remove c.opens handle) n ≡ Some x) ⊎ (get (put closing handle o) n ≡ Some x)
   moved_there n x there = elim (cases_eq n handle) [
     | inl e ↦
-        let here : get (put closing handle o) n ≡ Some o = subst (λ (m : ℕ). get (put closing handle o) m ≡ Some o) (sym e) (get_put_here closing handle o) in
+        let here : get (put closing handle o) n ≡ Some o =
+        subst (λ (m : ℕ). get (put closing handle o) m ≡ Some o) (sym e) (get_put_here closing handle o) in
         inr (here ∙ is_it e there)
-    | inr ne ↦ elim there [ inl h ↦ inl (get_gone_there c.opens handle n ne ∙ h) | inr h ↦ inr (get_put_there closing handle o n ne ∙ h) ]
+    | inr ne ↦ elim there [
+      | inl h ↦ inl (get_gone_there c.opens handle n ne ∙ h)
+      | inr h ↦ inr
+          (get_put_there closing handle o n ne ∙ h)
+    ]
   ]
     where
       is_it : n ≡ handle → (get c.opens n ≡ Some x) ⊎ (get closing n ≡ Some x) → Some o ≡ Some x
       is_it e (inl h) = sym at ∙ ap (get c.opens) (sym e) ∙ h
       is_it e (inr h) = absurd (cc (ap (get closing) e, unclosed, h))
 
-  same_standing : (n : ℕ) → stands (get (remove c.opens handle) n) + stands (get (put closing handle o) n) ≡ stands (get c.opens n) + stands (get closing n)
+  same_standing : (n : ℕ) → stands (get (remove c.opens handle) n) + stands (get (put closing handle o) n)
+      ≡ stands (get c.opens n) + stands (get closing n)
   same_standing n = elim (cases_eq n handle) [
     | inl e ↦
         let gone = ap stands (get_gone_here c.opens handle) in
         let new = ap stands (get_put_here closing handle o) in
         let was = ap stands at in
         let none = ap stands unclosed in
-        subst (λ (m : ℕ). stands (get (remove c.opens handle) m) + stands (get (put closing handle o) m) ≡ stands (get c.opens m) + stands (get closing m)) (sym e) (omega (arith, gone, new, was, none))
+        subst (λ (m : ℕ). stands (get (remove c.opens handle) m) + stands (get (put closing handle o) m)
+        ≡ stands (get c.opens m) + stands (get closing m)) (sym e) (omega (arith, gone, new, was, none))
     | inr ne ↦
         let a = ap stands (get_gone_there c.opens handle n ne) in
         let b = ap stands (get_put_there closing handle o n ne) in
@@ -161,10 +185,12 @@ module _ (c : Vfs Opened) (closing : Map Opened) (old : OpensApart c closing) (h
     below = λ n high. let was = old.below n high in let same = same_standing n in omega (arith, was, same);
     opens = gone_rises c.opens handle old.opens;
     closing = put_rises closing handle o old.closing;
-    uses = λ call state there. uses_still c.opens closing (remove c.opens handle) (put closing handle o) moved_there state (old.uses call state there);
+    uses = λ call state there. uses_still c.opens closing (remove c.opens handle)
+        (put closing handle o) moved_there state (old.uses call state there);
   }
 
-  pub closed_sum : (f : Opened → ℕ) → values_sum f (remove c.opens handle) + values_sum f (put closing handle o) ≡ values_sum f c.opens + values_sum f closing
+  pub closed_sum : (f : Opened → ℕ) → values_sum f (remove c.opens handle) + values_sum f (put closing handle o)
+      ≡ values_sum f c.opens + values_sum f closing
   closed_sum f =
       let gone = sum_gone f c.opens handle old.opens in
       let mine = ap (worth f) at in
@@ -175,7 +201,13 @@ module _ (c : Vfs Opened) (closing : Map Opened) (old : OpensApart c closing) (h
 -- ---- a call begins
 
 numbered_apart : (c : Vfs Opened) (closing : Map Opened) → OpensApart c closing → OpensApart (numbered c) closing
-numbered_apart c closing old = record { once = old.once; below = λ n high. old.below n (omega (arith, high)); opens = old.opens; closing = old.closing; uses = old.uses }
+numbered_apart c closing old = record {
+  once = old.once;
+  below = λ n high. old.below n (omega (arith, high));
+  opens = old.opens;
+  closing = old.closing;
+  uses = old.uses;
+}
 
 pub begun_keeps : (k : Kernel) → OpensApart k.vfs k.closing → (call : Call) → KeepsOpen k (call_begun k call) None
 begun_keeps k old call = by (is_aborted k.phase)
@@ -190,18 +222,26 @@ begun_keeps k old call = by (is_aborted k.phase)
     apart = numbered_apart k.vfs k.closing old
 
     free : get k.vfs.opens k.vfs.next_call ≡ None
-    free = let none = old.below k.vfs.next_call (omega arith) in stands_none (get k.vfs.opens k.vfs.next_call) (omega (arith, none))
+    free = let none = old.below k.vfs.next_call (omega arith) in
+        stands_none (get k.vfs.opens k.vfs.next_call) (omega (arith, none))
 
     unclosed_yet : get k.closing k.vfs.next_call ≡ None
-    unclosed_yet = let none = old.below k.vfs.next_call (omega arith) in stands_none (get k.closing k.vfs.next_call) (omega (arith, none))
+    unclosed_yet = let none = old.below k.vfs.next_call (omega arith) in
+        stands_none (get k.closing k.vfs.next_call) (omega (arith, none))
 
-    stepped : (next : Advance Opened) → CallSteps c next.vfs k.vfs.next_call None → KeepsOpen k (advanced k k.vfs.next_call next) None
-    stepped next steps = let kept = advanced_keeps k0 apart k.vfs.next_call free unclosed_yet (omega arith) next None steps in record { sums = kept.sums; apart = kept.apart }
+    stepped : (next : Advance Opened) → CallSteps c next.vfs k.vfs.next_call None
+        → KeepsOpen k (advanced k k.vfs.next_call next) None
+    stepped next steps = let kept = advanced_keeps k0 apart k.vfs.next_call free unclosed_yet
+        (omega arith) next None steps in record { sums = kept.sums; apart = kept.apart }
 
-    begins : (b : Beginning ℕ Opened) (file : Option (ℕ × Opened)) → BeginsAs k.vfs.opens b file → KeepsOpen k (closing_of (advanced k k.vfs.next_call (after_beginning c k.vfs.next_call b)) file) None
-    begins b file (faults errno) = stepped (after_beginning c k.vfs.next_call b) (begun_steps c k.vfs.next_call b (faults errno))
-    begins b file (leads words plan) = stepped (after_beginning c k.vfs.next_call b) (begun_steps c k.vfs.next_call b (leads words plan))
-    begins b file (reads handle operation o at is) = stepped (after_beginning c k.vfs.next_call b) (begun_steps c k.vfs.next_call b (reads handle operation o at is))
+    begins : (b : Beginning ℕ Opened) (file : Option (ℕ × Opened)) → BeginsAs k.vfs.opens b file
+        → KeepsOpen k (closing_of (advanced k k.vfs.next_call (after_beginning c k.vfs.next_call b)) file) None
+    begins b file (faults errno) = stepped (after_beginning c k.vfs.next_call b)
+        (begun_steps c k.vfs.next_call b (faults errno))
+    begins b file (leads words plan) = stepped (after_beginning c k.vfs.next_call b)
+        (begun_steps c k.vfs.next_call b (leads words plan))
+    begins b file (reads handle operation o at is) =
+        stepped (after_beginning c k.vfs.next_call b) (begun_steps c k.vfs.next_call b (reads handle operation o at is))
     begins b file (ends handle o at) =
         let d = answered c k.vfs.next_call answer.done in
         let before = stepped (record { vfs = d; operation = None }) (answered_steps c k.vfs.next_call answer.done) in
@@ -212,27 +252,34 @@ begun_keeps k old call = by (is_aborted k.phase)
         } in
         then_keeps k k1 (released_if_idle k1 handle) None closes (idle_keeps k1 closes.apart handle)
 
-    by : (b : Bool) → KeepsOpen k (closing_of (advanced k k.vfs.next_call (begun b k.vfs call)) (cond b None (closed_by k.vfs.opens call))) None
+    by : (b : Bool) → KeepsOpen k (closing_of (advanced k k.vfs.next_call (begun b k.vfs call))
+        (cond b None (closed_by k.vfs.opens call))) None
     by true = stepped (begun true k.vfs call) (answered_steps c k.vfs.next_call _)
     by false = begins (beginning k.vfs.opens call) (closed_by k.vfs.opens call) (begins_as k.vfs.opens call)
 
 -- ---- a signal reaches a call
 
 -- What is answered before its request is read gives up its use.
-pub answered_keeps : (k : Kernel) → OpensApart k.vfs k.closing → (call : ℕ) (state : CallState Opened) → get k.vfs.calls call ≡ Some state → (a : Answer) → KeepsOpen k (after_use (record k { vfs = answered k.vfs call a }) state) None
+pub answered_keeps : (k : Kernel) → OpensApart k.vfs k.closing → (call : ℕ) (state : CallState Opened)
+    → get k.vfs.calls call ≡ Some state → (a : Answer)
+    → KeepsOpen k (after_use (record k { vfs = answered k.vfs call a }) state) None
 answered_keeps k old call state there a =
     let none = call_apart k.vfs k.closing old call state there in
     let low = call_below k.vfs k.closing old call state there in
     let k1 = record k { vfs = answered k.vfs call a } in
-    let steps = advanced_keeps k old call none.0 none.1 low (record { vfs = answered k.vfs call a; operation = None }) None (answered_steps k.vfs call a) in
+    let steps = advanced_keeps k old call none.0 none.1 low
+    (record { vfs = answered k.vfs call a; operation = None }) None (answered_steps k.vfs call a) in
     let first : KeepsOpen k k1 None = record { sums = steps.sums; apart = steps.apart } in
     then_keeps k k1 (after_use k1 state) None first (used_keeps k1 first.apart state)
 
-pub signalled_keeps : (k : Kernel) → OpensApart k.vfs k.closing → IsSound k.queues → (call : ℕ) (state : CallState Opened) → get k.vfs.calls call ≡ Some state → (fatal : Bool) → KeepsOpen k (call_signalled k call state fatal).1 None
+pub signalled_keeps : (k : Kernel) → OpensApart k.vfs k.closing → IsSound k.queues
+    → (call : ℕ) (state : CallState Opened) → get k.vfs.calls call ≡ Some state → (fatal : Bool)
+    → KeepsOpen k (call_signalled k call state fatal).1 None
 signalled_keeps k old sound call state there fatal = by (request_of k call) refl
   where
     -- a request of a call releases nothing
-    call_releases : (f : Opened → ℕ) (m : Mark) (kept : Purpose) → is_for call kept ≡ true → unread_sum f (record { mark = m; kept = kept }) ≡ 0
+    call_releases : (f : Opened → ℕ) (m : Mark) (kept : Purpose) → is_for call kept ≡ true
+        → unread_sum f (record { mark = m; kept = kept }) ≡ 0
     call_releases f m purpose.Init e = absurd (true≢false (sym e))
     call_releases f m (purpose.Release o) e = absurd (true≢false (sym e))
     call_releases f m (purpose.Call other) e = unread_or_not (is_unread m)
@@ -241,7 +288,9 @@ signalled_keeps k old sound call state there fatal = by (request_of k call) refl
         unread_or_not true = refl
         unread_or_not false = refl
 
-    effect : (unique : ℕ) (r : QueuedRequest Purpose) → request_under k.queues unique ≡ Some r → is_for call r.kept ≡ true → (x : IntrEffect) → KeepsOpen k (after_signal (record k { queues = after_effect k.queues unique x }) call state x) None
+    effect : (unique : ℕ) (r : QueuedRequest Purpose) → request_under k.queues unique ≡ Some r
+        → is_for call r.kept ≡ true → (x : IntrEffect) → KeepsOpen k
+        (after_signal (record k { queues = after_effect k.queues unique x }) call state x) None
     effect unique r under mine Dequeued =
         let k1 = record k { queues = after_dequeue k.queues unique } in
         let first : KeepsOpen k k1 None = record {
@@ -262,7 +311,8 @@ signalled_keeps k old sound call state there fatal = by (request_of k call) refl
     }
     effect unique r under mine Queued = record {
       sums = λ f.
-          let same = marked_sum f k.queues (with_interrupt (with_mark k.queues unique mark.Interrupted) unique) unique mark.Interrupted r under refl in
+          let same = marked_sum f k.queues (with_interrupt
+          (with_mark k.queues unique mark.Interrupted) unique) unique mark.Interrupted r under refl in
           let was = call_releases f r.mark r.kept mine in
           let is = call_releases f mark.Interrupted r.kept mine in
           omega (arith, same, was, is);
@@ -270,13 +320,21 @@ signalled_keeps k old sound call state there fatal = by (request_of k call) refl
     }
     effect unique r under mine NoEffect = unmoved k old
 
-    under_number : (unique : ℕ) → request_of k call ≡ Some unique → (o : Option (QueuedRequest Purpose)) → request_under k.queues unique ≡ o
-        → KeepsOpen k (after_signal (record k { queues = after_effect k.queues unique (option_map_or (λ r. signal_effect r.mark fatal k.queues.interrupts_off) o NoEffect) }) call state (option_map_or (λ r. signal_effect r.mark fatal k.queues.interrupts_off) o NoEffect)) None
+    under_number : (unique : ℕ) → request_of k call ≡ Some unique → (o : Option (QueuedRequest Purpose))
+        → request_under k.queues unique ≡ o
+        → KeepsOpen k (after_signal (record k {
+          queues =
+              after_effect k.queues unique
+              (option_map_or (λ r. signal_effect r.mark fatal k.queues.interrupts_off) o NoEffect);
+        }) call state
+        (option_map_or (λ r. signal_effect r.mark fatal k.queues.interrupts_off) o NoEffect)) None
     under_number unique found None under = unmoved k old
     under_number unique found (Some r) under =
-        let entry = found_entry (λ (e : ℕ × QueuedRequest Purpose). is_for call e.1.kept) k.queues.requests unique (key_count-le-one k.queues unique sound) found in
+        let entry = found_entry (λ (e : ℕ × QueuedRequest Purpose). is_for call e.1.kept) k.queues.requests unique
+        (key_count-le-one k.queues unique sound) found in
         let same : entry.0 ≡ r = cc (entry.1, under) in
-        effect unique r under (subst (λ (x : QueuedRequest Purpose). is_for call x.kept ≡ true) same entry.2) (signal_effect r.mark fatal k.queues.interrupts_off)
+        effect unique r under (subst (λ (x : QueuedRequest Purpose). is_for call x.kept ≡ true) same entry.2)
+        (signal_effect r.mark fatal k.queues.interrupts_off)
 
     by : (o : Option ℕ) → request_of k call ≡ o → KeepsOpen k (signalled_at k call state fatal o).1 None
     by None found = unmoved k old

@@ -28,16 +28,22 @@ use Rattle.fuse_theorem.proofs.Refining.Queuing.{All-at}
 
 -- The kernel has the files that it had, those of the requests that went out among them.
 abbrev pub SameOpen : World → Kernel → List Request → Type 0
-SameOpen w k requests = (f : Opened → ℕ) → kernel_sum f k + sent_sum f requests ≡ kernel_sum f w.kernel + sent_sum f w.requests
+SameOpen w k requests = (f : Opened → ℕ) → kernel_sum f k + sent_sum f requests
+    ≡ kernel_sum f w.kernel + sent_sum f w.requests
 
 -- The kernel moves, and requests go out: the same files are open.
-pub open_same : (w : World) (k : Kernel) (requests : List Request) → SameOpen w k requests → (f : Opened → ℕ) → sum_by f (open_files (record w { kernel = k; requests = requests })) ≡ sum_by f (open_files w)
-open_same w k requests same f = let before = open_sum f w in let after = open_sum f (record w { kernel = k; requests = requests }) in let kept = same f in omega (arith, before, after, kept)
+pub open_same : (w : World) (k : Kernel) (requests : List Request) → SameOpen w k requests → (f : Opened → ℕ)
+    → sum_by f (open_files (record w { kernel = k; requests = requests })) ≡ sum_by f (open_files w)
+open_same w k requests same f = let before = open_sum f w in let after =
+    open_sum f (record w { kernel = k; requests = requests }) in let kept = same f in omega (arith, before, after, kept)
 
-pub kernel_moves : (w : World) → OpensBalanced w → (k : Kernel) (requests : List Request) → SameOpen w k requests → OpensBalanced (record w { kernel = k; requests = requests })
+pub kernel_moves : (w : World) → OpensBalanced w → (k : Kernel) (requests : List Request) → SameOpen w k requests
+    → OpensBalanced (record w { kernel = k; requests = requests })
 kernel_moves w old k requests same = record {
-  balance = opens_counted v (λ fh. let was = counts_opens w old.balance fh in let sum = open_same w k requests same (has_number fh) in omega (arith, was, sum));
-  files = fewer_pass was_open (open_files w) (open_files v) (λ f. let sum = open_same w k requests same f in omega (arith, sum)) old.files;
+  balance = opens_counted v (λ fh. let was = counts_opens w old.balance fh in
+      let sum = open_same w k requests same (has_number fh) in omega (arith, was, sum));
+  files = fewer_pass was_open (open_files w) (open_files v)
+      (λ f. let sum = open_same w k requests same f in omega (arith, sum)) old.files;
 }
   where
     v : World
@@ -49,14 +55,21 @@ kernel_moves w old k requests same = record {
 pub keeps_same : (w : World) (k : Kernel) → KeepsOpen w.kernel k None → SameOpen w k w.requests
 keeps_same w k kept f = let same = kept.sums f in omega (arith, same)
 
-pub interrupt_same : (w : World) (original : ℕ) → SameOpen w (after_read_interrupt w original).kernel (after_read_interrupt w original).requests
-interrupt_same w original f = let pushed = sum_by_push (λ (r : Request). sum_by f (released_by r.body)) w.requests (record { unique = interrupt_number original; body = interrupt original }) in omega (arith, pushed)
+pub interrupt_same : (w : World) (original : ℕ) → SameOpen w (after_read_interrupt w original).kernel
+    (after_read_interrupt w original).requests
+interrupt_same w original f = let pushed = sum_by_push (λ (r : Request). sum_by f (released_by r.body)) w.requests
+    (record { unique = interrupt_number original; body = interrupt original }) in omega (arith, pushed)
 
 -- A pending request is read, and releases on the link what it released before.
-pub pending_same : (w : World) (k unique : ℕ) (body : RequestBody) → ((f : Opened → ℕ) → kernel_sum f (record w.kernel { queues = queues.after_read_pending w.kernel.queues k }) + sum_by f (released_by body) ≡ kernel_sum f w.kernel)
+pub pending_same : (w : World) (k unique : ℕ) (body : RequestBody)
+    → ((f : Opened → ℕ) → kernel_sum f (record w.kernel {
+      queues =
+          queues.after_read_pending w.kernel.queues k;
+    }) + sum_by f (released_by body) ≡ kernel_sum f w.kernel)
     → SameOpen w (after_read_pending w k unique body).kernel (after_read_pending w k unique body).requests
 pending_same w k unique body moved f =
-    let pushed = sum_by_push (λ (r : Request). sum_by f (released_by r.body)) w.requests (record { unique = unique; body = body }) in
+    let pushed = sum_by_push (λ (r : Request). sum_by f (released_by r.body)) w.requests
+    (record { unique = unique; body = body }) in
     let same = moved f in
     omega (arith, pushed, same)
 
@@ -66,23 +79,39 @@ forgets_release f [] = refl
 forgets_release f (x ∷ []) = refl
 forgets_release f (x ∷ y ∷ fs) = refl
 
-pub forgets_same : (w : World) (n : ℕ) → SameOpen w (after_read_forgets w n (take n w.kernel.queues.forgets)).kernel (after_read_forgets w n (take n w.kernel.queues.forgets)).requests
+pub forgets_same : (w : World) (n : ℕ) → SameOpen w (after_read_forgets w n (take n w.kernel.queues.forgets)).kernel
+    (after_read_forgets w n (take n w.kernel.queues.forgets)).requests
 forgets_same w n f = by (queues.can_read_forgets w.kernel.queues n)
   where
-    pushed : sent_sum f (w.requests ++ record { unique = w.kernel.queues.next; body = forget_body (take n w.kernel.queues.forgets) } ∷ []) ≡ sent_sum f w.requests
+    pushed : sent_sum f (w.requests ++ record {
+      unique = w.kernel.queues.next;
+      body = forget_body (take n w.kernel.queues.forgets);
+    } ∷ []) ≡ sent_sum f w.requests
     pushed =
-        let more = sum_by_push (λ (r : Request). sum_by f (released_by r.body)) w.requests (record { unique = w.kernel.queues.next; body = forget_body (take n w.kernel.queues.forgets) }) in
+        let more = sum_by_push (λ (r : Request). sum_by f (released_by r.body)) w.requests
+        (record { unique = w.kernel.queues.next; body = forget_body (take n w.kernel.queues.forgets) }) in
         let nothing = forgets_release f (take n w.kernel.queues.forgets) in
         omega (arith, more, nothing)
 
-    by : (b : Bool) → kernel_sum f (record w.kernel { queues = cond b (record w.kernel.queues { forgets = drop n w.kernel.queues.forgets; next = w.kernel.queues.next + 2 }) w.kernel.queues })
-        + sent_sum f (w.requests ++ record { unique = w.kernel.queues.next; body = forget_body (take n w.kernel.queues.forgets) } ∷ []) ≡ kernel_sum f w.kernel + sent_sum f w.requests
+    by : (b : Bool) → kernel_sum f (record w.kernel {
+      queues =
+          cond b (record w.kernel.queues {
+            forgets = drop n w.kernel.queues.forgets;
+            next = w.kernel.queues.next + 2;
+          }) w.kernel.queues;
+    })
+        + sent_sum f (w.requests ++ record {
+          unique = w.kernel.queues.next;
+          body = forget_body (take n w.kernel.queues.forgets);
+        } ∷ []) ≡ kernel_sum f w.kernel + sent_sum f w.requests
     by true = omega (arith, pushed)
     by false = omega (arith, pushed)
 
 -- ---- a reply is written
 
-module _ (w : World) (old : OpensBalanced w) (copies : CopiesSound w) (k : ℕ) (sent : Sent) (there : slice_get w.replies k ≡ Some sent) (taken : WriteResult × Kernel) (reply_received : HearsOpens (IsOfItsNode w.server) w.kernel sent.wire taken) where
+module _ (w : World) (old : OpensBalanced w) (copies : CopiesSound w) (k : ℕ) (sent : Sent)
+    (there : slice_get w.replies k ≡ Some sent) (taken : WriteResult × Kernel)
+    (reply_received : HearsOpens (IsOfItsNode w.server) w.kernel sent.wire taken) where
   abbrev written : World
   written = after_write w k sent taken
 
@@ -104,11 +133,18 @@ module _ (w : World) (old : OpensBalanced w) (copies : CopiesSound w) (k : ℕ) 
   counted fh =
       let whole = counts_opens w old.balance fh in
       let sum = moved (has_number fh) in
-      let gone : replies_carry fh (without_at w.replies k) + opens_in fh sent.wire ≡ replies_carry fh w.replies = sum_removed (λ (s : Sent). opens_in fh s.wire) w.replies k sent there in
-      let pushed : results_carry fh w.server (w.results ++ record { number = sent.number; unique = sent.unique; result = taken.0 } ∷ []) ≡ results_carry fh w.server w.results + refused taken.0 (carried (opens_in fh) (get w.server.copies sent.number)) =
-      sum_by_push (result_carries (opens_in fh) w.server) w.results (record { number = sent.number; unique = sent.unique; result = taken.0 }) in
-      let carries : refused taken.0 (carried (opens_in fh) (get w.server.copies sent.number)) ≡ refused taken.0 (opens_in fh sent.wire) =
-      ap (λ (o : Option Copy). refused taken.0 (carried (opens_in fh) o)) copy.there ∙ ap (λ (x : WireReply). refused taken.0 (opens_in fh x)) copy.same_wire in
+      let gone : replies_carry fh (without_at w.replies k) + opens_in fh sent.wire ≡ replies_carry fh w.replies =
+      sum_removed (λ (s : Sent). opens_in fh s.wire) w.replies k sent there in
+      let pushed : results_carry fh w.server (w.results
+      ++ record { number = sent.number; unique = sent.unique; result = taken.0 } ∷ [])
+      ≡ results_carry fh w.server w.results + refused taken.0
+      (carried (opens_in fh) (get w.server.copies sent.number)) =
+      sum_by_push (result_carries (opens_in fh) w.server) w.results
+      (record { number = sent.number; unique = sent.unique; result = taken.0 }) in
+      let carries : refused taken.0 (carried (opens_in fh) (get w.server.copies sent.number))
+      ≡ refused taken.0 (opens_in fh sent.wire) =
+      ap (λ (o : Option Copy). refused taken.0 (carried (opens_in fh) o)) copy.there ∙ ap
+      (λ (x : WireReply). refused taken.0 (opens_in fh x)) copy.same_wire in
       let heard_counts = reply_received.counts fh in
       omega (arith, whole, sum, gone, pushed, carries, heard_counts)
 

@@ -48,7 +48,8 @@ files_with fh w = sum_by (has_number fh) (open_files w)
 
 module _ (w v : World) (old : OpensOnce w) where
   -- No more replies carry a number, no more files are open, and what is awaited was awaited.
-  pub none_new : w.server.handles.next_fh ≤ v.server.handles.next_fh → ((u fh : ℕ) → Carries v u fh → Carries w u fh) → ((u fh : ℕ) → Carries w u fh → request_under v.kernel.queues u ≢ None → request_under w.kernel.queues u ≢ None)
+  pub none_new : w.server.handles.next_fh ≤ v.server.handles.next_fh → ((u fh : ℕ) → Carries v u fh → Carries w u fh)
+      → ((u fh : ℕ) → Carries w u fh → request_under v.kernel.queues u ≢ None → request_under w.kernel.queues u ≢ None)
       → ((fh : ℕ) → files_with fh v ≤ files_with fh w) → OpensOnce v
   none_new rises carried awaited fewer = record {
     below = λ u fh c. let was = old.below u fh (carried u fh c) in omega (arith, rises, was);
@@ -64,8 +65,11 @@ module _ (w v : World) (old : OpensOnce w) where
   -- ---- a number is new
 
   -- The reply to one request carries the coming number alone, which no file has.
-  pub one_new : (unique : ℕ) → ((u fh : ℕ) → Carries v u fh → ((u ≡ unique) × (fh ≡ w.server.handles.next_fh) × (v.server.handles.next_fh ≡ w.server.handles.next_fh + 1)) ⊎ Carries w u fh) → w.server.handles.next_fh ≤ v.server.handles.next_fh
-      → v.kernel ≡ w.kernel → files_with w.server.handles.next_fh w ≡ 0 → ((fh : ℕ) → files_with fh v ≤ files_with fh w) → OpensOnce v
+  pub one_new : (unique : ℕ) → ((u fh : ℕ) → Carries v u fh
+      → ((u ≡ unique) × (fh ≡ w.server.handles.next_fh) × (v.server.handles.next_fh ≡ w.server.handles.next_fh + 1))
+      ⊎ Carries w u fh) → w.server.handles.next_fh ≤ v.server.handles.next_fh
+      → v.kernel ≡ w.kernel → files_with w.server.handles.next_fh w ≡ 0
+      → ((fh : ℕ) → files_with fh v ≤ files_with fh w) → OpensOnce v
   one_new unique carried rises kernel none fewer = record {
     below = λ u fh c. elim (carried u fh c) [
       | inl n ↦ let is = n.1 in let next = n.2 in omega (arith, is, next)
@@ -85,7 +89,10 @@ module _ (w v : World) (old : OpensOnce w) where
     once = λ fh. let was = old.once fh in let less = fewer fh in omega (arith, was, less);
   }
     where
-      both : (a b fh : ℕ) → ((a ≡ unique) × (fh ≡ w.server.handles.next_fh) × (v.server.handles.next_fh ≡ w.server.handles.next_fh + 1)) ⊎ Carries w a fh → ((b ≡ unique) × (fh ≡ w.server.handles.next_fh) × (v.server.handles.next_fh ≡ w.server.handles.next_fh + 1)) ⊎ Carries w b fh → a ≡ b
+      both : (a b fh : ℕ) → ((a ≡ unique) × (fh ≡ w.server.handles.next_fh)
+          × (v.server.handles.next_fh ≡ w.server.handles.next_fh + 1)) ⊎ Carries w a fh
+          → ((b ≡ unique) × (fh ≡ w.server.handles.next_fh)
+          × (v.server.handles.next_fh ≡ w.server.handles.next_fh + 1)) ⊎ Carries w b fh → a ≡ b
       both a b fh (inl n) (inl m) = n.0 ∙ sym m.0
       both a b fh (inl n) (inr d) = let is = n.1 in let low = old.below b fh d in absurd (omega (arith, is, low))
       both a b fh (inr c) (inl m) = let is = m.1 in let low = old.below a fh c in absurd (omega (arith, is, low))
@@ -94,8 +101,12 @@ module _ (w v : World) (old : OpensOnce w) where
   -- ---- a number is opened
 
   -- The request whose reply carried the number of the file that is opened is answered.
-  pub one_opened : (unique : ℕ) (o : Opened) → w.server.handles.next_fh ≤ v.server.handles.next_fh → ((u fh : ℕ) → Carries v u fh → Carries w u fh) → ((u fh : ℕ) → Carries w u fh → request_under v.kernel.queues u ≢ None → request_under w.kernel.queues u ≢ None)
-      → Carries w unique o.fh → request_under w.kernel.queues unique ≢ None → request_under v.kernel.queues unique ≡ None → ((fh : ℕ) → files_with fh v ≡ files_with fh w + has_number fh o) → OpensOnce v
+  pub one_opened : (unique : ℕ) (o : Opened) → w.server.handles.next_fh ≤ v.server.handles.next_fh
+      → ((u fh : ℕ) → Carries v u fh → Carries w u fh)
+      → ((u fh : ℕ) → Carries w u fh → request_under v.kernel.queues u ≢ None → request_under w.kernel.queues u ≢ None)
+      → Carries w unique o.fh → request_under w.kernel.queues unique ≢ None
+      → request_under v.kernel.queues unique ≡ None → ((fh : ℕ)
+      → files_with fh v ≡ files_with fh w + has_number fh o) → OpensOnce v
   one_opened unique o rises carried awaited mine waited ended more = record {
     below = λ u fh c. let was = old.below u fh (carried u fh c) in omega (arith, rises, was);
     one = λ a b fh c d. old.one a b fh (carried a fh c) (carried b fh d);

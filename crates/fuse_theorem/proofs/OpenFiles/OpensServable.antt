@@ -1,4 +1,5 @@
--- What `Held` says of open numbers: those that a live kernel uses, and those that requests name, are numbers of their nodes' files.
+-- What `Held` says of open numbers: those that a live kernel uses, and those that requests name, are numbers of their
+-- nodes' files.
 use Rattle.fuse_spec.specs.Values.Numbers.{init_flags}
 use Rattle.std.proofs.Common.{◌≡◌, ℕ, true, List, ◌++◌, Option, Some, None, refl, ap, sym, subst, ◌∙◌, inl, inr, All}
 use Rattle.std.proofs.lemmas.List.Elements.{All-nil}
@@ -39,7 +40,8 @@ module _ (w : World) (files : All (IsOfItsNode w.server) (open_files w)) where
   SentOnes = released_sent w.requests
 
   before_sent : All Fits (Opens ++ Closing ++ Pending)
-  before_sent = All-left Fits (Opens ++ Closing ++ Pending) SentOnes (All-left Fits (Opens ++ Closing ++ Pending ++ SentOnes) (released_held w.server.held) files)
+  before_sent = All-left Fits (Opens ++ Closing ++ Pending) SentOnes
+      (All-left Fits (Opens ++ Closing ++ Pending ++ SentOnes) (released_held w.server.held) files)
 
   before_pending : All Fits (Opens ++ Closing)
   before_pending = All-left Fits (Opens ++ Closing) Pending before_sent
@@ -51,17 +53,20 @@ module _ (w : World) (files : All (IsOfItsNode w.server) (open_files w)) where
   closing_fit = All-right Fits Opens Closing before_pending
 
   pub pending_fit : All (λ (e : ℕ × QueuedRequest Purpose). All Fits (released_for e.1.kept)) (pending w.kernel.queues)
-  pending_fit = All-each Fits (λ (e : ℕ × QueuedRequest Purpose). released_for e.1.kept) (pending w.kernel.queues) (All-right Fits (Opens ++ Closing) Pending before_sent)
+  pending_fit = All-each Fits (λ (e : ℕ × QueuedRequest Purpose). released_for e.1.kept) (pending w.kernel.queues)
+      (All-right Fits (Opens ++ Closing) Pending before_sent)
 
   sent_fit : All (λ (r : Request). All Fits (released_by r.body)) w.requests
   sent_fit =
       All-each Fits (λ (r : Request). released_by r.body) w.requests
-      (All-right Fits (Opens ++ Closing ++ Pending) SentOnes (All-left Fits (Opens ++ Closing ++ Pending ++ SentOnes) (released_held w.server.held) files))
+      (All-right Fits (Opens ++ Closing ++ Pending) SentOnes
+      (All-left Fits (Opens ++ Closing ++ Pending ++ SentOnes) (released_held w.server.held) files))
 
   -- ---- what calls use
 
   module _ (apart : OpensApart w.kernel.vfs w.kernel.closing) where
-    used_fit : (call : ℕ) (state : CallState Opened) → get w.kernel.vfs.calls call ≡ Some state → All Fits (opens_of (asked state))
+    used_fit : (call : ℕ) (state : CallState Opened) → get w.kernel.vfs.calls call ≡ Some state
+        → All Fits (opens_of (asked state))
     used_fit call (walking d word words plan) at = All-nil Fits
     used_fit call (doing operation) at = subst (All Fits) (sym (apart.uses call (doing operation) at)) (All-nil Fits)
     used_fit call (using handle operation) at = λ i d lt.
@@ -71,20 +76,27 @@ module _ (w : World) (files : All (IsOfItsNode w.server) (open_files w)) where
         ]
 
     -- what an unanswered call asks
-    called_fit : (call : ℕ) (o : Option (CallState Opened)) → get w.kernel.vfs.calls call ≡ o → (body : RequestBody) → asked_by o ≡ Some body → All Fits (opens_of_body body)
+    called_fit : (call : ℕ) (o : Option (CallState Opened)) → get w.kernel.vfs.calls call ≡ o → (body : RequestBody)
+        → asked_by o ≡ Some body → All Fits (opens_of_body body)
     called_fit call None at body is = absurd (cc)
-    called_fit call (Some state) at body is = let same : asks (asked state) ≡ body = cc in subst (λ (b : RequestBody). All Fits (opens_of_body b)) same (used_fit call state at)
+    called_fit call (Some state) at body is = let same : asks (asked state) ≡ body =
+        cc in subst (λ (b : RequestBody). All Fits (opens_of_body b)) same (used_fit call state at)
 
-    kept_fit : (kept : Purpose) → All Fits (released_for kept) → (body : RequestBody) → body_of w.kernel kept ≡ Some body → All Fits (opens_of_body body)
-    kept_fit purpose.Init released body is = let same : init init_flags ≡ body = cc in subst (λ (b : RequestBody). All Fits (opens_of_body b)) same (All-nil Fits)
-    kept_fit (purpose.Release o) released body is = let same : release o ≡ body = cc in subst (λ (b : RequestBody). All Fits (opens_of_body b)) same released
+    kept_fit : (kept : Purpose) → All Fits (released_for kept) → (body : RequestBody)
+        → body_of w.kernel kept ≡ Some body → All Fits (opens_of_body body)
+    kept_fit purpose.Init released body is = let same : init init_flags ≡ body =
+        cc in subst (λ (b : RequestBody). All Fits (opens_of_body b)) same (All-nil Fits)
+    kept_fit (purpose.Release o) released body is = let same : release o ≡ body =
+        cc in subst (λ (b : RequestBody). All Fits (opens_of_body b)) same released
     kept_fit (purpose.Call call) released body is = called_fit call (get w.kernel.vfs.calls call) refl body is
 
     -- The numbers that pending requests name.
-    pub pending_servable : (e : ℕ × QueuedRequest Purpose) → All Fits (released_for e.1.kept) → (body : RequestBody) → body_of w.kernel e.1.kept ≡ Some body → All Fits (opens_of_body body)
+    pub pending_servable : (e : ℕ × QueuedRequest Purpose) → All Fits (released_for e.1.kept) → (body : RequestBody)
+        → body_of w.kernel e.1.kept ≡ Some body → All Fits (opens_of_body body)
     pending_servable e released body is = kept_fit e.1.kept released body is
 
-    sent_body_fits : (unique : ℕ) (body : RequestBody) → SentAsked w.kernel unique body → All Fits (released_by body) → All Fits (opens_of_body body)
+    sent_body_fits : (unique : ℕ) (body : RequestBody) → SentAsked w.kernel unique body → All Fits (released_by body)
+        → All Fits (opens_of_body body)
     sent_body_fits unique (init flags) of released = All-nil Fits
     sent_body_fits unique (asks operation) of released =
         let call = asked_state w.kernel unique operation of in
@@ -105,5 +117,11 @@ pub open_meant : (w : World) (o : Opened) → IsMeant w o.nodeid → IsOfItsNode
 open_meant w o meant fits =
     let means = meant.1 in
     let denotes = means.denotes in
-    let same : file_of w.server.nodes o.nodeid ≡ meant.0 = ap file_in denotes.there ∙ denotes.same_file in
-    (meant.0, record { node_means = means; is_number = subst (λ (file : ℕ). is_open w.server.handles o.fh file ≡ true) same fits })
+    let same : file_of w.server.nodes o.nodeid ≡ meant.0 = ap file_in denotes.there ∙ denotes.same_file in (
+      meant.0,
+      record {
+        node_means = means;
+        is_number =
+            subst (λ (file : ℕ). is_open w.server.handles o.fh file ≡ true) same fits;
+      },
+    )

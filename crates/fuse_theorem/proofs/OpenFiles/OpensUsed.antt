@@ -17,7 +17,8 @@ use Rattle.fuse_theorem.proofs.Lists.MapSums.{Rises, values_sum, worth, sum_gone
 use Rattle.fuse_theorem.proofs.Lists.OpenSums.{has_number}
 
 -- A value that is found is counted.
-pub found_counted : {X : Type 0} (f : X → ℕ) (m : Map X) (k : ℕ) (x : X) → Rises m → get m k ≡ Some x → f x ≤ values_sum f m
+pub found_counted : {X : Type 0} (f : X → ℕ) (m : Map X) (k : ℕ) (x : X) → Rises m → get m k ≡ Some x
+    → f x ≤ values_sum f m
 found_counted f m k x rises at =
     let gone = sum_gone f m k rises in
     let mine = ap (worth f) at in
@@ -26,13 +27,16 @@ found_counted f m k x rises at =
 -- ---- what a call uses is counted
 
 module _ (c : Vfs Opened) (closing : Map Opened) (apart : OpensApart c closing) where
-  pub used_counted : (call : ℕ) (state : CallState Opened) → get c.calls call ≡ Some state → All (λ (o : Opened). 1 ≤ values_sum (has_number o.fh) c.opens + values_sum (has_number o.fh) closing) (opens_of (asked state))
+  pub used_counted : (call : ℕ) (state : CallState Opened) → get c.calls call ≡ Some state
+      → All (λ (o : Opened). 1 ≤ values_sum (has_number o.fh) c.opens + values_sum (has_number o.fh) closing)
+      (opens_of (asked state))
   used_counted call state at = by state (apart.uses call state at)
     where
       same_number : (o : Opened) → has_number o.fh o ≡ 1
       same_number o = ap {B = ℕ} (λ (b : Bool). cond b 1 0) (same_is o.fh)
 
-      counted : (handle : ℕ) (o : Opened) → (get c.opens handle ≡ Some o) ⊎ (get closing handle ≡ Some o) → 1 ≤ values_sum (has_number o.fh) c.opens + values_sum (has_number o.fh) closing
+      counted : (handle : ℕ) (o : Opened) → (get c.opens handle ≡ Some o) ⊎ (get closing handle ≡ Some o)
+          → 1 ≤ values_sum (has_number o.fh) c.opens + values_sum (has_number o.fh) closing
       counted handle o (inl h) =
           let one = same_number o in
           let all = found_counted (has_number o.fh) c.opens handle o apart.opens h in
@@ -42,20 +46,29 @@ module _ (c : Vfs Opened) (closing : Map Opened) (apart : OpensApart c closing) 
           let all = found_counted (has_number o.fh) closing handle o apart.closing h in
           omega (arith, one, all)
 
-      by : (s : CallState Opened) → UsesOpen c.opens closing s → All (λ (o : Opened). 1 ≤ values_sum (has_number o.fh) c.opens + values_sum (has_number o.fh) closing) (opens_of (asked s))
-      by (walking d word words plan) h = All-nil (λ (o : Opened). 1 ≤ values_sum (has_number o.fh) c.opens + values_sum (has_number o.fh) closing)
-      by (doing operation) h = subst (λ (os : List Opened). All (λ (o : Opened). 1 ≤ values_sum (has_number o.fh) c.opens + values_sum (has_number o.fh) closing) os) (sym h) (All-nil (λ (o : Opened). 1 ≤ values_sum (has_number o.fh) c.opens + values_sum (has_number o.fh) closing))
+      by : (s : CallState Opened) → UsesOpen c.opens closing s
+          → All (λ (o : Opened). 1 ≤ values_sum (has_number o.fh) c.opens + values_sum (has_number o.fh) closing)
+          (opens_of (asked s))
+      by (walking d word words plan) h = All-nil (λ (o : Opened). 1 ≤ values_sum (has_number o.fh) c.opens + values_sum
+          (has_number o.fh) closing)
+      by (doing operation) h = subst (λ (os : List Opened). All
+          (λ (o : Opened). 1 ≤ values_sum (has_number o.fh) c.opens + values_sum (has_number o.fh) closing) os) (sym h)
+          (All-nil (λ (o : Opened). 1 ≤ values_sum (has_number o.fh) c.opens + values_sum (has_number o.fh) closing))
       by (using handle operation) h = λ i d lt. counted handle (get_or (opens_of operation) i d) (h i d lt)
 
 -- A request of a call asks what the call waits for.
-pub asked_state : (k : Kernel) (unique : ℕ) (operation : Operation ℕ Opened) → IsAsked k unique (asks operation) → (call : ℕ) × (state : CallState Opened) × (get k.vfs.calls call ≡ Some state) × (asked state ≡ operation)
+pub asked_state : (k : Kernel) (unique : ℕ) (operation : Operation ℕ Opened) → IsAsked k unique (asks operation)
+    → (call : ℕ) × (state : CallState Opened) × (get k.vfs.calls call ≡ Some state) × (asked state ≡ operation)
 asked_state k unique operation is = by is.request.kept is.asks
   where
-    of_call : (call : ℕ) (o : Option (CallState Opened)) → get k.vfs.calls call ≡ o → asked_by o ≡ Some (asks operation) → (x : ℕ) × (state : CallState Opened) × (get k.vfs.calls x ≡ Some state) × (asked state ≡ operation)
+    of_call : (call : ℕ) (o : Option (CallState Opened)) → get k.vfs.calls call ≡ o
+        → asked_by o ≡ Some (asks operation) → (x : ℕ) × (state : CallState Opened) × (get k.vfs.calls x ≡ Some state)
+        × (asked state ≡ operation)
     of_call call None at e = absurd (cc (e))
     of_call call (Some state) at e = let same : asked state ≡ operation = cc (e) in (call, state, at, same)
 
-    by : (kept : Purpose) → body_of k kept ≡ Some (asks operation) → (x : ℕ) × (state : CallState Opened) × (get k.vfs.calls x ≡ Some state) × (asked state ≡ operation)
+    by : (kept : Purpose) → body_of k kept ≡ Some (asks operation)
+        → (x : ℕ) × (state : CallState Opened) × (get k.vfs.calls x ≡ Some state) × (asked state ≡ operation)
     by purpose.Init e = absurd (cc (e))
     by (purpose.Release o) e = absurd (cc (e))
     by (purpose.Call call) e = of_call call (get k.vfs.calls call) refl e

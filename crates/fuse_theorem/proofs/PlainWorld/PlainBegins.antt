@@ -25,17 +25,20 @@ ends_in : (words : List Name) → EndsIn words (parent_and_last words)
 ends_in [] = refl
 ends_in (word ∷ words) = by (parent_and_last words) (ends_in words)
   where
-    by : (o : Option (List Name × Name)) → EndsIn words o → EndsIn (word ∷ words) (elim o [ None ↦ Some ([], word) | Some parts ↦ Some (word ∷ parts.0, parts.1) ])
+    by : (o : Option (List Name × Name)) → EndsIn words o
+        → EndsIn (word ∷ words) (elim o [ None ↦ Some ([], word) | Some parts ↦ Some (word ∷ parts.0, parts.1) ])
     by None e = ap (λ (rest : List Name). word ∷ rest) e
     by (Some parts) e = ap (λ (rest : List Name). word ∷ rest) e
 
 -- what a test of two bounds says
-too_far : (a b x y : ℕ) (first second : Bool) → nat_lt a x ≡ first → nat_lt b y ≡ second → (first || second) ≡ true → (a < x) ⊎ (b < y)
+too_far : (a b x y : ℕ) (first second : Bool) → nat_lt a x ≡ first → nat_lt b y ≡ second → (first || second) ≡ true
+    → (a < x) ⊎ (b < y)
 too_far a b x y true second e f is = inl (grind (arith, nat_tests, e))
 too_far a b x y false true e f is = inr (grind (arith, nat_tests, f))
 too_far a b x y false false e f is = absurd (cc)
 
-within : (a b x y : ℕ) (first second : Bool) → nat_lt a x ≡ first → nat_lt b y ≡ second → (first || second) ≡ false → (x ≤ a) × (y ≤ b)
+within : (a b x y : ℕ) (first second : Bool) → nat_lt a x ≡ first → nat_lt b y ≡ second → (first || second) ≡ false
+    → (x ≤ a) × (y ≤ b)
 within a b x y true second e f is = absurd (cc)
 within a b x y false true e f is = absurd (cc)
 within a b x y false false e f is = (grind (arith, nat_tests, e), grind (arith, nat_tests, f))
@@ -49,45 +52,67 @@ module _ (c : Vfs ℕ) (number : ℕ) where
   fails x errno failed = Begins.fails x errno failed
 
   sets : (x : Call) (words : List Name) (plan : WalkPlan ℕ) → TakesWalk x words plan → BeginsBy x (sets_out words plan)
-  sets x words plan takes = let went = walks_on c number c.root words plan in Begins.sets_out x words plan went.vfs went.operation takes (goes_on c number c.root words plan)
+  sets x words plan takes = let went = walks_on c number c.root words plan in
+      Begins.sets_out x words plan went.vfs went.operation takes (goes_on c number c.root words plan)
 
-  along : (x : Call) (path : List ℕ) (then : List Name → Beginning ℕ ℕ) → ((errno : ℕ) → words_of path ≡ Err errno → BeginsBy x (faulty errno))
+  along : (x : Call) (path : List ℕ) (then : List Name → Beginning ℕ ℕ)
+      → ((errno : ℕ) → words_of path ≡ Err errno → BeginsBy x (faulty errno))
       → ((words : List Name) → words_of path ≡ Ok words → BeginsBy x (then words)) → BeginsBy x (whole_path path then)
   along x path then bad good = by (words_of path) refl
     where
-      by : (r : Result (List Name) ℕ) → words_of path ≡ r → BeginsBy x (elim r [ Err fault ↦ faulty fault | Ok words ↦ then words ])
+      by : (r : Result (List Name) ℕ) → words_of path ≡ r
+          → BeginsBy x (elim r [ Err fault ↦ faulty fault | Ok words ↦ then words ])
       by (Err errno) e = bad errno e
       by (Ok words) e = good words e
 
-  up_to_last : (x : Call) (path : List ℕ) (then : List Name → Name → Beginning ℕ ℕ) → ((errno : ℕ) → HasNoName path errno → BeginsBy x (faulty errno))
-      → ((words : List Name) (name : Name) → words_of path ≡ Ok (words ++ name ∷ []) → BeginsBy x (then words name)) → BeginsBy x (parent_path path then)
-  up_to_last x path then bad good = along x path _ (λ errno e. bad errno (is_faulty path errno e)) (λ words e. by words e (parent_and_last words) (ends_in words))
+  up_to_last : (x : Call) (path : List ℕ) (then : List Name → Name → Beginning ℕ ℕ)
+      → ((errno : ℕ) → HasNoName path errno → BeginsBy x (faulty errno))
+      → ((words : List Name) (name : Name) → words_of path ≡ Ok (words ++ name ∷ []) → BeginsBy x (then words name))
+      → BeginsBy x (parent_path path then)
+  up_to_last x path then bad good = along x path _ (λ errno e. bad errno (is_faulty path errno e))
+      (λ words e. by words e (parent_and_last words) (ends_in words))
     where
-      by : (words : List Name) → words_of path ≡ Ok words → (o : Option (List Name × Name)) → EndsIn words o → BeginsBy x (elim o [ None ↦ faulty einval | Some parts ↦ then parts.0 parts.1 ])
+      by : (words : List Name) → words_of path ≡ Ok words → (o : Option (List Name × Name)) → EndsIn words o
+          → BeginsBy x (elim o [ None ↦ faulty einval | Some parts ↦ then parts.0 parts.1 ])
       by words e None none = bad einval (is_root path (cc))
       by words e (Some parts) ends = good parts.0 parts.1 (cc)
 
-  reads : (handle offset size : ℕ) → BeginsBy (call.read handle offset size) (using handle (get c.opens handle) offset size (λ opened. op.read opened offset size))
+  reads : (handle offset size : ℕ) → BeginsBy (call.read handle offset size)
+      (using handle (get c.opens handle) offset size (λ opened. op.read opened offset size))
   reads handle offset size = by (get c.opens handle) refl
     where
-      by_size : (file : ℕ) → get c.opens handle ≡ Some file → (far : Bool) → (nat_lt max_file offset || nat_lt max_transfer size) ≡ far
+      by_size : (file : ℕ) → get c.opens handle ≡ Some file → (far : Bool)
+          → (nat_lt max_file offset || nat_lt max_transfer size) ≡ far
           → BeginsBy (call.read handle offset size) (cond far (faulty einval) (uses handle (op.read file offset size)))
-      by_size file there true far = fails (call.read handle offset size) einval (plain.read_too_far handle offset size file there (too_far max_file max_transfer offset size (nat_lt max_file offset) (nat_lt max_transfer size) refl refl far))
-      by_size file there false near = let low = within max_file max_transfer offset size (nat_lt max_file offset) (nat_lt max_transfer size) refl refl near in Begins.reads handle offset size file there low.0 low.1
+      by_size file there true far = fails (call.read handle offset size) einval
+          (plain.read_too_far handle offset size file there
+          (too_far max_file max_transfer offset size (nat_lt max_file offset) (nat_lt max_transfer size) refl refl far))
+      by_size file there false near = let low = within max_file max_transfer offset size (nat_lt max_file offset)
+          (nat_lt max_transfer size) refl refl near in Begins.reads handle offset size file there low.0 low.1
 
-      by : (o : Option ℕ) → get c.opens handle ≡ o → BeginsBy (call.read handle offset size) (using handle o offset size (λ opened. op.read opened offset size))
+      by : (o : Option ℕ) → get c.opens handle ≡ o → BeginsBy (call.read handle offset size)
+          (using handle o offset size (λ opened. op.read opened offset size))
       by None none = fails (call.read handle offset size) _ (plain.read_of_none handle offset size none)
       by (Some file) there = by_size file there (nat_lt max_file offset || nat_lt max_transfer size) refl
 
-  writes : (handle offset : ℕ) (bytes : List ℕ) → BeginsBy (call.write handle offset bytes) (using handle (get c.opens handle) offset (length bytes) (λ opened. op.write opened offset bytes))
+  writes : (handle offset : ℕ) (bytes : List ℕ) → BeginsBy (call.write handle offset bytes)
+      (using handle (get c.opens handle) offset (length bytes) (λ opened. op.write opened offset bytes))
   writes handle offset bytes = by (get c.opens handle) refl
     where
-      by_size : (file : ℕ) → get c.opens handle ≡ Some file → (far : Bool) → (nat_lt max_file offset || nat_lt max_transfer (length bytes)) ≡ far
-          → BeginsBy (call.write handle offset bytes) (cond far (faulty einval) (uses handle (op.write file offset bytes)))
-      by_size file there true far = fails (call.write handle offset bytes) einval (plain.write_too_far handle offset file bytes there (too_far max_file max_transfer offset (length bytes) (nat_lt max_file offset) (nat_lt max_transfer (length bytes)) refl refl far))
-      by_size file there false near = let low = within max_file max_transfer offset (length bytes) (nat_lt max_file offset) (nat_lt max_transfer (length bytes)) refl refl near in Begins.writes handle offset bytes file there low.0 low.1
+      by_size : (file : ℕ) → get c.opens handle ≡ Some file → (far : Bool)
+          → (nat_lt max_file offset || nat_lt max_transfer (length bytes)) ≡ far
+          → BeginsBy (call.write handle offset bytes) (cond far (faulty einval)
+          (uses handle (op.write file offset bytes)))
+      by_size file there true far = fails (call.write handle offset bytes) einval
+          (plain.write_too_far handle offset file bytes there
+          (too_far max_file max_transfer offset (length bytes) (nat_lt max_file offset)
+          (nat_lt max_transfer (length bytes)) refl refl far))
+      by_size file there false near = let low = within max_file max_transfer offset (length bytes)
+          (nat_lt max_file offset) (nat_lt max_transfer (length bytes)) refl refl near in
+          Begins.writes handle offset bytes file there low.0 low.1
 
-      by : (o : Option ℕ) → get c.opens handle ≡ o → BeginsBy (call.write handle offset bytes) (using handle o offset (length bytes) (λ opened. op.write opened offset bytes))
+      by : (o : Option ℕ) → get c.opens handle ≡ o → BeginsBy (call.write handle offset bytes)
+          (using handle o offset (length bytes) (λ opened. op.write opened offset bytes))
       by None none = fails (call.write handle offset bytes) _ (plain.write_to_none handle offset bytes none)
       by (Some file) there = by_size file there (nat_lt max_file offset || nat_lt max_transfer (length bytes)) refl
 
@@ -100,27 +125,47 @@ module _ (c : Vfs ℕ) (number : ℕ) where
 
   -- Each call begins as it does in words.
   pub begins : (x : Call) → BeginsBy x (beginning c.opens x)
-  begins (call.stat path) = along (call.stat path) path _ (λ errno e. fails (call.stat path) errno (plain.of_stat path errno e)) (λ words e. sets (call.stat path) words (last final.stat) (plain.stats path words e))
+  begins (call.stat path) = along (call.stat path) path _
+      (λ errno e. fails (call.stat path) errno (plain.of_stat path errno e))
+      (λ words e. sets (call.stat path) words (last final.stat) (plain.stats path words e))
   begins (call.list path after) =
-      along (call.list path after) path _ (λ errno e. fails (call.list path after) errno (plain.of_list path after errno e)) (λ words e. sets (call.list path after) words (last (final.list after)) (plain.lists path after words e))
+      along (call.list path after) path _ (λ errno e. fails (call.list path after) errno
+      (plain.of_list path after errno e)) (λ words e. sets (call.list path after) words (last (final.list after))
+      (plain.lists path after words e))
   begins (call.listplus path after) =
-      along (call.listplus path after) path _ (λ errno e. fails (call.listplus path after) errno (plain.of_listplus path after errno e)) (λ words e. sets (call.listplus path after) words (last (final.listplus after)) (plain.lists_files path after words e))
-  begins (call.opening path) = along (call.opening path) path _ (λ errno e. fails (call.opening path) errno (plain.of_open path errno e)) (λ words e. sets (call.opening path) words (last final.opening) (plain.opens path words e))
+      along (call.listplus path after) path _ (λ errno e. fails (call.listplus path after) errno
+      (plain.of_listplus path after errno e)) (λ words e. sets (call.listplus path after) words
+      (last (final.listplus after)) (plain.lists_files path after words e))
+  begins (call.opening path) = along (call.opening path) path _
+      (λ errno e. fails (call.opening path) errno (plain.of_open path errno e))
+      (λ words e. sets (call.opening path) words (last final.opening) (plain.opens path words e))
   begins (call.mkdir path) =
-      up_to_last (call.mkdir path) path _ (λ errno none. fails (call.mkdir path) errno (plain.of_mkdir path errno none)) (λ words name e. sets (call.mkdir path) words (last (final.mkdir name)) (plain.mkdirs path words name e))
+      up_to_last (call.mkdir path) path _ (λ errno none. fails (call.mkdir path) errno
+      (plain.of_mkdir path errno none)) (λ words name e. sets (call.mkdir path) words (last (final.mkdir name))
+      (plain.mkdirs path words name e))
   begins (call.create path) =
-      up_to_last (call.create path) path _ (λ errno none. fails (call.create path) errno (plain.of_create path errno none)) (λ words name e. sets (call.create path) words (last (final.create name)) (plain.creates path words name e))
+      up_to_last (call.create path) path _ (λ errno none. fails (call.create path) errno
+      (plain.of_create path errno none)) (λ words name e. sets (call.create path) words (last (final.create name))
+      (plain.creates path words name e))
   begins (call.unlink path) =
-      up_to_last (call.unlink path) path _ (λ errno none. fails (call.unlink path) errno (plain.of_unlink path errno none)) (λ words name e. sets (call.unlink path) words (last (final.unlink name)) (plain.unlinks path words name e))
+      up_to_last (call.unlink path) path _ (λ errno none. fails (call.unlink path) errno
+      (plain.of_unlink path errno none)) (λ words name e. sets (call.unlink path) words (last (final.unlink name))
+      (plain.unlinks path words name e))
   begins (call.rmdir path) =
-      up_to_last (call.rmdir path) path _ (λ errno none. fails (call.rmdir path) errno (plain.of_rmdir path errno none)) (λ words name e. sets (call.rmdir path) words (last (final.rmdir name)) (plain.rmdirs path words name e))
+      up_to_last (call.rmdir path) path _ (λ errno none. fails (call.rmdir path) errno
+      (plain.of_rmdir path errno none)) (λ words name e. sets (call.rmdir path) words (last (final.rmdir name))
+      (plain.rmdirs path words name e))
   begins (call.rename old new) =
-      up_to_last (call.rename old new) old _ (λ errno none. fails (call.rename old new) errno (plain.of_old old new errno none))
-      (λ words from e. up_to_last (call.rename old new) new _ (λ errno none. fails (call.rename old new) errno (plain.of_new old new words from errno e none))
-      (λ more to f. sets (call.rename old new) words (rename from more to) (TakesWalk.renames old new words more from to e f)))
+      up_to_last (call.rename old new) old _ (λ errno none. fails (call.rename old new) errno
+      (plain.of_old old new errno none))
+      (λ words from e. up_to_last (call.rename old new) new _
+      (λ errno none. fails (call.rename old new) errno (plain.of_new old new words from errno e none))
+      (λ more to f. sets (call.rename old new) words (rename from more to)
+      (TakesWalk.renames old new words more from to e f)))
   begins (call.link old new) =
       along (call.link old new) old _ (λ errno e. fails (call.link old new) errno (plain.of_linked old new errno e))
-      (λ words e. up_to_last (call.link old new) new _ (λ errno none. fails (call.link old new) errno (plain.of_link old new words errno e none))
+      (λ words e. up_to_last (call.link old new) new _
+      (λ errno none. fails (call.link old new) errno (plain.of_link old new words errno e none))
       (λ more name f. sets (call.link old new) words (link more name) (TakesWalk.links old new words more name e f)))
   begins (call.read handle offset size) = reads handle offset size
   begins (call.write handle offset bytes) = writes handle offset bytes

@@ -31,14 +31,27 @@ asks_at (final.link_to linked name) file = plain.to_link linked name file
 module _ (c : Vfs ℕ) where
   -- where a walk stops whose first word finds this
   abbrev stops_at : ℕ → Name → List Name → Option (Option ℕ) → WalkStop ℕ
-  stops_at at word words seen = elim seen [ None ↦ unknown at word words | Some found ↦ elim found [ None ↦ missing | Some file ↦ go (look c) file words ] ]
+  stops_at at word words seen =
+      elim seen [
+        | None ↦ unknown at word words
+        | Some found ↦ elim found [
+          | None ↦ missing
+          | Some file ↦ go
+              (look c) file words
+        ]
+      ]
 
-  module _ (at : ℕ) (word : Name) (words : List Name) (on : (file : ℕ) → Walks c file words (go (look c) file words)) where
-    by_time : (bound : Binding) → get_name c.names (at, word) ≡ Some bound → (in_time : Bool) → nat_lt c.clock bound.until ≡ in_time → (target : Option ℕ) → bound.target ≡ target
+  module _ (at : ℕ) (word : Name) (words : List Name)
+      (on : (file : ℕ) → Walks c file words (go (look c) file words)) where
+    by_time : (bound : Binding) → get_name c.names (at, word) ≡ Some bound → (in_time : Bool)
+        → nat_lt c.clock bound.until ≡ in_time → (target : Option ℕ) → bound.target ≡ target
         → Walks c at (word ∷ words) (stops_at at word words (cond in_time (Some target) None))
-    by_time bound there true in_time None is = plain.finds_none at word words (record { bound = bound; there = there; in_time = grind (arith, nat_tests, in_time); target_is = is })
+    by_time bound there true in_time None is = plain.finds_none at word words
+        (record { bound = bound; there = there; in_time = grind (arith, nat_tests, in_time); target_is = is })
     by_time bound there true in_time (Some file) is =
-        plain.goes_on at file word words (go (look c) file words) (record { bound = bound; there = there; in_time = grind (arith, nat_tests, in_time); target_is = is }) (on file)
+        plain.goes_on at file word words (go (look c) file words)
+        (record { bound = bound; there = there; in_time = grind (arith, nat_tests, in_time); target_is = is })
+        (on file)
     by_time bound there false late target is = plain.has_to_ask at word words over
       where
         past : bound.until ≤ c.clock
@@ -47,7 +60,8 @@ module _ (c : Vfs ℕ) where
         over : IsNotInForce c at word
         over other found = let same : bound ≡ other = cc in subst (λ (b : Binding). b.until ≤ c.clock) same past
 
-    by_name : (found : Option Binding) → get_name c.names (at, word) ≡ found → Walks c at (word ∷ words) (stops_at at word words (valid_at c.clock found))
+    by_name : (found : Option Binding) → get_name c.names (at, word) ≡ found
+        → Walks c at (word ∷ words) (stops_at at word words (valid_at c.clock found))
     by_name None none = plain.has_to_ask at word words (λ other found. absurd (cc))
     by_name (Some bound) there = by_time bound there (nat_lt c.clock bound.until) refl bound.target refl
 
@@ -57,22 +71,32 @@ module _ (c : Vfs ℕ) where
   walks (word ∷ words) at = by_name at word words (λ file. walks words file) (get_name c.names (at, word)) refl
 
   module _ (number : ℕ) where
-    after_last_walk : (at : ℕ) (words : List Name) (last_one : FinalOperation ℕ) (stop : WalkStop ℕ) → Walks c at words stop → GoesOnTo c number at words (last last_one) (after_walk c number (after_last last_one stop))
-    after_last_walk at words last_one (unknown directory word rest) walked = plain.asks_name at words (last last_one) directory word rest walked
+    after_last_walk : (at : ℕ) (words : List Name) (last_one : FinalOperation ℕ) (stop : WalkStop ℕ)
+        → Walks c at words stop → GoesOnTo c number at words (last last_one)
+        (after_walk c number (after_last last_one stop))
+    after_last_walk at words last_one (unknown directory word rest) walked =
+        plain.asks_name at words (last last_one) directory word rest walked
     after_last_walk at words last_one missing walked = plain.has_none at words (last last_one) walked
-    after_last_walk at words last_one (arrived file) walked = plain.asks_operation at words last_one file (operation_at last_one file) walked (asks_at last_one file)
+    after_last_walk at words last_one (arrived file) walked =
+        plain.asks_operation at words last_one file (operation_at last_one file) walked (asks_at last_one file)
 
-    after_first_walk : (at : ℕ) (words : List Name) (plan : WalkPlan ℕ) (stop : WalkStop ℕ) → Walks c at words stop → GoesOnTo c number at words plan (after_walk c number (after_stop (look c) c.root plan stop))
-    after_first_walk at words plan (unknown directory word rest) walked = plain.asks_name at words plan directory word rest walked
+    after_first_walk : (at : ℕ) (words : List Name) (plan : WalkPlan ℕ) (stop : WalkStop ℕ) → Walks c at words stop
+        → GoesOnTo c number at words plan (after_walk c number (after_stop (look c) c.root plan stop))
+    after_first_walk at words plan (unknown directory word rest) walked =
+        plain.asks_name at words plan directory word rest walked
     after_first_walk at words plan missing walked = plain.has_none at words plan walked
-    after_first_walk at words (last last_one) (arrived file) walked = plain.asks_operation at words last_one file (operation_at last_one file) walked (asks_at last_one file)
+    after_first_walk at words (last last_one) (arrived file) walked =
+        plain.asks_operation at words last_one file (operation_at last_one file) walked (asks_at last_one file)
     after_first_walk at words (rename old more new) (arrived file) walked =
         let went = after_walk c number (after_last (final.rename_from file old new) (go (look c) c.root more)) in
-        GoesOn.renames at words old more new file went.vfs went.operation walked (after_last_walk c.root more (final.rename_from file old new) (go (look c) c.root more) (walks more c.root))
+        GoesOn.renames at words old more new file went.vfs went.operation walked
+        (after_last_walk c.root more (final.rename_from file old new) (go (look c) c.root more) (walks more c.root))
     after_first_walk at words (link more name) (arrived file) walked =
         let went = after_walk c number (after_last (final.link_to file name) (go (look c) c.root more)) in
-        GoesOn.links at words more name file went.vfs went.operation walked (after_last_walk c.root more (final.link_to file name) (go (look c) c.root more) (walks more c.root))
+        GoesOn.links at words more name file went.vfs went.operation walked
+        (after_last_walk c.root more (final.link_to file name) (go (look c) c.root more) (walks more c.root))
 
     -- A call goes on as it does in words.
-    pub goes_on : (at : ℕ) (words : List Name) (plan : WalkPlan ℕ) → GoesOnTo c number at words plan (walks_on c number at words plan)
+    pub goes_on : (at : ℕ) (words : List Name) (plan : WalkPlan ℕ)
+        → GoesOnTo c number at words plan (walks_on c number at words plan)
     goes_on at words plan = after_first_walk at words plan (go (look c) at words) (walks words at)

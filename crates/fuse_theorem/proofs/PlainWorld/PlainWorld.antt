@@ -57,7 +57,8 @@ same_number a b e = elim (eqb_tells a b) [ inl h ↦ sym h.1 | inr h ↦ absurd 
 
 -- ---- the steps
 
-asks : (p : Plain) (label number : ℕ) (after : Vfs ℕ) (asked : Option (Operation ℕ ℕ)) → Asks p label number after asked (asking (record p { vfs = after }) label number asked)
+asks : (p : Plain) (label number : ℕ) (after : Vfs ℕ) (asked : Option (Operation ℕ ℕ))
+    → Asks p label number after asked (asking (record p { vfs = after }) label number asked)
 asks p label number after None = plain.nothing
 asks p label number after (Some operation) = plain.puts_ask operation
 
@@ -72,49 +73,64 @@ module _ (p q : Plain) where
   goes : (e : Event) (o : Outcome) (r : Plain) → r ≡ q → Steps p e o r → Steps p e o q
   goes e o r same step = subst (λ (s : Plain). Steps p e o s) same step
 
-  some_goes : (e : Event) (o : Outcome) (r : Plain) → ◌≡◌ {A = Option Plain} (Some r) (Some q) → Steps p e o r → Steps p e o q
+  some_goes : (e : Event) (o : Outcome) (r : Plain) → ◌≡◌ {A = Option Plain} (Some r) (Some q) → Steps p e o r
+      → Steps p e o q
   some_goes e o r same step = goes e o r (cc) step
 
-  call_begins : (x : Call) (label : ℕ) → get p.asks label ≡ None → Steps p (event.call x) (event.begun p.vfs.next_call) (call_put p label x)
+  call_begins : (x : Call) (label : ℕ) → get p.asks label ≡ None
+      → Steps p (event.call x) (event.begun p.vfs.next_call) (call_put p label x)
   call_begins x label free = by p.aborted refl
     where
       y : Call
       y = spoken (lists_files_at p.minor) x
 
-      by : (aborted : Bool) → p.aborted ≡ aborted → Steps p (event.call x) (event.begun p.vfs.next_call) (going_on p label p.vfs.next_call (begun aborted p.vfs (spoken (lists_files_at p.minor) x)))
+      by : (aborted : Bool) → p.aborted ≡ aborted → Steps p (event.call x) (event.begun p.vfs.next_call)
+          (going_on p label p.vfs.next_call (begun aborted p.vfs (spoken (lists_files_at p.minor) x)))
       by true lost = plain.begins_in_vain x lost
       by false live =
           let went = begun false p.vfs y in
-          plain.begins x y label went.vfs went.operation (going_on p label p.vfs.next_call went) live free (put_as p.minor x) (begins (one_more p.vfs) p.vfs.next_call y) (asks p label p.vfs.next_call went.vfs went.operation)
+          plain.begins x y label went.vfs went.operation (going_on p label p.vfs.next_call went) live free
+          (put_as p.minor x) (begins (one_more p.vfs) p.vfs.next_call y)
+          (asks p label p.vfs.next_call went.vfs went.operation)
 
-  performs : (unique u errno : ℕ) (lost : Bool) (o : Option Ask) → get p.asks unique ≡ o → serving p unique o ≡ Some q → Steps p (event.perform unique) (event.performed u errno lost) q
+  performs : (unique u errno : ℕ) (lost : Bool) (o : Option Ask) → get p.asks unique ≡ o → serving p unique o ≡ Some q
+      → Steps p (event.perform unique) (event.performed u errno lost) q
   performs unique u errno lost None there e = some_goes _ _ p e (plain.performs_none unique u errno lost there)
   performs unique u errno lost (Some ask) there e = by ask.stage refl e
     where
-      by_mark : (marked : Bool) → ask.stage ≡ waiting → ask.marked ≡ marked → cond marked (where_so ask.noted (ask_declined p unique ask)) (Some (ask_performed p unique ask)) ≡ Some q → Steps p (event.perform unique) (event.performed u errno lost) q
-      by_mark true stage mark f = let did = taken_so ask.noted (ask_declined p unique ask) q f in goes _ _ _ did.leads (plain.declines unique u errno lost ask there stage mark did.so)
+      by_mark : (marked : Bool) → ask.stage ≡ waiting → ask.marked ≡ marked
+          → cond marked (where_so ask.noted (ask_declined p unique ask)) (Some (ask_performed p unique ask)) ≡ Some q
+          → Steps p (event.perform unique) (event.performed u errno lost) q
+      by_mark true stage mark f = let did = taken_so ask.noted (ask_declined p unique ask) q f in
+          goes _ _ _ did.leads (plain.declines unique u errno lost ask there stage mark did.so)
       by_mark false stage mark f = some_goes _ _ _ f (plain.performs unique u errno lost ask there stage mark)
 
-      by : (stage : Stage) → ask.stage ≡ stage → serving_ask p unique ask stage ≡ Some q → Steps p (event.perform unique) (event.performed u errno lost) q
+      by : (stage : Stage) → ask.stage ≡ stage → serving_ask p unique ask stage ≡ Some q
+          → Steps p (event.perform unique) (event.performed u errno lost) q
       by waiting stage f = by_mark ask.marked stage refl f
       by (performed reply) stage f = absurd (cc)
       by declined stage f = absurd (cc)
 
-  tells : (k unique label : ℕ) (o : Option Ask) → get p.asks unique ≡ o → delivering p unique label o ≡ Some q → Steps p (event.write k) (event.written unique Accepted) q
+  tells : (k unique label : ℕ) (o : Option Ask) → get p.asks unique ≡ o → delivering p unique label o ≡ Some q
+      → Steps p (event.write k) (event.written unique Accepted) q
   tells k unique label None there e = some_goes _ _ p e (plain.tells_none k unique there)
   tells k unique label (Some ask) there e = by ask.stage refl e
     where
-      by_call : (reply : Reply ℕ ℕ) → ask.stage ≡ performed reply → (standing : Option (CallState ℕ)) → get p.vfs.calls ask.call ≡ standing → telling_call p unique label ask reply standing ≡ Some q
+      by_call : (reply : Reply ℕ ℕ) → ask.stage ≡ performed reply → (standing : Option (CallState ℕ))
+          → get p.vfs.calls ask.call ≡ standing → telling_call p unique label ask reply standing ≡ Some q
           → Steps p (event.write k) (event.written unique Accepted) q
       by_call reply stage None stands f = absurd (cc)
       by_call reply stage (Some state) stands f =
           let did = taken_so (not (is_some (get p.asks label))) (ask_told p unique label ask reply state) q f in
           let went = call_replied p.vfs ask.call state reply in
           goes _ _ _ did.leads
-          (plain.tells k unique label ask reply state went.vfs went.operation (ask_told p unique label ask reply state) there stage stands (is_free (get p.asks label) did.so) (hears p.vfs ask.call state reply)
+          (plain.tells k unique label ask reply state went.vfs went.operation
+          (ask_told p unique label ask reply state) there stage stands (is_free (get p.asks label) did.so)
+          (hears p.vfs ask.call state reply)
           (asks (record p { asks = remove p.asks unique }) label ask.call went.vfs went.operation))
 
-      by : (stage : Stage) → ask.stage ≡ stage → delivering_reply p unique label ask stage ≡ Some q → Steps p (event.write k) (event.written unique Accepted) q
+      by : (stage : Stage) → ask.stage ≡ stage → delivering_reply p unique label ask stage ≡ Some q
+          → Steps p (event.write k) (event.written unique Accepted) q
       by waiting stage f = absurd (cc)
       by (performed reply) stage f = by_call reply stage (get p.vfs.calls ask.call) refl f
       by declined stage f =
@@ -123,11 +139,14 @@ module _ (p q : Plain) where
           let state = standing (get p.vfs.calls ask.call) holds.second in
           goes _ _ _ did.leads (plain.tells_eintr k unique ask state.0 there stage holds.first state.1)
 
-  signals : (number label : ℕ) (fatal : Bool) (c : ℕ) (signal : IntrEffect) (o : Option Ask) → get p.asks label ≡ o → signalling p signal number label o ≡ Some q → Steps p (event.intr number fatal) (event.interrupted c signal) q
+  signals : (number label : ℕ) (fatal : Bool) (c : ℕ) (signal : IntrEffect) (o : Option Ask) → get p.asks label ≡ o
+      → signalling p signal number label o ≡ Some q → Steps p (event.intr number fatal) (event.interrupted c signal) q
   signals number label fatal c signal None there e = absurd (cc)
   signals number label fatal c signal (Some ask) there e =
-      let did = taken_so (is_some (get p.vfs.calls number) && (nat_eq ask.call number && may_signal signal ask.stage)) (signalled_ask p signal label ask) q e in
-      let waits_so = both (is_some (get p.vfs.calls number)) (nat_eq ask.call number && may_signal signal ask.stage) did.so in
+      let did = taken_so (is_some (get p.vfs.calls number) && (nat_eq ask.call number && may_signal signal ask.stage))
+      (signalled_ask p signal label ask) q e in
+      let waits_so = both (is_some (get p.vfs.calls number))
+      (nat_eq ask.call number && may_signal signal ask.stage) did.so in
       let state = standing (get p.vfs.calls number) waits_so.first in
       let holds = both (nat_eq ask.call number) (may_signal signal ask.stage) waits_so.second in
       goes _ _ _ did.leads (by state.0 state.1 signal holds.second (sym (same_number ask.call number holds.first)))
@@ -137,37 +156,54 @@ module _ (p q : Plain) where
       waits (performed reply) h = absurd (cc)
       waits declined h = absurd (cc)
 
-      by : (state : CallState ℕ) → get p.vfs.calls number ≡ Some state → (x : IntrEffect) → may_signal x ask.stage ≡ true → ask.call ≡ number → Steps p (event.intr number fatal) (event.interrupted c x) (signalled_ask p x label ask)
-      by state stands effect.Dequeued may of = plain.interrupts number label fatal c ask state there (waits ask.stage may) of stands
-      by state stands effect.Flagged may of = plain.notes number label fatal c effect.Flagged ask state (λ is. cc) there of stands
-      by state stands effect.Queued may of = plain.notes number label fatal c effect.Queued ask state (λ is. cc) there of stands
-      by state stands effect.None may of = plain.notes number label fatal c effect.None ask state (λ is. cc) there of stands
+      by : (state : CallState ℕ) → get p.vfs.calls number ≡ Some state → (x : IntrEffect)
+          → may_signal x ask.stage ≡ true → ask.call ≡ number
+          → Steps p (event.intr number fatal) (event.interrupted c x) (signalled_ask p x label ask)
+      by state stands effect.Dequeued may of = plain.interrupts number label fatal c ask state there
+          (waits ask.stage may) of stands
+      by state stands effect.Flagged may of = plain.notes number label fatal c effect.Flagged ask state
+          (λ is. cc) there of stands
+      by state stands effect.Queued may of = plain.notes number label fatal c effect.Queued ask state
+          (λ is. cc) there of stands
+      by state stands effect.None may of = plain.notes number label fatal c effect.None ask state
+          (λ is. cc) there of stands
 
-  marks : (k unique : ℕ) (o : Option Ask) → get p.asks (unique - 1) ≡ o → marking p (unique - 1) o ≡ Some q → Steps p (event.take k) (event.taken unique Marked) q
+  marks : (k unique : ℕ) (o : Option Ask) → get p.asks (unique - 1) ≡ o → marking p (unique - 1) o ≡ Some q
+      → Steps p (event.take k) (event.taken unique Marked) q
   marks k unique None there e = some_goes _ _ p e (plain.marks_none k unique there)
   marks k unique (Some ask) there e = some_goes _ _ _ e (plain.marks k unique ask there)
 
   steps : (chosen : ℕ) (e : Event) (o : Outcome) → takes chosen p e o ≡ Some q → Steps p e o q
   steps chosen (event.call x) (event.begun number) e =
-      let did = taken_so (nat_eq number p.vfs.next_call && not (is_some (get p.asks chosen))) (call_put p chosen x) q e in
+      let did = taken_so (nat_eq number p.vfs.next_call && not (is_some (get p.asks chosen)))
+      (call_put p chosen x) q e in
       let tests = both (nat_eq number p.vfs.next_call) (not (is_some (get p.asks chosen))) did.so in
-      subst (λ (n : ℕ). Steps p (event.call x) (event.begun n) q) (same_number number p.vfs.next_call tests.first) (goes _ _ _ did.leads (call_begins x chosen (is_free (get p.asks chosen) tests.second)))
-  steps chosen (event.perform unique) (event.performed u errno lost) e = performs unique u errno lost (get p.asks unique) refl e
+      subst (λ (n : ℕ). Steps p (event.call x) (event.begun n) q) (same_number number p.vfs.next_call tests.first)
+      (goes _ _ _ did.leads (call_begins x chosen (is_free (get p.asks chosen) tests.second)))
+  steps chosen (event.perform unique) (event.performed u errno lost) e =
+      performs unique u errno lost (get p.asks unique) refl e
   steps chosen (event.write k) (event.written unique Accepted) e = tells k unique chosen (get p.asks unique) refl e
   steps chosen (event.write k) (event.written unique NoEntry) e = some_goes _ _ p e (plain.no_entry k unique)
   steps chosen (event.write k) (event.written unique Invalid) e = some_goes _ _ p e (plain.is_wrong k unique)
-  steps chosen (event.intr number fatal) (event.interrupted c signal) e = signals number chosen fatal c signal (get p.asks chosen) refl e
+  steps chosen (event.intr number fatal) (event.interrupted c signal) e =
+      signals number chosen fatal c signal (get p.asks chosen) refl e
   steps chosen (event.take k) (event.taken unique Marked) e = marks k unique (get p.asks (unique - 1)) refl e
-  steps chosen (event.take k) (event.taken unique Held) e = some_goes _ _ p e (plain.takes_other k unique Held (λ is. cc))
-  steps chosen (event.take k) (event.taken unique Forgot) e = some_goes _ _ p e (plain.takes_other k unique Forgot (λ is. cc))
-  steps chosen (event.take k) (event.taken unique Ignored) e = some_goes _ _ p e (plain.takes_other k unique Ignored (λ is. cc))
-  steps chosen (event.take k) (event.taken unique Again) e = some_goes _ _ p e (plain.takes_other k unique Again (λ is. cc))
+  steps chosen (event.take k) (event.taken unique Held) e =
+      some_goes _ _ p e (plain.takes_other k unique Held (λ is. cc))
+  steps chosen (event.take k) (event.taken unique Forgot) e =
+      some_goes _ _ p e (plain.takes_other k unique Forgot (λ is. cc))
+  steps chosen (event.take k) (event.taken unique Ignored) e =
+      some_goes _ _ p e (plain.takes_other k unique Ignored (λ is. cc))
+  steps chosen (event.take k) (event.taken unique Again) e =
+      some_goes _ _ p e (plain.takes_other k unique Again (λ is. cc))
   steps chosen (event.tick ms) (event.now clock) e =
       let did = taken_so (nat_eq clock (p.vfs.clock + ms)) (plain_later p ms) q e in
-      subst (λ (n : ℕ). Steps p (event.tick ms) (event.now n) q) (same_number clock (p.vfs.clock + ms) did.so) (goes _ _ _ did.leads (plain.time_passes ms))
+      subst (λ (n : ℕ). Steps p (event.tick ms) (event.now n) q) (same_number clock (p.vfs.clock + ms) did.so)
+      (goes _ _ _ did.leads (plain.time_passes ms))
   steps chosen (event.drop_name node name) event.dropped e = some_goes _ _ _ e (plain.drops node chosen name)
   steps chosen event.abort event.aborted e = some_goes _ _ _ e (plain.aborts (given_up p.vfs) (gives_up p.vfs))
-  steps chosen (event.mount found_ms missing_ms minor) event.mounted e = some_goes _ _ _ e (plain.mounts found_ms missing_ms minor (given_up p.vfs) (gives_up p.vfs))
+  steps chosen (event.mount found_ms missing_ms minor) event.mounted e =
+      some_goes _ _ _ e (plain.mounts found_ms missing_ms minor (given_up p.vfs) (gives_up p.vfs))
   steps chosen event.read_interrupt (event.is_read unique) e = some_goes _ _ p e (plain.reads_interrupt unique)
   steps chosen (event.read_forgets n) (event.is_read unique) e = some_goes _ _ p e (plain.reads_forgets n unique)
   steps chosen (event.read_pending k) (event.is_read unique) e = some_goes _ _ p e (plain.reads_pending k unique)

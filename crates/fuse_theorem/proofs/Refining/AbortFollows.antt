@@ -9,7 +9,8 @@ use Rattle.fuse_theorem.specs.Links.{LinksSound}
 abbrev AbortHappens : World → Type 0
 AbortHappens w = (last : World) × Happens w abort aborted last
 
-pub abort_follows : (w : World) → LinksSound w → ((w.requests ≡ []) × (w.replies ≡ []) × (w.results ≡ []) → ⊥) → (last : World) × Happens w abort aborted last
+pub abort_follows : (w : World) → LinksSound w → ((w.requests ≡ []) × (w.replies ≡ []) × (w.results ≡ []) → ⊥)
+    → (last : World) × Happens w abort aborted last
 abort_follows w sound some = by (is_live w.kernel.phase) refl
   where
     by : (live : Bool) → is_live w.kernel.phase ≡ live → AbortHappens w

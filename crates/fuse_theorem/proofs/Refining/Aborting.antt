@@ -20,18 +20,26 @@ use Rattle.fuse_theorem.proofs.Refining.GivingUp.{given_up_alike, root_means}
 pub aborted_means : (w : World) (id file : ℕ) → MeansIn (after_abort w) id file → (id ≡ 1) × (file ≡ 0)
 aborted_means w id file means = only_root_known [] w.server.nodes refl id file means
 
-module _ (w : World) (p : Plain) (root : w.kernel.vfs.root ≡ 1) (sorted : T (is_sorted nat_cmp w.kernel.vfs.answers)) (same : Alike w p) where
+module _ (w : World) (p : Plain) (root : w.kernel.vfs.root ≡ 1) (sorted : T (is_sorted nat_cmp w.kernel.vfs.answers))
+    (same : Alike w p) where
   roots : MeansIn (after_abort w) w.kernel.vfs.root p.vfs.root
   roots = root_means w.kernel.nodes [] w.server.nodes w.server.nodes w.kernel.vfs.root p.vfs.root root same.vfs.roots
 
   -- What the server holds stays asked, as its tables alone say what that means.
   pub aborted_alike : Alike (after_abort w) (plain_aborted p)
   aborted_alike = record {
-    tree = record { names = same.tree.names; next_birth = same.tree.next_birth; next_serial = same.tree.next_serial; files = same.tree.files };
-    vfs = given_up_alike (MeansIn w) (MeansIn (after_abort w)) (MeansOpenIn w) (MeansOpenIn (after_abort w)) w.kernel.vfs p.vfs same.vfs sorted roots;
+    tree = record {
+      names = same.tree.names;
+      next_birth = same.tree.next_birth;
+      next_serial = same.tree.next_serial;
+      files = same.tree.files;
+    };
+    vfs = given_up_alike (MeansIn w) (MeansIn (after_abort w)) (MeansOpenIn w)
+        (MeansOpenIn (after_abort w)) w.kernel.vfs p.vfs same.vfs sorted roots;
     requests = record {
       pending = All-nil (λ (e : ℕ × QueuedRequest Purpose). PurposeAsked (after_abort w) (plain_aborted p) e);
-      sent = All-nil (λ (r : Request). RequestBodyAsked p.asks r.unique false false (MeansIn (after_abort w)) (MeansOpenIn (after_abort w)) r.body);
+      sent = All-nil (λ (r : Request). RequestBodyAsked p.asks r.unique false false (MeansIn (after_abort w))
+          (MeansOpenIn (after_abort w)) r.body);
       held = same.requests.held;
     };
     asks = λ live. absurd (cc);

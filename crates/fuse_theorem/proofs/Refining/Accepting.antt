@@ -27,7 +27,9 @@ use Rattle.fuse_theorem.proofs.Refining.Learning.{one_to_one, learnt_known, hear
 use Rattle.fuse_theorem.proofs.Refining.Releasing.{next_unasked}
 use Rattle.fuse_theorem.proofs.Refining.Writing.{unsent_alike, used_alike, heard_alike}
 
-module _ (w : World) (p : Plain) (numbered : IsNumbered w) (one : OneId w.server.nodes) (same : Alike w p) (live : is_live w.kernel.phase ≡ true) (k : ℕ) (sent : Sent) (call : ℕ) (state : CallState Opened) (reply : Reply ℕ ℕ)
+module _ (w : World) (p : Plain) (numbered : IsNumbered w) (one : OneId w.server.nodes) (same : Alike w p)
+    (live : is_live w.kernel.phase ≡ true) (k : ℕ) (sent : Sent) (call : ℕ) (state : CallState Opened)
+    (reply : Reply ℕ ℕ)
     (is : IsReply w p sent call state reply) where
   abbrev nodes' : Map Counted
   nodes' = learnt w.kernel.nodes (files_in_reply sent.wire)
@@ -38,9 +40,16 @@ module _ (w : World) (p : Plain) (numbered : IsNumbered w) (one : OneId w.server
 
   learnt_alike : Alike wl p
   learnt_alike =
-      let carries = grown w p nodes' w.server.nodes w.server.handles (λ id generation e. learnt_known (files_in_reply sent.wire) w.kernel.nodes id generation e) (λ id generation file d. d) (λ fh file o. o) (one_to_one nodes' w.server.nodes one) in
+      let carries = grown w p nodes' w.server.nodes w.server.handles
+      (λ id generation e. learnt_known (files_in_reply sent.wire) w.kernel.nodes id generation e)
+      (λ id generation file d. d) (λ fh file o. o) (one_to_one nodes' w.server.nodes one) in
       carried_alike w p same nodes' w.server.nodes w.server.handles w.server.tree p.tree carries
-      (record { names = same.tree.names; next_birth = same.tree.next_birth; next_serial = same.tree.next_serial; files = same.tree.files })
+      (record {
+        names = same.tree.names;
+        next_birth = same.tree.next_birth;
+        next_serial = same.tree.next_serial;
+        files = same.tree.files;
+      })
 
   learnt_numbered : IsNumbered wl
   learnt_numbered = record {
@@ -63,36 +72,56 @@ module _ (w : World) (p : Plain) (numbered : IsNumbered w) (one : OneId w.server
   next = call_replied w.kernel.vfs call state reply_received
 
   fits : ReplyAlike (MeansIn wl) (MeansOpenIn wl) reply_received reply
-  fits = heard_fits w.kernel.nodes w.server.nodes w.server.handles (asked state) is.ask.operation sent.wire reply is.goes is.used is.opens is.same is.told
+  fits = heard_fits w.kernel.nodes w.server.nodes w.server.handles
+      (asked state) is.ask.operation sent.wire reply is.goes is.used is.opens is.same is.told
 
-  other_state : (o : Option (CallState ℕ)) → OptionAlike (StateAlike (MeansIn wl) (MeansOpenIn wl)) (Some state) o → (s : CallState ℕ) × (o ≡ Some s) × StateAlike (MeansIn wl) (MeansOpenIn wl) state s
+  other_state : (o : Option (CallState ℕ)) → OptionAlike (StateAlike (MeansIn wl) (MeansOpenIn wl)) (Some state) o
+      → (s : CallState ℕ) × (o ≡ Some s) × StateAlike (MeansIn wl) (MeansOpenIn wl) state s
   other_state None h = absurd h
   other_state (Some s) h = (s, refl, h)
 
   state' : (s : CallState ℕ) × (get p.vfs.calls call ≡ Some s) × StateAlike (MeansIn wl) (MeansOpenIn wl) state s
-  state' = other_state (get p.vfs.calls call) (subst (λ (o : Option (CallState Opened)). OptionAlike (StateAlike (MeansIn wl) (MeansOpenIn wl)) o (get p.vfs.calls call)) is.state_is (learnt_alike.vfs.calls call))
+  state' = other_state (get p.vfs.calls call) (subst
+      (λ (o : Option (CallState Opened)). OptionAlike (StateAlike (MeansIn wl) (MeansOpenIn wl)) o
+      (get p.vfs.calls call)) is.state_is (learnt_alike.vfs.calls call))
 
   abbrev q : Plain
   q = ask_told p sent.unique w.kernel.queues.next is.ask reply state'.0
 
   told_alike : Alike (record w { kernel = advanced k1 call next }) q
   told_alike =
-      heard_alike wl p learnt_numbered (one_to_one nodes' w.server.nodes one) learnt_alike live sent.unique call is.request is.ask state state'.0 is.under is.serves is.there is.by_call state'.1 state'.2 reply reply_received is.stage fits
+      heard_alike wl p learnt_numbered
+      (one_to_one nodes' w.server.nodes one) learnt_alike live sent.unique call is.request is.ask state state'.0 is.under is.serves is.there is.by_call state'.1 state'.2 reply reply_received is.stage fits
 
-  used_after : (s : CallState Opened) → state ≡ s → Alike (record w { kernel = advanced k1 call (call_replied w.kernel.vfs call s (kernel_reply (asked s) sent.wire)) }) q
-      → Alike (record w { kernel = after_use (advanced k1 call (call_replied w.kernel.vfs call s (kernel_reply (asked s) sent.wire))) s }) q
+  used_after : (s : CallState Opened) → state ≡ s → Alike
+      (record w { kernel = advanced k1 call (call_replied w.kernel.vfs call s (kernel_reply (asked s) sent.wire)) }) q
+      → Alike (record w {
+        kernel = after_use (advanced k1 call
+            (call_replied w.kernel.vfs call s (kernel_reply (asked s) sent.wire))) s;
+      }) q
   used_after (walking d word words plan) e h = h
   used_after (doing operation) e h = h
   used_after (using handle operation) e h =
-      used_alike (record w { kernel = advanced k1 call (call_replied w.kernel.vfs call (using handle operation) (kernel_reply operation sent.wire)) }) q (IsSound-without w.kernel.queues sent.unique numbered.queues) live h (using handle operation)
+      used_alike (record w {
+        kernel = advanced k1 call
+            (call_replied w.kernel.vfs call (using handle operation) (kernel_reply operation sent.wire));
+      }) q
+      (IsSound-without w.kernel.queues sent.unique numbered.queues) live h (using handle operation)
 
-  replied_is : replied_to_call (record w.kernel { queues = without w.kernel.queues sent.unique }) call sent.wire (get w.kernel.vfs.calls call) ≡ (Accepted, after_use (advanced k1 call next) state)
+  replied_is : replied_to_call (record w.kernel { queues = without w.kernel.queues sent.unique }) call sent.wire
+      (get w.kernel.vfs.calls call) ≡ (Accepted, after_use (advanced k1 call next) state)
   replied_is =
-      ap (λ (o : Option (CallState Opened)). replied_to_call (record w.kernel { queues = without w.kernel.queues sent.unique }) call sent.wire o) is.state_is
-      ∙ ap (λ (b : Bool). replied (record w.kernel { queues = without w.kernel.queues sent.unique }) call state b sent.wire) is.goes
-      ∙ ap (λ (l : Kernel). (Accepted, after_use l state)) (heard_is (record w.kernel { queues = without w.kernel.queues sent.unique }) call state sent.wire is.used)
+      ap (λ (o : Option (CallState Opened)). replied_to_call
+      (record w.kernel { queues = without w.kernel.queues sent.unique }) call sent.wire o) is.state_is
+      ∙ ap (λ (b : Bool). replied (record w.kernel {
+        queues =
+            without w.kernel.queues sent.unique;
+      }) call state b sent.wire) is.goes
+      ∙ ap (λ (l : Kernel). (Accepted, after_use l state))
+      (heard_is (record w.kernel { queues = without w.kernel.queues sent.unique }) call state sent.wire is.used)
 
-  pub accepts : (replied_to_call (record w.kernel { queues = without w.kernel.queues sent.unique }) call sent.wire (get w.kernel.vfs.calls call)).0 ≡ Accepted
+  pub accepts : (replied_to_call (record w.kernel { queues = without w.kernel.queues sent.unique }) call sent.wire
+      (get w.kernel.vfs.calls call)).0 ≡ Accepted
   accepts = ap (λ (took : WriteResult × Kernel). took.0) replied_is
 
   abbrev results' : List ReplyResult
@@ -100,15 +129,22 @@ module _ (w : World) (p : Plain) (numbered : IsNumbered w) (one : OneId w.server
 
   -- The reply is accepted: the plain world's call hears what its ask came to, and the two are alike again.
   pub accept_goes : (q' : Plain) × Takes p (event.write k) (event.written sent.unique Accepted) q'
-      × Alike (after_write w k sent (replied_to_call (record w.kernel { queues = without w.kernel.queues sent.unique }) call sent.wire (get w.kernel.vfs.calls call))) q'
+      × Alike (after_write w k sent (replied_to_call (record w.kernel {
+        queues =
+            without w.kernel.queues sent.unique;
+      }) call sent.wire (get w.kernel.vfs.calls call))) q'
   accept_goes =
       let free = next_unasked w p numbered.queues same live in (
         q,
         (
           w.kernel.queues.next,
-          ap (λ (o : Option Ask). delivering p sent.unique w.kernel.queues.next o) is.there ∙ ap (λ (s : Stage). delivering_reply p sent.unique w.kernel.queues.next is.ask s) is.stage
-              ∙ ap (λ (o : Option (CallState ℕ)). telling_call p sent.unique w.kernel.queues.next is.ask reply o) (ap (λ (n : ℕ). get p.vfs.calls n) is.by_call ∙ state'.1) ∙ ap (λ (o : Option Ask). where_so (not (is_some o)) q) free,
+          ap (λ (o : Option Ask). delivering p sent.unique w.kernel.queues.next o) is.there ∙ ap
+              (λ (s : Stage). delivering_reply p sent.unique w.kernel.queues.next is.ask s) is.stage
+              ∙ ap (λ (o : Option (CallState ℕ)). telling_call p sent.unique w.kernel.queues.next is.ask reply o)
+              (ap (λ (n : ℕ). get p.vfs.calls n) is.by_call ∙ state'.1) ∙ ap
+              (λ (o : Option Ask). where_so (not (is_some o)) q) free,
         ),
         subst (λ (took : WriteResult × Kernel). Alike (after_write w k sent took) q) (sym replied_is)
-            (unsent_alike (record w { kernel = after_use (advanced k1 call next) state }) q (used_after state refl told_alike) k results'),
+            (unsent_alike (record w { kernel = after_use (advanced k1 call next) state }) q
+            (used_after state refl told_alike) k results'),
       )

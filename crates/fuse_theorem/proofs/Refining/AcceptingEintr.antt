@@ -1,4 +1,5 @@
--- The kernel accepts EINTR for a request that was marked: its call is answered EINTR, and the plain world's ask ends so.
+-- The kernel accepts EINTR for a request that was marked: its call is answered EINTR, and the plain world's ask ends
+-- so.
 use Rattle.std.proofs.lemmas.List.Elements.{All-nil}
 use Rattle.fuse_spec.specs.declared.Entry.{Entry}
 use Rattle.fuse_theorem.proofs.Refining.JudgedReplies.{heard_is}
@@ -30,7 +31,9 @@ use Rattle.fuse_theorem.proofs.Refining.Writing.{unsent_alike, used_alike, decli
 goes_failed : (operation : Operation ℕ Opened) (errno : ℕ) → goes_with operation (failed errno) ≡ true
 goes_failed operation errno = refl
 
-module _ (w : World) (p : Plain) (numbered : IsNumbered w) (one : OneId w.server.nodes) (same : Alike w p) (live : is_live w.kernel.phase ≡ true) (k : ℕ) (sent : Sent) (call : ℕ) (state : CallState Opened) (is : IsDeclined w p sent call state) where
+module _ (w : World) (p : Plain) (numbered : IsNumbered w) (one : OneId w.server.nodes) (same : Alike w p)
+    (live : is_live w.kernel.phase ≡ true) (k : ℕ) (sent : Sent) (call : ℕ) (state : CallState Opened)
+    (is : IsDeclined w p sent call state) where
   abbrev k1 : Kernel
   k1 = record w.kernel { queues = without w.kernel.queues sent.unique }
 
@@ -40,12 +43,15 @@ module _ (w : World) (p : Plain) (numbered : IsNumbered w) (one : OneId w.server
   abbrev q : Plain
   q = ask_interrupted p sent.unique is.ask
 
-  other_state : (o : Option (CallState ℕ)) → OptionAlike (StateAlike (MeansIn w) (MeansOpenIn w)) (Some state) o → (s : CallState ℕ) × (o ≡ Some s) × StateAlike (MeansIn w) (MeansOpenIn w) state s
+  other_state : (o : Option (CallState ℕ)) → OptionAlike (StateAlike (MeansIn w) (MeansOpenIn w)) (Some state) o
+      → (s : CallState ℕ) × (o ≡ Some s) × StateAlike (MeansIn w) (MeansOpenIn w) state s
   other_state None h = absurd h
   other_state (Some s) h = (s, refl, h)
 
   other : (s : CallState ℕ) × (get p.vfs.calls call ≡ Some s) × StateAlike (MeansIn w) (MeansOpenIn w) state s
-  other = other_state (get p.vfs.calls call) (subst (λ (o : Option (CallState Opened)). OptionAlike (StateAlike (MeansIn w) (MeansOpenIn w)) o (get p.vfs.calls call)) is.state_is (same.vfs.calls call))
+  other = other_state (get p.vfs.calls call) (subst
+      (λ (o : Option (CallState Opened)). OptionAlike (StateAlike (MeansIn w) (MeansOpenIn w)) o
+      (get p.vfs.calls call)) is.state_is (same.vfs.calls call))
 
   -- its call is unanswered in the plain world too
   unanswered : is_some (get p.vfs.calls is.ask.call) ≡ true
@@ -53,11 +59,18 @@ module _ (w : World) (p : Plain) (numbered : IsNumbered w) (one : OneId w.server
 
   told : Alike (record w { kernel = k2 }) q
   told =
-      declined_alike w p numbered (one_to_one w.kernel.nodes w.server.nodes one) same live sent.unique call is.request is.ask state other.0 is.under is.serves is.there is.by_call other.1 other.2 is.stage
+      declined_alike w p numbered
+      (one_to_one w.kernel.nodes w.server.nodes one) same live sent.unique call is.request is.ask state other.0 is.under is.serves is.there is.by_call other.1 other.2 is.stage
 
   -- what the kernel makes of it
   took_is : (s : CallState Opened) → replied k1 call s true (failed 4) ≡ (Accepted, after_use k2 s)
-  took_is s = ap (λ (l : Kernel). (Accepted, l)) (ap (λ (l : Kernel). after_use l s) (heard_is k1 call s (failed 4) (record { judged = refl; none_stale = refl; is_usable = refl; known = All-nil (λ (g : Entry). generation_known k1.nodes g.nodeid ≡ Some g.generation) })) ∙ by s)
+  took_is s = ap (λ (l : Kernel). (Accepted, l)) (ap (λ (l : Kernel). after_use l s)
+      (heard_is k1 call s (failed 4) (record {
+        judged = refl;
+        none_stale = refl;
+        is_usable = refl;
+        known = All-nil (λ (g : Entry). generation_known k1.nodes g.nodeid ≡ Some g.generation);
+      })) ∙ by s)
     where
       by : (x : CallState Opened) → after_use (judged k1 call x (failed 4) usable) x ≡ after_use k2 x
       by (walking d word words plan) = refl
@@ -66,7 +79,8 @@ module _ (w : World) (p : Plain) (numbered : IsNumbered w) (one : OneId w.server
 
   replied_is : replied_to_call k1 call sent.wire (get w.kernel.vfs.calls call) ≡ (Accepted, after_use k2 state)
   replied_is =
-      ap (λ (o : Option (CallState Opened)). replied_to_call k1 call sent.wire o) is.state_is ∙ ap (λ (x : WireReply). replied k1 call state (goes_with (asked state) x) x) is.wire_is
+      ap (λ (o : Option (CallState Opened)). replied_to_call k1 call sent.wire o) is.state_is ∙ ap
+      (λ (x : WireReply). replied k1 call state (goes_with (asked state) x) x) is.wire_is
       ∙ ap (λ (b : Bool). replied k1 call state b (failed 4)) (goes_failed (asked state) 4) ∙ took_is state
 
   pub accepts : (replied_to_call k1 call sent.wire (get w.kernel.vfs.calls call)).0 ≡ Accepted
@@ -75,10 +89,19 @@ module _ (w : World) (p : Plain) (numbered : IsNumbered w) (one : OneId w.server
   abbrev results : List ReplyResult
   results = w.results ++ record { number = sent.number; unique = sent.unique; result = Accepted } ∷ []
 
-  pub eintr_goes : (q' : Plain) × Takes p (event.write k) (event.written sent.unique Accepted) q' × Alike (after_write w k sent (replied_to_call k1 call sent.wire (get w.kernel.vfs.calls call))) q'
+  pub eintr_goes : (q' : Plain) × Takes p (event.write k) (event.written sent.unique Accepted) q'
+      × Alike (after_write w k sent (replied_to_call k1 call sent.wire (get w.kernel.vfs.calls call))) q'
   eintr_goes = (
     q,
-    (0, ap (λ (o : Option Ask). delivering p sent.unique 0 o) is.there ∙ ap (λ (s : Stage). delivering_reply p sent.unique 0 is.ask s) is.stage ∙ ap (λ (b : Bool). where_so (b && is_some (get p.vfs.calls is.ask.call)) q) is.noted ∙ ap (λ (b : Bool). where_so b q) unanswered),
+    (
+      0,
+      ap (λ (o : Option Ask). delivering p sent.unique 0 o) is.there ∙ ap
+          (λ (s : Stage). delivering_reply p sent.unique 0 is.ask s) is.stage ∙ ap
+          (λ (b : Bool). where_so (b && is_some (get p.vfs.calls is.ask.call)) q) is.noted ∙ ap
+          (λ (b : Bool). where_so b q) unanswered,
+    ),
     subst (λ (took : WriteResult × Kernel). Alike (after_write w k sent took) q) (sym replied_is)
-        (unsent_alike (record w { kernel = after_use k2 state }) q (used_alike (record w { kernel = k2 }) q (IsSound-without w.kernel.queues sent.unique numbered.queues) live told state) k results),
+        (unsent_alike (record w { kernel = after_use k2 state }) q
+        (used_alike (record w { kernel = k2 }) q
+        (IsSound-without w.kernel.queues sent.unique numbered.queues) live told state) k results),
   )

@@ -25,11 +25,14 @@ abbrev keys : {X : Type 0} → Map X → List ℕ
 keys m = map (λ e. e.0) m
 
 -- a number passes the test, or none that stands in the list does
-search : (test : ℕ → Bool) (ks : List ℕ) → ((k : ℕ) × (test k ≡ true)) ⊎ ((k : ℕ) → list_any (nat_eq k) ks ≡ true → test k ≡ false)
+search : (test : ℕ → Bool) (ks : List ℕ) → ((k : ℕ) × (test k ≡ true))
+    ⊎ ((k : ℕ) → list_any (nat_eq k) ks ≡ true → test k ≡ false)
 search test [] = inr (λ k h. absurd (true≢false (sym h)))
 search test (x ∷ ks) = by (test x) refl (search test ks)
   where
-    by : (b : Bool) → test x ≡ b → ((k : ℕ) × (test k ≡ true)) ⊎ ((k : ℕ) → list_any (nat_eq k) ks ≡ true → test k ≡ false) → ((k : ℕ) × (test k ≡ true)) ⊎ ((k : ℕ) → list_any (nat_eq k) (x ∷ ks) ≡ true → test k ≡ false)
+    by : (b : Bool) → test x ≡ b → ((k : ℕ) × (test k ≡ true))
+        ⊎ ((k : ℕ) → list_any (nat_eq k) ks ≡ true → test k ≡ false)
+        → ((k : ℕ) × (test k ≡ true)) ⊎ ((k : ℕ) → list_any (nat_eq k) (x ∷ ks) ≡ true → test k ≡ false)
     by true e rest = inl (x, e)
     by false e (inl some) = inl some
     by false e (inr none) = inr (λ k h. one k (nat_eq k x) refl h)
@@ -47,7 +50,8 @@ no_more : (k : ℕ) (ks : List ℕ) → list_any (nat_eq k) ks ≡ true → k �
 no_more k [] h = absurd (true≢false (sym h))
 no_more k (x ∷ ks) h = by (nat_eq k x) refl h (no_more k ks)
   where
-    by : (c : Bool) → nat_eq k x ≡ c → (c || list_any (nat_eq k) ks) ≡ true → (list_any (nat_eq k) ks ≡ true → k ≤ total ks) → k ≤ x + total ks
+    by : (c : Bool) → nat_eq k x ≡ c → (c || list_any (nat_eq k) ks) ≡ true
+        → (list_any (nat_eq k) ks ≡ true → k ≤ total ks) → k ≤ x + total ks
     by true same h rest = grind (arith, nat_tests, same)
     by false other h rest = let low = rest h in omega (arith, low)
 
@@ -56,7 +60,8 @@ has_key : {X : Type 0} (m : Map X) (k : ℕ) (x : X) → get m k ≡ Some x → 
 has_key [] k x at = absurd (cc)
 has_key (e ∷ m) k x at = by (nat_eq k e.0) refl (λ f. has_key m k x f)
   where
-    by : (c : Bool) → nat_eq k e.0 ≡ c → (get m k ≡ Some x → list_any (nat_eq k) (keys m) ≡ true) → (c || list_any (nat_eq k) (keys m)) ≡ true
+    by : (c : Bool) → nat_eq k e.0 ≡ c → (get m k ≡ Some x → list_any (nat_eq k) (keys m) ≡ true)
+        → (c || list_any (nat_eq k) (keys m)) ≡ true
     by true same rest = refl
     by false other rest =
         let apart : k ≢ e.0 = λ same. grind (arith, nat_tests, other, same) in
@@ -76,21 +81,32 @@ fresh t = 2 + total (keys t.rows)
 may_name : (t : NodeTable) (file : ℕ) → (id : ℕ) × MayName t file id × (get t.rows id ≡ None → id ≡ fresh t + file)
 may_name t file = by (search (λ id. has_file file (get t.rows id)) (keys t.rows))
   where
-    named : (id : ℕ) (o : Option HeldNode) → has_file file o ≡ true → MatchOption o ((2 ≤ id) × IsUnheld t file) (λ row. row.file ≡ file)
+    named : (id : ℕ) (o : Option HeldNode) → has_file file o ≡ true
+        → MatchOption o ((2 ≤ id) × IsUnheld t file) (λ row. row.file ≡ file)
     named id None h = absurd (true≢false (sym h))
     named id (Some row) h = grind (arith, nat_tests, h)
 
-    unheld : ((k : ℕ) → list_any (nat_eq k) (keys t.rows) ≡ true → has_file file (get t.rows k) ≡ false) → IsUnheld t file
+    unheld : ((k : ℕ) → list_any (nat_eq k) (keys t.rows) ≡ true → has_file file (get t.rows k) ≡ false)
+        → IsUnheld t file
     unheld none id row at is =
-        let off : has_file file (Some row) ≡ false = subst (λ (o : Option HeldNode). has_file file o ≡ false) at (none id (has_key t.rows id row at)) in
+        let off : has_file file (Some row) ≡ false = subst (λ (o : Option HeldNode). has_file file o ≡ false) at
+        (none id (has_key t.rows id row at)) in
         grind (arith, nat_tests, off, is)
 
-    free : IsUnheld t file → (o : Option HeldNode) → get t.rows (fresh t + file) ≡ o → MatchOption o ((2 ≤ fresh t + file) × IsUnheld t file) (λ row. row.file ≡ file)
+    free : IsUnheld t file → (o : Option HeldNode) → get t.rows (fresh t + file) ≡ o
+        → MatchOption o ((2 ≤ fresh t + file) × IsUnheld t file) (λ row. row.file ≡ file)
     free none None is = (omega (arith), none)
-    free none (Some row) is = let low = no_more (fresh t + file) (keys t.rows) (has_key t.rows (fresh t + file) row is) in absurd (omega (arith, low))
+    free none (Some row) is = let low = no_more (fresh t + file) (keys t.rows)
+        (has_key t.rows (fresh t + file) row is) in absurd (omega (arith, low))
 
-    by : ((k : ℕ) × (has_file file (get t.rows k) ≡ true)) ⊎ ((k : ℕ) → list_any (nat_eq k) (keys t.rows) ≡ true → has_file file (get t.rows k) ≡ false) → (id : ℕ) × MayName t file id × (get t.rows id ≡ None → id ≡ fresh t + file)
-    by (inl some) = (some.0, named some.0 (get t.rows some.0) some.1, λ none. absurd (true≢false (sym some.1 ∙ ap (has_file file) none)))
+    by : ((k : ℕ) × (has_file file (get t.rows k) ≡ true))
+        ⊎ ((k : ℕ) → list_any (nat_eq k) (keys t.rows) ≡ true → has_file file (get t.rows k) ≡ false)
+        → (id : ℕ) × MayName t file id × (get t.rows id ≡ None → id ≡ fresh t + file)
+    by (inl some) = (
+      some.0,
+      named some.0 (get t.rows some.0) some.1,
+      λ none. absurd (true≢false (sym some.1 ∙ ap (has_file file) none)),
+    )
     by (inr none) = (fresh t + file, free (unheld none) (get t.rows (fresh t + file)) refl, λ e. refl)
 
 -- ---- what a request gives nodes to
@@ -103,17 +119,23 @@ for_none t = (λ x. 0, tt)
 
 -- One id for each file, and no id for two.
 module _ (choice : ℕ → ℕ) (apart : (x y : ℕ) → choice x ≡ choice y → x ≡ y) where
-  still_may : (t : NodeTable) (f : ℕ) → ((x : ℕ) → MayName t x (choice x)) → (x : ℕ) → MayName (given t f (choice f)) x (choice x)
+  still_may : (t : NodeTable) (f : ℕ) → ((x : ℕ) → MayName t x (choice x)) → (x : ℕ)
+      → MayName (given t f (choice f)) x (choice x)
   still_may t f may x = elim (cases_eq x f) [
-    | inl same ↦ subst (λ (n : ℕ). MayName (given t f (choice f)) n (choice n)) (sym same) (rw (get_put_here t.rows (choice f) (given_row t f (get t.rows (choice f)))) (is_its (get t.rows (choice f)) (may f)))
-    | inr other ↦ rw (get_put_there t.rows (choice f) (given_row t f (get t.rows (choice f))) (choice x) (λ e. other (apart x f e))) (kept other (get t.rows (choice x)) (may x))
+    | inl same ↦ subst (λ (n : ℕ). MayName (given t f (choice f)) n (choice n)) (sym same)
+        (rw (get_put_here t.rows (choice f) (given_row t f (get t.rows (choice f))))
+        (is_its (get t.rows (choice f)) (may f)))
+    | inr other ↦ rw (get_put_there t.rows (choice f) (given_row t f (get t.rows (choice f))) (choice x)
+        (λ e. other (apart x f e))) (kept other (get t.rows (choice x)) (may x))
   ]
     where
-      is_its : (o : Option HeldNode) → MatchOption o ((2 ≤ choice f) × IsUnheld t f) (λ row. row.file ≡ f) → (given_row t f o).file ≡ f
+      is_its : (o : Option HeldNode) → MatchOption o ((2 ≤ choice f) × IsUnheld t f) (λ row. row.file ≡ f)
+          → (given_row t f o).file ≡ f
       is_its None m = refl
       is_its (Some row) m = m
 
-      kept : x ≢ f → (o : Option HeldNode) → MatchOption o ((2 ≤ choice x) × IsUnheld t x) (λ row. row.file ≡ x) → MatchOption o ((2 ≤ choice x) × IsUnheld (given t f (choice f)) x) (λ row. row.file ≡ x)
+      kept : x ≢ f → (o : Option HeldNode) → MatchOption o ((2 ≤ choice x) × IsUnheld t x) (λ row. row.file ≡ x)
+          → MatchOption o ((2 ≤ choice x) × IsUnheld (given t f (choice f)) x) (λ row. row.file ≡ x)
       kept other (Some row) m = m
       kept other None m = (
         m.0,
@@ -134,14 +156,17 @@ for_all files t = (choice, all_may choice apart files t (λ x. (may_name t x).1)
     choice x = (may_name t x).0
 
     -- what stands under two files' ids
-    apart_by : (x y i : ℕ) (o : Option HeldNode) → get t.rows i ≡ o → MatchOption o ((2 ≤ i) × IsUnheld t x) (λ row. row.file ≡ x) → MatchOption o ((2 ≤ i) × IsUnheld t y) (λ row. row.file ≡ y)
+    apart_by : (x y i : ℕ) (o : Option HeldNode) → get t.rows i ≡ o
+        → MatchOption o ((2 ≤ i) × IsUnheld t x) (λ row. row.file ≡ x)
+        → MatchOption o ((2 ≤ i) × IsUnheld t y) (λ row. row.file ≡ y)
         → (get t.rows i ≡ None → i ≡ fresh t + x) → (get t.rows i ≡ None → i ≡ fresh t + y) → x ≡ y
     apart_by x y i None at m n f g = let a = f at in let b = g at in omega (arith, a, b)
     apart_by x y i (Some row) at m n f g = sym m ∙ n
 
     apart : (x y : ℕ) → choice x ≡ choice y → x ≡ y
     apart x y e =
-        let of_y = subst (λ (i : ℕ). MayName t y i × (get t.rows i ≡ None → i ≡ fresh t + y)) (sym e) ((may_name t y).1, (may_name t y).2) in
+        let of_y = subst (λ (i : ℕ). MayName t y i × (get t.rows i ≡ None → i ≡ fresh t + y)) (sym e)
+        ((may_name t y).1, (may_name t y).2) in
         apart_by x y (choice x) (get t.rows (choice x)) refl (may_name t x).1 of_y.0 (may_name t x).2 of_y.1
 
 for_one : (t : NodeTable) (file : ℕ) → CanChoose t (file ∷ [])
@@ -177,7 +202,8 @@ for_body s (interrupt original) = for_none s.nodes
 
 for_held : (w : World) (o : Option HeldRequest) → (choice : ℕ → ℕ) × MayChooseFor choice w o
 for_held w None = (λ x. 0, tt)
-for_held w (Some t) = either w.server.nodes _ [] (files_by w.server t.body) (for_none w.server.nodes) (for_body w.server t.body)
+for_held w (Some t) = either w.server.nodes _ [] (files_by w.server t.body) (for_none w.server.nodes)
+    (for_body w.server t.body)
 
 -- Whatever the event, the server has ids to choose.
 pub some_choice : (w : World) (e : Event) → (choice : ℕ → ℕ) × MayStep choice w e
@@ -206,7 +232,8 @@ one_refusal w e r s first second =
     cc
 
 -- It is not accepted.
-pub not_both : (w : World) (e : Event) (r : Refusal) → IsRefused w e r → (o : Outcome) (after : World) → Happens w e o after → ⊥
+pub not_both : (w : World) (e : Event) (r : Refusal) → IsRefused w e r → (o : Outcome) (after : World)
+    → Happens w e o after → ⊥
 not_both w e r refused o after happens =
     let one = refused happens.0 happens.1 in
     let other = happens.2 in

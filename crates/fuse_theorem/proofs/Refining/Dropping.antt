@@ -13,7 +13,8 @@ use Rattle.fuse_theorem.specs.Numbering.{IsOneToOne}
 use Rattle.fuse_theorem.proofs.Calls.RepliesReceived.{unbound_alike}
 
 module _ (w : World) (p : Plain) (one : IsOneToOne (MeansIn w)) (same : Alike w p) where
-  dropped_alike : (directory file : ℕ) (name : Name) → MeansIn w directory file → Alike (after_drop w directory name) (name_dropped p file name)
+  dropped_alike : (directory file : ℕ) (name : Name) → MeansIn w directory file
+      → Alike (after_drop w directory name) (name_dropped p file name)
   dropped_alike directory file name means = record {
     tree = same.tree;
     vfs = unbound_alike (MeansIn w) (MeansOpenIn w) one w.kernel.vfs p.vfs same.vfs directory file name name means refl;
@@ -23,7 +24,14 @@ module _ (w : World) (p : Plain) (one : IsOneToOne (MeansIn w)) (same : Alike w 
         record {
           of_calls = λ q state is.
               let pair = old.of_calls q state is in
-              record { unique = pair.unique; ask = pair.ask; request = pair.request; there = pair.there; by = pair.by; same = pair.same };
+              record {
+                unique = pair.unique;
+                ask = pair.ask;
+                request = pair.request;
+                there = pair.there;
+                by = pair.by;
+                same = pair.same;
+              };
           no_other = old.no_other;
           signalled = old.signalled;
           kept = old.kept;
@@ -36,7 +44,8 @@ module _ (w : World) (p : Plain) (one : IsOneToOne (MeansIn w)) (same : Alike w 
   }
 
   -- The name of the file that the node means is dropped.
-  pub drop_goes : (directory : ℕ) (name : Name) (bound : Binding) → get_name w.kernel.vfs.names (directory, name) ≡ Some bound
+  pub drop_goes : (directory : ℕ) (name : Name) (bound : Binding)
+      → get_name w.kernel.vfs.names (directory, name) ≡ Some bound
       → (q : Plain) × Takes p (event.drop_name directory name) event.dropped q × Alike (after_drop w directory name) q
   drop_goes directory name bound at =
       let meant = same.vfs.names_meant directory name (λ none. absurd (cc (at, none))) in

@@ -36,10 +36,12 @@ not_among node [] id none at = absurd (let lt = at.1 in omega (arith, lt))
 not_among node (y ∷ xs) id none (zero, lt, is) = λ e.
     let here : nat_eq node y ≡ true = subst (λ (n : ℕ). nat_eq node n ≡ true) (sym (is ∙ e)) (same_is node) in
     true≢false (sym here ∙ (or_false (nat_eq node y) (list_any (nat_eq node) xs) none).0)
-not_among node (y ∷ xs) id none (suc k, lt, is) = not_among node xs id (or_false (nat_eq node y) (list_any (nat_eq node) xs) none).1 (k, omega (arith, lt), is)
+not_among node (y ∷ xs) id none (suc k, lt, is) =
+    not_among node xs id (or_false (nat_eq node y) (list_any (nat_eq node) xs) none).1 (k, omega (arith, lt), is)
 
 -- what is found fails a test that nothing passes
-pub found_fails : {X : Type 0} (test : X → Bool) (m : Map X) (k : ℕ) (x : X) → list_any test (values m) ≡ false → get m k ≡ Some x → test x ≡ false
+pub found_fails : {X : Type 0} (test : X → Bool) (m : Map X) (k : ℕ) (x : X) → list_any test (values m) ≡ false
+    → get m k ≡ Some x → test x ≡ false
 found_fails test m k x none at = by (test x) refl
   where
     by : (b : Bool) → test x ≡ b → test x ≡ false
@@ -50,20 +52,27 @@ found_fails test m k x none at = by (test x) refl
 abbrev Uses : ℕ → (ℕ × List ℕ) × Binding → Bool
 Uses node e = nat_eq e.0.0 node || leads_to node e.1.target
 
-pub unbound : (node : ℕ) (names : NameMap Binding) (id : ℕ) (name : List ℕ) (bound : Binding) → list_any (Uses node) names ≡ false → get_name names (id, name) ≡ Some bound → (id ≢ node) × (leads_to node bound.target ≡ false)
+pub unbound : (node : ℕ) (names : NameMap Binding) (id : ℕ) (name : List ℕ) (bound : Binding)
+    → list_any (Uses node) names ≡ false → get_name names (id, name) ≡ Some bound
+    → (id ≢ node) × (leads_to node bound.target ≡ false)
 unbound node [] id name bound none at = absurd (cc)
-unbound node (e ∷ names) id name bound none at = by (is_eq (place_cmp (id, name) e.0)) refl at (λ f. unbound node names id name bound (or_false (Uses node e) (list_any (Uses node) names) none).1 f)
+unbound node (e ∷ names) id name bound none at =
+    by (is_eq (place_cmp (id, name) e.0)) refl at (λ f. unbound node names id name bound
+    (or_false (Uses node e) (list_any (Uses node) names) none).1 f)
   where
     here : (nat_eq e.0.0 node ≡ false) × (leads_to node e.1.target ≡ false)
-    here = or_false (nat_eq e.0.0 node) (leads_to node e.1.target) (or_false (Uses node e) (list_any (Uses node) names) none).0
+    here = or_false (nat_eq e.0.0 node) (leads_to node e.1.target)
+        (or_false (Uses node e) (list_any (Uses node) names) none).0
 
-    by : (b : Bool) → is_eq (place_cmp (id, name) e.0) ≡ b → cond b (Some e.1) (get_name names (id, name)) ≡ Some bound → (get_name names (id, name) ≡ Some bound → (id ≢ node) × (leads_to node bound.target ≡ false))
+    by : (b : Bool) → is_eq (place_cmp (id, name) e.0) ≡ b → cond b (Some e.1) (get_name names (id, name)) ≡ Some bound
+        → (get_name names (id, name) ≡ Some bound → (id ≢ node) × (leads_to node bound.target ≡ false))
         → (id ≢ node) × (leads_to node bound.target ≡ false)
     by true tie f rest =
         let same : e.1 ≡ bound = cc in (
           λ q.
               elim (cases_eq id e.0.0) [
-                | inl is ↦ true≢false (sym (subst (λ (n : ℕ). nat_eq n node ≡ true) is (subst (λ (n : ℕ). nat_eq n node ≡ true) (sym q) (same_is node))) ∙ here.0)
+                | inl is ↦ true≢false (sym (subst (λ (n : ℕ). nat_eq n node ≡ true) is
+                    (subst (λ (n : ℕ). nat_eq n node ≡ true) (sym q) (same_is node))) ∙ here.0)
                 | inr ne ↦ true≢false (sym tie ∙ place_tie_no id e.0.0 name e.0.1 ne)
               ],
           subst (λ (b : Binding). leads_to node b.target ≡ false) same here.1,
@@ -80,23 +89,36 @@ not_target node (Some x) target none is = λ e.
 -- ---- what is known
 
 module _ (nodes : Map Counted) (node : ℕ) where
-  known_back : (id generation : ℕ) → generation_known (remove nodes node) id ≡ Some generation → generation_known nodes id ≡ Some generation
-  known_back id generation e = by (nat_eq id 1) (nat_eq id node) (get nodes id) (ap (λ (o : Option Counted). cond (nat_eq id 1) (Some 0) (option_map (λ (c : Counted). c.generation) o)) (sym (get_gone nodes node id)) ∙ e)
+  known_back : (id generation : ℕ) → generation_known (remove nodes node) id ≡ Some generation
+      → generation_known nodes id ≡ Some generation
+  known_back id generation e = by (nat_eq id 1) (nat_eq id node) (get nodes id)
+      (ap (λ (o : Option Counted). cond (nat_eq id 1) (Some 0) (option_map (λ (c : Counted). c.generation) o))
+      (sym (get_gone nodes node id)) ∙ e)
     where
-      by : (a b : Bool) (o : Option Counted) → cond a (Some 0) (option_map (λ (c : Counted). c.generation) (cond (not b) o None)) ≡ Some generation → cond a (Some 0) (option_map (λ (c : Counted). c.generation) o) ≡ Some generation
+      by : (a b : Bool) (o : Option Counted) → cond a (Some 0)
+          (option_map (λ (c : Counted). c.generation) (cond (not b) o None)) ≡ Some generation
+          → cond a (Some 0) (option_map (λ (c : Counted). c.generation) o) ≡ Some generation
       by true b o f = f
       by false true o f = absurd (cc)
       by false false o f = f
 
-  pub known_still : (id generation : ℕ) → id ≢ node → generation_known nodes id ≡ Some generation → generation_known (remove nodes node) id ≡ Some generation
-  known_still id generation ne e = ap (λ (o : Option Counted). cond (nat_eq id 1) (Some 0) (option_map (λ (c : Counted). c.generation) o)) (get_gone_there nodes node id ne) ∙ e
+  pub known_still : (id generation : ℕ) → id ≢ node → generation_known nodes id ≡ Some generation
+      → generation_known (remove nodes node) id ≡ Some generation
+  known_still id generation ne e = ap (λ (o : Option Counted). cond (nat_eq id 1) (Some 0)
+      (option_map (λ (c : Counted). c.generation) o)) (get_gone_there nodes node id ne) ∙ e
 
-module _ (w : World) (p : Plain) (same : Alike w p) (node : ℕ) (root : w.kernel.vfs.root ≡ 1) (unpinned : is_pinned w.kernel node ≡ false) (free : is_bound w.kernel node ≡ false) (unsent : IsUnsent w node) where
+module _ (w : World) (p : Plain) (same : Alike w p) (node : ℕ) (root : w.kernel.vfs.root ≡ 1)
+    (unpinned : is_pinned w.kernel node ≡ false) (free : is_bound w.kernel node ≡ false)
+    (unsent : IsUnsent w node) where
   abbrev left : Map Counted
   left = remove w.kernel.nodes node
 
   still : (id file : ℕ) → id ≢ node → MeansIn w id file → Means left w.server.nodes id file
-  still id file ne m = record { generation = m.generation; known = known_still w.kernel.nodes node id m.generation ne m.known; denotes = m.denotes }
+  still id file ne m = record {
+    generation = m.generation;
+    known = known_still w.kernel.nodes node id m.generation ne m.known;
+    denotes = m.denotes;
+  }
 
   abbrev OfCalls : CallState Opened → Bool
   OfCalls state = list_any (nat_eq node) (nodes_of_state state)
@@ -104,37 +126,63 @@ module _ (w : World) (p : Plain) (same : Alike w p) (node : ℕ) (root : w.kerne
   abbrev OfOpens : Opened → Bool
   OfOpens o = nat_eq o.nodeid node
 
-  pins : (list_any OfCalls (values w.kernel.vfs.calls) ≡ false) × ((list_any OfOpens (values w.kernel.vfs.opens) ≡ false) × (list_any (λ (e : ℕ × QueuedRequest Purpose). is_released_by node e.1.kept) w.kernel.queues.requests ≡ false))
+  pins : (list_any OfCalls (values w.kernel.vfs.calls) ≡ false)
+      × ((list_any OfOpens (values w.kernel.vfs.opens) ≡ false)
+      × (list_any (λ (e : ℕ × QueuedRequest Purpose). is_released_by node e.1.kept) w.kernel.queues.requests ≡ false))
   pins =
-      let first = or_false (list_any OfCalls (values w.kernel.vfs.calls)) (list_any OfOpens (values w.kernel.vfs.opens) || list_any (λ (e : ℕ × QueuedRequest Purpose). is_released_by node e.1.kept) w.kernel.queues.requests) unpinned in
-      (first.0, or_false (list_any OfOpens (values w.kernel.vfs.opens)) (list_any (λ (e : ℕ × QueuedRequest Purpose). is_released_by node e.1.kept) w.kernel.queues.requests) first.1)
+      let first = or_false (list_any OfCalls (values w.kernel.vfs.calls))
+      (list_any OfOpens (values w.kernel.vfs.opens) || list_any
+      (λ (e : ℕ × QueuedRequest Purpose). is_released_by node e.1.kept) w.kernel.queues.requests) unpinned in (
+        first.0,
+        or_false (list_any OfOpens (values w.kernel.vfs.opens))
+            (list_any (λ (e : ℕ × QueuedRequest Purpose). is_released_by node e.1.kept) w.kernel.queues.requests) first.1,
+      )
 
-  stays : (ids : List ℕ) (os : List Opened) → list_any (nat_eq node) ids ≡ false → Stay w p left w.server.nodes w.server.handles ids os
+  stays : (ids : List ℕ) (os : List Opened) → list_any (nat_eq node) ids ≡ false
+      → Stay w p left w.server.nodes w.server.handles ids os
   stays ids os none = record {
     nodes_stay = λ id file among m. still id file (not_among node ids id none among) m;
-    opens_stay = λ o file among opened m. record { node_means = still o.nodeid file (not_among node ids o.nodeid none among) m.node_means; is_number = m.is_number };
+    opens_stay = λ o file among opened m. record {
+      node_means =
+          still o.nodeid file (not_among node ids o.nodeid none among) m.node_means;
+      is_number = m.is_number;
+    };
   }
 
   narrows : Narrows w p left w.server.nodes w.server.handles
   narrows = record {
-    back = λ id file m. record { generation = m.generation; known = known_back w.kernel.nodes node id m.generation m.known; denotes = m.denotes };
+    back = λ id file m. record {
+      generation = m.generation;
+      known = known_back w.kernel.nodes node id m.generation m.known;
+      denotes = m.denotes;
+    };
     root = λ file m.
         let at_root : MeansIn w 1 file = subst (λ (n : ℕ). MeansIn w n file) root m in
-        subst (λ (n : ℕ). Means left w.server.nodes n file) (sym root) (record { generation = at_root.generation; known = at_root.known; denotes = at_root.denotes });
-    directories = λ id name there file m. still id file (in_use id name (get_name w.kernel.vfs.names (id, name)) refl there) m;
-    targets = λ id name bound at target file is m. still target file (not_target node bound.target target (unbound node w.kernel.vfs.names id name bound free at).1 is) m;
+        subst (λ (n : ℕ). Means left w.server.nodes n file) (sym root)
+        (record { generation = at_root.generation; known = at_root.known; denotes = at_root.denotes });
+    directories = λ id name there file m. still id file
+        (in_use id name (get_name w.kernel.vfs.names (id, name)) refl there) m;
+    targets = λ id name bound at target file is m. still target file
+        (not_target node bound.target target (unbound node w.kernel.vfs.names id name bound free at).1 is) m;
     opens = λ handle o at file m.
         let other = found_fails OfOpens w.kernel.vfs.opens handle o pins.1.0 at in
-        record { node_means = still o.nodeid file (λ e. true≢false (sym (subst (λ (n : ℕ). nat_eq n node ≡ true) (sym e) (same_is node)) ∙ other)) m.node_means; is_number = m.is_number };
-    calls = λ call state at. stays (nodes_of_state state) (opens_of (asked state)) (found_fails OfCalls w.kernel.vfs.calls call state pins.0 at);
-    sent = λ i r lt. let request = get_or w.requests i r in stays (nodes_of_body request.body) (opens_of_body request.body) (unsent i r lt);
+        record {
+          node_means = still o.nodeid file (λ e. true≢false
+              (sym (subst (λ (n : ℕ). nat_eq n node ≡ true) (sym e) (same_is node)) ∙ other)) m.node_means;
+          is_number = m.is_number;
+        };
+    calls = λ call state at. stays (nodes_of_state state) (opens_of (asked state))
+        (found_fails OfCalls w.kernel.vfs.calls call state pins.0 at);
+    sent = λ i r lt. let request = get_or w.requests i r in
+        stays (nodes_of_body request.body) (opens_of_body request.body) (unsent i r lt);
     held_nodes = λ u x at id file among m. m;
     held_opens = λ u x at o file among m. m;
     kept = λ live u k ask at there told. told;
     copies = λ live i s lt ask there told. told;
   }
     where
-      in_use : (id : ℕ) (name : List ℕ) (o : Option Binding) → get_name w.kernel.vfs.names (id, name) ≡ o → o ≢ None → id ≢ node
+      in_use : (id : ℕ) (name : List ℕ) (o : Option Binding) → get_name w.kernel.vfs.names (id, name) ≡ o → o ≢ None
+          → id ≢ node
       in_use id name None e ne = absurd (ne refl)
       in_use id name (Some bound) e ne = (unbound node w.kernel.vfs.names id name bound free e).0
 
@@ -143,4 +191,8 @@ module _ (w : World) (p : Plain) (same : Alike w p) (node : ℕ) (root : w.kerne
       let gone = record w { kernel = record w.kernel { nodes = left } } in
       let carried = narrowed_alike w p same left w.server.nodes w.server.handles w.server.tree p.tree narrows same.tree in
       queues_alike gone p carried (after_forget w.kernel.queues node counted.count) w.requests
-      (record { pending = carried.requests.pending; same_request = λ c. refl; signalled = λ live. (carried.asks live).signalled }) carried.requests.sent
+      (record {
+        pending = carried.requests.pending;
+        same_request = λ c. refl;
+        signalled = λ live. (carried.asks live).signalled;
+      }) carried.requests.sent

@@ -17,15 +17,22 @@ none_kept : (b : Bool) (o : Option Content) → o ≡ None → o ≡ cond b o No
 none_kept true o e = refl
 none_kept false o e = e
 
-first_files : (file : ℕ) → get first_world.server.tree.files file ≡ cond (not (is_nameless first_plain.tree file) || false) (get first_plain.tree.files file) None
+first_files : (file : ℕ) → get first_world.server.tree.files file
+    ≡ cond (not (is_nameless first_plain.tree file) || false) (get first_plain.tree.files file) None
 first_files file =
     elim (cases_eq file 0) [
-      | inl e ↦ subst (λ (f : ℕ). get first_world.server.tree.files f ≡ cond (not (is_nameless first_plain.tree f) || false) (get first_plain.tree.files f) None) (sym e) refl
-      | inr ne ↦ none_kept (not (is_nameless first_plain.tree file) || false) (get first_plain.tree.files file) (other_files file ne)
+      | inl e ↦ subst (λ (f : ℕ). get first_world.server.tree.files f
+          ≡ cond (not (is_nameless first_plain.tree f) || false) (get first_plain.tree.files f) None) (sym e) refl
+      | inr ne ↦ none_kept (not (is_nameless first_plain.tree file) || false) (get first_plain.tree.files file)
+          (other_files file ne)
     ]
 
 root_means : MeansIn first_world 1 0
-root_means = record { generation = 0; known = refl; denotes = record { row = root_row; there = refl; same_generation = refl; same_file = refl } }
+root_means = record {
+  generation = 0;
+  known = refl;
+  denotes = record { row = root_row; there = refl; same_generation = refl; same_file = refl };
+}
 
 pub first_alike : Alike first_world first_plain
 first_alike = record {
@@ -41,7 +48,11 @@ first_alike = record {
     clock = refl;
     roots = root_means;
   };
-  requests = record { pending = λ k d below. absurd (omega arith); sent = λ k d below. absurd (omega arith); held = λ unique t at. absurd (cc) };
+  requests = record {
+    pending = λ k d below. absurd (omega arith);
+    sent = λ k d below. absurd (omega arith);
+    held = λ unique t at. absurd (cc);
+  };
   asks = λ live. absurd (true≢false (sym live));
   validity = refl;
   minor = refl;

@@ -28,15 +28,23 @@ use Rattle.fuse_theorem.proofs.Trees.NamelessDiscarded.{found_any, swept_alike}
 -- ---- a table with fewer lookups
 
 -- the rows of a table, but for one that has fewer lookups or is gone
-pub less_denotes : (t : NodeTable) (id n : ℕ) (i generation file : ℕ) → Denotes (taken_back t id n) i generation file → Denotes t i generation file
+pub less_denotes : (t : NodeTable) (id n : ℕ) (i generation file : ℕ) → Denotes (taken_back t id n) i generation file
+    → Denotes t i generation file
 less_denotes t id n i generation file d = by (get t.rows id) refl d
   where
-    from_row : (rows : Map HeldNode) → ((row : HeldNode) → get rows i ≡ Some row → (old : HeldNode) × (get t.rows i ≡ Some old) × (row.generation ≡ old.generation) × (row.file ≡ old.file))
+    from_row : (rows : Map HeldNode) → ((row : HeldNode) → get rows i ≡ Some row
+        → (old : HeldNode) × (get t.rows i ≡ Some old) × (row.generation ≡ old.generation) × (row.file ≡ old.file))
         → Denotes (record t { rows = rows }) i generation file → Denotes t i generation file
     from_row rows f e = elim (cases_eq i 1) [
-      | inl one ↦ record { row = e.row; there = root e.row (is_one one) e.there; same_generation = e.same_generation; same_file = e.same_file }
+      | inl one ↦ record {
+        row = e.row;
+        there = root e.row (is_one one) e.there;
+        same_generation = e.same_generation;
+        same_file = e.same_file;
+      }
       | inr ne ↦
-          let at : get rows i ≡ Some e.row = ap (λ (b : Bool). cond b (Some root_row) (get rows i)) (sym (other_is i 1 ne)) ∙ e.there in
+          let at : get rows i ≡ Some e.row = ap (λ (b : Bool). cond b (Some root_row) (get rows i))
+          (sym (other_is i 1 ne)) ∙ e.there in
           let old = f e.row at in
           record {
             row = old.0;
@@ -49,15 +57,26 @@ less_denotes t id n i generation file d = by (get t.rows id) refl d
         is_one : i ≡ 1 → nat_eq i 1 ≡ true
         is_one q = subst (λ (m : ℕ). nat_eq m 1 ≡ true) (sym q) refl
 
-        root : (row : HeldNode) → nat_eq i 1 ≡ true → cond (nat_eq i 1) (Some root_row) (get rows i) ≡ Some row → cond (nat_eq i 1) (Some root_row) (get t.rows i) ≡ Some row
-        root row q h = ap (λ (b : Bool). cond b (Some root_row) (get t.rows i)) q ∙ (ap (λ (b : Bool). cond b (Some root_row) (get rows i)) (sym q) ∙ h)
+        root : (row : HeldNode) → nat_eq i 1 ≡ true → cond (nat_eq i 1) (Some root_row) (get rows i) ≡ Some row
+            → cond (nat_eq i 1) (Some root_row) (get t.rows i) ≡ Some row
+        root row q h = ap (λ (b : Bool). cond b (Some root_row) (get t.rows i)) q ∙
+            (ap (λ (b : Bool). cond b (Some root_row) (get rows i)) (sym q) ∙ h)
 
-    fewer : (row : HeldNode) (b : Bool) → get t.rows id ≡ Some row → (r : HeldNode) → get (cond b (put t.rows id (record row { count = row.count - n })) (remove t.rows id)) i ≡ Some r
+    fewer : (row : HeldNode) (b : Bool) → get t.rows id ≡ Some row → (r : HeldNode)
+        → get (cond b (put t.rows id (record row { count = row.count - n })) (remove t.rows id)) i ≡ Some r
         → (old : HeldNode) × (get t.rows i ≡ Some old) × (r.generation ≡ old.generation) × (r.file ≡ old.file)
     fewer row true at r h = elim (cases_eq i id) [
       | inl e ↦
-          let is_new : record row { count = row.count - n } ≡ r = cc (get_put_here t.rows id (record row { count = row.count - n }), subst (λ (m : ℕ). get (put t.rows id (record row { count = row.count - n })) m ≡ Some r) e h) in
-          (row, subst (λ (m : ℕ). get t.rows m ≡ Some row) (sym e) at, ap (λ (x : HeldNode). x.generation) (sym is_new), ap (λ (x : HeldNode). x.file) (sym is_new))
+          let is_new : record row { count = row.count - n } ≡ r =
+          cc (
+            get_put_here t.rows id (record row { count = row.count - n }),
+            subst (λ (m : ℕ). get (put t.rows id (record row { count = row.count - n })) m ≡ Some r) e h,
+          ) in (
+            row,
+            subst (λ (m : ℕ). get t.rows m ≡ Some row) (sym e) at,
+            ap (λ (x : HeldNode). x.generation) (sym is_new),
+            ap (λ (x : HeldNode). x.file) (sym is_new),
+          )
       | inr ne ↦ (r, sym (get_put_there t.rows id (record row { count = row.count - n }) i ne) ∙ h, refl, refl)
     ]
     fewer row false at r h = elim (cases_eq i id) [
@@ -65,19 +84,26 @@ less_denotes t id n i generation file d = by (get t.rows id) refl d
       | inr ne ↦ (r, sym (get_gone_there t.rows id i ne) ∙ h, refl, refl)
     ]
 
-    by : (o : Option HeldNode) → get t.rows id ≡ o → Denotes (record t { rows = rows_less t.rows id n o }) i generation file → Denotes t i generation file
+    by : (o : Option HeldNode) → get t.rows id ≡ o → Denotes
+        (record t { rows = rows_less t.rows id n o }) i generation file → Denotes t i generation file
     by None at e = e
-    by (Some row) at e = from_row (cond (nat_lt n row.count) (put t.rows id (record row { count = row.count - n })) (remove t.rows id)) (fewer row (nat_lt n row.count) at) e
+    by (Some row) at e = from_row (cond (nat_lt n row.count) (put t.rows id (record row { count = row.count - n }))
+        (remove t.rows id)) (fewer row (nat_lt n row.count) at) e
 
-pub all_less_denotes : (fs : List Forget) (t : NodeTable) (i generation file : ℕ) → Denotes (all_taken_back t fs) i generation file → Denotes t i generation file
+pub all_less_denotes : (fs : List Forget) (t : NodeTable) (i generation file : ℕ)
+    → Denotes (all_taken_back t fs) i generation file → Denotes t i generation file
 all_less_denotes [] t i generation file d = d
-all_less_denotes (f ∷ fs) t i generation file d = less_denotes t f.0 f.1 i generation file (all_less_denotes fs (taken_back t f.0 f.1) i generation file d)
+all_less_denotes (f ∷ fs) t i generation file d =
+    less_denotes t f.0 f.1 i generation file (all_less_denotes fs (taken_back t f.0 f.1) i generation file d)
 
 -- ---- nothing else is held
 
 -- what passes in a table is in it still where an entry changes, as the test says the same of it, or goes
-pub any_fewer : {X : Type 0} (test : X → Bool) (m : Map X) (k : ℕ) (old new : X) → get m k ≡ Some old → test new ≡ test old → (b : Bool) → list_any test (values (cond b (put m k new) (remove m k))) ≡ true → list_any test (values m) ≡ true
-any_fewer test m k old new at same true h = either (test new) (list_any test (values m)) (any_put_le test m k new h) (λ q. found_any test m k old at (sym same ∙ q))
+pub any_fewer : {X : Type 0} (test : X → Bool) (m : Map X) (k : ℕ) (old new : X) → get m k ≡ Some old
+    → test new ≡ test old → (b : Bool) → list_any test (values (cond b (put m k new) (remove m k))) ≡ true
+    → list_any test (values m) ≡ true
+any_fewer test m k old new at same true h = either (test new) (list_any test (values m)) (any_put_le test m k new h)
+    (λ q. found_any test m k old at (sym same ∙ q))
   where
     either : (a b : Bool) → (a || b) ≡ true → (a ≡ true → b ≡ true) → b ≡ true
     either true b e f = f refl
@@ -88,7 +114,9 @@ any_fewer {X = X} test m k old new at same false h = gone m h
     gone [] e = e
     gone (x ∷ n) e = cases (nat_eq x.0 k) e (λ q. gone n q)
       where
-        cases : (b : Bool) → list_any test (values (cond (not b) (x ∷ remove n k) (remove n k))) ≡ true → (list_any test (values (remove n k)) ≡ true → list_any test (values n) ≡ true) → (test x.1 || list_any test (values n)) ≡ true
+        cases : (b : Bool) → list_any test (values (cond (not b) (x ∷ remove n k) (remove n k))) ≡ true
+            → (list_any test (values (remove n k)) ≡ true → list_any test (values n) ≡ true)
+            → (test x.1 || list_any test (values n)) ≡ true
         cases true e rest = right (test x.1) (rest e)
           where
             right : (a : Bool) → list_any test (values n) ≡ true → (a || list_any test (values n)) ≡ true
@@ -96,23 +124,34 @@ any_fewer {X = X} test m k old new at same false h = gone m h
             right false q = q
         cases false e rest = either (test x.1) e rest
           where
-            either : (a : Bool) → (a || list_any test (values (remove n k))) ≡ true → (list_any test (values (remove n k)) ≡ true → list_any test (values n) ≡ true) → (a || list_any test (values n)) ≡ true
+            either : (a : Bool) → (a || list_any test (values (remove n k))) ≡ true
+                → (list_any test (values (remove n k)) ≡ true → list_any test (values n) ≡ true)
+                → (a || list_any test (values n)) ≡ true
             either true q f = refl
             either false q f = f q
 
-pub rows_fewer : (test : HeldNode → Bool) (rows : Map HeldNode) (id n : ℕ) (o : Option HeldNode) → get rows id ≡ o → ((row : HeldNode) → test (record row { count = row.count - n }) ≡ test row) → list_any test (values (rows_less rows id n o)) ≡ true → list_any test (values rows) ≡ true
+pub rows_fewer : (test : HeldNode → Bool) (rows : Map HeldNode) (id n : ℕ) (o : Option HeldNode) → get rows id ≡ o
+    → ((row : HeldNode) → test (record row { count = row.count - n }) ≡ test row)
+    → list_any test (values (rows_less rows id n o)) ≡ true → list_any test (values rows) ≡ true
 rows_fewer test rows id n None at same h = h
-rows_fewer test rows id n (Some row) at same h = any_fewer test rows id row (record row { count = row.count - n }) at (same row) (nat_lt n row.count) h
+rows_fewer test rows id n (Some row) at same h =
+    any_fewer test rows id row (record row { count = row.count - n }) at (same row) (nat_lt n row.count) h
 
-files_fewer : (file : ℕ) (fs : List Forget) (t : NodeTable) → list_any (λ (row : HeldNode). nat_eq row.file file) (values (all_taken_back t fs).rows) ≡ true → list_any (λ (row : HeldNode). nat_eq row.file file) (values t.rows) ≡ true
+files_fewer : (file : ℕ) (fs : List Forget) (t : NodeTable)
+    → list_any (λ (row : HeldNode). nat_eq row.file file) (values (all_taken_back t fs).rows) ≡ true
+    → list_any (λ (row : HeldNode). nat_eq row.file file) (values t.rows) ≡ true
 files_fewer file [] t h = h
-files_fewer file (f ∷ fs) t h = rows_fewer (λ (row : HeldNode). nat_eq row.file file) t.rows f.0 f.1 (get t.rows f.0) refl (λ row. refl) (files_fewer file fs (taken_back t f.0 f.1) h)
+files_fewer file (f ∷ fs) t h = rows_fewer (λ (row : HeldNode). nat_eq row.file file) t.rows f.0 f.1
+    (get t.rows f.0) refl (λ row. refl) (files_fewer file fs (taken_back t f.0 f.1) h)
 
 -- ---- what is meant is meant still
 
-module _ (w : World) (p : Plain) (same : Alike w p) (t : NodeTable) (fewer : (i generation file : ℕ) → Denotes t i generation file → Denotes w.server.nodes i generation file) (one : OneId w.server.nodes) (holds : HoldsAll w t) where
+module _ (w : World) (p : Plain) (same : Alike w p) (t : NodeTable)
+    (fewer : (i generation file : ℕ) → Denotes t i generation file → Denotes w.server.nodes i generation file)
+    (one : OneId w.server.nodes) (holds : HoldsAll w t) where
   -- a node that is held still denotes the same file
-  pub still : (i generation file : ℕ) → (f : ℕ) × Denotes t i generation f → Denotes w.server.nodes i generation file → Denotes t i generation file
+  pub still : (i generation file : ℕ) → (f : ℕ) × Denotes t i generation f → Denotes w.server.nodes i generation file
+      → Denotes t i generation file
   still i generation file there d =
       let same_file = denotes_one w.server.nodes i generation there.0 file (fewer i generation there.0 there.1) d in
       subst (λ (n : ℕ). Denotes t i generation n) same_file there.1
@@ -121,14 +160,26 @@ module _ (w : World) (p : Plain) (same : Alike w p) (t : NodeTable) (fewer : (i 
   one_left i j g h file d e = one i j g h file (fewer i g file d) (fewer j h file e)
 
   pub means : (id file : ℕ) → MeansIn w id file → Means w.kernel.nodes t id file
-  means id file m = record { generation = m.generation; known = m.known; denotes = still id m.generation file (holds.known id m.generation m.known) m.denotes }
+  means id file m = record {
+    generation = m.generation;
+    known = m.known;
+    denotes = still id m.generation file (holds.known id m.generation m.known) m.denotes;
+  }
 
-  pub meant : (unique : ℕ) (x : HeldRequest) → get w.server.held unique ≡ Some x → (id file : ℕ) → Meant w.server.nodes x.generations id file → Meant t x.generations id file
-  meant unique x at id file m = record { generation = m.generation; then_held = m.then_held; denotes = still id m.generation file (holds.held unique x at id m.generation m.then_held) m.denotes }
+  pub meant : (unique : ℕ) (x : HeldRequest) → get w.server.held unique ≡ Some x → (id file : ℕ)
+      → Meant w.server.nodes x.generations id file → Meant t x.generations id file
+  meant unique x at id file m = record {
+    generation = m.generation;
+    then_held = m.then_held;
+    denotes = still id m.generation file (holds.held unique x at id m.generation m.then_held) m.denotes;
+  }
 
   -- the request of an ask is unanswered
-  pub unanswered : is_live w.kernel.phase ≡ true → (unique : ℕ) (ask : Ask) → get p.asks unique ≡ Some ask → request_under w.kernel.queues unique ≢ None
-  unanswered live unique ask at = found_key (λ (e : ℕ × QueuedRequest Purpose). is_for ask.call e.1.kept) w.kernel.queues.requests unique ((same.asks live).no_other unique ask at)
+  pub unanswered : is_live w.kernel.phase ≡ true → (unique : ℕ) (ask : Ask) → get p.asks unique ≡ Some ask
+      → request_under w.kernel.queues unique ≢ None
+  unanswered live unique ask at = found_key (λ (e : ℕ
+      × QueuedRequest Purpose). is_for ask.call e.1.kept) w.kernel.queues.requests unique
+      ((same.asks live).no_other unique ask at)
 
   pub carries_fewer : Carries w p w.kernel.nodes t w.server.handles
   carries_fewer = record {
@@ -136,26 +187,39 @@ module _ (w : World) (p : Plain) (same : Alike w p) (t : NodeTable) (fewer : (i 
     opens = λ o file m. record { node_means = means o.nodeid file m.node_means; is_number = m.is_number };
     one = one_to_one w.kernel.nodes t one_left;
     held_nodes = λ u x at id file among m. meant u x at id file m;
-    held_opens = λ u x at o file among m. record { node_meant = meant u x at o.nodeid file m.node_meant; is_number = m.is_number };
+    held_opens = λ u x at o file among m. record {
+      node_meant = meant u x at o.nodeid file m.node_meant;
+      is_number = m.is_number;
+    };
     kept = λ live u k ask at there told.
         stage_more w.server.nodes t w.server.handles w.server.handles ask.stage k.wire
-        (λ g file among d. still g.nodeid g.generation file (holds.kept u k at (unanswered live u ask there) g among) d) (λ fh file among o. o) told;
+        (λ g file among d. still g.nodeid g.generation file
+        (holds.kept u k at (unanswered live u ask there) g among) d) (λ fh file among o. o) told;
     copies = λ live i s lt ask there told.
         let sent = get_or w.replies i s in
         stage_more w.server.nodes t w.server.handles w.server.handles ask.stage sent.wire
-        (λ g file among d. still g.nodeid g.generation file (holds.copies i s lt (unanswered live sent.unique ask there) g among) d) (λ fh file among o. o) told;
+        (λ g file among d. still g.nodeid g.generation file
+        (holds.copies i s lt (unanswered live sent.unique ask there) g among) d) (λ fh file among o. o) told;
   }
 
--- The server takes a FORGET or a BATCH_FORGET: where it holds afterwards what is known, held and on its way, all is alike.
-pub forgotten_alike : (w : World) (p : Plain) → OneId w.server.nodes → Alike w p → (k : ℕ) (fs : List Forget) → HoldsAll w (all_taken_back w.server.nodes fs) → Alike (record w { requests = without w.requests k; server = forgetting w.server fs }) p
+-- The server takes a FORGET or a BATCH_FORGET: where it holds afterwards what is known, held and on its way, all is
+-- alike.
+pub forgotten_alike : (w : World) (p : Plain) → OneId w.server.nodes → Alike w p → (k : ℕ) (fs : List Forget)
+    → HoldsAll w (all_taken_back w.server.nodes fs) → Alike
+    (record w { requests = without w.requests k; server = forgetting w.server fs }) p
 forgotten_alike w p one same k fs holds =
     let t = all_taken_back w.server.nodes fs in
     let s2 = record w.server { nodes = t } in
-    let carries = carries_fewer w p same t (λ i generation file d. all_less_denotes fs w.server.nodes i generation file d) one holds in
+    let carries = carries_fewer w p same t
+    (λ i generation file d. all_less_denotes fs w.server.nodes i generation file d) one holds in
     let numbers = λ (file : ℕ). list_any (λ (h : OpenNumber). nat_eq h.file file) (values w.server.handles.handles) in
-    let trees = swept_alike s2 p.tree (λ file. is_file_held w.server file) same.tree.names same.tree.next_birth same.tree.next_serial same.tree.files
-    (λ file h. either (list_any (λ (row : HeldNode). nat_eq row.file file) (values t.rows)) (numbers file) (list_any (λ (row : HeldNode). nat_eq row.file file) (values w.server.nodes.rows)) h (λ q. files_fewer file fs w.server.nodes q)) in
-    let carried = carried_alike w p same w.kernel.nodes t w.server.handles (without_unheld_files s2).tree p.tree carries trees in
+    let trees = swept_alike s2 p.tree
+    (λ file. is_file_held w.server file) same.tree.names same.tree.next_birth same.tree.next_serial same.tree.files
+    (λ file h. either (list_any (λ (row : HeldNode). nat_eq row.file file) (values t.rows)) (numbers file)
+    (list_any (λ (row : HeldNode). nat_eq row.file file) (values w.server.nodes.rows)) h
+    (λ q. files_fewer file fs w.server.nodes q)) in
+    let carried = carried_alike w p same w.kernel.nodes t w.server.handles
+    (without_unheld_files s2).tree p.tree carries trees in
     ignored_alike (record w { server = forgetting w.server fs }) p carried k
   where
     either : (a b c : Bool) → (a || b) ≡ true → (a ≡ true → c ≡ true) → (c || b) ≡ true

@@ -19,9 +19,11 @@ use Rattle.fuse_theorem.proofs.Nodes.NodesSound.{put_found}
 use Rattle.fuse_theorem.proofs.Replies.RepliesGo.{use_one, all_usable}
 
 -- The kernel hears such a reply as one whose entries can all be used.
-pub heard_is : (k : Kernel) (call : ℕ) (state : CallState Opened) (wire : WireReply) → IsUsable k.nodes wire → reply_received k call state wire ≡ judged k call state wire usable
+pub heard_is : (k : Kernel) (call : ℕ) (state : CallState Opened) (wire : WireReply) → IsUsable k.nodes wire
+    → reply_received k call state wire ≡ judged k call state wire usable
 heard_is k call state wire is =
-    λ i. judged (record k { queues = each_forgotten k.queues (is.none_stale i) }) call state (is.judged i) (is.is_usable i)
+    λ i. judged (record k { queues = each_forgotten k.queues (is.none_stale i) }) call state (is.judged i)
+    (is.is_usable i)
 
 module _ (t : NodeTable) where
   abbrev pub HeldCounted : Map Counted → Type 0
@@ -31,33 +33,42 @@ module _ (t : NodeTable) where
   EntryHeld g = (2 ≤ g.nodeid) × IsHeldAs t g.nodeid g.generation
 
   -- what is counted once an entry is learnt is held
-  learnt_one : (nodes : Map Counted) → HeldCounted nodes → (g : Entry) → EntryHeld g → HeldCounted (put nodes g.nodeid (counted_more g (get nodes g.nodeid)))
-  learnt_one nodes known g held id node at = elim (put_found nodes g.nodeid (counted_more g (get nodes g.nodeid)) id node at) [
-    | inl e ↦ subst (λ (c : Counted). IsHeldAs t id c.generation) e.1 (subst (λ (n : ℕ). IsHeldAs t n (counted_more g (get nodes g.nodeid)).generation) (sym e.0) (by (get nodes g.nodeid) refl))
-    | inr e ↦ known id node e
-  ]
+  learnt_one : (nodes : Map Counted) → HeldCounted nodes → (g : Entry) → EntryHeld g
+      → HeldCounted (put nodes g.nodeid (counted_more g (get nodes g.nodeid)))
+  learnt_one nodes known g held id node at = elim (put_found nodes g.nodeid
+      (counted_more g (get nodes g.nodeid)) id node at) [
+        | inl e ↦ subst (λ (c : Counted). IsHeldAs t id c.generation) e.1
+            (subst (λ (n : ℕ). IsHeldAs t n (counted_more g (get nodes g.nodeid)).generation) (sym e.0)
+            (by (get nodes g.nodeid) refl))
+        | inr e ↦ known id node e
+      ]
     where
       by : (o : Option Counted) → get nodes g.nodeid ≡ o → IsHeldAs t g.nodeid (counted_more g o).generation
       by None at = held.1
       by (Some c) at = known g.nodeid c at
 
   -- Each entry is known under its own generation then.
-  all_known : (gs : List Entry) (nodes : Map Counted) → HeldCounted nodes → All EntryHeld gs → All (λ (g : Entry). generation_known (learnt nodes gs) g.nodeid ≡ Some g.generation) gs
+  all_known : (gs : List Entry) (nodes : Map Counted) → HeldCounted nodes → All EntryHeld gs
+      → All (λ (g : Entry). generation_known (learnt nodes gs) g.nodeid ≡ Some g.generation) gs
   all_known [] nodes known held = All-nil (λ (g : Entry). generation_known nodes g.nodeid ≡ Some g.generation)
   all_known (g ∷ gs) nodes known held =
       let mine = All-head EntryHeld g gs held in
       let next = put nodes g.nodeid (counted_more g (get nodes g.nodeid)) in
       let used = ap (λ (u : Use). first_use u usable) (use_one nodes t known g mine.0 mine.1) in
-      All-cons (λ (x : Entry). generation_known (learnt next gs) x.nodeid ≡ Some x.generation) g gs (learnt_known gs next g.nodeid g.generation (usable_known nodes g used))
+      All-cons (λ (x : Entry). generation_known (learnt next gs) x.nodeid ≡ Some x.generation) g gs
+      (learnt_known gs next g.nodeid g.generation (usable_known nodes g used))
       (all_known gs next (learnt_one nodes known g mine) (All-tail EntryHeld g gs held))
 
   -- ---- names of a list
 
-  told_usable : (nodes : Map Counted) → HeldCounted nodes → (o : Option Entry) (rest : List Entry) → All EntryHeld (first_told o rest) → use_of_told nodes o ≡ usable
+  told_usable : (nodes : Map Counted) → HeldCounted nodes → (o : Option Entry) (rest : List Entry)
+      → All EntryHeld (first_told o rest) → use_of_told nodes o ≡ usable
   told_usable nodes known None rest held = refl
-  told_usable nodes known (Some g) rest held = let mine = All-head EntryHeld g rest held in use_one nodes t known g mine.0 mine.1
+  told_usable nodes known (Some g) rest held = let mine =
+      All-head EntryHeld g rest held in use_one nodes t known g mine.0 mine.1
 
-  told_held : (nodes : Map Counted) → HeldCounted nodes → (o : Option Entry) (rest : List Entry) → All EntryHeld (first_told o rest) → HeldCounted (learnt nodes (first_told o []))
+  told_held : (nodes : Map Counted) → HeldCounted nodes → (o : Option Entry) (rest : List Entry)
+      → All EntryHeld (first_told o rest) → HeldCounted (learnt nodes (first_told o []))
   told_held nodes known None rest held = known
   told_held nodes known (Some g) rest held = learnt_one nodes known g (All-head EntryHeld g rest held)
 
@@ -65,23 +76,36 @@ module _ (t : NodeTable) where
   rest_held None rest held = held
   rest_held (Some g) rest held = All-tail EntryHeld g rest held
 
-  pairs_usable : (pairs : List (DirentPlus Entry)) (nodes : Map Counted) → HeldCounted nodes → All EntryHeld (files_told pairs) → (pairs_judged nodes pairs ≡ pairs) × (stale_among nodes pairs ≡ [])
+  pairs_usable : (pairs : List (DirentPlus Entry)) (nodes : Map Counted) → HeldCounted nodes
+      → All EntryHeld (files_told pairs) → (pairs_judged nodes pairs ≡ pairs) × (stale_among nodes pairs ≡ [])
   pairs_usable [] nodes known held = (refl, refl)
   pairs_usable (pair ∷ pairs) nodes known held =
       let o = told_by pair in
       let files = files_told pairs in
       let used = told_usable nodes known o files held in
-      let rest = pairs_usable pairs (learnt nodes (first_told o [])) (told_held nodes known o files held) (rest_held o files held) in (
-        ap (λ (u : Use). pair_judged pair u ∷ pairs_judged (learnt nodes (files_told (pair_judged pair u ∷ []))) pairs) used ∙ ap (λ (xs : List (DirentPlus Entry)). pair ∷ xs) rest.0,
-        ap (λ (u : Use). stale_in u ++ stale_among (learnt nodes (files_told (pair_judged pair u ∷ []))) pairs) used ∙ rest.1,
+      let rest = pairs_usable pairs (learnt nodes (first_told o [])) (told_held nodes known o files held)
+      (rest_held o files held) in (
+        ap (λ (u : Use). pair_judged pair u ∷ pairs_judged
+            (learnt nodes (files_told (pair_judged pair u ∷ []))) pairs) used ∙ ap
+            (λ (xs : List (DirentPlus Entry)). pair ∷ xs) rest.0,
+        ap (λ (u : Use). stale_in u ++ stale_among (learnt nodes
+            (files_told (pair_judged pair u ∷ []))) pairs) used ∙ rest.1,
       )
 
   -- Any reply whose entries are held can be used.
-  pub reply_usable : (nodes : Map Counted) → HeldCounted nodes → (wire : WireReply) → EntriesHeld t wire → IsUsable nodes wire
-  reply_usable nodes known wire held = record { judged = parts.0; none_stale = parts.1; is_usable = parts.2; known = all_known (files_in_reply wire) nodes known held }
+  pub reply_usable : (nodes : Map Counted) → HeldCounted nodes → (wire : WireReply) → EntriesHeld t wire
+      → IsUsable nodes wire
+  reply_usable nodes known wire held = record {
+    judged = parts.0;
+    none_stale = parts.1;
+    is_usable = parts.2;
+    known = all_known (files_in_reply wire) nodes known held;
+  }
     where
-      by : (x : WireReply) → EntriesHeld t x → (reply_judged nodes x ≡ x) × (stale_in_reply nodes x ≡ []) × (use_of_reply nodes x ≡ usable)
-      by (listed_plus pairs) h = let both = pairs_usable pairs nodes known h in (ap (λ (xs : List (DirentPlus Entry)). listed_plus xs) both.0, both.1, refl)
+      by : (x : WireReply) → EntriesHeld t x → (reply_judged nodes x ≡ x) × (stale_in_reply nodes x ≡ [])
+          × (use_of_reply nodes x ≡ usable)
+      by (listed_plus pairs) h = let both = pairs_usable pairs nodes known h in
+          (ap (λ (xs : List (DirentPlus Entry)). listed_plus xs) both.0, both.1, refl)
       by x h = (refl, refl, all_usable nodes t known (files_in_reply x) h)
 
       parts : (reply_judged nodes wire ≡ wire) × (stale_in_reply nodes wire ≡ []) × (use_of_reply nodes wire ≡ usable)

@@ -28,7 +28,8 @@ module _ (w : World) (found_ms missing_ms : ℕ) (minor : Minor) where
   pub mounted_means : (id file : ℕ) → MeansIn mounted id file → (id ≡ 1) × (file ≡ 0)
   mounted_means id file means = only_root_known [] mounted.server.nodes refl id file means
 
-  module _ (p : Plain) (root : w.kernel.vfs.root ≡ 1) (sorted : T (is_sorted nat_cmp w.kernel.vfs.answers)) (same : Alike w p) where
+  module _ (p : Plain) (root : w.kernel.vfs.root ≡ 1) (sorted : T (is_sorted nat_cmp w.kernel.vfs.answers))
+      (same : Alike w p) where
     abbrev q : Plain
     q = plain_mounted p (record { found_ms = found_ms; missing_ms = missing_ms }) minor
 
@@ -47,12 +48,17 @@ module _ (w : World) (found_ms missing_ms : ℕ) (minor : Minor) where
 
     pub mounted_alike : Alike mounted q
     mounted_alike = record {
-      tree = swept_alike emptied p.tree (is_file_held w.server) same.tree.names same.tree.next_birth same.tree.next_serial same.tree.files (λ file held. absurd (true≢false (sym held)));
-      vfs = given_up_alike (MeansIn w) (MeansIn mounted) (MeansOpenIn w) (MeansOpenIn mounted) w.kernel.vfs p.vfs same.vfs sorted
+      tree = swept_alike emptied p.tree
+          (is_file_held w.server) same.tree.names same.tree.next_birth same.tree.next_serial same.tree.files
+          (λ file held. absurd (true≢false (sym held)));
+      vfs = given_up_alike (MeansIn w) (MeansIn mounted) (MeansOpenIn w)
+          (MeansOpenIn mounted) w.kernel.vfs p.vfs same.vfs sorted
           (root_means w.kernel.nodes [] w.server.nodes mounted.server.nodes w.kernel.vfs.root p.vfs.root root same.vfs.roots);
       requests = record {
-        pending = All-cons (PurposeAsked mounted q) (2, record { mark = Unread; kept = purpose.Init }) [] refl (All-nil (PurposeAsked mounted q));
-        sent = All-nil (λ (r : Request). RequestBodyAsked [] r.unique false false (MeansIn mounted) (MeansOpenIn mounted) r.body);
+        pending = All-cons (PurposeAsked mounted q) (2, record { mark = Unread; kept = purpose.Init }) [] refl
+            (All-nil (PurposeAsked mounted q));
+        sent = All-nil (λ (r : Request). RequestBodyAsked [] r.unique false false (MeansIn mounted)
+            (MeansOpenIn mounted) r.body);
         held = λ u t at. absurd (cc);
       };
       asks = λ _. record {
@@ -60,7 +66,8 @@ module _ (w : World) (found_ms missing_ms : ℕ) (minor : Minor) where
         no_other = λ u ask at. absurd (cc);
         signalled = λ u r ask under at bears. absurd (cc);
         kept = λ u k ask stored at. absurd (cc);
-        copies = All-nil (λ (sent : Sent). (ask : Ask) → get q.asks sent.unique ≡ Some ask → StageTold mounted.server.nodes mounted.server.handles ask.stage sent.wire);
+        copies = All-nil (λ (sent : Sent). (ask : Ask) → get q.asks sent.unique ≡ Some ask
+            → StageTold mounted.server.nodes mounted.server.handles ask.stage sent.wire);
       };
       validity = refl;
       minor = refl;

@@ -8,13 +8,17 @@ use Rattle.fuse_spec.specs.Claim.Denotes.{generation_known, Means}
 use Rattle.fuse_theorem.proofs.Calls.Finding.{other_is}
 
 -- a kernel that knows no node but the root
-pub only_root_known : (nodes : Map Counted) (t : NodeTable) → nodes ≡ [] → (id file : ℕ) → Means nodes t id file → (id ≡ 1) × (file ≡ 0)
+pub only_root_known : (nodes : Map Counted) (t : NodeTable) → nodes ≡ [] → (id file : ℕ) → Means nodes t id file
+    → (id ≡ 1) × (file ≡ 0)
 only_root_known nodes t none id file means = elim (cases_eq id 1) [
   | inl e ↦
-      let there : Some root_row ≡ Some means.denotes.row = subst (λ (n : ℕ). row_of t n ≡ Some means.denotes.row) e means.denotes.there in
+      let there : Some root_row ≡ Some means.denotes.row =
+      subst (λ (n : ℕ). row_of t n ≡ Some means.denotes.row) e means.denotes.there in
       let is_row : root_row ≡ means.denotes.row = cc in
       (e, sym means.denotes.same_file ∙ ap (λ (r : HeldNode). r.file) (sym is_row))
   | inr ne ↦
-      let unknown : generation_known nodes id ≡ None = ap (λ (b : Bool). cond b (Some 0) (option_map (λ (c : Counted). c.generation) (get nodes id))) (other_is id 1 ne) ∙ ap (λ (m : Map Counted). option_map (λ (c : Counted). c.generation) (get m id)) none in
+      let unknown : generation_known nodes id ≡ None =
+      ap (λ (b : Bool). cond b (Some 0) (option_map (λ (c : Counted). c.generation) (get nodes id)))
+      (other_is id 1 ne) ∙ ap (λ (m : Map Counted). option_map (λ (c : Counted). c.generation) (get m id)) none in
       absurd (cc (unknown, means.known))
 ]

@@ -28,7 +28,8 @@ module _ {F G : Type 0} (f : F → G) where
       (λ i. first_told (told_with pair i) (told_files_with pairs i)) ∙ first_with (told_by pair) (files_told pairs)
 
   -- What a reply names is named so in the other way.
-  pub files_with : {O P : Type 0} (g : O → P) (reply : Reply F O) → files_in_reply (reply_with f g reply) ≡ map f (files_in_reply reply)
+  pub files_with : {O P : Type 0} (g : O → P) (reply : Reply F O)
+      → files_in_reply (reply_with f g reply) ≡ map f (files_in_reply reply)
   files_with g (found x v) = refl
   files_with g (missing v) = refl
   files_with g (created x v o) = refl
@@ -56,23 +57,28 @@ module _ {X : Type 0} where
   later_in (Some y) xs x at = rest_in y xs x at
 
 module _ {F G : Type 0} (R R' : F → G → Type 0) where
-  told_more : (a : Option F) (b : Option G) (rest : List F) → ((x : F) (y : G) → Contains (first_told a rest) x → R x y → R' x y) → OptionAlike R a b → OptionAlike R' a b
+  told_more : (a : Option F) (b : Option G) (rest : List F)
+      → ((x : F) (y : G) → Contains (first_told a rest) x → R x y → R' x y) → OptionAlike R a b → OptionAlike R' a b
   told_more None None rest more h = h
   told_more (Some x) (Some y) rest more h = more x y (first_in x rest) h
   told_more None (Some y) rest more h = absurd h
   told_more (Some x) None rest more h = absurd h
 
   -- What holds of the files that are told alone.
-  pub pairs_more : (xs : List (DirentPlus F)) (ys : List (DirentPlus G)) → ((x : F) (y : G) → Contains (files_told xs) x → R x y → R' x y) → PairsAlike R xs ys → PairsAlike R' xs ys
+  pub pairs_more : (xs : List (DirentPlus F)) (ys : List (DirentPlus G))
+      → ((x : F) (y : G) → Contains (files_told xs) x → R x y → R' x y) → PairsAlike R xs ys → PairsAlike R' xs ys
   pairs_more [] [] more h = h
-  pairs_more (x ∷ xs) (y ∷ ys) more h =
-      ((told_more (told_by x) (told_by y) (files_told xs) more h.0.0, h.0.1, h.0.2), pairs_more xs ys (λ a b at r. more a b (later_in (told_by x) (files_told xs) a at) r) h.1)
+  pairs_more (x ∷ xs) (y ∷ ys) more h = (
+    (told_more (told_by x) (told_by y) (files_told xs) more h.0.0, h.0.1, h.0.2),
+    pairs_more xs ys (λ a b at r. more a b (later_in (told_by x) (files_told xs) a at) r) h.1,
+  )
   pairs_more [] (y ∷ ys) more h = absurd h
   pairs_more (x ∷ xs) [] more h = absurd h
 
 -- Where each file that is told is named right, the names are alike.
 module _ {F G : Type 0} (R : G → F → Type 0) (f : F → G) where
-  option_named : (o : Option F) (rest : List F) → All (λ x. R (f x) x) (first_told o rest) → OptionAlike R (option_map f o) o
+  option_named : (o : Option F) (rest : List F) → All (λ x. R (f x) x) (first_told o rest)
+      → OptionAlike R (option_map f o) o
   option_named None rest h = tt
   option_named (Some x) rest h = All-head (λ y. R (f y) y) x rest h
 
@@ -80,20 +86,30 @@ module _ {F G : Type 0} (R : G → F → Type 0) (f : F → G) where
   told_rest P None rest h = h
   told_rest P (Some x) rest h = All-tail P x rest h
 
-  pub pairs_named : (pairs : List (DirentPlus F)) → All (λ x. R (f x) x) (files_told pairs) → PairsAlike R (map (pair_with f) pairs) pairs
+  pub pairs_named : (pairs : List (DirentPlus F)) → All (λ x. R (f x) x) (files_told pairs)
+      → PairsAlike R (map (pair_with f) pairs) pairs
   pairs_named [] h = tt
-  pairs_named (pair ∷ pairs) h =
-      ((subst (λ (o : Option G). OptionAlike R o (told_by pair)) (sym (told_with f pair)) (option_named (told_by pair) (files_told pairs) h), refl, refl), pairs_named pairs (told_rest (λ x. R (f x) x) (told_by pair) (files_told pairs) h))
+  pairs_named (pair ∷ pairs) h = (
+    (
+      subst (λ (o : Option G). OptionAlike R o (told_by pair)) (sym (told_with f pair))
+          (option_named (told_by pair) (files_told pairs) h),
+      refl,
+      refl,
+    ),
+    pairs_named pairs (told_rest (λ x. R (f x) x) (told_by pair) (files_told pairs) h),
+  )
 
 -- Names that are alike are listed alike.
 module _ {F G : Type 0} (R : F → G → Type 0) where
-  pub dirents_same : (xs : List (DirentPlus F)) (ys : List (DirentPlus G)) → PairsAlike R xs ys → map (λ (x : DirentPlus F). x.dirent) xs ≡ map (λ (y : DirentPlus G). y.dirent) ys
+  pub dirents_same : (xs : List (DirentPlus F)) (ys : List (DirentPlus G)) → PairsAlike R xs ys
+      → map (λ (x : DirentPlus F). x.dirent) xs ≡ map (λ (y : DirentPlus G). y.dirent) ys
   dirents_same [] [] h = refl
   dirents_same (x ∷ xs) (y ∷ ys) h = λ i. h.0.2 i ∷ dirents_same xs ys h.1 i
   dirents_same [] (y ∷ ys) h = absurd h
   dirents_same (x ∷ xs) [] h = absurd h
 
-  pub lengths_same : (xs : List (DirentPlus F)) (ys : List (DirentPlus G)) → PairsAlike R xs ys → sum_by pair_length xs ≡ sum_by pair_length ys
+  pub lengths_same : (xs : List (DirentPlus F)) (ys : List (DirentPlus G)) → PairsAlike R xs ys
+      → sum_by pair_length xs ≡ sum_by pair_length ys
   lengths_same [] [] h = refl
   lengths_same (x ∷ xs) (y ∷ ys) h =
       let first = ap (λ (d : Dirent). 128 + record_length d) h.0.2 in
@@ -111,19 +127,27 @@ module _ (P : ℕ → Type 0) where
   told_one true x files h rest = rest
   told_one false x files h rest = All-cons P x files h rest
 
-  pub listed_told : (valid : ℕ) (tree : Tree) (names : List Named) → All (λ (n : Named). P n.file) names → All P (files_told (map (pair_of valid tree) names))
+  pub listed_told : (valid : ℕ) (tree : Tree) (names : List Named) → All (λ (n : Named). P n.file) names
+      → All P (files_told (map (pair_of valid tree) names))
   listed_told valid tree [] h = All-nil P
   listed_told valid tree (n ∷ names) h =
-      told_one (is_dots n.name) n.file (files_told (map (pair_of valid tree) names)) (All-head (λ (m : Named). P m.file) n names h) (listed_told valid tree names (All-tail (λ (m : Named). P m.file) n names h))
+      told_one (is_dots n.name) n.file (files_told (map (pair_of valid tree) names))
+      (All-head (λ (m : Named). P m.file) n names h) (listed_told valid tree names
+      (All-tail (λ (m : Named). P m.file) n names h))
 
-  first_of : (o : Option ℕ) (files kept : List ℕ) → All P (first_told o files) → (All P files → All P kept) → All P (first_told o kept)
+  first_of : (o : Option ℕ) (files kept : List ℕ) → All P (first_told o files) → (All P files → All P kept)
+      → All P (first_told o kept)
   first_of None files kept h rest = rest h
   first_of (Some x) files kept h rest = All-cons P x kept (All-head P x files h) (rest (All-tail P x files h))
 
-  pub fitting_told : (room : ℕ) (pairs : List (DirentPlus ℕ)) → All P (files_told pairs) → All P (files_told (fitting_pairs room pairs))
+  pub fitting_told : (room : ℕ) (pairs : List (DirentPlus ℕ)) → All P (files_told pairs)
+      → All P (files_told (fitting_pairs room pairs))
   fitting_told room [] h = h
-  fitting_told room (pair ∷ pairs) h = by (nat_le (pair_length pair) room) (fitting_told (room - pair_length pair) pairs)
+  fitting_told room (pair ∷ pairs) h = by (nat_le (pair_length pair) room)
+      (fitting_told (room - pair_length pair) pairs)
     where
-      by : (b : Bool) → (All P (files_told pairs) → All P (files_told (fitting_pairs (room - pair_length pair) pairs))) → All P (files_told (cond b (pair ∷ fitting_pairs (room - pair_length pair) pairs) []))
-      by true rest = first_of (told_by pair) (files_told pairs) (files_told (fitting_pairs (room - pair_length pair) pairs)) h rest
+      by : (b : Bool) → (All P (files_told pairs) → All P (files_told (fitting_pairs (room - pair_length pair) pairs)))
+          → All P (files_told (cond b (pair ∷ fitting_pairs (room - pair_length pair) pairs) []))
+      by true rest = first_of (told_by pair) (files_told pairs)
+          (files_told (fitting_pairs (room - pair_length pair) pairs)) h rest
       by false rest = All-nil P

@@ -31,32 +31,42 @@ All-at P (y ∷ xs) zero x h at = subst P (cc) (All-head P y xs h)
 All-at P (y ∷ xs) (suc k) x h at = All-at P xs k x (All-tail P y xs h) at
 
 -- what a request asks is not a matter of the queues
-pub same_body : (k : Kernel) (q : QueueState Purpose) (kept : Purpose) → body_of (record k { queues = q }) kept ≡ body_of k kept
+pub same_body : (k : Kernel) (q : QueueState Purpose) (kept : Purpose)
+    → body_of (record k { queues = q }) kept ≡ body_of k kept
 same_body k q purpose.Init = refl
 same_body k q (purpose.Release o) = refl
 same_body k q (purpose.Call call) = refl
 
 -- an ask of a request that bears a signal is one of a request that bears none
-pub asked_unsignalled : (R : ℕ → ℕ → Type 0) (S : Opened → ℕ → Type 0) (all : Map Ask) (unique : ℕ) (signalled : Bool) (body : RequestBody)
+pub asked_unsignalled : (R : ℕ → ℕ → Type 0) (S : Opened → ℕ → Type 0) (all : Map Ask) (unique : ℕ) (signalled : Bool)
+    (body : RequestBody)
     → RequestBodyAsked all unique signalled false R S body → RequestBodyAsked all unique false false R S body
 asked_unsignalled R S all unique signalled (asks operation) h =
     let old = h.is_waiting in
-    record { ask = h.ask; there = h.there; is_waiting = record { stage = old.stage; noted = λ e. absurd (cc); marked_too = old.marked_too }; same = h.same }
+    record {
+      ask = h.ask;
+      there = h.there;
+      is_waiting =
+          record { stage = old.stage; noted = λ e. absurd (cc); marked_too = old.marked_too };
+      same = h.same;
+    }
 asked_unsignalled R S all unique signalled (init flags) h = h
 asked_unsignalled R S all unique signalled (release o) h = h
 asked_unsignalled R S all unique signalled (forget f) h = h
 asked_unsignalled R S all unique signalled (batch_forget fs) h = h
 asked_unsignalled R S all unique signalled (interrupt original) h = h
 
--- What keeps all alike as the queues change: each pending request is asked as it was, each call has the same request, and none
--- that bears a signal has an ask on which none is noted.
+-- What keeps all alike as the queues change: each pending request is asked as it was, each call has the same request,
+-- and none that bears a signal has an ask on which none is noted.
 pub record QueuesStay (w : World) (p : Plain) (q : QueueState Purpose) : Type 0 where
   pub pending : All (PurposeAsked w p) (pending q)
   pub same_request : (call : ℕ) → request_of (record w.kernel { queues = q }) call ≡ request_of w.kernel call
-  pub signalled : is_live w.kernel.phase ≡ true → (unique : ℕ) (request : QueuedRequest Purpose) (ask : Ask) → request_under q unique ≡ Some request → get p.asks unique ≡ Some ask → is_signalled request.mark ≡ true
+  pub signalled : is_live w.kernel.phase ≡ true → (unique : ℕ) (request : QueuedRequest Purpose) (ask : Ask)
+      → request_under q unique ≡ Some request → get p.asks unique ≡ Some ask → is_signalled request.mark ≡ true
       → ask.noted ≡ true
 
-pub queues_alike : (w : World) (p : Plain) → Alike w p → (q : QueueState Purpose) (requests : List Request) → QueuesStay w p q
+pub queues_alike : (w : World) (p : Plain) → Alike w p → (q : QueueState Purpose) (requests : List Request)
+    → QueuesStay w p q
     → All (λ (r : Request). RequestBodyAsked p.asks r.unique false false (MeansIn w) (MeansOpenIn w) r.body) requests
     → Alike (record w { kernel = record w.kernel { queues = q }; requests = requests }) p
 queues_alike w p same q requests stay sent = record {
@@ -65,7 +75,9 @@ queues_alike w p same q requests stay sent = record {
   requests = record {
     pending = λ i e lt.
         let entry = get_or (pending q) i e in
-        subst (λ (o : Option RequestBody). MatchOption o ⊥ (RequestBodyAsked p.asks entry.0 (is_signalled entry.1.mark) false (MeansIn w) (MeansOpenIn w))) (sym (same_body w.kernel q entry.1.kept)) (stay.pending i e lt);
+        subst (λ (o : Option RequestBody). MatchOption o ⊥
+        (RequestBodyAsked p.asks entry.0 (is_signalled entry.1.mark) false (MeansIn w) (MeansOpenIn w)))
+        (sym (same_body w.kernel q entry.1.kept)) (stay.pending i e lt);
     sent = sent;
     held = same.requests.held;
   };
@@ -74,7 +86,14 @@ queues_alike w p same q requests stay sent = record {
       record {
         of_calls = λ c state at.
             let pair = old.of_calls c state at in
-            record { unique = pair.unique; ask = pair.ask; request = stay.same_request c ∙ pair.request; there = pair.there; by = pair.by; same = pair.same };
+            record {
+              unique = pair.unique;
+              ask = pair.ask;
+              request = stay.same_request c ∙ pair.request;
+              there = pair.there;
+              by = pair.by;
+              same = pair.same;
+            };
         no_other = λ u ask at. stay.same_request ask.call ∙ old.no_other u ask at;
         signalled = stay.signalled live;
         kept = old.kept;
@@ -88,8 +107,10 @@ queues_alike w p same q requests stay sent = record {
 
 -- a mark changes no number and nothing that is kept
 pub find_marked : (call u : ℕ) (es : List (ℕ × QueuedRequest Purpose)) (m : Mark)
-    → option_map (λ (e : ℕ × QueuedRequest Purpose). e.0) (find (λ (e : ℕ × QueuedRequest Purpose). is_for call e.1.kept) (set_mark u es m))
-    ≡ option_map (λ (e : ℕ × QueuedRequest Purpose). e.0) (find (λ (e : ℕ × QueuedRequest Purpose). is_for call e.1.kept) es)
+    → option_map (λ (e : ℕ × QueuedRequest Purpose). e.0)
+    (find (λ (e : ℕ × QueuedRequest Purpose). is_for call e.1.kept) (set_mark u es m))
+    ≡ option_map (λ (e : ℕ × QueuedRequest Purpose). e.0)
+    (find (λ (e : ℕ × QueuedRequest Purpose). is_for call e.1.kept) es)
 find_marked call u [] m = refl
 find_marked call u (e ∷ es) m = by (nat_eq u e.0) (is_for call e.1.kept) refl (find_marked call u es m)
   where
@@ -100,29 +121,41 @@ find_marked call u (e ∷ es) m = by (nat_eq u e.0) (is_for call e.1.kept) refl 
     Serves d = is_for call d.1.kept
 
     by : (b c : Bool) → is_for call e.1.kept ≡ c → Key (find Serves (set_mark u es m)) ≡ Key (find Serves es)
-        → Key (find Serves (cond b ((e.0, record { mark = m; kept = e.1.kept }) ∷ es) (e ∷ set_mark u es m))) ≡ Key (cond (is_for call e.1.kept) (Some e) (find Serves es))
+        → Key (find Serves (cond b ((e.0, record { mark = m; kept = e.1.kept }) ∷ es) (e ∷ set_mark u es m)))
+        ≡ Key (cond (is_for call e.1.kept) (Some e) (find Serves es))
     by true true h rest = rw h refl
     by true false h rest = rw h refl
     by false true h rest = rw h refl
     by false false h rest = rw h rest
 
 -- a mark that bears no signal bears none on any request, but what bore one
-module _ (s : QueueState Purpose) (u : ℕ) (old m : Mark) (marked : option_map (λ (r : QueuedRequest Purpose). r.mark) (request_under s u) ≡ Some old) where
-  pub signal_before : (v : ℕ) (request : QueuedRequest Purpose) → request_under (with_mark s u m) v ≡ Some request → is_signalled request.mark ≡ true → (is_signalled m ≡ true → is_signalled old ≡ true)
+module _ (s : QueueState Purpose) (u : ℕ) (old m : Mark)
+    (marked : option_map (λ (r : QueuedRequest Purpose). r.mark) (request_under s u) ≡ Some old) where
+  pub signal_before : (v : ℕ) (request : QueuedRequest Purpose) → request_under (with_mark s u m) v ≡ Some request
+      → is_signalled request.mark ≡ true → (is_signalled m ≡ true → is_signalled old ≡ true)
       → (before : QueuedRequest Purpose) × (request_under s v ≡ Some before) × (is_signalled before.mark ≡ true)
   signal_before v request under bears kept = by (nat_eq v u) refl
     where
-      here : (o : Option (QueuedRequest Purpose)) → o ≡ request_under s u → option_map (λ (r : QueuedRequest Purpose). r.mark) o ≡ Some old → is_signalled old ≡ true
+      here : (o : Option (QueuedRequest Purpose)) → o ≡ request_under s u
+          → option_map (λ (r : QueuedRequest Purpose). r.mark) o ≡ Some old → is_signalled old ≡ true
           → (before : QueuedRequest Purpose) × (request_under s u ≡ Some before) × (is_signalled before.mark ≡ true)
       here None e is yes_old = absurd (cc)
       here (Some r) e is yes_old = (r, sym e, subst (λ (x : Mark). is_signalled x ≡ true) (cc) yes_old)
 
-      by : (b : Bool) → nat_eq v u ≡ b → (before : QueuedRequest Purpose) × (request_under s v ≡ Some before) × (is_signalled before.mark ≡ true)
+      by : (b : Bool) → nat_eq v u ≡ b → (before : QueuedRequest Purpose) × (request_under s v ≡ Some before)
+          × (is_signalled before.mark ≡ true)
       by true e =
           let is : v ≡ u = grind (arith, nat_tests, e) in
-          let new : option_map (λ (r : QueuedRequest Purpose). r.mark) (request_under (with_mark s u m) u) ≡ Some m = lookup-set_mark_same u s.requests m old marked in
-          let mine : request_under (with_mark s u m) u ≡ Some request = subst (λ (n : ℕ). request_under (with_mark s u m) n ≡ Some request) is under in
-          let mark_is : request.mark ≡ m = cc (new, ap (λ (o : Option (QueuedRequest Purpose)). option_map (λ (r : QueuedRequest Purpose). r.mark) o) mine) in
-          subst (λ (n : ℕ). (before : QueuedRequest Purpose) × (request_under s n ≡ Some before) × (is_signalled before.mark ≡ true)) (sym is)
+          let new : option_map (λ (r : QueuedRequest Purpose). r.mark) (request_under (with_mark s u m) u) ≡ Some m =
+          lookup-set_mark_same u s.requests m old marked in
+          let mine : request_under (with_mark s u m) u ≡ Some request =
+          subst (λ (n : ℕ). request_under (with_mark s u m) n ≡ Some request) is under in
+          let mark_is : request.mark ≡ m = cc (
+            new,
+            ap (λ (o : Option (QueuedRequest Purpose)). option_map
+                (λ (r : QueuedRequest Purpose). r.mark) o) mine,
+          ) in
+          subst (λ (n : ℕ). (before : QueuedRequest Purpose) × (request_under s n ≡ Some before)
+          × (is_signalled before.mark ≡ true)) (sym is)
           (here (request_under s u) refl marked (kept (subst (λ (x : Mark). is_signalled x ≡ true) mark_is bears)))
       by false e = (request, sym (request_under-mark_other s v u m e) ∙ under, bears)

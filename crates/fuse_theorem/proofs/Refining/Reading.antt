@@ -24,26 +24,35 @@ use Rattle.fuse_spec.proofs.QueueSoundness.{mark_under-pending}
 use Rattle.fuse_theorem.proofs.Refining.Queuing.{All-without, All-at, asked_unsignalled, QueuesStay, queues_alike, find_marked, signal_before}
 
 -- queues that differ in forgets, INTERRUPTs and the coming number keep all alike
-pub same_requests : (w : World) (p : Plain) → Alike w p → (q : QueueState Purpose) → q.requests ≡ w.kernel.queues.requests → QueuesStay w p q
+pub same_requests : (w : World) (p : Plain) → Alike w p → (q : QueueState Purpose)
+    → q.requests ≡ w.kernel.queues.requests → QueuesStay w p q
 same_requests w p same q e = record {
-  pending = subst (λ (es : List (ℕ × QueuedRequest Purpose)). All (PurposeAsked w p) (pending (record w.kernel.queues { requests = es }))) (sym e) same.requests.pending;
-  same_request = λ call. ap (λ (es : List (ℕ × QueuedRequest Purpose)). option_map (λ (x : ℕ × QueuedRequest Purpose). x.0) (find (λ (x : ℕ × QueuedRequest Purpose). is_for call x.1.kept) es)) e;
+  pending = subst (λ (es : List (ℕ × QueuedRequest Purpose)). All (PurposeAsked w p)
+      (pending (record w.kernel.queues { requests = es }))) (sym e) same.requests.pending;
+  same_request = λ call. ap (λ (es : List (ℕ × QueuedRequest Purpose)). option_map
+      (λ (x : ℕ × QueuedRequest Purpose). x.0) (find (λ (x : ℕ × QueuedRequest Purpose). is_for call x.1.kept) es)) e;
   signalled = λ live u request ask under at bears.
-      (same.asks live).signalled u request ask (subst (λ (es : List (ℕ × QueuedRequest Purpose)). lookup (nat_eq u) es ≡ Some request) e under) at bears;
+      (same.asks live).signalled u request ask (subst (λ (es : List (ℕ × QueuedRequest Purpose)). lookup (nat_eq u) es
+      ≡ Some request) e under) at bears;
 }
 
 module _ (w : World) (p : Plain) (same : Alike w p) (sound : IsSound w.kernel.queues) where
-  marked_stay : (place : ℕ) (e : ℕ × QueuedRequest Purpose) (m : Mark) → slice_get (pending w.kernel.queues) place ≡ Some e → is_unread m ≡ false → (is_signalled m ≡ true → is_signalled e.1.mark ≡ true)
+  marked_stay : (place : ℕ) (e : ℕ × QueuedRequest Purpose) (m : Mark)
+      → slice_get (pending w.kernel.queues) place ≡ Some e → is_unread m ≡ false
+      → (is_signalled m ≡ true → is_signalled e.1.mark ≡ true)
       → QueuesStay w p (with_mark w.kernel.queues e.0 m)
   marked_stay place e m found read kept = record {
-    pending = subst (All (PurposeAsked w p)) (sym (pending-mark w.kernel.queues place e m sound found read)) (All-without (PurposeAsked w p) (pending w.kernel.queues) place same.requests.pending);
+    pending = subst (All (PurposeAsked w p)) (sym (pending-mark w.kernel.queues place e m sound found read))
+        (All-without (PurposeAsked w p) (pending w.kernel.queues) place same.requests.pending);
     same_request = λ call. find_marked call e.0 w.kernel.queues.requests m;
     signalled = λ live u request ask under at bears.
-        let before = signal_before w.kernel.queues e.0 e.1.mark m (mark_under-pending w.kernel.queues place e sound found) u request under bears kept in
+        let before = signal_before w.kernel.queues e.0 e.1.mark m
+        (mark_under-pending w.kernel.queues place e sound found) u request under bears kept in
         (same.asks live).signalled u before.0 ask before.1 at before.2;
   }
 
-  reading_stay : (place : ℕ) (e : ℕ × QueuedRequest Purpose) (m : Mark) → e.1.mark ≡ m → slice_get (pending w.kernel.queues) place ≡ Some e → QueuesStay w p (after_reading w.kernel.queues e.0 m)
+  reading_stay : (place : ℕ) (e : ℕ × QueuedRequest Purpose) (m : Mark) → e.1.mark ≡ m
+      → slice_get (pending w.kernel.queues) place ≡ Some e → QueuesStay w p (after_reading w.kernel.queues e.0 m)
   reading_stay place e Unread is found = marked_stay place e Read found refl (λ z. absurd (cc))
   reading_stay place e Flagged is found =
       let stay = marked_stay place e Interrupted found refl (λ z. ap is_signalled is) in
@@ -52,25 +61,41 @@ module _ (w : World) (p : Plain) (same : Alike w p) (sound : IsSound w.kernel.qu
   reading_stay place e Interrupted is found = same_requests w p same w.kernel.queues refl
 
   -- A pending request goes onto the link as it is read.
-  pub read_pending_alike : (place : ℕ) (e : ℕ × QueuedRequest Purpose) (body : RequestBody) → slice_get (pending w.kernel.queues) place ≡ Some e → body_of w.kernel e.1.kept ≡ Some body → Alike (world_read w place e.0 body) p
+  pub read_pending_alike : (place : ℕ) (e : ℕ × QueuedRequest Purpose) (body : RequestBody)
+      → slice_get (pending w.kernel.queues) place ≡ Some e → body_of w.kernel e.1.kept ≡ Some body
+      → Alike (world_read w place e.0 body) p
   read_pending_alike place e body found asks =
       let reading : QueuesStay w p (after_read_pending w.kernel.queues place) =
-      subst (λ (o : Option (ℕ × QueuedRequest Purpose)). QueuesStay w p (option_map_or (λ (x : ℕ × QueuedRequest Purpose). after_reading w.kernel.queues x.0 x.1.mark) o w.kernel.queues)) (sym found)
+      subst (λ (o : Option (ℕ × QueuedRequest Purpose)). QueuesStay w p
+      (option_map_or (λ (x : ℕ
+      × QueuedRequest Purpose). after_reading w.kernel.queues x.0 x.1.mark) o w.kernel.queues)) (sym found)
       (reading_stay place e e.1.mark refl found) in
-      let asked : PurposeAsked w p e = All-at (PurposeAsked w p) (pending w.kernel.queues) place e same.requests.pending found in
+      let asked : PurposeAsked w p e = All-at (PurposeAsked w p)
+      (pending w.kernel.queues) place e same.requests.pending found in
       let asked_body : RequestBodyAsked p.asks e.0 (is_signalled e.1.mark) false (MeansIn w) (MeansOpenIn w) body =
-      subst (λ (o : Option RequestBody). MatchOption o ⊥ (RequestBodyAsked p.asks e.0 (is_signalled e.1.mark) false (MeansIn w) (MeansOpenIn w))) asks asked in
-      queues_alike w p same (after_read_pending w.kernel.queues place) (w.requests ++ record { unique = e.0; body = body } ∷ []) reading
-      (All-push (λ (r : Request). RequestBodyAsked p.asks r.unique false false (MeansIn w) (MeansOpenIn w) r.body) w.requests (record { unique = e.0; body = body }) same.requests.sent
+      subst (λ (o : Option RequestBody). MatchOption o ⊥
+      (RequestBodyAsked p.asks e.0 (is_signalled e.1.mark) false (MeansIn w) (MeansOpenIn w))) asks asked in
+      queues_alike w p same (after_read_pending w.kernel.queues place)
+      (w.requests ++ record { unique = e.0; body = body } ∷ []) reading
+      (All-push (λ (r : Request). RequestBodyAsked p.asks r.unique false false (MeansIn w)
+      (MeansOpenIn w) r.body) w.requests (record { unique = e.0; body = body }) same.requests.sent
       (asked_unsignalled (MeansIn w) (MeansOpenIn w) p.asks e.0 (is_signalled e.1.mark) body asked_body))
 
   -- The first INTERRUPT goes onto the link. No ask stands under its number, which is odd.
-  pub read_interrupt_alike : (original : ℕ) → get p.asks (interrupt_number original) ≡ None → Alike (world_read_interrupt w original) p
+  pub read_interrupt_alike : (original : ℕ) → get p.asks (interrupt_number original) ≡ None
+      → Alike (world_read_interrupt w original) p
   read_interrupt_alike original unasked =
-      queues_alike w p same (after_read_interrupt w.kernel.queues) (w.requests ++ record { unique = interrupt_number original; body = interrupt original } ∷ []) (same_requests w p same (after_read_interrupt w.kernel.queues) refl)
-      (All-push (λ (r : Request). RequestBodyAsked p.asks r.unique false false (MeansIn w) (MeansOpenIn w) r.body) w.requests (record { unique = interrupt_number original; body = interrupt original }) same.requests.sent unasked)
+      queues_alike w p same (after_read_interrupt w.kernel.queues)
+      (w.requests ++ record { unique = interrupt_number original; body = interrupt original } ∷ [])
+      (same_requests w p same (after_read_interrupt w.kernel.queues) refl)
+      (All-push (λ (r : Request). RequestBodyAsked p.asks r.unique false false (MeansIn w)
+      (MeansOpenIn w) r.body) w.requests (record {
+        unique = interrupt_number original;
+        body = interrupt original;
+      }) same.requests.sent unasked)
 
-  forgets_unasked : (unique : ℕ) (fs : List Forget) → get p.asks unique ≡ None → RequestBodyAsked p.asks unique false false (MeansIn w) (MeansOpenIn w) (forget_body fs)
+  forgets_unasked : (unique : ℕ) (fs : List Forget) → get p.asks unique ≡ None
+      → RequestBodyAsked p.asks unique false false (MeansIn w) (MeansOpenIn w) (forget_body fs)
   forgets_unasked unique [] none = none
   forgets_unasked unique (f ∷ []) none = none
   forgets_unasked unique (f ∷ g ∷ fs) none = none
@@ -78,12 +103,24 @@ module _ (w : World) (p : Plain) (same : Alike w p) (sound : IsSound w.kernel.qu
   forgets_stay : (n : ℕ) → QueuesStay w p (after_read_forgets w.kernel.queues n)
   forgets_stay n = by (queues.can_read_forgets w.kernel.queues n)
     where
-      by : (b : Bool) → QueuesStay w p (cond b (record w.kernel.queues { forgets = drop n w.kernel.queues.forgets; next = w.kernel.queues.next + 2 }) w.kernel.queues)
-      by true = same_requests w p same (record w.kernel.queues { forgets = drop n w.kernel.queues.forgets; next = w.kernel.queues.next + 2 }) refl
+      by : (b : Bool) → QueuesStay w p (cond b (record w.kernel.queues {
+        forgets = drop n w.kernel.queues.forgets;
+        next = w.kernel.queues.next + 2;
+      }) w.kernel.queues)
+      by true = same_requests w p same (record w.kernel.queues {
+        forgets = drop n w.kernel.queues.forgets;
+        next = w.kernel.queues.next + 2;
+      }) refl
       by false = same_requests w p same w.kernel.queues refl
 
   -- Forgets go onto the link under the coming number, under which nothing is asked.
-  pub read_forgets_alike : (n : ℕ) (fs : List Forget) → get p.asks w.kernel.queues.next ≡ None → Alike (world_read_forgets w n fs) p
+  pub read_forgets_alike : (n : ℕ) (fs : List Forget) → get p.asks w.kernel.queues.next ≡ None
+      → Alike (world_read_forgets w n fs) p
   read_forgets_alike n fs unasked =
-      queues_alike w p same (after_read_forgets w.kernel.queues n) (w.requests ++ record { unique = w.kernel.queues.next; body = forget_body fs } ∷ []) (forgets_stay n)
-      (All-push (λ (r : Request). RequestBodyAsked p.asks r.unique false false (MeansIn w) (MeansOpenIn w) r.body) w.requests (record { unique = w.kernel.queues.next; body = forget_body fs }) same.requests.sent (forgets_unasked w.kernel.queues.next fs unasked))
+      queues_alike w p same (after_read_forgets w.kernel.queues n)
+      (w.requests ++ record { unique = w.kernel.queues.next; body = forget_body fs } ∷ []) (forgets_stay n)
+      (All-push (λ (r : Request). RequestBodyAsked p.asks r.unique false false (MeansIn w)
+      (MeansOpenIn w) r.body) w.requests (record {
+        unique = w.kernel.queues.next;
+        body = forget_body fs;
+      }) same.requests.sent (forgets_unasked w.kernel.queues.next fs unasked))

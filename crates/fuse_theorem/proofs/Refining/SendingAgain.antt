@@ -20,21 +20,31 @@ use Rattle.fuse_theorem.proofs.Refining.Serving.{copied_alike}
 use Rattle.fuse_theorem.proofs.Trees.NamelessDiscarded.{any_put}
 
 -- a count changes no file
-rows_same : (file : ℕ) (gs : List Entry) (t : NodeTable) → list_any (λ (row : HeldNode). nat_eq row.file file) (values (rows_counted t gs).rows) ≡ list_any (λ (row : HeldNode). nat_eq row.file file) (values t.rows)
+rows_same : (file : ℕ) (gs : List Entry) (t : NodeTable)
+    → list_any (λ (row : HeldNode). nat_eq row.file file) (values (rows_counted t gs).rows)
+    ≡ list_any (λ (row : HeldNode). nat_eq row.file file) (values t.rows)
 rows_same file [] t = refl
 rows_same file (g ∷ gs) t = rows_same file gs (row_more t g.nodeid) ∙ by (get t.rows g.nodeid) refl
   where
-    by : (o : Option HeldNode) → get t.rows g.nodeid ≡ o → list_any (λ (row : HeldNode). nat_eq row.file file) (values (rows_more t.rows g.nodeid o)) ≡ list_any (λ (row : HeldNode). nat_eq row.file file) (values t.rows)
+    by : (o : Option HeldNode) → get t.rows g.nodeid ≡ o
+        → list_any (λ (row : HeldNode). nat_eq row.file file) (values (rows_more t.rows g.nodeid o))
+        ≡ list_any (λ (row : HeldNode). nat_eq row.file file) (values t.rows)
     by None e = refl
-    by (Some row) e = any_put (λ (r : HeldNode). nat_eq r.file file) t.rows g.nodeid row (record row { count = row.count + 1 }) e refl
+    by (Some row) e = any_put (λ (r : HeldNode). nat_eq r.file file) t.rows g.nodeid row
+        (record row { count = row.count + 1 }) e refl
 
-handles_same : (file : ℕ) (fhs : List ℕ) (h : HandleTable) → list_any (λ (x : OpenNumber). nat_eq x.file file) (values (handles_counted h fhs).handles) ≡ list_any (λ (x : OpenNumber). nat_eq x.file file) (values h.handles)
+handles_same : (file : ℕ) (fhs : List ℕ) (h : HandleTable)
+    → list_any (λ (x : OpenNumber). nat_eq x.file file) (values (handles_counted h fhs).handles)
+    ≡ list_any (λ (x : OpenNumber). nat_eq x.file file) (values h.handles)
 handles_same file [] h = refl
 handles_same file (fh ∷ fhs) h = handles_same file fhs (handle_more h fh) ∙ by (get h.handles fh) refl
   where
-    by : (o : Option OpenNumber) → get h.handles fh ≡ o → list_any (λ (x : OpenNumber). nat_eq x.file file) (values (handles_more h.handles fh o)) ≡ list_any (λ (x : OpenNumber). nat_eq x.file file) (values h.handles)
+    by : (o : Option OpenNumber) → get h.handles fh ≡ o
+        → list_any (λ (x : OpenNumber). nat_eq x.file file) (values (handles_more h.handles fh o))
+        ≡ list_any (λ (x : OpenNumber). nat_eq x.file file) (values h.handles)
     by None e = refl
-    by (Some x) e = any_put (λ (y : OpenNumber). nat_eq y.file file) h.handles fh x (record x { count = x.count + 1 }) e refl
+    by (Some x) e = any_put (λ (y : OpenNumber). nat_eq y.file file) h.handles fh x
+        (record x { count = x.count + 1 }) e refl
 
 -- Where the server holds what the kernel knows, all is alike afterwards.
 pub again_alike : (w : World) (p : Plain) → IsOneToOne (MeansIn w) → KnownAreHeld w → Alike w p
@@ -42,17 +52,23 @@ pub again_alike : (w : World) (p : Plain) → IsOneToOne (MeansIn w) → KnownAr
 again_alike w p one held same unique kept there =
     let t = rows_counted w.server.nodes (files_in_reply kept.wire) in
     let h = handles_counted w.server.handles (opens_in_reply kept.wire) in
-    let still = λ (id generation file : ℕ) (d : Denotes w.server.nodes id generation file). counted_denotes (files_in_reply kept.wire) w.server.nodes id generation file d in
-    let carries = grown w p w.kernel.nodes t h (λ id generation e. e) still (λ fh file o. counted_open (opens_in_reply kept.wire) w.server.handles fh file o) (one_grown w.kernel.nodes w.server.nodes t held still one) in
+    let still = λ (id generation file : ℕ) (d : Denotes w.server.nodes id generation file). counted_denotes
+    (files_in_reply kept.wire) w.server.nodes id generation file d in
+    let carries = grown w p w.kernel.nodes t h (λ id generation e. e) still
+    (λ fh file o. counted_open (opens_in_reply kept.wire) w.server.handles fh file o)
+    (one_grown w.kernel.nodes w.server.nodes t held still one) in
     let s1 = record w.server { nodes = t; handles = h } in
     let same_files : (file : ℕ) → is_file_held w.server file ≡ is_file_held s1 file =
-    λ file i. sym (rows_same file (files_in_reply kept.wire) w.server.nodes) i || sym (handles_same file (opens_in_reply kept.wire) w.server.handles) i in
+    λ file i. sym (rows_same file (files_in_reply kept.wire) w.server.nodes) i
+    || sym (handles_same file (opens_in_reply kept.wire) w.server.handles) i in
     let w1 = record w { server = s1 } in
     let alike1 : Alike w1 p = carried_alike w p same w.kernel.nodes t h w.server.tree p.tree carries (record {
       names = same.tree.names;
       next_birth = same.tree.next_birth;
       next_serial = same.tree.next_serial;
-      files = λ file. same.tree.files file ∙ ap (λ (b : Bool). cond (not (is_nameless p.tree file) || b) (get p.tree.files file) None) (same_files file);
+      files = λ file. same.tree.files file ∙ ap (λ (b : Bool). cond (not (is_nameless p.tree file) || b)
+          (get p.tree.files file) None) (same_files file);
     }) in
-    copied_alike w1 p alike1 unique w.server.next_copy (w.server.next_copy + 1) kept.wire (put w.server.copies w.server.next_copy (record { unique = unique; wire = kept.wire; first = kept.first }))
+    copied_alike w1 p alike1 unique w.server.next_copy (w.server.next_copy + 1) kept.wire
+    (put w.server.copies w.server.next_copy (record { unique = unique; wire = kept.wire; first = kept.first }))
     (λ live ask at. (alike1.asks live).kept unique kept ask there at)

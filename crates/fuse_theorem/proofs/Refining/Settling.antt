@@ -34,7 +34,8 @@ left_was m k q x at = elim (cases_eq q k) [
 ]
 
 -- what is still kept was kept
-pub kept_was : (kept : Map Kept) (copy : Copy) (o : Option Kept) (q : ℕ) (x : Kept) → get (kept_after kept copy o) q ≡ Some x → get kept q ≡ Some x
+pub kept_was : (kept : Map Kept) (copy : Copy) (o : Option Kept) (q : ℕ) (x : Kept)
+    → get (kept_after kept copy o) q ≡ Some x → get kept q ≡ Some x
 kept_was kept copy None q x at = at
 kept_was kept copy (Some k) q x at = by (nat_eq k.first copy.first) at
   where
@@ -42,10 +43,17 @@ kept_was kept copy (Some k) q x at = by (nat_eq k.first copy.first) at
     by true at = left_was kept copy.unique q x at
     by false at = at
 
-pub kept_fewer_alike : (w : World) (p : Plain) → Alike w p → (results : List ReplyResult) (kept : Map Kept) (copies : Map Copy) → ((q : ℕ) (x : Kept) → get kept q ≡ Some x → get w.server.kept q ≡ Some x)
+pub kept_fewer_alike : (w : World) (p : Plain) → Alike w p
+    → (results : List ReplyResult) (kept : Map Kept) (copies : Map Copy)
+    → ((q : ℕ) (x : Kept) → get kept q ≡ Some x → get w.server.kept q ≡ Some x)
     → Alike (record w { results = results; server = record w.server { copies = copies; kept = kept } }) p
 kept_fewer_alike w p same results kept copies was = record {
-  tree = record { names = same.tree.names; next_birth = same.tree.next_birth; next_serial = same.tree.next_serial; files = same.tree.files };
+  tree = record {
+    names = same.tree.names;
+    next_birth = same.tree.next_birth;
+    next_serial = same.tree.next_serial;
+    files = same.tree.files;
+  };
   vfs = same.vfs;
   requests = record { pending = same.requests.pending; sent = same.requests.sent; held = same.requests.held };
   asks = λ live.
@@ -53,7 +61,14 @@ kept_fewer_alike w p same results kept copies was = record {
       record {
         of_calls = λ q state is.
             let pair = old.of_calls q state is in
-            record { unique = pair.unique; ask = pair.ask; request = pair.request; there = pair.there; by = pair.by; same = pair.same };
+            record {
+              unique = pair.unique;
+              ask = pair.ask;
+              request = pair.request;
+              there = pair.there;
+              by = pair.by;
+              same = pair.same;
+            };
         no_other = old.no_other;
         signalled = old.signalled;
         kept = λ u k ask at there. old.kept u k ask (was u k at) there;
@@ -67,64 +82,91 @@ kept_fewer_alike w p same results kept copies was = record {
 
 -- ---- tables that are given back
 
-back_denotes : (t : NodeTable) (g : Entry) (i generation file : ℕ) → Denotes (row_back t g) i generation file → Denotes t i generation file
+back_denotes : (t : NodeTable) (g : Entry) (i generation file : ℕ) → Denotes (row_back t g) i generation file
+    → Denotes t i generation file
 back_denotes t g i generation file d = by (is_held t g.nodeid g.generation) d
   where
     by : (b : Bool) → Denotes (cond b (taken_back t g.nodeid 1) t) i generation file → Denotes t i generation file
     by true e = less_denotes t g.nodeid 1 i generation file e
     by false e = e
 
-pub rows_back_denotes : (gs : List Entry) (t : NodeTable) (i generation file : ℕ) → Denotes (rows_back t gs) i generation file → Denotes t i generation file
+pub rows_back_denotes : (gs : List Entry) (t : NodeTable) (i generation file : ℕ)
+    → Denotes (rows_back t gs) i generation file → Denotes t i generation file
 rows_back_denotes [] t i generation file d = d
-rows_back_denotes (g ∷ gs) t i generation file d = back_denotes t g i generation file (rows_back_denotes gs (row_back t g) i generation file d)
+rows_back_denotes (g ∷ gs) t i generation file d =
+    back_denotes t g i generation file (rows_back_denotes gs (row_back t g) i generation file d)
 
-rows_back_files : (file : ℕ) (gs : List Entry) (t : NodeTable) → list_any (λ (row : HeldNode). nat_eq row.file file) (values (rows_back t gs).rows) ≡ true → list_any (λ (row : HeldNode). nat_eq row.file file) (values t.rows) ≡ true
+rows_back_files : (file : ℕ) (gs : List Entry) (t : NodeTable)
+    → list_any (λ (row : HeldNode). nat_eq row.file file) (values (rows_back t gs).rows) ≡ true
+    → list_any (λ (row : HeldNode). nat_eq row.file file) (values t.rows) ≡ true
 rows_back_files file [] t h = h
 rows_back_files file (g ∷ gs) t h = by (is_held t g.nodeid g.generation) (rows_back_files file gs (row_back t g) h)
   where
-    by : (b : Bool) → list_any (λ (row : HeldNode). nat_eq row.file file) (values (cond b (taken_back t g.nodeid 1) t).rows) ≡ true → list_any (λ (row : HeldNode). nat_eq row.file file) (values t.rows) ≡ true
-    by true e = rows_fewer (λ (row : HeldNode). nat_eq row.file file) t.rows g.nodeid 1 (get t.rows g.nodeid) refl (λ row. refl) e
+    by : (b : Bool) → list_any (λ (row : HeldNode). nat_eq row.file file)
+        (values (cond b (taken_back t g.nodeid 1) t).rows) ≡ true
+        → list_any (λ (row : HeldNode). nat_eq row.file file) (values t.rows) ≡ true
+    by true e = rows_fewer (λ (row : HeldNode). nat_eq row.file file) t.rows g.nodeid 1 (get t.rows g.nodeid) refl
+        (λ row. refl) e
     by false e = e
 
 -- an open number that is left is one of the same file
-pub number_back : (t : HandleTable) (q fh : ℕ) (y : OpenNumber) → get (handle_back t q).handles fh ≡ Some y → (x : OpenNumber) × (get t.handles fh ≡ Some x) × (y.file ≡ x.file)
+pub number_back : (t : HandleTable) (q fh : ℕ) (y : OpenNumber) → get (handle_back t q).handles fh ≡ Some y
+    → (x : OpenNumber) × (get t.handles fh ≡ Some x) × (y.file ≡ x.file)
 number_back t q fh y at = by (get t.handles q) refl at
   where
-    counted : (x : OpenNumber) (b : Bool) → get t.handles q ≡ Some x → get (cond b (put t.handles q (record x { count = x.count - 1 })) (remove t.handles q)) fh ≡ Some y → (z : OpenNumber) × (get t.handles fh ≡ Some z) × (y.file ≡ z.file)
+    counted : (x : OpenNumber) (b : Bool) → get t.handles q ≡ Some x
+        → get (cond b (put t.handles q (record x { count = x.count - 1 })) (remove t.handles q)) fh ≡ Some y
+        → (z : OpenNumber) × (get t.handles fh ≡ Some z) × (y.file ≡ z.file)
     counted x true there h = elim (cases_eq fh q) [
       | inl e ↦
-          let is_new : record x { count = x.count - 1 } ≡ y = cc (get_put_here t.handles q (record x { count = x.count - 1 }), subst (λ (m : ℕ). get (put t.handles q (record x { count = x.count - 1 })) m ≡ Some y) e h) in
+          let is_new : record x { count = x.count - 1 } ≡ y =
+          cc (
+            get_put_here t.handles q (record x { count = x.count - 1 }),
+            subst (λ (m : ℕ). get (put t.handles q (record x { count = x.count - 1 })) m ≡ Some y) e h,
+          ) in
           (x, subst (λ (m : ℕ). get t.handles m ≡ Some x) (sym e) there, ap (λ (z : OpenNumber). z.file) (sym is_new))
       | inr ne ↦ (y, sym (get_put_there t.handles q (record x { count = x.count - 1 }) fh ne) ∙ h, refl)
     ]
     counted x false there h = (y, left_was t.handles q fh y h, refl)
 
-    by : (o : Option OpenNumber) → get t.handles q ≡ o → get (handles_less t.handles q o) fh ≡ Some y → (x : OpenNumber) × (get t.handles fh ≡ Some x) × (y.file ≡ x.file)
+    by : (o : Option OpenNumber) → get t.handles q ≡ o → get (handles_less t.handles q o) fh ≡ Some y
+        → (x : OpenNumber) × (get t.handles fh ≡ Some x) × (y.file ≡ x.file)
     by None there h = (y, h, refl)
     by (Some x) there h = counted x (nat_lt 1 x.count) there h
 
-numbers_back : (fhs : List ℕ) (t : HandleTable) (fh : ℕ) (y : OpenNumber) → get (handles_back t fhs).handles fh ≡ Some y → (x : OpenNumber) × (get t.handles fh ≡ Some x) × (y.file ≡ x.file)
+numbers_back : (fhs : List ℕ) (t : HandleTable) (fh : ℕ) (y : OpenNumber)
+    → get (handles_back t fhs).handles fh ≡ Some y → (x : OpenNumber) × (get t.handles fh ≡ Some x) × (y.file ≡ x.file)
 numbers_back [] t fh y at = (y, at, refl)
 numbers_back (q ∷ fhs) t fh y at =
     let z = numbers_back fhs (handle_back t q) fh y at in
     let x = number_back t q fh z.0 z.1 in
     (x.0, x.1, z.2 ∙ x.2)
 
-pub handle_back_files : (file q : ℕ) (t : HandleTable) → list_any (λ (x : OpenNumber). nat_eq x.file file) (values (handle_back t q).handles) ≡ true → list_any (λ (x : OpenNumber). nat_eq x.file file) (values t.handles) ≡ true
+pub handle_back_files : (file q : ℕ) (t : HandleTable)
+    → list_any (λ (x : OpenNumber). nat_eq x.file file) (values (handle_back t q).handles) ≡ true
+    → list_any (λ (x : OpenNumber). nat_eq x.file file) (values t.handles) ≡ true
 handle_back_files file q t h = by (get t.handles q) refl h
   where
-    by : (o : Option OpenNumber) → get t.handles q ≡ o → list_any (λ (x : OpenNumber). nat_eq x.file file) (values (handles_less t.handles q o)) ≡ true → list_any (λ (x : OpenNumber). nat_eq x.file file) (values t.handles) ≡ true
+    by : (o : Option OpenNumber) → get t.handles q ≡ o
+        → list_any (λ (x : OpenNumber). nat_eq x.file file) (values (handles_less t.handles q o)) ≡ true
+        → list_any (λ (x : OpenNumber). nat_eq x.file file) (values t.handles) ≡ true
     by None there e = e
-    by (Some x) there e = any_fewer (λ (x : OpenNumber). nat_eq x.file file) t.handles q x (record x { count = x.count - 1 }) there refl (nat_lt 1 x.count) e
+    by (Some x) there e = any_fewer (λ (x : OpenNumber). nat_eq x.file file) t.handles q x
+        (record x { count = x.count - 1 }) there refl (nat_lt 1 x.count) e
 
-handles_back_files : (file : ℕ) (fhs : List ℕ) (t : HandleTable) → list_any (λ (x : OpenNumber). nat_eq x.file file) (values (handles_back t fhs).handles) ≡ true → list_any (λ (x : OpenNumber). nat_eq x.file file) (values t.handles) ≡ true
+handles_back_files : (file : ℕ) (fhs : List ℕ) (t : HandleTable)
+    → list_any (λ (x : OpenNumber). nat_eq x.file file) (values (handles_back t fhs).handles) ≡ true
+    → list_any (λ (x : OpenNumber). nat_eq x.file file) (values t.handles) ≡ true
 handles_back_files file [] t h = h
 handles_back_files file (q ∷ fhs) t h = handle_back_files file q t (handles_back_files file fhs (handle_back t q) h)
 
 -- ---- what is in use is meant still
 
-module _ (w : World) (p : Plain) (same : Alike w p) (one : OneId w.server.nodes) (t : NodeTable) (h : HandleTable) (fewer : (i generation file : ℕ) → Denotes t i generation file → Denotes w.server.nodes i generation file)
-    (fewer_numbers : (fh : ℕ) (y : OpenNumber) → get h.handles fh ≡ Some y → (x : OpenNumber) × (get w.server.handles.handles fh ≡ Some x) × (y.file ≡ x.file)) (holds : HoldsAll w t) (opens : HoldsOpens w h) where
+module _ (w : World) (p : Plain) (same : Alike w p) (one : OneId w.server.nodes) (t : NodeTable) (h : HandleTable)
+    (fewer : (i generation file : ℕ) → Denotes t i generation file → Denotes w.server.nodes i generation file)
+    (fewer_numbers : (fh : ℕ) (y : OpenNumber) → get h.handles fh ≡ Some y
+    → (x : OpenNumber) × (get w.server.handles.handles fh ≡ Some x) × (y.file ≡ x.file)) (holds : HoldsAll w t)
+    (opens : HoldsOpens w h) where
   -- an open number that is held is one of the same file
   open_still : (fh file : ℕ) → IsNumber h fh → is_open w.server.handles fh file ≡ true → is_open h fh file ≡ true
   open_still fh file there old = by (get h.handles fh) refl there
@@ -138,76 +180,133 @@ module _ (w : World) (p : Plain) (same : Alike w p) (one : OneId w.server.nodes)
 
   pub narrows_fewer : Narrows w p w.kernel.nodes t h
   narrows_fewer = record {
-    back = λ id file m. record { generation = m.generation; known = m.known; denotes = fewer id m.generation file m.denotes };
+    back = λ id file m. record {
+      generation = m.generation;
+      known = m.known;
+      denotes = fewer id m.generation file m.denotes;
+    };
     root = λ file m. means w p same t fewer one holds w.kernel.vfs.root file m;
     directories = λ id name there file m. means w p same t fewer one holds id file m;
     targets = λ id name bound at target file is m. means w p same t fewer one holds target file m;
-    opens = λ handle o at file m. record { node_means = means w p same t fewer one holds o.nodeid file m.node_means; is_number = open_still o.fh file (opens.opens handle o at) m.is_number };
+    opens = λ handle o at file m. record {
+      node_means = means w p same t fewer one holds o.nodeid file m.node_means;
+      is_number = open_still o.fh file (opens.opens handle o at) m.is_number;
+    };
     calls = λ call state at.
         record {
           nodes_stay = λ id file among m. means w p same t fewer one holds id file m;
-          opens_stay = λ o file node among m. record { node_means = means w p same t fewer one holds o.nodeid file m.node_means; is_number = open_still o.fh file (opens.calls call state at o among) m.is_number };
+          opens_stay = λ o file node among m. record {
+            node_means =
+                means w p same t fewer one holds o.nodeid file m.node_means;
+            is_number =
+                open_still o.fh file (opens.calls call state at o among) m.is_number;
+          };
         };
     sent = λ i r lt.
         record {
           nodes_stay = λ id file among m. means w p same t fewer one holds id file m;
-          opens_stay = λ o file node among m. record { node_means = means w p same t fewer one holds o.nodeid file m.node_means; is_number = open_still o.fh file (opens.sent i r lt o among) m.is_number };
+          opens_stay = λ o file node among m. record {
+            node_means =
+                means w p same t fewer one holds o.nodeid file m.node_means;
+            is_number =
+                open_still o.fh file (opens.sent i r lt o among) m.is_number;
+          };
         };
     held_nodes = λ u x at id file among m. meant w p same t fewer one holds u x at id file m;
-    held_opens = λ u x at o file among m. record { node_meant = meant w p same t fewer one holds u x at o.nodeid file m.node_meant; is_number = open_still o.fh file (opens.held u x at o among) m.is_number };
+    held_opens = λ u x at o file among m. record {
+      node_meant =
+          meant w p same t fewer one holds u x at o.nodeid file m.node_meant;
+      is_number =
+          open_still o.fh file (opens.held u x at o among) m.is_number;
+    };
     kept = λ live u k ask at there told.
         let waits = unanswered w p same t fewer one holds live u ask there in
-        stage_more w.server.nodes t w.server.handles h ask.stage k.wire (λ g file among d. still w p same t fewer one holds g.nodeid g.generation file (holds.kept u k at waits g among) d)
+        stage_more w.server.nodes t w.server.handles h ask.stage k.wire
+        (λ g file among d. still w p same t fewer one holds g.nodeid g.generation file
+        (holds.kept u k at waits g among) d)
         (λ fh file among o. open_still fh file (opens.kept u k at waits fh among) o) told;
     copies = λ live i s lt ask there told.
         let sent = get_or w.replies i s in
         let waits = unanswered w p same t fewer one holds live sent.unique ask there in
-        stage_more w.server.nodes t w.server.handles h ask.stage sent.wire (λ g file among d. still w p same t fewer one holds g.nodeid g.generation file (holds.copies i s lt waits g among) d)
+        stage_more w.server.nodes t w.server.handles h ask.stage sent.wire
+        (λ g file among d. still w p same t fewer one holds g.nodeid g.generation file
+        (holds.copies i s lt waits g among) d)
         (λ fh file among o. open_still fh file (opens.copies i s lt waits fh among) o) told;
   }
 
 -- What a copy carried is given back.
-given_back_alike : (w : World) (p : Plain) → OneId w.server.nodes → Alike w p → (wire : WireReply) → HoldsAll w (rows_back w.server.nodes (files_in_reply wire)) → HoldsOpens w (handles_back w.server.handles (opens_in_reply wire))
+given_back_alike : (w : World) (p : Plain) → OneId w.server.nodes → Alike w p → (wire : WireReply)
+    → HoldsAll w (rows_back w.server.nodes (files_in_reply wire))
+    → HoldsOpens w (handles_back w.server.handles (opens_in_reply wire))
     → Alike (record w { server = given_back w.server wire }) p
 given_back_alike w p one same wire holds opens =
     let t = rows_back w.server.nodes (files_in_reply wire) in
     let h = handles_back w.server.handles (opens_in_reply wire) in
     let s = record w.server { nodes = t; handles = h } in
-    let trees = swept_alike s p.tree (λ file. is_file_held w.server file) same.tree.names same.tree.next_birth same.tree.next_serial same.tree.files
+    let trees = swept_alike s p.tree
+    (λ file. is_file_held w.server file) same.tree.names same.tree.next_birth same.tree.next_serial same.tree.files
     (λ file held.
-    both (list_any (λ (row : HeldNode). nat_eq row.file file) (values t.rows)) (list_any (λ (x : OpenNumber). nat_eq x.file file) (values h.handles)) (list_any (λ (row : HeldNode). nat_eq row.file file) (values w.server.nodes.rows))
-    (list_any (λ (x : OpenNumber). nat_eq x.file file) (values w.server.handles.handles)) held (rows_back_files file (files_in_reply wire) w.server.nodes) (handles_back_files file (opens_in_reply wire) w.server.handles)) in
+    both (list_any (λ (row : HeldNode). nat_eq row.file file) (values t.rows))
+    (list_any (λ (x : OpenNumber). nat_eq x.file file) (values h.handles))
+    (list_any (λ (row : HeldNode). nat_eq row.file file) (values w.server.nodes.rows))
+    (list_any (λ (x : OpenNumber). nat_eq x.file file) (values w.server.handles.handles)) held
+    (rows_back_files file (files_in_reply wire) w.server.nodes)
+    (handles_back_files file (opens_in_reply wire) w.server.handles)) in
     narrowed_alike w p same w.kernel.nodes t h (without_unheld_files s).tree p.tree
-    (narrows_fewer w p same one t h (rows_back_denotes (files_in_reply wire) w.server.nodes) (numbers_back (opens_in_reply wire) w.server.handles) holds opens) trees
+    (narrows_fewer w p same one t h (rows_back_denotes (files_in_reply wire) w.server.nodes)
+    (numbers_back (opens_in_reply wire) w.server.handles) holds opens) trees
   where
     both : (a b c d : Bool) → (a || b) ≡ true → (a ≡ true → c ≡ true) → (b ≡ true → d ≡ true) → (c || d) ≡ true
     both true b c d h f g = ap (λ (x : Bool). x || d) (f refl)
     both false b true d h f g = refl
     both false b false d h f g = g h
 
-module _ (w : World) (p : Plain) (one : OneId w.server.nodes) (same : Alike w p) (k : ℕ) (result : ReplyResult) (copy : Copy) where
+module _ (w : World) (p : Plain) (one : OneId w.server.nodes) (same : Alike w p) (k : ℕ) (result : ReplyResult)
+    (copy : Copy) where
   abbrev kept_left : Map Kept
   kept_left = kept_after w.server.kept copy (get w.server.kept copy.unique)
 
   abbrev left : World
-  left = record w { results = without w.results k; server = record w.server { copies = remove w.server.copies result.number; kept = kept_left } }
+  left = record w {
+    results = without w.results k;
+    server = record w.server { copies = remove w.server.copies result.number; kept = kept_left };
+  }
 
   left_alike : Alike left p
-  left_alike = kept_fewer_alike w p same (without w.results k) kept_left (remove w.server.copies result.number) (λ q x at. kept_was w.server.kept copy (get w.server.kept copy.unique) q x at)
+  left_alike = kept_fewer_alike w p same (without w.results k) kept_left (remove w.server.copies result.number)
+      (λ q x at. kept_was w.server.kept copy (get w.server.kept copy.unique) q x at)
 
   abbrev After : WriteResult → World
   After r = record w { results = without w.results k; server = settled w.server result.number copy r }
 
-  by_result : (r : WriteResult) → HoldsAll (After r) (After r).server.nodes → HoldsOpens (After r) (After r).server.handles → Alike (After r) p
+  by_result : (r : WriteResult) → HoldsAll (After r) (After r).server.nodes
+      → HoldsOpens (After r) (After r).server.handles → Alike (After r) p
   by_result Accepted holds opens = left_alike
   by_result NoEntry holds opens =
-      given_back_alike left p one left_alike copy.wire (record { known = holds.known; held = holds.held; kept = holds.kept; copies = holds.copies })
-      (record { opens = opens.opens; calls = opens.calls; sent = opens.sent; held = opens.held; kept = opens.kept; copies = opens.copies })
+      given_back_alike left p one left_alike copy.wire
+      (record { known = holds.known; held = holds.held; kept = holds.kept; copies = holds.copies })
+      (record {
+        opens = opens.opens;
+        calls = opens.calls;
+        sent = opens.sent;
+        held = opens.held;
+        kept = opens.kept;
+        copies = opens.copies;
+      })
   by_result Invalid holds opens =
-      given_back_alike left p one left_alike copy.wire (record { known = holds.known; held = holds.held; kept = holds.kept; copies = holds.copies })
-      (record { opens = opens.opens; calls = opens.calls; sent = opens.sent; held = opens.held; kept = opens.kept; copies = opens.copies })
+      given_back_alike left p one left_alike copy.wire
+      (record { known = holds.known; held = holds.held; kept = holds.kept; copies = holds.copies })
+      (record {
+        opens = opens.opens;
+        calls = opens.calls;
+        sent = opens.sent;
+        held = opens.held;
+        kept = opens.kept;
+        copies = opens.copies;
+      })
 
   -- A copy is settled: where the server holds afterwards what is known, held and on its way, all is alike.
-  pub settled_alike : HoldsAll (after_settle w k result (Some copy)) (after_settle w k result (Some copy)).server.nodes → HoldsOpens (after_settle w k result (Some copy)) (after_settle w k result (Some copy)).server.handles
+  pub settled_alike : HoldsAll (after_settle w k result (Some copy)) (after_settle w k result (Some copy)).server.nodes
+      → HoldsOpens (after_settle w k result (Some copy)) (after_settle w k result (Some copy)).server.handles
       → Alike (after_settle w k result (Some copy)) p
   settled_alike holds opens = by_result result.result holds opens

@@ -28,7 +28,8 @@ use Rattle.fuse_theorem.proofs.Calls.Meaning.{operation_more, first_of}
 
 -- ---- what is alike under R and S is alike under what they imply
 
-pub option_more : {X Y : Type 0} (R R' : X → Y → Type 0) → ((x : X) (y : Y) → R x y → R' x y) → (a : Option X) (b : Option Y) → OptionAlike R a b → OptionAlike R' a b
+pub option_more : {X Y : Type 0} (R R' : X → Y → Type 0) → ((x : X) (y : Y) → R x y → R' x y)
+    → (a : Option X) (b : Option Y) → OptionAlike R a b → OptionAlike R' a b
 option_more R R' f None None h = h
 option_more R R' f (Some x) (Some y) h = f x y h
 option_more R R' f None (Some y) h = absurd h
@@ -59,10 +60,12 @@ module _ (R R' : ℕ → ℕ → Type 0) (more : (id file : ℕ) → R id file �
 
   module _ (S S' : Opened → ℕ → Type 0) (more_open : (o : Opened) (file : ℕ) → S o file → S' o file) where
     pub operation_all : (a : Operation ℕ Opened) (b : Operation ℕ ℕ) → OperationAlike R S a b → OperationAlike R' S' a b
-    operation_all a b h = operation_more R R' S S' a b (λ id file among r. more id file r) (λ o file among named s. more_open o file s) h
+    operation_all a b h = operation_more R R' S S' a b (λ id file among r. more id file r)
+        (λ o file among named s. more_open o file s) h
 
     pub state_more : (a : CallState Opened) (b : CallState ℕ) → StateAlike R S a b → StateAlike R' S' a b
-    state_more (walking d word words plan) (walking e word' words' plan') h = (more d e h.0, h.1, h.2, plan_more plan plan' h.3)
+    state_more (walking d word words plan) (walking e word' words' plan') h =
+        (more d e h.0, h.1, h.2, plan_more plan plan' h.3)
     state_more (doing a) (doing b) h = operation_all a b h
     state_more (using handle a) (using handle' b) h = (h.0, operation_all a b h.1)
     state_more (walking d word words plan) (doing b) h = absurd h
@@ -75,21 +78,27 @@ module _ (R R' : ℕ → ℕ → Type 0) (more : (id file : ℕ) → R id file �
     -- The system calls' sides stay alike. No name stands in a file that is new to R', as R' is one to one.
     pub vfs_more : IsOneToOne R' → (c : Vfs Opened) (d : Vfs ℕ) → VfsAlike R S c d → VfsAlike R' S' c d
     vfs_more one c d same = record {
-      names = λ id file name r. by id file name r (get_name c.names (id, name)) (get_name d.names (file, name)) refl refl;
+      names = λ id file name r. by id file name r (get_name c.names (id, name))
+          (get_name d.names (file, name)) refl refl;
       names_meant = λ id name there. let meant = same.names_meant id name there in (meant.0, more id meant.0 meant.1);
-      names_reached = λ file name there. let reached = same.names_reached file name there in (reached.0, more reached.0 file reached.1);
+      names_reached = λ file name there. let reached =
+          same.names_reached file name there in (reached.0, more reached.0 file reached.1);
       opens = λ handle. option_more S S' more_open (get c.opens handle) (get d.opens handle) (same.opens handle);
-      calls = λ call. option_more (StateAlike R S) (StateAlike R' S') state_more (get c.calls call) (get d.calls call) (same.calls call);
+      calls = λ call. option_more (StateAlike R S) (StateAlike R' S') state_more (get c.calls call) (get d.calls call)
+          (same.calls call);
       answers = same.answers;
       next_call = same.next_call;
       clock = same.clock;
       roots = more c.root d.root same.roots;
     }
       where
-        bound : (id file : ℕ) (name : List ℕ) → R id file → OptionAlike (BindingAlike R') (get_name c.names (id, name)) (get_name d.names (file, name))
-        bound id file name r = option_more (BindingAlike R) (BindingAlike R') binding_more (get_name c.names (id, name)) (get_name d.names (file, name)) (same.names id file name r)
+        bound : (id file : ℕ) (name : List ℕ) → R id file
+            → OptionAlike (BindingAlike R') (get_name c.names (id, name)) (get_name d.names (file, name))
+        bound id file name r = option_more (BindingAlike R) (BindingAlike R') binding_more
+            (get_name c.names (id, name)) (get_name d.names (file, name)) (same.names id file name r)
 
-        by : (id file : ℕ) (name : List ℕ) → R' id file → (a b : Option Binding) → get_name c.names (id, name) ≡ a → get_name d.names (file, name) ≡ b
+        by : (id file : ℕ) (name : List ℕ) → R' id file → (a b : Option Binding) → get_name c.names (id, name) ≡ a
+            → get_name d.names (file, name) ≡ b
             → OptionAlike (BindingAlike R') (get_name c.names (id, name)) (get_name d.names (file, name))
         by id file name r None None e f = rw (e, f) tt
         by id file name r (Some x) b e f =
@@ -102,11 +111,14 @@ module _ (R R' : ℕ → ℕ → Type 0) (more : (id file : ℕ) → R id file �
             bound id file name (subst (λ (n : ℕ). R n file) same_id reached.1)
 
 -- what a reply says, where the files and open numbers that it names are meant still
-pub reply_more : (R R' : Entry → ℕ → Type 0) (S S' : ℕ → ℕ → Type 0) (a : WireReply) (b : Reply ℕ ℕ) → ((g : Entry) (file : ℕ) → Contains (files_in_reply a) g → R g file → R' g file)
-    → ((fh file : ℕ) → Contains (opens_in_reply a) fh → S fh file → S' fh file) → ReplyAlike R S a b → ReplyAlike R' S' a b
+pub reply_more : (R R' : Entry → ℕ → Type 0) (S S' : ℕ → ℕ → Type 0) (a : WireReply) (b : Reply ℕ ℕ)
+    → ((g : Entry) (file : ℕ) → Contains (files_in_reply a) g → R g file → R' g file)
+    → ((fh file : ℕ) → Contains (opens_in_reply a) fh → S fh file → S' fh file) → ReplyAlike R S a b
+    → ReplyAlike R' S' a b
 reply_more R R' S S' (found g v) (found file v') f k h = (f g file (first_of g []) h.0, h.1)
 reply_more R R' S S' (missing v) (missing v') f k h = h
-reply_more R R' S S' (created g v fh) (created file v' o) f k h = (f g file (first_of g []) h.0, h.1, k fh o (first_of fh []) h.2)
+reply_more R R' S S' (created g v fh) (created file v' o) f k h =
+    (f g file (first_of g []) h.0, h.1, k fh o (first_of fh []) h.2)
 reply_more R R' S S' (opened fh) (opened o) f k h = k fh o (first_of fh []) h
 reply_more R R' S S' (attributes x) (attributes y) f k h = h
 reply_more R R' S S' (listed xs) (listed ys) f k h = h
@@ -119,15 +131,22 @@ reply_more R R' S S' (failed x) (failed y) f k h = h
 reply_more R R' S S' a b f k h = absurd h
 
 -- .. and what an ask came to
-pub stage_more : (t t' : NodeTable) (h h' : HandleTable) (stage : Stage) (wire : WireReply) → ((g : Entry) (file : ℕ) → Contains (files_in_reply wire) g → Names t g file → Names t' g file)
-    → ((fh file : ℕ) → Contains (opens_in_reply wire) fh → Opens h fh file → Opens h' fh file) → StageTold t h stage wire → StageTold t' h' stage wire
+pub stage_more : (t t' : NodeTable) (h h' : HandleTable) (stage : Stage) (wire : WireReply)
+    → ((g : Entry) (file : ℕ) → Contains (files_in_reply wire) g → Names t g file → Names t' g file)
+    → ((fh file : ℕ) → Contains (opens_in_reply wire) fh → Opens h fh file → Opens h' fh file)
+    → StageTold t h stage wire → StageTold t' h' stage wire
 stage_more t t' h h' waiting wire f k told = absurd told
-stage_more t t' h h' (performed reply) wire f k told = reply_more (Names t) (Names t') (Opens h) (Opens h') wire reply f k told
+stage_more t t' h h' (performed reply) wire f k told =
+    reply_more (Names t) (Names t') (Opens h) (Opens h') wire reply f k told
 stage_more t t' h h' declined wire f k told = told
 
 -- .. and what a request asks
-pub body_more : (R R' : ℕ → ℕ → Type 0) (S S' : Opened → ℕ → Type 0) (all : Map Ask) (unique : ℕ) (signalled marked : Bool) (body : RequestBody) → ((id file : ℕ) → Contains (nodes_of_body body) id → R id file → R' id file)
-    → ((o : Opened) (file : ℕ) → Contains (opens_of_body body) o → S o file → S' o file) → RequestBodyAsked all unique signalled marked R S body → RequestBodyAsked all unique signalled marked R' S' body
+pub body_more : (R R' : ℕ → ℕ → Type 0) (S S' : Opened → ℕ → Type 0) (all : Map Ask) (unique : ℕ)
+    (signalled marked : Bool) (body : RequestBody) →
+    ((id file : ℕ) → Contains (nodes_of_body body) id → R id file → R' id file)
+    → ((o : Opened) (file : ℕ) → Contains (opens_of_body body) o → S o file → S' o file)
+    → RequestBodyAsked all unique signalled marked R S body
+    → RequestBodyAsked all unique signalled marked R' S' body
 body_more R R' S S' all unique signalled marked (asks operation) f k h = record {
   ask = h.ask;
   there = h.there;
@@ -145,30 +164,49 @@ pub record Carries (w : World) (p : Plain) (nodes : Map Counted) (t : NodeTable)
   pub means : (id file : ℕ) → MeansIn w id file → Means nodes t id file
   pub opens : (o : Opened) (file : ℕ) → MeansOpenIn w o file → MeansOpen nodes t h o file
   pub one : IsOneToOne (Means nodes t)
-  pub held_nodes : (unique : ℕ) (x : HeldRequest) → get w.server.held unique ≡ Some x → (id file : ℕ) → Contains (nodes_of_body x.body) id → Meant w.server.nodes x.generations id file → Meant t x.generations id file
-  pub held_opens : (unique : ℕ) (x : HeldRequest) → get w.server.held unique ≡ Some x → (o : Opened) (file : ℕ) → Contains (opens_of_body x.body) o → MeantOpen w.server.nodes w.server.handles x.generations o file
+  pub held_nodes : (unique : ℕ) (x : HeldRequest) → get w.server.held unique ≡ Some x → (id file : ℕ)
+      → Contains (nodes_of_body x.body) id → Meant w.server.nodes x.generations id file → Meant t x.generations id file
+  pub held_opens : (unique : ℕ) (x : HeldRequest) → get w.server.held unique ≡ Some x → (o : Opened) (file : ℕ)
+      → Contains (opens_of_body x.body) o → MeantOpen w.server.nodes w.server.handles x.generations o file
       → MeantOpen t h x.generations o file
-  pub kept : is_live w.kernel.phase ≡ true → (unique : ℕ) (k : Kept) (ask : Ask) → get w.server.kept unique ≡ Some k → get p.asks unique ≡ Some ask → StageTold w.server.nodes w.server.handles ask.stage k.wire
+  pub kept : is_live w.kernel.phase ≡ true → (unique : ℕ) (k : Kept) (ask : Ask) → get w.server.kept unique ≡ Some k
+      → get p.asks unique ≡ Some ask → StageTold w.server.nodes w.server.handles ask.stage k.wire
       → StageTold t h ask.stage k.wire
-  pub copies : is_live w.kernel.phase ≡ true → All (λ (s : Sent). (ask : Ask) → get p.asks s.unique ≡ Some ask → StageTold w.server.nodes w.server.handles ask.stage s.wire → StageTold t h ask.stage s.wire) w.replies
+  pub copies : is_live w.kernel.phase ≡ true → All
+      (λ (s : Sent). (ask : Ask) → get p.asks s.unique ≡ Some ask
+      → StageTold w.server.nodes w.server.handles ask.stage s.wire → StageTold t h ask.stage s.wire) w.replies
 
 -- All stays alike.
-pub carried_alike : (w : World) (p : Plain) → Alike w p → (nodes : Map Counted) (t : NodeTable) (h : HandleTable) (tree tree' : Tree) → Carries w p nodes t h → TreeAlike (record w.server { tree = tree; nodes = t; handles = h }) tree'
-    → Alike (record w { kernel = record w.kernel { nodes = nodes }; server = record w.server { tree = tree; nodes = t; handles = h } }) (record p { tree = tree' })
+pub carried_alike : (w : World) (p : Plain) → Alike w p
+    → (nodes : Map Counted) (t : NodeTable) (h : HandleTable) (tree tree' : Tree) → Carries w p nodes t h
+    → TreeAlike (record w.server { tree = tree; nodes = t; handles = h }) tree'
+    → Alike (record w {
+      kernel = record w.kernel { nodes = nodes };
+      server = record w.server { tree = tree; nodes = t; handles = h };
+    }) (record p { tree = tree' })
 carried_alike w p same nodes t h tree tree' carries trees = record {
   tree = trees;
-  vfs = vfs_more (MeansIn w) (Means nodes t) carries.means (MeansOpenIn w) (MeansOpen nodes t h) carries.opens carries.one w.kernel.vfs p.vfs same.vfs;
+  vfs = vfs_more (MeansIn w) (Means nodes t) carries.means (MeansOpenIn w)
+      (MeansOpen nodes t h) carries.opens carries.one w.kernel.vfs p.vfs same.vfs;
   requests = record {
     pending = λ i e lt.
         let entry = get_or (pending w.kernel.queues) i e in
         match_more (body_of w.kernel entry.1.kept)
-        (λ body asked. body_more (MeansIn w) (Means nodes t) (MeansOpenIn w) (MeansOpen nodes t h) p.asks entry.0 (is_signalled entry.1.mark) false body (λ id file among r. carries.means id file r) (λ o file among s. carries.opens o file s) asked)
+        (λ body asked. body_more (MeansIn w) (Means nodes t) (MeansOpenIn w) (MeansOpen nodes t h) p.asks entry.0
+        (is_signalled entry.1.mark) false body (λ id file among r. carries.means id file r)
+        (λ o file among s. carries.opens o file s) asked)
         (same.requests.pending i e lt);
     sent = λ i r lt.
         let request = get_or w.requests i r in
-        body_more (MeansIn w) (Means nodes t) (MeansOpenIn w) (MeansOpen nodes t h) p.asks request.unique false false request.body (λ id file among r. carries.means id file r) (λ o file among s. carries.opens o file s) (same.requests.sent i r lt);
+        body_more (MeansIn w) (Means nodes t) (MeansOpenIn w)
+        (MeansOpen nodes t h) p.asks request.unique false false request.body
+        (λ id file among r. carries.means id file r) (λ o file among s. carries.opens o file s)
+        (same.requests.sent i r lt);
     held = λ u x at.
-        body_more (Meant w.server.nodes x.generations) (Meant t x.generations) (MeantOpen w.server.nodes w.server.handles x.generations) (MeantOpen t h x.generations) p.asks u false x.marked x.body (carries.held_nodes u x at) (carries.held_opens u x at)
+        body_more (Meant w.server.nodes x.generations) (Meant t x.generations)
+        (MeantOpen w.server.nodes w.server.handles x.generations)
+        (MeantOpen t h x.generations) p.asks u false x.marked x.body (carries.held_nodes u x at)
+        (carries.held_opens u x at)
         (same.requests.held u x at);
   };
   asks = λ live.
@@ -182,7 +220,8 @@ carried_alike w p same nodes t h tree tree' carries trees = record {
               request = pair.request;
               there = pair.there;
               by = pair.by;
-              same = operation_all (MeansIn w) (Means nodes t) carries.means (MeansOpenIn w) (MeansOpen nodes t h) carries.opens (asked state) pair.ask.operation pair.same;
+              same = operation_all (MeansIn w) (Means nodes t) carries.means (MeansOpenIn w)
+                  (MeansOpen nodes t h) carries.opens (asked state) pair.ask.operation pair.same;
             };
         no_other = old.no_other;
         signalled = old.signalled;
@@ -196,23 +235,44 @@ carried_alike w p same nodes t h tree tree' carries trees = record {
 }
 
 -- Where nothing that was denoted or open is lost, and the kernel knows no less, all is meant still.
-pub grown : (w : World) (p : Plain) (nodes : Map Counted) (t : NodeTable) (h : HandleTable) → ((id generation : ℕ) → generation_known w.kernel.nodes id ≡ Some generation → generation_known nodes id ≡ Some generation)
-    → ((id generation file : ℕ) → Denotes w.server.nodes id generation file → Denotes t id generation file) → ((fh file : ℕ) → is_open w.server.handles fh file ≡ true → is_open h fh file ≡ true) → IsOneToOne (Means nodes t)
+pub grown : (w : World) (p : Plain) (nodes : Map Counted) (t : NodeTable) (h : HandleTable)
+    → ((id generation : ℕ) → generation_known w.kernel.nodes id ≡ Some generation
+    → generation_known nodes id ≡ Some generation)
+    → ((id generation file : ℕ) → Denotes w.server.nodes id generation file → Denotes t id generation file)
+    → ((fh file : ℕ) → is_open w.server.handles fh file ≡ true → is_open h fh file ≡ true)
+    → IsOneToOne (Means nodes t)
     → Carries w p nodes t h
 grown w p nodes t h known denotes open_still one = record {
   means = means;
-  opens = λ o file m. record { node_means = means o.nodeid file m.node_means; is_number = open_still o.fh file m.is_number };
+  opens = λ o file m. record {
+    node_means = means o.nodeid file m.node_means;
+    is_number = open_still o.fh file m.is_number;
+  };
   one = one;
   held_nodes = λ u x at id file among m. meant x.generations id file m;
-  held_opens = λ u x at o file among m. record { node_meant = meant x.generations o.nodeid file m.node_meant; is_number = open_still o.fh file m.is_number };
-  kept = λ live u k ask at there told. stage_more w.server.nodes t w.server.handles h ask.stage k.wire (λ g file among d. denotes g.nodeid g.generation file d) (λ fh file among o. open_still fh file o) told;
+  held_opens = λ u x at o file among m. record {
+    node_meant = meant x.generations o.nodeid file m.node_meant;
+    is_number = open_still o.fh file m.is_number;
+  };
+  kept = λ live u k ask at there told. stage_more w.server.nodes t w.server.handles h ask.stage k.wire
+      (λ g file among d. denotes g.nodeid g.generation file d) (λ fh file among o. open_still fh file o) told;
   copies = λ live i s lt ask there told.
       let sent = get_or w.replies i s in
-      stage_more w.server.nodes t w.server.handles h ask.stage sent.wire (λ g file among d. denotes g.nodeid g.generation file d) (λ fh file among o. open_still fh file o) told;
+      stage_more w.server.nodes t w.server.handles h ask.stage sent.wire
+      (λ g file among d. denotes g.nodeid g.generation file d) (λ fh file among o. open_still fh file o) told;
 }
   where
     means : (id file : ℕ) → MeansIn w id file → Means nodes t id file
-    means id file m = record { generation = m.generation; known = known id m.generation m.known; denotes = denotes id m.generation file m.denotes }
+    means id file m = record {
+      generation = m.generation;
+      known = known id m.generation m.known;
+      denotes = denotes id m.generation file m.denotes;
+    }
 
-    meant : (generations : List (ℕ × ℕ)) (id file : ℕ) → Meant w.server.nodes generations id file → Meant t generations id file
-    meant generations id file m = record { generation = m.generation; then_held = m.then_held; denotes = denotes id m.generation file m.denotes }
+    meant : (generations : List (ℕ × ℕ)) (id file : ℕ) → Meant w.server.nodes generations id file
+        → Meant t generations id file
+    meant generations id file m = record {
+      generation = m.generation;
+      then_held = m.then_held;
+      denotes = denotes id m.generation file m.denotes;
+    }

@@ -22,7 +22,14 @@ module _ (w : World) (p : Plain) (same : Alike w p) where
     asks = λ live. record {
       of_calls = λ call state at.
           let old = (same.asks live).of_calls call state at in
-          record { unique = old.unique; ask = old.ask; request = old.request; there = old.there; by = old.by; same = old.same };
+          record {
+            unique = old.unique;
+            ask = old.ask;
+            request = old.request;
+            there = old.there;
+            by = old.by;
+            same = old.same;
+          };
       no_other = (same.asks live).no_other;
       signalled = (same.asks live).signalled;
       kept = (same.asks live).kept;
@@ -35,9 +42,14 @@ module _ (w : World) (p : Plain) (same : Alike w p) where
   }
 
   -- After a tick the plain world has taken its step, and the two are alike.
-  pub tick_goes : (ms : ℕ) → (q : Plain) × Takes p (event.tick ms) (event.now (w.kernel.vfs.clock + ms)) q × Alike (after_tick w ms) q
+  pub tick_goes : (ms : ℕ) → (q : Plain) × Takes p (event.tick ms) (event.now (w.kernel.vfs.clock + ms)) q
+      × Alike (after_tick w ms) q
   tick_goes ms = (
     plain_later p ms,
-    (0, ap (λ (b : Bool). where_so b (plain_later p ms)) (eq_true (w.kernel.vfs.clock + ms) (p.vfs.clock + ms) (ap (λ (n : ℕ). n + ms) same.vfs.clock))),
+    (
+      0,
+      ap (λ (b : Bool). where_so b (plain_later p ms))
+          (eq_true (w.kernel.vfs.clock + ms) (p.vfs.clock + ms) (ap (λ (n : ℕ). n + ms) same.vfs.clock)),
+    ),
     tick_alike ms,
   )

@@ -1,4 +1,5 @@
--- The tables of nodes change, and nothing that is in use loses its meaning: all stays alike, though some nodes mean nothing any more.
+-- The tables of nodes change, and nothing that is in use loses its meaning: all stays alike, though some nodes mean
+-- nothing any more.
 use Rattle.std.proofs.Common.{◌≡◌, ◌≢◌, ℕ, suc, Bool, true, false, List, [], ◌∷◌, Option, Some, None, get_or, refl, arith, All}
 use Rattle.std.specs.Prelude.{Contains, MatchOption}
 use Rattle.fuse_spec.specs.declared.Binding.{Binding}
@@ -30,7 +31,8 @@ pub next_of : {X : Type 0} (y : X) (xs : List X) (x : X) → Contains xs x → C
 next_of y xs x (k, lt, is) = (suc k, omega (arith, lt), is)
 
 module _ (R R' : ℕ → ℕ → Type 0) where
-  pub final_within : (a b : FinalOperation ℕ) → ((id file : ℕ) → Contains (files_of_plan (last a)) id → R id file → R' id file) → FinalAlike R a b → FinalAlike R' a b
+  pub final_within : (a b : FinalOperation ℕ) → ((id file : ℕ) → Contains (files_of_plan (last a)) id → R id file
+      → R' id file) → FinalAlike R a b → FinalAlike R' a b
   final_within final.stat final.stat f h = h
   final_within (final.list after) (final.list after') f h = h
   final_within (final.listplus after) (final.listplus after') f h = h
@@ -43,26 +45,35 @@ module _ (R R' : ℕ → ℕ → Type 0) where
   final_within (final.link_to x name) (final.link_to y other) f h = (f x y (first_of x []) h.0, h.1)
   final_within a b f h = absurd h
 
-  pub plan_within : (a b : WalkPlan ℕ) → ((id file : ℕ) → Contains (files_of_plan a) id → R id file → R' id file) → WalkPlanAlike R a b → WalkPlanAlike R' a b
+  pub plan_within : (a b : WalkPlan ℕ) → ((id file : ℕ) → Contains (files_of_plan a) id → R id file → R' id file)
+      → WalkPlanAlike R a b → WalkPlanAlike R' a b
   plan_within (last a) (last b) f h = final_within a b f h
   plan_within (final.rename old words new) (final.rename old' words' new') f h = h
   plan_within (final.link words name) (final.link words' name') f h = h
   plan_within a b f h = absurd h
 
-  pub binding_within : (a b : Binding) → ((target file : ℕ) → a.target ≡ Some target → R target file → R' target file) → BindingAlike R a b → BindingAlike R' a b
+  pub binding_within : (a b : Binding) → ((target file : ℕ) → a.target ≡ Some target → R target file → R' target file)
+      → BindingAlike R a b → BindingAlike R' a b
   binding_within a b f h = (by a.target b.target (λ target file is. f target file is) h.0, h.1)
     where
-      by : (x y : Option ℕ) → ((target file : ℕ) → x ≡ Some target → R target file → R' target file) → OptionAlike R x y → OptionAlike R' x y
+      by : (x y : Option ℕ) → ((target file : ℕ) → x ≡ Some target → R target file → R' target file)
+          → OptionAlike R x y → OptionAlike R' x y
       by None None g same = same
       by (Some x) (Some y) g same = g x y refl same
       by None (Some y) g same = absurd same
       by (Some x) None g same = absurd same
 
   module _ (S S' : Opened → ℕ → Type 0) where
-    pub state_within : (a : CallState Opened) (b : CallState ℕ) → ((id file : ℕ) → Contains (nodes_of_state a) id → R id file → R' id file)
-        → ((o : Opened) (file : ℕ) → Contains (nodes_of_state a) o.nodeid → Contains (opens_of (asked a)) o → S o file → S' o file) → StateAlike R S a b → StateAlike R' S' a b
-    state_within (walking d word words plan) (walking e word' words' plan') f g h =
-        (f d e (first_of d (files_of_plan plan)) h.0, h.1, h.2, plan_within plan plan' (λ id file among r. f id file (next_of d (files_of_plan plan) id among) r) h.3)
+    pub state_within : (a : CallState Opened) (b : CallState ℕ)
+        → ((id file : ℕ) → Contains (nodes_of_state a) id → R id file → R' id file)
+        → ((o : Opened) (file : ℕ) → Contains (nodes_of_state a) o.nodeid → Contains (opens_of (asked a)) o → S o file
+        → S' o file) → StateAlike R S a b → StateAlike R' S' a b
+    state_within (walking d word words plan) (walking e word' words' plan') f g h = (
+      f d e (first_of d (files_of_plan plan)) h.0,
+      h.1,
+      h.2,
+      plan_within plan plan' (λ id file among r. f id file (next_of d (files_of_plan plan) id among) r) h.3,
+    )
     state_within (doing a) (doing b) f g h = operation_more R R' S S' a b f g h
     state_within (using handle a) (using handle' b) f g h = (h.0, operation_more R R' S S' a b f g h.1)
     state_within (walking d word words plan) (doing b) f g h = absurd h
@@ -72,15 +83,19 @@ module _ (R R' : ℕ → ℕ → Type 0) where
     state_within (using handle a) (walking e word' words' plan') f g h = absurd h
     state_within (using handle a) (doing b) f g h = absurd h
 
-    pub asked_within : (a : CallState Opened) (b : Operation ℕ ℕ) → ((id file : ℕ) → Contains (nodes_of_state a) id → R id file → R' id file)
-        → ((o : Opened) (file : ℕ) → Contains (nodes_of_state a) o.nodeid → Contains (opens_of (asked a)) o → S o file → S' o file) → OperationAlike R S (asked a) b → OperationAlike R' S' (asked a) b
+    pub asked_within : (a : CallState Opened) (b : Operation ℕ ℕ)
+        → ((id file : ℕ) → Contains (nodes_of_state a) id → R id file → R' id file)
+        → ((o : Opened) (file : ℕ) → Contains (nodes_of_state a) o.nodeid → Contains (opens_of (asked a)) o → S o file
+        → S' o file) → OperationAlike R S (asked a) b → OperationAlike R' S' (asked a) b
     asked_within (walking d word words plan) (lookup e other) f g h = (f d e (first_of d (files_of_plan plan)) h.0, h.1)
     asked_within (walking d word words plan) b f g h = absurd h
     asked_within (doing a) b f g h = operation_more R R' S S' a b f g h
     asked_within (using handle a) b f g h = operation_more R R' S S' a b f g h
 
-    pub body_within : (all : Map Ask) (unique : ℕ) (signalled marked : Bool) (body : RequestBody) → ((id file : ℕ) → Contains (nodes_of_body body) id → R id file → R' id file)
-        → ((o : Opened) (file : ℕ) → Contains (nodes_of_body body) o.nodeid → Contains (opens_of_body body) o → S o file → S' o file) → RequestBodyAsked all unique signalled marked R S body
+    pub body_within : (all : Map Ask) (unique : ℕ) (signalled marked : Bool) (body : RequestBody)
+        → ((id file : ℕ) → Contains (nodes_of_body body) id → R id file → R' id file)
+        → ((o : Opened) (file : ℕ) → Contains (nodes_of_body body) o.nodeid → Contains (opens_of_body body) o
+        → S o file → S' o file) → RequestBodyAsked all unique signalled marked R S body
         → RequestBodyAsked all unique signalled marked R' S' body
     body_within all unique signalled marked (asks operation) f g h = record {
       ask = h.ask;
@@ -100,25 +115,37 @@ module _ (w : World) (p : Plain) (nodes : Map Counted) (t : NodeTable) (h : Hand
   -- what these nodes and open files mean is meant still
   pub record Stay (ids : List ℕ) (os : List Opened) : Type 0 where
     pub nodes_stay : (id file : ℕ) → Contains ids id → MeansIn w id file → Means nodes t id file
-    pub opens_stay : (o : Opened) (file : ℕ) → Contains ids o.nodeid → Contains os o → MeansOpenIn w o file → MeansOpen nodes t h o file
+    pub opens_stay : (o : Opened) (file : ℕ) → Contains ids o.nodeid → Contains os o → MeansOpenIn w o file
+        → MeansOpen nodes t h o file
 
   -- What the tables become: nothing is meant that was not, and what is in use is meant still.
   pub record Narrows : Type 0 where
     pub back : (id file : ℕ) → Means nodes t id file → MeansIn w id file
     pub root : (file : ℕ) → MeansIn w w.kernel.vfs.root file → Means nodes t w.kernel.vfs.root file
-    pub directories : (id : ℕ) (name : List ℕ) → get_name w.kernel.vfs.names (id, name) ≢ None → (file : ℕ) → MeansIn w id file → Means nodes t id file
-    pub targets : (id : ℕ) (name : List ℕ) (bound : Binding) → get_name w.kernel.vfs.names (id, name) ≡ Some bound → (target file : ℕ) → bound.target ≡ Some target → MeansIn w target file → Means nodes t target file
-    pub opens : (handle : ℕ) (o : Opened) → get w.kernel.vfs.opens handle ≡ Some o → (file : ℕ) → MeansOpenIn w o file → MeansOpen nodes t h o file
-    pub calls : (call : ℕ) (state : CallState Opened) → get w.kernel.vfs.calls call ≡ Some state → Stay (nodes_of_state state) (opens_of (asked state))
+    pub directories : (id : ℕ) (name : List ℕ) → get_name w.kernel.vfs.names (id, name) ≢ None → (file : ℕ)
+        → MeansIn w id file → Means nodes t id file
+    pub targets : (id : ℕ) (name : List ℕ) (bound : Binding) → get_name w.kernel.vfs.names (id, name) ≡ Some bound
+        → (target file : ℕ) → bound.target ≡ Some target → MeansIn w target file → Means nodes t target file
+    pub opens : (handle : ℕ) (o : Opened) → get w.kernel.vfs.opens handle ≡ Some o → (file : ℕ) → MeansOpenIn w o file
+        → MeansOpen nodes t h o file
+    pub calls : (call : ℕ) (state : CallState Opened) → get w.kernel.vfs.calls call ≡ Some state
+        → Stay (nodes_of_state state) (opens_of (asked state))
     pub sent : All (λ (r : Request). Stay (nodes_of_body r.body) (opens_of_body r.body)) w.requests
-    pub held_nodes : (unique : ℕ) (x : HeldRequest) → get w.server.held unique ≡ Some x → (id file : ℕ) → Contains (nodes_of_body x.body) id → Meant w.server.nodes x.generations id file → Meant t x.generations id file
-    pub held_opens : (unique : ℕ) (x : HeldRequest) → get w.server.held unique ≡ Some x → (o : Opened) (file : ℕ) → Contains (opens_of_body x.body) o → MeantOpen w.server.nodes w.server.handles x.generations o file
+    pub held_nodes : (unique : ℕ) (x : HeldRequest) → get w.server.held unique ≡ Some x → (id file : ℕ)
+        → Contains (nodes_of_body x.body) id → Meant w.server.nodes x.generations id file
+        → Meant t x.generations id file
+    pub held_opens : (unique : ℕ) (x : HeldRequest) → get w.server.held unique ≡ Some x → (o : Opened) (file : ℕ)
+        → Contains (opens_of_body x.body) o → MeantOpen w.server.nodes w.server.handles x.generations o file
         → MeantOpen t h x.generations o file
-    pub kept : is_live w.kernel.phase ≡ true → (unique : ℕ) (k : Kept) (ask : Ask) → get w.server.kept unique ≡ Some k → get p.asks unique ≡ Some ask → StageTold w.server.nodes w.server.handles ask.stage k.wire
+    pub kept : is_live w.kernel.phase ≡ true → (unique : ℕ) (k : Kept) (ask : Ask) → get w.server.kept unique ≡ Some k
+        → get p.asks unique ≡ Some ask → StageTold w.server.nodes w.server.handles ask.stage k.wire
         → StageTold t h ask.stage k.wire
-    pub copies : is_live w.kernel.phase ≡ true → All (λ (s : Sent). (ask : Ask) → get p.asks s.unique ≡ Some ask → StageTold w.server.nodes w.server.handles ask.stage s.wire → StageTold t h ask.stage s.wire) w.replies
+    pub copies : is_live w.kernel.phase ≡ true → All
+        (λ (s : Sent). (ask : Ask) → get p.asks s.unique ≡ Some ask
+        → StageTold w.server.nodes w.server.handles ask.stage s.wire → StageTold t h ask.stage s.wire) w.replies
 
-module _ (w : World) (p : Plain) (same : Alike w p) (nodes : Map Counted) (t : NodeTable) (h : HandleTable) (narrows : Narrows w p nodes t h) where
+module _ (w : World) (p : Plain) (same : Alike w p) (nodes : Map Counted) (t : NodeTable) (h : HandleTable)
+    (narrows : Narrows w p nodes t h) where
   abbrev R : ℕ → ℕ → Type 0
   R = MeansIn w
 
@@ -131,41 +158,54 @@ module _ (w : World) (p : Plain) (same : Alike w p) (nodes : Map Counted) (t : N
   abbrev S' : Opened → ℕ → Type 0
   S' = MeansOpen nodes t h
 
-  name_within : (id file : ℕ) (name : List ℕ) → R id file → (a b : Option Binding) → get_name w.kernel.vfs.names (id, name) ≡ a → OptionAlike (BindingAlike R) a b → OptionAlike (BindingAlike R') a b
+  name_within : (id file : ℕ) (name : List ℕ) → R id file → (a b : Option Binding)
+      → get_name w.kernel.vfs.names (id, name) ≡ a → OptionAlike (BindingAlike R) a b
+      → OptionAlike (BindingAlike R') a b
   name_within id file name r None None e same = same
-  name_within id file name r (Some x) (Some y) e same = binding_within R R' x y (λ target f is m. narrows.targets id name x e target f is m) same
+  name_within id file name r (Some x) (Some y) e same =
+      binding_within R R' x y (λ target f is m. narrows.targets id name x e target f is m) same
   name_within id file name r None (Some y) e same = absurd same
   name_within id file name r (Some x) None e same = absurd same
 
   -- a name of the plain world stands in a directory that is in use
   reached : (file : ℕ) (name : List ℕ) → get_name p.vfs.names (file, name) ≢ None → (id : ℕ) × R' id file
   reached file name there =
-      let old = same.vfs.names_reached file name there in
-      (old.0, narrows.directories old.0 name (λ none. not_none (get_name w.kernel.vfs.names (old.0, name)) (get_name p.vfs.names (file, name)) none there (same.vfs.names old.0 file name old.1)) file old.1)
+      let old = same.vfs.names_reached file name there in (
+        old.0,
+        narrows.directories old.0 name (λ none. not_none (get_name w.kernel.vfs.names (old.0, name))
+            (get_name p.vfs.names (file, name)) none there (same.vfs.names old.0 file name old.1)) file old.1,
+      )
     where
       not_none : (a b : Option Binding) → a ≡ None → b ≢ None → OptionAlike (BindingAlike R) a b → ⊥
       not_none None None e ne alike = ne refl
       not_none None (Some y) e ne alike = absurd alike
       not_none (Some x) b e ne alike = cc (e)
 
-  open_within : (handle : ℕ) (a : Option Opened) (b : Option ℕ) → get w.kernel.vfs.opens handle ≡ a → OptionAlike S a b → OptionAlike S' a b
+  open_within : (handle : ℕ) (a : Option Opened) (b : Option ℕ) → get w.kernel.vfs.opens handle ≡ a → OptionAlike S a b
+      → OptionAlike S' a b
   open_within handle None None e same = same
   open_within handle (Some o) (Some file) e same = narrows.opens handle o e file same
   open_within handle None (Some file) e same = absurd same
   open_within handle (Some o) None e same = absurd same
 
-  call_within : (call : ℕ) (a : Option (CallState Opened)) (b : Option (CallState ℕ)) → get w.kernel.vfs.calls call ≡ a → OptionAlike (StateAlike R S) a b → OptionAlike (StateAlike R' S') a b
+  call_within : (call : ℕ) (a : Option (CallState Opened)) (b : Option (CallState ℕ)) → get w.kernel.vfs.calls call ≡ a
+      → OptionAlike (StateAlike R S) a b → OptionAlike (StateAlike R' S') a b
   call_within call None None e same = same
-  call_within call (Some x) (Some y) e same = let stay = narrows.calls call x e in state_within R R' S S' x y stay.nodes_stay stay.opens_stay same
+  call_within call (Some x) (Some y) e same = let stay =
+      narrows.calls call x e in state_within R R' S S' x y stay.nodes_stay stay.opens_stay same
   call_within call None (Some y) e same = absurd same
   call_within call (Some x) None e same = absurd same
 
   pub vfs_within : VfsAlike R' S' w.kernel.vfs p.vfs
   vfs_within = record {
-    names = λ id file name r. name_within id file name (narrows.back id file r) (get_name w.kernel.vfs.names (id, name)) (get_name p.vfs.names (file, name)) refl (same.vfs.names id file name (narrows.back id file r));
-    names_meant = λ id name there. let meant = same.vfs.names_meant id name there in (meant.0, narrows.directories id name there meant.0 meant.1);
+    names = λ id file name r. name_within id file name (narrows.back id file r)
+        (get_name w.kernel.vfs.names (id, name)) (get_name p.vfs.names (file, name)) refl
+        (same.vfs.names id file name (narrows.back id file r));
+    names_meant = λ id name there. let meant = same.vfs.names_meant id name there in
+        (meant.0, narrows.directories id name there meant.0 meant.1);
     names_reached = reached;
-    opens = λ handle. open_within handle (get w.kernel.vfs.opens handle) (get p.vfs.opens handle) refl (same.vfs.opens handle);
+    opens = λ handle. open_within handle (get w.kernel.vfs.opens handle) (get p.vfs.opens handle) refl
+        (same.vfs.opens handle);
     calls = λ call. call_within call (get w.kernel.vfs.calls call) (get p.vfs.calls call) refl (same.vfs.calls call);
     answers = same.vfs.answers;
     next_call = same.vfs.next_call;
@@ -174,31 +214,51 @@ module _ (w : World) (p : Plain) (same : Alike w p) (nodes : Map Counted) (t : N
   }
 
   -- a pending request
-  pending_within : (unique : ℕ) (signalled : Bool) (kept : Purpose) → MatchOption (body_of w.kernel kept) ⊥ (RequestBodyAsked p.asks unique signalled false R S) → MatchOption (body_of w.kernel kept) ⊥ (RequestBodyAsked p.asks unique signalled false R' S')
+  pending_within : (unique : ℕ) (signalled : Bool) (kept : Purpose)
+      → MatchOption (body_of w.kernel kept) ⊥ (RequestBodyAsked p.asks unique signalled false R S)
+      → MatchOption (body_of w.kernel kept) ⊥ (RequestBodyAsked p.asks unique signalled false R' S')
   pending_within unique signalled purpose.Init asked = asked
   pending_within unique signalled (purpose.Release o) asked = asked
   pending_within unique signalled (purpose.Call call) asked = by (get w.kernel.vfs.calls call) refl asked
     where
-      by : (o : Option (CallState Opened)) → get w.kernel.vfs.calls call ≡ o → MatchOption (asked_by o) ⊥ (RequestBodyAsked p.asks unique signalled false R S) → MatchOption (asked_by o) ⊥ (RequestBodyAsked p.asks unique signalled false R' S')
+      by : (o : Option (CallState Opened)) → get w.kernel.vfs.calls call ≡ o
+          → MatchOption (asked_by o) ⊥ (RequestBodyAsked p.asks unique signalled false R S)
+          → MatchOption (asked_by o) ⊥ (RequestBodyAsked p.asks unique signalled false R' S')
       by None e h = h
       by (Some state) e h =
           let stay = narrows.calls call state e in
-          record { ask = h.ask; there = h.there; is_waiting = h.is_waiting; same = asked_within R R' S S' state h.ask.operation stay.nodes_stay stay.opens_stay h.same }
+          record {
+            ask = h.ask;
+            there = h.there;
+            is_waiting = h.is_waiting;
+            same = asked_within R R' S S' state h.ask.operation stay.nodes_stay stay.opens_stay h.same;
+          }
 
 -- All stays alike.
-pub narrowed_alike : (w : World) (p : Plain) → Alike w p → (nodes : Map Counted) (t : NodeTable) (h : HandleTable) (tree tree' : Tree) → Narrows w p nodes t h → TreeAlike (record w.server { tree = tree; nodes = t; handles = h }) tree'
-    → Alike (record w { kernel = record w.kernel { nodes = nodes }; server = record w.server { tree = tree; nodes = t; handles = h } }) (record p { tree = tree' })
+pub narrowed_alike : (w : World) (p : Plain) → Alike w p
+    → (nodes : Map Counted) (t : NodeTable) (h : HandleTable) (tree tree' : Tree) → Narrows w p nodes t h
+    → TreeAlike (record w.server { tree = tree; nodes = t; handles = h }) tree'
+    → Alike (record w {
+      kernel = record w.kernel { nodes = nodes };
+      server = record w.server { tree = tree; nodes = t; handles = h };
+    }) (record p { tree = tree' })
 narrowed_alike w p same nodes t h tree tree' narrows trees = record {
   tree = trees;
   vfs = vfs_within w p same nodes t h narrows;
   requests = record {
-    pending = λ i e lt. let entry = get_or (pending w.kernel.queues) i e in pending_within w p same nodes t h narrows entry.0 (is_signalled entry.1.mark) entry.1.kept (same.requests.pending i e lt);
+    pending = λ i e lt. let entry = get_or (pending w.kernel.queues) i e in
+        pending_within w p same nodes t h narrows entry.0 (is_signalled entry.1.mark) entry.1.kept
+        (same.requests.pending i e lt);
     sent = λ i r lt.
         let request = get_or w.requests i r in
         let stay = narrows.sent i r lt in
-        body_within (MeansIn w) (Means nodes t) (MeansOpenIn w) (MeansOpen nodes t h) p.asks request.unique false false request.body stay.nodes_stay stay.opens_stay (same.requests.sent i r lt);
+        body_within (MeansIn w) (Means nodes t) (MeansOpenIn w)
+        (MeansOpen nodes t h) p.asks request.unique false false request.body stay.nodes_stay stay.opens_stay
+        (same.requests.sent i r lt);
     held = λ u x at.
-        body_within (Meant w.server.nodes x.generations) (Meant t x.generations) (MeantOpen w.server.nodes w.server.handles x.generations) (MeantOpen t h x.generations) p.asks u false x.marked x.body (narrows.held_nodes u x at)
+        body_within (Meant w.server.nodes x.generations) (Meant t x.generations)
+        (MeantOpen w.server.nodes w.server.handles x.generations)
+        (MeantOpen t h x.generations) p.asks u false x.marked x.body (narrows.held_nodes u x at)
         (λ o file node among m. narrows.held_opens u x at o file among m) (same.requests.held u x at);
   };
   asks = λ live.
@@ -213,7 +273,8 @@ narrowed_alike w p same nodes t h tree tree' narrows trees = record {
               request = pair.request;
               there = pair.there;
               by = pair.by;
-              same = asked_within (MeansIn w) (Means nodes t) (MeansOpenIn w) (MeansOpen nodes t h) state pair.ask.operation stay.nodes_stay stay.opens_stay pair.same;
+              same = asked_within (MeansIn w) (Means nodes t) (MeansOpenIn w)
+                  (MeansOpen nodes t h) state pair.ask.operation stay.nodes_stay stay.opens_stay pair.same;
             };
         no_other = old.no_other;
         signalled = old.signalled;

@@ -28,7 +28,8 @@ module _ (w : World) (answers : Map Answer) where
   same_body (purpose.Release o) = refl
   same_body (purpose.Call c) = refl
 
-  pub answers_alike : (p : Plain) → Alike w p → (others : Map Answer) → answers ≡ others → Alike (with_answers w answers) (plain_with_answers p others)
+  pub answers_alike : (p : Plain) → Alike w p → (others : Map Answer) → answers ≡ others
+      → Alike (with_answers w answers) (plain_with_answers p others)
   answers_alike p same others e = record {
     tree = same.tree;
     vfs = record {
@@ -45,7 +46,9 @@ module _ (w : World) (answers : Map Answer) where
     requests = record {
       pending = λ i e lt.
           let entry = get_or (pending w.kernel.queues) i e in
-          subst (λ (o : Option RequestBody). MatchOption o ⊥ (RequestBodyAsked p.asks entry.0 (is_signalled entry.1.mark) false (MeansIn w) (MeansOpenIn w))) (sym (same_body entry.1.kept)) (same.requests.pending i e lt);
+          subst (λ (o : Option RequestBody). MatchOption o ⊥
+          (RequestBodyAsked p.asks entry.0 (is_signalled entry.1.mark) false (MeansIn w) (MeansOpenIn w)))
+          (sym (same_body entry.1.kept)) (same.requests.pending i e lt);
       sent = same.requests.sent;
       held = same.requests.held;
     };
@@ -54,7 +57,14 @@ module _ (w : World) (answers : Map Answer) where
         record {
           of_calls = λ q state is.
               let pair = old.of_calls q state is in
-              record { unique = pair.unique; ask = pair.ask; request = pair.request; there = pair.there; by = pair.by; same = pair.same };
+              record {
+                unique = pair.unique;
+                ask = pair.ask;
+                request = pair.request;
+                there = pair.there;
+                by = pair.by;
+                same = pair.same;
+              };
           no_other = old.no_other;
           signalled = old.signalled;
           kept = old.kept;

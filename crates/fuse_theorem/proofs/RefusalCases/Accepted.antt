@@ -14,7 +14,8 @@ pub record NotRefused (condition : Bool) (stepped : Stepped) (o : Outcome) (w : 
   pub passed : condition ≡ false
   pub rest : stepped ≡ Ok (o, w)
 
-pub unless_ok : (condition : Bool) (refusal : Refusal) (stepped : Stepped) (o : Outcome) (w : World) → unless condition refusal stepped ≡ Ok (o, w) → NotRefused condition stepped o w
+pub unless_ok : (condition : Bool) (refusal : Refusal) (stepped : Stepped) (o : Outcome) (w : World)
+    → unless condition refusal stepped ≡ Ok (o, w) → NotRefused condition stepped o w
 unless_ok true refusal stepped o w e = absurd (cc)
 unless_ok false refusal stepped o w e = record { passed = refl; rest = e }
 
@@ -26,7 +27,8 @@ pub record Leads (outcome : Outcome) (after : World) (o : Outcome) (w : World) :
 abbrev pub accepted : Outcome → World → Stepped
 accepted outcome after = Ok (outcome, after)
 
-pub ok_is : (outcome : Outcome) (after : World) (o : Outcome) (w : World) → accepted outcome after ≡ Ok (o, w) → Leads outcome after o w
+pub ok_is : (outcome : Outcome) (after : World) (o : Outcome) (w : World) → accepted outcome after ≡ Ok (o, w)
+    → Leads outcome after o w
 ok_is outcome after o w e =
     let pair : (outcome, after) ≡ (o, w) = cc in
     record { outcome_is = ap (λ (x : Outcome × World). x.0) pair; after_is = ap (λ (x : Outcome × World). x.1) pair }
@@ -35,7 +37,8 @@ pub record Went (outcome : Outcome) (after : World) (o : Outcome) (w : World) : 
   pub within : is_past after ≡ false
   pub leads : Leads outcome after o w
 
-pub going_ok : (outcome : Outcome) (after : World) (o : Outcome) (w : World) → going outcome after ≡ Ok (o, w) → Went outcome after o w
+pub going_ok : (outcome : Outcome) (after : World) (o : Outcome) (w : World) → going outcome after ≡ Ok (o, w)
+    → Went outcome after o w
 going_ok outcome after o w e =
     let parts = unless_ok (is_past after) refusal.Exhausted (Ok (outcome, after)) o w e in
     record { within = parts.passed; leads = ok_is outcome after o w parts.rest }

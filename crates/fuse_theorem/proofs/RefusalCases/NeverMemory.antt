@@ -15,23 +15,47 @@ record IsJudged (r : Refusal) : Type 0 where
   not_link : r ≢ LinkLost
 
 by_case : (choice : ℕ → ℕ) (w : World) (e : Event) (r : Refusal) → Refuses choice w e r → IsJudged r
-by_case choice w e r (too_long f m v far) = record { not_memory = λ is. absurd (cc is); not_link = λ is. absurd (cc is) }
-by_case choice w e r (in_use f m v near used) = record { not_memory = λ is. absurd (cc is); not_link = λ is. absurd (cc is) }
+by_case choice w e r (too_long f m v far) = record {
+  not_memory = λ is. absurd (cc is);
+  not_link = λ is. absurd (cc is);
+}
+by_case choice w e r (in_use f m v near used) = record {
+  not_memory = λ is. absurd (cc is);
+  not_link = λ is. absurd (cc is);
+}
 by_case choice w e r (clock_ends ms end) = record { not_memory = λ is. absurd (cc is); not_link = λ is. absurd (cc is) }
-by_case choice w e r (not_ready call down) = record { not_memory = λ is. absurd (cc is); not_link = λ is. absurd (cc is) }
-by_case choice w e r (too_many call ready full) = record { not_memory = λ is. absurd (cc is); not_link = λ is. absurd (cc is) }
-by_case choice w e r (not_live _ needs down) = record { not_memory = λ is. absurd (cc is); not_link = λ is. absurd (cc is) }
-by_case choice w e r (interrupt_first _ reads live queued) = record { not_memory = λ is. absurd (cc is); not_link = λ is. absurd (cc is) }
-by_case choice w e r (names_nothing _ live free nothing) = record { not_memory = λ is. absurd (cc is); not_link = λ is. absurd (cc is) }
-by_case choice w e r (none_kept unique none) = record { not_memory = λ is. absurd (cc is); not_link = λ is. absurd (cc is) }
-by_case choice w e r (not_current unique kept there old) = record { not_memory = λ is. absurd (cc is); not_link = λ is. absurd (cc is) }
-by_case choice w e r (pinned_or_bound node counted live there kept) = record { not_memory = λ is. absurd (cc is); not_link = λ is. absurd (cc is) }
-by_case choice w e r (told_too_often unique held there many) = record { not_memory = λ is. absurd (cc is); not_link = λ is. absurd (cc is) }
-by_case choice w e r (copied_too_often unique kept there current many) = record { not_memory = λ is. absurd (cc is); not_link = λ is. absurd (cc is) }
-by_case choice w e r (past_its_end _ o after drawn leads past) = record { not_memory = λ is. absurd (cc is); not_link = λ is. absurd (cc is) }
+by_case choice w e r (not_ready call down) = record {
+  not_memory = λ is. absurd (cc is);
+  not_link = λ is. absurd (cc is);
+}
+by_case choice w e r (too_many call ready full) =
+    record { not_memory = λ is. absurd (cc is); not_link = λ is. absurd (cc is) }
+by_case choice w e r (not_live _ needs down) = record {
+  not_memory = λ is. absurd (cc is);
+  not_link = λ is. absurd (cc is);
+}
+by_case choice w e r (interrupt_first _ reads live queued) =
+    record { not_memory = λ is. absurd (cc is); not_link = λ is. absurd (cc is) }
+by_case choice w e r (names_nothing _ live free nothing) =
+    record { not_memory = λ is. absurd (cc is); not_link = λ is. absurd (cc is) }
+by_case choice w e r (none_kept unique none) = record {
+  not_memory = λ is. absurd (cc is);
+  not_link = λ is. absurd (cc is);
+}
+by_case choice w e r (not_current unique kept there old) =
+    record { not_memory = λ is. absurd (cc is); not_link = λ is. absurd (cc is) }
+by_case choice w e r (pinned_or_bound node counted live there kept) =
+    record { not_memory = λ is. absurd (cc is); not_link = λ is. absurd (cc is) }
+by_case choice w e r (told_too_often unique held there many) =
+    record { not_memory = λ is. absurd (cc is); not_link = λ is. absurd (cc is) }
+by_case choice w e r (copied_too_often unique kept there current many) =
+    record { not_memory = λ is. absurd (cc is); not_link = λ is. absurd (cc is) }
+by_case choice w e r (past_its_end _ o after drawn leads past) =
+    record { not_memory = λ is. absurd (cc is); not_link = λ is. absurd (cc is) }
 
 judged : (w : World) (e : Event) (r : Refusal) → IsRefused w e r → IsJudged r
-judged w e r refused = let some = some_choice w e in by_case some.0 w e r (only_refused some.0 w e r (refused some.0 some.1))
+judged w e r refused = let some = some_choice w e in
+    by_case some.0 w e r (only_refused some.0 w e r (refused some.0 some.1))
 
 -- What is refused whatever the server chooses is not refused for want of memory.
 pub never_memory : (w : World) (e : Event) (r : Refusal) → IsRefused w e r → r ≢ NoMemory

@@ -41,14 +41,16 @@ module _ (w : World) where
   live_passes s t = passed (not (is_live w.kernel.phase)) NotReady s (ap not t)
 
   interrupted_refused : (s : Stepped) → w.kernel.queues.interrupts ≢ [] → when_not_interrupted w s ≡ Err InterruptFirst
-  interrupted_refused s some = refused_by (not (nat_eq (length w.kernel.queues.interrupts) 0)) InterruptFirst s (queued w.kernel.queues.interrupts some)
+  interrupted_refused s some = refused_by (not (nat_eq (length w.kernel.queues.interrupts) 0)) InterruptFirst s
+      (queued w.kernel.queues.interrupts some)
     where
       queued : (xs : List ℕ) → xs ≢ [] → not (nat_eq (length xs) 0) ≡ true
       queued [] some = absurd (some refl)
       queued (x ∷ xs) some = ap not (other_is (length (x ∷ xs)) 0 (λ q. absurd (omega (arith, q))))
 
   none_passes : (s : Stepped) → w.kernel.queues.interrupts ≡ [] → when_not_interrupted w s ≡ s
-  none_passes s none = passed (not (nat_eq (length w.kernel.queues.interrupts) 0)) InterruptFirst s (ap (λ (xs : List ℕ). not (nat_eq (length xs) 0)) none)
+  none_passes s none = passed (not (nat_eq (length w.kernel.queues.interrupts) 0)) InterruptFirst s
+      (ap (λ (xs : List ℕ). not (nat_eq (length xs) 0)) none)
 
   read_passes : (s : Stepped) → MayRead w → when_live w (when_not_interrupted w s) ≡ s
   read_passes s may = live_passes (when_not_interrupted w s) may.live ∙ none_passes s may.none_first
@@ -62,35 +64,47 @@ module _ (choice : ℕ → ℕ) (w : World) where
   pub comes_to : (e : Event) (o : Outcome) (after : World) → Leads choice w e o after → Comes e o after
   comes_to e o after (mounts f m v day free) =
       let mounted = Ok (event.mounted, after_mount w f m v) in
-      passed (nat_lt max_validity (max f m)) BadTime (unless (is_busy w.kernel) Busy mounted) (le-ltb max_validity (max f m) day)
-      ∙ passed (is_busy w.kernel) Busy mounted (free_is (is_live w.kernel.phase) (length w.kernel.vfs.calls + length w.kernel.vfs.opens) free)
+      passed (nat_lt max_validity (max f m)) BadTime (unless (is_busy w.kernel) Busy mounted)
+      (le-ltb max_validity (max f m) day)
+      ∙ passed (is_busy w.kernel) Busy mounted (free_is (is_live w.kernel.phase)
+      (length w.kernel.vfs.calls + length w.kernel.vfs.opens) free)
   comes_to e o after (calls call ready room) =
       let there = length w.kernel.vfs.calls in
       let gone = going o after in
-      passed (not (is_ready w.kernel.phase)) NotReady (unless (nat_le max_calls there) Full gone) (ap not ready) ∙ passed (nat_le max_calls there) Full gone (lt-leb max_calls there room)
-  comes_to e o after (reads_interrupt original rest live there) = live_passes w (reading_interrupt w w.kernel.queues.interrupts) live ∙ ap (reading_interrupt w) there
-  comes_to e o after (reads_forgets n unique forgets may there) = read_passes w (reading_forgets w n (forgets_read w.kernel n)) may ∙ ap (reading_forgets w n) there
+      passed (not (is_ready w.kernel.phase)) NotReady (unless (nat_le max_calls there) Full gone)
+      (ap not ready) ∙ passed (nat_le max_calls there) Full gone (lt-leb max_calls there room)
+  comes_to e o after (reads_interrupt original rest live there) =
+      live_passes w (reading_interrupt w w.kernel.queues.interrupts) live ∙ ap (reading_interrupt w) there
+  comes_to e o after (reads_forgets n unique forgets may there) =
+      read_passes w (reading_forgets w n (forgets_read w.kernel n)) may ∙ ap (reading_forgets w n) there
   comes_to e o after (reads_pending k unique purpose body may there says) =
-      read_passes w (reading_pending w k (pending_at w.kernel.queues k)) may ∙ ap (reading_pending w k) there ∙ ap (reading_body w k unique) says
+      read_passes w (reading_pending w k (pending_at w.kernel.queues k)) may ∙ ap (reading_pending w k) there ∙ ap
+      (reading_body w k unique) says
   comes_to e o after (takes k request there) = ap (taking_request w k) there
-  comes_to e o after (performs unique held there few) = ap (performing_held choice w unique) there ∙ passed (counts_out w.server.nodes (files_given w.server held)) Exhausted (going o after) few
+  comes_to e o after (performs unique held there few) =
+      ap (performing_held choice w unique) there ∙ passed
+      (counts_out w.server.nodes (files_given w.server held)) Exhausted (going o after) few
   comes_to e o after (sends_again unique kept there current few) =
-      ap (sending_again w unique) there ∙ passed (not (is_current w.server kept.wire)) NoCopy (unless (counts_out w.server.nodes (files_named w.server kept.wire)) Exhausted (going o after)) (ap not current)
+      ap (sending_again w unique) there ∙ passed (not (is_current w.server kept.wire)) NoCopy
+      (unless (counts_out w.server.nodes (files_named w.server kept.wire)) Exhausted (going o after)) (ap not current)
       ∙ passed (counts_out w.server.nodes (files_named w.server kept.wire)) Exhausted (going o after) few
   comes_to e o after (writes k sent there) = ap (writing_copy w k) there
   comes_to e o after (settles k result there) = ap (settling w k) there
-  comes_to e o after (signals call fatal state live there) = live_passes w (signalling w call fatal (get w.kernel.vfs.calls call)) live ∙ ap (signalling w call fatal) there
+  comes_to e o after (signals call fatal state live there) =
+      live_passes w (signalling w call fatal (get w.kernel.vfs.calls call)) live ∙ ap (signalling w call fatal) there
   comes_to e o after (passes ms early) =
       let later = w.kernel.vfs.clock + ms in
       passed (nat_le clock_end later) BadTime (Ok (o, after)) (lt-leb clock_end later early)
-  comes_to e o after (drops directory name bound live there) = live_passes w (dropping after (get_name w.kernel.vfs.names (directory, name))) live ∙ ap (dropping after) there
+  comes_to e o after (drops directory name bound live there) =
+      live_passes w (dropping after (get_name w.kernel.vfs.names (directory, name))) live ∙ ap (dropping after) there
   comes_to e o after (evicts node counted live there unpinned unbound) =
       live_passes w (evicting w node (get w.kernel.nodes node)) live ∙ ap (evicting w node) there
       ∙ passed (is_pinned w.kernel node || is_bound w.kernel node) Busy (Ok (o, after)) (λ i. unpinned i || unbound i)
   comes_to e o after (aborts live) = live_passes w (Ok (o, after)) live
 
   -- what an event leads to that draws no number past its end
-  pub led_to : (e : Event) (o : Outcome) (after : World) → Leads choice w e o after → (draws e ≡ true → is_past after ≡ false) → step choice w e ≡ Ok (o, after)
+  pub led_to : (e : Event) (o : Outcome) (after : World) → Leads choice w e o after
+      → (draws e ≡ true → is_past after ≡ false) → step choice w e ≡ Ok (o, after)
   led_to e o after there within = comes_to e o after there ∙ drawn (draws e) within
     where
       drawn : (b : Bool) → (b ≡ true → is_past after ≡ false) → cond b (going o after) (Ok (o, after)) ≡ Ok (o, after)
@@ -99,8 +113,11 @@ module _ (choice : ℕ → ℕ) (w : World) where
 
   -- ---- refusals
 
-  exhausted : (e : Event) (o : Outcome) (after : World) → draws e ≡ true → Leads choice w e o after → is_past after ≡ true → step choice w e ≡ Err Exhausted
-  exhausted e o after drawn there past = comes_to e o after there ∙ ap (λ (b : Bool). cond b (going o after) (Ok (o, after))) drawn ∙ refused_by (is_past after) Exhausted (Ok (o, after)) past
+  exhausted : (e : Event) (o : Outcome) (after : World) → draws e ≡ true → Leads choice w e o after
+      → is_past after ≡ true → step choice w e ≡ Err Exhausted
+  exhausted e o after drawn there past = comes_to e o after there ∙ ap
+      (λ (b : Bool). cond b (going o after) (Ok (o, after))) drawn ∙ refused_by (is_past after) Exhausted
+      (Ok (o, after)) past
 
   unready : (e : Event) → needs_live e ≡ true → is_live w.kernel.phase ≡ false → step choice w e ≡ Err NotReady
   unready event.read_interrupt needs down = not_live_refused w _ down
@@ -112,40 +129,57 @@ module _ (choice : ℕ → ℕ) (w : World) where
   unready event.abort needs down = not_live_refused w _ down
   unready other needs down = absurd (cc)
 
-  interrupted : (e : Event) → reads_other e ≡ true → is_live w.kernel.phase ≡ true → w.kernel.queues.interrupts ≢ [] → step choice w e ≡ Err InterruptFirst
+  interrupted : (e : Event) → reads_other e ≡ true → is_live w.kernel.phase ≡ true → w.kernel.queues.interrupts ≢ []
+      → step choice w e ≡ Err InterruptFirst
   interrupted (event.read_forgets n) reads live some = live_passes w _ live ∙ interrupted_refused w _ some
   interrupted (event.read_pending k) reads live some = live_passes w _ live ∙ interrupted_refused w _ some
   interrupted other reads live some = absurd (cc)
 
-  nothing : (e : Event) → (needs_live e ≡ true → is_live w.kernel.phase ≡ true) → (reads_other e ≡ true → w.kernel.queues.interrupts ≡ []) → NamesNothing w e → step choice w e ≡ Err NoSuch
+  nothing : (e : Event) → (needs_live e ≡ true → is_live w.kernel.phase ≡ true)
+      → (reads_other e ≡ true → w.kernel.queues.interrupts ≡ []) → NamesNothing w e → step choice w e ≡ Err NoSuch
   nothing e live first (no_interrupt none) = live_passes w _ (live refl) ∙ ap (reading_interrupt w) none
-  nothing e live first (no_forgets n none) = read_passes w _ (record { live = live refl; none_first = first refl }) ∙ ap (reading_forgets w n) none
-  nothing e live first (no_pending k none) = read_passes w _ (record { live = live refl; none_first = first refl }) ∙ ap (reading_pending w k) none
-  nothing e live first (no_body k unique purpose there none) = read_passes w _ (record { live = live refl; none_first = first refl }) ∙ ap (reading_pending w k) there ∙ ap (reading_body w k unique) none
+  nothing e live first (no_forgets n none) = read_passes w _
+      (record { live = live refl; none_first = first refl }) ∙ ap (reading_forgets w n) none
+  nothing e live first (no_pending k none) = read_passes w _
+      (record { live = live refl; none_first = first refl }) ∙ ap (reading_pending w k) none
+  nothing e live first (no_body k unique purpose there none) =
+      read_passes w _ (record { live = live refl; none_first = first refl }) ∙ ap (reading_pending w k) there ∙ ap
+      (reading_body w k unique) none
   nothing e live first (no_request k none) = ap (taking_request w k) none
   nothing e live first (none_held unique none) = ap (performing_held choice w unique) none
   nothing e live first (no_copy k none) = ap (writing_copy w k) none
   nothing e live first (no_result k none) = ap (settling w k) none
   nothing e live first (no_call call fatal none) = live_passes w _ (live refl) ∙ ap (signalling w call fatal) none
-  nothing e live first (no_name directory name none) = live_passes w _ (live refl) ∙ ap (dropping (after_drop w directory name)) none
+  nothing e live first (no_name directory name none) =
+      live_passes w _ (live refl) ∙ ap (dropping (after_drop w directory name)) none
   nothing e live first (no_node node none) = live_passes w _ (live refl) ∙ ap (evicting w node) none
 
   pub refused : (e : Event) (r : Refusal) → Refuses choice w e r → step choice w e ≡ Err r
-  refused e r (too_long f m v long) = refused_by (nat_lt max_validity (max f m)) BadTime _ (lt-ltb max_validity (max f m) long)
+  refused e r (too_long f m v long) = refused_by (nat_lt max_validity (max f m)) BadTime _
+      (lt-ltb max_validity (max f m) long)
   refused e r (in_use f m v day used) =
       passed (nat_lt max_validity (max f m)) BadTime _ (le-ltb max_validity (max f m) day)
-      ∙ refused_by (is_busy w.kernel) Busy _ (busy_is (is_live w.kernel.phase) (length w.kernel.vfs.calls + length w.kernel.vfs.opens) used.live used.used)
-  refused e r (clock_ends ms late) = refused_by (nat_le clock_end (w.kernel.vfs.clock + ms)) BadTime _ (le-leb clock_end (w.kernel.vfs.clock + ms) late)
+      ∙ refused_by (is_busy w.kernel) Busy _ (busy_is (is_live w.kernel.phase)
+      (length w.kernel.vfs.calls + length w.kernel.vfs.opens) used.live used.used)
+  refused e r (clock_ends ms late) = refused_by (nat_le clock_end (w.kernel.vfs.clock + ms)) BadTime _
+      (le-leb clock_end (w.kernel.vfs.clock + ms) late)
   refused e r (not_ready call unready) = refused_by (not (is_ready w.kernel.phase)) NotReady _ (ap not unready)
   refused e r (too_many call ready many) =
-      passed (not (is_ready w.kernel.phase)) NotReady _ (ap not ready) ∙ refused_by (nat_le max_calls (length w.kernel.vfs.calls)) Full _ (le-leb max_calls (length w.kernel.vfs.calls) many)
+      passed (not (is_ready w.kernel.phase)) NotReady _ (ap not ready) ∙ refused_by
+      (nat_le max_calls (length w.kernel.vfs.calls)) Full _ (le-leb max_calls (length w.kernel.vfs.calls) many)
   refused e r (not_live same needs down) = unready e needs down
   refused e r (interrupt_first same reads live some) = interrupted e reads live some
   refused e r (names_nothing same live first none) = nothing e live first none
   refused e r (none_kept unique none) = ap (sending_again w unique) none
-  refused e r (not_current unique kept there stale) = ap (sending_again w unique) there ∙ refused_by (not (is_current w.server kept.wire)) NoCopy _ (ap not stale)
-  refused e r (pinned_or_bound node counted live there used) = live_passes w _ live ∙ ap (evicting w node) there ∙ refused_by (is_pinned w.kernel node || is_bound w.kernel node) Busy _ used
-  refused e r (told_too_often unique held there many) = ap (performing_held choice w unique) there ∙ refused_by (counts_out w.server.nodes (files_given w.server held)) Exhausted _ many
+  refused e r (not_current unique kept there stale) =
+      ap (sending_again w unique) there ∙ refused_by (not (is_current w.server kept.wire)) NoCopy _ (ap not stale)
+  refused e r (pinned_or_bound node counted live there used) =
+      live_passes w _ live ∙ ap (evicting w node) there ∙ refused_by
+      (is_pinned w.kernel node || is_bound w.kernel node) Busy _ used
+  refused e r (told_too_often unique held there many) =
+      ap (performing_held choice w unique) there ∙ refused_by
+      (counts_out w.server.nodes (files_given w.server held)) Exhausted _ many
   refused e r (copied_too_often unique kept there current many) =
-      ap (sending_again w unique) there ∙ passed (not (is_current w.server kept.wire)) NoCopy _ (ap not current) ∙ refused_by (counts_out w.server.nodes (files_named w.server kept.wire)) Exhausted _ many
+      ap (sending_again w unique) there ∙ passed (not (is_current w.server kept.wire)) NoCopy _
+      (ap not current) ∙ refused_by (counts_out w.server.nodes (files_named w.server kept.wire)) Exhausted _ many
   refused e r (past_its_end same o after drawn there past) = exhausted e o after drawn there past

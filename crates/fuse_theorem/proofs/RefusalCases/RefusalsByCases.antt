@@ -34,11 +34,13 @@ module _ (choice : ℕ → ℕ) (w : World) (e : Event) where
     leads_is s (is_refused r refuses) is = absurd (cc)
     leads_is s (leads p reached there within) is =
         let same = ok_is p reached o after is in
-        subst (λ (x : Outcome). Leads choice w e x after) same.outcome_is (subst (λ (v : World). Leads choice w e p v) same.after_is there)
+        subst (λ (x : Outcome). Leads choice w e x after) same.outcome_is
+        (subst (λ (v : World). Leads choice w e p v) same.after_is there)
 
     within_is : (s : Stepped) → ByCases choice w e s → s ≡ Ok (o, after) → draws e ≡ true → is_past after ≡ false
     within_is s (is_refused r refuses) is drawn = absurd (cc)
-    within_is s (leads p reached there within) is drawn = subst (λ (v : World). is_past v ≡ false) (ok_is p reached o after is).after_is (within drawn)
+    within_is s (leads p reached there within) is drawn =
+        subst (λ (v : World). is_past v ≡ false) (ok_is p reached o after is).after_is (within drawn)
 
     pub only_accepted : step choice w e ≡ Ok (o, after) → Leads choice w e o after
     only_accepted stepped = leads_is (step choice w e) (by_cases choice w e) stepped
@@ -46,5 +48,6 @@ module _ (choice : ℕ → ℕ) (w : World) (e : Event) where
     pub within_accepted : step choice w e ≡ Ok (o, after) → draws e ≡ true → is_past after ≡ false
     within_accepted stepped drawn = within_is (step choice w e) (by_cases choice w e) stepped drawn
 
-    pub also_accepted : Leads choice w e o after → (draws e ≡ true → is_past after ≡ false) → step choice w e ≡ Ok (o, after)
+    pub also_accepted : Leads choice w e o after → (draws e ≡ true → is_past after ≡ false)
+        → step choice w e ≡ Ok (o, after)
     also_accepted there within = led_to choice w e o after there within

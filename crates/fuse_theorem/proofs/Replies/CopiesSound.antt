@@ -36,28 +36,43 @@ results_under number results = count_by (λ (r : ReplyResult). nat_eq number r.n
 
 -- What a served request leaves of the copies: one more, unless the mount is aborted.
 pub served_copies : (choice : ℕ → ℕ) (s : Server) (unique : ℕ) (t : HeldRequest)
-    → (served choice s unique t).server.copies ≡ cond s.aborted s.copies (put s.copies s.next_copy (record { unique = unique; wire = (served choice s unique t).wire; first = s.next_copy }))
+    → (served choice s unique t).server.copies ≡ cond s.aborted s.copies
+    (put s.copies s.next_copy (record {
+      unique = unique;
+      wire = (served choice s unique t).wire;
+      first = s.next_copy;
+    }))
 served_copies choice s unique t =
     let less = record s { held = remove s.held unique } in
     let rest = performed_rest choice less t in
-    λ i. cond (rest.aborted i) (rest.copies i) (put (rest.copies i) (rest.next_copy i) (record { unique = unique; wire = (performed choice less t).wire; first = rest.next_copy i }))
+    λ i. cond (rest.aborted i) (rest.copies i) (put (rest.copies i) (rest.next_copy i)
+    (record { unique = unique; wire = (performed choice less t).wire; first = rest.next_copy i }))
 
 -- Nothing is on the links.
 nothing_sent : (w : World) → w.replies ≡ [] → w.results ≡ [] → CopiesSound w
 nothing_sent w replies results = record {
-  sent = subst (λ (xs : List Sent). All (IsKnownCopy w.server.copies) xs) (sym replies) (All-nil (IsKnownCopy w.server.copies));
-  results = subst (λ (xs : List ReplyResult). All (λ (r : ReplyResult). get w.server.copies r.number ≢ None) xs) (sym results) (All-nil (λ (r : ReplyResult). get w.server.copies r.number ≢ None));
+  sent = subst (λ (xs : List Sent). All (IsKnownCopy w.server.copies) xs) (sym replies)
+      (All-nil (IsKnownCopy w.server.copies));
+  results = subst (λ (xs : List ReplyResult). All (λ (r : ReplyResult). get w.server.copies r.number ≢ None) xs)
+      (sym results) (All-nil (λ (r : ReplyResult). get w.server.copies r.number ≢ None));
   once = λ number.
-      subst (λ (xs : List Sent). sent_under number xs + results_under number w.results ≤ 1) (sym replies) (subst (λ (xs : List ReplyResult). 0 + results_under number xs ≤ 1) (sym results) (omega arith));
+      subst (λ (xs : List Sent). sent_under number xs + results_under number w.results ≤ 1) (sym replies)
+      (subst (λ (xs : List ReplyResult). 0 + results_under number xs ≤ 1) (sym results) (omega arith));
 }
 
 module _ (w : World) (sound : CopiesSound w) where
   -- The copies and the links are the same.
-  copies_same : (v : World) → v.server.copies ≡ w.server.copies → v.replies ≡ w.replies → v.results ≡ w.results → CopiesSound v
+  copies_same : (v : World) → v.server.copies ≡ w.server.copies → v.replies ≡ w.replies → v.results ≡ w.results
+      → CopiesSound v
   copies_same v copies replies results = record {
-    sent = subst (λ (xs : List Sent). All (IsKnownCopy v.server.copies) xs) (sym replies) (subst (λ (m : Map Copy). All (IsKnownCopy m) w.replies) (sym copies) sound.sent);
-    results = subst (λ (xs : List ReplyResult). All (λ (r : ReplyResult). get v.server.copies r.number ≢ None) xs) (sym results) (subst (λ (m : Map Copy). All (λ (r : ReplyResult). get m r.number ≢ None) w.results) (sym copies) sound.results);
-    once = λ number. subst (λ (xs : List Sent). sent_under number xs + results_under number v.results ≤ 1) (sym replies) (subst (λ (xs : List ReplyResult). sent_under number w.replies + results_under number xs ≤ 1) (sym results) (sound.once number));
+    sent = subst (λ (xs : List Sent). All (IsKnownCopy v.server.copies) xs) (sym replies)
+        (subst (λ (m : Map Copy). All (IsKnownCopy m) w.replies) (sym copies) sound.sent);
+    results = subst (λ (xs : List ReplyResult). All (λ (r : ReplyResult). get v.server.copies r.number ≢ None) xs)
+        (sym results) (subst (λ (m : Map Copy). All (λ (r : ReplyResult). get m r.number ≢ None) w.results)
+        (sym copies) sound.results);
+    once = λ number. subst (λ (xs : List Sent). sent_under number xs + results_under number v.results ≤ 1)
+        (sym replies) (subst (λ (xs : List ReplyResult). sent_under number w.replies + results_under number xs ≤ 1)
+        (sym results) (sound.once number));
   }
 
   module _ (server : ServerSound w.server) where
@@ -71,10 +86,12 @@ module _ (w : World) (sound : CopiesSound w) where
     sent_other : All (λ (s : Sent). nat_eq new s.number ≡ false) w.replies
     sent_other i s lt =
         let known = sound.sent i s lt in
-        other_is new (get_or w.replies i s).number (λ e. absurd (cc (known.there, subst (λ (n : ℕ). get w.server.copies n ≡ None) e no_copy)))
+        other_is new (get_or w.replies i s).number (λ e. absurd
+        (cc (known.there, subst (λ (n : ℕ). get w.server.copies n ≡ None) e no_copy)))
 
     results_other : All (λ (r : ReplyResult). nat_eq new r.number ≡ false) w.results
-    results_other i r lt = other_is new (get_or w.results i r).number (λ e. sound.results i r lt (subst (λ (n : ℕ). get w.server.copies n ≡ None) e no_copy))
+    results_other i r lt = other_is new (get_or w.results i r).number
+        (λ e. sound.results i r lt (subst (λ (n : ℕ). get w.server.copies n ≡ None) e no_copy))
 
     module _ (copy : Copy) where
       abbrev sent : Sent
@@ -90,10 +107,19 @@ module _ (w : World) (sound : CopiesSound w) where
       known_still i s lt =
           let known = sound.sent i s lt in
           let n = (get_or w.replies i s).number in
-          record { copy = known.copy; there = get_put_there w.server.copies w.server.next_copy copy n (apart n (λ e. absurd (cc (known.there, e)))) ∙ known.there; same_unique = known.same_unique; same_wire = known.same_wire }
+          record {
+            copy = known.copy;
+            there = get_put_there w.server.copies w.server.next_copy copy n
+                (apart n (λ e. absurd (cc (known.there, e)))) ∙ known.there;
+            same_unique = known.same_unique;
+            same_wire =
+                known.same_wire;
+          }
 
       there_still : All (λ (r : ReplyResult). get more r.number ≢ None) w.results
-      there_still i r lt e = let n = (get_or w.results i r).number in sound.results i r lt (sym (get_put_there w.server.copies w.server.next_copy copy n (apart n (sound.results i r lt))) ∙ e)
+      there_still i r lt e = let n = (get_or w.results i r).number in
+          sound.results i r lt (sym (get_put_there w.server.copies w.server.next_copy copy n
+          (apart n (sound.results i r lt))) ∙ e)
 
       at_new : sent_under w.server.next_copy (w.replies ++ sent ∷ []) + results_under w.server.next_copy w.results ≤ 1
       at_new =
@@ -104,7 +130,8 @@ module _ (w : World) (sound : CopiesSound w) where
 
       once_more : (number : ℕ) → sent_under number (w.replies ++ sent ∷ []) + results_under number w.results ≤ 1
       once_more number = elim (cases_eq number w.server.next_copy) [
-        | inl e ↦ subst (λ (n : ℕ). sent_under n (w.replies ++ sent ∷ []) + results_under n w.results ≤ 1) (sym e) at_new
+        | inl e ↦ subst (λ (n : ℕ). sent_under n (w.replies ++ sent ∷ []) + results_under n w.results ≤ 1)
+            (sym e) at_new
         | inr ne ↦
             let pushed = count_by-push (λ (s : Sent). nat_eq number s.number) w.replies sent in
             let other = other_is number w.server.next_copy ne in
@@ -114,26 +141,42 @@ module _ (w : World) (sound : CopiesSound w) where
 
       -- A result's copy is the same one still.
       pub results_still : All (λ (r : ReplyResult). get more r.number ≡ get w.server.copies r.number) w.results
-      results_still i r lt = let n = (get_or w.results i r).number in get_put_there w.server.copies w.server.next_copy copy n (apart n (sound.results i r lt))
+      results_still i r lt = let n = (get_or w.results i r).number in
+          get_put_there w.server.copies w.server.next_copy copy n (apart n (sound.results i r lt))
 
       -- One more copy goes out.
-      copy_sent : (v : World) → v.server.copies ≡ more → v.replies ≡ w.replies ++ sent ∷ [] → v.results ≡ w.results → CopiesSound v
+      copy_sent : (v : World) → v.server.copies ≡ more → v.replies ≡ w.replies ++ sent ∷ [] → v.results ≡ w.results
+          → CopiesSound v
       copy_sent v copies replies results = record {
         sent = subst (λ (xs : List Sent). All (IsKnownCopy v.server.copies) xs) (sym replies)
-            (subst (λ (m : Map Copy). All (IsKnownCopy m) (w.replies ++ sent ∷ [])) (sym copies) (All-push (IsKnownCopy more) w.replies sent known_still (record { copy = copy; there = get_put_here w.server.copies w.server.next_copy copy; same_unique = refl; same_wire = refl })));
-        results = subst (λ (xs : List ReplyResult). All (λ (r : ReplyResult). get v.server.copies r.number ≢ None) xs) (sym results) (subst (λ (m : Map Copy). All (λ (r : ReplyResult). get m r.number ≢ None) w.results) (sym copies) there_still);
-        once = λ number. subst (λ (xs : List Sent). sent_under number xs + results_under number v.results ≤ 1) (sym replies) (subst (λ (xs : List ReplyResult). sent_under number (w.replies ++ sent ∷ []) + results_under number xs ≤ 1) (sym results) (once_more number));
+            (subst (λ (m : Map Copy). All (IsKnownCopy m) (w.replies ++ sent ∷ [])) (sym copies)
+            (All-push (IsKnownCopy more) w.replies sent known_still
+            (record {
+              copy = copy;
+              there = get_put_here w.server.copies w.server.next_copy copy;
+              same_unique = refl;
+              same_wire = refl;
+            })));
+        results = subst (λ (xs : List ReplyResult). All (λ (r : ReplyResult). get v.server.copies r.number ≢ None) xs)
+            (sym results) (subst (λ (m : Map Copy). All (λ (r : ReplyResult). get m r.number ≢ None) w.results)
+            (sym copies) there_still);
+        once = λ number. subst (λ (xs : List Sent). sent_under number xs + results_under number v.results ≤ 1)
+            (sym replies) (subst (λ (xs : List ReplyResult). sent_under number
+            (w.replies ++ sent ∷ []) + results_under number xs ≤ 1) (sym results) (once_more number));
       }
 
   -- ---- events
 
-  taken_copies : ServerSound w.server → (k : ℕ) (r : Request) → CopiesSound (after_take w k r.unique (taking w.server r.unique r.body))
+  taken_copies : ServerSound w.server → (k : ℕ) (r : Request)
+      → CopiesSound (after_take w k r.unique (taking w.server r.unique r.body))
   taken_copies server k r = by r.body
     where
-      interrupts : (original : ℕ) (h : Option HeldRequest) (o : Option Kept) → CopiesSound (after_take w k r.unique (interrupting w.server r.unique original h o))
+      interrupts : (original : ℕ) (h : Option HeldRequest) (o : Option Kept)
+          → CopiesSound (after_take w k r.unique (interrupting w.server r.unique original h o))
       interrupts original (Some t) o = copies_same _ refl refl refl
       interrupts original None (Some x) = copies_same _ refl refl refl
-      interrupts original None None = copy_sent server (record { unique = r.unique; wire = failed 11; first = w.server.next_copy }) _ refl refl refl
+      interrupts original None None = copy_sent server
+          (record { unique = r.unique; wire = failed 11; first = w.server.next_copy }) _ refl refl refl
 
       by : (body : RequestBody) → CopiesSound (after_take w k r.unique (taking w.server r.unique body))
       by (init flags) = copies_same _ refl refl refl
@@ -143,25 +186,45 @@ module _ (w : World) (sound : CopiesSound w) where
       by (batch_forget fs) = copies_same _ refl refl refl
       by (interrupt original) = interrupts original (get w.server.held original) (get w.server.kept original)
 
-  performed_copies : ServerSound w.server → (choice : ℕ → ℕ) (unique : ℕ) (t : HeldRequest) → CopiesSound (after_perform w unique (served choice w.server unique t))
+  performed_copies : ServerSound w.server → (choice : ℕ → ℕ) (unique : ℕ) (t : HeldRequest)
+      → CopiesSound (after_perform w unique (served choice w.server unique t))
   performed_copies server choice unique t = by w.server.aborted (served_copies choice w.server unique t)
     where
-      by : (b : Bool) → (served choice w.server unique t).server.copies ≡ cond b w.server.copies (put w.server.copies w.server.next_copy (record { unique = unique; wire = (served choice w.server unique t).wire; first = w.server.next_copy }))
-          → CopiesSound (replying (record w { server = (served choice w.server unique t).server }) w.server.next_copy unique (cond b None (Some (served choice w.server unique t).wire)))
+      by : (b : Bool) → (served choice w.server unique t).server.copies
+          ≡ cond b w.server.copies (put w.server.copies w.server.next_copy
+          (record { unique = unique; wire = (served choice w.server unique t).wire; first = w.server.next_copy }))
+          → CopiesSound (replying (record w {
+            server =
+                (served choice w.server unique t).server;
+          }) w.server.next_copy unique
+          (cond b None (Some (served choice w.server unique t).wire)))
       by true copies = copies_same (record w { server = (served choice w.server unique t).server }) copies refl refl
-      by false copies = copy_sent server (record { unique = unique; wire = (served choice w.server unique t).wire; first = w.server.next_copy }) (replying (record w { server = (served choice w.server unique t).server }) w.server.next_copy unique (Some (served choice w.server unique t).wire)) copies refl refl
+      by false copies = copy_sent server (record {
+        unique = unique;
+        wire = (served choice w.server unique t).wire;
+        first = w.server.next_copy;
+      }) (replying (record w {
+        server =
+            (served choice w.server unique t).server;
+      }) w.server.next_copy unique
+          (Some (served choice w.server unique t).wire)) copies refl refl
 
   again_copies : ServerSound w.server → (unique : ℕ) (kept : Kept) → CopiesSound (after_again w unique kept)
-  again_copies server unique kept = copy_sent server (record { unique = unique; wire = kept.wire; first = kept.first }) (after_again w unique kept) refl refl refl
+  again_copies server unique kept = copy_sent server (record { unique = unique; wire = kept.wire; first = kept.first })
+      (after_again w unique kept) refl refl refl
 
-  written_copies : (k : ℕ) (sent : Sent) → slice_get w.replies k ≡ Some sent → (taken : WriteResult × Kernel) → CopiesSound (after_write w k sent taken)
+  written_copies : (k : ℕ) (sent : Sent) → slice_get w.replies k ≡ Some sent → (taken : WriteResult × Kernel)
+      → CopiesSound (after_write w k sent taken)
   written_copies k sent there taken = record {
     sent = All-without (IsKnownCopy w.server.copies) w.replies k sound.sent;
-    results = All-push (λ (r : ReplyResult). get w.server.copies r.number ≢ None) w.results (record { number = sent.number; unique = sent.unique; result = taken.0 }) sound.results
-        (let known = All-at (IsKnownCopy w.server.copies) w.replies k sent sound.sent there in λ e. absurd (cc (known.there, e)));
+    results = All-push (λ (r : ReplyResult). get w.server.copies r.number ≢ None) w.results
+        (record { number = sent.number; unique = sent.unique; result = taken.0 }) sound.results
+        (let known = All-at (IsKnownCopy w.server.copies) w.replies k sent sound.sent there in
+        λ e. absurd (cc (known.there, e)));
     once = λ number.
         let gone = sum_removed (λ (s : Sent). cond (nat_eq number s.number) 1 0) w.replies k sent there in
-        let pushed = count_by-push (λ (r : ReplyResult). nat_eq number r.number) w.results (record { number = sent.number; unique = sent.unique; result = taken.0 }) in
+        let pushed = count_by-push (λ (r : ReplyResult). nat_eq number r.number) w.results
+        (record { number = sent.number; unique = sent.unique; result = taken.0 }) in
         let old = sound.once number in
         omega (arith, gone, pushed, old);
   }
@@ -169,7 +232,9 @@ module _ (w : World) (sound : CopiesSound w) where
   -- A copy is settled: no other result, and no copy on the reply link, bears its number.
   module _ (k : ℕ) (result : ReplyResult) (there : slice_get w.results k ≡ Some result) where
     gone_here : results_under result.number (without_at w.results k) + 1 ≡ results_under result.number w.results
-    gone_here = subst (λ (b : Bool). results_under result.number (without_at w.results k) + cond b 1 0 ≡ results_under result.number w.results) (same_is result.number) (sum_removed (λ (r : ReplyResult). cond (nat_eq result.number r.number) 1 0) w.results k result there)
+    gone_here = subst (λ (b : Bool). results_under result.number (without_at w.results k) + cond b 1 0
+        ≡ results_under result.number w.results) (same_is result.number)
+        (sum_removed (λ (r : ReplyResult). cond (nat_eq result.number r.number) 1 0) w.results k result there)
 
     apart_from : (n : ℕ) → nat_eq result.number n ≡ false → n ≢ result.number
     apart_from n no_tie e = true≢false (sym (same_is result.number) ∙ ap (nat_eq result.number) (sym e) ∙ no_tie)
@@ -178,13 +243,16 @@ module _ (w : World) (sound : CopiesSound w) where
     sent_apart i s lt =
         let old = sound.once result.number in
         let gone = gone_here in
-        apart_from (get_or w.replies i s).number (none_passes (λ (x : Sent). nat_eq result.number x.number) w.replies (omega (arith, gone, old)) i s lt)
+        apart_from (get_or w.replies i s).number (none_passes (λ (x : Sent). nat_eq result.number x.number) w.replies
+        (omega (arith, gone, old)) i s lt)
 
     pub results_apart : All (λ (r : ReplyResult). r.number ≢ result.number) (without_at w.results k)
     results_apart i r lt =
         let old = sound.once result.number in
         let gone = gone_here in
-        apart_from (get_or (without_at w.results k) i r).number (none_passes (λ (x : ReplyResult). nat_eq result.number x.number) (without_at w.results k) (omega (arith, gone, old)) i r lt)
+        apart_from (get_or (without_at w.results k) i r).number
+        (none_passes (λ (x : ReplyResult). nat_eq result.number x.number) (without_at w.results k)
+        (omega (arith, gone, old)) i r lt)
 
     fewer : (number : ℕ) → sent_under number w.replies + results_under number (without_at w.results k) ≤ 1
     fewer number =
@@ -192,21 +260,36 @@ module _ (w : World) (sound : CopiesSound w) where
         let old = sound.once number in
         omega (arith, gone, old)
 
-    copy_settled : (v : World) → v.server.copies ≡ remove w.server.copies result.number → v.replies ≡ w.replies → v.results ≡ without_at w.results k → CopiesSound v
+    copy_settled : (v : World) → v.server.copies ≡ remove w.server.copies result.number → v.replies ≡ w.replies
+        → v.results ≡ without_at w.results k → CopiesSound v
     copy_settled v copies replies results = record {
       sent = subst (λ (xs : List Sent). All (IsKnownCopy v.server.copies) xs) (sym replies)
           (subst (λ (m : Map Copy). All (IsKnownCopy m) w.replies) (sym copies)
           (λ i s lt.
           let known = sound.sent i s lt in
-          record { copy = known.copy; there = get_gone_there w.server.copies result.number (get_or w.replies i s).number (sent_apart i s lt) ∙ known.there; same_unique = known.same_unique; same_wire = known.same_wire }));
-      results = subst (λ (xs : List ReplyResult). All (λ (r : ReplyResult). get v.server.copies r.number ≢ None) xs) (sym results)
-          (subst (λ (m : Map Copy). All (λ (r : ReplyResult). get m r.number ≢ None) (without_at w.results k)) (sym copies)
+          record {
+            copy = known.copy;
+            there = get_gone_there w.server.copies result.number
+                (get_or w.replies i s).number (sent_apart i s lt) ∙ known.there;
+            same_unique =
+                known.same_unique;
+            same_wire = known.same_wire;
+          }));
+      results = subst (λ (xs : List ReplyResult). All (λ (r : ReplyResult). get v.server.copies r.number ≢ None) xs)
+          (sym results)
+          (subst (λ (m : Map Copy). All (λ (r : ReplyResult). get m r.number ≢ None) (without_at w.results k))
+          (sym copies)
           (λ i r lt e.
-          All-without (λ (x : ReplyResult). get w.server.copies x.number ≢ None) w.results k sound.results i r lt (sym (get_gone_there w.server.copies result.number (get_or (without_at w.results k) i r).number (results_apart i r lt)) ∙ e)));
-      once = λ number. subst (λ (xs : List Sent). sent_under number xs + results_under number v.results ≤ 1) (sym replies) (subst (λ (xs : List ReplyResult). sent_under number w.replies + results_under number xs ≤ 1) (sym results) (fewer number));
+          All-without (λ (x : ReplyResult). get w.server.copies x.number ≢ None) w.results k sound.results i r lt
+          (sym (get_gone_there w.server.copies result.number (get_or (without_at w.results k) i r).number
+          (results_apart i r lt)) ∙ e)));
+      once = λ number. subst (λ (xs : List Sent). sent_under number xs + results_under number v.results ≤ 1)
+          (sym replies) (subst (λ (xs : List ReplyResult). sent_under number w.replies + results_under number xs ≤ 1)
+          (sym results) (fewer number));
     }
 
-  settled_copies : (k : ℕ) (result : ReplyResult) → slice_get w.results k ≡ Some result → (o : Option Copy) → CopiesSound (after_settle w k result o)
+  settled_copies : (k : ℕ) (result : ReplyResult) → slice_get w.results k ≡ Some result → (o : Option Copy)
+      → CopiesSound (after_settle w k result o)
   settled_copies k result there None = record {
     sent = sound.sent;
     results = All-without (λ (r : ReplyResult). get w.server.copies r.number ≢ None) w.results k sound.results;
@@ -217,27 +300,44 @@ module _ (w : World) (sound : CopiesSound w) where
   }
   settled_copies k result there (Some copy) = by result.result
     where
-      by : (r : WriteResult) → CopiesSound (record w { results = without_at w.results k; server = after_result (record w.server { copies = remove w.server.copies result.number; kept = kept_after w.server.kept copy (get w.server.kept copy.unique) }) copy.wire r })
+      by : (r : WriteResult) → CopiesSound (record w {
+        results = without_at w.results k;
+        server = after_result (record w.server {
+          copies = remove w.server.copies result.number;
+          kept = kept_after w.server.kept copy (get w.server.kept copy.unique);
+        }) copy.wire r;
+      })
       by Accepted = copy_settled k result there _ refl refl refl
       by NoEntry = copy_settled k result there _ refl refl refl
       by Invalid = copy_settled k result there _ refl refl refl
 
 -- The copies of replies stay as the server knows them, whatever the event.
-pub copies_stay : (w : World) → CopiesSound w → ServerSound w.server → (choice : ℕ → ℕ) (e : Event) (o : Outcome) (after : World) → Happened choice w e o after → CopiesSound after
+pub copies_stay : (w : World) → CopiesSound w → ServerSound w.server
+    → (choice : ℕ → ℕ) (e : Event) (o : Outcome) (after : World) → Happened choice w e o after → CopiesSound after
 copies_stay w sound server choice e o after (by_mount f m v idle) = nothing_sent after refl refl
 copies_stay w sound server choice e o after (by_call call ready room within) = copies_same w sound after refl refl refl
-copies_stay w sound server choice e o after (by_read_interrupt original rest live there within) = copies_same w sound after refl refl refl
-copies_stay w sound server choice e o after (by_read_forgets n live free can within few) = copies_same w sound after refl refl refl
-copies_stay w sound server choice e o after (by_read_pending k unique kept body live free there says within) = copies_same w sound after refl refl refl
+copies_stay w sound server choice e o after (by_read_interrupt original rest live there within) =
+    copies_same w sound after refl refl refl
+copies_stay w sound server choice e o after (by_read_forgets n live free can within few) =
+    copies_same w sound after refl refl refl
+copies_stay w sound server choice e o after (by_read_pending k unique kept body live free there says within) =
+    copies_same w sound after refl refl refl
 copies_stay w sound server choice e o after (by_take k r there within) = taken_copies w sound server k r
-copies_stay w sound server choice e o after (by_perform unique t there within) = performed_copies w sound server choice unique t
-copies_stay w sound server choice e o after (by_again unique kept there current within) = again_copies w sound server unique kept
-copies_stay w sound server choice e o after (by_write k sent there within) = written_copies w sound k sent there (reply_written w.kernel sent.unique sent.wire)
-copies_stay w sound server choice e o after (by_settle k result there) = settled_copies w sound k result there (get w.server.copies result.number)
-copies_stay w sound server choice e o after (by_signal call fatal state live there within) = copies_same w sound after refl refl refl
+copies_stay w sound server choice e o after (by_perform unique t there within) =
+    performed_copies w sound server choice unique t
+copies_stay w sound server choice e o after (by_again unique kept there current within) =
+    again_copies w sound server unique kept
+copies_stay w sound server choice e o after (by_write k sent there within) =
+    written_copies w sound k sent there (reply_written w.kernel sent.unique sent.wire)
+copies_stay w sound server choice e o after (by_settle k result there) =
+    settled_copies w sound k result there (get w.server.copies result.number)
+copies_stay w sound server choice e o after (by_signal call fatal state live there within) =
+    copies_same w sound after refl refl refl
 copies_stay w sound server choice e o after (by_tick ms timely) = copies_same w sound after refl refl refl
-copies_stay w sound server choice e o after (by_drop directory name bound live there) = copies_same w sound after refl refl refl
-copies_stay w sound server choice e o after (by_evict node counted live there unused) = copies_same w sound after refl refl refl
+copies_stay w sound server choice e o after (by_drop directory name bound live there) =
+    copies_same w sound after refl refl refl
+copies_stay w sound server choice e o after (by_evict node counted live there unused) =
+    copies_same w sound after refl refl refl
 copies_stay w sound server choice e o after (by_abort live) = nothing_sent after refl refl
 
 pub first_copies : CopiesSound first_world

@@ -30,28 +30,38 @@ module _ (s : Server) where
       by None None = refl
 
   -- What is kept once a request is performed is its reply, or was kept.
-  pub served_kept : (choice : ℕ → ℕ) (unique : ℕ) (t : HeldRequest) (u : ℕ) (k : Kept) → get (served choice s unique t).server.kept u ≡ Some k → ((u ≡ unique) × (k.wire ≡ (served choice s unique t).wire)) ⊎ (get s.kept u ≡ Some k)
+  pub served_kept : (choice : ℕ → ℕ) (unique : ℕ) (t : HeldRequest) (u : ℕ) (k : Kept)
+      → get (served choice s unique t).server.kept u ≡ Some k
+      → ((u ≡ unique) × (k.wire ≡ (served choice s unique t).wire)) ⊎ (get s.kept u ≡ Some k)
   served_kept choice unique t u k at = by did.aborted at
     where
       did : Server
       did = (performed choice (record s { held = remove s.held unique }) t).server
 
       was : get did.kept u ≡ Some k → get s.kept u ≡ Some k
-      was there = let rest = performed_rest choice (record s { held = remove s.held unique }) t in ap (λ (m : Map Kept). get m u) (sym rest.kept) ∙ there
+      was there = let rest = performed_rest choice (record s { held = remove s.held unique }) t in
+          ap (λ (m : Map Kept). get m u) (sym rest.kept) ∙ there
 
-      by : (b : Bool) → get (cond b did.kept (put did.kept unique (record { wire = (served choice s unique t).wire; first = did.next_copy }))) u ≡ Some k → ((u ≡ unique) × (k.wire ≡ (served choice s unique t).wire)) ⊎ (get s.kept u ≡ Some k)
+      by : (b : Bool) → get (cond b did.kept (put did.kept unique
+          (record { wire = (served choice s unique t).wire; first = did.next_copy }))) u ≡ Some k
+          → ((u ≡ unique) × (k.wire ≡ (served choice s unique t).wire)) ⊎ (get s.kept u ≡ Some k)
       by true there = inr (was there)
-      by false there = elim (put_found did.kept unique (record { wire = (served choice s unique t).wire; first = did.next_copy }) u k there) [
-        | inl h ↦ inl (h.0, ap (λ (x : Kept). x.wire) (sym h.1))
-        | inr h ↦ inr (was h)
-      ]
+      by false there = elim (put_found did.kept unique
+          (record { wire = (served choice s unique t).wire; first = did.next_copy }) u k there) [
+            | inl h ↦ inl (h.0, ap (λ (x : Kept). x.wire) (sym h.1))
+            | inr h ↦ inr (was h)
+          ]
 
   -- What is kept once a copy is settled was kept.
-  pub settled_kept : (result : ReplyResult) (o : Option Copy) (u : ℕ) (k : Kept) → get (server_settled s result o).kept u ≡ Some k → get s.kept u ≡ Some k
+  pub settled_kept : (result : ReplyResult) (o : Option Copy) (u : ℕ) (k : Kept)
+      → get (server_settled s result o).kept u ≡ Some k → get s.kept u ≡ Some k
   settled_kept result None u k at = at
   settled_kept result (Some copy) u k at = by result.result at
     where
-      by : (r : WriteResult) → get (after_result (record s { copies = remove s.copies result.number; kept = kept_after s.kept copy (get s.kept copy.unique) }) copy.wire r).kept u ≡ Some k → get s.kept u ≡ Some k
+      by : (r : WriteResult) → get (after_result (record s {
+        copies = remove s.copies result.number;
+        kept = kept_after s.kept copy (get s.kept copy.unique);
+      }) copy.wire r).kept u ≡ Some k → get s.kept u ≡ Some k
       by Accepted there = kept_was s.kept copy (get s.kept copy.unique) u k there
       by NoEntry there = kept_was s.kept copy (get s.kept copy.unique) u k there
       by Invalid there = kept_was s.kept copy (get s.kept copy.unique) u k there

@@ -34,7 +34,8 @@ of_init_reply : (m : Minor) → is_init_reply (init_reply m init_flags) ≡ true
 of_init_reply M15 = refl
 of_init_reply M31 = refl
 
-module _ (w : World) (p : Plain) (both : BothSound w p) (fit : RepliesFit w) (k : ℕ) (sent : Sent) (there : slice_get w.replies k ≡ Some sent) where
+module _ (w : World) (p : Plain) (both : BothSound w p) (fit : RepliesFit w) (k : ℕ) (sent : Sent)
+    (there : slice_get w.replies k ≡ Some sent) where
   abbrev l : Kernel
   l = record w.kernel { queues = without w.kernel.queues sent.unique }
 
@@ -42,12 +43,14 @@ module _ (w : World) (p : Plain) (both : BothSound w p) (fit : RepliesFit w) (k 
   accepted e f = absurd (cc (e, f))
 
   -- a reply to an INTERRUPT
-  interrupt_fits : (wire : WireReply) → is_empty_reply wire ≡ true → (interrupt_replied w.kernel (sent.unique - 1) wire).0 ≡ Accepted
+  interrupt_fits : (wire : WireReply) → is_empty_reply wire ≡ true
+      → (interrupt_replied w.kernel (sent.unique - 1) wire).0 ≡ Accepted
   interrupt_fits (failed errno) e = refl
   interrupt_fits done e = refl
   interrupt_fits wire e = absurd (true≢false (sym e))
 
-  odd_fits : (wire : WireReply) → is_empty_reply wire ≡ true → (o : Option Purpose) → (interrupt_reply_written w.kernel sent.unique wire o).0 ≢ Invalid
+  odd_fits : (wire : WireReply) → is_empty_reply wire ≡ true → (o : Option Purpose)
+      → (interrupt_reply_written w.kernel sent.unique wire o).0 ≢ Invalid
   odd_fits wire e None = λ f. absurd (cc (f))
   odd_fits wire e (Some kept) = accepted (interrupt_fits wire e)
 
@@ -55,16 +58,22 @@ module _ (w : World) (p : Plain) (both : BothSound w p) (fit : RepliesFit w) (k 
   of_empty true e = refl
   of_empty false e = absurd (true≢false (sym e))
 
-  replied_so : (call : ℕ) (state : CallState Opened) (b : Bool) → b ≡ true → (replied l call state b sent.wire).0 ≡ Accepted
+  replied_so : (call : ℕ) (state : CallState Opened) (b : Bool) → b ≡ true
+      → (replied l call state b sent.wire).0 ≡ Accepted
   replied_so call state true e = refl
   replied_so call state false e = absurd (true≢false (sym e))
 
-  called_so : (call : ℕ) (state : CallState Opened) → goes_with (asked state) sent.wire ≡ true → (o : Option (CallState Opened)) → o ≡ Some state → (replied_to_call l call sent.wire o).0 ≡ Accepted
+  called_so : (call : ℕ) (state : CallState Opened) → goes_with (asked state) sent.wire ≡ true
+      → (o : Option (CallState Opened)) → o ≡ Some state → (replied_to_call l call sent.wire o).0 ≡ Accepted
   called_so call state goes None e = refl
-  called_so call state goes (Some other) e = let same : other ≡ state = cc (e) in replied_so call other (goes_with (asked other) sent.wire) (ap (λ (s : CallState Opened). goes_with (asked s) sent.wire) same ∙ goes)
+  called_so call state goes (Some other) e = let same : other ≡ state =
+      cc (e) in replied_so call other (goes_with (asked other) sent.wire)
+      (ap (λ (s : CallState Opened). goes_with (asked s) sent.wire) same ∙ goes)
 
   -- what awaits the copy, where its number is even
-  even_so : (o : Option Purpose) → waiting w.kernel.queues sent.unique ≡ o → nat_eq (sent.unique % 2) 1 ≡ false → (request_reply_written w.kernel sent.unique sent.wire o).0 ≢ Invalid → (reply_written w.kernel sent.unique sent.wire).0 ≢ Invalid
+  even_so : (o : Option Purpose) → waiting w.kernel.queues sent.unique ≡ o → nat_eq (sent.unique % 2) 1 ≡ false
+      → (request_reply_written w.kernel sent.unique sent.wire o).0 ≢ Invalid
+      → (reply_written w.kernel sent.unique sent.wire).0 ≢ Invalid
   even_so o waits even fits = rw (even, waits) fits
 
   pub heard_fits : CanReceive w p sent → (reply_written w.kernel sent.unique sent.wire).0 ≢ Invalid
@@ -79,27 +88,40 @@ module _ (w : World) (p : Plain) (both : BothSound w p) (fit : RepliesFit w) (k 
       even (Some kept) e = absurd (cc (e))
 
       by : (b : Bool) → cond b (waiting w.kernel.queues (sent.unique - 1)) (waiting w.kernel.queues sent.unique) ≡ None
-          → (cond b (interrupt_reply_written w.kernel sent.unique sent.wire (waiting w.kernel.queues (sent.unique - 1))) (request_reply_written w.kernel sent.unique sent.wire (waiting w.kernel.queues sent.unique))).0 ≢ Invalid
+          → (cond b (interrupt_reply_written w.kernel sent.unique sent.wire
+          (waiting w.kernel.queues (sent.unique - 1))) (request_reply_written w.kernel sent.unique sent.wire
+          (waiting w.kernel.queues sent.unique))).0 ≢ Invalid
       by true e = odd (waiting w.kernel.queues (sent.unique - 1)) e
       by false e = even (waiting w.kernel.queues sent.unique) e
   heard_fits (each.of_interrupt kept numbered live odd waits) =
       let number : sent.unique % 2 ≡ 1 = grind (arith, nat_tests, odd) in
-      let says = All-at (λ (s : Sent). s.unique % 2 ≡ 1 → is_empty_reply s.wire ≡ true) w.replies k sent fit.interrupted there number in
+      let says = All-at (λ (s : Sent). s.unique % 2 ≡ 1
+      → is_empty_reply s.wire ≡ true) w.replies k sent fit.interrupted there number in
       rw odd (odd_fits sent.wire says (waiting w.kernel.queues (sent.unique - 1)))
   heard_fits (each.of_release o numbered live even waits) =
       let request = waiting_is w.kernel.queues sent.unique (purpose.Release o) waits in
-      let mine = All-found (λ (e : ℕ × QueuedRequest Purpose). FitsPurpose w.replies w.server.kept e.0 e.1.kept) sent.unique w.kernel.queues.requests request.request fit.released request.under in
+      let mine = All-found (λ (e : ℕ
+      × QueuedRequest Purpose). FitsPurpose w.replies w.server.kept e.0 e.1.kept) sent.unique w.kernel.queues.requests request.request fit.released request.under in
       let empty = subst (FitsPurpose w.replies w.server.kept sent.unique) request.serves mine in
-      let says = All-at (λ (s : Sent). s.unique ≡ sent.unique → is_empty_reply s.wire ≡ true) w.replies k sent empty.of_copies there refl in
+      let says = All-at (λ (s : Sent). s.unique ≡ sent.unique
+      → is_empty_reply s.wire ≡ true) w.replies k sent empty.of_copies there refl in
       even_so (Some (purpose.Release o)) waits even (accepted (of_empty (is_empty_reply sent.wire) says))
-  heard_fits (each.of_init numbered live even waits wire_is) = even_so (Some purpose.Init) waits even (accepted (of_empty (is_init_reply sent.wire) (ap is_init_reply wire_is ∙ of_init_reply w.server.minor)))
-  heard_fits (each.of_call call state reply numbered one live even waits is) = even_so (Some (purpose.Call call)) waits even (accepted (called_so call state is.goes (get w.kernel.vfs.calls call) is.state_is))
+  heard_fits (each.of_init numbered live even waits wire_is) =
+      even_so (Some purpose.Init) waits even (accepted
+      (of_empty (is_init_reply sent.wire) (ap is_init_reply wire_is ∙ of_init_reply w.server.minor)))
+  heard_fits (each.of_call call state reply numbered one live even waits is) =
+      even_so (Some (purpose.Call call)) waits even (accepted
+      (called_so call state is.goes (get w.kernel.vfs.calls call) is.state_is))
   heard_fits (each.of_declined call state numbered one live even waits is) =
-      even_so (Some (purpose.Call call)) waits even (accepted (called_so call state (ap (goes_with (asked state)) is.wire_is ∙ goes_failed (asked state)) (get w.kernel.vfs.calls call) is.state_is))
+      even_so (Some (purpose.Call call)) waits even (accepted
+      (called_so call state (ap (goes_with (asked state)) is.wire_is ∙ goes_failed (asked state))
+      (get w.kernel.vfs.calls call) is.state_is))
     where
       goes_failed : (operation : Operation ℕ Opened) → goes_with operation (failed 4) ≡ true
       goes_failed operation = refl
 
 -- What the kernel says of a copy is not that its body is wrong.
-pub none_invalid : (w : World) (p : Plain) → BothSound w p → RepliesFit w → (k : ℕ) (sent : Sent) → slice_get w.replies k ≡ Some sent → (reply_written w.kernel sent.unique sent.wire).0 ≢ Invalid
-none_invalid w p both fit k sent there = heard_fits w p both fit k sent there (write_met (λ n. n) w p both.world both.asked both.links both.served both.alike k sent there)
+pub none_invalid : (w : World) (p : Plain) → BothSound w p → RepliesFit w → (k : ℕ) (sent : Sent)
+    → slice_get w.replies k ≡ Some sent → (reply_written w.kernel sent.unique sent.wire).0 ≢ Invalid
+none_invalid w p both fit k sent there = heard_fits w p both fit k sent there
+    (write_met (λ n. n) w p both.world both.asked both.links both.served both.alike k sent there)

@@ -25,7 +25,8 @@ within : (n m : ℕ) → n ≤ m → nat_le n m ≡ true
 within n m le = grind (arith, nat_tests, le)
 
 module _ (R : ℕ → ℕ → Type 0) (S : Opened → ℕ → Type 0) (t : NodeTable) (h : HandleTable) where
-  goes : (a : Operation ℕ Opened) (b : FileOperation) (wire : WireReply) (reply : Reply ℕ ℕ) → SameOperation R S a b → SameReply (Names t) (Opens h) wire reply → RepliesTo b reply → goes_with a wire ≡ true
+  goes : (a : Operation ℕ Opened) (b : FileOperation) (wire : WireReply) (reply : Reply ℕ ℕ) → SameOperation R S a b
+      → SameReply (Names t) (Opens h) wire reply → RepliesTo b reply → goes_with a wire ≡ true
   goes _ _ _ _ (both_lookup d e n m r q) (same_found g x v u named f) so = refl
   goes _ _ _ _ (both_lookup d e n m r q) (same_missing v u f) so = refl
   goes _ _ _ _ (both_lookup d e n m r q) (same_failed x y f) so = refl
@@ -46,37 +47,49 @@ module _ (R : ℕ → ℕ → Type 0) (S : Opened → ℕ → Type 0) (t : NodeT
   goes _ _ _ _ (both_opening d e r) (same_opened fh o number) so = refl
   goes _ _ _ _ (both_opening d e r) (same_failed x y f) so = refl
   goes _ _ _ _ (both_readdir d e x y size size' r q same) (same_listed records others f) so =
-      within (sum_by record_length records) size (subst (λ (xs : List Dirent). sum_by record_length xs ≤ size) (sym f) (subst (λ (n : ℕ). sum_by record_length others ≤ n) (sym same) so))
+      within (sum_by record_length records) size (subst (λ (xs : List Dirent). sum_by record_length xs ≤ size) (sym f)
+      (subst (λ (n : ℕ). sum_by record_length others ≤ n) (sym same) so))
   goes _ _ _ _ (both_readdir d e x y size size' r q same) (same_failed v u f) so = refl
   goes _ _ _ _ (both_readdirplus d e x y size size' r q same) (same_listed_plus pairs others f) so =
       let lengths = lengths_same (Names t) pairs others f in
       within (sum_by pair_length pairs) size (omega (arith, lengths, same, so))
   goes _ _ _ _ (both_readdirplus d e x y size size' r q same) (same_failed v u f) so = refl
   goes _ _ _ _ (both_read o o' x y size size' r q same) (same_content bytes others f) so =
-      within (length bytes) size (subst (λ (xs : List ℕ). length xs ≤ size) (sym f) (subst (λ (n : ℕ). length others ≤ n) (sym same) so))
+      within (length bytes) size (subst (λ (xs : List ℕ). length xs ≤ size) (sym f)
+      (subst (λ (n : ℕ). length others ≤ n) (sym same) so))
   goes _ _ _ _ (both_read o o' x y size size' r q same) (same_failed v u f) so = refl
   goes _ _ _ _ (both_write o o' x y bytes others r q same) (same_written size n f) so =
-      within size (length bytes) (subst (λ (m : ℕ). m ≤ length bytes) (sym f) (subst (λ (xs : List ℕ). n ≤ length xs) (sym same) so))
+      within size (length bytes) (subst (λ (m : ℕ). m ≤ length bytes) (sym f)
+      (subst (λ (xs : List ℕ). n ≤ length xs) (sym same) so))
   goes _ _ _ _ (both_write o o' x y bytes others r q same) (same_failed v u f) so = refl
   goes _ _ _ _ other told so = absurd so
 
   -- The copy is a body of a reply to the operation.
-  pub wire_goes : (a : Operation ℕ Opened) (b : FileOperation) (wire : WireReply) (reply : Reply ℕ ℕ) → OperationAlike R S a b → ReplyAlike (Names t) (Opens h) wire reply → RepliesTo b reply → goes_with a wire ≡ true
-  wire_goes a b wire reply same told so = goes a b wire reply (same_operation R S a b same) (same_reply (Names t) (Opens h) wire reply told) so
+  pub wire_goes : (a : Operation ℕ Opened) (b : FileOperation) (wire : WireReply) (reply : Reply ℕ ℕ)
+      → OperationAlike R S a b → ReplyAlike (Names t) (Opens h) wire reply → RepliesTo b reply → goes_with a wire ≡ true
+  wire_goes a b wire reply same told so = goes a b wire reply (same_operation R S a b same)
+      (same_reply (Names t) (Opens h) wire reply told) so
 
 -- Its open number is one of the file that was created or opened.
-module _ (nodes : Map Counted) (t : NodeTable) (h : HandleTable) (held : (id generation : ℕ) → generation_known nodes id ≡ Some generation → (file : ℕ) → Denotes t id generation file → (g f : ℕ) → Denotes t id g f → f ≡ file) where
-  pub wire_opens : (S : Opened → ℕ → Type 0) (a : Operation ℕ Opened) (b : FileOperation) (wire : WireReply) (reply : Reply ℕ ℕ) → SameOperation (Means nodes t) S a b → SameReply (Names t) (Opens h) wire reply → RepliesTo b reply → OpensItsFile t h a wire
+module _ (nodes : Map Counted) (t : NodeTable) (h : HandleTable)
+    (held : (id generation : ℕ) → generation_known nodes id ≡ Some generation → (file : ℕ)
+    → Denotes t id generation file → (g f : ℕ) → Denotes t id g f → f ≡ file) where
+  pub wire_opens : (S : Opened → ℕ → Type 0) (a : Operation ℕ Opened) (b : FileOperation) (wire : WireReply)
+      (reply : Reply ℕ ℕ) → SameOperation (Means nodes t) S a b → SameReply (Names t) (Opens h) wire reply
+      → RepliesTo b reply → OpensItsFile t h a wire
   wire_opens S _ _ _ _ (both_create d e n m r q) (same_created g x v u fh o named f number) so = λ file denotes.
       subst (λ (n : ℕ). is_open h fh n ≡ true) (so ∙ denotes_one t g.nodeid g.generation x file named denotes) number
   wire_opens S _ _ _ _ (both_opening d e r) (same_opened fh o number) so = λ generation file denotes.
-      subst (λ (n : ℕ). is_open h fh n ≡ true) (so ∙ sym (held d r.generation r.known e r.denotes generation file denotes)) number
+      subst (λ (n : ℕ). is_open h fh n ≡ true) (so ∙ sym
+      (held d r.generation r.known e r.denotes generation file denotes)) number
   wire_opens S _ _ _ _ other (same_created g x v u fh o named f number) so = absurd so
   wire_opens S _ _ _ _ other told so = tt
 
 -- ---- entries that can be used
 
-pub use_one : (nodes : Map Counted) (t : NodeTable) → ((id : ℕ) (node : Counted) → get nodes id ≡ Some node → IsHeldAs t id node.generation) → (g : Entry) → 2 ≤ g.nodeid → IsHeldAs t g.nodeid g.generation → use_of nodes g ≡ usable
+pub use_one : (nodes : Map Counted) (t : NodeTable)
+    → ((id : ℕ) (node : Counted) → get nodes id ≡ Some node → IsHeldAs t id node.generation) → (g : Entry)
+    → 2 ≤ g.nodeid → IsHeldAs t g.nodeid g.generation → use_of nodes g ≡ usable
 use_one nodes t known g low held = by (nat_lt g.nodeid 2) refl
   where
     counted : (o : Option Counted) → get nodes g.nodeid ≡ o → use_counted g o ≡ usable
@@ -86,7 +99,8 @@ use_one nodes t known g low held = by (nat_lt g.nodeid 2) refl
         let a = there.1 in
         let b = held.1 in
         let row : a.row ≡ b.row = cc (a.there, b.there) in
-        let same : node.generation ≡ g.generation = sym a.same_generation ∙ ap (λ (r : HeldNode). r.generation) row ∙ b.same_generation in
+        let same : node.generation ≡ g.generation = sym a.same_generation ∙ ap
+        (λ (r : HeldNode). r.generation) row ∙ b.same_generation in
         let is : nat_eq node.generation g.generation ≡ true = grind (arith, nat_tests, same) in
         rw is refl
 
@@ -94,9 +108,12 @@ use_one nodes t known g low held = by (nat_lt g.nodeid 2) refl
     by true e = absurd (let lt : g.nodeid < 2 = grind (arith, nat_tests, e) in omega (arith, lt, low))
     by false e = rw e (counted (get nodes g.nodeid) refl)
 
-pub all_usable : (nodes : Map Counted) (t : NodeTable) → ((id : ℕ) (node : Counted) → get nodes id ≡ Some node → IsHeldAs t id node.generation) → (gs : List Entry) → All (λ (g : Entry). (2 ≤ g.nodeid) × IsHeldAs t g.nodeid g.generation) gs → use_of_all nodes gs ≡ usable
+pub all_usable : (nodes : Map Counted) (t : NodeTable)
+    → ((id : ℕ) (node : Counted) → get nodes id ≡ Some node → IsHeldAs t id node.generation) → (gs : List Entry)
+    → All (λ (g : Entry). (2 ≤ g.nodeid) × IsHeldAs t g.nodeid g.generation) gs → use_of_all nodes gs ≡ usable
 all_usable nodes t known [] h = refl
 all_usable nodes t known (g ∷ gs) h =
     let first = All-head (λ (x : Entry). (2 ≤ x.nodeid) × IsHeldAs t x.nodeid x.generation) g gs h in
-    let rest = all_usable nodes t known gs (All-tail (λ (x : Entry). (2 ≤ x.nodeid) × IsHeldAs t x.nodeid x.generation) g gs h) in
+    let rest = all_usable nodes t known gs (All-tail
+    (λ (x : Entry). (2 ≤ x.nodeid) × IsHeldAs t x.nodeid x.generation) g gs h) in
     ap (λ (u : Use). first_use u (use_of_all nodes gs)) (use_one nodes t known g first.0 first.1) ∙ rest

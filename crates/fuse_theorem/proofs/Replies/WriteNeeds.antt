@@ -35,7 +35,8 @@ use Rattle.fuse_theorem.proofs.Refining.JudgedReplies.{reply_usable}
 use Rattle.fuse_theorem.proofs.Replies.RepliesGo.{wire_goes, wire_opens}
 use Rattle.fuse_theorem.proofs.Nodes.ServerSound.{one_id}
 
-module _ (w : World) (p : Plain) (sound : WorldSound w) (asked_so : RequestsAskedWhileLive w) (links : LinksSound w) (served : AsksServed p) (same : Alike w p) (live : is_live w.kernel.phase ≡ true) (k : ℕ) (sent : Sent)
+module _ (w : World) (p : Plain) (sound : WorldSound w) (asked_so : RequestsAskedWhileLive w) (links : LinksSound w)
+    (served : AsksServed p) (same : Alike w p) (live : is_live w.kernel.phase ≡ true) (k : ℕ) (sent : Sent)
     (there : slice_get w.replies k ≡ Some sent) where
   numbered : IsNumbered w
   numbered = let lookups = sound.lookups in let numbers = lookups.numbers in numbers.live live
@@ -44,7 +45,8 @@ module _ (w : World) (p : Plain) (sound : WorldSound w) (asked_so : RequestsAske
   balanced = let lookups = sound.lookups in lookups.balanced live
 
   -- a node that the kernel knows is of one file, whatever the generation
-  one_file : (id generation : ℕ) → generation_known w.kernel.nodes id ≡ Some generation → (file : ℕ) → Denotes w.server.nodes id generation file → (g f : ℕ) → Denotes w.server.nodes id g f → f ≡ file
+  one_file : (id generation : ℕ) → generation_known w.kernel.nodes id ≡ Some generation → (file : ℕ)
+      → Denotes w.server.nodes id generation file → (g f : ℕ) → Denotes w.server.nodes id g f → f ≡ file
   one_file id generation known file a g f b =
       let row : a.row ≡ b.row = cc (a.there, b.there) in
       sym b.same_file ∙ ap (λ (r : HeldNode). r.file) (sym row) ∙ a.same_file
@@ -62,9 +64,13 @@ module _ (w : World) (p : Plain) (sound : WorldSound w) (asked_so : RequestsAske
     unanswered : (o : Option (CallState Opened)) → get w.kernel.vfs.calls call ≡ o → o ≡ None → ⊥
     unanswered (Some state) at e = absurd (cc (e))
     unanswered None at e =
-        let few : requests_for call w.kernel.queues ≤ 0 = subst (λ (o : Option (CallState Opened)). requests_for call w.kernel.queues ≤ cond (is_some o) 1 0) at (numbered.one_request call) in
-        let fails = none_passes (λ (x : ℕ × QueuedRequest Purpose). is_for call x.1.kept) w.kernel.queues.requests (omega (arith, few)) in
-        true≢false (sym mine ∙ All-found (λ (x : ℕ × QueuedRequest Purpose). is_for call x.1.kept ≡ false) sent.unique w.kernel.queues.requests is_wait.request fails is_wait.under)
+        let few : requests_for call w.kernel.queues ≤ 0 =
+        subst (λ (o : Option (CallState Opened)). requests_for call w.kernel.queues ≤ cond (is_some o) 1 0) at
+        (numbered.one_request call) in
+        let fails = none_passes (λ (x : ℕ × QueuedRequest Purpose). is_for call x.1.kept) w.kernel.queues.requests
+        (omega (arith, few)) in
+        true≢false (sym mine ∙ All-found (λ (x : ℕ × QueuedRequest Purpose). is_for call x.1.kept
+        ≡ false) sent.unique w.kernel.queues.requests is_wait.request fails is_wait.under)
 
     module _ (state : CallState Opened) (state_is : get w.kernel.vfs.calls call ≡ Some state) where
       pair : IsPaired w p call state
@@ -72,14 +78,18 @@ module _ (w : World) (p : Plain) (sound : WorldSound w) (asked_so : RequestsAske
 
       same_unique : pair.unique ≡ sent.unique
       same_unique =
-          let at_most : requests_for call w.kernel.queues ≤ 1 = subst (λ (o : Option (CallState Opened)). requests_for call w.kernel.queues ≤ cond (is_some o) 1 0) state_is (numbered.one_request call) in
+          let at_most : requests_for call w.kernel.queues ≤ 1 =
+          subst (λ (o : Option (CallState Opened)). requests_for call w.kernel.queues ≤ cond
+          (is_some o) 1 0) state_is (numbered.one_request call) in
           found_one (λ (x : ℕ × QueuedRequest Purpose). is_for call x.1.kept) sent.unique pair.unique is_wait.request w.kernel.queues.requests at_most is_wait.under mine pair.request
 
       ask_there : get p.asks sent.unique ≡ Some pair.ask
       ask_there = subst (λ (n : ℕ). get p.asks n ≡ Some pair.ask) same_unique pair.there
 
       told : StageTold w.server.nodes w.server.handles pair.ask.stage sent.wire
-      told = All-at (λ (s : Sent). (ask : Ask) → get p.asks s.unique ≡ Some ask → StageTold w.server.nodes w.server.handles ask.stage s.wire) w.replies k sent (same.asks live).copies there pair.ask ask_there
+      told = All-at (λ (s : Sent). (ask : Ask) → get p.asks s.unique ≡ Some ask
+          → StageTold w.server.nodes w.server.handles ask.stage s.wire) w.replies k sent
+          (same.asks live).copies there pair.ask ask_there
 
       is_served : AskServed pair.ask
       is_served = served sent.unique pair.ask ask_there
@@ -100,9 +110,13 @@ module _ (w : World) (p : Plain) (sound : WorldSound w) (asked_so : RequestsAske
             same = pair.same;
             stage = stage;
             told = says;
-            goes = wire_goes (MeansIn w) (MeansOpenIn w) w.server.nodes w.server.handles (asked state) pair.ask.operation sent.wire reply pair.same says so;
-            used = reply_usable w.server.nodes w.kernel.nodes (λ id node at. let known = balanced.known id node at in known.2) sent.wire entries;
-            opens = wire_opens w.kernel.nodes w.server.nodes w.server.handles one_file (MeansOpenIn w) (asked state) pair.ask.operation sent.wire reply (same_operation (MeansIn w) (MeansOpenIn w) (asked state) pair.ask.operation pair.same)
+            goes = wire_goes (MeansIn w) (MeansOpenIn w) w.server.nodes w.server.handles
+                (asked state) pair.ask.operation sent.wire reply pair.same says so;
+            used = reply_usable w.server.nodes w.kernel.nodes
+                (λ id node at. let known = balanced.known id node at in known.2) sent.wire entries;
+            opens = wire_opens w.kernel.nodes w.server.nodes w.server.handles one_file (MeansOpenIn w)
+                (asked state) pair.ask.operation sent.wire reply
+                (same_operation (MeansIn w) (MeansOpenIn w) (asked state) pair.ask.operation pair.same)
                 (same_reply (Names w.server.nodes) (Opens w.server.handles) sent.wire reply says) so;
           }
 
@@ -121,9 +135,14 @@ module _ (w : World) (p : Plain) (sound : WorldSound w) (asked_so : RequestsAske
       }
 
       reply_received : nat_eq (sent.unique % 2) 1 ≡ false → (s : Stage) → pair.ask.stage ≡ s → CanReceive w p sent
-      reply_received even plain.waiting stage = absurd (subst (λ (s : Stage). StageTold w.server.nodes w.server.handles s sent.wire) stage told)
-      reply_received even (performed reply) stage = let lookups = sound.lookups in let server = lookups.server in each.of_call call state reply numbered (one_id w.server.nodes server.nodes) live even waits (is_reply reply stage)
-      reply_received even declined stage = let lookups = sound.lookups in let server = lookups.server in each.of_declined call state numbered (one_id w.server.nodes server.nodes) live even waits (is_declined stage)
+      reply_received even plain.waiting stage = absurd
+          (subst (λ (s : Stage). StageTold w.server.nodes w.server.handles s sent.wire) stage told)
+      reply_received even (performed reply) stage = let lookups = sound.lookups in let server =
+          lookups.server in each.of_call call state reply numbered (one_id w.server.nodes server.nodes) live even waits
+          (is_reply reply stage)
+      reply_received even declined stage = let lookups = sound.lookups in let server =
+          lookups.server in each.of_declined call state numbered (one_id w.server.nodes server.nodes) live even waits
+          (is_declined stage)
 
     call_hears : nat_eq (sent.unique % 2) 1 ≡ false → CanReceive w p sent
     call_hears even = by (get w.kernel.vfs.calls call) refl
@@ -134,16 +153,22 @@ module _ (w : World) (p : Plain) (sound : WorldSound w) (asked_so : RequestsAske
 
   -- ---- whatever awaits the copy
 
-  odd_hears : nat_eq (sent.unique % 2) 1 ≡ true → (o : Option Purpose) → waiting w.kernel.queues (sent.unique - 1) ≡ o → CanReceive w p sent
-  odd_hears odd None waits = each.nothing (ap (λ (b : Bool). cond b (waiting w.kernel.queues (sent.unique - 1)) (waiting w.kernel.queues sent.unique)) odd ∙ waits)
+  odd_hears : nat_eq (sent.unique % 2) 1 ≡ true → (o : Option Purpose) → waiting w.kernel.queues (sent.unique - 1) ≡ o
+      → CanReceive w p sent
+  odd_hears odd None waits = each.nothing (ap (λ (b : Bool). cond b (waiting w.kernel.queues (sent.unique - 1))
+      (waiting w.kernel.queues sent.unique)) odd ∙ waits)
   odd_hears odd (Some kept) waits = each.of_interrupt kept numbered live odd waits
 
-  even_hears : nat_eq (sent.unique % 2) 1 ≡ false → (o : Option Purpose) → waiting w.kernel.queues sent.unique ≡ o → CanReceive w p sent
-  even_hears even None waits = each.nothing (ap (λ (b : Bool). cond b (waiting w.kernel.queues (sent.unique - 1)) (waiting w.kernel.queues sent.unique)) even ∙ waits)
+  even_hears : nat_eq (sent.unique % 2) 1 ≡ false → (o : Option Purpose) → waiting w.kernel.queues sent.unique ≡ o
+      → CanReceive w p sent
+  even_hears even None waits = each.nothing (ap (λ (b : Bool). cond b (waiting w.kernel.queues (sent.unique - 1))
+      (waiting w.kernel.queues sent.unique)) even ∙ waits)
   even_hears even (Some purpose.Init) waits =
       let request = waiting_is w.kernel.queues sent.unique purpose.Init waits in
-      let first = init_is_first w.kernel (asked_so live).first sent.unique request.request request.under request.serves in
-      each.of_init numbered live even waits (All-at (AgreesToInit w.server.minor) w.replies k sent (links.agreed live).copies there first)
+      let first = init_is_first w.kernel
+      (asked_so live).first sent.unique request.request request.under request.serves in
+      each.of_init numbered live even waits (All-at (AgreesToInit w.server.minor) w.replies k sent
+      (links.agreed live).copies there first)
   even_hears even (Some (purpose.Release o)) waits = each.of_release o numbered live even waits
   even_hears even (Some (purpose.Call call)) waits = call_hears call waits even
 
@@ -155,7 +180,8 @@ module _ (w : World) (p : Plain) (sound : WorldSound w) (asked_so : RequestsAske
       by false even = even_hears even (waiting w.kernel.queues sent.unique) refl
 
 -- What the kernel needs to take any copy holds.
-pub write_met : (choice : ℕ → ℕ) (w : World) (p : Plain) → WorldSound w → RequestsAskedWhileLive w → LinksSound w → AsksServed p → Alike w p → (k : ℕ) → Needs choice w p (event.write k)
+pub write_met : (choice : ℕ → ℕ) (w : World) (p : Plain) → WorldSound w → RequestsAskedWhileLive w → LinksSound w
+    → AsksServed p → Alike w p → (k : ℕ) → Needs choice w p (event.write k)
 write_met choice w p sound asked_so links served same k sent there = by (is_live w.kernel.phase) refl
   where
     by : (b : Bool) → is_live w.kernel.phase ≡ b → CanReceive w p sent

@@ -1,4 +1,5 @@
--- What the laws on single events need of a world holds after each mount; and after an abort, as far as the kernel is concerned.
+-- What the laws on single events need of a world holds after each mount; and after an abort, as far as the kernel is
+-- concerned.
 use Rattle.fuse_spec.specs.declared.Minor.{Minor}
 use Rattle.std.proofs.Common.{◌≡◌, ℕ, ◌<◌, cond, [], Some, None, refl, ap, sym, subst, ◌∙◌, arith, inl, inr}
 use Rattle.std.proofs.lemmas.Bool.{cases_eq}
@@ -16,23 +17,29 @@ use Rattle.fuse_theorem.proofs.Calls.Finding.{other_is}
 use Rattle.fuse_theorem.proofs.Requests.EmptyQueues.{empty_sound}
 
 -- a kernel that has no table of nodes knows the root, which each server holds
-known_held : (t : NodeTable) (id generation : ℕ) → generation_known [] id ≡ Some generation → (file : ℕ) × Denotes t id generation file
+known_held : (t : NodeTable) (id generation : ℕ) → generation_known [] id ≡ Some generation
+    → (file : ℕ) × Denotes t id generation file
 known_held t id generation known = elim (cases_eq id 1) [
   | inl e ↦
       let zero_known : Some 0 ≡ Some generation = subst (λ (n : ℕ). generation_known [] n ≡ Some generation) e known in
-      let is : 0 ≡ generation = cc in
-      (0, subst (λ (n : ℕ). Denotes t n generation 0) (sym e) (record { row = root_row; there = refl; same_generation = is; same_file = refl }))
+      let is : 0 ≡ generation = cc in (
+        0,
+        subst (λ (n : ℕ). Denotes t n generation 0) (sym e)
+            (record { row = root_row; there = refl; same_generation = is; same_file = refl }),
+      )
   | inr ne ↦
       let unknown : generation_known [] id ≡ None = ap (λ b. cond b (Some 0) None) (other_is id 1 ne) in
       absurd (cc (unknown, known))
 ]
 
 -- a server whose table is empty holds the root alone
-root_held : (next id generation file : ℕ) → Denotes (record { rows = []; next_generation = next }) id generation file → id ≡ 1
+root_held : (next id generation file : ℕ) → Denotes (record { rows = []; next_generation = next }) id generation file
+    → id ≡ 1
 root_held next id generation file held = elim (cases_eq id 1) [
   | inl e ↦ e
   | inr ne ↦
-      let none : row_of (record { rows = []; next_generation = next }) id ≡ None = ap (λ b. cond b (Some root_row) None) (other_is id 1 ne) in
+      let none : row_of (record { rows = []; next_generation = next }) id ≡ None =
+      ap (λ b. cond b (Some root_row) None) (other_is id 1 ne) in
       let there = held.there in
       absurd (cc (none, there))
 ]
@@ -43,7 +50,8 @@ module _ (w : World) (found_ms missing_ms : ℕ) (minor : Minor) where
 
   pub mounted_numbered : IsNumbered mounted
   mounted_numbered = record {
-    queues = IsSound-enqueue empty_queues purpose.Init empty_sound (record { even = refl; low = omega arith; high = omega arith });
+    queues = IsSound-enqueue empty_queues purpose.Init empty_sound
+        (record { even = refl; low = omega arith; high = omega arith });
     calls_below = λ c le. refl;
     one_request = λ c. omega arith;
     sent_below = All-nil (λ (r : Request). r.unique < mounted.kernel.queues.next);
@@ -53,7 +61,8 @@ module _ (w : World) (found_ms missing_ms : ℕ) (minor : Minor) where
   }
 
   pub mounted_one_id : OneId mounted.server.nodes
-  mounted_one_id i j g h file held other = root_held w.server.nodes.next_generation i g file held ∙ sym (root_held w.server.nodes.next_generation j h file other)
+  mounted_one_id i j g h file held other = root_held w.server.nodes.next_generation i g file held ∙ sym
+      (root_held w.server.nodes.next_generation j h file other)
 
   pub mounted_known : KnownAreHeld mounted
   mounted_known id generation known = known_held mounted.server.nodes id generation known

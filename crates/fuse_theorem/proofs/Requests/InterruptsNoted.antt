@@ -28,22 +28,35 @@ bears_signal mark.Flagged e = refl
 bears_signal mark.Read e = absurd (true≢false (sym e))
 bears_signal mark.Interrupted e = refl
 
-module _ (w : World) (p : Plain) (sound : WorldSound w) (asked : RequestsAskedWhileLive w) (links : LinksSound w) (same : Alike w p) (k : ℕ) (r : Request) (original : ℕ) (there : slice_get w.requests k ≡ Some r) (body_is : r.body ≡ interrupt original) where
+module _ (w : World) (p : Plain) (sound : WorldSound w) (asked : RequestsAskedWhileLive w) (links : LinksSound w)
+    (same : Alike w p) (k : ℕ) (r : Request) (original : ℕ) (there : slice_get w.requests k ≡ Some r)
+    (body_is : r.body ≡ interrupt original) where
   in_live : is_live w.kernel.phase ≡ true → IsInterrupt w p k r original
   in_live live =
       let requests = sound.requests in
-      let number = subst (BearsNumber r.unique) body_is (All-at (λ (x : Request). BearsNumber x.unique x.body) w.requests k r requests.numbers there) in
+      let number = subst (BearsNumber r.unique) body_is
+      (All-at (λ (x : Request). BearsNumber x.unique x.body) w.requests k r requests.numbers there) in
       let even = interrupted.even in
-      record { there = there; body_is = body_is; number = omega (arith, number, even); noted = noted; once = requests.once original interrupted.even }
+      record {
+        there = there;
+        body_is = body_is;
+        number = omega (arith, number, even);
+        noted = noted;
+        once = requests.once original interrupted.even;
+      }
     where
       interrupted : IsInterrupted w.kernel original
-      interrupted = subst (SentAsked w.kernel r.unique) body_is (All-at (λ (x : Request). SentAsked w.kernel x.unique x.body) w.requests k r (asked live).sent there)
+      interrupted = subst (SentAsked w.kernel r.unique) body_is
+          (All-at (λ (x : Request). SentAsked w.kernel x.unique x.body) w.requests k r (asked live).sent there)
 
       noted : (ask : Ask) → get p.asks original ≡ Some ask → ask.noted ≡ true
       noted ask at =
           let alike = same.asks live in
-          let found = found_entry (λ (x : ℕ × QueuedRequest Purpose). is_for ask.call x.1.kept) w.kernel.queues.requests original (key_count-le-one w.kernel.queues original sound.queues) (alike.no_other original ask at) in
-          alike.signalled original found.0 ask found.1 at (bears_signal found.0.mark (interrupted.marked found.0 found.1))
+          let found = found_entry (λ
+          (x : ℕ × QueuedRequest Purpose). is_for ask.call x.1.kept) w.kernel.queues.requests original
+          (key_count-le-one w.kernel.queues original sound.queues) (alike.no_other original ask at) in
+          alike.signalled original found.0 ask found.1 at (bears_signal found.0.mark
+          (interrupted.marked found.0 found.1))
 
   -- What the taking of an INTERRUPT needs of the world holds.
   pub interrupt_noted : IsInterrupt w p k r original

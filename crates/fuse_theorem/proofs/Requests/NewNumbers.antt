@@ -17,7 +17,8 @@ use Rattle.fuse_theorem.proofs.OpenFiles.NumberCounts.{number_alone}
 -- The coming number never falls, and a number that the reply carries is the one that was coming.
 pub record Draws (s : Server) (did : PerformResult) : Type 0 where
   pub rises : s.handles.next_fh ≤ did.server.handles.next_fh
-  pub new : (fh : ℕ) → 1 ≤ opens_in fh did.wire → (fh ≡ s.handles.next_fh) × (did.server.handles.next_fh ≡ s.handles.next_fh + 1)
+  pub new : (fh : ℕ) → 1 ≤ opens_in fh did.wire → (fh ≡ s.handles.next_fh)
+      × (did.server.handles.next_fh ≡ s.handles.next_fh + 1)
 
 refusing_draws : (s : Server) (errno : ℕ) → Draws s (refusing s errno)
 refusing_draws s errno = record { rises = omega arith; new = λ fh some. absurd (omega (arith, some)) }
@@ -33,7 +34,9 @@ only_number n fh some = by (nat_eq n fh) refl
         let none = ap {B = ℕ} (λ (b : Bool). cond b 1 0) e in
         absurd (omega (arith, alone, none, some))
 
-wire_new : (choice : ℕ → ℕ) (t : NodeTable) (tree : Tree) (h : HandleTable) (reply : Reply ℕ ℕ) (fh : ℕ) → 1 ≤ opens_in fh (wire_of choice t tree h.next_fh reply) → (fh ≡ h.next_fh) × ((all_opened h (opens_in_reply reply)).next_fh ≡ h.next_fh + 1)
+wire_new : (choice : ℕ → ℕ) (t : NodeTable) (tree : Tree) (h : HandleTable) (reply : Reply ℕ ℕ) (fh : ℕ)
+    → 1 ≤ opens_in fh (wire_of choice t tree h.next_fh reply)
+    → (fh ≡ h.next_fh) × ((all_opened h (opens_in_reply reply)).next_fh ≡ h.next_fh + 1)
 wire_new choice t tree h (created file v o) fh some = (only_number h.next_fh fh some, refl)
 wire_new choice t tree h (opened o) fh some = (only_number h.next_fh fh some, refl)
 wire_new choice t tree h (found file v) fh some = absurd (omega (arith, some))
@@ -55,15 +58,21 @@ module _ (choice : ℕ → ℕ) (s : Server) where
   doing_draws : (operation : FileOperation) → Draws s (doing choice s operation)
   doing_draws operation = record { rises = by_rises s.aborted; new = λ fh. by_new fh s.aborted }
     where
-      by_rises : (b : Bool) → s.handles.next_fh ≤ (cond b s.handles (all_opened s.handles (opens_in_reply (reply_by s.validity s.tree operation)))).next_fh
+      by_rises : (b : Bool) → s.handles.next_fh ≤ (cond b s.handles
+          (all_opened s.handles (opens_in_reply (reply_by s.validity s.tree operation)))).next_fh
       by_rises true = omega arith
       by_rises false = opened_rises (opens_in_reply (reply_by s.validity s.tree operation)) s.handles
 
       by_new : (fh : ℕ) (b : Bool)
-          → 1 ≤ opens_in fh (cond b (failed (errno_of (reply_by s.validity s.tree operation))) (wire_of choice (all_given choice s.nodes (files_in_reply (reply_by s.validity s.tree operation))) (tree_after s.tree operation) s.handles.next_fh (reply_by s.validity s.tree operation)))
-          → (fh ≡ s.handles.next_fh) × ((cond b s.handles (all_opened s.handles (opens_in_reply (reply_by s.validity s.tree operation)))).next_fh ≡ s.handles.next_fh + 1)
+          → 1 ≤ opens_in fh (cond b (failed (errno_of (reply_by s.validity s.tree operation)))
+          (wire_of choice (all_given choice s.nodes (files_in_reply (reply_by s.validity s.tree operation)))
+          (tree_after s.tree operation) s.handles.next_fh (reply_by s.validity s.tree operation)))
+          → (fh ≡ s.handles.next_fh) × ((cond b s.handles (all_opened s.handles
+          (opens_in_reply (reply_by s.validity s.tree operation)))).next_fh ≡ s.handles.next_fh + 1)
       by_new fh true some = absurd (omega (arith, some))
-      by_new fh false some = wire_new choice (all_given choice s.nodes (files_in_reply (reply_by s.validity s.tree operation))) (tree_after s.tree operation) s.handles (reply_by s.validity s.tree operation) fh some
+      by_new fh false some = wire_new choice (all_given choice s.nodes
+          (files_in_reply (reply_by s.validity s.tree operation))) (tree_after s.tree operation) s.handles
+          (reply_by s.validity s.tree operation) fh some
 
   performing_draws : (body : RequestBody) → Draws s (performing choice s body)
   performing_draws (init flags) = by s.minor
@@ -78,7 +87,10 @@ module _ (choice : ℕ → ℕ) (s : Server) where
       by false = refusing_draws s 9
   performing_draws (release o) = by (is_open s.handles o.fh (file_of s.nodes o.nodeid))
     where
-      by : (b : Bool) → Draws s (cond b (record { server = record s { handles = handle_back s.handles o.fh }; wire = done }) (refusing s 9))
+      by : (b : Bool) → Draws s (cond b (record {
+        server = record s { handles = handle_back s.handles o.fh };
+        wire = done;
+      }) (refusing s 9))
       by true = record { rises = omega arith; new = λ fh some. absurd (omega (arith, some)) }
       by false = refusing_draws s 9
   performing_draws (forget f) = refusing_draws s 5
@@ -92,7 +104,8 @@ module _ (choice : ℕ → ℕ) (s : Server) where
       by_held true = performing_draws t.body
       by_held false = refusing_draws s 5
 
-      by_mark : (b : Bool) → Draws s (cond b (refusing s 4) (cond (is_still_held s.nodes t.generations) (performing choice s t.body) (refusing s 5)))
+      by_mark : (b : Bool) → Draws s (cond b (refusing s 4)
+          (cond (is_still_held s.nodes t.generations) (performing choice s t.body) (refusing s 5)))
       by_mark true = refusing_draws s 4
       by_mark false = by_held (is_still_held s.nodes t.generations)
 

@@ -20,7 +20,8 @@ use Rattle.fuse_theorem.proofs.Calls.Finding.{other_is, count_less}
 use Rattle.fuse_theorem.proofs.Calls.Advancing.{WaitsFor, StepsAlone}
 
 -- A request ends.
-pub ended_numbered : (w : World) → IsNumbered w → (unique : ℕ) → IsNumbered (record w { kernel = record w.kernel { queues = without w.kernel.queues unique } })
+pub ended_numbered : (w : World) → IsNumbered w → (unique : ℕ)
+    → IsNumbered (record w { kernel = record w.kernel { queues = without w.kernel.queues unique } })
 ended_numbered w numbered unique = record {
   queues = IsSound-without w.kernel.queues unique numbered.queues;
   calls_below = numbered.calls_below;
@@ -34,12 +35,14 @@ ended_numbered w numbered unique = record {
   kept_below = numbered.kept_below;
 }
 
--- No call of the next number or a later one is unanswered; an unanswered call has one request at most, and an answered one none.
+-- No call of the next number or a later one is unanswered; an unanswered call has one request at most, and an answered
+-- one none.
 pub record CallsNumbered (k : Kernel) : Type 0 where
   pub calls_below : (call : ℕ) → k.vfs.next_call ≤ call → get k.vfs.calls call ≡ None
   pub one_request : (call : ℕ) → requests_for call k.queues ≤ cond (is_some (get k.vfs.calls call)) 1 0
 
-module _ (k : Kernel) (numbered : CallsNumbered k) (coming call : ℕ) (next : Advance Opened) (none_for : requests_for call k.queues ≡ 0)
+module _ (k : Kernel) (numbered : CallsNumbered k) (coming call : ℕ) (next : Advance Opened)
+    (none_for : requests_for call k.queues ≡ 0)
     (alone : StepsAlone k.vfs.calls coming call next) (low : call < coming) (later : k.vfs.next_call ≤ coming) where
   below : (c : ℕ) → next.vfs.next_call ≤ c → get next.vfs.calls c ≡ None
   below c le =
@@ -48,20 +51,24 @@ module _ (k : Kernel) (numbered : CallsNumbered k) (coming call : ℕ) (next : A
 
   one_for : (c : ℕ) → requests_for c k.queues ≤ cond (is_some (get next.vfs.calls c)) 1 0
   one_for c = elim (cases_eq c call) [
-    | inl e ↦ let none : requests_for c k.queues ≡ 0 = subst (λ (n : ℕ). requests_for n k.queues ≡ 0) (sym e) none_for in omega (arith, none)
-    | inr ne ↦ subst (λ (o : Option (CallState Opened)). requests_for c k.queues ≤ cond (is_some o) 1 0) (sym (alone.others c ne)) (numbered.one_request c)
+    | inl e ↦ let none : requests_for c k.queues ≡ 0 =
+        subst (λ (n : ℕ). requests_for n k.queues ≡ 0) (sym e) none_for in omega (arith, none)
+    | inr ne ↦ subst (λ (o : Option (CallState Opened)). requests_for c k.queues ≤ cond (is_some o) 1 0)
+        (sym (alone.others c ne)) (numbered.one_request c)
   ]
 
   one_more : (operation : Operation ℕ Opened) → WaitsFor next.vfs.calls call (Some operation) → (c : ℕ)
       → requests_for c (after_enqueue k.queues (purpose.Call call)) ≤ cond (is_some (get next.vfs.calls c)) 1 0
   one_more operation waits c =
       let new : ℕ × QueuedRequest Purpose = (k.queues.next, record { mark = Unread; kept = purpose.Call call }) in
-      let pushed : requests_for c (after_enqueue k.queues (purpose.Call call)) ≡ requests_for c k.queues + cond (nat_eq call c) 1 0 =
+      let pushed : requests_for c (after_enqueue k.queues (purpose.Call call))
+      ≡ requests_for c k.queues + cond (nat_eq call c) 1 0 =
       count_by-push (λ (e : ℕ × QueuedRequest Purpose). is_for c e.1.kept) k.queues.requests new in
       elim (cases_eq c call) [
         | inl e ↦
             let none : requests_for c k.queues ≡ 0 = subst (λ (n : ℕ). requests_for n k.queues ≡ 0) (sym e) none_for in
-            let there : is_some (get next.vfs.calls c) ≡ true = subst (λ (n : ℕ). is_some (get next.vfs.calls n) ≡ true) (sym e) (ap is_some waits.1) in
+            let there : is_some (get next.vfs.calls c) ≡ true =
+            subst (λ (n : ℕ). is_some (get next.vfs.calls n) ≡ true) (sym e) (ap is_some waits.1) in
             rw (there, pushed, none) (at_most (nat_eq call c))
         | inr ne ↦
             let other : nat_eq call c ≡ false = other_is call c (λ e. ne (sym e)) in
@@ -77,17 +84,31 @@ module _ (k : Kernel) (numbered : CallsNumbered k) (coming call : ℕ) (next : A
   pub calls_advanced : CallsNumbered (advanced k call next)
   calls_advanced = by next.operation refl
     where
-      by : (o : Option (Operation ℕ Opened)) → next.operation ≡ o → CallsNumbered (asking_for (record k { vfs = next.vfs }) call o)
+      by : (o : Option (Operation ℕ Opened)) → next.operation ≡ o
+          → CallsNumbered (asking_for (record k { vfs = next.vfs }) call o)
       by None e = record { calls_below = below; one_request = one_for }
-      by (Some operation) e = record { calls_below = below; one_request = one_more operation (subst (λ (o : Option (Operation ℕ Opened)). WaitsFor next.vfs.calls call o) e alone.here) }
+      by (Some operation) e = record {
+        calls_below = below;
+        one_request = one_more operation (subst (λ (o : Option
+            (Operation ℕ Opened)). WaitsFor next.vfs.calls call o) e alone.here);
+      }
 
-module _ (w : World) (numbered : IsNumbered w) (coming call : ℕ) (next : Advance Opened) (none_for : requests_for call w.kernel.queues ≡ 0)
-    (alone : StepsAlone w.kernel.vfs.calls coming call next) (low : call < coming) (later : w.kernel.vfs.next_call ≤ coming) where
+module _ (w : World) (numbered : IsNumbered w) (coming call : ℕ) (next : Advance Opened)
+    (none_for : requests_for call w.kernel.queues ≡ 0)
+    (alone : StepsAlone w.kernel.vfs.calls coming call next) (low : call < coming)
+    (later : w.kernel.vfs.next_call ≤ coming) where
   -- The same in a world.
-  pub advanced_numbered : ((operation : Operation ℕ Opened) → next.operation ≡ Some operation → IsNextNumber (w.kernel.queues.next + 2)) → IsNumbered (record w { kernel = advanced w.kernel call next })
-  advanced_numbered number = by next.operation refl (calls_advanced w.kernel (record { calls_below = numbered.calls_below; one_request = numbered.one_request }) coming call next none_for alone low later)
+  pub advanced_numbered : ((operation : Operation ℕ Opened) → next.operation ≡ Some operation
+      → IsNextNumber (w.kernel.queues.next + 2)) → IsNumbered (record w { kernel = advanced w.kernel call next })
+  advanced_numbered number = by next.operation refl
+      (calls_advanced w.kernel (record {
+        calls_below = numbered.calls_below;
+        one_request = numbered.one_request;
+      }) coming call next none_for alone low later)
     where
-      by : (o : Option (Operation ℕ Opened)) → next.operation ≡ o → CallsNumbered (asking_for (record w.kernel { vfs = next.vfs }) call o) → IsNumbered (record w { kernel = asking_for (record w.kernel { vfs = next.vfs }) call o })
+      by : (o : Option (Operation ℕ Opened)) → next.operation ≡ o
+          → CallsNumbered (asking_for (record w.kernel { vfs = next.vfs }) call o)
+          → IsNumbered (record w { kernel = asking_for (record w.kernel { vfs = next.vfs }) call o })
       by None e calls = record {
         queues = numbered.queues;
         calls_below = calls.calls_below;

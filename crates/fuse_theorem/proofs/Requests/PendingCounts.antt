@@ -26,17 +26,23 @@ count_filter : {X : Type 0} (p f : X → Bool) (xs : List X) → count_by p (fil
 count_filter p f [] = refl
 count_filter p f (x ∷ xs) = by (f x) refl (count_filter p f xs)
   where
-    by : (b : Bool) → f x ≡ b → count_by p (filter f xs) ≡ count_by (λ y. f y && p y) xs → count_by p (cond b (x ∷ filter f xs) (filter f xs)) ≡ count_by (λ y. f y && p y) (x ∷ xs)
+    by : (b : Bool) → f x ≡ b → count_by p (filter f xs) ≡ count_by (λ y. f y && p y) xs
+        → count_by p (cond b (x ∷ filter f xs) (filter f xs)) ≡ count_by (λ y. f y && p y) (x ∷ xs)
     by true e rest =
         let left = count_by-cons p x (filter f xs) in
-        let right : count_by (λ y. f y && p y) (x ∷ xs) ≡ cond (true && p x) 1 0 + count_by (λ y. f y && p y) xs = subst (λ (b : Bool). count_by (λ y. f y && p y) (x ∷ xs) ≡ cond (b && p x) 1 0 + count_by (λ y. f y && p y) xs) e (count_by-cons (λ y. f y && p y) x xs) in
+        let right : count_by (λ y. f y && p y) (x ∷ xs) ≡ cond (true && p x) 1 0 + count_by (λ y. f y && p y) xs =
+        subst (λ (b : Bool). count_by (λ y. f y && p y) (x ∷ xs)
+        ≡ cond (b && p x) 1 0 + count_by (λ y. f y && p y) xs) e (count_by-cons (λ y. f y && p y) x xs) in
         omega (arith, left, right, rest)
     by false e rest =
-        let right : count_by (λ y. f y && p y) (x ∷ xs) ≡ cond (false && p x) 1 0 + count_by (λ y. f y && p y) xs = subst (λ (b : Bool). count_by (λ y. f y && p y) (x ∷ xs) ≡ cond (b && p x) 1 0 + count_by (λ y. f y && p y) xs) e (count_by-cons (λ y. f y && p y) x xs) in
+        let right : count_by (λ y. f y && p y) (x ∷ xs) ≡ cond (false && p x) 1 0 + count_by (λ y. f y && p y) xs =
+        subst (λ (b : Bool). count_by (λ y. f y && p y) (x ∷ xs)
+        ≡ cond (b && p x) 1 0 + count_by (λ y. f y && p y) xs) e (count_by-cons (λ y. f y && p y) x xs) in
         omega (arith, right, rest)
 
 among_all : (u : ℕ) (q : QueueState Purpose) → pending_under u q ≡ count_by (Unread_under u) q.requests
-among_all u q = count_filter (λ (e : ℕ × QueuedRequest Purpose). nat_eq u e.0) (λ (e : ℕ × QueuedRequest Purpose). is_unread e.1.mark) q.requests
+among_all u q = count_filter (λ (e : ℕ × QueuedRequest Purpose). nat_eq u e.0)
+    (λ (e : ℕ × QueuedRequest Purpose). is_unread e.1.mark) q.requests
 
 both_le : (a b : Bool) → cond (a && b) 1 0 ≤ cond b 1 0
 both_le true b = omega arith
@@ -59,7 +65,8 @@ pending_le u q =
     omega (arith, all, le)
 
 -- An unread request is pending.
-pub unread_pending : (u : ℕ) (q : QueueState Purpose) (r : QueuedRequest Purpose) → request_under q u ≡ Some r → is_unread r.mark ≡ true → 1 ≤ pending_under u q
+pub unread_pending : (u : ℕ) (q : QueueState Purpose) (r : QueuedRequest Purpose) → request_under q u ≡ Some r
+    → is_unread r.mark ≡ true → 1 ≤ pending_under u q
 unread_pending u q r under unread =
     let all = among_all u q in
     let some = counted q.requests under in
@@ -69,10 +76,13 @@ unread_pending u q r under unread =
     counted [] found = absurd (cc)
     counted (e ∷ es) found = by (nat_eq u e.0) refl found (λ f. counted es f)
       where
-        by : (b : Bool) → nat_eq u e.0 ≡ b → cond b (Some e.1) (lookup (nat_eq u) es) ≡ Some r → (lookup (nat_eq u) es ≡ Some r → 1 ≤ count_by (Unread_under u) es) → 1 ≤ count_by (Unread_under u) (e ∷ es)
+        by : (b : Bool) → nat_eq u e.0 ≡ b → cond b (Some e.1) (lookup (nat_eq u) es) ≡ Some r
+            → (lookup (nat_eq u) es ≡ Some r → 1 ≤ count_by (Unread_under u) es)
+            → 1 ≤ count_by (Unread_under u) (e ∷ es)
         by true tie f rest =
             let is : e.1 ≡ r = cc in
-            let both : Unread_under u e ≡ true = (λ i. is_unread (is i).mark && tie i) ∙ ap (λ (b : Bool). b && true) unread in
+            let both : Unread_under u e ≡ true = (λ i. is_unread (is i).mark && tie i) ∙ ap
+            (λ (b : Bool). b && true) unread in
             let here = ap one_if both in
             let whole = count_by-cons (Unread_under u) e es in
             omega (arith, here, whole)
@@ -89,12 +99,15 @@ pending_once u q sound =
     omega (arith, le, once)
 
 -- A mark makes no request unread.
-marked_fewer : (u v : ℕ) (es : List (ℕ × QueuedRequest Purpose)) (old m : Mark) → option_map (λ (r : QueuedRequest Purpose). r.mark) (lookup (nat_eq v) es) ≡ Some old → (is_unread m ≡ true → is_unread old ≡ true)
+marked_fewer : (u v : ℕ) (es : List (ℕ × QueuedRequest Purpose)) (old m : Mark)
+    → option_map (λ (r : QueuedRequest Purpose). r.mark) (lookup (nat_eq v) es) ≡ Some old
+    → (is_unread m ≡ true → is_unread old ≡ true)
     → count_by (Unread_under u) (set_mark v es m) ≤ count_by (Unread_under u) es
 marked_fewer u v [] old m found kept = omega arith
 marked_fewer u v (e ∷ es) old m found kept = by (nat_eq v e.0) found (λ f. marked_fewer u v es old m f kept)
   where
-    was : count_by (Unread_under u) (e ∷ es) ≡ cond (is_unread e.1.mark && nat_eq u e.0) 1 0 + count_by (Unread_under u) es
+    was : count_by (Unread_under u) (e ∷ es) ≡ cond (is_unread e.1.mark && nat_eq u e.0) 1 0 + count_by
+        (Unread_under u) es
     was = count_by-cons (Unread_under u) e es
 
     weaker : (a b c : Bool) → (a ≡ true → b ≡ true) → cond (a && c) 1 0 ≤ cond (b && c) 1 0
@@ -105,9 +118,12 @@ marked_fewer u v (e ∷ es) old m found kept = by (nat_eq v e.0) found (λ f. ma
         zero_le : (x : Bool) → 0 ≤ cond x 1 0
         zero_le x = omega arith
 
-    by : (b : Bool) → option_map (λ (r : QueuedRequest Purpose). r.mark) (cond b (Some e.1) (lookup (nat_eq v) es)) ≡ Some old
-        → (option_map (λ (r : QueuedRequest Purpose). r.mark) (lookup (nat_eq v) es) ≡ Some old → count_by (Unread_under u) (set_mark v es m) ≤ count_by (Unread_under u) es)
-        → count_by (Unread_under u) (cond b ((e.0, record { mark = m; kept = e.1.kept }) ∷ es) (e ∷ set_mark v es m)) ≤ count_by (Unread_under u) (e ∷ es)
+    by : (b : Bool) → option_map (λ (r : QueuedRequest Purpose). r.mark) (cond b (Some e.1) (lookup (nat_eq v) es))
+        ≡ Some old
+        → (option_map (λ (r : QueuedRequest Purpose). r.mark) (lookup (nat_eq v) es) ≡ Some old
+        → count_by (Unread_under u) (set_mark v es m) ≤ count_by (Unread_under u) es)
+        → count_by (Unread_under u) (cond b ((e.0, record { mark = m; kept = e.1.kept }) ∷ es)
+        (e ∷ set_mark v es m)) ≤ count_by (Unread_under u) (e ∷ es)
     by true f rest =
         let is : e.1.mark ≡ old = cc in
         let now = count_by-cons (Unread_under u) (e.0, record { mark = m; kept = e.1.kept }) es in
@@ -123,7 +139,8 @@ pub record Fewer (q r : QueueState Purpose) : Type 0 where
   pub rises : q.next ≤ r.next
   pub fewer : (u : ℕ) → u < q.next → pending_under u r ≤ pending_under u q
 
-fewer_by : (q r : QueueState Purpose) → r.next ≡ q.next → ((u : ℕ) → count_by (Unread_under u) r.requests ≤ count_by (Unread_under u) q.requests) → Fewer q r
+fewer_by : (q r : QueueState Purpose) → r.next ≡ q.next
+    → ((u : ℕ) → count_by (Unread_under u) r.requests ≤ count_by (Unread_under u) q.requests) → Fewer q r
 fewer_by q r next fewer = record {
   rises = omega (arith, next);
   fewer = λ u low.
@@ -134,7 +151,8 @@ fewer_by q r next fewer = record {
 }
 
 pub moves_fewer : (q r : QueueState Purpose) → QueueMoves q r → Fewer q r
-moves_fewer q r (stays a b same next) = fewer_by q r next (λ u. let e = ap (count_by (Unread_under u)) same in omega (arith, e))
+moves_fewer q r (stays a b same next) = fewer_by q r next
+    (λ u. let e = ap (count_by (Unread_under u)) same in omega (arith, e))
 moves_fewer q r (queues a kept) = record {
   rises = omega arith;
   fewer = λ u low.

@@ -61,10 +61,16 @@ then_grows q r t a b =
     record { rises = omega (arith, low, more); sound = λ high s. b.sound high (a.sound (omega (arith, more, high)) s) }
 
 enqueue_grows : (q : QueueState Purpose) (kept : Purpose) → Grows q (after_enqueue q kept)
-enqueue_grows q kept = record { rises = omega arith; sound = λ high s. IsSound-enqueue q kept s (after_next q.next s.next high) }
+enqueue_grows q kept = record {
+  rises = omega arith;
+  sound = λ high s. IsSound-enqueue q kept s (after_next q.next s.next high);
+}
 
 forget_grows : (q : QueueState Purpose) (node count : ℕ) → Grows q (after_forget q node count)
-forget_grows q node count = record { rises = omega arith; sound = λ high s. record { next = s.next; requests = s.requests; interrupts = s.interrupts } }
+forget_grows q node count = record {
+  rises = omega arith;
+  sound = λ high s. record { next = s.next; requests = s.requests; interrupts = s.interrupts };
+}
 
 without_grows : (q : QueueState Purpose) (unique : ℕ) → Grows q (without q unique)
 without_grows q unique = record { rises = omega arith; sound = λ high s. IsSound-without q unique s }
@@ -82,24 +88,35 @@ signal_sound q u fatal s = by (request_under q u) refl
     effect mark.Read f true at = s
     effect mark.Interrupted f off at = s
 
-    by : (o : Option (QueuedRequest Purpose)) → request_under q u ≡ o → IsSound (after_effect q u (option_map_or (λ r. signal_effect r.mark fatal q.interrupts_off) o NoEffect))
+    by : (o : Option (QueuedRequest Purpose)) → request_under q u ≡ o
+        → IsSound (after_effect q u (option_map_or (λ r. signal_effect r.mark fatal q.interrupts_off) o NoEffect))
     by None at = s
-    by (Some r) at = effect r.mark fatal q.interrupts_off (ap (λ (x : Option (QueuedRequest Purpose)). option_map (λ (y : QueuedRequest Purpose). y.mark) x) at)
+    by (Some r) at = effect r.mark fatal q.interrupts_off
+        (ap (λ (x : Option (QueuedRequest Purpose)). option_map (λ (y : QueuedRequest Purpose). y.mark) x) at)
 
-reply_sound : (q : QueueState Purpose) (u : ℕ) (reply : InterruptReply) → IsSound q → IsSound (after_interrupt_reply q u reply)
+reply_sound : (q : QueueState Purpose) (u : ℕ) (reply : InterruptReply) → IsSound q
+    → IsSound (after_interrupt_reply q u reply)
 reply_sound q u reply s = by (mark_under q u) refl
   where
-    effect : (x : InterruptReply) (m : Mark) (queued off : Bool) → list_any (nat_eq u) q.interrupts ≡ queued → mark_under q u ≡ Some m → IsSound (after_reply_effect q u (reply_effect x m queued off))
-    effect Again mark.Interrupted false false none at = IsSound-interrupt q u s (is_interrupted-marked q u mark.Interrupted at) (count_by-absent u q.interrupts none)
+    effect : (x : InterruptReply) (m : Mark) (queued off : Bool) → list_any (nat_eq u) q.interrupts ≡ queued
+        → mark_under q u ≡ Some m → IsSound (after_reply_effect q u (reply_effect x m queued off))
+    effect Again mark.Interrupted false false none at =
+        IsSound-interrupt q u s (is_interrupted-marked q u mark.Interrupted at) (count_by-absent u q.interrupts none)
     effect Again mark.Interrupted false true none at = s
     effect Again mark.Interrupted true off none at = s
     effect Again mark.Read queued off none at = s
     effect Again mark.Unread queued off none at = s
     effect Again mark.Flagged queued off none at = s
-    effect NotSupported m queued off none at = record { next = s.next; requests = s.requests; interrupts = λ v. omega arith }
+    effect NotSupported m queued off none at = record {
+      next = s.next;
+      requests = s.requests;
+      interrupts = λ v. omega arith;
+    }
     effect Other m queued off none at = s
 
-    by : (o : Option Mark) → mark_under q u ≡ o → IsSound (option_map_or (λ m. after_reply_effect q u (reply_effect reply m (list_any (nat_eq u) q.interrupts) q.interrupts_off)) o q)
+    by : (o : Option Mark) → mark_under q u ≡ o → IsSound
+        (option_map_or (λ m. after_reply_effect q u (reply_effect reply m
+        (list_any (nat_eq u) q.interrupts) q.interrupts_off)) o q)
     by None at = s
     by (Some m) at = effect reply m (list_any (nat_eq u) q.interrupts) q.interrupts_off refl at
 
@@ -112,7 +129,8 @@ reading_sound q place s = by (slice_get (pending q) place) refl
     read_as u mark.Read at = s
     read_as u mark.Interrupted at = s
 
-    by : (o : Option (ℕ × QueuedRequest Purpose)) → slice_get (pending q) place ≡ o → IsSound (option_map_or (λ e. after_reading q e.0 e.1.mark) o q)
+    by : (o : Option (ℕ × QueuedRequest Purpose)) → slice_get (pending q) place ≡ o
+        → IsSound (option_map_or (λ e. after_reading q e.0 e.1.mark) o q)
     by None at = s
     by (Some e) at = read_as e.0 e.1.mark (mark_under-pending q place e s at)
 
@@ -128,7 +146,8 @@ advanced_grows k call next = by next.operation
 idle_grows : (k : Kernel) (handle : ℕ) → Grows k.queues (released_if_idle k handle).queues
 idle_grows k handle = by (get k.closing handle)
   where
-    unless_used : (b : Bool) (x : Opened) → Grows k.queues (cond b k.queues (after_enqueue k.queues (purpose.Release x)))
+    unless_used : (b : Bool) (x : Opened) → Grows k.queues
+        (cond b k.queues (after_enqueue k.queues (purpose.Release x)))
     unless_used true x = same_grows k.queues
     unless_used false x = enqueue_grows k.queues (purpose.Release x)
 
@@ -144,57 +163,81 @@ used_grows k (using handle operation) = idle_grows k handle
 begun_grows : (k : Kernel) (call : Call) → Grows k.queues (call_begun k call).queues
 begun_grows k call =
     let next = begun (is_aborted k.phase) k.vfs call in
-    then_grows k.queues (advanced k k.vfs.next_call next).queues (call_begun k call).queues (advanced_grows k k.vfs.next_call next) (closes_one (advanced k k.vfs.next_call next) (cond (is_aborted k.phase) None (closed_by k.vfs.opens call)))
+    then_grows k.queues (advanced k k.vfs.next_call next).queues (call_begun k call).queues
+    (advanced_grows k k.vfs.next_call next) (closes_one (advanced k k.vfs.next_call next)
+    (cond (is_aborted k.phase) None (closed_by k.vfs.opens call)))
   where
     closes_one : (q : Kernel) (file : Option (ℕ × Opened)) → Grows q.queues (closing_of q file).queues
     closes_one q None = same_grows q.queues
     closes_one q (Some file) = idle_grows (record q { closing = put q.closing file.0 file.1 }) file.0
 
-signalled_sound : (k : Kernel) (call : ℕ) (state : CallState Opened) (fatal : Bool) → IsSound k.queues → (call_signalled k call state fatal).1.queues.next ≤ 2 ^ 62 → IsSound (call_signalled k call state fatal).1.queues
+signalled_sound : (k : Kernel) (call : ℕ) (state : CallState Opened) (fatal : Bool) → IsSound k.queues
+    → (call_signalled k call state fatal).1.queues.next ≤ 2 ^ 62 → IsSound (call_signalled k call state fatal).1.queues
 signalled_sound k call state fatal s = by (request_of k call)
   where
-    effect : (q : Kernel) (x : IntrEffect) → IsSound q.queues → (after_signal q call state x).queues.next ≤ 2 ^ 62 → IsSound (after_signal q call state x).queues
-    effect q Dequeued sound high = let grows = used_grows (record q { vfs = answered q.vfs call (answer.failed 4) }) state in grows.sound high sound
+    effect : (q : Kernel) (x : IntrEffect) → IsSound q.queues → (after_signal q call state x).queues.next ≤ 2 ^ 62
+        → IsSound (after_signal q call state x).queues
+    effect q Dequeued sound high = let grows = used_grows
+        (record q { vfs = answered q.vfs call (answer.failed 4) }) state in grows.sound high sound
     effect q Flagged sound high = sound
     effect q Queued sound high = sound
     effect q NoEffect sound high = sound
 
-    by : (o : Option ℕ) → (signalled_at k call state fatal o).1.queues.next ≤ 2 ^ 62 → IsSound (signalled_at k call state fatal o).1.queues
+    by : (o : Option ℕ) → (signalled_at k call state fatal o).1.queues.next ≤ 2 ^ 62
+        → IsSound (signalled_at k call state fatal o).1.queues
     by None high = s
-    by (Some unique) high = effect (record k { queues = after_interrupt k.queues unique fatal }) (interrupt_effect k.queues unique fatal) (signal_sound k.queues unique fatal s) high
+    by (Some unique) high = effect (record k { queues = after_interrupt k.queues unique fatal })
+        (interrupt_effect k.queues unique fatal) (signal_sound k.queues unique fatal s) high
 
-replied_grows : (k : Kernel) (call : ℕ) (wire : WireReply) (o : Option (CallState Opened)) → Grows k.queues (replied_to_call k call wire o).1.queues
+replied_grows : (k : Kernel) (call : ℕ) (wire : WireReply) (o : Option (CallState Opened))
+    → Grows k.queues (replied_to_call k call wire o).1.queues
 replied_grows k call wire None = same_grows k.queues
 replied_grows k call wire (Some state) = by (goes_with (asked state) wire)
   where
     stale_grows : Grows k.queues (without_stale k wire).queues
-    stale_grows = record { rises = omega arith; sound = λ high s. record { next = s.next; requests = s.requests; interrupts = s.interrupts } }
+    stale_grows = record {
+      rises = omega arith;
+      sound =
+          λ high s. record { next = s.next; requests = s.requests; interrupts = s.interrupts };
+    }
 
     judged_grows : (x : WireReply) (u : Use) → Grows k.queues (judged (without_stale k wire) call state x u).queues
-    judged_grows x usable = then_grows k.queues (without_stale k wire).queues _ stale_grows (advanced_grows (record (without_stale k wire) { nodes = learnt k.nodes (files_in_reply x) }) call (call_replied k.vfs call state (kernel_reply (asked state) x)))
+    judged_grows x usable = then_grows k.queues (without_stale k wire).queues _ stale_grows
+        (advanced_grows (record (without_stale k wire) { nodes = learnt k.nodes (files_in_reply x) }) call
+        (call_replied k.vfs call state (kernel_reply (asked state) x)))
     judged_grows x useless = stale_grows
-    judged_grows x (stale node) = then_grows k.queues (without_stale k wire).queues _ stale_grows (forget_grows (without_stale k wire).queues node 1)
+    judged_grows x (stale node) = then_grows k.queues (without_stale k wire).queues _ stale_grows
+        (forget_grows (without_stale k wire).queues node 1)
 
     by : (b : Bool) → Grows k.queues (replied k call state b wire).1.queues
     by true =
-        then_grows k.queues (reply_received k call state wire).queues (after_use (reply_received k call state wire) state).queues (judged_grows (reply_judged k.nodes wire) (use_of_reply k.nodes wire)) (used_grows (reply_received k call state wire) state)
+        then_grows k.queues (reply_received k call state wire).queues
+        (after_use (reply_received k call state wire) state).queues
+        (judged_grows (reply_judged k.nodes wire) (use_of_reply k.nodes wire))
+        (used_grows (reply_received k call state wire) state)
     by false = used_grows (record k { vfs = answered k.vfs call (answer.failed 5) }) state
 
-written_sound : (k : Kernel) (unique : ℕ) (wire : WireReply) → IsSound k.queues → (reply_written k unique wire).1.queues.next ≤ 2 ^ 62 → IsSound (reply_written k unique wire).1.queues
+written_sound : (k : Kernel) (unique : ℕ) (wire : WireReply) → IsSound k.queues
+    → (reply_written k unique wire).1.queues.next ≤ 2 ^ 62 → IsSound (reply_written k unique wire).1.queues
 written_sound k unique wire s = by (nat_eq (unique % 2) 1)
   where
-    ended : (q : Kernel) (kept : Purpose) → IsSound q.queues → (ended_by q kept wire).1.queues.next ≤ 2 ^ 62 → IsSound (ended_by q kept wire).1.queues
+    ended : (q : Kernel) (kept : Purpose) → IsSound q.queues → (ended_by q kept wire).1.queues.next ≤ 2 ^ 62
+        → IsSound (ended_by q kept wire).1.queues
     ended q purpose.Init sound = agreed_or (is_agreement wire)
       where
-        agreed_or : (b : Bool) → (cond b (made_ready q wire) (kernel_aborted q)).queues.next ≤ 2 ^ 62 → IsSound (cond b (made_ready q wire) (kernel_aborted q)).queues
+        agreed_or : (b : Bool) → (cond b (made_ready q wire) (kernel_aborted q)).queues.next ≤ 2 ^ 62
+            → IsSound (cond b (made_ready q wire) (kernel_aborted q)).queues
         agreed_or true high = sound
         agreed_or false high = empty_sound
     ended q (purpose.Release o) sound = λ high. sound
-    ended q (purpose.Call call) sound = λ high. let grows = replied_grows q call wire (get q.vfs.calls call) in grows.sound high sound
+    ended q (purpose.Call call) sound = λ high. let grows =
+        replied_grows q call wire (get q.vfs.calls call) in grows.sound high sound
 
-    even : (o : Option Purpose) → (request_reply_written k unique wire o).1.queues.next ≤ 2 ^ 62 → IsSound (request_reply_written k unique wire o).1.queues
+    even : (o : Option Purpose) → (request_reply_written k unique wire o).1.queues.next ≤ 2 ^ 62
+        → IsSound (request_reply_written k unique wire o).1.queues
     even None high = s
-    even (Some kept) high = ended (record k { queues = without k.queues unique }) kept (IsSound-without k.queues unique s) high
+    even (Some kept) high = ended (record k { queues = without k.queues unique }) kept
+        (IsSound-without k.queues unique s) high
 
     interrupts : (x : WireReply) → IsSound (interrupt_replied k (unique - 1) x).1.queues
     interrupts (failed errno) = reply_sound k.queues (unique - 1) (interrupt_reply_of errno) s
@@ -205,45 +248,65 @@ written_sound k unique wire s = by (nat_eq (unique % 2) 1)
     odd None = s
     odd (Some kept) = interrupts wire
 
-    by : (b : Bool) → (cond b (interrupt_reply_written k unique wire (waiting k.queues (unique - 1))) (request_reply_written k unique wire (waiting k.queues unique))).1.queues.next ≤ 2 ^ 62
-        → IsSound (cond b (interrupt_reply_written k unique wire (waiting k.queues (unique - 1))) (request_reply_written k unique wire (waiting k.queues unique))).1.queues
+    by : (b : Bool) → (cond b (interrupt_reply_written k unique wire (waiting k.queues (unique - 1)))
+        (request_reply_written k unique wire (waiting k.queues unique))).1.queues.next ≤ 2 ^ 62
+        → IsSound (cond b (interrupt_reply_written k unique wire (waiting k.queues (unique - 1)))
+        (request_reply_written k unique wire (waiting k.queues unique))).1.queues
     by true high = odd (waiting k.queues (unique - 1))
     by false high = even (waiting k.queues unique) high
 
 -- ---- events
 
 -- a reply that goes out leaves the queues as they are
-sent_off : (w : World) (number unique : ℕ) (wire : Option WireReply) → IsSound w.kernel.queues → IsSound (worlds.replying w number unique wire).kernel.queues
+sent_off : (w : World) (number unique : ℕ) (wire : Option WireReply) → IsSound w.kernel.queues
+    → IsSound (worlds.replying w number unique wire).kernel.queues
 sent_off w number unique None sound = sound
 sent_off w number unique (Some wire) sound = sound
 
 -- forgets are read under the coming number
-forgets_sound : (q : QueueState Purpose) (n : ℕ) → IsSound q → (queues.after_read_forgets q n).next ≤ 2 ^ 62 → IsSound (queues.after_read_forgets q n)
+forgets_sound : (q : QueueState Purpose) (n : ℕ) → IsSound q → (queues.after_read_forgets q n).next ≤ 2 ^ 62
+    → IsSound (queues.after_read_forgets q n)
 forgets_sound q n r = drawn (queues.can_read_forgets q n)
   where
-    drawn : (b : Bool) → (cond b (record q { forgets = drop n q.forgets; next = q.next + 2 }) q).next ≤ 2 ^ 62 → IsSound (cond b (record q { forgets = drop n q.forgets; next = q.next + 2 }) q)
+    drawn : (b : Bool) → (cond b (record q { forgets = drop n q.forgets; next = q.next + 2 }) q).next ≤ 2 ^ 62
+        → IsSound (cond b (record q { forgets = drop n q.forgets; next = q.next + 2 }) q)
     drawn true high = IsSound-draw q (drop n q.forgets) r (after_next q.next r.next high)
     drawn false high = r
 
-by_event : (choice : ℕ → ℕ) (w : World) → IsSound w.kernel.queues → (e : Event) (o : Outcome) (after : World) → Happened choice w e o after → IsSound after.kernel.queues
-by_event choice w r e o after (by_mount f m v idle) = IsSound-enqueue empty_queues purpose.Init empty_sound (record { even = refl; low = omega arith; high = omega arith })
-by_event choice w r e o after (by_call call ready room within) = let grows = begun_grows w.kernel (spoken w.kernel.lists_files call) in grows.sound (next_within (after_call w call) within) r
-by_event choice w r e o after (by_read_interrupt original rest live there within) = IsSound-read_interrupt w.kernel.queues r
-by_event choice w r e o after (by_read_forgets n live free can within few) = forgets_sound w.kernel.queues n r (next_within (after_read_forgets w n (take n w.kernel.queues.forgets)) within)
-by_event choice w r e o after (by_read_pending k unique kept body live free there says within) = reading_sound w.kernel.queues k r
+by_event : (choice : ℕ → ℕ) (w : World) → IsSound w.kernel.queues → (e : Event) (o : Outcome) (after : World)
+    → Happened choice w e o after → IsSound after.kernel.queues
+by_event choice w r e o after (by_mount f m v idle) =
+    IsSound-enqueue empty_queues purpose.Init empty_sound
+    (record { even = refl; low = omega arith; high = omega arith })
+by_event choice w r e o after (by_call call ready room within) = let grows =
+    begun_grows w.kernel (spoken w.kernel.lists_files call) in grows.sound (next_within (after_call w call) within) r
+by_event choice w r e o after (by_read_interrupt original rest live there within) =
+    IsSound-read_interrupt w.kernel.queues r
+by_event choice w r e o after (by_read_forgets n live free can within few) =
+    forgets_sound w.kernel.queues n r (next_within (after_read_forgets w n (take n w.kernel.queues.forgets)) within)
+by_event choice w r e o after (by_read_pending k unique kept body live free there says within) =
+    reading_sound w.kernel.queues k r
 by_event choice w r e o after (by_take k q there within) =
-    let took = taking w.server q.unique q.body in sent_off (record w { requests = without_at w.requests k; server = took.server }) w.server.next_copy q.unique took.reply r
+    let took = taking w.server q.unique q.body in sent_off
+    (record w { requests = without_at w.requests k; server = took.server }) w.server.next_copy q.unique took.reply r
 by_event choice w r e o after (by_perform unique t there within) =
-    let did = served choice w.server unique t in sent_off (record w { server = did.server }) w.server.next_copy unique (cond w.server.aborted None (Some did.wire)) r
+    let did = served choice w.server unique t in sent_off (record w { server = did.server }) w.server.next_copy unique
+    (cond w.server.aborted None (Some did.wire)) r
 by_event choice w r e o after (by_again unique kept there current within) = r
-by_event choice w r e o after (by_write k sent there within) = written_sound w.kernel sent.unique sent.wire r (next_within (after_write w k sent (reply_written w.kernel sent.unique sent.wire)) within)
+by_event choice w r e o after (by_write k sent there within) =
+    written_sound w.kernel sent.unique sent.wire r (next_within
+    (after_write w k sent (reply_written w.kernel sent.unique sent.wire)) within)
 by_event choice w r e o after (by_settle k result there) = r
-by_event choice w r e o after (by_signal call fatal state live there within) = signalled_sound w.kernel call state fatal r (next_within (record w { kernel = (call_signalled w.kernel call state fatal).1 }) within)
+by_event choice w r e o after (by_signal call fatal state live there within) =
+    signalled_sound w.kernel call state fatal r (next_within
+    (record w { kernel = (call_signalled w.kernel call state fatal).1 }) within)
 by_event choice w r e o after (by_tick ms timely) = r
 by_event choice w r e o after (by_drop directory name bound live there) = r
-by_event choice w r e o after (by_evict node counted live there unused) = record { next = r.next; requests = r.requests; interrupts = r.interrupts }
+by_event choice w r e o after (by_evict node counted live there unused) =
+    record { next = r.next; requests = r.requests; interrupts = r.interrupts }
 by_event choice w r e o after (by_abort live) = empty_sound
 
 -- The queues stay sound, whatever the event.
-pub stays_sound : (choice : ℕ → ℕ) (w : World) → IsSound w.kernel.queues → (o : Outcome) (last : World) (e : Event) → step choice w e ≡ Ok (o, last) → IsSound last.kernel.queues
+pub stays_sound : (choice : ℕ → ℕ) (w : World) → IsSound w.kernel.queues → (o : Outcome) (last : World) (e : Event)
+    → step choice w e ≡ Ok (o, last) → IsSound last.kernel.queues
 stays_sound choice w r o last e stepped = by_event choice w r e o last (happened choice w o last e stepped)

@@ -1,4 +1,5 @@
--- The server performs the very operation of the ask: its operation, with each node replaced by the file that it denotes.
+-- The server performs the very operation of the ask: its operation, with each node replaced by the file that it
+-- denotes.
 use Rattle.std.proofs.Common.{◌≡◌, ℕ, List, ap, ◌∙◌}
 use Rattle.fuse_spec.specs.Files.Operations.{Operation, lookup, getattr, mkdir, create, unlink, rmdir, rename, link, opening, readdir, readdirplus, read, write, operation_with}
 use Rattle.fuse_spec.specs.declared.Opened.{Opened}
@@ -8,7 +9,8 @@ use Rattle.fuse_spec.specs.Claim.Denotes.{OperationAlike, Denotes}
 use Rattle.fuse_spec.specs.Claim.Alike.{Meant, MeantOpen}
 use Rattle.fuse_theorem.proofs.Calls.Cases.{SameOperation, both_lookup, both_getattr, both_mkdir, both_create, both_unlink, both_rmdir, both_rename, both_link, both_opening, both_readdir, both_readdirplus, both_read, both_write, same_operation}
 
-module _ {F O G P : Type 0} (R : F → G → Type 0) (S : O → P → Type 0) (f : F → G) (g : O → P) (finds : (x : F) (y : G) → R x y → f x ≡ y) (leads : (o : O) (p : P) → S o p → g o ≡ p) where
+module _ {F O G P : Type 0} (R : F → G → Type 0) (S : O → P → Type 0) (f : F → G) (g : O → P)
+    (finds : (x : F) (y : G) → R x y → f x ≡ y) (leads : (o : O) (p : P) → S o p → g o ≡ p) where
   by_cases : (a : Operation F O) (b : Operation G P) → SameOperation R S a b → operation_with f g a ≡ b
   by_cases a b (both_lookup x y n m r e) = λ i. lookup (finds x y r i) (e i)
   by_cases a b (both_getattr x y r) = λ i. getattr (finds x y r i)
@@ -31,7 +33,10 @@ pub denoted : (t : NodeTable) (id generation file : ℕ) → Denotes t id genera
 denoted t id generation file h = ap file_in h.there ∙ h.same_file
 
 -- a held request's operation, on the files that its nodes were taken for
-pub held_operation : (t : NodeTable) (h : HandleTable) (generations : List (ℕ × ℕ)) (a : Operation ℕ Opened) (b : Operation ℕ ℕ) → OperationAlike (Meant t generations) (MeantOpen t h generations) a b → file_operation_of t a ≡ b
+pub held_operation : (t : NodeTable) (h : HandleTable) (generations : List (ℕ × ℕ)) (a : Operation ℕ Opened)
+    (b : Operation ℕ ℕ) → OperationAlike (Meant t generations) (MeantOpen t h generations) a b
+    → file_operation_of t a ≡ b
 held_operation t h generations a b same =
     deed_is (Meant t generations) (MeantOpen t h generations) (file_of t) (λ (o : Opened). file_of t o.nodeid)
-    (λ id file m. denoted t id m.generation file m.denotes) (λ o file m. denoted t o.nodeid m.node_meant.generation file m.node_meant.denotes) a b same
+    (λ id file m. denoted t id m.generation file m.denotes)
+    (λ o file m. denoted t o.nodeid m.node_meant.generation file m.node_meant.denotes) a b same

@@ -41,5 +41,8 @@ pub collected_all : (w : World) (p : Plain) → AllSound w p → AllSound (colle
 collected_all w p all = answers_all w [] tt p all
 
 -- The answer of one call is collected.
-pub handed_out_all : (w : World) (call : ℕ) (p : Plain) → AllSound w p → AllSound (with_answers w (remove w.kernel.vfs.answers call)) (plain_with_answers p (remove w.kernel.vfs.answers call))
-handed_out_all w call p all = answers_all w (remove w.kernel.vfs.answers call) (is_sorted-where_key nat_cmp (λ k. not (nat_eq k call)) w.kernel.vfs.answers all.both.world.rooted.answers) p all
+pub handed_out_all : (w : World) (call : ℕ) (p : Plain) → AllSound w p
+    → AllSound (with_answers w (remove w.kernel.vfs.answers call))
+    (plain_with_answers p (remove w.kernel.vfs.answers call))
+handed_out_all w call p all = answers_all w (remove w.kernel.vfs.answers call)
+    (is_sorted-where_key nat_cmp (λ k. not (nat_eq k call)) w.kernel.vfs.answers all.both.world.rooted.answers) p all

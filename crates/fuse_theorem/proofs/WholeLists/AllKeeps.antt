@@ -30,10 +30,12 @@ use Rattle.fuse_theorem.proofs.Replies.RepliesFitStay.{no_wrong_body}
 use Rattle.fuse_theorem.proofs.Lists.Values.{All-found_values}
 
 -- Nodes and open numbers together.
-servable : (s : Server) (body : RequestBody) → NodesServable s body → All (IsOfItsNode s) (opens_of_body body) → IsServable s body
+servable : (s : Server) (body : RequestBody) → NodesServable s body → All (IsOfItsNode s) (opens_of_body body)
+    → IsServable s body
 servable s body nodes opens = record { nodes = nodes; opens = opens }
 
-body_servable : (s : Server) (o : Option RequestBody) → MatchOption o ⊥ (NodesServable s) → ((body : RequestBody) → o ≡ Some body → All (IsOfItsNode s) (opens_of_body body)) → MatchOption o ⊥ (IsServable s)
+body_servable : (s : Server) (o : Option RequestBody) → MatchOption o ⊥ (NodesServable s)
+    → ((body : RequestBody) → o ≡ Some body → All (IsOfItsNode s) (opens_of_body body)) → MatchOption o ⊥ (IsServable s)
 body_servable s None nodes opens = nodes
 body_servable s (Some body) nodes opens = servable s body nodes (opens body refl)
 
@@ -46,7 +48,8 @@ module _ (w : World) (p : Plain) (all : AllSound w p) where
 
   -- ---- Held
 
-  release_meant : is_live w.kernel.phase ≡ true → (kept : Purpose) → ReleaseKnown w.kernel.nodes kept → ReleaseMeant w kept
+  release_meant : is_live w.kernel.phase ≡ true → (kept : Purpose) → ReleaseKnown w.kernel.nodes kept
+      → ReleaseMeant w kept
   release_meant live purpose.Init known = tt
   release_meant live (purpose.Release o) known = known_meant w p all.both all.releases o.nodeid known
   release_meant live (purpose.Call call) known = tt
@@ -67,17 +70,21 @@ module _ (w : World) (p : Plain) (all : AllSound w p) where
         copies = of_nodes.copies;
       }
 
-  pending_held : (b : Bool) → is_live w.kernel.phase ≡ b → All (λ (e : ℕ × QueuedRequest Purpose). MatchOption (body_of w.kernel e.1.kept) ⊥ (IsServable w.server)) (pending w.kernel.queues)
+  pending_held : (b : Bool) → is_live w.kernel.phase ≡ b
+      → All (λ (e : ℕ × QueuedRequest Purpose). MatchOption (body_of w.kernel e.1.kept) ⊥ (IsServable w.server))
+      (pending w.kernel.queues)
   pending_held true live = λ i e lt.
       let files = (balanced live).files in
       let entry = get_or (pending w.kernel.queues) i e in
       let opens = all.opens in
-      body_servable w.server (body_of w.kernel entry.1.kept) (nodes.pending i e lt) (λ body is. pending_servable w files opens.apart entry (pending_fit w files i e lt) body is)
+      body_servable w.server (body_of w.kernel entry.1.kept) (nodes.pending i e lt)
+      (λ body is. pending_servable w files opens.apart entry (pending_fit w files i e lt) body is)
   pending_held false dead =
       let world = all.both.world in
       let lookups = world.lookups in
       let numbers = lookups.numbers in
-      subst (λ (q : QueueState Purpose). All (λ (e : ℕ × QueuedRequest Purpose). MatchOption (body_of w.kernel e.1.kept) ⊥ (IsServable w.server)) (pending q)) (sym (numbers.idle dead)) (All-nil _)
+      subst (λ (q : QueueState Purpose). All (λ (e : ℕ × QueuedRequest Purpose). MatchOption
+      (body_of w.kernel e.1.kept) ⊥ (IsServable w.server)) (pending q)) (sym (numbers.idle dead)) (All-nil _)
 
   sent_held : (b : Bool) → is_live w.kernel.phase ≡ b → All (λ (r : Request). IsServable w.server r.body) w.requests
   sent_held true live = λ i r lt.
@@ -97,7 +104,10 @@ module _ (w : World) (p : Plain) (all : AllSound w p) where
   taken_held =
       let taken = all.taken in
       let numbers = numbers_open (is_live w.kernel.phase) refl in
-      let opens = All-found_values (λ (t : HeldRequest). All (IsOfItsNode w.server) (opens_of_body t.body)) w.server.held taken.in_order (λ unique t at. λ i o lt. numbers.files unique t at (get_or (opens_of_body t.body) i o) (All-contains_itself (opens_of_body t.body) i o lt)) in
+      let opens = All-found_values (λ (t : HeldRequest). All (IsOfItsNode w.server)
+      (opens_of_body t.body)) w.server.held taken.in_order
+      (λ unique t at. λ i o lt. numbers.files unique t at (get_or (opens_of_body t.body) i o)
+      (All-contains_itself (opens_of_body t.body) i o lt)) in
       λ i t lt. servable w.server _ (nodes.taken i t lt) (opens i t lt)
 
   all_held : Held w

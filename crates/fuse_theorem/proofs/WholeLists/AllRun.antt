@@ -26,11 +26,17 @@ all_kept = record {
   protocol = λ w p all. all_keep w p all;
 }
 
--- Whatever the machine records of a list of events, the plain world has a run of the same records, alike after each event, in which the reference protocol
--- holds after each, each call is answered at most once, and is over then.
-pub all_run : (w : World) (p : Plain) → AllSound w p → AnswersSound w.kernel.vfs → (events : List Event) (records : List Record) (after : World) → Recorded w events records after
+-- Whatever the machine records of a list of events, the plain world has a run of the same records, alike after each
+-- event, in which the reference protocol holds after each, each call is answered at most once, and is over then.
+pub all_run : (w : World) (p : Plain) → AllSound w p → AnswersSound w.kernel.vfs
+    → (events : List Event) (records : List Record) (after : World) → Recorded w events records after
     → (q : Plain) × Run w p events records after q × AllSound after q × AnswersOnce records × CallsEnd w records after
 all_run w p all answers events records after recorded =
     let run = lists_run AnyEvent AllSound all_kept w p all events records after (λ i e lt. tt) recorded in
-    let world = all.both.world in
-    (run.0, run.1, run.2, answers_once w world.rooted answers events records after recorded, calls_end w answers events records after recorded)
+    let world = all.both.world in (
+      run.0,
+      run.1,
+      run.2,
+      answers_once w world.rooted answers events records after recorded,
+      calls_end w answers events records after recorded,
+    )

@@ -38,29 +38,47 @@ first_all = record {
 
 module _ (w : World) (p : Plain) (all : AllSound w p) where
   -- What any event needs of the two worlds holds.
-  all_met : (choice : ℕ → ℕ) (e : Event) → MayStep choice w e → (o : Outcome) (after : World) → step choice w e ≡ Ok (o, after) → Needs choice w p e
+  all_met : (choice : ℕ → ℕ) (e : Event) → MayStep choice w e → (o : Outcome) (after : World)
+      → step choice w e ≡ Ok (o, after) → Needs choice w p e
   all_met choice (event.take k) may o after stepped = take_met w p all.both all.releases choice k o after stepped
   all_met choice (event.perform unique) may o after stepped =
-      any_met w p all.both all.releases.held all.still all.left unique (λ live t x at is. (release_number w p all.both all.opens live unique t at x is, released_held_still w p all.both all.opens live unique t at x is)) choice may
+      any_met w p all.both all.releases.held all.still all.left unique
+      (λ live t x at is. (
+        release_number w p all.both all.opens live unique t at x is,
+        released_held_still w p all.both all.opens live unique t at x is,
+      )) choice may
   all_met choice (event.settle k) may o after stepped = (
     one_node_a_file w p all.both all.releases,
-    λ result copy there known. (settle_holds w p all.both all.releases k result copy there known, settled_held w p all.both all.releases all.opens k result copy there known),
+    λ result copy there known. (
+      settle_holds w p all.both all.releases k result copy there known,
+      settled_held w p all.both all.releases all.opens k result copy there known,
+    ),
   )
-  all_met choice (event.mount f m v) may o after stepped = both_met w p all.both choice (event.mount f m v) o after stepped tt
-  all_met choice (event.call call) may o after stepped = both_met w p all.both choice (event.call call) o after stepped tt
-  all_met choice event.read_interrupt may o after stepped = both_met w p all.both choice event.read_interrupt o after stepped tt
-  all_met choice (event.read_forgets n) may o after stepped = both_met w p all.both choice (event.read_forgets n) o after stepped tt
-  all_met choice (event.read_pending k) may o after stepped = both_met w p all.both choice (event.read_pending k) o after stepped tt
-  all_met choice (event.again unique) may o after stepped = both_met w p all.both choice (event.again unique) o after stepped tt
+  all_met choice (event.mount f m v) may o after stepped =
+      both_met w p all.both choice (event.mount f m v) o after stepped tt
+  all_met choice (event.call call) may o after stepped =
+      both_met w p all.both choice (event.call call) o after stepped tt
+  all_met choice event.read_interrupt may o after stepped =
+      both_met w p all.both choice event.read_interrupt o after stepped tt
+  all_met choice (event.read_forgets n) may o after stepped =
+      both_met w p all.both choice (event.read_forgets n) o after stepped tt
+  all_met choice (event.read_pending k) may o after stepped =
+      both_met w p all.both choice (event.read_pending k) o after stepped tt
+  all_met choice (event.again unique) may o after stepped =
+      both_met w p all.both choice (event.again unique) o after stepped tt
   all_met choice (event.write k) may o after stepped = both_met w p all.both choice (event.write k) o after stepped tt
-  all_met choice (event.intr call fatal) may o after stepped = both_met w p all.both choice (event.intr call fatal) o after stepped tt
+  all_met choice (event.intr call fatal) may o after stepped =
+      both_met w p all.both choice (event.intr call fatal) o after stepped tt
   all_met choice (event.tick ms) may o after stepped = both_met w p all.both choice (event.tick ms) o after stepped tt
-  all_met choice (event.drop_name directory name) may o after stepped = both_met w p all.both choice (event.drop_name directory name) o after stepped tt
-  all_met choice (event.evict node) may o after stepped = both_met w p all.both choice (event.evict node) o after stepped tt
+  all_met choice (event.drop_name directory name) may o after stepped =
+      both_met w p all.both choice (event.drop_name directory name) o after stepped tt
+  all_met choice (event.evict node) may o after stepped =
+      both_met w p all.both choice (event.evict node) o after stepped tt
   all_met choice event.abort may o after stepped = both_met w p all.both choice event.abort o after stepped tt
 
   -- The plain world takes the step of its outcome, and all stays sound.
-  pub all_move : (e : Event) (o : Outcome) (after : World) → Happens w e o after → (q : Plain) × Takes p e o q × AllSound after q
+  pub all_move : (e : Event) (o : Outcome) (after : World) → Happens w e o after
+      → (q : Plain) × Takes p e o q × AllSound after q
   all_move e o after h =
       let both = all.both in
       let moves = both_move w p both e o after h (all_met h.0 e h.1 o after h.2) in (
@@ -74,7 +92,8 @@ module _ (w : World) (p : Plain) (all : AllSound w p) where
           fits = replies_stay_fit w p both all.faultless all.fits e o after h;
           still = held_stay_held w both.world both.asked both.links both.held all.releases.held all.still e o after h;
           opens = opens_stay w p both all.releases all.opens e o after h;
-          left = held_numbers_stay_open w both.world both.asked both.links (λ live. held_numbers w p both all.opens live) all.left e o after h;
+          left = held_numbers_stay_open w both.world both.asked both.links
+              (λ live. held_numbers w p both all.opens live) all.left e o after h;
           waiting = read_stay_on_their_way w both.world both.links all.waiting e o after h;
           once = once_stays w p both all.releases all.opens all.once e o after h;
         },

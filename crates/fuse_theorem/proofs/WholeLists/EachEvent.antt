@@ -64,209 +64,329 @@ use Rattle.fuse_theorem.proofs.Refining.Ticking.{tick_goes}
 use Rattle.fuse_theorem.proofs.Refining.Unasked.{interrupt_read, forgets_read}
 
 -- the same, said of the outcome and the world that the step gives
-led : (p : Plain) (e : Event) (outcome : Outcome) (after : World) (o : Outcome) (last : World) → Leads outcome after o last → Moves p e outcome after → Moves p e o last
-led p e outcome after o last leads moves = subst (λ (y : Outcome × World). Moves p e y.0 y.1) (λ i. (leads.outcome_is i, leads.after_is i)) moves
+led : (p : Plain) (e : Event) (outcome : Outcome) (after : World) (o : Outcome) (last : World)
+    → Leads outcome after o last → Moves p e outcome after → Moves p e o last
+led p e outcome after o last leads moves = subst (λ (y : Outcome × World). Moves p e y.0 y.1)
+    (λ i. (leads.outcome_is i, leads.after_is i)) moves
 
 -- A world that the plain one is alike to already.
-stays : (p : Plain) (e : Event) (outcome : Outcome) (after : World) → (chosen : ℕ) × (takes chosen p e outcome ≡ Some p) → Alike after p → Moves p e outcome after
+stays : (p : Plain) (e : Event) (outcome : Outcome) (after : World)
+    → (chosen : ℕ) × (takes chosen p e outcome ≡ Some p) → Alike after p → Moves p e outcome after
 stays p e outcome after takes alike = (p, takes, alike)
 
 module _ (w : World) (p : Plain) (same : Alike w p) (o : Outcome) (last : World) where
-  mounts : (found_ms missing_ms : ℕ) (minor : Minor) (choice : ℕ → ℕ) → Needs choice w p (event.mount found_ms missing_ms minor) → step choice w (event.mount found_ms missing_ms minor) ≡ Ok (o, last) → Moves p (event.mount found_ms missing_ms minor) o last
+  mounts : (found_ms missing_ms : ℕ) (minor : Minor) (choice : ℕ → ℕ)
+      → Needs choice w p (event.mount found_ms missing_ms minor)
+      → step choice w (event.mount found_ms missing_ms minor) ≡ Ok (o, last)
+      → Moves p (event.mount found_ms missing_ms minor) o last
   mounts f m v choice needs e =
-      let timely = unless_ok (nat_lt max_validity (max f m)) refusal.BadTime (unless (is_busy w.kernel) refusal.Busy (accepted event.mounted (after_mount w f m v))) o last e in
-      let idle = unless_ok (is_busy w.kernel) refusal.Busy (accepted event.mounted (after_mount w f m v)) o last timely.rest in
-      led p (event.mount f m v) event.mounted (after_mount w f m v) o last (ok_is event.mounted (after_mount w f m v) o last idle.rest) (mount_goes w f m v p needs.root needs.answers same)
+      let timely = unless_ok (nat_lt max_validity (max f m)) refusal.BadTime
+      (unless (is_busy w.kernel) refusal.Busy (accepted event.mounted (after_mount w f m v))) o last e in
+      let idle = unless_ok (is_busy w.kernel) refusal.Busy
+      (accepted event.mounted (after_mount w f m v)) o last timely.rest in
+      led p (event.mount f m v) event.mounted (after_mount w f m v) o last
+      (ok_is event.mounted (after_mount w f m v) o last idle.rest)
+      (mount_goes w f m v p needs.root needs.answers same)
 
-  calls : (call : Call) (choice : ℕ → ℕ) → Needs choice w p (event.call call) → step choice w (event.call call) ≡ Ok (o, last) → Moves p (event.call call) o last
+  calls : (call : Call) (choice : ℕ → ℕ) → Needs choice w p (event.call call)
+      → step choice w (event.call call) ≡ Ok (o, last) → Moves p (event.call call) o last
   calls call choice needs e =
       let begun = event.begun w.kernel.vfs.next_call in
-      let ready = unless_ok (not (is_ready w.kernel.phase)) refusal.NotReady (unless (nat_le max_calls (length w.kernel.vfs.calls)) refusal.Full (going begun (after_call w call))) o last e in
-      let room = unless_ok (nat_le max_calls (length w.kernel.vfs.calls)) refusal.Full (going begun (after_call w call)) o last ready.rest in
+      let ready = unless_ok (not (is_ready w.kernel.phase)) refusal.NotReady
+      (unless (nat_le max_calls (length w.kernel.vfs.calls)) refusal.Full
+      (going begun (after_call w call))) o last e in
+      let room = unless_ok (nat_le max_calls (length w.kernel.vfs.calls)) refusal.Full
+      (going begun (after_call w call)) o last ready.rest in
       let went = going_ok begun (after_call w call) o last room.rest in
-      led p (event.call call) begun (after_call w call) o last went.leads (call_goes_always w p needs.0 needs.1 same call (is_not (is_ready w.kernel.phase) ready.passed))
+      led p (event.call call) begun (after_call w call) o last went.leads
+      (call_goes_always w p needs.0 needs.1 same call (is_not (is_ready w.kernel.phase) ready.passed))
 
-  reads_interrupt : (choice : ℕ → ℕ) → Needs choice w p event.read_interrupt → step choice w event.read_interrupt ≡ Ok (o, last) → Moves p event.read_interrupt o last
+  reads_interrupt : (choice : ℕ → ℕ) → Needs choice w p event.read_interrupt
+      → step choice w event.read_interrupt ≡ Ok (o, last) → Moves p event.read_interrupt o last
   reads_interrupt choice sound e =
-      let lives = unless_ok (not (is_live w.kernel.phase)) refusal.NotReady (reading_interrupt w w.kernel.queues.interrupts) o last e in
+      let lives = unless_ok (not (is_live w.kernel.phase)) refusal.NotReady
+      (reading_interrupt w w.kernel.queues.interrupts) o last e in
       by w.kernel.queues.interrupts (is_not (is_live w.kernel.phase) lives.passed) lives.rest
     where
-      by : (xs : List ℕ) → is_live w.kernel.phase ≡ true → reading_interrupt w xs ≡ Ok (o, last) → Moves p event.read_interrupt o last
+      by : (xs : List ℕ) → is_live w.kernel.phase ≡ true → reading_interrupt w xs ≡ Ok (o, last)
+          → Moves p event.read_interrupt o last
       by [] live f = absurd (cc)
       by (original ∷ rest) live f =
           let outcome = event.is_read (interrupt_number original) in
           let went = going_ok outcome (after_read_interrupt w original) o last f in
-          led p event.read_interrupt outcome (after_read_interrupt w original) o last went.leads (stays p event.read_interrupt outcome (after_read_interrupt w original) (0, refl) (interrupt_read w p sound same live original))
+          led p event.read_interrupt outcome (after_read_interrupt w original) o last went.leads
+          (stays p event.read_interrupt outcome (after_read_interrupt w original) (0, refl)
+          (interrupt_read w p sound same live original))
 
-  reads_forgets : (n : ℕ) (choice : ℕ → ℕ) → Needs choice w p (event.read_forgets n) → step choice w (event.read_forgets n) ≡ Ok (o, last) → Moves p (event.read_forgets n) o last
+  reads_forgets : (n : ℕ) (choice : ℕ → ℕ) → Needs choice w p (event.read_forgets n)
+      → step choice w (event.read_forgets n) ≡ Ok (o, last) → Moves p (event.read_forgets n) o last
   reads_forgets n choice sound e =
       let read = forgets_of_kernel w.kernel n in
-      let lives = unless_ok (not (is_live w.kernel.phase)) refusal.NotReady (when_not_interrupted w (reading_forgets w n read)) o last e in
-      let free = unless_ok (not (nat_eq (length w.kernel.queues.interrupts) 0)) refusal.InterruptFirst (reading_forgets w n read) o last lives.rest in
+      let lives = unless_ok (not (is_live w.kernel.phase)) refusal.NotReady
+      (when_not_interrupted w (reading_forgets w n read)) o last e in
+      let free = unless_ok (not (nat_eq (length w.kernel.queues.interrupts) 0)) refusal.InterruptFirst
+      (reading_forgets w n read) o last lives.rest in
       by read (is_not (is_live w.kernel.phase) lives.passed) free.rest
     where
-      by : (r : Option (ℕ × List Forget)) → is_live w.kernel.phase ≡ true → reading_forgets w n r ≡ Ok (o, last) → Moves p (event.read_forgets n) o last
+      by : (r : Option (ℕ × List Forget)) → is_live w.kernel.phase ≡ true → reading_forgets w n r ≡ Ok (o, last)
+          → Moves p (event.read_forgets n) o last
       by None live f = absurd (cc)
       by (Some r) live f =
           let went = going_ok (event.is_read r.0) (after_read_forgets w n r.1) o last f in
           led p (event.read_forgets n) (event.is_read r.0) (after_read_forgets w n r.1) o last went.leads
-          (stays p (event.read_forgets n) (event.is_read r.0) (after_read_forgets w n r.1) (0, refl) (forgets_read w p sound same live n r.1))
+          (stays p (event.read_forgets n) (event.is_read r.0) (after_read_forgets w n r.1) (0, refl)
+          (forgets_read w p sound same live n r.1))
 
-  takes_one : (k : ℕ) (choice : ℕ → ℕ) → Needs choice w p (event.take k) → step choice w (event.take k) ≡ Ok (o, last) → Moves p (event.take k) o last
+  takes_one : (k : ℕ) (choice : ℕ → ℕ) → Needs choice w p (event.take k) → step choice w (event.take k) ≡ Ok (o, last)
+      → Moves p (event.take k) o last
   takes_one k choice needs e = by (slice_get w.requests k) refl e
     where
-      taken : (r : Request) (body : RequestBody) → r.body ≡ body → slice_get w.requests k ≡ Some r → CanTake w p k r body → Moves p (event.take k) (event.taken r.unique (taking w.server r.unique body).word) (after_take w k r.unique (taking w.server r.unique body))
-      taken r (init flags) is at can = (p, (0, refl), subst (λ (b : RequestBody). Alike (record w { requests = remove w.requests k; server = holding w.server r.unique b }) p) is (held_alike w p same k r at))
-      taken r (asks operation) is at can = (p, (0, refl), subst (λ (b : RequestBody). Alike (record w { requests = remove w.requests k; server = holding w.server r.unique b }) p) is (held_alike w p same k r at))
-      taken r (release x) is at can = (p, (0, refl), subst (λ (b : RequestBody). Alike (record w { requests = remove w.requests k; server = holding w.server r.unique b }) p) is (held_alike w p same k r at))
+      taken : (r : Request) (body : RequestBody) → r.body ≡ body → slice_get w.requests k ≡ Some r
+          → CanTake w p k r body → Moves p (event.take k) (event.taken r.unique (taking w.server r.unique body).word)
+          (after_take w k r.unique (taking w.server r.unique body))
+      taken r (init flags) is at can = (
+        p,
+        (0, refl),
+        subst
+            (λ (b : RequestBody). Alike (record w {
+              requests = remove w.requests k;
+              server = holding w.server r.unique b;
+            }) p) is (held_alike w p same k r at),
+      )
+      taken r (asks operation) is at can = (
+        p,
+        (0, refl),
+        subst (λ (b : RequestBody). Alike (record w {
+          requests = remove w.requests k;
+          server = holding w.server r.unique b;
+        }) p) is (held_alike w p same k r at),
+      )
+      taken r (release x) is at can = (
+        p,
+        (0, refl),
+        subst
+            (λ (b : RequestBody). Alike (record w {
+              requests = remove w.requests k;
+              server = holding w.server r.unique b;
+            }) p) is (held_alike w p same k r at),
+      )
       taken r (forget f) is at can = (p, (0, refl), forgotten_alike w p can.0 same k (f ∷ []) can.1)
       taken r (batch_forget fs) is at can = (p, (0, refl), forgotten_alike w p can.0 same k fs can.1)
       taken r (interrupt original) is at can =
-          subst (λ (b : RequestBody). Moves p (event.take k) (event.taken r.unique (taking w.server r.unique b).word) (after_take w k r.unique (taking w.server r.unique b))) is (take_interrupt_goes w p same k r original can)
+          subst (λ (b : RequestBody). Moves p (event.take k) (event.taken r.unique (taking w.server r.unique b).word)
+          (after_take w k r.unique (taking w.server r.unique b))) is (take_interrupt_goes w p same k r original can)
 
-      by : (x : Option Request) → slice_get w.requests k ≡ x → taking_request w k x ≡ Ok (o, last) → Moves p (event.take k) o last
+      by : (x : Option Request) → slice_get w.requests k ≡ x → taking_request w k x ≡ Ok (o, last)
+          → Moves p (event.take k) o last
       by None at f = absurd (cc)
       by (Some r) at f =
           let took = taking w.server r.unique r.body in
           let went = going_ok (event.taken r.unique took.word) (after_take w k r.unique took) o last f in
-          led p (event.take k) (event.taken r.unique took.word) (after_take w k r.unique took) o last went.leads (taken r r.body refl at (needs r at))
+          led p (event.take k) (event.taken r.unique took.word) (after_take w k r.unique took) o last went.leads
+          (taken r r.body refl at (needs r at))
 
-  reads_pending : (k : ℕ) (choice : ℕ → ℕ) → Needs choice w p (event.read_pending k) → step choice w (event.read_pending k) ≡ Ok (o, last) → Moves p (event.read_pending k) o last
+  reads_pending : (k : ℕ) (choice : ℕ → ℕ) → Needs choice w p (event.read_pending k)
+      → step choice w (event.read_pending k) ≡ Ok (o, last) → Moves p (event.read_pending k) o last
   reads_pending k choice sound e =
       let at = pending_at w.kernel.queues k in
-      let lives = unless_ok (not (is_live w.kernel.phase)) refusal.NotReady (when_not_interrupted w (reading_pending w k at)) o last e in
-      let free = unless_ok (not (nat_eq (length w.kernel.queues.interrupts) 0)) refusal.InterruptFirst (reading_pending w k at) o last lives.rest in
+      let lives = unless_ok (not (is_live w.kernel.phase)) refusal.NotReady
+      (when_not_interrupted w (reading_pending w k at)) o last e in
+      let free = unless_ok (not (nat_eq (length w.kernel.queues.interrupts) 0)) refusal.InterruptFirst
+      (reading_pending w k at) o last lives.rest in
       by_place (slice_get (pending w.kernel.queues) k) refl free.rest
     where
-      by_body : (x : ℕ × QueuedRequest Purpose) (body : Option RequestBody) → slice_get (pending w.kernel.queues) k ≡ Some x → body_of w.kernel x.1.kept ≡ body → reading_body w k x.0 body ≡ Ok (o, last) → Moves p (event.read_pending k) o last
+      by_body : (x : ℕ × QueuedRequest Purpose) (body : Option RequestBody)
+          → slice_get (pending w.kernel.queues) k ≡ Some x → body_of w.kernel x.1.kept ≡ body
+          → reading_body w k x.0 body ≡ Ok (o, last) → Moves p (event.read_pending k) o last
       by_body x None at what f = absurd (cc)
       by_body x (Some body) at what f =
           let went = going_ok (event.is_read x.0) (after_read_pending w k x.0 body) o last f in
           led p (event.read_pending k) (event.is_read x.0) (after_read_pending w k x.0 body) o last went.leads
-          (stays p (event.read_pending k) (event.is_read x.0) (after_read_pending w k x.0 body) (0, refl) (read_pending_alike w p same sound k x body at what))
+          (stays p (event.read_pending k) (event.is_read x.0) (after_read_pending w k x.0 body) (0, refl)
+          (read_pending_alike w p same sound k x body at what))
 
-      by_place : (x : Option (ℕ × QueuedRequest Purpose)) → slice_get (pending w.kernel.queues) k ≡ x → reading_pending w k (option_map (λ (e : ℕ × QueuedRequest Purpose). (e.0, e.1.kept)) x) ≡ Ok (o, last) → Moves p (event.read_pending k) o last
+      by_place : (x : Option (ℕ × QueuedRequest Purpose)) → slice_get (pending w.kernel.queues) k ≡ x
+          → reading_pending w k (option_map (λ (e : ℕ × QueuedRequest Purpose). (e.0, e.1.kept)) x) ≡ Ok (o, last)
+          → Moves p (event.read_pending k) o last
       by_place None at f = absurd (cc)
       by_place (Some x) at f = by_body x (body_of w.kernel x.1.kept) at refl f
 
-  performs_one : (unique : ℕ) (choice : ℕ → ℕ) → Needs choice w p (event.perform unique) → step choice w (event.perform unique) ≡ Ok (o, last) → Moves p (event.perform unique) o last
+  performs_one : (unique : ℕ) (choice : ℕ → ℕ) → Needs choice w p (event.perform unique)
+      → step choice w (event.perform unique) ≡ Ok (o, last) → Moves p (event.perform unique) o last
   performs_one unique choice needs e = by (get w.server.held unique) refl e
     where
-      serves : (t : HeldRequest) → get w.server.held unique ≡ Some t → CanServe choice w p unique t → Moves p (event.perform unique) (event.performed unique (errno_of (served choice w.server unique t).wire) w.server.aborted) (after_perform w unique (served choice w.server unique t))
+      serves : (t : HeldRequest) → get w.server.held unique ≡ Some t → CanServe choice w p unique t
+          → Moves p (event.perform unique) (event.performed unique
+          (errno_of (served choice w.server unique t).wire) w.server.aborted)
+          (after_perform w unique (served choice w.server unique t))
       serves t at (each.performs operation can live tables one known may) =
           let ask = asked w p same choice unique t operation can in
-          perform_goes w p same choice unique t operation can live tables (one_to_one w.kernel.nodes w.server.nodes one) known (may ask.ask ask.there)
-      serves t at (each.performs_unheard operation can lost one) = lost_goes w p same choice unique t operation can lost one
+          perform_goes w p same choice unique t operation can live tables
+          (one_to_one w.kernel.nodes w.server.nodes one) known (may ask.ask ask.there)
+      serves t at (each.performs_unheard operation can lost one) =
+          lost_goes w p same choice unique t operation can lost one
       serves t at (each.declines operation can) = decline_goes w p same choice unique t operation can
-      serves t at (each.initiates flags is unmarked still) = let goes = init_goes w p same choice unique t at flags is unmarked still in (p, goes.0, goes.1)
-      serves t at (each.releases x can one holds opens) = let goes = release_goes w p same choice unique t one x can holds opens in (p, goes.0, goes.1)
+      serves t at (each.initiates flags is unmarked still) = let goes =
+          init_goes w p same choice unique t at flags is unmarked still in (p, goes.0, goes.1)
+      serves t at (each.releases x can one holds opens) = let goes =
+          release_goes w p same choice unique t one x can holds opens in (p, goes.0, goes.1)
 
-      by : (x : Option HeldRequest) → get w.server.held unique ≡ x → performing_held choice w unique x ≡ Ok (o, last) → Moves p (event.perform unique) o last
+      by : (x : Option HeldRequest) → get w.server.held unique ≡ x → performing_held choice w unique x ≡ Ok (o, last)
+          → Moves p (event.perform unique) o last
       by None at f = absurd (cc)
       by (Some t) at f =
           let did = served choice w.server unique t in
           let outcome = event.performed unique (errno_of did.wire) w.server.aborted in
-          let few = unless_ok (counts_out w.server.nodes (files_given w.server t)) refusal.Exhausted (going outcome (after_perform w unique did)) o last f in
+          let few = unless_ok (counts_out w.server.nodes (files_given w.server t)) refusal.Exhausted
+          (going outcome (after_perform w unique did)) o last f in
           let went = going_ok outcome (after_perform w unique did) o last few.rest in
           led p (event.perform unique) outcome (after_perform w unique did) o last went.leads (serves t at (needs t at))
 
-  sends_again : (unique : ℕ) (choice : ℕ → ℕ) → Needs choice w p (event.again unique) → step choice w (event.again unique) ≡ Ok (o, last) → Moves p (event.again unique) o last
+  sends_again : (unique : ℕ) (choice : ℕ → ℕ) → Needs choice w p (event.again unique)
+      → step choice w (event.again unique) ≡ Ok (o, last) → Moves p (event.again unique) o last
   sends_again unique choice needs e = by (get w.server.kept unique) refl e
     where
-      by : (x : Option Kept) → get w.server.kept unique ≡ x → sending_again w unique x ≡ Ok (o, last) → Moves p (event.again unique) o last
+      by : (x : Option Kept) → get w.server.kept unique ≡ x → sending_again w unique x ≡ Ok (o, last)
+          → Moves p (event.again unique) o last
       by None at f = absurd (cc)
       by (Some kept) at f =
           let out = counts_out w.server.nodes (files_named w.server kept.wire) in
           let gone = going (event.sent_again unique) (after_again w unique kept) in
-          let current = unless_ok (not (is_current w.server kept.wire)) refusal.NoCopy (unless out refusal.Exhausted gone) o last f in
+          let current = unless_ok (not (is_current w.server kept.wire)) refusal.NoCopy
+          (unless out refusal.Exhausted gone) o last f in
           let few = unless_ok out refusal.Exhausted gone o last current.rest in
           let went = going_ok (event.sent_again unique) (after_again w unique kept) o last few.rest in
           led p (event.again unique) (event.sent_again unique) (after_again w unique kept) o last went.leads
-          (stays p (event.again unique) (event.sent_again unique) (after_again w unique kept) (0, refl) (again_alike w p (one_to_one w.kernel.nodes w.server.nodes needs.0) needs.1 same unique kept at))
+          (stays p (event.again unique) (event.sent_again unique) (after_again w unique kept) (0, refl)
+          (again_alike w p (one_to_one w.kernel.nodes w.server.nodes needs.0) needs.1 same unique kept at))
 
-  writes : (k : ℕ) (choice : ℕ → ℕ) → Needs choice w p (event.write k) → step choice w (event.write k) ≡ Ok (o, last) → Moves p (event.write k) o last
+  writes : (k : ℕ) (choice : ℕ → ℕ) → Needs choice w p (event.write k) → step choice w (event.write k) ≡ Ok (o, last)
+      → Moves p (event.write k) o last
   writes k choice needs e = by (slice_get w.replies k) refl e
     where
       Heard : Sent → WriteResult × Kernel → Type 0
       Heard sent took = Moves p (event.write k) (event.written sent.unique took.0) (after_write w k sent took)
 
       Told : Sent → ℕ → WriteResult × Kernel
-      Told sent call = replied_to_call (record w.kernel { queues = without w.kernel.queues sent.unique }) call sent.wire (get w.kernel.vfs.calls call)
+      Told sent call = replied_to_call (record w.kernel {
+        queues =
+            without w.kernel.queues sent.unique;
+      }) call sent.wire (get w.kernel.vfs.calls call)
 
       -- what a reply to a call's request comes to
-      to_call : (sent : Sent) (call : ℕ) → nat_eq (sent.unique % 2) 1 ≡ false → waiting w.kernel.queues sent.unique ≡ Some (purpose.Call call)
-          → reply_written w.kernel sent.unique sent.wire ≡ replied_to_call (record w.kernel { queues = without w.kernel.queues sent.unique }) call sent.wire (get w.kernel.vfs.calls call)
+      to_call : (sent : Sent) (call : ℕ) → nat_eq (sent.unique % 2) 1 ≡ false
+          → waiting w.kernel.queues sent.unique ≡ Some (purpose.Call call)
+          → reply_written w.kernel sent.unique sent.wire ≡ replied_to_call
+          (record w.kernel { queues = without w.kernel.queues sent.unique }) call sent.wire
+          (get w.kernel.vfs.calls call)
       to_call sent call even waits =
-          ap (λ (b : Bool). cond b (interrupt_reply_written w.kernel sent.unique sent.wire (waiting w.kernel.queues (sent.unique - 1))) (request_reply_written w.kernel sent.unique sent.wire (waiting w.kernel.queues sent.unique))) even
+          ap (λ (b : Bool). cond b (interrupt_reply_written w.kernel sent.unique sent.wire
+          (waiting w.kernel.queues (sent.unique - 1))) (request_reply_written w.kernel sent.unique sent.wire
+          (waiting w.kernel.queues sent.unique))) even
           ∙ ap (request_reply_written w.kernel sent.unique sent.wire) waits
 
-      accepted_as : (sent : Sent) (call : ℕ) → (Told sent call).0 ≡ Accepted → (q : Plain) × Takes p (event.write k) (event.written sent.unique Accepted) q × Alike (after_write w k sent (Told sent call)) q → Heard sent (Told sent call)
-      accepted_as sent call is goes = (goes.0, subst (λ (r : WriteResult). Takes p (event.write k) (event.written sent.unique r) goes.0) (sym is) goes.1, goes.2)
+      accepted_as : (sent : Sent) (call : ℕ) → (Told sent call).0 ≡ Accepted
+          → (q : Plain) × Takes p (event.write k) (event.written sent.unique Accepted) q
+          × Alike (after_write w k sent (Told sent call)) q → Heard sent (Told sent call)
+      accepted_as sent call is goes = (
+        goes.0,
+        subst (λ (r : WriteResult). Takes p (event.write k)
+            (event.written sent.unique r) goes.0) (sym is) goes.1,
+        goes.2,
+      )
 
       hears : (sent : Sent) → CanReceive w p sent → Heard sent (reply_written w.kernel sent.unique sent.wire)
       hears sent (each.nothing none) = let goes = no_entry w p same k sent none in (p, goes.0, goes.1)
-      hears sent (each.of_interrupt kept numbered live odd waits) = let goes = interrupt_replied_to w p same k sent numbered live odd kept waits in (p, goes.0, goes.1)
-      hears sent (each.of_release x numbered live even waits) = let goes = release_ends w p same k sent numbered live even x waits in (p, goes.0, goes.1)
-      hears sent (each.of_init numbered live even waits agrees) = let goes = init_ends w p same k sent numbered live even waits agrees in (p, goes.0, goes.1)
+      hears sent (each.of_interrupt kept numbered live odd waits) = let goes =
+          interrupt_replied_to w p same k sent numbered live odd kept waits in (p, goes.0, goes.1)
+      hears sent (each.of_release x numbered live even waits) = let goes =
+          release_ends w p same k sent numbered live even x waits in (p, goes.0, goes.1)
+      hears sent (each.of_init numbered live even waits agrees) = let goes =
+          init_ends w p same k sent numbered live even waits agrees in (p, goes.0, goes.1)
       hears sent (each.of_call call state reply numbered one live even waits is) =
           subst (Heard sent) (sym (to_call sent call even waits))
-          (accepted_as sent call (accepts w p numbered one same live k sent call state reply is) (accept_goes w p numbered one same live k sent call state reply is))
+          (accepted_as sent call (accepts w p numbered one same live k sent call state reply is)
+          (accept_goes w p numbered one same live k sent call state reply is))
       hears sent (each.of_declined call state numbered one live even waits is) =
-          subst (Heard sent) (sym (to_call sent call even waits)) (accepted_as sent call (eintr_accepts w p numbered one same live k sent call state is) (eintr_goes w p numbered one same live k sent call state is))
+          subst (Heard sent) (sym (to_call sent call even waits))
+          (accepted_as sent call (eintr_accepts w p numbered one same live k sent call state is)
+          (eintr_goes w p numbered one same live k sent call state is))
 
-      by : (x : Option Sent) → slice_get w.replies k ≡ x → writing_copy w k x ≡ Ok (o, last) → Moves p (event.write k) o last
+      by : (x : Option Sent) → slice_get w.replies k ≡ x → writing_copy w k x ≡ Ok (o, last)
+          → Moves p (event.write k) o last
       by None at f = absurd (cc)
       by (Some sent) at f =
           let took = reply_written w.kernel sent.unique sent.wire in
           let went = going_ok (event.written sent.unique took.0) (after_write w k sent took) o last f in
-          led p (event.write k) (event.written sent.unique took.0) (after_write w k sent took) o last went.leads (hears sent (needs sent at))
+          led p (event.write k) (event.written sent.unique took.0) (after_write w k sent took) o last went.leads
+          (hears sent (needs sent at))
 
-  settles : (k : ℕ) (choice : ℕ → ℕ) → Needs choice w p (event.settle k) → step choice w (event.settle k) ≡ Ok (o, last) → Moves p (event.settle k) o last
+  settles : (k : ℕ) (choice : ℕ → ℕ) → Needs choice w p (event.settle k)
+      → step choice w (event.settle k) ≡ Ok (o, last) → Moves p (event.settle k) o last
   settles k choice needs e = by (slice_get w.results k) refl e
     where
-      by_copy : (result : ReplyResult) → slice_get w.results k ≡ Some result → (c : Option Copy) → get w.server.copies result.number ≡ c → Alike (after_settle w k result c) p
-      by_copy result at None there = kept_fewer_alike w p same (remove w.results k) w.server.kept w.server.copies (λ q x kept. kept)
-      by_copy result at (Some copy) there = let can = needs.1 result copy at there in settled_alike w p needs.0 same k result copy can.0 can.1
+      by_copy : (result : ReplyResult) → slice_get w.results k ≡ Some result → (c : Option Copy)
+          → get w.server.copies result.number ≡ c → Alike (after_settle w k result c) p
+      by_copy result at None there = kept_fewer_alike w p same (remove w.results k) w.server.kept w.server.copies
+          (λ q x kept. kept)
+      by_copy result at (Some copy) there = let can = needs.1 result copy at there in
+          settled_alike w p needs.0 same k result copy can.0 can.1
 
-      by : (x : Option ReplyResult) → slice_get w.results k ≡ x → settling w k x ≡ Ok (o, last) → Moves p (event.settle k) o last
+      by : (x : Option ReplyResult) → slice_get w.results k ≡ x → settling w k x ≡ Ok (o, last)
+          → Moves p (event.settle k) o last
       by None at f = absurd (cc)
       by (Some result) at f =
           let outcome = event.settled result.unique result.result in
           let after = after_settle w k result (get w.server.copies result.number) in
-          led p (event.settle k) outcome after o last (ok_is outcome after o last f) (stays p (event.settle k) outcome after (0, refl) (by_copy result at (get w.server.copies result.number) refl))
+          led p (event.settle k) outcome after o last (ok_is outcome after o last f)
+          (stays p (event.settle k) outcome after (0, refl)
+          (by_copy result at (get w.server.copies result.number) refl))
 
-  signals : (call : ℕ) (fatal : Bool) (choice : ℕ → ℕ) → Needs choice w p (event.intr call fatal) → step choice w (event.intr call fatal) ≡ Ok (o, last) → Moves p (event.intr call fatal) o last
+  signals : (call : ℕ) (fatal : Bool) (choice : ℕ → ℕ) → Needs choice w p (event.intr call fatal)
+      → step choice w (event.intr call fatal) ≡ Ok (o, last) → Moves p (event.intr call fatal) o last
   signals call fatal choice needs e =
-      let lives = unless_ok (not (is_live w.kernel.phase)) refusal.NotReady (signalling w call fatal (get w.kernel.vfs.calls call)) o last e in
+      let lives = unless_ok (not (is_live w.kernel.phase)) refusal.NotReady
+      (signalling w call fatal (get w.kernel.vfs.calls call)) o last e in
       by (get w.kernel.vfs.calls call) refl (is_not (is_live w.kernel.phase) lives.passed) lives.rest
     where
-      by : (x : Option (CallState Opened)) → get w.kernel.vfs.calls call ≡ x → is_live w.kernel.phase ≡ true → signalling w call fatal x ≡ Ok (o, last) → Moves p (event.intr call fatal) o last
+      by : (x : Option (CallState Opened)) → get w.kernel.vfs.calls call ≡ x → is_live w.kernel.phase ≡ true
+          → signalling w call fatal x ≡ Ok (o, last) → Moves p (event.intr call fatal) o last
       by None at live f = absurd (cc)
       by (Some state) at live f =
           let moved = call_signalled w.kernel call state fatal in
           let numbers = needs.0.live in
           let went = going_ok (event.interrupted call moved.0) (record w { kernel = moved.1 }) o last f in
-          led p (event.intr call fatal) (event.interrupted call moved.0) (record w { kernel = moved.1 }) o last went.leads
-          (signal_goes w p (numbers live) (one_to_one w.kernel.nodes w.server.nodes needs.1.0) same live call state at fatal needs.1.1)
+          led p (event.intr call fatal) (event.interrupted call moved.0)
+          (record w { kernel = moved.1 }) o last went.leads
+          (signal_goes w p (numbers live)
+          (one_to_one w.kernel.nodes w.server.nodes needs.1.0) same live call state at fatal needs.1.1)
 
   ticks : (ms : ℕ) (choice : ℕ → ℕ) → step choice w (event.tick ms) ≡ Ok (o, last) → Moves p (event.tick ms) o last
   ticks ms choice e =
       let outcome = event.now (w.kernel.vfs.clock + ms) in
-      let timely = unless_ok (nat_le clock_end (w.kernel.vfs.clock + ms)) refusal.BadTime (accepted outcome (after_tick w ms)) o last e in
-      led p (event.tick ms) outcome (after_tick w ms) o last (ok_is outcome (after_tick w ms) o last timely.rest) (tick_goes w p same ms)
+      let timely = unless_ok (nat_le clock_end (w.kernel.vfs.clock + ms)) refusal.BadTime
+      (accepted outcome (after_tick w ms)) o last e in
+      led p (event.tick ms) outcome (after_tick w ms) o last (ok_is outcome (after_tick w ms) o last timely.rest)
+      (tick_goes w p same ms)
 
-  drops : (directory : ℕ) (name : Name) (choice : ℕ → ℕ) → Needs choice w p (event.drop_name directory name) → step choice w (event.drop_name directory name) ≡ Ok (o, last) → Moves p (event.drop_name directory name) o last
+  drops : (directory : ℕ) (name : Name) (choice : ℕ → ℕ) → Needs choice w p (event.drop_name directory name)
+      → step choice w (event.drop_name directory name) ≡ Ok (o, last) → Moves p (event.drop_name directory name) o last
   drops directory name choice one e =
-      let lives = unless_ok (not (is_live w.kernel.phase)) refusal.NotReady (dropping (after_drop w directory name) (get_name w.kernel.vfs.names (directory, name))) o last e in
+      let lives = unless_ok (not (is_live w.kernel.phase)) refusal.NotReady
+      (dropping (after_drop w directory name) (get_name w.kernel.vfs.names (directory, name))) o last e in
       by (get_name w.kernel.vfs.names (directory, name)) refl lives.rest
     where
-      by : (x : Option Binding) → get_name w.kernel.vfs.names (directory, name) ≡ x → dropping (after_drop w directory name) x ≡ Ok (o, last) → Moves p (event.drop_name directory name) o last
+      by : (x : Option Binding) → get_name w.kernel.vfs.names (directory, name) ≡ x
+          → dropping (after_drop w directory name) x ≡ Ok (o, last) → Moves p (event.drop_name directory name) o last
       by None at f = absurd (cc)
-      by (Some bound) at f = led p (event.drop_name directory name) event.dropped (after_drop w directory name) o last (ok_is event.dropped (after_drop w directory name) o last f) (drop_goes w p one same directory name bound at)
+      by (Some bound) at f = led p (event.drop_name directory name) event.dropped (after_drop w directory name) o last
+          (ok_is event.dropped (after_drop w directory name) o last f) (drop_goes w p one same directory name bound at)
 
-  evicts : (node : ℕ) (choice : ℕ → ℕ) → Needs choice w p (event.evict node) → step choice w (event.evict node) ≡ Ok (o, last) → Moves p (event.evict node) o last
+  evicts : (node : ℕ) (choice : ℕ → ℕ) → Needs choice w p (event.evict node)
+      → step choice w (event.evict node) ≡ Ok (o, last) → Moves p (event.evict node) o last
   evicts node choice needs e =
-      let lives = unless_ok (not (is_live w.kernel.phase)) refusal.NotReady (evicting w node (get w.kernel.nodes node)) o last e in
+      let lives = unless_ok (not (is_live w.kernel.phase)) refusal.NotReady
+      (evicting w node (get w.kernel.nodes node)) o last e in
       by (get w.kernel.nodes node) lives.rest
     where
       by : (x : Option Counted) → evicting w node x ≡ Ok (o, last) → Moves p (event.evict node) o last
@@ -274,15 +394,21 @@ module _ (w : World) (p : Plain) (same : Alike w p) (o : Outcome) (last : World)
       by (Some counted) f =
           let outcome = event.evicted node counted.count in
           let after = after_evict w node counted in
-          let unused = unless_ok (is_pinned w.kernel node || is_bound w.kernel node) refusal.Busy (accepted outcome after) o last f in
+          let unused = unless_ok (is_pinned w.kernel node || is_bound w.kernel node) refusal.Busy
+          (accepted outcome after) o last f in
           let rooted = needs.0 in
           let parts = or_false (is_pinned w.kernel node) (is_bound w.kernel node) unused.passed in
-          led p (event.evict node) outcome after o last (ok_is outcome after o last unused.rest) (stays p (event.evict node) outcome after (0, refl) (evicted_alike w p same node rooted.root parts.0 parts.1 needs.1 counted))
+          led p (event.evict node) outcome after o last (ok_is outcome after o last unused.rest)
+          (stays p (event.evict node) outcome after (0, refl)
+          (evicted_alike w p same node rooted.root parts.0 parts.1 needs.1 counted))
 
-  aborts : (choice : ℕ → ℕ) → Needs choice w p event.abort → step choice w event.abort ≡ Ok (o, last) → Moves p event.abort o last
+  aborts : (choice : ℕ → ℕ) → Needs choice w p event.abort → step choice w event.abort ≡ Ok (o, last)
+      → Moves p event.abort o last
   aborts choice needs e =
-      let lives = unless_ok (not (is_live w.kernel.phase)) refusal.NotReady (accepted event.aborted (after_abort w)) o last e in
-      led p event.abort event.aborted (after_abort w) o last (ok_is event.aborted (after_abort w) o last lives.rest) (abort_goes w p needs.root needs.answers same)
+      let lives = unless_ok (not (is_live w.kernel.phase)) refusal.NotReady
+      (accepted event.aborted (after_abort w)) o last e in
+      led p event.abort event.aborted (after_abort w) o last (ok_is event.aborted (after_abort w) o last lives.rest)
+      (abort_goes w p needs.root needs.answers same)
 
   -- Any event.
   pub each_moves : (choice : ℕ → ℕ) (e : Event) → Needs choice w p e → step choice w e ≡ Ok (o, last) → Moves p e o last

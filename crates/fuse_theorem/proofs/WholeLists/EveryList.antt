@@ -23,10 +23,20 @@ use Rattle.fuse_theorem.proofs.WholeLists.WorldSound.{first_world_sound, worlds_
 use Rattle.fuse_theorem.proofs.Replies.WriteNeeds.{write_met}
 
 pub first_both : BothSound first_world first_plain
-first_both = record { alike = first_alike; world = first_world_sound; asked = first_asked; links = first_links; nodes = first_known; held = first_held; kept = first_kept; served = first_served }
+first_both = record {
+  alike = first_alike;
+  world = first_world_sound;
+  asked = first_asked;
+  links = first_links;
+  nodes = first_known;
+  held = first_held;
+  kept = first_kept;
+  served = first_served;
+}
 
 -- An event whose needs hold leads to two that are sound and alike again.
-pub both_move : (w : World) (p : Plain) → BothSound w p → (e : Event) (o : Outcome) (after : World) → (h : Happens w e o after) → Needs h.0 w p e → (q : Plain) × Takes p e o q × BothSound after q
+pub both_move : (w : World) (p : Plain) → BothSound w p → (e : Event) (o : Outcome) (after : World)
+    → (h : Happens w e o after) → Needs h.0 w p e → (q : Plain) × Takes p e o q × BothSound after q
 both_move w p both e o after h needs =
     let moves = each_moves w p both.alike o after h.0 e needs h.2 in (
       moves.0,
@@ -44,27 +54,39 @@ both_move w p both e o after h needs =
     )
 
 -- What most events need holds.
-pub both_met : (w : World) (p : Plain) → BothSound w p → (choice : ℕ → ℕ) (e : Event) (o : Outcome) (after : World) → step choice w e ≡ Ok (o, after) → NeedsBothAlone w e → Needs choice w p e
+pub both_met : (w : World) (p : Plain) → BothSound w p → (choice : ℕ → ℕ) (e : Event) (o : Outcome) (after : World)
+    → step choice w e ≡ Ok (o, after) → NeedsBothAlone w e → Needs choice w p e
 both_met w p both choice (event.take k) o after stepped alone = λ r there. takes r there r.body refl (alone r there)
   where
-    takes : (r : Request) → slice_get w.requests k ≡ Some r → (body : RequestBody) → r.body ≡ body → ForgetsNothing body → CanTake w p k r body
+    takes : (r : Request) → slice_get w.requests k ≡ Some r → (body : RequestBody) → r.body ≡ body
+        → ForgetsNothing body → CanTake w p k r body
     takes r there (init flags) is none = tt
     takes r there (asks operation) is none = tt
     takes r there (release x) is none = tt
     takes r there (forget f) is none = absurd none
     takes r there (batch_forget fs) is none = absurd none
-    takes r there (interrupt original) is none = interrupt_noted w p both.world both.asked both.links both.alike k r original there is
+    takes r there (interrupt original) is none =
+        interrupt_noted w p both.world both.asked both.links both.alike k r original there is
 both_met w p both choice (event.perform unique) o after stepped alone = absurd alone
 both_met w p both choice (event.settle k) o after stepped alone = absurd alone
-both_met w p both choice (event.write k) o after stepped alone = write_met choice w p both.world both.asked both.links both.served both.alike k
-both_met w p both choice (event.evict node) o after stepped alone = evict_met choice w p both.world both.asked node o after stepped
-both_met w p both choice (event.mount f m v) o after stepped alone = needs_met w both.world choice p (event.mount f m v) tt
+both_met w p both choice (event.write k) o after stepped alone =
+    write_met choice w p both.world both.asked both.links both.served both.alike k
+both_met w p both choice (event.evict node) o after stepped alone =
+    evict_met choice w p both.world both.asked node o after stepped
+both_met w p both choice (event.mount f m v) o after stepped alone =
+    needs_met w both.world choice p (event.mount f m v) tt
 both_met w p both choice (event.call call) o after stepped alone = needs_met w both.world choice p (event.call call) tt
-both_met w p both choice event.read_interrupt o after stepped alone = needs_met w both.world choice p event.read_interrupt tt
-both_met w p both choice (event.read_forgets n) o after stepped alone = needs_met w both.world choice p (event.read_forgets n) tt
-both_met w p both choice (event.read_pending k) o after stepped alone = needs_met w both.world choice p (event.read_pending k) tt
-both_met w p both choice (event.again unique) o after stepped alone = needs_met w both.world choice p (event.again unique) tt
-both_met w p both choice (event.intr call fatal) o after stepped alone = needs_met w both.world choice p (event.intr call fatal) tt
+both_met w p both choice event.read_interrupt o after stepped alone =
+    needs_met w both.world choice p event.read_interrupt tt
+both_met w p both choice (event.read_forgets n) o after stepped alone =
+    needs_met w both.world choice p (event.read_forgets n) tt
+both_met w p both choice (event.read_pending k) o after stepped alone =
+    needs_met w both.world choice p (event.read_pending k) tt
+both_met w p both choice (event.again unique) o after stepped alone =
+    needs_met w both.world choice p (event.again unique) tt
+both_met w p both choice (event.intr call fatal) o after stepped alone =
+    needs_met w both.world choice p (event.intr call fatal) tt
 both_met w p both choice (event.tick ms) o after stepped alone = needs_met w both.world choice p (event.tick ms) tt
-both_met w p both choice (event.drop_name directory name) o after stepped alone = needs_met w both.world choice p (event.drop_name directory name) tt
+both_met w p both choice (event.drop_name directory name) o after stepped alone =
+    needs_met w both.world choice p (event.drop_name directory name) tt
 both_met w p both choice event.abort o after stepped alone = needs_met w both.world choice p event.abort tt

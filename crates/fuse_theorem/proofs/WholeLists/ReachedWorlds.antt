@@ -19,7 +19,8 @@ use Rattle.fuse_theorem.proofs.Refining.Settling.{left_was}
 pub first_reached : IsReached first_world
 first_reached = record { plain = first_plain; sound = first_all; answers = first_sound; few = omega arith }
 
-pub reached_next : (w : World) → IsReached w → (e : Event) (o : Outcome) (after : World) → Happens w e o after → IsReached after
+pub reached_next : (w : World) → IsReached w → (e : Event) (o : Outcome) (after : World) → Happens w e o after
+    → IsReached after
 reached_next w here e o after happens =
     let went = all_move w here.plain here.sound e o after happens in
     let stay = calls_stay w here.answers e o after happens in
@@ -31,10 +32,16 @@ reached_next w here e o after happens =
     }
 
 pub collected_reached : (w : World) → IsReached w → IsReached (collected w)
-collected_reached w here = record { plain = plain_collected here.plain; sound = collected_all w here.plain here.sound; answers = collected_sound w here.answers; few = here.few }
+collected_reached w here = record {
+  plain = plain_collected here.plain;
+  sound = collected_all w here.plain here.sound;
+  answers = collected_sound w here.answers;
+  few = here.few;
+}
 
 -- The answer of one call is collected.
-pub handed_out_reached : (w : World) (call : ℕ) → IsReached w → IsReached (with_answers w (remove w.kernel.vfs.answers call))
+pub handed_out_reached : (w : World) (call : ℕ) → IsReached w
+    → IsReached (with_answers w (remove w.kernel.vfs.answers call))
 handed_out_reached w call here =
     record {
       plain = plain_with_answers here.plain (remove w.kernel.vfs.answers call);
@@ -42,19 +49,22 @@ handed_out_reached w call here =
       answers = record {
         one = λ q a at. here.answers.one q a (left_was w.kernel.vfs.answers call q a at);
         calls_below = here.answers.calls_below;
-        answers_below = λ q le. none_left q (here.answers.answers_below q le) (get (remove w.kernel.vfs.answers call) q) refl;
+        answers_below = λ q le. none_left q (here.answers.answers_below q le)
+            (get (remove w.kernel.vfs.answers call) q) refl;
       };
       few = here.few;
     }
   where
-    none_left : (q : ℕ) → get w.kernel.vfs.answers q ≡ None → (o : Option Answer) → get (remove w.kernel.vfs.answers call) q ≡ o → o ≡ None
+    none_left : (q : ℕ) → get w.kernel.vfs.answers q ≡ None → (o : Option Answer)
+        → get (remove w.kernel.vfs.answers call) q ≡ o → o ≡ None
     none_left q none None at = refl
     none_left q none (Some a) at =
         let no : ◌≡◌ {A = Option Answer} None (Some a) = sym none ∙ left_was w.kernel.vfs.answers call q a at in
         absurd (cc no)
 
 -- An event that is no call leaves no more calls that are unanswered or have an answer that waits.
-pub none_more_waits : (w : World) → IsReached w → (e : Event) (o : Outcome) (after : World) → begins_call e ≡ false → Happens w e o after
+pub none_more_waits : (w : World) → IsReached w → (e : Event) (o : Outcome) (after : World) → begins_call e ≡ false
+    → Happens w e o after
     → length after.kernel.vfs.answers + length after.kernel.vfs.calls ≤ length w.kernel.vfs.answers + length w.kernel.vfs.calls
 none_more_waits w here e o after no_call happens =
     let went = all_move w here.plain here.sound e o after happens in

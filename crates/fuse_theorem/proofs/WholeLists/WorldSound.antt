@@ -17,10 +17,16 @@ use Rattle.fuse_theorem.proofs.Nodes.ServerSound.{one_id}
 use Rattle.fuse_theorem.proofs.Requests.StandsOnce.{unread_unsent}
 
 pub first_world_sound : WorldSound first_world
-first_world_sound = record { rooted = record { root = refl; answers = tt }; queues = empty_sound; lookups = first_lookups; requests = first_requests }
+first_world_sound = record {
+  rooted = record { root = refl; answers = tt };
+  queues = empty_sound;
+  lookups = first_lookups;
+  requests = first_requests;
+}
 
 -- Worlds stay sound, whatever the event.
-pub worlds_stay : (w : World) → WorldSound w → (e : Event) (o : Outcome) (after : World) → Happens w e o after → WorldSound after
+pub worlds_stay : (w : World) → WorldSound w → (e : Event) (o : Outcome) (after : World) → Happens w e o after
+    → WorldSound after
 worlds_stay w s e o after h =
     let lookups = s.lookups in
     record {
@@ -31,18 +37,25 @@ worlds_stay w s e o after h =
     }
 
 -- What these events need of a sound world holds.
-pub needs_met : (w : World) → WorldSound w → (choice : ℕ → ℕ) (p : Plain) (e : Event) → NeedsNoMore e → Needs choice w p e
+pub needs_met : (w : World) → WorldSound w → (choice : ℕ → ℕ) (p : Plain) (e : Event) → NeedsNoMore e
+    → Needs choice w p e
 needs_met w s choice p e no_more = by e no_more
   where
     by : (x : Event) → NeedsNoMore x → Needs choice w p x
     by (event.mount f m v) _ = s.rooted
-    by (event.call call) _ = let lookups = s.lookups in let server = lookups.server in (lookups.numbers, one_to_one w.kernel.nodes w.server.nodes (one_id w.server.nodes server.nodes))
+    by (event.call call) _ = let lookups = s.lookups in let server =
+        lookups.server in (
+          lookups.numbers,
+          one_to_one w.kernel.nodes w.server.nodes
+              (one_id w.server.nodes server.nodes),
+        )
     by event.read_interrupt _ = s.queues
     by (event.read_forgets n) _ = s.queues
     by (event.read_pending k) _ = s.queues
     by (event.take k) never = absurd never
     by (event.perform unique) never = absurd never
-    by (event.again unique) _ = let lookups = s.lookups in let server = lookups.server in (one_id w.server.nodes server.nodes, known_held w s.lookups)
+    by (event.again unique) _ = let lookups = s.lookups in let server =
+        lookups.server in (one_id w.server.nodes server.nodes, known_held w s.lookups)
     by (event.write k) never = absurd never
     by (event.settle k) never = absurd never
     by (event.intr call fatal) _ =
@@ -51,6 +64,7 @@ needs_met w s choice p e no_more = by e no_more
         let requests = s.requests in
         (lookups.numbers, (one_id w.server.nodes server.nodes, unread_unsent w requests.once s.queues))
     by (event.tick ms) _ = tt
-    by (event.drop_name directory name) _ = let lookups = s.lookups in let server = lookups.server in one_to_one w.kernel.nodes w.server.nodes (one_id w.server.nodes server.nodes)
+    by (event.drop_name directory name) _ = let lookups = s.lookups in let server =
+        lookups.server in one_to_one w.kernel.nodes w.server.nodes (one_id w.server.nodes server.nodes)
     by (event.evict node) never = absurd never
     by event.abort _ = s.rooted

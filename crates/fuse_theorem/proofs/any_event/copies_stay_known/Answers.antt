@@ -6,4 +6,5 @@ pub returns-clause-at_first : goal.returns-clause-at_first
 returns-clause-at_first g = first_copies
 
 pub returns-clause-always : goal.returns-clause-always
-returns-clause-always g = λ choice w sound server o after e stepped. copies_stay w sound server choice e o after (happened choice w o after e stepped)
+returns-clause-always g = λ choice w sound server o after e stepped. copies_stay w sound server choice e o after
+    (happened choice w o after e stepped)

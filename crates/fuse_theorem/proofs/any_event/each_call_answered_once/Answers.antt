@@ -17,4 +17,5 @@ pub returns-clause-once : goal.returns-clause-once
 returns-clause-once g = λ w rooted sound events records after recorded. answers_once w rooted sound events records after recorded
 
 pub returns-clause-from_first : goal.returns-clause-from_first
-returns-clause-from_first g = λ events records after recorded. answers_once first_world (record { root = refl; answers = tt }) first_sound events records after recorded
+returns-clause-from_first g = λ events records after recorded. answers_once first_world
+    (record { root = refl; answers = tt }) first_sound events records after recorded

@@ -2,4 +2,9 @@ use Rattle.fuse_theorem.proofs.Requests.AfterMount.{mounted_numbered, mounted_on
 use Rattle.fuse_theorem.proofs.any_event.mounted_is_sound.Goals as goal
 
 pub returns : goal.returns
-returns g = λ w found_ms missing_ms minor. (mounted_numbered w found_ms missing_ms minor, mounted_one_id w found_ms missing_ms minor, mounted_known w found_ms missing_ms minor, mounted_tables w found_ms missing_ms minor)
+returns g = λ w found_ms missing_ms minor. (
+  mounted_numbered w found_ms missing_ms minor,
+  mounted_one_id w found_ms missing_ms minor,
+  mounted_known w found_ms missing_ms minor,
+  mounted_tables w found_ms missing_ms minor,
+)

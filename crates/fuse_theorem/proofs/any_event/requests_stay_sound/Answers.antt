@@ -6,7 +6,8 @@ pub returns-clause-at_first : goal.returns-clause-at_first
 returns-clause-at_first g = first_requests
 
 pub returns-clause-always : goal.returns-clause-always
-returns-clause-always g = λ choice w sound numbered o after e stepped. requests_stay choice w sound numbered e o after stepped
+returns-clause-always g =
+    λ choice w sound numbered o after e stepped. requests_stay choice w sound numbered e o after stepped
 
 pub returns-clause-unread : goal.returns-clause-unread
 returns-clause-unread g = λ w once sound. unread_unsent w once sound

@@ -17,7 +17,9 @@ pub returns : goal.returns
 returns g = (
   record { root = refl; answers = tt },
   last,
-  one_accepted with_an_early_answer (event.tick 1) (event.now 1) (after_tick with_an_early_answer 1) (event.abort ∷ []) (outcome event.aborted ∷ answered 1 (failed 103) ∷ []) last (λ file. file, tt, refl)
-      (one_accepted later event.abort event.aborted (after_abort later) [] [] last (λ file. file, tt, refl) (none_left last)),
+  one_accepted with_an_early_answer (event.tick 1) (event.now 1) (after_tick with_an_early_answer 1) (event.abort ∷ [])
+      (outcome event.aborted ∷ answered 1 (failed 103) ∷ []) last (λ file. file, tt, refl)
+      (one_accepted later event.abort event.aborted (after_abort later) [] [] last (λ file. file, tt, refl)
+      (none_left last)),
   λ once. once 1 3 (outcome event.mounted) (omega arith) (omega arith) refl,
 )

@@ -26,24 +26,33 @@ held = record { body = asks (lookup 1 (97 ∷ [])); generations = (1, 0) ∷ [];
 is_free : (id : ℕ) → MayName with_no_generation.server.nodes 1 id → get with_no_generation.server.nodes.rows id ≡ None
 is_free id may = by (get with_no_generation.server.nodes.rows id) refl may
   where
-    by : (o : Option HeldNode) → get with_no_generation.server.nodes.rows id ≡ o → MatchOption o ((2 ≤ id) × IsUnheld with_no_generation.server.nodes 1) (λ row. row.file ≡ 1) → get with_no_generation.server.nodes.rows id ≡ None
+    by : (o : Option HeldNode) → get with_no_generation.server.nodes.rows id ≡ o
+        → MatchOption o ((2 ≤ id) × IsUnheld with_no_generation.server.nodes 1) (λ row. row.file ≡ 1)
+        → get with_no_generation.server.nodes.rows id ≡ None
     by None is h = is
-    by (Some row) is h = let one = only 2 other id row is in let file : 5 ≡ 1 = ap (λ (r : HeldNode). r.file) one.1 ∙ h in absurd (omega (arith, file))
+    by (Some row) is h = let one = only 2 other id row is in let file : 5 ≡ 1 =
+        ap (λ (r : HeldNode). r.file) one.1 ∙ h in absurd (omega (arith, file))
 
 fifth : (e r : Bool) → e ≡ true → (false || (false || (false || (false || (e || r))))) ≡ true
 fifth true r is = refl
 fifth false r is = absurd (cc (is))
 
-past : (choice : ℕ → ℕ) → MayName with_no_generation.server.nodes 1 (choice 1) → is_past (after_perform with_no_generation 2 (served choice with_no_generation.server 2 held)) ≡ true
+past : (choice : ℕ → ℕ) → MayName with_no_generation.server.nodes 1 (choice 1)
+    → is_past (after_perform with_no_generation 2 (served choice with_no_generation.server 2 held)) ≡ true
 past choice may =
-    let draws : generation_after with_no_generation.server.nodes (get with_no_generation.server.nodes.rows (choice 1)) ≡ counter_end + 1 = ap (generation_after with_no_generation.server.nodes) (is_free (choice 1) may) in
-    fifth (nat_lt counter_end (generation_after with_no_generation.server.nodes (get with_no_generation.server.nodes.rows (choice 1)))) _ (ap (nat_lt counter_end) draws)
+    let draws : generation_after with_no_generation.server.nodes (get with_no_generation.server.nodes.rows (choice 1))
+    ≡ counter_end + 1 = ap (generation_after with_no_generation.server.nodes) (is_free (choice 1) may) in
+    fifth (nat_lt counter_end (generation_after with_no_generation.server.nodes
+    (get with_no_generation.server.nodes.rows (choice 1)))) _ (ap (nat_lt counter_end) draws)
 
 pub returns : goal.returns
 returns g = (
   λ choice may.
       let did : PerformResult = served choice with_no_generation.server 2 held in
-      ap (λ (b : Bool). cond {A = Stepped} b (Err Exhausted) (Ok (event.performed 2 (errno_of did.wire) false, after_perform with_no_generation 2 did))) (past choice may.0),
+      ap (λ (b : Bool). cond {A = Stepped} b (Err Exhausted)
+      (Ok (event.performed 2 (errno_of did.wire) false, after_perform with_no_generation 2 did)))
+      (past choice may.0),
   λ file. 2,
-  λ refuses. let no : step (λ file. 2) with_no_generation (event.perform 2) ≡ Err Exhausted = also_refused (λ file. 2) with_no_generation (event.perform 2) Exhausted refuses in cc (no),
+  λ refuses. let no : step (λ file. 2) with_no_generation (event.perform 2) ≡ Err Exhausted =
+      also_refused (λ file. 2) with_no_generation (event.perform 2) Exhausted refuses in cc (no),
 )

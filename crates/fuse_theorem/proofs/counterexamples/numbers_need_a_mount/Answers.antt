@@ -6,5 +6,6 @@ pub returns : goal.returns
 returns g = (
   record { live = λ live. absurd (true≢false (sym live)); idle = λ dead. refl },
   (λ file. file, tt, refl),
-  λ numbered. let below = numbered.replies_below 0 (record { number = 1; unique = 2; wire = done }) (omega arith) in omega (arith, below),
+  λ numbered. let below = numbered.replies_below 0 (record { number = 1; unique = 2; wire = done }) (omega arith) in
+      omega (arith, below),
 )

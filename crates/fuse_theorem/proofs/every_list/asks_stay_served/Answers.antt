@@ -9,4 +9,5 @@ pub returns-clause-always : goal.returns-clause-always
 returns-clause-always g = λ p old e o q takes. asks_stay_served p old e o q takes
 
 pub returns-clause-write : goal.returns-clause-write
-returns-clause-write g = λ w p sound asked links served same choice k. write_met choice w p sound asked links served same k
+returns-clause-write g =
+    λ w p sound asked links served same choice k. write_met choice w p sound asked links served same k

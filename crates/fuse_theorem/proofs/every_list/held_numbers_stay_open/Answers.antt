@@ -6,7 +6,9 @@ pub returns-clause-at_first : goal.returns-clause-at_first
 returns-clause-at_first g = first_numbers_open
 
 pub returns-clause-always : goal.returns-clause-always
-returns-clause-always g = λ w sound asked links live_open old e o after happens. held_numbers_stay_open w sound asked links live_open old e o after happens
+returns-clause-always g =
+    λ w sound asked links live_open old e o after happens. held_numbers_stay_open w sound asked links live_open old e o after happens
 
 pub returns-clause-balanced : goal.returns-clause-balanced
-returns-clause-balanced g = λ w p same requests live balance of_releases of_calls. balanced_open w p same requests live balance of_releases of_calls
+returns-clause-balanced g =
+    λ w p same requests live balance of_releases of_calls. balanced_open w p same requests live balance of_releases of_calls

@@ -9,4 +9,5 @@ pub returns-clause-always : goal.returns-clause-always
 returns-clause-always g = λ w sound asked links e o after happens. links_stay w sound asked links e o after happens
 
 pub returns-clause-interrupt : goal.returns-clause-interrupt
-returns-clause-interrupt g = λ w p sound asked links same k r original there body_is. interrupt_noted w p sound asked links same k r original there body_is
+returns-clause-interrupt g =
+    λ w p sound asked links same k r original there body_is. interrupt_noted w p sound asked links same k r original there body_is

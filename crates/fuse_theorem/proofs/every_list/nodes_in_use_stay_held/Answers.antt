@@ -8,4 +8,5 @@ pub returns-clause-take : goal.returns-clause-take
 returns-clause-take g = λ w p both releases choice k o after stepped. take_met w p both releases choice k o after stepped
 
 pub returns-clause-settle : goal.returns-clause-settle
-returns-clause-settle g = λ w p both releases k result copy there known. (one_node_a_file w p both releases, settle_holds w p both releases k result copy there known)
+returns-clause-settle g = λ w p both releases k result copy there known.
+    (one_node_a_file w p both releases, settle_holds w p both releases k result copy there known)

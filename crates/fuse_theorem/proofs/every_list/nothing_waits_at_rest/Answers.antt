@@ -6,7 +6,8 @@ pub returns-clause-at_first : goal.returns-clause-at_first
 returns-clause-at_first g = first_on_their_way
 
 pub returns-clause-always : goal.returns-clause-always
-returns-clause-always g = λ w sound links old e o after happens. read_stay_on_their_way w sound links old e o after happens
+returns-clause-always g =
+    λ w sound links old e o after happens. read_stay_on_their_way w sound links old e o after happens
 
 pub returns-clause-processing : goal.returns-clause-processing
 returns-clause-processing g = λ w sound way rest. none_processing w sound way rest

@@ -5,7 +5,8 @@ pub returns-clause-at_first : goal.returns-clause-at_first
 returns-clause-at_first g = first_once
 
 pub returns-clause-always : goal.returns-clause-always
-returns-clause-always g = λ w p both releases opens old e o after happens. once_stays w p both releases opens old e o after happens
+returns-clause-always g =
+    λ w p both releases opens old e o after happens. once_stays w p both releases opens old e o after happens
 
 pub returns-clause-at_rest : goal.returns-clause-at_rest
 returns-clause-at_rest g = λ w opens old rest fh. once_at_rest w opens old rest fh

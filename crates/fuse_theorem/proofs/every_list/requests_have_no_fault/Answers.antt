@@ -6,7 +6,8 @@ pub returns-clause-at_first : goal.returns-clause-at_first
 returns-clause-at_first g = first_faultless
 
 pub returns-clause-always : goal.returns-clause-always
-returns-clause-always g = λ w sound asked links old e o after happens. faultless_stay w sound asked links old e o after happens
+returns-clause-always g =
+    λ w sound asked links old e o after happens. faultless_stay w sound asked links old e o after happens
 
 pub returns-clause-no_fault : goal.returns-clause-no_fault
 returns-clause-no_fault g = λ w p both releases faultless. no_fault w p both releases faultless

@@ -9,4 +9,5 @@ pub returns-clause-always : goal.returns-clause-always
 returns-clause-always g = λ w sound old e o after happens. requests_stay_asked w sound old e o after happens
 
 pub returns-clause-evict : goal.returns-clause-evict
-returns-clause-evict g = λ w sound old choice p node o after stepped. evict_met choice w p sound old node o after stepped
+returns-clause-evict g =
+    λ w sound old choice p node o after stepped. evict_met choice w p sound old node o after stepped

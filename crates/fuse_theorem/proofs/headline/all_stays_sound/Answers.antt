@@ -6,7 +6,8 @@ pub returns-clause-at_first : goal.returns-clause-at_first
 returns-clause-at_first g = first_all
 
 pub returns-clause-always : goal.returns-clause-always
-returns-clause-always g = λ w p all e o after happens. let went = all_move w p all e o after happens in (went.0, went.1, went.2.both.alike, went.2)
+returns-clause-always g = λ w p all e o after happens. let went =
+    all_move w p all e o after happens in (went.0, went.1, went.2.both.alike, went.2)
 
 pub returns-clause-collecting : goal.returns-clause-collecting
 returns-clause-collecting g = λ w p all. collected_all w p all
