@@ -7,7 +7,8 @@ use Rattle.fk_wire.proofs.Frames.{spells_reply}
 use Rattle.callers.specs.Answered.{Answers, replied}
 
 -- What is known and there is some kind.
-pub kind_there : {K : Type 0} (b : Bool) (x : Option K) → IsTrue b → is_some x ≡ true → (k : K) × ((if b then x else None) ≡ Some k)
+pub kind_there : {K : Type 0} (b : Bool) (x : Option K) → IsTrue b → is_some x ≡ true
+    → (k : K) × ((if b then x else None) ≡ Some k)
 kind_there true (Some k) known replies = (k, refl)
 kind_there true None known replies = absurd (true≢false (sym replies))
 kind_there false x known replies = absurd (true≢false (sym known))
@@ -17,7 +18,10 @@ none_there None none = refl
 none_there (Some k) none = absurd (true≢false (sym none))
 
 -- A reply that goes with the request, written behind the old bytes, answers it.
-pub answered_by : (frame old new : List ℕ) (request : RequestMessage) (reply : ReplyMessage) → Spells frame request → reply.unique ≡ request.unique
-    → GoesWith served (opcode_of request.content) reply → ((bytes : List ℕ) × WrittenReply reply bytes × (new ≡ old ++ bytes)) → Answers frame old new
+pub answered_by : (frame old new : List ℕ) (request : RequestMessage) (reply : ReplyMessage) → Spells frame request
+    → reply.unique ≡ request.unique
+    → GoesWith served (opcode_of request.content) reply
+    → ((bytes : List ℕ) × WrittenReply reply bytes × (new ≡ old ++ bytes)) → Answers frame old new
 answered_by frame old new request reply spells under goes (bytes, written, appended) =
-    replied request spells reply under bytes (spells_reply served (opcode_of request.content) reply bytes goes written) appended
+    replied request spells reply under bytes (spells_reply served
+    (opcode_of request.content) reply bytes goes written) appended

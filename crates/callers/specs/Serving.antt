@@ -14,11 +14,14 @@ use Rattle.fs_server.specs.Effects.{RefusesFrame}
 use Rattle.callers.specs.declared.virtual_machine.Served.{Served as Came}
 use Rattle.callers.specs.declared.virtual_machine.Served.TheVariants.{Replied, NoReply, NoRoom, Waits, Refused}
 
--- What the server replies to a request that it takes: at once, to an INTERRUPT, or by performing it, with some choice of free nodeids.
+-- What the server replies to a request that it takes: at once, to an INTERRUPT, or by performing it, with some choice
+-- of free nodeids.
 pub data RepliesTo (old : Server) (request : Request) (wire : WireReply) : Type 0 where
   at_once : (taking old request.unique request.body).reply ≡ Some wire → RepliesTo old request wire
-  performed : (taken : Server) → taken ≡ (taking old request.unique request.body).server → (held : HeldRequest) → get taken.held request.unique ≡ Some held
-      → (choice : ℕ → ℕ) → MayChoose choice taken.nodes (files_given taken held) → wire ≡ (served choice taken request.unique held).wire → RepliesTo old request wire
+  performed : (taken : Server) → taken ≡ (taking old request.unique request.body).server → (held : HeldRequest)
+      → get taken.held request.unique ≡ Some held
+      → (choice : ℕ → ℕ) → MayChoose choice taken.nodes (files_given taken held)
+      → wire ≡ (served choice taken request.unique held).wire → RepliesTo old request wire
 
 -- The bytes that are appended spell the reply to the request that the frame spells, under its number.
 pub record Serves (old : Server) (frame before after : List ℕ) : Type 0 where
@@ -33,7 +36,8 @@ pub record Serves (old : Server) (frame before after : List ℕ) : Type 0 where
 
 -- A copy of a reply is handed over: the bytes that are appended spell it, under its number; or nothing is appended.
 abbrev pub IsDelivered : Sent → List ℕ → Came → List ℕ → Type 0
-IsDelivered copy before Replied after = (opcode : Opcode) × (reply : List ℕ) × SaysReply opcode reply copy.unique copy.wire × (after ≡ before ++ reply)
+IsDelivered copy before Replied after = (opcode : Opcode) × (reply : List ℕ)
+    × SaysReply opcode reply copy.unique copy.wire × (after ≡ before ++ reply)
 IsDelivered copy before NoRoom after = after ≡ before
 IsDelivered copy before came after = ⊥
 

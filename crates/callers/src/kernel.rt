@@ -1,4 +1,5 @@
-//! A kernel that hands system calls to a server: it mounts, begins calls, reads their requests and writes what the server replies.
+//! A kernel that hands system calls to a server: it mounts, begins calls, reads their requests and writes what the
+//! server replies.
 
 ghost use Rattle.std.specs.Prelude.{◌≡◌, ◌≢◌, [], None, OnOk, IfOk};
 ghost use Rattle.fuse_spec.specs.Kernel.Kernel.{call_put};
@@ -33,14 +34,17 @@ pub fn ask<A: Allocator + Copy>(
     kernel.read_pending(0)
 }
 
-/// Writes the bytes of a reply, which may be any, and gives the call that is answered by it, where no answer waited before.
+/// Writes the bytes of a reply, which may be any, and gives the call that is answered by it, where no answer waited
+/// before.
 pub fn reply<A: Allocator + Copy>(
     kernel: &mut Kernel<A>,
     bytes: &[u8],
 ) -> Result<Option<(u64, Answer<A>)>, Refusal>
     // Bytes that are no reply, or one that nothing awaits, answer no call and change nothing.
-    ensures headless { kernel.old.vfs.answers ≡ [] → (HasReplyHead bytes.now → ⊥) → (result ≡ Ok None) × (kernel.new ≡ kernel.old) }
-    ensures unawaited { kernel.old.vfs.answers ≡ [] → HasReplyHead bytes.now → awaited kernel.old (head_unique bytes.now) ≡ nothing → (result ≡ Ok None) × (kernel.new ≡ kernel.old) }
+    ensures headless { kernel.old.vfs.answers ≡ [] → (HasReplyHead bytes.now → ⊥)
+        → (result ≡ Ok None) × (kernel.new ≡ kernel.old) }
+    ensures unawaited { kernel.old.vfs.answers ≡ [] → HasReplyHead bytes.now
+        → awaited kernel.old (head_unique bytes.now) ≡ nothing → (result ≡ Ok None) × (kernel.new ≡ kernel.old) }
 {
     kernel.write(bytes)?;
     Ok(kernel.collect())

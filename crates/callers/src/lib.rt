@@ -1,4 +1,5 @@
-//! Three callers, each in a short file, as an author of a FUSE server, of a virtual machine host and of a kernel may write them.
+//! Three callers, each in a short file, as an author of a FUSE server, of a virtual machine host and of a kernel may
+//! write them.
 #![tactic(auto)]
 
 mod kernel;

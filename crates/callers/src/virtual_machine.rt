@@ -1,4 +1,5 @@
-//! A virtual machine host that serves a guest's requests: they are taken, performed, and settled as their replies are handed over.
+//! A virtual machine host that serves a guest's requests: they are taken, performed, and settled as their replies are
+//! handed over.
 
 ghost use Rattle.callers.specs.Serving.{IsDelivered, IsServed};
 

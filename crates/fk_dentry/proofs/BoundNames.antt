@@ -29,87 +29,115 @@ below-names x ((place, Some binding) ∷ slots) h = both _ _ (both_first _ _ h) 
 pub sorted_names : (slots : Slots) → T (is_sorted place_cmp slots) → T (is_sorted place_cmp (names_in slots))
 sorted_names [] h = tt
 sorted_names ((place, None) ∷ slots) h = sorted_names slots (both_second _ _ h)
-sorted_names ((place, Some binding) ∷ slots) h = both _ _ (below-names place slots (both_first _ _ h)) (sorted_names slots (both_second _ _ h))
+sorted_names ((place, Some binding) ∷ slots) h =
+    both _ _ (below-names place slots (both_first _ _ h)) (sorted_names slots (both_second _ _ h))
 
 equal : (r : Ordering) → is_eq r ≡ true → r ≡ Equal
 equal Less e = absurd (subst T (sym e) tt)
 equal Equal e = refl
 equal Greater e = absurd (subst T (sym e) tt)
 
-pub get-names : (slots : Slots) → T (is_sorted place_cmp slots) → (q : Place) → get_name (names_in slots) q ≡ bound_in (get_name slots q)
+pub get-names : (slots : Slots) → T (is_sorted place_cmp slots) → (q : Place)
+    → get_name (names_in slots) q ≡ bound_in (get_name slots q)
 get-names [] h q = refl
 get-names ((place, None) ∷ slots) h q =
-    elim (eq_by_cmp place_cmp q place) as (λ t. eq_by_cmp place_cmp q place ≡ t → get_name (names_in slots) q ≡ bound_in (cond t (Some None) (get_name slots q))) [
-      | true ↦ λ t. get-names slots (both_second _ _ h) q ∙ ap bound_in (none_below place_cmp place_total q slots (tied_all place_cmp place_total q place slots (equal _ t) (both_first _ _ h)))
+    elim (eq_by_cmp place_cmp q place) as (λ t. eq_by_cmp place_cmp q place ≡ t
+    → get_name (names_in slots) q ≡ bound_in (cond t (Some None) (get_name slots q))) [
+      | true ↦ λ t. get-names slots (both_second _ _ h) q ∙ ap bound_in
+          (none_below place_cmp place_total q slots (tied_all place_cmp place_total q place slots (equal _ t)
+          (both_first _ _ h)))
       | false ↦ λ t. get-names slots (both_second _ _ h) q
     ] refl
 get-names ((place, Some binding) ∷ slots) h q =
-    elim (eq_by_cmp place_cmp q place) as (λ t. cond t (Some binding) (get_name (names_in slots) q) ≡ bound_in (cond t (Some (Some binding)) (get_name slots q))) [
+    elim (eq_by_cmp place_cmp q place) as (λ t. cond t (Some binding) (get_name (names_in slots) q)
+    ≡ bound_in (cond t (Some (Some binding)) (get_name slots q))) [
       | true ↦ refl
       | false ↦ get-names slots (both_second _ _ h) q
     ]
 
-alike : (slots : Slots) (names : NameMap Binding) → T (is_sorted place_cmp slots) → T (is_sorted place_cmp names) → ((q : Place) → bound_in (get_name slots q) ≡ get_name names q) → names_in slots ≡ names
-alike slots names h g is = same_entries place_cmp place_total place_same (names_in slots) names (sorted_names slots h) g (λ q. get-names slots h q ∙ is q)
+alike : (slots : Slots) (names : NameMap Binding) → T (is_sorted place_cmp slots) → T (is_sorted place_cmp names)
+    → ((q : Place) → bound_in (get_name slots q) ≡ get_name names q) → names_in slots ≡ names
+alike slots names h g is = same_entries place_cmp place_total place_same (names_in slots) names
+    (sorted_names slots h) g (λ q. get-names slots h q ∙ is q)
 
-pub sorted-put : (slots : Slots) (place : Place) (slot : Option Binding) → T (is_sorted place_cmp slots) → T (is_sorted place_cmp (put_name slots place slot))
+pub sorted-put : (slots : Slots) (place : Place) (slot : Option Binding) → T (is_sorted place_cmp slots)
+    → T (is_sorted place_cmp (put_name slots place slot))
 sorted-put slots place slot h = is_sorted-put place_cmp place_total place slot slots h
 
-pub sorted-remove : (slots : Slots) (place : Place) → T (is_sorted place_cmp slots) → T (is_sorted place_cmp (remove_name slots place))
+pub sorted-remove : (slots : Slots) (place : Place) → T (is_sorted place_cmp slots)
+    → T (is_sorted place_cmp (remove_name slots place))
 sorted-remove slots place h = is_sorted-where_key place_cmp (λ other. not (eq_by_cmp place_cmp place other)) slots h
 
 -- a name is bound
-pub names-put : (slots : Slots) (place : Place) (binding : Binding) → T (is_sorted place_cmp slots) → names_in (put_name slots place (Some binding)) ≡ put_name (names_in slots) place binding
-names-put slots place binding h = alike _ _ (sorted-put slots place (Some binding) h) (is_sorted-put place_cmp place_total place binding (names_in slots) (sorted_names slots h)) (λ q.
-    ap bound_in (find-put place_cmp place_total q place (Some binding) slots) ∙ by (eq_by_cmp place_cmp q place) q ∙ ap (cond (eq_by_cmp place_cmp q place) (Some binding)) (sym (get-names slots h q))
+pub names-put : (slots : Slots) (place : Place) (binding : Binding) → T (is_sorted place_cmp slots)
+    → names_in (put_name slots place (Some binding)) ≡ put_name (names_in slots) place binding
+names-put slots place binding h = alike _ _ (sorted-put slots place (Some binding) h)
+    (is_sorted-put place_cmp place_total place binding (names_in slots) (sorted_names slots h)) (λ q.
+    ap bound_in (find-put place_cmp place_total q place (Some binding) slots) ∙ by (eq_by_cmp place_cmp q place) q ∙ ap
+    (cond (eq_by_cmp place_cmp q place) (Some binding)) (sym (get-names slots h q))
     ∙ sym (find-put place_cmp place_total q place binding (names_in slots)))
   where
-    by : (b : Bool) (q : Place) → bound_in (cond b (Some (Some binding)) (get_name slots q)) ≡ cond b (Some binding) (bound_in (get_name slots q))
+    by : (b : Bool) (q : Place) → bound_in (cond b (Some (Some binding)) (get_name slots q))
+        ≡ cond b (Some binding) (bound_in (get_name slots q))
     by true q = refl
     by false q = refl
 
 -- a name gets room
-pub names-room : (slots : Slots) (place : Place) → T (is_sorted place_cmp slots) → get_name slots place ≡ None → names_in (put_name slots place None) ≡ names_in slots
+pub names-room : (slots : Slots) (place : Place) → T (is_sorted place_cmp slots) → get_name slots place ≡ None
+    → names_in (put_name slots place None) ≡ names_in slots
 names-room slots place h none = alike _ _ (sorted-put slots place None h) (sorted_names slots h) (λ q.
-    ap bound_in (find-put place_cmp place_total q place None slots) ∙ at q (eq_by_cmp place_cmp q place) refl ∙ sym (get-names slots h q))
+    ap bound_in (find-put place_cmp place_total q place None slots) ∙ at q (eq_by_cmp place_cmp q place) refl ∙ sym
+    (get-names slots h q))
   where
-    at : (q : Place) (b : Bool) → eq_by_cmp place_cmp q place ≡ b → bound_in (cond b (Some None) (get_name slots q)) ≡ bound_in (get_name slots q)
+    at : (q : Place) (b : Bool) → eq_by_cmp place_cmp q place ≡ b
+        → bound_in (cond b (Some None) (get_name slots q)) ≡ bound_in (get_name slots q)
     at q true t = sym (ap bound_in (ap (get_name slots) (place_same q place (equal _ t)) ∙ none))
     at q false t = refl
 
 -- a name is removed
-pub names-remove : (slots : Slots) (place : Place) → names_in (remove_name slots place) ≡ remove_name (names_in slots) place
+pub names-remove : (slots : Slots) (place : Place)
+    → names_in (remove_name slots place) ≡ remove_name (names_in slots) place
 names-remove [] place = refl
 names-remove ((key, None) ∷ slots) place =
-    elim (eq_by_cmp place_cmp place key) as (λ b. names_in (cond (not b) ((key, None) ∷ remove_name slots place) (remove_name slots place)) ≡ remove_name (names_in slots) place) [
+    elim (eq_by_cmp place_cmp place key) as (λ b. names_in
+    (cond (not b) ((key, None) ∷ remove_name slots place) (remove_name slots place))
+    ≡ remove_name (names_in slots) place) [
       | true ↦ names-remove slots place
       | false ↦ names-remove slots place
     ]
 names-remove ((key, Some binding) ∷ slots) place =
-    elim (eq_by_cmp place_cmp place key) as (λ b. names_in (cond (not b) ((key, Some binding) ∷ remove_name slots place) (remove_name slots place)) ≡ cond (not b) ((key, binding) ∷ remove_name (names_in slots) place) (remove_name (names_in slots) place)) [
+    elim (eq_by_cmp place_cmp place key) as (λ b. names_in
+    (cond (not b) ((key, Some binding) ∷ remove_name slots place) (remove_name slots place))
+    ≡ cond (not b) ((key, binding) ∷ remove_name (names_in slots) place) (remove_name (names_in slots) place)) [
       | true ↦ names-remove slots place
       | false ↦ ap (λ names. (key, binding) ∷ names) (names-remove slots place)
     ]
 
 -- ---- room
 
-pub room-put : (slots : Slots) (place : Place) (slot : Option Binding) (other : Place) → IsSome (get_name slots other) → IsSome (get_name (put_name slots place slot) other)
-room-put slots place slot other some = ap is_some (find-put place_cmp place_total other place slot slots) ∙ by (eq_by_cmp place_cmp other place)
+pub room-put : (slots : Slots) (place : Place) (slot : Option Binding) (other : Place) → IsSome (get_name slots other)
+    → IsSome (get_name (put_name slots place slot) other)
+room-put slots place slot other some = ap is_some (find-put place_cmp place_total other place slot slots) ∙ by
+    (eq_by_cmp place_cmp other place)
   where
     by : (b : Bool) → is_some (cond b (Some slot) (get_name slots other)) ≡ true
     by true = refl
     by false = some
 
-pub room_there : (slots : Slots) (place : Place) (slot : Option Binding) → IsSome (get_name (put_name slots place slot) place)
-room_there slots place slot = ap is_some (find-put place_cmp place_total place place slot slots) ∙ by (eq_by_cmp place_cmp place place) refl
+pub room_there : (slots : Slots) (place : Place) (slot : Option Binding)
+    → IsSome (get_name (put_name slots place slot) place)
+room_there slots place slot = ap is_some (find-put place_cmp place_total place place slot slots) ∙ by
+    (eq_by_cmp place_cmp place place) refl
   where
     by : (b : Bool) → eq_by_cmp place_cmp place place ≡ b → is_some (cond b (Some slot) (get_name slots place)) ≡ true
     by true t = refl
     by false t = absurd (subst T (sym (ap is_eq (tied_itself place_total place)) ∙ t) tt)
 
-pub room-remove : (slots : Slots) (place other : Place) → other ≢ place → IsSome (get_name slots other) → IsSome (get_name (remove_name slots place) other)
+pub room-remove : (slots : Slots) (place other : Place) → other ≢ place → IsSome (get_name slots other)
+    → IsSome (get_name (remove_name slots place) other)
 room-remove slots place other ne some =
-    ap is_some (find-where_key place_cmp (λ p. not (eq_by_cmp place_cmp place p)) other (λ p t. ap (λ x. not (eq_by_cmp place_cmp place x)) (sym (place_same other p t))) slots
+    ap is_some (find-where_key place_cmp (λ p. not (eq_by_cmp place_cmp place p)) other
+    (λ p t. ap (λ x. not (eq_by_cmp place_cmp place x)) (sym (place_same other p t))) slots
     ∙ ap (λ b. cond (not b) (get_name slots other) None) (apart_places place other (λ e. ne (sym e)))) ∙ some
 
 -- ---- the nodes that the names name
@@ -136,11 +164,14 @@ or_false true = refl
 or_false false = refl
 
 first_or : (id x : ℕ) (ids : List ℕ) → nat_lt 0 (times id (x ∷ ids)) ≡ (nat_eq x id || nat_lt 0 (times id ids))
-first_or id x ids = ap (nat_lt 0) (times_cons id x ids) ∙ more_or (cond (nat_eq id x) 1 0) (times id ids) ∙ ap (λ b. b || nat_lt 0 (times id ids)) (one_is id x)
+first_or id x ids = ap (nat_lt 0) (times_cons id x ids) ∙ more_or (cond (nat_eq id x) 1 0) (times id ids) ∙ ap
+    (λ b. b || nat_lt 0 (times id ids)) (one_is id x)
 
-pub named_or : (id directory : ℕ) (target : Option ℕ) → nat_lt 0 (times id (named directory target)) ≡ (nat_eq directory id || leads_to id target)
+pub named_or : (id directory : ℕ) (target : Option ℕ)
+    → nat_lt 0 (times id (named directory target)) ≡ (nat_eq directory id || leads_to id target)
 named_or id directory None = first_or id directory []
-named_or id directory (Some target) = first_or id directory (target ∷ []) ∙ ap (λ b. nat_eq directory id || b) (first_or id target [] ∙ or_false (nat_eq target id))
+named_or id directory (Some target) = first_or id directory (target ∷ []) ∙ ap (λ b. nat_eq directory id || b)
+    (first_or id target [] ∙ or_false (nat_eq target id))
 
 pub named_is : (id : ℕ) (slots : Slots) → nat_lt 0 (uses id slots) ≡ names_the_node id (names_in slots)
 named_is id [] = refl
@@ -148,5 +179,7 @@ named_is id ((place, None) ∷ slots) =
     let zero_add : 0 + uses id slots ≡ uses id slots = omega arith in
     ap (nat_lt 0) (sum_by-cons (λ slot. times id (named_in slot)) (place, None) slots ∙ zero_add) ∙ named_is id slots
 named_is id ((place, Some binding) ∷ slots) =
-    ap (nat_lt 0) (sum_by-cons (λ slot. times id (named_in slot)) (place, Some binding) slots) ∙ more_or (times id (named place.0 binding.target)) (uses id slots)
-    ∙ ap (λ b. b || nat_lt 0 (uses id slots)) (named_or id place.0 binding.target) ∙ ap (λ b. (nat_eq place.0 id || leads_to id binding.target) || b) (named_is id slots)
+    ap (nat_lt 0) (sum_by-cons (λ slot. times id (named_in slot)) (place, Some binding) slots) ∙ more_or
+    (times id (named place.0 binding.target)) (uses id slots)
+    ∙ ap (λ b. b || nat_lt 0 (uses id slots)) (named_or id place.0 binding.target) ∙ ap
+    (λ b. (nat_eq place.0 id || leads_to id binding.target) || b) (named_is id slots)

@@ -23,7 +23,8 @@ both_tie Greater s = refl
 -- the order of names ties exactly where they are one
 pub same_is : (a b : Place) → eq_by_cmp place_cmp a b ≡ same_place a b
 same_is a b =
-    both_tie (nat_cmp a.0 b.0) (slice_cmp nat_cmp a.1 b.1) ∙ ap (λ x. x && eq_by_cmp (slice_cmp nat_cmp) a.1 b.1) (unsigned_tied a.0 b.0)
+    both_tie (nat_cmp a.0 b.0) (slice_cmp nat_cmp a.1 b.1) ∙ ap (λ x. x && eq_by_cmp (slice_cmp nat_cmp) a.1 b.1)
+    (unsigned_tied a.0 b.0)
     ∙ ap (λ x. nat_eq a.0 b.0 && x) (sym (texts_ties a.1 b.1))
 
 pub one_place : (a b : Place) → same_place a b ≡ true → a ≡ b
@@ -48,7 +49,8 @@ module _ {A : Type 0} where
   pub get-slots : (es : Entries A) (q : Place) → get_name (slots_of es) q ≡ lookup (is_of q) es
   get-slots [] q = refl
   get-slots (e ∷ es) q =
-      find-put place_cmp place_total q (place_of_key e.0) e.1 (slots_of es) ∙ ap (cond (eq_by_cmp place_cmp q (place_of_key e.0)) (Some e.1)) (get-slots es q)
+      find-put place_cmp place_total q (place_of_key e.0) e.1 (slots_of es) ∙ ap
+      (cond (eq_by_cmp place_cmp q (place_of_key e.0)) (Some e.1)) (get-slots es q)
       ∙ ap (λ b. cond b (Some e.1) (lookup (is_of q) es)) (same_is q (place_of_key e.0))
 
   pub few_slots : (es : Entries A) → length (slots_of es) ≤ length es
@@ -59,12 +61,14 @@ module _ {A : Type 0} where
       omega arith
 
   -- what is found under any name, where only what stands under one changed
-  changed : (old new : Entries A) (key : Place) (slot : Option (Option Binding)) → lookup (is_of key) new ≡ slot → KeepsOthers (λ (x y : NameKey A). is_of (place_of_key x) y) (is_of key) old new
+  changed : (old new : Entries A) (key : Place) (slot : Option (Option Binding)) → lookup (is_of key) new ≡ slot
+      → KeepsOthers (λ (x y : NameKey A). is_of (place_of_key x) y) (is_of key) old new
       → (q : Place) → get_name (slots_of new) q ≡ cond (eq_by_cmp place_cmp q key) slot (get_name (slots_of old) q)
   unfolding KeepsOthers
   changed old new key slot at others q = by (eq_by_cmp place_cmp q key) refl
     where
-      by : (b : Bool) → eq_by_cmp place_cmp q key ≡ b → get_name (slots_of new) q ≡ cond b slot (get_name (slots_of old) q)
+      by : (b : Bool) → eq_by_cmp place_cmp q key ≡ b → get_name (slots_of new) q
+          ≡ cond b slot (get_name (slots_of old) q)
       by true e = get-slots new q ∙ ap (λ (p : Place). lookup (is_of p) new) (place_same q key (tied _ e)) ∙ at
       by false e =
           get-slots new q
@@ -72,19 +76,25 @@ module _ {A : Type 0} where
           (λ k h. ap (λ (p : Place). same_place q p) (sym (one_place key (place_of_key k) h)) ∙ sym (same_is q key) ∙ e)
           ∙ sym (get-slots old q)
 
-  pub slots-put : (old new : Entries A) (key : Place) (slot : Option Binding) → lookup (is_of key) new ≡ Some slot → KeepsOthers (λ (x y : NameKey A). is_of (place_of_key x) y) (is_of key) old new
+  pub slots-put : (old new : Entries A) (key : Place) (slot : Option Binding) → lookup (is_of key) new ≡ Some slot
+      → KeepsOthers (λ (x y : NameKey A). is_of (place_of_key x) y) (is_of key) old new
       → slots_of new ≡ put_name (slots_of old) key slot
   slots-put old new key slot at others =
-      same_entries place_cmp place_total place_same _ _ (sorted_slots new) (is_sorted-put place_cmp place_total key slot (slots_of old) (sorted_slots old))
-      (λ q. changed old new key (Some slot) at others q ∙ sym (find-put place_cmp place_total q key slot (slots_of old)))
+      same_entries place_cmp place_total place_same _ _ (sorted_slots new)
+      (is_sorted-put place_cmp place_total key slot (slots_of old) (sorted_slots old))
+      (λ q. changed old new key (Some slot) at others q ∙ sym
+      (find-put place_cmp place_total q key slot (slots_of old)))
 
-  pub slots-remove : (old new : Entries A) (key : Place) → lookup (is_of key) new ≡ None → KeepsOthers (λ (x y : NameKey A). is_of (place_of_key x) y) (is_of key) old new
+  pub slots-remove : (old new : Entries A) (key : Place) → lookup (is_of key) new ≡ None
+      → KeepsOthers (λ (x y : NameKey A). is_of (place_of_key x) y) (is_of key) old new
       → slots_of new ≡ remove_name (slots_of old) key
   slots-remove old new key at others =
-      same_entries place_cmp place_total place_same _ _ (sorted_slots new) (is_sorted-where_key place_cmp (λ p. not (eq_by_cmp place_cmp key p)) (slots_of old) (sorted_slots old))
+      same_entries place_cmp place_total place_same _ _ (sorted_slots new)
+      (is_sorted-where_key place_cmp (λ p. not (eq_by_cmp place_cmp key p)) (slots_of old) (sorted_slots old))
       (λ q. changed old new key None at others q ∙ turned (eq_by_cmp place_cmp q key) (get_name (slots_of old) q)
       ∙ ap (λ b. cond (not b) (get_name (slots_of old) q) None) ((eq_by_cmp_equiv place_total).symm q key)
-      ∙ sym (find-where_key place_cmp (λ p. not (eq_by_cmp place_cmp key p)) q (λ p t. ap (λ x. not (eq_by_cmp place_cmp key x)) (sym (place_same q p t))) (slots_of old)))
+      ∙ sym (find-where_key place_cmp (λ p. not (eq_by_cmp place_cmp key p)) q
+      (λ p t. ap (λ x. not (eq_by_cmp place_cmp key x)) (sym (place_same q p t))) (slots_of old)))
 
 pub unfound : {A : Type 0} (o : Option A) → is_some o ≡ false → o ≡ None
 unfound None e = refl

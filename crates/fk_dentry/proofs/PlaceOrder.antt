@@ -9,13 +9,17 @@ use Rattle.std.proofs.lemmas.Cmp.{then_total, on_total}
 use Rattle.fuse_spec.specs.Values.Maps.{Place, place_cmp}
 
 pub place_total : IsTotalOrder place_cmp
-place_total = then_total (on_total (λ (p : Place). p.0) nat_cmp_total) (on_total (λ (p : Place). p.1) nat_list_cmp_total)
+place_total = then_total (on_total (λ (p : Place). p.0) nat_cmp_total)
+    (on_total (λ (p : Place). p.1) nat_list_cmp_total)
 
 pub place_same : IsAntisymmetric place_cmp
 place_same x y is =
     elim (nat_cmp x.0 y.0) as (λ r. nat_cmp x.0 y.0 ≡ r → ordering_then r (slice_cmp nat_cmp x.1 y.1) ≡ Equal → x ≡ y) [
       | Less ↦ λ p e. absurd (subst (λ r. T (is_eq r)) (sym e) tt)
-      | Equal ↦ λ p e i. (nat_cmp-IsAntisymmetric x.0 y.0 p i, slice_cmp-IsAntisymmetric nat_cmp-IsAntisymmetric x.1 y.1 e i)
+      | Equal ↦ λ p e i. (
+        nat_cmp-IsAntisymmetric x.0 y.0 p i,
+        slice_cmp-IsAntisymmetric nat_cmp-IsAntisymmetric x.1 y.1 e i,
+      )
       | Greater ↦ λ p e. absurd (subst (λ r. T (is_eq r)) (sym e) tt)
     ] refl is
 

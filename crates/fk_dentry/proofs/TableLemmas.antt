@@ -31,7 +31,8 @@ named_most directory (Some binding) = by binding.target
     by None = omega arith
     by (Some id) = omega arith
 
-mentions_cons : (slot : Place × Option Binding) (slots : Slots) → mentions (slot ∷ slots) ≡ length (named_in slot) + mentions slots
+mentions_cons : (slot : Place × Option Binding) (slots : Slots)
+    → mentions (slot ∷ slots) ≡ length (named_in slot) + mentions slots
 mentions_cons slot slots = sum_by-cons (λ s. length (named_in s)) slot slots
 
 mentions_most : (slots : Slots) → mentions slots ≤ length slots + length slots
@@ -43,7 +44,8 @@ mentions_most (slot ∷ slots) =
     omega arith
 
 -- besides what a slot names there is room for two ids
-mentions_room : (slots : Slots) (i : ℕ) (d : Place × Option Binding) → i < length slots → mentions slots + 2 ≤ length (named_in (get_or slots i d)) + (length slots + length slots)
+mentions_room : (slots : Slots) (i : ℕ) (d : Place × Option Binding) → i < length slots
+    → mentions slots + 2 ≤ length (named_in (get_or slots i d)) + (length slots + length slots)
 mentions_room [] i d lt = absurd (omega arith)
 mentions_room (slot ∷ slots) zero d lt =
     let rest = mentions_most slots in
@@ -71,14 +73,17 @@ module _ {slots : Slots} {key : Place} {place : ℕ} (r : EntryOf slots key plac
 
   pub get_is : T (is_sorted place_cmp slots) → get_name slots key ≡ Some r.entry.1
   get_is h =
-      found_is place_cmp place_total key slots h ∙ ap (λ i. found place_cmp place_total key (slice_get slots i)) (sym r.at) ∙ ap (found place_cmp place_total key) r.there
+      found_is place_cmp place_total key slots h ∙ ap (λ i. found place_cmp place_total key (slice_get slots i))
+      (sym r.at) ∙ ap (found place_cmp place_total key) r.there
       ∙ ap (λ o. cond (is_eq o) (Some r.entry.1) None) r.same
 
   pub put_there : (slot : Option Binding) → set slots place (r.entry.0, slot) ≡ put_name slots key slot
-  put_there slot = ap (λ i. set slots i (r.entry.0, slot)) r.at ∙ set_is place_cmp place_total key slot slots r.entry (ap (slice_get slots) (sym r.at) ∙ r.there) r.same
+  put_there slot = ap (λ i. set slots i (r.entry.0, slot)) r.at ∙ set_is place_cmp place_total key slot slots r.entry
+      (ap (slice_get slots) (sym r.at) ∙ r.there) r.same
 
   pub remove_there : T (is_sorted place_cmp slots) → remove slots place ≡ remove_name slots key
-  remove_there h = ap (remove slots) r.at ∙ removed_is place_cmp place_total key slots r.entry h (ap (slice_get slots) (sym r.at) ∙ r.there) r.same
+  remove_there h = ap (remove slots) r.at ∙ removed_is place_cmp place_total key slots r.entry h
+      (ap (slice_get slots) (sym r.at) ∙ r.there) r.same
 
   -- ---- through a write and a removal
 
@@ -98,12 +103,15 @@ module _ {slots : Slots} {key : Place} {place : ℕ} (r : EntryOf slots key plac
         let fits = t.room in
         omega arith
 
-    pub table-put : (binding : Binding) (after : ℕ → ℕ) (total_after most : ℕ) → ((q : ℕ) → after q + times q held ≡ count q + times q (named key.0 binding.target))
-        → total_after + length held ≡ total + length (named key.0 binding.target) → capacity ≤ most → IsTable (put_name slots key (Some binding)) after total_after most
+    pub table-put : (binding : Binding) (after : ℕ → ℕ) (total_after most : ℕ)
+        → ((q : ℕ) → after q + times q held ≡ count q + times q (named key.0 binding.target))
+        → total_after + length held ≡ total + length (named key.0 binding.target) → capacity ≤ most
+        → IsTable (put_name slots key (Some binding)) after total_after most
     table-put binding after total_after most swapped as_many fits = record {
       sorted = sorted-put slots key (Some binding) t.sorted;
       named = λ q.
-          let new : times q (named_in (r.entry.0, Some binding)) ≡ times q (named key.0 binding.target) = ap (λ (p : Place). times q (named p.0 binding.target)) (sym key_is) in
+          let new : times q (named_in (r.entry.0, Some binding)) ≡ times q (named key.0 binding.target) =
+          ap (λ (p : Place). times q (named p.0 binding.target)) (sym key_is) in
           let set_at = sum_by-set (λ s. times q (named_in s)) slots place (r.entry.0, Some binding) r.entry r.bound in
           let here = ap (times q) held_is in
           let was = t.named q in
@@ -111,19 +119,22 @@ module _ {slots : Slots} {key : Place} {place : ℕ} (r : EntryOf slots key plac
           let is = ap (uses q) (put_there (Some binding)) in
           omega arith;
       many =
-          let new : length (named_in (r.entry.0, Some binding)) ≡ length (named key.0 binding.target) = ap (λ (p : Place). length (named p.0 binding.target)) (sym key_is) in
+          let new : length (named_in (r.entry.0, Some binding)) ≡ length (named key.0 binding.target) =
+          ap (λ (p : Place). length (named p.0 binding.target)) (sym key_is) in
           let set_at = sum_by-set (λ s. length (named_in s)) slots place (r.entry.0, Some binding) r.entry r.bound in
           let here = ap length held_is in
           let was = t.many in
           let is = ap mentions (put_there (Some binding)) in
           omega arith;
       room =
-          let same : length (put_name slots key (Some binding)) ≡ length slots = ap length (sym (put_there (Some binding))) ∙ length-set slots place (r.entry.0, Some binding) in
+          let same : length (put_name slots key (Some binding)) ≡ length slots =
+          ap length (sym (put_there (Some binding))) ∙ length-set slots place (r.entry.0, Some binding) in
           let room = t.room in
           omega arith;
     }
 
-    module _ (left : ℕ → ℕ) (total_left most : ℕ) (gone : (q : ℕ) → left q + times q held ≡ count q) (fewer : total_left + length held ≡ total) (fits : capacity ≤ most) where
+    module _ (left : ℕ → ℕ) (total_left most : ℕ) (gone : (q : ℕ) → left q + times q held ≡ count q)
+        (fewer : total_left + length held ≡ total) (fits : capacity ≤ most) where
       pub table-remove : IsTable (remove_name slots key) left total_left most
       table-remove = record {
         sorted = sorted-remove slots key t.sorted;
@@ -148,7 +159,8 @@ module _ {slots : Slots} {key : Place} {place : ℕ} (r : EntryOf slots key plac
       }
 
 -- a name that is found has its entry
-module _ (slots : Slots) (key : Place) (slot : Option Binding) (h : T (is_sorted place_cmp slots)) (is : get_name slots key ≡ Some slot) where
+module _ (slots : Slots) (key : Place) (slot : Option Binding) (h : T (is_sorted place_cmp slots))
+    (is : get_name slots key ≡ Some slot) where
   abbrev its_place : ℕ
   its_place = place_among place_cmp key slots
 
@@ -161,11 +173,17 @@ module _ (slots : Slots) (key : Place) (slot : Option Binding) (h : T (is_sorted
         | inr le ↦ absurd (none-some e (sym (slice_get_past slots its_place le) ∙ at))
       ]
 
-      at_entry : (e : Place × Option Binding) → slice_get slots its_place ≡ Some e → (b : Bool) → is_eq (place_cmp key e.0) ≡ b → cond b (Some e.1) None ≡ Some slot → (r : EntryOf slots key its_place) × (r.entry.1 ≡ slot)
-      at_entry e at true t f = (record { at = refl; bound = within e at; entry = e; there = at; same = tied _ t }, same_Some e.1 slot f)
+      at_entry : (e : Place × Option Binding) → slice_get slots its_place ≡ Some e → (b : Bool)
+          → is_eq (place_cmp key e.0) ≡ b → cond b (Some e.1) None ≡ Some slot
+          → (r : EntryOf slots key its_place) × (r.entry.1 ≡ slot)
+      at_entry e at true t f = (
+        record { at = refl; bound = within e at; entry = e; there = at; same = tied _ t },
+        same_Some e.1 slot f,
+      )
       at_entry e at false t f = absurd (none-some slot f)
 
-      by : (o : Option (Place × Option Binding)) → slice_get slots its_place ≡ o → found place_cmp place_total key o ≡ Some slot → (r : EntryOf slots key its_place) × (r.entry.1 ≡ slot)
+      by : (o : Option (Place × Option Binding)) → slice_get slots its_place ≡ o
+          → found place_cmp place_total key o ≡ Some slot → (r : EntryOf slots key its_place) × (r.entry.1 ≡ slot)
       by None at f = absurd (none-some slot f)
       by (Some e) at f = at_entry e at (is_eq (place_cmp key e.0)) refl f
 
@@ -186,12 +204,16 @@ module _ {slots : Slots} {count : ℕ → ℕ} {total capacity : ℕ} (key : Pla
     slot_room : total + 2 ≤ capacity + length (named_by key.0 slot)
     slot_room = subst (λ (b : Option Binding). total + 2 ≤ capacity + length (named_by key.0 b)) slot_is (room_held r t)
 
-    slot-with : (binding : Binding) (after : ℕ → ℕ) (total_after most : ℕ) → ((q : ℕ) → after q + times q (named_by key.0 slot) ≡ count q + times q (named key.0 binding.target))
-        → total_after + length (named_by key.0 slot) ≡ total + length (named key.0 binding.target) → capacity ≤ most → IsTable (put_name slots key (Some binding)) after total_after most
+    slot-with : (binding : Binding) (after : ℕ → ℕ) (total_after most : ℕ)
+        → ((q : ℕ) → after q + times q (named_by key.0 slot) ≡ count q + times q (named key.0 binding.target))
+        → total_after + length (named_by key.0 slot) ≡ total + length (named key.0 binding.target) → capacity ≤ most
+        → IsTable (put_name slots key (Some binding)) after total_after most
     slot-with binding after total_after most swapped as_many fits =
         table-put r t binding after total_after most
-        (subst (λ (b : Option Binding). (q : ℕ) → after q + times q (named_by key.0 b) ≡ count q + times q (named key.0 binding.target)) (sym slot_is) swapped)
-        (subst (λ (b : Option Binding). total_after + length (named_by key.0 b) ≡ total + length (named key.0 binding.target)) (sym slot_is) as_many)
+        (subst (λ (b : Option Binding). (q : ℕ) → after q + times q (named_by key.0 b)
+        ≡ count q + times q (named key.0 binding.target)) (sym slot_is) swapped)
+        (subst (λ (b : Option Binding). total_after + length (named_by key.0 b)
+        ≡ total + length (named key.0 binding.target)) (sym slot_is) as_many)
         fits
 
   module _ (t : IsTable slots count total capacity) where
@@ -207,36 +229,50 @@ module _ {slots : Slots} {count : ℕ → ℕ} {total capacity : ℕ} (key : Pla
       pub room_bound : total + 2 ≤ capacity + length (named_by key.0 (bound_in (get_name slots key)))
       room_bound = by (get_name slots key) refl
         where
-          by : (o : Option (Option Binding)) → get_name slots key ≡ o → total + 2 ≤ capacity + length (named_by key.0 (bound_in o))
+          by : (o : Option (Option Binding)) → get_name slots key ≡ o
+              → total + 2 ≤ capacity + length (named_by key.0 (bound_in o))
           by None e = absurd (subst T (sym there ∙ ap is_some e) tt)
           by (Some slot) e = slot_room slot t e
 
       pub table-with : (binding : Binding) (after : ℕ → ℕ) (total_after most : ℕ)
-          → ((q : ℕ) → after q + times q (named_by key.0 (bound_in (get_name slots key))) ≡ count q + times q (named key.0 binding.target))
-          → total_after + length (named_by key.0 (bound_in (get_name slots key))) ≡ total + length (named key.0 binding.target) → capacity ≤ most → IsTable (put_name slots key (Some binding)) after total_after most
+          → ((q : ℕ) → after q + times q (named_by key.0 (bound_in (get_name slots key)))
+          ≡ count q + times q (named key.0 binding.target))
+          → total_after + length (named_by key.0 (bound_in (get_name slots key)))
+          ≡ total + length (named key.0 binding.target) → capacity ≤ most
+          → IsTable (put_name slots key (Some binding)) after total_after most
       table-with binding after total_after most swapped as_many fits = by (get_name slots key) refl swapped as_many
         where
-          by : (o : Option (Option Binding)) → get_name slots key ≡ o → ((q : ℕ) → after q + times q (named_by key.0 (bound_in o)) ≡ count q + times q (named key.0 binding.target))
-              → total_after + length (named_by key.0 (bound_in o)) ≡ total + length (named key.0 binding.target) → IsTable (put_name slots key (Some binding)) after total_after most
+          by : (o : Option (Option Binding)) → get_name slots key ≡ o
+              → ((q : ℕ) → after q + times q (named_by key.0 (bound_in o))
+              ≡ count q + times q (named key.0 binding.target))
+              → total_after + length (named_by key.0 (bound_in o)) ≡ total + length (named key.0 binding.target)
+              → IsTable (put_name slots key (Some binding)) after total_after most
           by None e swapped as_many = absurd (subst T (sym there ∙ ap is_some e) tt)
           by (Some slot) e swapped as_many = slot-with slot t e binding after total_after most swapped as_many fits
 
-    pub table-without : (left : ℕ → ℕ) (total_left most : ℕ) → ((q : ℕ) → left q + times q (named_by key.0 (bound_in (get_name slots key))) ≡ count q)
-        → total_left + length (named_by key.0 (bound_in (get_name slots key))) ≡ total → capacity ≤ most → IsTable (remove_name slots key) left total_left most
+    pub table-without : (left : ℕ → ℕ) (total_left most : ℕ)
+        → ((q : ℕ) → left q + times q (named_by key.0 (bound_in (get_name slots key))) ≡ count q)
+        → total_left + length (named_by key.0 (bound_in (get_name slots key))) ≡ total → capacity ≤ most
+        → IsTable (remove_name slots key) left total_left most
     table-without left total_left most gone fewer fits = by (get_name slots key) refl gone fewer
       where
-        by : (o : Option (Option Binding)) → get_name slots key ≡ o → ((q : ℕ) → left q + times q (named_by key.0 (bound_in o)) ≡ count q)
-            → total_left + length (named_by key.0 (bound_in o)) ≡ total → IsTable (remove_name slots key) left total_left most
-        by None e gone fewer = subst (λ s. IsTable s left total_left most) (sym (absent_is place_cmp place_total key slots e)) (record {
-          sorted = t.sorted;
-          named = λ q. (let was = t.named q in let is = gone q in omega arith);
-          many = (let was = t.many in omega arith);
-          room = (let room = t.room in omega arith);
-        })
+        by : (o : Option (Option Binding)) → get_name slots key ≡ o
+            → ((q : ℕ) → left q + times q (named_by key.0 (bound_in o)) ≡ count q)
+            → total_left + length (named_by key.0 (bound_in o)) ≡ total
+            → IsTable (remove_name slots key) left total_left most
+        by None e gone fewer = subst (λ s. IsTable s left total_left most)
+            (sym (absent_is place_cmp place_total key slots e)) (record {
+              sorted = t.sorted;
+              named = λ q. (let was = t.named q in let is = gone q in omega arith);
+              many = (let was = t.many in omega arith);
+              room = (let room = t.room in omega arith);
+            })
         by (Some slot) e gone fewer =
             table-remove (r slot t e) t left total_left most
-            (subst (λ (b : Option Binding). (q : ℕ) → left q + times q (named_by key.0 b) ≡ count q) (sym (slot_is slot t e)) gone)
-            (subst (λ (b : Option Binding). total_left + length (named_by key.0 b) ≡ total) (sym (slot_is slot t e)) fewer)
+            (subst (λ (b : Option Binding). (q : ℕ) → left q + times q (named_by key.0 b) ≡ count q)
+            (sym (slot_is slot t e)) gone)
+            (subst (λ (b : Option Binding). total_left + length (named_by key.0 b) ≡ total)
+            (sym (slot_is slot t e)) fewer)
             fits
 
 -- ---- a name that gets room
@@ -245,9 +281,11 @@ place_bound : (key : Place) (slots : Slots) → place_among place_cmp key slots 
 place_bound key [] = omega arith
 place_bound key (slot ∷ slots) =
     let rest = place_bound key slots in
-    elim (is_gt (place_cmp key slot.0)) as (λ b. cond b (suc (place_among place_cmp key slots)) 0 ≤ length (slot ∷ slots)) [ true ↦ omega arith | false ↦ omega arith ]
+    elim (is_gt (place_cmp key slot.0)) as (λ b. cond b (suc (place_among place_cmp key slots)) 0 ≤ length
+    (slot ∷ slots)) [ true ↦ omega arith | false ↦ omega arith ]
 
-pub table-room : {slots : Slots} {count : ℕ → ℕ} {total capacity : ℕ} (key : Place) (most : ℕ) → IsTable slots count total capacity → get_name slots key ≡ None → length slots + 1 + (length slots + 1) ≤ most
+pub table-room : {slots : Slots} {count : ℕ → ℕ} {total capacity : ℕ} (key : Place) (most : ℕ)
+    → IsTable slots count total capacity → get_name slots key ≡ None → length slots + 1 + (length slots + 1) ≤ most
     → IsTable (put_name slots key None) count total most
 table-room {slots = slots} key most t none fits = record {
   sorted = sorted-put slots key None t.sorted;

@@ -13,13 +13,15 @@ abbrev pub same_place : Place → Place → Bool
 same_place a b = nat_eq a.0 b.0 && pointwise nat_eq a.1 b.1
 
 pub same_place_equiv : IsEquivalence same_place
-same_place_equiv = and_equiv (on_equiv (λ (p : Place). p.0) nat_eq_equiv) (on_equiv (λ (p : Place). p.1) nat_list_eq_equiv)
+same_place_equiv = and_equiv (on_equiv (λ (p : Place). p.0) nat_eq_equiv)
+    (on_equiv (λ (p : Place). p.1) nat_list_eq_equiv)
 
 abbrev pub place_fed : Place → HashWrites
 place_fed p = fed.u64 p.0 ++ fed.slice fed.u8 p.1
 
 pub same_place_fed : Alike same_place place_fed
-same_place_fed = and-Alike (on_Alike (λ (p : Place). p.0) (same_Alike fed.u64 unsigned_Decides)) (on_Alike (λ (p : Place). p.1) (items_Alike (same_Alike fed.u8 unsigned_Decides)))
+same_place_fed = and-Alike (on_Alike (λ (p : Place). p.0) (same_Alike fed.u64 unsigned_Decides))
+    (on_Alike (λ (p : Place). p.1) (items_Alike (same_Alike fed.u8 unsigned_Decides)))
 
 module _ {A : Type 0} where
   abbrev pub place_of_key : NameKey A → Place

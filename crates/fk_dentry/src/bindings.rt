@@ -13,7 +13,8 @@ use indexmap::IndexMap;
 use std::alloc::{AllocError, Allocator, Global};
 use std::marker::Model;
 
-/// How many counts of nodes there is room for, for each name: it names two nodes at most, and one count more may have fallen to 0.
+/// How many counts of nodes there is room for, for each name: it names two nodes at most, and one count more may have
+/// fallen to 0.
 const COUNTS: usize = 3;
 
 /// Names stay below this, so that three counts for each can be counted.
@@ -22,7 +23,8 @@ const MOST: usize = 0x1000_0000_0000_0000;
 /// The names in force: each name of a directory that is bound, with the node to which it leads, if any, and the time
 /// in milliseconds from which it is valid no more.
 ///
-/// A binding whose time has passed says nothing, but it stays until it is replaced or removed. Only `reserve` takes memory.
+/// A binding whose time has passed says nothing, but it stays until it is replaced or removed. Only `reserve` takes
+/// memory.
 ///
 /// What each call costs, for `n` names:
 ///
@@ -49,7 +51,8 @@ impl<A: Allocator> Model for Bindings<A> {
 
     ghost view = { λ b. record { names = names_in (slots_of b.rows.entries); slots = slots_of b.rows.entries } };
 
-    ghost invariant = { λ b. IsTable (slots_of b.rows.entries) (count_in b.nodes.counts.entries) (total_in b.nodes.counts.entries) b.nodes.most };
+    ghost invariant = { λ b. IsTable (slots_of b.rows.entries) (count_in b.nodes.counts.entries)
+        (total_in b.nodes.counts.entries) b.nodes.most };
 }
 
 impl<A: Allocator + Copy> Bindings<A> {
@@ -112,7 +115,8 @@ impl<A: Allocator + Copy> Bindings<A> {
     /// Binds a name that has room to a node or to none, until a time in milliseconds. It replaces what was bound.
     pub fn put(&mut self, directory: u64, name: &[u8], target: Option<u64>, until: u64)
         requires { HasRoom self.old (directory, name.now) }
-        ensures names { self.new.names ≡ put_name self.old.names (directory, name.now) (record { target = target; until = until }) }
+        ensures names { self.new.names ≡ put_name self.old.names (directory, name.now)
+            (record { target = target; until = until }) }
         ensures kept { (other : Place) → HasRoom self.old other → HasRoom self.new other }
     {
         self.set(directory, name, Binding { target, until });
@@ -131,7 +135,8 @@ impl<A: Allocator + Copy> Bindings<A> {
     pub fn remove(&mut self, directory: u64, name: &[u8]) -> bool
         ensures bound { result ≡ is_some (get_name self.old.names (directory, name.now)) }
         ensures names { self.new.names ≡ remove_name self.old.names (directory, name.now) }
-        ensures kept { (other : Place) → other ≢ (directory, name.now) → HasRoom self.old other → HasRoom self.new other }
+        ensures kept { (other : Place) → other ≢ (directory, name.now) → HasRoom self.old other
+            → HasRoom self.new other }
     {
         self.take_out(directory, name).is_some()
     }
@@ -139,7 +144,8 @@ impl<A: Allocator + Copy> Bindings<A> {
     fn take_out(&mut self, directory: u64, name: &[u8]) -> Option<Binding>
         ensures bound { result ≡ get_name self.old.names (directory, name.now) }
         ensures names { self.new.names ≡ remove_name self.old.names (directory, name.now) }
-        ensures kept { (other : Place) → other ≢ (directory, name.now) → HasRoom self.old other → HasRoom self.new other }
+        ensures kept { (other : Place) → other ≢ (directory, name.now) → HasRoom self.old other
+            → HasRoom self.new other }
     {
         let binding = take_out(&mut self.rows, directory, name);
         self.nodes.leave(directory, binding);

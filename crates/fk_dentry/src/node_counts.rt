@@ -65,7 +65,8 @@ impl<A: Allocator + Copy> NodeCounts<A> {
 
     fn add(&mut self, id: u64)
         requires { total_in self.old.counts.entries < self.old.most }
-        ensures count { (q : ℕ) → count_in self.new.counts.entries q ≡ count_in self.old.counts.entries q + cond (nat_eq q id) 1 0 }
+        ensures count { (q : ℕ) → count_in self.new.counts.entries q
+            ≡ count_in self.old.counts.entries q + cond (nat_eq q id) 1 0 }
         ensures total { total_in self.new.counts.entries ≡ total_in self.old.counts.entries + 1 }
         ensures most { self.new.most ≡ self.old.most }
     {
@@ -90,7 +91,8 @@ impl<A: Allocator + Copy> NodeCounts<A> {
 
     fn remove(&mut self, id: u64)
         requires { 0 < count_in self.old.counts.entries id }
-        ensures count { (q : ℕ) → count_in self.new.counts.entries q + cond (nat_eq q id) 1 0 ≡ count_in self.old.counts.entries q }
+        ensures count { (q : ℕ) → count_in self.new.counts.entries q + cond (nat_eq q id) 1 0
+            ≡ count_in self.old.counts.entries q }
         ensures total { total_in self.new.counts.entries + 1 ≡ total_in self.old.counts.entries }
         ensures most { self.new.most ≡ self.old.most }
     {
@@ -103,8 +105,10 @@ impl<A: Allocator + Copy> NodeCounts<A> {
     pub fn replace(&mut self, directory: u64, old: Option<Binding>, target: Option<u64>)
         requires named { (q : ℕ) → times q (named_by directory old) ≤ count_in self.old.counts.entries q }
         requires room { total_in self.old.counts.entries + 2 ≤ self.old.most + length (named_by directory old) }
-        ensures count { (q : ℕ) → count_in self.new.counts.entries q + times q (named_by directory old) ≡ count_in self.old.counts.entries q + times q (named directory target) }
-        ensures total { total_in self.new.counts.entries + length (named_by directory old) ≡ total_in self.old.counts.entries + length (named directory target) }
+        ensures count { (q : ℕ) → count_in self.new.counts.entries q + times q (named_by directory old)
+            ≡ count_in self.old.counts.entries q + times q (named directory target) }
+        ensures total { total_in self.new.counts.entries + length (named_by directory old)
+            ≡ total_in self.old.counts.entries + length (named directory target) }
         ensures most { self.new.most ≡ self.old.most }
     {
         if names_the_same(old, target) {
@@ -117,8 +121,10 @@ impl<A: Allocator + Copy> NodeCounts<A> {
     /// A binding is new.
     fn enter(&mut self, directory: u64, target: Option<u64>)
         requires { total_in self.old.counts.entries + 2 ≤ self.old.most }
-        ensures count { (q : ℕ) → count_in self.new.counts.entries q ≡ count_in self.old.counts.entries q + times q (named directory target) }
-        ensures total { total_in self.new.counts.entries ≡ total_in self.old.counts.entries + length (named directory target) }
+        ensures count { (q : ℕ) → count_in self.new.counts.entries q
+            ≡ count_in self.old.counts.entries q + times q (named directory target) }
+        ensures total { total_in self.new.counts.entries
+            ≡ total_in self.old.counts.entries + length (named directory target) }
         ensures most { self.new.most ≡ self.old.most }
     {
         self.add(directory);
@@ -131,8 +137,10 @@ impl<A: Allocator + Copy> NodeCounts<A> {
     /// A binding is gone, if there was one.
     pub fn leave(&mut self, directory: u64, binding: Option<Binding>)
         requires { (q : ℕ) → times q (named_by directory binding) ≤ count_in self.old.counts.entries q }
-        ensures count { (q : ℕ) → count_in self.new.counts.entries q + times q (named_by directory binding) ≡ count_in self.old.counts.entries q }
-        ensures total { total_in self.new.counts.entries + length (named_by directory binding) ≡ total_in self.old.counts.entries }
+        ensures count { (q : ℕ) → count_in self.new.counts.entries q + times q (named_by directory binding)
+            ≡ count_in self.old.counts.entries q }
+        ensures total { total_in self.new.counts.entries + length (named_by directory binding)
+            ≡ total_in self.old.counts.entries }
         ensures most { self.new.most ≡ self.old.most }
     {
         let Some(binding) = binding else {
@@ -158,7 +166,8 @@ impl<A: Allocator + Copy> NodeCounts<A> {
 fn increase<A: Allocator + Copy>(counts: &mut Counts<A>, id: u64, more: u64)
     requires room { 0 < spare counts.old }
     requires small { total_in counts.old.entries + more < 2 ^ 64 }
-    ensures counts { (test : ℕ → Bool) → weight test counts.new.entries ≡ weight test counts.old.entries + cond (test id) more 0 }
+    ensures counts { (test : ℕ → Bool) → weight test counts.new.entries
+        ≡ weight test counts.old.entries + cond (test id) more 0 }
     ensures len { length counts.new.entries ≤ length counts.old.entries + 1 }
     ensures room { length counts.old.entries + spare counts.old ≤ length counts.new.entries + spare counts.new }
 {

@@ -42,7 +42,8 @@ pub(crate) fn bind<A: Allocator>(
 ) -> Option<Binding>
     requires { IsSome (get_name (slots_of rows.old.entries) (directory, name.now)) }
     ensures old { result ≡ bound_in (get_name (slots_of rows.old.entries) (directory, name.now)) }
-    ensures slots { slots_of rows.new.entries ≡ put_name (slots_of rows.old.entries) (directory, name.now) (Some binding) }
+    ensures slots { slots_of rows.new.entries ≡ put_name (slots_of rows.old.entries) (directory, name.now)
+        (Some binding) }
 {
     match rows.get_mut(LentKey { directory, name }) {
         Some(slot) => slot.replace(binding),

@@ -48,7 +48,8 @@ module _ {X : Type 0} where
 
   pub find-remove : (es : Map X) (k q : ℕ) → find nat_cmp q (remove es k) ≡ cond (nat_eq q k) None (find nat_cmp q es)
   find-remove es k q =
-      find-where_key nat_cmp (λ x. not (nat_eq x k)) q (λ x t. ap (λ y. not (nat_eq y k)) (sym (nat_cmp-IsAntisymmetric q x t))) es
+      find-where_key nat_cmp (λ x. not (nat_eq x k)) q
+      (λ x t. ap (λ y. not (nat_eq y k)) (sym (nat_cmp-IsAntisymmetric q x t))) es
       ∙ not_cond (nat_eq q k) (find nat_cmp q es)
 
   pub same_as : (es : Map X) (m : FinMap nat_cmp X) → ((q : ℕ) → find nat_cmp q es ≡ get m q) → map_of es ≡ m
@@ -93,10 +94,18 @@ module _ {X : Type 0} where
     below-filter x [] h = tt
     below-filter x (e ∷ es) h =
         let rest = below-filter x es (both_second _ _ h) in
-        elim (p e) as (λ b. T (below_all nat_cmp x (cond b (e ∷ filter p es) (filter p es)))) [ true ↦ both _ _ (both_first _ _ h) rest | false ↦ rest ]
+        elim (p e) as (λ b. T (below_all nat_cmp x (cond b (e ∷ filter p es) (filter p es)))) [
+          | true ↦ both _ _
+              (both_first _ _ h) rest
+          | false ↦ rest
+        ]
 
     pub sorted-filter : (es : Map X) → T (is_sorted nat_cmp es) → T (is_sorted nat_cmp (filter p es))
     sorted-filter [] h = tt
     sorted-filter (e ∷ es) h =
         let rest = sorted-filter es (both_second _ _ h) in
-        elim (p e) as (λ b. T (is_sorted nat_cmp (cond b (e ∷ filter p es) (filter p es)))) [ true ↦ both _ _ (below-filter e.0 es (both_first _ _ h)) rest | false ↦ rest ]
+        elim (p e) as (λ b. T (is_sorted nat_cmp (cond b (e ∷ filter p es) (filter p es)))) [
+          | true ↦ both _ _
+              (below-filter e.0 es (both_first _ _ h)) rest
+          | false ↦ rest
+        ]

@@ -26,4 +26,5 @@ rows_of slots places = map (λ e. (e.0, standing slots e.1)) places
 -- Each id's place holds a slot, and no two ids share one.
 pub record IsTable (slots : List (Option Counted)) (places : List (ℕ × ℕ)) : Type 0 where
   pub leads : (id place : ℕ) → place_under places id ≡ Some place → IsSome (at_place slots place)
-  pub apart : (id other place : ℕ) → place_under places id ≡ Some place → place_under places other ≡ Some place → id ≡ other
+  pub apart : (id other place : ℕ) → place_under places id ≡ Some place → place_under places other ≡ Some place
+      → id ≡ other

@@ -13,7 +13,8 @@ use std::alloc::{AllocError, Allocator};
 
 /// The counted nodes of the kernel. Node ids are the server's choice: any `u64`.
 ///
-/// Of an id that is not counted a look gives 0 or `None`, and a change changes nothing. Only `reserve` and `nodes` take memory.
+/// Of an id that is not counted a look gives 0 or `None`, and a change changes nothing. Only `reserve` and `nodes` take
+/// memory.
 pub trait CountTable {
     /// Where the room comes from.
     type Heap: Allocator + Copy;
@@ -48,7 +49,8 @@ pub trait CountTable {
         requires room { has_room self.old id }
         requires fits { ForSome (get (counted self.old) id) (λ node. node.count + 1 < 2 ^ 64) }
         ensures unlike { IsErr result ↔ IsUnlike (get (counted self.old) id) generation }
-        ensures ok { OnOk result (counted self.new ≡ learnt (counted self.old) id generation (get (counted self.old) id)) }
+        ensures ok { OnOk result (counted self.new ≡ learnt (counted self.old) id generation
+            (get (counted self.old) id)) }
         ensures err { OnErr result (counted self.new ≡ counted self.old) }
         ensures kept { (other : ℕ) → has_room self.old other → has_room self.new other };
 

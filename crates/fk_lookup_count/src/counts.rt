@@ -36,7 +36,8 @@ impl<S: Slots> CountsOf<S> {
         requires room { IsSome (slot_of (S.slots self.old.slots) id) }
         requires some { 0 < node.count }
         ensures nodes { nodes_in (S.slots self.new.slots) ≡ put (nodes_in (S.slots self.old.slots)) id node }
-        ensures kept { (other : ℕ) → IsSome (slot_of (S.slots self.old.slots) other) → IsSome (slot_of (S.slots self.new.slots) other) }
+        ensures kept { (other : ℕ) → IsSome (slot_of (S.slots self.old.slots) other)
+            → IsSome (slot_of (S.slots self.new.slots) other) }
     {
         self.slots.write(id, node);
     }
@@ -44,7 +45,8 @@ impl<S: Slots> CountsOf<S> {
     /// Takes the node of an id out, and its room.
     fn take_out(&mut self, id: u64)
         ensures nodes { nodes_in (S.slots self.new.slots) ≡ remove (nodes_in (S.slots self.old.slots)) id }
-        ensures kept { (other : ℕ) → other ≢ id → IsSome (slot_of (S.slots self.old.slots) other) → IsSome (slot_of (S.slots self.new.slots) other) }
+        ensures kept { (other : ℕ) → other ≢ id → IsSome (slot_of (S.slots self.old.slots) other)
+            → IsSome (slot_of (S.slots self.new.slots) other) }
     {
         self.slots.take_out(id);
     }

@@ -1,6 +1,7 @@
 //! Request numbers of a mount, named uniques: even, rising by 2 from 2, below 2^62.
 //!
-//! An INTERRUPT draws no number: it carries that of the request it interrupts, with the lowest bit set (the kernel's `fuse.rst`).
+//! An INTERRUPT draws no number: it carries that of the request it interrupts, with the lowest bit set (the kernel's
+//! `fuse.rst`).
 #![tactic(auto)]
 
 ghost use Rattle.std.specs.Prelude.{◌≡◌, ◌+◌, ◌%◌, ◌<◌, ◌≤◌, IfSome, IsSome, ◌↔◌};
@@ -9,8 +10,8 @@ ghost use Rattle.fuse_spec.specs.Kernel.Uniques.{first_number, number_limit, num
 use fuse_spec::limits::COUNTER_END;
 use std::marker::Model;
 
-/// The numbers that a mount has not drawn yet (this project's rule: they start at 2 and end below 2^62). Contracts see the
-/// coming one; at 2^62 none is left.
+/// The numbers that a mount has not drawn yet (this project's rule: they start at 2 and end below 2^62). Contracts see
+/// the coming one; at 2^62 none is left.
 #[derive(Drop)]
 pub struct Uniques {
     next: u64,

@@ -15,7 +15,8 @@ use Rattle.fk_wire.specs.Faults.{NodeReads, shape_of, Fills, HasNames, BodyFault
 use Rattle.fk_wire.specs.Decoded.{name_from, first_from, request_content_at, opcode_from, decoded}
 use Rattle.fk_fields.proofs.Names.{name_is, first_is}
 
-content_is : (a : RequestContent) (bytes : List ℕ) → ReadsAs 40 (request_body a) bytes → request_content_at (opcode_of a) bytes ≡ a
+content_is : (a : RequestContent) (bytes : List ℕ) → ReadsAs 40 (request_body a) bytes
+    → request_content_at (opcode_of a) bytes ≡ a
 content_is (lookup name) bytes h = ap lookup (name_is 40 bytes name h)
 content_is (forget n) bytes h = cc
 content_is getattr bytes h = refl
@@ -38,7 +39,8 @@ content_is (create name) bytes h = ap create (name_is 56 bytes name h)
 content_is (interrupt unique) bytes h = cc
 content_is (batch_forget ps) bytes h = ap batch_forget (rw h.0 (one_list ps 48 bytes h.1))
 
-fills : (a : RequestContent) (bytes : List ℕ) → ReadsAs 40 (request_body a) bytes → Fills (shape_of (opcode_of a)) bytes × HasNames (shape_of (opcode_of a)) bytes
+fills : (a : RequestContent) (bytes : List ℕ) → ReadsAs 40 (request_body a) bytes
+    → Fills (shape_of (opcode_of a)) bytes × HasNames (shape_of (opcode_of a)) bytes
 fills (lookup name) bytes h = (omega (arith, h.2), (name, h))
 fills (forget n) bytes h = (h.1, tt)
 fills getattr bytes h = (h, tt)
@@ -82,7 +84,8 @@ same_code : (o p : Opcode) → code_of o ≡ code_of p → o ≡ p
 same_code o p e = sym (opcode_back o) ∙ ap opcode_from e ∙ opcode_back p
 
 -- the field of the node, and what follows it
-nodeid_reads : (about : Bool) (node : ℕ) (after : List Field) (bytes : List ℕ) → IsNodeOf about node → ReadsAs 16 (nodeid_field about node ∷ after) bytes → NodeReads about bytes node × ReadsAs 24 after bytes
+nodeid_reads : (about : Bool) (node : ℕ) (after : List Field) (bytes : List ℕ) → IsNodeOf about node
+    → ReadsAs 16 (nodeid_field about node ∷ after) bytes → NodeReads about bytes node × ReadsAs 24 after bytes
 nodeid_reads true node after bytes good h = h
 nodeid_reads false node after bytes good h = (good, h)
 
@@ -90,26 +93,33 @@ one_node : (about : Bool) (a b : ℕ) (bytes : List ℕ) → NodeReads about byt
 one_node true a b bytes h k = sym h ∙ k
 one_node false a b bytes h k = h ∙ sym k
 
-body_at : (minor : Minor) (bytes : List ℕ) (m : RequestMessage) → SpellsAt minor bytes m → ReadsAs 40 (request_body m.content) bytes
+body_at : (minor : Minor) (bytes : List ℕ) (m : RequestMessage) → SpellsAt minor bytes m
+    → ReadsAs 40 (request_body m.content) bytes
 body_at minor bytes m h = (nodeid_reads (has_node (opcode_of m.content)) m.nodeid _ bytes h.2 h.3.1.1.1).1
 
-node_at : (minor : Minor) (bytes : List ℕ) (m : RequestMessage) → SpellsAt minor bytes m → NodeReads (has_node (opcode_of m.content)) bytes m.nodeid
+node_at : (minor : Minor) (bytes : List ℕ) (m : RequestMessage) → SpellsAt minor bytes m
+    → NodeReads (has_node (opcode_of m.content)) bytes m.nodeid
 node_at minor bytes m h = (nodeid_reads (has_node (opcode_of m.content)) m.nodeid _ bytes h.2 h.3.1.1.1).0
 
 same_message : (m n : RequestMessage) → m.unique ≡ n.unique → m.nodeid ≡ n.nodeid → m.content ≡ n.content → m ≡ n
 same_message m n p q r =
     let made : ℕ → ℕ → RequestContent → RequestMessage = λ u d a. record { unique = u; nodeid = d; content = a } in
-    ap (λ (u : ℕ). made u m.nodeid m.content) p ∙ ap (λ (d : ℕ). made n.unique d m.content) q ∙ ap (λ (a : RequestContent). made n.unique n.nodeid a) r
+    ap (λ (u : ℕ). made u m.nodeid m.content) p ∙ ap (λ (d : ℕ). made n.unique d m.content) q ∙ ap
+    (λ (a : RequestContent). made n.unique n.nodeid a) r
 
-pub one_request : (minor : Minor) (bytes : List ℕ) (m n : RequestMessage) → SpellsAt minor bytes m → SpellsAt minor bytes n → m ≡ n
+pub one_request : (minor : Minor) (bytes : List ℕ) (m n : RequestMessage) → SpellsAt minor bytes m
+    → SpellsAt minor bytes n → m ≡ n
 one_request minor bytes m n h k =
     let same : opcode_of m.content ≡ opcode_of n.content = same_code _ _ (sym h.3.1.0 ∙ k.3.1.0) in
-    let content : m.content ≡ n.content = sym (content_is m.content bytes (body_at minor bytes m h)) ∙ ap (λ (o : Opcode). request_content_at o bytes) same ∙ content_is n.content bytes (body_at minor bytes n k) in
+    let content : m.content ≡ n.content = sym (content_is m.content bytes (body_at minor bytes m h)) ∙ ap
+    (λ (o : Opcode). request_content_at o bytes) same ∙ content_is n.content bytes (body_at minor bytes n k) in
     let unique : m.unique ≡ n.unique = sym h.3.1.1.0 ∙ k.3.1.1.0 in
-    let nodeid : m.nodeid ≡ n.nodeid = one_node (has_node (opcode_of m.content)) m.nodeid n.nodeid bytes (node_at minor bytes m h) (rw same (node_at minor bytes n k)) in
+    let nodeid : m.nodeid ≡ n.nodeid = one_node (has_node (opcode_of m.content)) m.nodeid n.nodeid bytes
+    (node_at minor bytes m h) (rw same (node_at minor bytes n k)) in
     same_message m n unique nodeid content
 
-nodeid_decoded : (about : Bool) (nodeid : ℕ) (bytes : List ℕ) → NodeReads about bytes nodeid → (if about then number_at 16 8 bytes else 0) ≡ nodeid
+nodeid_decoded : (about : Bool) (nodeid : ℕ) (bytes : List ℕ) → NodeReads about bytes nodeid
+    → (if about then number_at 16 8 bytes else 0) ≡ nodeid
 nodeid_decoded true nodeid bytes h = h
 nodeid_decoded false nodeid bytes h = sym h
 
@@ -117,9 +127,13 @@ nodeid_decoded false nodeid bytes h = sym h
 pub decoded_is_at : (minor : Minor) (bytes : List ℕ) (m : RequestMessage) → SpellsAt minor bytes m → decoded bytes ≡ m
 unfolding decoded
 decoded_is_at minor bytes m h =
-    let same : opcode_from (number_at 4 4 bytes) ≡ opcode_of m.content = ap opcode_from h.3.1.0 ∙ opcode_back (opcode_of m.content) in
-    let content : request_content_at (opcode_from (number_at 4 4 bytes)) bytes ≡ m.content = ap (λ (o : Opcode). request_content_at o bytes) same ∙ content_is m.content bytes (body_at minor bytes m h) in
-    let nodeid : (if has_node (opcode_from (number_at 4 4 bytes)) then number_at 16 8 bytes else 0) ≡ m.nodeid = ap (λ (o : Opcode). if has_node o then number_at 16 8 bytes else 0) same ∙ nodeid_decoded (has_node (opcode_of m.content)) m.nodeid bytes (node_at minor bytes m h) in
+    let same : opcode_from (number_at 4 4 bytes) ≡ opcode_of m.content =
+    ap opcode_from h.3.1.0 ∙ opcode_back (opcode_of m.content) in
+    let content : request_content_at (opcode_from (number_at 4 4 bytes)) bytes ≡ m.content =
+    ap (λ (o : Opcode). request_content_at o bytes) same ∙ content_is m.content bytes (body_at minor bytes m h) in
+    let nodeid : (if has_node (opcode_from (number_at 4 4 bytes)) then number_at 16 8 bytes else 0) ≡ m.nodeid =
+    ap (λ (o : Opcode). if has_node o then number_at 16 8 bytes else 0) same ∙ nodeid_decoded
+    (has_node (opcode_of m.content)) m.nodeid bytes (node_at minor bytes m h) in
     same_message (decoded bytes) m h.3.1.1.0 nodeid content
 
 -- and so at the minor version that is served
@@ -138,7 +152,8 @@ within place (raw bs ∷ fs) bytes h = let k = within (place + length bs) fs byt
 long_enough : (minor : Minor) (bytes : List ℕ) (m : RequestMessage) → SpellsAt minor bytes m → 40 ≤ length bytes
 long_enough minor bytes m h = within 40 (request_body m.content) bytes (body_at minor bytes m h)
 
-pub no_fault : (minor : Minor) (bytes : List ℕ) (m : RequestMessage) (f : WireFault) → SpellsAt minor bytes m → FaultIsAt minor bytes f → ⊥
+pub no_fault : (minor : Minor) (bytes : List ℕ) (m : RequestMessage) (f : WireFault) → SpellsAt minor bytes m
+    → FaultIsAt minor bytes f → ⊥
 no_fault minor bytes m faults.Short h x = absurd (omega (arith, long_enough minor bytes m h))
 no_fault minor bytes m faults.Length h x = x.1 h.3.0
 no_fault minor bytes m faults.Opcode h x = x.1 (opcode_of m.content) (h.1, sym h.3.1.0)
@@ -151,11 +166,15 @@ no_fault minor bytes m faults.Name h x =
 no_fault minor bytes m faults.ErrorRange h x = x
 no_fault minor bytes m faults.Memory h x = x
 
-pub read_only : (minor : Minor) (bytes : List ℕ) (r : Result Request WireFault) → IfOk r (λ v. SpellsAt minor bytes (request_message v)) → IfErr r (FaultIsAt minor bytes) → (m : RequestMessage) → SpellsAt minor bytes m → IsOkAnd r (λ v. request_message v ≡ m)
+pub read_only : (minor : Minor) (bytes : List ℕ) (r : Result Request WireFault)
+    → IfOk r (λ v. SpellsAt minor bytes (request_message v)) → IfErr r (FaultIsAt minor bytes) → (m : RequestMessage)
+    → SpellsAt minor bytes m → IsOkAnd r (λ v. request_message v ≡ m)
 read_only minor bytes (Ok v) ok err m h = one_request minor bytes (request_message v) m ok h
 read_only minor bytes (Err f) ok err m h = absurd (no_fault minor bytes m f h err)
 
-pub body_fault : (minor : Minor) (bytes : List ℕ) (o : Opcode) (f : WireFault) → 40 ≤ length bytes → number_at 0 4 bytes ≡ length bytes → IsTrue (knows minor o) → code_of o ≡ number_at 4 4 bytes → length bytes ≤ max_frame → BodyFaultIs (shape_of o) bytes f → FaultIsAt minor bytes f
+pub body_fault : (minor : Minor) (bytes : List ℕ) (o : Opcode) (f : WireFault) → 40 ≤ length bytes
+    → number_at 0 4 bytes ≡ length bytes → IsTrue (knows minor o) → code_of o ≡ number_at 4 4 bytes
+    → length bytes ≤ max_frame → BodyFaultIs (shape_of o) bytes f → FaultIsAt minor bytes f
 body_fault minor bytes o faults.Body long len known code small x = ((long, len), o, (known, code), λ h. x h.1)
 body_fault minor bytes o faults.Name long len known code small x = ((long, len), o, (known, code), small, x.0, x.1)
 body_fault minor bytes o faults.Short long len known code small x = absurd x

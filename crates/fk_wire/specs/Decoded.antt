@@ -1,4 +1,5 @@
--- Total functions from the bytes of a frame to what it spells. Where the bytes spell nothing, their value means nothing.
+-- Total functions from the bytes of a frame to what it spells. Where the bytes spell nothing, their value means
+-- nothing.
 use Rattle.std.specs.Prelude.{ℕ, Bool, true, false, zero, suc, ◌+◌, ◌-◌, List, length, take, drop, if◌then◌else◌, ◌==◌, nat_lt, unwrap_or}
 use Rattle.std.specs.Int.{cast_signed, w32}
 use Rattle.std.specs.Int.RustNames.{bit_and}
@@ -32,13 +33,16 @@ request_content_at op.Getattr bytes = getattr
 request_content_at op.Mkdir bytes = mkdir (name_from 48 bytes)
 request_content_at op.Unlink bytes = unlink (name_from 40 bytes)
 request_content_at op.Rmdir bytes = rmdir (name_from 40 bytes)
-request_content_at op.Rename bytes = let old = first_from bytes in rename (number_at 40 8 bytes) old (name_from (48 + (length old + 1)) bytes)
+request_content_at op.Rename bytes = let old = first_from bytes in
+    rename (number_at 40 8 bytes) old (name_from (48 + (length old + 1)) bytes)
 request_content_at op.Link bytes = link (number_at 40 8 bytes) (name_from 48 bytes)
 request_content_at op.Open bytes = opening
 request_content_at op.Read bytes = read (number_at 40 8 bytes) (number_at 48 8 bytes) (number_at 56 4 bytes)
-request_content_at op.Write bytes = write (number_at 40 8 bytes) (number_at 48 8 bytes) (bytes_at 80 (number_at 56 4 bytes) bytes)
+request_content_at op.Write bytes = write (number_at 40 8 bytes) (number_at 48 8 bytes)
+    (bytes_at 80 (number_at 56 4 bytes) bytes)
 request_content_at op.Release bytes = release (number_at 40 8 bytes)
-request_content_at op.Init bytes = init (number_at 40 4 bytes) (number_at 44 4 bytes) (bit_and (number_at 52 4 bytes) known_flags)
+request_content_at op.Init bytes = init (number_at 40 4 bytes) (number_at 44 4 bytes)
+    (bit_and (number_at 52 4 bytes) known_flags)
 request_content_at op.Readdir bytes = readdir (number_at 48 8 bytes) (number_at 56 4 bytes)
 request_content_at op.Readdirplus bytes = readdirplus (number_at 48 8 bytes) (number_at 56 4 bytes)
 request_content_at op.Create bytes = create (name_from 56 bytes)
@@ -53,14 +57,20 @@ opcode_from n = if n == 1 then op.Lookup else if n == 2 then op.Forget else if n
 
 -- the request that a frame spells
 unfoldable pub decoded : List ℕ → RequestMessage
-decoded bytes = let o = opcode_from (number_at 4 4 bytes) in record { unique = number_at 8 8 bytes; nodeid = (if has_node o then number_at 16 8 bytes else 0); content = request_content_at o bytes }
+decoded bytes = let o = opcode_from (number_at 4 4 bytes) in
+    record {
+      unique = number_at 8 8 bytes;
+      nodeid = (if has_node o then number_at 16 8 bytes else 0);
+      content = request_content_at o bytes;
+    }
 
 -- ---- replies
 
 -- how many records stand from a place to the end, of so many at most
 unfoldable pub count_from : (most : ℕ) (plus : Bool) (place : ℕ) → List ℕ → ℕ
 count_from zero plus place bytes = 0
-count_from (suc most) plus place bytes = if nat_lt place (length bytes) then suc (count_from most plus (record_end plus place bytes) bytes) else 0
+count_from (suc most) plus place bytes = if nat_lt place (length bytes) then suc
+    (count_from most plus (record_end plus place bytes) bytes) else 0
 
 -- how many records a body of this kind has
 abbrev pub record_count : ReplyKind → List ℕ → ℕ
@@ -76,7 +86,8 @@ reply_content_at kind.Attr count bytes = attr_reply (attr_at 32 bytes)
 reply_content_at kind.Open count bytes = open_reply (number_at 16 8 bytes)
 reply_content_at kind.Bytes count bytes = bytes_reply (bytes_at 16 (length bytes - 16) bytes)
 reply_content_at kind.Write count bytes = write_reply (number_at 16 4 bytes)
-reply_content_at kind.Init count bytes = init_reply (number_at 16 4 bytes) (number_at 20 4 bytes) (bit_and (number_at 28 4 bytes) known_flags)
+reply_content_at kind.Init count bytes = init_reply (number_at 16 4 bytes) (number_at 20 4 bytes)
+    (bit_and (number_at 28 4 bytes) known_flags)
 reply_content_at kind.Create count bytes = create_reply (entry_at 16 bytes) (number_at 144 8 bytes)
 reply_content_at kind.Records count bytes = records_reply (dirents_from count 16 bytes)
 reply_content_at kind.RecordsPlus count bytes = plus_reply (direntpluses_from count 16 bytes)
@@ -87,4 +98,9 @@ decoded_kind o bytes = if number_at 4 4 bytes == 0 then unwrap_or (kind_of o) ki
 
 -- the reply to a request of this opcode that a frame spells
 unfoldable pub decoded_reply : Opcode → List ℕ → ReplyMessage
-decoded_reply o bytes = let k = decoded_kind o bytes in record { unique = number_at 8 8 bytes; error = cast_signed w32 (number_at 4 4 bytes); content = reply_content_at k (record_count k bytes) bytes }
+decoded_reply o bytes = let k = decoded_kind o bytes in
+    record {
+      unique = number_at 8 8 bytes;
+      error = cast_signed w32 (number_at 4 4 bytes);
+      content = reply_content_at k (record_count k bytes) bytes;
+    }

@@ -18,7 +18,8 @@ pub record DirentPlusContent : Type 0 where
 
 -- struct fuse_dirent: ino, off, namelen, type, name, padding; and what follows
 abbrev pub dirent_fields : DirentContent → List Field → List Field
-dirent_fields d after = u64 d.ino ∷ u64 d.off ∷ u32 (length d.name) ∷ u32 d.kind ∷ raw d.name ∷ free (padding (length d.name)) 0 ∷ after
+dirent_fields d after = u64 d.ino ∷ u64 d.off ∷ u32 (length d.name) ∷ u32 d.kind ∷ raw d.name ∷ free
+    (padding (length d.name)) 0 ∷ after
 
 -- records, one after the other
 abbrev pub dirents : List DirentContent → List Field
@@ -47,7 +48,12 @@ HaveEntries (p ∷ ps) = IsEntry p.entry_out × HaveEntries ps
 
 -- the record at a place
 abbrev pub dirent_at : ℕ → List ℕ → DirentContent
-dirent_at place bytes = record { ino = number_at place 8 bytes; off = number_at (place + 8) 8 bytes; kind = number_at (place + 20) 4 bytes; name = name_at place bytes }
+dirent_at place bytes = record {
+  ino = number_at place 8 bytes;
+  off = number_at (place + 8) 8 bytes;
+  kind = number_at (place + 20) 4 bytes;
+  name = name_at place bytes;
+}
 
 -- so many records from a place on
 abbrev pub dirents_from : ℕ → ℕ → List ℕ → List DirentContent
@@ -57,4 +63,7 @@ dirents_from (suc count) place bytes = dirent_at place bytes ∷ dirents_from co
 -- so many pairs of an entry and a record from a place on
 abbrev pub direntpluses_from : ℕ → ℕ → List ℕ → List DirentPlusContent
 direntpluses_from zero place bytes = []
-direntpluses_from (suc count) place bytes = record { entry_out = entry_at place bytes; dirent = dirent_at (place + 128) bytes } ∷ direntpluses_from count (record_end true place bytes) bytes
+direntpluses_from (suc count) place bytes = record {
+  entry_out = entry_at place bytes;
+  dirent = dirent_at (place + 128) bytes;
+} ∷ direntpluses_from count (record_end true place bytes) bytes

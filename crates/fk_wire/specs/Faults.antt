@@ -74,8 +74,10 @@ abbrev pub FaultIsAt : Minor → List ℕ → WireFault → Type 0
 FaultIsAt minor bytes faults.Short = length bytes < 40
 FaultIsAt minor bytes faults.Length = (40 ≤ length bytes) × (number_at 0 4 bytes ≢ length bytes)
 FaultIsAt minor bytes faults.Opcode = HasLength bytes × ((o : Opcode) → HasOpcode minor bytes o → ⊥)
-FaultIsAt minor bytes faults.Body = HasLength bytes × (o : Opcode) × HasOpcode minor bytes o × ((length bytes ≤ max_frame) × Fills (shape_of o) bytes → ⊥)
-FaultIsAt minor bytes faults.Name = HasLength bytes × (o : Opcode) × HasOpcode minor bytes o × (length bytes ≤ max_frame) × Fills (shape_of o) bytes × (HasNames (shape_of o) bytes → ⊥)
+FaultIsAt minor bytes faults.Body = HasLength bytes × (o : Opcode) × HasOpcode minor bytes o
+    × ((length bytes ≤ max_frame) × Fills (shape_of o) bytes → ⊥)
+FaultIsAt minor bytes faults.Name = HasLength bytes × (o : Opcode) × HasOpcode minor bytes o
+    × (length bytes ≤ max_frame) × Fills (shape_of o) bytes × (HasNames (shape_of o) bytes → ⊥)
 FaultIsAt minor bytes _ = ⊥
 
 -- what a request has to be, whatever its names are
@@ -86,8 +88,10 @@ FitsFrame m = IsNodeOf (has_node (opcode_of m.content)) m.nodeid × (40 + sizes 
 abbrev pub RefusalIsAt : Minor → RequestMessage → WireFault → Type 0
 RefusalIsAt minor m faults.Opcode = IsTrue (knows minor (opcode_of m.content)) → ⊥
 RefusalIsAt minor m faults.Body = IsTrue (knows minor (opcode_of m.content)) × (FitsFrame m → ⊥)
-RefusalIsAt minor m faults.Name = IsTrue (knows minor (opcode_of m.content)) × FitsFrame m × (AreNamed (request_body m.content) → ⊥)
-RefusalIsAt minor m faults.Memory = IsTrue (knows minor (opcode_of m.content)) × FitsFrame m × AreNamed (request_body m.content)
+RefusalIsAt minor m faults.Name = IsTrue (knows minor (opcode_of m.content)) × FitsFrame m
+    × (AreNamed (request_body m.content) → ⊥)
+RefusalIsAt minor m faults.Memory = IsTrue (knows minor (opcode_of m.content)) × FitsFrame m
+    × AreNamed (request_body m.content)
 RefusalIsAt minor m _ = ⊥
 
 -- The same, at the minor version that is served.

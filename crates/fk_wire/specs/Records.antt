@@ -37,11 +37,14 @@ AreRecordsPlus place bytes ps = HaveEntries ps × HavePlusNames ps × ReadsAs pl
 -- The fault of a list of records. It is in the names only where all else is right.
 abbrev pub RecordsFaultIs : ℕ → List ℕ → WireFault → Type 0
 RecordsFaultIs place bytes faults.Body = (ds : List DirentContent) → ReadsAs place (dirents ds) bytes → ⊥
-RecordsFaultIs place bytes faults.Name = (ds : List DirentContent) × ReadsAs place (dirents ds) bytes × (HaveRecordNames ds → ⊥)
+RecordsFaultIs place bytes faults.Name = (ds : List DirentContent) × ReadsAs place (dirents ds) bytes
+    × (HaveRecordNames ds → ⊥)
 RecordsFaultIs place bytes _ = ⊥
 
 -- the fault of a list of pairs
 abbrev pub PlusFaultIs : ℕ → List ℕ → WireFault → Type 0
-PlusFaultIs place bytes faults.Body = (ps : List DirentPlusContent) → HaveEntries ps → ReadsAs place (direntpluses ps) bytes → ⊥
-PlusFaultIs place bytes faults.Name = (ps : List DirentPlusContent) × HaveEntries ps × ReadsAs place (direntpluses ps) bytes × (HavePlusNames ps → ⊥)
+PlusFaultIs place bytes faults.Body = (ps : List DirentPlusContent) → HaveEntries ps
+    → ReadsAs place (direntpluses ps) bytes → ⊥
+PlusFaultIs place bytes faults.Name = (ps : List DirentPlusContent) × HaveEntries ps
+    × ReadsAs place (direntpluses ps) bytes × (HavePlusNames ps → ⊥)
 PlusFaultIs place bytes _ = ⊥

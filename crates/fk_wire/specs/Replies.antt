@@ -112,9 +112,12 @@ abbrev pub init_end : Bool → List Field
 init_end true = []
 init_end false = free32 1 ∷ free 2 0 ∷ free 2 0 ∷ free32 0 ∷ free32 0 ∷ free32 0 ∷ free32 0 ∷ free32 0 ∷ free32 0 ∷ free32 0 ∷ free32 0 ∷ []
 
--- struct fuse_init_out: major, minor, max_readahead, flags, max_background, congestion_threshold, max_write; and its end
+-- struct fuse_init_out: major, minor, max_readahead, flags, max_background, congestion_threshold, max_write; and its
+-- end
 abbrev pub init_fields : (major minor flags : ℕ) → List Field
-init_fields major minor flags = u32 major ∷ u32 minor ∷ free32 0 ∷ bits known_flags flags ∷ free 2 0 ∷ free 2 0 ∷ free32 4096 ∷ init_end (states_15 major minor)
+init_fields major minor flags =
+    u32 major ∷ u32 minor ∷ free32 0 ∷ bits known_flags flags ∷ free 2 0 ∷ free 2 0 ∷ free32 4096 ∷ init_end
+    (states_15 major minor)
 
 -- the fields of a body
 abbrev pub reply_body : ReplyContent → List Field
@@ -150,7 +153,8 @@ IsErrorNumber z = (z ≤ℤ pos 0) × (negsuc 510 ≤ℤ z)
 
 -- What goes with an opcode: an error alone, or a body of its kind.
 abbrev pub GoesWith : Minor → Opcode → ReplyMessage → Type 0
-GoesWith minor o t = (k : ReplyKind) × (reply_kind minor o ≡ Some k) × (kind_of_content t.content ≡ (if cast_unsigned w32 t.error == 0 then k else kind.Empty))
+GoesWith minor o t = (k : ReplyKind) × (reply_kind minor o ≡ Some k)
+    × (kind_of_content t.content ≡ (if cast_unsigned w32 t.error == 0 then k else kind.Empty))
 
 -- struct fuse_out_header: len, error, unique; and then the body
 abbrev pub reply_fields : ℕ → ReplyMessage → List Field
@@ -158,7 +162,8 @@ reply_fields len t = u32 len ∷ u32 (cast_unsigned w32 t.error) ∷ u64 t.uniqu
 
 -- The bytes are a frame that spells the reply to a request of this opcode, at a minor version.
 abbrev pub SpellsReplyAt : Minor → Opcode → List ℕ → ReplyMessage → Type 0
-SpellsReplyAt minor o bytes t = (length bytes ≤ max_frame) × IsErrorNumber t.error × GoesWith minor o t × IsReplyContent t.content × HasReplyNames t.content × ReadsAs 0 (reply_fields (length bytes) t) bytes
+SpellsReplyAt minor o bytes t = (length bytes ≤ max_frame) × IsErrorNumber t.error × GoesWith minor o t
+    × IsReplyContent t.content × HasReplyNames t.content × ReadsAs 0 (reply_fields (length bytes) t) bytes
 
 -- An error stands alone.
 abbrev pub IsAlone : ReplyMessage → Type 0
@@ -166,7 +171,10 @@ IsAlone t = cast_unsigned w32 t.error ≢ 0 → kind_of_content t.content ≡ ki
 
 -- The bytes are the one frame in which the reply is written, at a minor version.
 abbrev pub WrittenReplyAt : Minor → ReplyMessage → List ℕ → Type 0
-WrittenReplyAt minor t bytes = (length bytes ≤ max_frame) × IsErrorNumber t.error × IsTrue (knows_kind minor (kind_of_content t.content)) × IsAlone t × IsReplyContent t.content × HasReplyNames t.content × InRange (reply_fields (length bytes) t) × AreNamed (reply_fields (length bytes) t) × (bytes ≡ spellings (reply_fields (length bytes) t))
+WrittenReplyAt minor t bytes = (length bytes ≤ max_frame) × IsErrorNumber t.error
+    × IsTrue (knows_kind minor (kind_of_content t.content)) × IsAlone t × IsReplyContent t.content
+    × HasReplyNames t.content × InRange (reply_fields (length bytes) t) × AreNamed (reply_fields (length bytes) t)
+    × (bytes ≡ spellings (reply_fields (length bytes) t))
 
 -- The same, at the minor version that is served.
 abbrev pub SpellsReply : Opcode → List ℕ → ReplyMessage → Type 0

@@ -57,8 +57,11 @@ ReplyFaultIsAt minor o bytes faults.Short = length bytes < 16
 ReplyFaultIsAt minor o bytes faults.Length = (16 ≤ length bytes) × (number_at 0 4 bytes ≢ length bytes)
 ReplyFaultIsAt minor o bytes faults.ErrorRange = HasReplyLength bytes × (HasError bytes → ⊥)
 ReplyFaultIsAt minor o bytes faults.Opcode = HasReplyLength bytes × HasError bytes × (reply_kind minor o ≡ None)
-ReplyFaultIsAt minor o bytes faults.Body = HasReplyLength bytes × HasError bytes × (k : ReplyKind) × (reply_kind minor o ≡ Some k) × ((length bytes ≤ max_frame) × FillsReply (kind_in bytes k) bytes → ⊥)
-ReplyFaultIsAt minor o bytes faults.Name = HasReplyLength bytes × HasError bytes × (k : ReplyKind) × (reply_kind minor o ≡ Some k) × (length bytes ≤ max_frame) × FillsReply (kind_in bytes k) bytes × (HasNamesOf (kind_in bytes k) bytes → ⊥)
+ReplyFaultIsAt minor o bytes faults.Body = HasReplyLength bytes × HasError bytes × (k : ReplyKind)
+    × (reply_kind minor o ≡ Some k) × ((length bytes ≤ max_frame) × FillsReply (kind_in bytes k) bytes → ⊥)
+ReplyFaultIsAt minor o bytes faults.Name = HasReplyLength bytes × HasError bytes × (k : ReplyKind)
+    × (reply_kind minor o ≡ Some k) × (length bytes ≤ max_frame) × FillsReply (kind_in bytes k) bytes
+    × (HasNamesOf (kind_in bytes k) bytes → ⊥)
 ReplyFaultIsAt minor o bytes _ = ⊥
 
 -- what a reply has to be, whatever its names are
@@ -68,10 +71,14 @@ FitsReply t = IsAlone t × IsReplyContent t.content × (16 + sizes (reply_body t
 -- The first fault of a reply that is to be written. Memory runs out only for one that has a spelling.
 abbrev pub ReplyRefusalIsAt : Minor → ReplyMessage → WireFault → Type 0
 ReplyRefusalIsAt minor t faults.ErrorRange = IsErrorNumber t.error → ⊥
-ReplyRefusalIsAt minor t faults.Opcode = IsErrorNumber t.error × (IsTrue (knows_kind minor (kind_of_content t.content)) → ⊥)
-ReplyRefusalIsAt minor t faults.Body = IsErrorNumber t.error × IsTrue (knows_kind minor (kind_of_content t.content)) × (FitsReply t → ⊥)
-ReplyRefusalIsAt minor t faults.Name = IsErrorNumber t.error × IsTrue (knows_kind minor (kind_of_content t.content)) × FitsReply t × (HasReplyNames t.content → ⊥)
-ReplyRefusalIsAt minor t faults.Memory = IsErrorNumber t.error × IsTrue (knows_kind minor (kind_of_content t.content)) × FitsReply t × HasReplyNames t.content
+ReplyRefusalIsAt minor t faults.Opcode = IsErrorNumber t.error
+    × (IsTrue (knows_kind minor (kind_of_content t.content)) → ⊥)
+ReplyRefusalIsAt minor t faults.Body = IsErrorNumber t.error × IsTrue (knows_kind minor (kind_of_content t.content))
+    × (FitsReply t → ⊥)
+ReplyRefusalIsAt minor t faults.Name = IsErrorNumber t.error × IsTrue (knows_kind minor (kind_of_content t.content))
+    × FitsReply t × (HasReplyNames t.content → ⊥)
+ReplyRefusalIsAt minor t faults.Memory = IsErrorNumber t.error × IsTrue (knows_kind minor (kind_of_content t.content))
+    × FitsReply t × HasReplyNames t.content
 ReplyRefusalIsAt minor t _ = ⊥
 
 -- The same, at the minor version that is served.

@@ -142,22 +142,27 @@ IsNodeOf false node = node ≡ 0
 
 -- struct fuse_in_header: len, opcode, unique, nodeid, uid, gid, pid, padding
 abbrev pub header : (len code unique : ℕ) (nodeid : Field) → List Field
-header len code unique nodeid = u32 len ∷ u32 code ∷ u64 unique ∷ nodeid ∷ free32 0 ∷ free32 0 ∷ free32 0 ∷ free32 0 ∷ []
+header len code unique nodeid =
+    u32 len ∷ u32 code ∷ u64 unique ∷ nodeid ∷ free32 0 ∷ free32 0 ∷ free32 0 ∷ free32 0 ∷ []
 
 -- a frame of this length
 abbrev pub request_fields : ℕ → RequestMessage → List Field
-request_fields len m = header len (code_of (opcode_of m.content)) m.unique (nodeid_field (has_node (opcode_of m.content)) m.nodeid) ++ request_body m.content
+request_fields len m = header len (code_of (opcode_of m.content)) m.unique
+    (nodeid_field (has_node (opcode_of m.content)) m.nodeid) ++ request_body m.content
 
 abbrev pub max_frame : ℕ
 max_frame = 4176
 
 -- The bytes are a frame that spells the request, at a minor version.
 abbrev pub SpellsAt : Minor → List ℕ → RequestMessage → Type 0
-SpellsAt minor bytes m = (length bytes ≤ max_frame) × IsTrue (knows minor (opcode_of m.content)) × IsNodeOf (has_node (opcode_of m.content)) m.nodeid × ReadsAs 0 (request_fields (length bytes) m) bytes
+SpellsAt minor bytes m = (length bytes ≤ max_frame) × IsTrue (knows minor (opcode_of m.content))
+    × IsNodeOf (has_node (opcode_of m.content)) m.nodeid × ReadsAs 0 (request_fields (length bytes) m) bytes
 
 -- The bytes are the one frame in which the request is written, at a minor version.
 abbrev pub WrittenAt : Minor → RequestMessage → List ℕ → Type 0
-WrittenAt minor m bytes = (length bytes ≤ max_frame) × IsTrue (knows minor (opcode_of m.content)) × IsNodeOf (has_node (opcode_of m.content)) m.nodeid × InRange (request_fields (length bytes) m) × AreNamed (request_fields (length bytes) m) × (bytes ≡ spellings (request_fields (length bytes) m))
+WrittenAt minor m bytes = (length bytes ≤ max_frame) × IsTrue (knows minor (opcode_of m.content))
+    × IsNodeOf (has_node (opcode_of m.content)) m.nodeid × InRange (request_fields (length bytes) m)
+    × AreNamed (request_fields (length bytes) m) × (bytes ≡ spellings (request_fields (length bytes) m))
 
 -- The same, at the minor version that is served.
 abbrev pub Spells : List ℕ → RequestMessage → Type 0

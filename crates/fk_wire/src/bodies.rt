@@ -15,7 +15,8 @@ use fk_fields::{u32_at, u64_at};
 
 /// Where the name stands in a frame under this opcode, if it has one name and ends with it.
 fn name_place(opcode: Opcode) -> Option<usize>
-    ensures { MatchOption result ((place : ℕ) → shape_of opcode ≢ name_after place) (λ place. shape_of opcode ≡ name_after place) }
+    ensures { MatchOption result ((place : ℕ) → shape_of opcode ≢ name_after place)
+        (λ place. shape_of opcode ≡ name_after place) }
 {
     match opcode {
         Opcode::Lookup | Opcode::Unlink | Opcode::Rmdir => Some(40),
@@ -30,7 +31,8 @@ fn name_place(opcode: Opcode) -> Option<usize>
 #[inline(always)]
 fn named_body(opcode: Opcode, bytes: &[u8], place: usize) -> Result<RequestBody<'_>, WireFault>
     requires { shape_of opcode ≡ name_after place }
-    ensures ok { IfOk result (λ b. (opcode_of (request_content b) ≡ opcode) × ReadsAs 40 (request_body (request_content b)) bytes.now) }
+    ensures ok { IfOk result (λ b. (opcode_of (request_content b) ≡ opcode)
+        × ReadsAs 40 (request_body (request_content b)) bytes.now) }
     ensures err { IfErr result (BodyFaultIs (shape_of opcode) bytes.now) }
 {
     let name = one_name(bytes, place)?;
@@ -51,7 +53,8 @@ fn named_body(opcode: Opcode, bytes: &[u8], place: usize) -> Result<RequestBody<
 /// `struct fuse_rename_in` and the two names.
 #[inline(always)]
 fn rename_body(bytes: &[u8]) -> Result<RequestBody<'_>, WireFault>
-    ensures ok { IfOk result (λ b. (opcode_of (request_content b) ≡ Opcode.Rename) × ReadsAs 40 (request_body (request_content b)) bytes.now) }
+    ensures ok { IfOk result (λ b. (opcode_of (request_content b) ≡ Opcode.Rename)
+        × ReadsAs 40 (request_body (request_content b)) bytes.now) }
     ensures err { IfErr result (BodyFaultIs (shape_of Opcode.Rename) bytes.now) }
 {
     let (old, new) = two_names(bytes, 48)?;
@@ -62,7 +65,8 @@ fn rename_body(bytes: &[u8]) -> Result<RequestBody<'_>, WireFault>
 /// `struct fuse_read_in`.
 #[inline(always)]
 fn read_body(bytes: &[u8]) -> Result<RequestBody<'_>, WireFault>
-    ensures ok { IfOk result (λ b. (opcode_of (request_content b) ≡ Opcode.Read) × ReadsAs 40 (request_body (request_content b)) bytes.now) }
+    ensures ok { IfOk result (λ b. (opcode_of (request_content b) ≡ Opcode.Read)
+        × ReadsAs 40 (request_body (request_content b)) bytes.now) }
     ensures err { IfErr result (BodyFaultIs (shape_of Opcode.Read) bytes.now) }
 {
     fixed(bytes, 80)?;
@@ -75,7 +79,8 @@ fn read_body(bytes: &[u8]) -> Result<RequestBody<'_>, WireFault>
 /// `struct fuse_write_in` and the data.
 #[inline(always)]
 fn write_body(bytes: &[u8]) -> Result<RequestBody<'_>, WireFault>
-    ensures ok { IfOk result (λ b. (opcode_of (request_content b) ≡ Opcode.Write) × ReadsAs 40 (request_body (request_content b)) bytes.now) }
+    ensures ok { IfOk result (λ b. (opcode_of (request_content b) ≡ Opcode.Write)
+        × ReadsAs 40 (request_body (request_content b)) bytes.now) }
     ensures err { IfErr result (BodyFaultIs (shape_of Opcode.Write) bytes.now) }
 {
     let data = with_bytes(bytes)?;
@@ -91,7 +96,8 @@ fn write_body(bytes: &[u8]) -> Result<RequestBody<'_>, WireFault>
 /// `struct fuse_release_in`.
 #[inline(always)]
 fn release_body(bytes: &[u8]) -> Result<RequestBody<'_>, WireFault>
-    ensures ok { IfOk result (λ b. (opcode_of (request_content b) ≡ Opcode.Release) × ReadsAs 40 (request_body (request_content b)) bytes.now) }
+    ensures ok { IfOk result (λ b. (opcode_of (request_content b) ≡ Opcode.Release)
+        × ReadsAs 40 (request_body (request_content b)) bytes.now) }
     ensures err { IfErr result (BodyFaultIs (shape_of Opcode.Release) bytes.now) }
 {
     fixed(bytes, 64)?;
@@ -102,7 +108,8 @@ fn release_body(bytes: &[u8]) -> Result<RequestBody<'_>, WireFault>
 /// `struct fuse_init_in`.
 #[inline(always)]
 fn init_body(bytes: &[u8]) -> Result<RequestBody<'_>, WireFault>
-    ensures ok { IfOk result (λ b. (opcode_of (request_content b) ≡ Opcode.Init) × ReadsAs 40 (request_body (request_content b)) bytes.now) }
+    ensures ok { IfOk result (λ b. (opcode_of (request_content b) ≡ Opcode.Init)
+        × ReadsAs 40 (request_body (request_content b)) bytes.now) }
     ensures err { IfErr result (BodyFaultIs (shape_of Opcode.Init) bytes.now) }
 {
     fixed(bytes, 56)?;
@@ -119,7 +126,8 @@ fn init_body(bytes: &[u8]) -> Result<RequestBody<'_>, WireFault>
 /// `struct fuse_read_in` of a READDIR.
 #[inline(always)]
 fn readdir_body(bytes: &[u8]) -> Result<RequestBody<'_>, WireFault>
-    ensures ok { IfOk result (λ b. (opcode_of (request_content b) ≡ Opcode.Readdir) × ReadsAs 40 (request_body (request_content b)) bytes.now) }
+    ensures ok { IfOk result (λ b. (opcode_of (request_content b) ≡ Opcode.Readdir)
+        × ReadsAs 40 (request_body (request_content b)) bytes.now) }
     ensures err { IfErr result (BodyFaultIs (shape_of Opcode.Readdir) bytes.now) }
 {
     fixed(bytes, 80)?;
@@ -131,7 +139,8 @@ fn readdir_body(bytes: &[u8]) -> Result<RequestBody<'_>, WireFault>
 /// `struct fuse_read_in` of a READDIRPLUS.
 #[inline(always)]
 fn readdirplus_body(bytes: &[u8]) -> Result<RequestBody<'_>, WireFault>
-    ensures ok { IfOk result (λ b. (opcode_of (request_content b) ≡ Opcode.Readdirplus) × ReadsAs 40 (request_body (request_content b)) bytes.now) }
+    ensures ok { IfOk result (λ b. (opcode_of (request_content b) ≡ Opcode.Readdirplus)
+        × ReadsAs 40 (request_body (request_content b)) bytes.now) }
     ensures err { IfErr result (BodyFaultIs (shape_of Opcode.Readdirplus) bytes.now) }
 {
     fixed(bytes, 80)?;
@@ -143,7 +152,8 @@ fn readdirplus_body(bytes: &[u8]) -> Result<RequestBody<'_>, WireFault>
 /// `struct fuse_batch_forget_in` and the pairs.
 #[inline(always)]
 fn batch_forget_body(bytes: &[u8]) -> Result<RequestBody<'_>, WireFault>
-    ensures ok { IfOk result (λ b. (opcode_of (request_content b) ≡ Opcode.BatchForget) × ReadsAs 40 (request_body (request_content b)) bytes.now) }
+    ensures ok { IfOk result (λ b. (opcode_of (request_content b) ≡ Opcode.BatchForget)
+        × ReadsAs 40 (request_body (request_content b)) bytes.now) }
     ensures err { IfErr result (BodyFaultIs (shape_of Opcode.BatchForget) bytes.now) }
 {
     let pairs = with_pairs(bytes)?;
@@ -154,7 +164,8 @@ fn batch_forget_body(bytes: &[u8]) -> Result<RequestBody<'_>, WireFault>
 #[inline(always)]
 fn other_body(opcode: Opcode, bytes: &[u8]) -> Result<RequestBody<'_>, WireFault>
     requires { (place : ℕ) → shape_of opcode ≢ name_after place }
-    ensures ok { IfOk result (λ b. (opcode_of (request_content b) ≡ opcode) × ReadsAs 40 (request_body (request_content b)) bytes.now) }
+    ensures ok { IfOk result (λ b. (opcode_of (request_content b) ≡ opcode)
+        × ReadsAs 40 (request_body (request_content b)) bytes.now) }
     ensures err { IfErr result (BodyFaultIs (shape_of opcode) bytes.now) }
 {
     match opcode {
@@ -191,7 +202,8 @@ fn other_body(opcode: Opcode, bytes: &[u8]) -> Result<RequestBody<'_>, WireFault
 /// The body of a frame under this opcode.
 #[inline(always)]
 pub(crate) fn body_of(opcode: Opcode, bytes: &[u8]) -> Result<RequestBody<'_>, WireFault>
-    ensures ok { IfOk result (λ b. (opcode_of (request_content b) ≡ opcode) × ReadsAs 40 (request_body (request_content b)) bytes.now) }
+    ensures ok { IfOk result (λ b. (opcode_of (request_content b) ≡ opcode)
+        × ReadsAs 40 (request_body (request_content b)) bytes.now) }
     ensures err { IfErr result (BodyFaultIs (shape_of opcode) bytes.now) }
 {
     match name_place(opcode) {

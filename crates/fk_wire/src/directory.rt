@@ -58,8 +58,8 @@ pub(crate) fn put_direntpluses<A: Allocator>(out: &mut Vec<u8, A>, records: Reco
     }
 }
 
-/// Appends the head of a reply without error whose body has so many bytes, at most `MAX_FRAME` less the head's 16, into room that is
-/// there: `struct fuse_out_header`.
+/// Appends the head of a reply without error whose body has so many bytes, at most `MAX_FRAME` less the head's 16, into
+/// room that is there: `struct fuse_out_header`.
 #[tactic(auto, using(std::proofs::Common::append_assoc))]
 pub fn put_listing_head<A: Allocator>(out: &mut Vec<u8, A>, unique: u64, size: usize)
     requires room { vec_len out.old + 16 ≤ vec_capacity out.old }
@@ -73,13 +73,15 @@ pub fn put_listing_head<A: Allocator>(out: &mut Vec<u8, A>, unique: u64, size: u
     put_u64(out, unique);
 }
 
-/// Appends one pair of an entry and a record, into room that is there: `struct fuse_direntplus`. The entry's nanoseconds are less
-/// than a second, and the record's name has at most 255 bytes.
+/// Appends one pair of an entry and a record, into room that is there: `struct fuse_direntplus`. The entry's
+/// nanoseconds are less than a second, and the record's name has at most 255 bytes.
 #[tactic(auto, using(std::proofs::Common::append_assoc, crate::proofs::Spelled::entry_and, crate::proofs::Spelled::entry_in_range, crate::proofs::Spelled::sizes_of_entry))]
 pub fn put_listed<A: Allocator>(out: &mut Vec<u8, A>, entry: &Entry, dirent: &Dirent<'_>)
-    requires room { vec_len out.old + (128 + sizes (dirent_fields (dirent_content dirent.now) [])) ≤ vec_capacity out.old }
+    requires room { vec_len out.old + (128 + sizes (dirent_fields
+        (dirent_content dirent.now) [])) ≤ vec_capacity out.old }
     requires short { length dirent.now.name.now ≤ 255 }
-    ensures items { out.new.items ≡ out.old.items ++ spellings (entry_fields (entry_content entry.now) (dirent_fields (dirent_content dirent.now) [])) }
+    ensures items { out.new.items ≡ out.old.items ++ spellings
+        (entry_fields (entry_content entry.now) (dirent_fields (dirent_content dirent.now) [])) }
     ensures len { vec_len out.new ≡ vec_len out.old + (128 + sizes (dirent_fields (dirent_content dirent.now) [])) }
     ensures capacity { vec_capacity out.old ≤ vec_capacity out.new }
     ensures fits { InRange (entry_fields (entry_content entry.now) (dirent_fields (dirent_content dirent.now) [])) }
@@ -93,11 +95,13 @@ pub fn put_listed<A: Allocator>(out: &mut Vec<u8, A>, entry: &Entry, dirent: &Di
 /// Fails with `Name` where the name is no record's name, and with `Memory`.
 #[tactic(auto, using(std::proofs::Common::append_assoc))]
 pub fn put_record<A: Allocator>(out: &mut Vec<u8, A>, dirent: &Dirent<'_>) -> Result<(), WireFault>
-    ensures ok { OnOk result (IsRecordName dirent.now.name.now × (out.new.items ≡ out.old.items ++ spellings (dirents (dirent_content dirent.now ∷ [])))) }
+    ensures ok { OnOk result (IsRecordName dirent.now.name.now
+        × (out.new.items ≡ out.old.items ++ spellings (dirents (dirent_content dirent.now ∷ [])))) }
     ensures fits { OnOk result (InRange (dirents (dirent_content dirent.now ∷ []))) }
     ensures err { OnErr result (out.new.items ≡ out.old.items) }
     ensures fault { IfErr result (RecordRefusalIs (dirent_content dirent.now)) }
-    ensures room { vec_len out.old + sizes (dirents (dirent_content dirent.now ∷ [])) ≤ vec_capacity out.old → result ≢ Err MemoryFault }
+    ensures room { vec_len out.old + sizes (dirents (dirent_content dirent.now ∷ [])) ≤ vec_capacity out.old
+        → result ≢ Err MemoryFault }
 {
     if !is_record_name(dirent.name) {
         return Err(WireFault::Name);
@@ -117,10 +121,12 @@ pub fn put_record_plus<A: Allocator>(
     out: &mut Vec<u8, A>,
     pair: &DirentPlus<'_>,
 ) -> Result<(), WireFault>
-    ensures ok { OnOk result (IsEntry (direntplus_content pair.now).entry_out × IsRecordName pair.now.dirent.name.now × (out.new.items ≡ out.old.items ++ spellings (direntpluses (direntplus_content pair.now ∷ [])))) }
+    ensures ok { OnOk result (IsEntry (direntplus_content pair.now).entry_out × IsRecordName pair.now.dirent.name.now
+        × (out.new.items ≡ out.old.items ++ spellings (direntpluses (direntplus_content pair.now ∷ [])))) }
     ensures err { OnErr result (out.new.items ≡ out.old.items) }
     ensures fault { IfErr result (PlusRefusalIs (direntplus_content pair.now)) }
-    ensures room { vec_len out.old + sizes (direntpluses (direntplus_content pair.now ∷ [])) ≤ vec_capacity out.old → result ≢ Err MemoryFault }
+    ensures room { vec_len out.old + sizes (direntpluses (direntplus_content pair.now ∷ [])) ≤ vec_capacity out.old
+        → result ≢ Err MemoryFault }
 {
     if !is_timed(&pair.entry_out) {
         return Err(WireFault::Body);

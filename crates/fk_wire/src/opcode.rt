@@ -108,7 +108,8 @@ pub fn is_served_opcode_at(minor: Minor, code: u32) -> bool
 
 /// The opcode of a number, if the minor version knows it.
 pub(crate) fn opcode_at(minor: Minor, code: u32) -> Option<Opcode>
-    ensures { MatchOption result ((o : Opcode) → IsTrue (knows minor o) → code_of o ≢ code) (λ o. IsTrue (knows minor o) × (code_of o ≡ code)) }
+    ensures { MatchOption result ((o : Opcode) → IsTrue (knows minor o) → code_of o ≢ code)
+        (λ o. IsTrue (knows minor o) × (code_of o ≡ code)) }
 {
     let Some(opcode) = opcode_of_code(code) else {
         return None;

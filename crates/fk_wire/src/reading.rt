@@ -103,7 +103,8 @@ pub fn read_request_at(minor: Minor, bytes: &[u8]) -> Result<Request<'_>, WireFa
 ///
 /// The fault is `Short` or `Length`.
 pub fn read_request_head(bytes: &[u8]) -> Result<(u32, u64), WireFault>
-    ensures ok { IfOk result (λ head. HasLength bytes.now × (head.0 ≡ number_at 4 4 bytes.now) × (head.1 ≡ number_at 8 8 bytes.now)) }
+    ensures ok { IfOk result (λ head. HasLength bytes.now × (head.0 ≡ number_at 4 4 bytes.now)
+        × (head.1 ≡ number_at 8 8 bytes.now)) }
     ensures fault { (minor : Minor) → IfErr result (λ f. FaultIsAt minor bytes.now f × IsHeadFault f) }
 {
     if bytes.len() < 40 {

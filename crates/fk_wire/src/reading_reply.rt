@@ -72,7 +72,9 @@ fn reply_of_size(bytes: &[u8], size: usize) -> Result<(), WireFault>
 
 /// The body of an INIT reply.
 fn init_of(bytes: &[u8]) -> Result<ReplyBody<'_>, WireFault>
-    ensures ok { IfOk result (λ b. (kind_of_content (reply_content b) ≡ ReplyKind.Init) × IsReplyContent (reply_content b) × HasReplyNames (reply_content b) × ReadsAs 16 (reply_body (reply_content b)) bytes.now) }
+    ensures ok { IfOk result (λ b. (kind_of_content (reply_content b) ≡ ReplyKind.Init)
+        × IsReplyContent (reply_content b) × HasReplyNames (reply_content b)
+        × ReadsAs 16 (reply_body (reply_content b)) bytes.now) }
     ensures err { IfErr result (ReplyBodyFaultIs ReplyKind.Init bytes.now) }
 {
     if bytes.len() != 40 && bytes.len() != 80 {
@@ -93,7 +95,9 @@ fn init_of(bytes: &[u8]) -> Result<ReplyBody<'_>, WireFault>
 
 /// The body of an entry's reply.
 fn entry_of(bytes: &[u8]) -> Result<ReplyBody<'_>, WireFault>
-    ensures ok { IfOk result (λ b. (kind_of_content (reply_content b) ≡ ReplyKind.Entry) × IsReplyContent (reply_content b) × HasReplyNames (reply_content b) × ReadsAs 16 (reply_body (reply_content b)) bytes.now) }
+    ensures ok { IfOk result (λ b. (kind_of_content (reply_content b) ≡ ReplyKind.Entry)
+        × IsReplyContent (reply_content b) × HasReplyNames (reply_content b)
+        × ReadsAs 16 (reply_body (reply_content b)) bytes.now) }
     ensures err { IfErr result (ReplyBodyFaultIs ReplyKind.Entry bytes.now) }
 {
     reply_of_size(bytes, 144)?;
@@ -107,7 +111,9 @@ fn entry_of(bytes: &[u8]) -> Result<ReplyBody<'_>, WireFault>
 
 /// The body of a CREATE's reply.
 fn create_of(bytes: &[u8]) -> Result<ReplyBody<'_>, WireFault>
-    ensures ok { IfOk result (λ b. (kind_of_content (reply_content b) ≡ ReplyKind.Create) × IsReplyContent (reply_content b) × HasReplyNames (reply_content b) × ReadsAs 16 (reply_body (reply_content b)) bytes.now) }
+    ensures ok { IfOk result (λ b. (kind_of_content (reply_content b) ≡ ReplyKind.Create)
+        × IsReplyContent (reply_content b) × HasReplyNames (reply_content b)
+        × ReadsAs 16 (reply_body (reply_content b)) bytes.now) }
     ensures err { IfErr result (ReplyBodyFaultIs ReplyKind.Create bytes.now) }
 {
     reply_of_size(bytes, 160)?;
@@ -123,7 +129,8 @@ fn create_of(bytes: &[u8]) -> Result<ReplyBody<'_>, WireFault>
 /// The body of this kind.
 fn body_of(kind: ReplyKind, bytes: &[u8]) -> Result<ReplyBody<'_>, WireFault>
     requires { 16 ≤ length bytes.now }
-    ensures ok { IfOk result (λ b. (kind_of_content (reply_content b) ≡ kind) × IsReplyContent (reply_content b) × HasReplyNames (reply_content b) × ReadsAs 16 (reply_body (reply_content b)) bytes.now) }
+    ensures ok { IfOk result (λ b. (kind_of_content (reply_content b) ≡ kind) × IsReplyContent (reply_content b)
+        × HasReplyNames (reply_content b) × ReadsAs 16 (reply_body (reply_content b)) bytes.now) }
     ensures err { IfErr result (ReplyBodyFaultIs kind bytes.now) }
 {
     match kind {
@@ -220,7 +227,8 @@ pub fn read_reply(opcode: Opcode, bytes: &[u8]) -> Result<Reply<'_>, WireFault>
 /// Reads a reply frame of a minor version, as `read_reply` does.
 pub fn read_reply_at(minor: Minor, opcode: Opcode, bytes: &[u8]) -> Result<Reply<'_>, WireFault>
     ensures ok { IfOk result (λ r. SpellsReplyAt minor opcode bytes.now (reply_message r)) }
-    ensures only { (t : ReplyMessage) → SpellsReplyAt minor opcode bytes.now t → IsOkAnd result (λ r. reply_message r ≡ t) }
+    ensures only { (t : ReplyMessage) → SpellsReplyAt minor opcode bytes.now t
+        → IsOkAnd result (λ r. reply_message r ≡ t) }
     ensures fault { IfErr result (ReplyFaultIsAt minor opcode bytes.now) }
 {
     reply_of(minor, opcode, bytes)
@@ -230,8 +238,10 @@ pub fn read_reply_at(minor: Minor, opcode: Opcode, bytes: &[u8]) -> Result<Reply
 ///
 /// The fault is the first of `Short`, `Length` and `ErrorRange` that applies.
 pub fn read_reply_head(bytes: &[u8]) -> Result<(i32, u64), WireFault>
-    ensures ok { IfOk result (λ head. HasReplyLength bytes.now × IsErrorNumber head.0 × (cast_unsigned w32 head.0 ≡ number_at 4 4 bytes.now) × (head.1 ≡ number_at 8 8 bytes.now)) }
-    ensures fault { (minor : Minor) (o : Opcode) → IfErr result (λ f. ReplyFaultIsAt minor o bytes.now f × IsReplyHeadFault f) }
+    ensures ok { IfOk result (λ head. HasReplyLength bytes.now × IsErrorNumber head.0
+        × (cast_unsigned w32 head.0 ≡ number_at 4 4 bytes.now) × (head.1 ≡ number_at 8 8 bytes.now)) }
+    ensures fault { (minor : Minor) (o : Opcode) → IfErr result
+        (λ f. ReplyFaultIsAt minor o bytes.now f × IsReplyHeadFault f) }
 {
     if bytes.len() < 16 {
         return Err(WireFault::Short);
@@ -248,5 +258,6 @@ pub fn read_reply_head(bytes: &[u8]) -> Result<(i32, u64), WireFault>
 
 /// Every frame that spells a reply to an opcode spells one alone: the one that it decodes to.
 pub fn spelled_reply_is_decoded()
-    ensures { (minor : Minor) (o : Opcode) (bytes : List ℕ) (t : ReplyMessage) → SpellsReplyAt minor o bytes t → decoded_reply o bytes ≡ t }
+    ensures { (minor : Minor) (o : Opcode) (bytes : List ℕ) (t : ReplyMessage) → SpellsReplyAt minor o bytes t
+        → decoded_reply o bytes ≡ t }
 {}

@@ -54,7 +54,8 @@ impl<'a> RecordsPlus<'a> {
     /// The pairs that the bytes are, or `None` where they are no whole number of pairs, each with less
     /// than a second of nanoseconds and with a record's name. No bytes are the empty list.
     pub fn over(bytes: &'a [u8]) -> Option<RecordsPlus<'a>>
-        ensures { MatchOption result ((ps : List DirentPlusContent) → AreRecordsPlus 0 bytes.now ps → ⊥) (λ r. AreRecordsPlus 0 bytes.now (pluses_in r)) }
+        ensures { MatchOption result ((ps : List DirentPlusContent) → AreRecordsPlus 0 bytes.now ps → ⊥)
+            (λ r. AreRecordsPlus 0 bytes.now (pluses_in r)) }
     {
         match RecordsPlus::from_place(bytes, 0) {
             Ok(records) => Some(records),

@@ -20,7 +20,8 @@ use std::alloc::Allocator;
 #[tactic(auto, using(crate::proofs::OneReply::one_result))]
 pub fn read_result(bytes: &[u8]) -> Result<(i32, u64), WireFault>
     ensures ok { IfOk result (λ r. SpellsResult bytes.now r.0 r.1) }
-    ensures only { (z : ℤ) (unique : ℕ) → SpellsResult bytes.now z unique → IsOkAnd result (λ r. (r.0 ≡ z) × (r.1 ≡ unique)) }
+    ensures only { (z : ℤ) (unique : ℕ) → SpellsResult bytes.now z unique
+        → IsOkAnd result (λ r. (r.0 ≡ z) × (r.1 ≡ unique)) }
     ensures fault { IfErr result (ResultFaultIs bytes.now) }
 {
     if bytes.len() < 16 {
@@ -48,7 +49,8 @@ pub fn write_result<A: Allocator>(
     error: i32,
     unique: u64,
 ) -> Result<(), WireFault>
-    ensures ok { OnOk result (IsErrorNumber error × (out.new.items ≡ out.old.items ++ spellings (result_fields error unique))) }
+    ensures ok { OnOk result (IsErrorNumber error × (out.new.items ≡ out.old.items
+        ++ spellings (result_fields error unique))) }
     ensures err { OnErr result (out.new.items ≡ out.old.items) }
     ensures fault { IfErr result (ResultRefusalIs error) }
     ensures room { vec_len out.old + 16 ≤ vec_capacity out.old → result ≢ Err MemoryFault }

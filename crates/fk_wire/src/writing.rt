@@ -152,7 +152,8 @@ fn put_release<A: Allocator>(out: &mut Vec<u8, A>, fh: u64)
 #[tactic(auto, using(std::proofs::Common::append_assoc))]
 fn put_init<A: Allocator>(out: &mut Vec<u8, A>, major: u32, minor: u32, flags: InitFlags)
     requires { vec_len out.old + 16 ≤ vec_capacity out.old }
-    ensures items { out.new.items ≡ out.old.items ++ spellings (request_body (init major minor (bit_and flags.0 known_flags))) }
+    ensures items { out.new.items ≡ out.old.items ++ spellings
+        (request_body (init major minor (bit_and flags.0 known_flags))) }
     ensures fits { InRange (request_body (init major minor (bit_and flags.0 known_flags))) }
 {
     put_u32(out, major);
@@ -261,11 +262,13 @@ pub fn write_request<A: Allocator>(
     out: &mut Vec<u8, A>,
     request: &Request<'_>,
 ) -> Result<(), WireFault>
-    ensures ok { OnOk result ((frame : List ℕ) × Written (request_message request.now) frame × (out.new.items ≡ out.old.items ++ frame)) }
+    ensures ok { OnOk result ((frame : List ℕ) × Written (request_message request.now) frame
+        × (out.new.items ≡ out.old.items ++ frame)) }
     ensures err { OnErr result (out.new.items ≡ out.old.items) }
     ensures fault { IfErr result (RefusalIs (request_message request.now)) }
     // Where the vector has room, memory does not run out.
-    ensures room { vec_len out.old + (40 + sizes (request_body (request_content request.now.body))) ≤ vec_capacity out.old → result ≢ Err MemoryFault }
+    ensures room { vec_len out.old + (40 + sizes (request_body
+        (request_content request.now.body))) ≤ vec_capacity out.old → result ≢ Err MemoryFault }
 {
     write_request_at(served_minor(), out, request)
 }
@@ -277,10 +280,12 @@ pub fn write_request_at<A: Allocator>(
     out: &mut Vec<u8, A>,
     request: &Request<'_>,
 ) -> Result<(), WireFault>
-    ensures ok { OnOk result ((frame : List ℕ) × WrittenAt minor (request_message request.now) frame × (out.new.items ≡ out.old.items ++ frame)) }
+    ensures ok { OnOk result ((frame : List ℕ) × WrittenAt minor (request_message request.now) frame
+        × (out.new.items ≡ out.old.items ++ frame)) }
     ensures err { OnErr result (out.new.items ≡ out.old.items) }
     ensures fault { IfErr result (RefusalIsAt minor (request_message request.now)) }
-    ensures room { vec_len out.old + (40 + sizes (request_body (request_content request.now.body))) ≤ vec_capacity out.old → result ≢ Err MemoryFault }
+    ensures room { vec_len out.old + (40 + sizes (request_body
+        (request_content request.now.body))) ≤ vec_capacity out.old → result ≢ Err MemoryFault }
 {
     let opcode = request.body.opcode();
     if !is_known(minor, opcode) {

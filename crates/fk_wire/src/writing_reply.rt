@@ -163,11 +163,13 @@ fn put_reply_body<A: Allocator>(out: &mut Vec<u8, A>, body: &ReplyBody<'_>)
 ///
 /// The fault is the first of `ErrorRange`, `Opcode`, `Body` and `Memory` that applies.
 pub fn write_reply<A: Allocator>(out: &mut Vec<u8, A>, reply: &Reply<'_>) -> Result<(), WireFault>
-    ensures ok { OnOk result ((frame : List ℕ) × WrittenReply (reply_message reply.now) frame × (out.new.items ≡ out.old.items ++ frame)) }
+    ensures ok { OnOk result ((frame : List ℕ) × WrittenReply (reply_message reply.now) frame
+        × (out.new.items ≡ out.old.items ++ frame)) }
     ensures err { OnErr result (out.new.items ≡ out.old.items) }
     ensures fault { IfErr result (ReplyRefusalIs (reply_message reply.now)) }
     // Where the vector has room, memory does not run out.
-    ensures room { vec_len out.old + (16 + sizes (reply_body (reply_content reply.now.body))) ≤ vec_capacity out.old → result ≢ Err MemoryFault }
+    ensures room { vec_len out.old + (16 + sizes (reply_body (reply_content reply.now.body))) ≤ vec_capacity out.old
+        → result ≢ Err MemoryFault }
 {
     write_reply_at(served_minor(), out, reply)
 }
@@ -180,10 +182,12 @@ pub fn write_reply_at<A: Allocator>(
     out: &mut Vec<u8, A>,
     reply: &Reply<'_>,
 ) -> Result<(), WireFault>
-    ensures ok { OnOk result ((frame : List ℕ) × WrittenReplyAt minor (reply_message reply.now) frame × (out.new.items ≡ out.old.items ++ frame)) }
+    ensures ok { OnOk result ((frame : List ℕ) × WrittenReplyAt minor (reply_message reply.now) frame
+        × (out.new.items ≡ out.old.items ++ frame)) }
     ensures err { OnErr result (out.new.items ≡ out.old.items) }
     ensures fault { IfErr result (ReplyRefusalIsAt minor (reply_message reply.now)) }
-    ensures room { vec_len out.old + (16 + sizes (reply_body (reply_content reply.now.body))) ≤ vec_capacity out.old → result ≢ Err MemoryFault }
+    ensures room { vec_len out.old + (16 + sizes (reply_body (reply_content reply.now.body))) ≤ vec_capacity out.old
+        → result ≢ Err MemoryFault }
 {
     if !is_error_number(reply.error) {
         return Err(WireFault::ErrorRange);
@@ -212,5 +216,6 @@ pub fn write_reply_at<A: Allocator>(
 
 /// Every frame in which a reply is written spells that reply, under each opcode that it goes with.
 pub fn written_reply_is_spelled()
-    ensures { (minor : Minor) (o : Opcode) (t : ReplyMessage) (bytes : List ℕ) → GoesWith minor o t → WrittenReplyAt minor t bytes → SpellsReplyAt minor o bytes t }
+    ensures { (minor : Minor) (o : Opcode) (t : ReplyMessage) (bytes : List ℕ) → GoesWith minor o t
+        → WrittenReplyAt minor t bytes → SpellsReplyAt minor o bytes t }
 {}

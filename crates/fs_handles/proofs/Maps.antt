@@ -39,7 +39,8 @@ swapped true x y = refl
 swapped false x y = refl
 
 module _ {X : Type 0} where
-  pub same_rows : (m n : Map X) → T (is_sorted nat_cmp m) → T (is_sorted nat_cmp n) → ((q : ℕ) → get m q ≡ get n q) → m ≡ n
+  pub same_rows : (m n : Map X) → T (is_sorted nat_cmp m) → T (is_sorted nat_cmp n) → ((q : ℕ) → get m q ≡ get n q)
+      → m ≡ n
   same_rows m n a b is = same_entries nat_cmp nat_cmp_total nat_cmp-IsAntisymmetric m n a b is
 
   pub sorted_put : (m : Map X) (k : ℕ) (x : X) → T (is_sorted nat_cmp m) → T (is_sorted nat_cmp (put m k x))
@@ -62,7 +63,8 @@ module _ {X : Type 0} where
   -- and those from which it was taken are the map without it
   pub is_remove : (new old : Map X) (k : ℕ) → T (is_sorted nat_cmp new) → T (is_sorted nat_cmp old)
       → ((q : ℕ) → get new q ≡ cond (nat_eq k q) None (get old q)) → new ≡ remove old k
-  is_remove new old k a b is = same_rows new (remove old k) a (sorted_remove old k b) (λ q. is q ∙ sym (get-remove old k q))
+  is_remove new old k a b is = same_rows new (remove old k) a (sorted_remove old k b)
+      (λ q. is q ∙ sym (get-remove old k q))
 
   none_below : (k low : ℕ) (m : Map X) → k ≤ low → T (below_all nat_cmp low m) → get m k ≡ None
   none_below k low [] le h = refl
@@ -82,24 +84,39 @@ module _ {X : Type 0} where
     pub there : get m key ≡ Some value
     pub passes : test value ≡ true
 
-  any_there : (m : Map X) (test : X → Bool) (k : ℕ) (x : X) → get m k ≡ Some x → test x ≡ true → list_any test (values m) ≡ true
+  any_there : (m : Map X) (test : X → Bool) (k : ℕ) (x : X) → get m k ≡ Some x → test x ≡ true
+      → list_any test (values m) ≡ true
   any_there [] test k x is passes = absurd (none-some x is)
-  any_there (e ∷ es) test k x is passes = by (is_eq (nat_cmp k e.0)) (test e.1) refl is (λ found. any_there es test k x found passes)
+  any_there (e ∷ es) test k x is passes = by (is_eq (nat_cmp k e.0)) (test e.1) refl is
+      (λ found. any_there es test k x found passes)
     where
-      by : (b t : Bool) → test e.1 ≡ t → cond b (Some e.1) (get es k) ≡ Some x → (get es k ≡ Some x → list_any test (values es) ≡ true) → (t || list_any test (values es)) ≡ true
+      by : (b t : Bool) → test e.1 ≡ t → cond b (Some e.1) (get es k) ≡ Some x
+          → (get es k ≡ Some x → list_any test (values es) ≡ true) → (t || list_any test (values es)) ≡ true
       by b true same found rest = refl
       by true false same found rest = absurd (true≢false (sym passes ∙ sym (ap test (same_Some e.1 x found)) ∙ same))
       by false false same found rest = rest found
 
-  there_any : (m : Map X) (test : X → Bool) → T (is_sorted nat_cmp m) → list_any test (values m) ≡ true → HasValue m test
+  there_any : (m : Map X) (test : X → Bool) → T (is_sorted nat_cmp m) → list_any test (values m) ≡ true
+      → HasValue m test
   there_any [] test h any = absurd (true≢false (sym any))
   there_any (e ∷ es) test h any = by (test e.1) refl any (there_any es test (second _ _ h))
     where
-      by : (t : Bool) → test e.1 ≡ t → (t || list_any test (values es)) ≡ true → (list_any test (values es) ≡ true → HasValue es test) → HasValue (e ∷ es) test
-      by true same any more = record { key = e.0; value = e.1; there = ap (λ r. cond (is_eq r) (Some e.1) (get es e.0)) (cmp_same e.0); passes = same }
+      by : (t : Bool) → test e.1 ≡ t → (t || list_any test (values es)) ≡ true
+          → (list_any test (values es) ≡ true → HasValue es test) → HasValue (e ∷ es) test
+      by true same any more = record {
+        key = e.0;
+        value = e.1;
+        there = ap (λ r. cond (is_eq r) (Some e.1) (get es e.0)) (cmp_same e.0);
+        passes = same;
+      }
       by false same any more =
           let rest = more any in
-          record { key = rest.key; value = rest.value; there = later rest.key rest.value rest.there; passes = rest.passes }
+          record {
+            key = rest.key;
+            value = rest.value;
+            there = later rest.key rest.value rest.there;
+            passes = rest.passes;
+          }
         where
           later : (k : ℕ) (x : X) → get es k ≡ Some x → get (e ∷ es) k ≡ Some x
           later k x found =
@@ -109,9 +126,11 @@ module _ {X : Type 0} where
               ]
 
   -- an answer that is yes exactly where some value passes the test
-  pub any_is : (answer : Bool) (m : Map X) (test : X → Bool) → T (is_sorted nat_cmp m) → (answer ≡ true → HasValue m test) → (HasValue m test → answer ≡ true)
+  pub any_is : (answer : Bool) (m : Map X) (test : X → Bool) → T (is_sorted nat_cmp m)
+      → (answer ≡ true → HasValue m test) → (HasValue m test → answer ≡ true)
       → answer ≡ list_any test (values m)
-  any_is true m test h there back = let has = there refl in sym (any_there m test has.key has.value has.there has.passes)
+  any_is true m test h there back = let has = there refl in
+      sym (any_there m test has.key has.value has.there has.passes)
   any_is false m test h there back = by (list_any test (values m)) refl
     where
       by : (b : Bool) → list_any test (values m) ≡ b → false ≡ b

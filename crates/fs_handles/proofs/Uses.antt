@@ -20,21 +20,25 @@ use Rattle.fs_handles.specs.Uses.{one_of, numbers_of, positive, one_less, IsCoun
 use Rattle.fs_handles.proofs.Maps.{HasValue, any_is}
 use Rattle.fs_handles.proofs.Handles.{sorted_handles, get_there}
 
-numbers-cons : (file : ℕ) (e : ℕ × OpenFile) (es : List (ℕ × OpenFile)) → numbers_of file (e ∷ es) ≡ one_of file e.1 + numbers_of file es
+numbers-cons : (file : ℕ) (e : ℕ × OpenFile) (es : List (ℕ × OpenFile))
+    → numbers_of file (e ∷ es) ≡ one_of file e.1 + numbers_of file es
 numbers-cons file e es = sum_by-cons (one_of file) e.1 (values_of es)
 
 -- a file with an open number stands in an entry
-entry_of : (file : ℕ) (opens : List (ℕ × OpenFile)) → 0 < numbers_of file opens → (fh : ℕ) × (opened : OpenFile) × Contains opens (fh, opened) × (opened.file ≡ file)
+entry_of : (file : ℕ) (opens : List (ℕ × OpenFile)) → 0 < numbers_of file opens
+    → (fh : ℕ) × (opened : OpenFile) × Contains opens (fh, opened) × (opened.file ≡ file)
 entry_of file [] some = absurd (omega arith)
 entry_of file (e ∷ es) some = elim (cases_eq e.1.file file) [
   | inl same ↦ (e.0, e.1, (0, omega arith, refl), same)
   | inr other ↦
-      let r = entry_of file es (let no : one_of file e.1 ≡ 0 = grind (arith, other, rules) in omega (arith, no, numbers-cons file e es)) in
+      let r = entry_of file es (let no : one_of file e.1 ≡ 0 = grind (arith, other, rules) in
+      omega (arith, no, numbers-cons file e es)) in
       (r.0, r.1, (let h = r.2 in (suc h.0, omega arith, h.2)), r.3)
 ]
 
 -- and an entry of a file is counted
-counts : (file fh : ℕ) (opened : OpenFile) (opens : List (ℕ × OpenFile)) → lookup (nat_eq fh) opens ≡ Some opened → opened.file ≡ file → 0 < numbers_of file opens
+counts : (file fh : ℕ) (opened : OpenFile) (opens : List (ℕ × OpenFile)) → lookup (nat_eq fh) opens ≡ Some opened
+    → opened.file ≡ file → 0 < numbers_of file opens
 counts file fh opened [] is same = absurd (none-some opened is)
 counts file fh opened (e ∷ es) is same = elim (cases_eq fh e.0) [
   | inl here ↦
@@ -48,25 +52,32 @@ counts file fh opened (e ∷ es) is same = elim (cases_eq fh e.0) [
 ]
 
 -- an entry is taken out, and the last one stands in its place
-numbers-swap_remove : (file : ℕ) (test : ℕ → Bool) (es : List (ℕ × OpenFile)) (old : OpenFile) → lookup test es ≡ Some old
+numbers-swap_remove : (file : ℕ) (test : ℕ → Bool) (es : List (ℕ × OpenFile)) (old : OpenFile)
+    → lookup test es ≡ Some old
     → numbers_of file (swap_remove_entry test es) + one_of file old ≡ numbers_of file es
 numbers-swap_remove file test es old is = by (position test (keys_of es)) refl
   where
-    by : (at : Option ℕ) → position test (keys_of es) ≡ at → numbers_of file (swap_remove_entry test es) + one_of file old ≡ numbers_of file es
+    by : (at : Option ℕ) → position test (keys_of es) ≡ at
+        → numbers_of file (swap_remove_entry test es) + one_of file old ≡ numbers_of file es
     by None p = absurd (none-some old (sym (Missing-position test es p).value ∙ is))
     by (Some i) p =
         let found = Found-position test es i p in
         let within = found.within in
-        let value : get_or (values_of es) i old ≡ old = get_or_from_slice_get (values_of es) i old old (sym found.value ∙ is) in
-        let out = ap (numbers_of file) (swap_remove_entry-found test es i (0, old) p) ∙ ap (sum_by (one_of file)) (map-swap_remove (λ e. e.1) es i (0, old) (omega arith)) in
-        let sums = sum_by-swap_remove (one_of file) (values_of es) i old (let long = length-map es (λ e. e.1) in omega (arith, long)) in
+        let value : get_or (values_of es) i old ≡ old = get_or_from_slice_get (values_of es) i old old
+        (sym found.value ∙ is) in
+        let out = ap (numbers_of file) (swap_remove_entry-found test es i (0, old) p) ∙ ap (sum_by (one_of file))
+        (map-swap_remove (λ e. e.1) es i (0, old) (omega arith)) in
+        let sums = sum_by-swap_remove (one_of file) (values_of es) i old
+        (let long = length-map es (λ e. e.1) in omega (arith, long)) in
         let one = ap (one_of file) value in
         omega (arith, out, sums, one)
 
 -- a write of another count under a number in use
-pub recounted : {opens : List (ℕ × OpenFile)} {uses : List (ℕ × ℕ)} {next : ℕ} (new : List (ℕ × OpenFile)) (fh : ℕ) (old with : OpenFile) → IsCounted opens uses next
+pub recounted : {opens : List (ℕ × OpenFile)} {uses : List (ℕ × ℕ)} {next : ℕ} (new : List (ℕ × OpenFile)) (fh : ℕ)
+    (old with : OpenFile) → IsCounted opens uses next
     → lookup (nat_eq fh) opens ≡ Some old → with.file ≡ old.file → new ≡ set_value (nat_eq fh) opens with
-    → ((q : ℕ) → lookup (nat_eq q) new ≡ cond (nat_eq fh q) (Some with) (lookup (nat_eq q) opens)) → IsDistinct nat_eq (keys_of new) → length new ≡ length opens → IsCounted new uses next
+    → ((q : ℕ) → lookup (nat_eq q) new ≡ cond (nat_eq fh q) (Some with) (lookup (nat_eq q) opens))
+    → IsDistinct nat_eq (keys_of new) → length new ≡ length opens → IsCounted new uses next
 recounted {opens = opens} {uses = uses} {next = next} new fh old with table is same set at distinct len = record {
   counted = λ file. table.counted file ∙ ap positive (sym (as_many file));
   fresh = λ q le. at q ∙ fresh_at q le;
@@ -88,10 +99,12 @@ recounted {opens = opens} {uses = uses} {next = next} new fh old with table is s
     ]
 
 -- the last use of a number is taken back
-pub ended : {opens : List (ℕ × OpenFile)} {uses : List (ℕ × ℕ)} {next : ℕ} (new : List (ℕ × OpenFile)) (fewer : List (ℕ × ℕ)) (fh : ℕ) (old : OpenFile) → IsCounted opens uses next
+pub ended : {opens : List (ℕ × OpenFile)} {uses : List (ℕ × ℕ)} {next : ℕ} (new : List (ℕ × OpenFile))
+    (fewer : List (ℕ × ℕ)) (fh : ℕ) (old : OpenFile) → IsCounted opens uses next
     → lookup (nat_eq fh) opens ≡ Some old → new ≡ swap_remove_entry (nat_eq fh) opens
     → ((q : ℕ) → lookup (nat_eq q) new ≡ cond (nat_eq fh q) None (lookup (nat_eq q) opens))
-    → ((q : ℕ) → lookup (nat_eq q) fewer ≡ cond (nat_eq old.file q) (one_less (lookup (nat_eq old.file) uses)) (lookup (nat_eq q) uses))
+    → ((q : ℕ) → lookup (nat_eq q) fewer ≡ cond (nat_eq old.file q) (one_less (lookup (nat_eq old.file) uses))
+    (lookup (nat_eq q) uses))
     → IsDistinct nat_eq (keys_of new) → length new ≤ length opens → IsCounted new fewer next
 ended {opens = opens} {uses = uses} {next = next} new fewer fh old table is removed at less distinct len = record {
   counted = λ file. less file ∙ counted_at file;
@@ -108,74 +121,89 @@ ended {opens = opens} {uses = uses} {next = next} new fewer fh old table is remo
     less_one : (n m : ℕ) → n + 1 ≡ m → one_less (positive m) ≡ positive n
     less_one n m e = grind (arith, e, rules)
 
-    counted_at : (file : ℕ) → cond (nat_eq old.file file) (one_less (lookup (nat_eq old.file) uses)) (lookup (nat_eq file) uses) ≡ positive (numbers_of file new)
+    counted_at : (file : ℕ) → cond (nat_eq old.file file) (one_less (lookup (nat_eq old.file) uses))
+        (lookup (nat_eq file) uses) ≡ positive (numbers_of file new)
     counted_at file = elim (cases_eq old.file file) [
       | inl e ↦
           let one : one_of file old ≡ 1 = grind (arith, e, rules) in
           let step = less_one (numbers_of file new) (numbers_of file opens) (omega (arith, sums file, one)) in
-          let same : lookup (nat_eq old.file) uses ≡ positive (numbers_of file opens) = ap (λ f. lookup (nat_eq f) uses) e ∙ table.counted file in
+          let same : lookup (nat_eq old.file) uses ≡ positive (numbers_of file opens) =
+          ap (λ f. lookup (nat_eq f) uses) e ∙ table.counted file in
           here file e ∙ ap one_less same ∙ step
       | inr ne ↦
           let none : one_of file old ≡ 0 = grind (arith, ne, rules) in
           there file ne ∙ table.counted file ∙ ap positive (omega (arith, sums file, none))
     ]
       where
-        here : (file : ℕ) → old.file ≡ file → cond (nat_eq old.file file) (one_less (lookup (nat_eq old.file) uses)) (lookup (nat_eq file) uses) ≡ one_less (lookup (nat_eq old.file) uses)
+        here : (file : ℕ) → old.file ≡ file → cond (nat_eq old.file file) (one_less (lookup (nat_eq old.file) uses))
+            (lookup (nat_eq file) uses) ≡ one_less (lookup (nat_eq old.file) uses)
         here file e = grind (arith, e, rules)
 
-        there : (file : ℕ) → old.file ≢ file → cond (nat_eq old.file file) (one_less (lookup (nat_eq old.file) uses)) (lookup (nat_eq file) uses) ≡ lookup (nat_eq file) uses
+        there : (file : ℕ) → old.file ≢ file → cond (nat_eq old.file file) (one_less (lookup (nat_eq old.file) uses))
+            (lookup (nat_eq file) uses) ≡ lookup (nat_eq file) uses
         there file ne = grind (arith, ne, rules)
 
     fresh_at : (q : ℕ) → next ≤ q → cond (nat_eq fh q) None (lookup (nat_eq q) opens) ≡ None
     fresh_at q le = (let none = table.fresh q le in grind (arith, none, rules))
 
 -- a number is given
-pub given : {opens : List (ℕ × OpenFile)} {uses : List (ℕ × ℕ)} {next : ℕ} (new : List (ℕ × OpenFile)) (more : List (ℕ × ℕ)) (file : ℕ) (with : OpenFile) → IsCounted opens uses next
+pub given : {opens : List (ℕ × OpenFile)} {uses : List (ℕ × ℕ)} {next : ℕ} (new : List (ℕ × OpenFile))
+    (more : List (ℕ × ℕ)) (file : ℕ) (with : OpenFile) → IsCounted opens uses next
     → next < 2 ^ 62 → with.file ≡ file → new ≡ opens ++ (next, with) ∷ []
     → ((q : ℕ) → lookup (nat_eq q) new ≡ cond (nat_eq next q) (Some with) (lookup (nat_eq q) opens))
-    → ((q : ℕ) → lookup (nat_eq q) more ≡ cond (nat_eq file q) (Some (unwrap_or (lookup (nat_eq file) uses) 0 + 1)) (lookup (nat_eq q) uses))
+    → ((q : ℕ) → lookup (nat_eq q) more ≡ cond (nat_eq file q) (Some (unwrap_or (lookup (nat_eq file) uses) 0 + 1))
+    (lookup (nat_eq q) uses))
     → IsDistinct nat_eq (keys_of new) → IsCounted new more (next + 1)
-given {opens = opens} {uses = uses} {next = next} new more file with table room same pushed at counts distinct = record {
-  counted = λ q. counts q ∙ counted_at q;
-  fresh = λ q le. at q ∙ fresh_at q le;
-  distinct = distinct;
-  few = (let few = table.few in let longer = ap length pushed ∙ length-append opens ((next, with) ∷ []) in omega (arith, few, longer));
-  limit = omega arith;
-}
+given {opens = opens} {uses = uses} {next = next} new more file with table room same pushed at counts distinct =
+    record {
+      counted = λ q. counts q ∙ counted_at q;
+      fresh = λ q le. at q ∙ fresh_at q le;
+      distinct = distinct;
+      few = (let few = table.few in let longer = ap length pushed ∙ length-append opens ((next, with) ∷ []) in
+          omega (arith, few, longer));
+      limit = omega arith;
+    }
   where
     sums : (q : ℕ) → numbers_of q new ≡ numbers_of q opens + one_of q with
     sums q = ap (numbers_of q) pushed ∙ pushes opens
       where
         pushes : (es : List (ℕ × OpenFile)) → numbers_of q (es ++ (next, with) ∷ []) ≡ numbers_of q es + one_of q with
         pushes [] = sum_by-cons (one_of q) with [] ∙ omega arith
-        pushes (e ∷ es) = sum_by-cons (one_of q) e.1 (values_of (es ++ (next, with) ∷ [])) ∙ omega (arith, pushes es, sum_by-cons (one_of q) e.1 (values_of es))
+        pushes (e ∷ es) = sum_by-cons (one_of q) e.1 (values_of (es ++ (next, with) ∷ [])) ∙ omega
+            (arith, pushes es, sum_by-cons (one_of q) e.1 (values_of es))
 
     more_one : (n m : ℕ) → m ≡ n + 1 → Some (unwrap_or (positive n) 0 + 1) ≡ positive m
     more_one n m e = grind (arith, e, rules)
 
-    counted_at : (q : ℕ) → cond (nat_eq file q) (Some (unwrap_or (lookup (nat_eq file) uses) 0 + 1)) (lookup (nat_eq q) uses) ≡ positive (numbers_of q new)
+    counted_at : (q : ℕ) → cond (nat_eq file q) (Some (unwrap_or (lookup (nat_eq file) uses) 0 + 1))
+        (lookup (nat_eq q) uses) ≡ positive (numbers_of q new)
     counted_at q = elim (cases_eq file q) [
       | inl e ↦
           let one : one_of q with ≡ 1 = grind (arith, e, same, rules) in
           let step = more_one (numbers_of q opens) (numbers_of q new) (omega (arith, sums q, one)) in
-          let has : lookup (nat_eq file) uses ≡ positive (numbers_of q opens) = ap (λ f. lookup (nat_eq f) uses) e ∙ table.counted q in
+          let has : lookup (nat_eq file) uses ≡ positive (numbers_of q opens) =
+          ap (λ f. lookup (nat_eq f) uses) e ∙ table.counted q in
           here q e ∙ ap (λ o. Some (unwrap_or o 0 + 1)) has ∙ step
       | inr ne ↦
           let none : one_of q with ≡ 0 = grind (arith, ne, same, rules) in
           there q ne ∙ table.counted q ∙ ap positive (omega (arith, sums q, none))
     ]
       where
-        here : (q : ℕ) → file ≡ q → cond (nat_eq file q) (Some (unwrap_or (lookup (nat_eq file) uses) 0 + 1)) (lookup (nat_eq q) uses) ≡ Some (unwrap_or (lookup (nat_eq file) uses) 0 + 1)
+        here : (q : ℕ) → file ≡ q → cond (nat_eq file q) (Some (unwrap_or (lookup (nat_eq file) uses) 0 + 1))
+            (lookup (nat_eq q) uses) ≡ Some (unwrap_or (lookup (nat_eq file) uses) 0 + 1)
         here q e = grind (arith, e, rules)
 
-        there : (q : ℕ) → file ≢ q → cond (nat_eq file q) (Some (unwrap_or (lookup (nat_eq file) uses) 0 + 1)) (lookup (nat_eq q) uses) ≡ lookup (nat_eq q) uses
+        there : (q : ℕ) → file ≢ q → cond (nat_eq file q) (Some (unwrap_or (lookup (nat_eq file) uses) 0 + 1))
+            (lookup (nat_eq q) uses) ≡ lookup (nat_eq q) uses
         there q ne = grind (arith, ne, rules)
 
     fresh_at : (q : ℕ) → next + 1 ≤ q → cond (nat_eq next q) (Some with) (lookup (nat_eq q) opens) ≡ None
-    fresh_at q le = (let none = table.fresh q (omega arith) in let ne : next ≢ q = omega arith in grind (arith, none, ne, rules))
+    fresh_at q le = (let none = table.fresh q (omega arith) in let ne : next ≢ q = omega arith in
+        grind (arith, none, ne, rules))
 
 -- a file has no more open numbers than there are
-pub uses_few : {opens : List (ℕ × OpenFile)} {uses : List (ℕ × ℕ)} {next : ℕ} (file : ℕ) → IsCounted opens uses next → unwrap_or (lookup (nat_eq file) uses) 0 < next
+pub uses_few : {opens : List (ℕ × OpenFile)} {uses : List (ℕ × ℕ)} {next : ℕ} (file : ℕ) → IsCounted opens uses next
+    → unwrap_or (lookup (nat_eq file) uses) 0 < next
 uses_few {opens = opens} {uses = uses} {next = next} file table =
     let few = table.few in
     let most = most_numbers opens in
@@ -193,7 +221,8 @@ uses_few {opens = opens} {uses = uses} {next = next} file table =
     most_numbers (e ∷ es) = omega (arith, most_numbers es, one_most e.1, sum_by-cons (one_of file) e.1 (values_of es))
 
 -- to take out what was just written is to take out what was there
-pub without_twice : {X : Type 0} (b : Bool) (written there : Option X) → cond b None (cond b written there) ≡ cond b None there
+pub without_twice : {X : Type 0} (b : Bool) (written there : Option X)
+    → cond b None (cond b written there) ≡ cond b None there
 without_twice true written there = refl
 without_twice false written there = refl
 
@@ -204,9 +233,12 @@ is_there : (n : ℕ) → 0 < n → is_some (positive n) ≡ true
 is_there n some = grind (arith, some, rules)
 
 -- a file has a count exactly where some open number is of it
-pub has_is : {opens : List (ℕ × OpenFile)} {uses : List (ℕ × ℕ)} {next : ℕ} (answer : Bool) (file : ℕ) → IsCounted opens uses next → answer ≡ is_some (lookup (nat_eq file) uses)
+pub has_is : {opens : List (ℕ × OpenFile)} {uses : List (ℕ × ℕ)} {next : ℕ} (answer : Bool) (file : ℕ)
+    → IsCounted opens uses next → answer ≡ is_some (lookup (nat_eq file) uses)
     → answer ≡ list_any (λ (handle : OpenNumber). nat_eq handle.file file) (values (handles_of opens))
-has_is {opens = opens} {uses = uses} answer file table is = any_is answer (handles_of opens) (λ (handle : OpenNumber). nat_eq handle.file file) (sorted_handles opens) there back
+has_is {opens = opens} {uses = uses} answer file table is =
+    any_is answer (handles_of opens) (λ (handle : OpenNumber). nat_eq handle.file file)
+    (sorted_handles opens) there back
   where
     counted_is : answer ≡ is_some (positive (numbers_of file opens))
     counted_is = is ∙ ap is_some (table.counted file)
@@ -217,7 +249,8 @@ has_is {opens = opens} {uses = uses} answer file table is = any_is answer (handl
         record {
           key = entry.0;
           value = number_of entry.1;
-          there = get_there opens entry.0 (Some entry.1) (lookup-from_Contains nat_eq_equiv entry.0 entry.1 opens table.distinct entry.2);
+          there = get_there opens entry.0 (Some entry.1)
+              (lookup-from_Contains nat_eq_equiv entry.0 entry.1 opens table.distinct entry.2);
           passes = eq-eqb entry.1.file file entry.3;
         }
 
@@ -227,6 +260,8 @@ has_is {opens = opens} {uses = uses} answer file table is = any_is answer (handl
         by : (found : Option OpenFile) → lookup (nat_eq has.key) opens ≡ found → answer ≡ true
         by None none = absurd (none-some has.value (sym (get_there opens has.key None none) ∙ has.there))
         by (Some kept) found =
-            let same : number_of kept ≡ has.value = same_Some _ _ (sym (get_there opens has.key (Some kept) found) ∙ has.there) in
-            let of_file : kept.file ≡ file = ap (λ (h : OpenNumber). h.file) same ∙ eqb-true has.value.file file has.passes in
+            let same : number_of kept ≡ has.value = same_Some _ _
+            (sym (get_there opens has.key (Some kept) found) ∙ has.there) in
+            let of_file : kept.file ≡ file =
+            ap (λ (h : OpenNumber). h.file) same ∙ eqb-true has.value.file file has.passes in
             counted_is ∙ is_there (numbers_of file opens) (counts file has.key kept opens found of_file)

@@ -155,7 +155,8 @@ impl<A: Allocator + Copy> HandleTable<A> {
 fn put<V: Drop, A: Allocator + Copy>(entries: &mut IndexMap<u64, V, Builder, A>, key: u64, value: V)
     requires { 0 < spare entries.old }
     ensures entries { entries.new.entries ≡ map.insert_entry nat_eq entries.old.entries key value }
-    ensures at { (q : ℕ) → map.get nat_eq entries.new q ≡ (if nat_eq key q then Some value else map.get nat_eq entries.old q) }
+    ensures at { (q : ℕ) → map.get nat_eq entries.new q
+        ≡ (if nat_eq key q then Some value else map.get nat_eq entries.old q) }
     ensures unique { map.IsUnique nat_eq entries.new }
     ensures room { spare entries.old ≤ spare entries.new + 1 }
 {
@@ -164,7 +165,8 @@ fn put<V: Drop, A: Allocator + Copy>(entries: &mut IndexMap<u64, V, Builder, A>,
 
 /// Takes one open number of a file out of the count.
 fn use_less<A: Allocator + Copy>(uses: &mut IndexMap<u64, u64, Builder, A>, file: u64)
-    ensures less { (other : ℕ) → map.get nat_eq uses.new other ≡ (if nat_eq file other then one_less (map.get nat_eq uses.old file) else map.get nat_eq uses.old other) }
+    ensures less { (other : ℕ) → map.get nat_eq uses.new other
+        ≡ (if nat_eq file other then one_less (map.get nat_eq uses.old file) else map.get nat_eq uses.old other) }
     ensures room { spare uses.old ≤ spare uses.new }
 {
     match uses.get_mut(&file) {

@@ -7,5 +7,8 @@ use Rattle.fuse_spec.specs.Server.Nodes.{HeldNode}
 use Rattle.fs_nodes.proofs.Maps.{any_there}
 
 -- where `has` says no, no node is of the file
-pub has_no : (rows : Map HeldNode) (file id : ℕ) (row : HeldNode) → list_any (λ (row : HeldNode). nat_eq row.file file) (values rows) ≡ false → get rows id ≡ Some row → row.file ≢ file
-has_no rows file id row none is same = true≢false (sym (any_there rows (λ (r : HeldNode). nat_eq r.file file) id row is (eq-eqb row.file file same)) ∙ none)
+pub has_no : (rows : Map HeldNode) (file id : ℕ) (row : HeldNode)
+    → list_any (λ (row : HeldNode). nat_eq row.file file) (values rows) ≡ false → get rows id ≡ Some row
+    → row.file ≢ file
+has_no rows file id row none is same = true≢false
+    (sym (any_there rows (λ (r : HeldNode). nat_eq r.file file) id row is (eq-eqb row.file file same)) ∙ none)

@@ -9,7 +9,8 @@ use Rattle.fuse_spec.specs.Server.Nodes.{HeldNode, NodeTable}
 pub record IsSound (t : NodeTable) : Type 0 where
   pub sorted : IsTrue (is_sorted nat_cmp t.rows)
   pub from_two : (id : ℕ) (row : HeldNode) → get t.rows id ≡ Some row → 2 ≤ id
-  pub one_each : (id other : ℕ) (row same : HeldNode) → get t.rows id ≡ Some row → get t.rows other ≡ Some same → row.file ≡ same.file → id ≡ other
+  pub one_each : (id other : ℕ) (row same : HeldNode) → get t.rows id ≡ Some row → get t.rows other ≡ Some same
+      → row.file ≡ same.file → id ≡ other
   pub counted : (id : ℕ) (row : HeldNode) → get t.rows id ≡ Some row → 0 < row.count
   pub given_before : (id : ℕ) (row : HeldNode) → get t.rows id ≡ Some row → row.generation < t.next_generation
 

@@ -25,7 +25,8 @@ impl<A: Allocator + Copy> NodeRows for ListRows<A> {
 
     ghost rows = { λ t. rows_from 2 t.slots.items };
 
-    ghost room = { λ t. vec_len t.dropped + (min (vec_capacity t.slots) (vec_capacity t.dropped) - length t.slots.items) };
+    ghost room = { λ t. vec_len t.dropped + (min (vec_capacity t.slots)
+        (vec_capacity t.dropped) - length t.slots.items) };
 
     fn new(alloc: A) -> Self {
         ListRows {

@@ -12,8 +12,8 @@ use std::alloc::{AllocError, Allocator};
 
 /// The nodes that a server holds, one nodeid a file. The root, nodeid 1, is always held and never among them.
 ///
-/// Nodeids are from 2 up. A generation is the next of a counter that never goes back, also not at `clear`: so no pair of
-/// a nodeid and a generation is given twice (libfuse's low-level notes ask this of a server).
+/// Nodeids are from 2 up. A generation is the next of a counter that never goes back, also not at `clear`: so no pair
+/// of a nodeid and a generation is given twice (libfuse's low-level notes ask this of a server).
 ///
 /// Only `reserve` and `nodes` take memory. Under a nodeid that is not held a look answers `None`, 0 or `false`
 /// (this project's rule).
@@ -51,7 +51,8 @@ pub trait NodeStore {
     fn give(&mut self, file: u64) -> (u64, u64)
         requires room { IsUnheld (table self.old) file → 0 < room self.old }
         requires generation { IsUnheld (table self.old) file → (table self.old).next_generation < 2 ^ 62 }
-        requires count { (id : ℕ) (row : HeldNode) → get (table self.old).rows id ≡ Some row → row.file ≡ file → row.count + 1 < 2 ^ 64 }
+        requires count { (id : ℕ) (row : HeldNode) → get (table self.old).rows id ≡ Some row → row.file ≡ file
+            → row.count + 1 < 2 ^ 64 }
         ensures id { MayName (table self.old) file result.0 }
         ensures generation { result.1 ≡ generation_given (table self.old) (get (table self.old).rows result.0) }
         ensures table { table self.new ≡ given (table self.old) file result.0 }
@@ -106,7 +107,8 @@ pub trait NodeStore {
     fn nodes(&self, alloc: Self::Heap) -> Result<Vec<(u64, u64, u64), Self::Heap>, AllocError>
         ensures { IfOk result (λ nodes. nodes.items ≡ listed (table self.now).rows) };
 
-    /// Nodeids rise from 2, no two have one file, each has a lookup, and its generation was given before the coming one.
+    /// Nodeids rise from 2, no two have one file, each has a lookup, and its generation was given before the coming
+    /// one.
     fn keeps_sound(&self)
         ensures { IsSound (table self.now) };
 }

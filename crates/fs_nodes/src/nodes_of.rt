@@ -24,7 +24,10 @@ impl<R: NodeRows> Model for NodesOf<R> {
 
     ghost coded = { Prim.hlevel (codes) };
 
-    ghost view = { λ t. record { table = record { rows = R.rows t.rows; next_generation = t.next }; room = R.room t.rows } };
+    ghost view = { λ t. record {
+      table = record { rows = R.rows t.rows; next_generation = t.next };
+      room = R.room t.rows;
+    } };
 
     ghost invariant = { λ t. IsKept (record { rows = R.rows t.rows; next_generation = t.next }) };
 }

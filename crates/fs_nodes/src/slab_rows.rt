@@ -128,7 +128,8 @@ fn set<A: Allocator>(nodes: &mut Slab<StoredNode, A>, place: usize, node: Stored
 /// Puts the place of a file that has none, with room.
 fn put<A: Allocator + Copy>(places: &mut IndexMap<u64, usize, Builder, A>, file: u64, place: usize)
     requires { 0 < spare places.old }
-    ensures at { (q : ℕ) → map.get nat_eq places.new q ≡ (if nat_eq file q then Some place else map.get nat_eq places.old q) }
+    ensures at { (q : ℕ) → map.get nat_eq places.new q
+        ≡ (if nat_eq file q then Some place else map.get nat_eq places.old q) }
     ensures room { spare places.old ≤ spare places.new + 1 }
 {
     let _old = places.insert(file, place).unwrap();

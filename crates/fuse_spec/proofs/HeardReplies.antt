@@ -13,7 +13,8 @@ use Rattle.fuse_spec.specs.Calls.Vfs.{CallState}
 abbrev pub IsNoListPlus : WireReply → Type 0
 IsNoListPlus wire = (pairs : List (DirentPlus Entry)) → wire ≡ listed_plus pairs → ⊥
 
-pub heard_together : (k : Kernel) (call : ℕ) (state : CallState Opened) (wire : WireReply) → IsNoListPlus wire → reply_received k call state wire ≡ judged k call state wire (use_of_all k.nodes (files_in_reply wire))
+pub heard_together : (k : Kernel) (call : ℕ) (state : CallState Opened) (wire : WireReply) → IsNoListPlus wire
+    → reply_received k call state wire ≡ judged k call state wire (use_of_all k.nodes (files_in_reply wire))
 heard_together k call state (listed_plus pairs) other = absurd (other pairs refl)
 heard_together k call state (found g valid) other = refl
 heard_together k call state (missing valid) other = refl

@@ -49,14 +49,18 @@ module _ {W : Type 0} where
   -- marks
 
   -- the mark decides whether a request is interrupted
-  pub is_interrupted-marked : (s : QueueState W) (u : ℕ) (m : Mark) → mark_under s u ≡ Some m → is_interrupted s u ≡ has_interrupt m
+  pub is_interrupted-marked : (s : QueueState W) (u : ℕ) (m : Mark) → mark_under s u ≡ Some m
+      → is_interrupted s u ≡ has_interrupt m
   is_interrupted-marked s u m marked = ap (λ o. option_map_or has_interrupt o false) marked
 
-  is_interrupted-later : (s t : QueueState W) (u : ℕ) → lookup (nat_eq u) t.requests ≡ lookup (nat_eq u) s.requests → is_interrupted s u ≡ true → is_interrupted t u ≡ true
-  is_interrupted-later s t u same was = ap (λ o. option_map_or has_interrupt (option_map (λ r. r.mark) o) false) same ∙ was
+  is_interrupted-later : (s t : QueueState W) (u : ℕ) → lookup (nat_eq u) t.requests ≡ lookup (nat_eq u) s.requests
+      → is_interrupted s u ≡ true → is_interrupted t u ≡ true
+  is_interrupted-later s t u same was = ap (λ o. option_map_or has_interrupt
+      (option_map (λ r. r.mark) o) false) same ∙ was
 
   -- a request that is not interrupted has no INTERRUPT queued
-  pub none_queued : (s : QueueState W) (u : ℕ) (old : Mark) → IsSound s → mark_under s u ≡ Some old → has_interrupt old ≡ false → count_by (nat_eq u) s.interrupts ≡ 0
+  pub none_queued : (s : QueueState W) (u : ℕ) (old : Mark) → IsSound s → mark_under s u ≡ Some old
+      → has_interrupt old ≡ false → count_by (nat_eq u) s.interrupts ≡ 0
   none_queued s u old sound marked quiet =
       let bound = sound.interrupts u in
       let is = is_interrupted-marked s u old marked in
@@ -65,10 +69,13 @@ module _ {W : Type 0} where
   -- room
 
   -- while the INTERRUPT of a request is not queued, fewer are queued than there are requests
-  pub interrupts-lt-requests : (s : QueueState W) (u : ℕ) (m : Mark) → IsSound s → mark_under s u ≡ Some m → count_by (nat_eq u) s.interrupts ≡ 0 → length s.interrupts < length s.requests
-  interrupts-lt-requests s u m sound marked none = length-le-keys (u ∷ s.interrupts) s.requests (λ v. by v (nat_eq v u) refl)
+  pub interrupts-lt-requests : (s : QueueState W) (u : ℕ) (m : Mark) → IsSound s → mark_under s u ≡ Some m
+      → count_by (nat_eq u) s.interrupts ≡ 0 → length s.interrupts < length s.requests
+  interrupts-lt-requests s u m sound marked none =
+      length-le-keys (u ∷ s.interrupts) s.requests (λ v. by v (nat_eq v u) refl)
     where
-      is_some-interrupted : (o : Option (QueuedRequest W)) → option_map_or has_interrupt (option_map (λ r. r.mark) o) false ≡ true → is_some o ≡ true
+      is_some-interrupted : (o : Option (QueuedRequest W))
+          → option_map_or has_interrupt (option_map (λ r. r.mark) o) false ≡ true → is_some o ≡ true
       is_some-interrupted None is = cc
       is_some-interrupted (Some q) is = refl
 
@@ -76,17 +83,21 @@ module _ {W : Type 0} where
       is_some-marked None is = cc
       is_some-marked (Some q) is = refl
 
-      by : (v : ℕ) (b : Bool) → nat_eq v u ≡ b → count_by (nat_eq v) (u ∷ s.interrupts) ≤ cond (is_some (lookup (nat_eq v) s.requests)) 1 0
+      by : (v : ℕ) (b : Bool) → nat_eq v u ≡ b → count_by (nat_eq v) (u ∷ s.interrupts) ≤ cond
+          (is_some (lookup (nat_eq v) s.requests)) 1 0
       by v true e =
           let counted = count_by-cons (nat_eq v) u s.interrupts in
           let same : v ≡ u = grind (arith, nat_tests, e) in
-          let there : is_some (lookup (nat_eq v) s.requests) ≡ true = rw same (is_some-marked (lookup (nat_eq u) s.requests) marked) in
+          let there : is_some (lookup (nat_eq v) s.requests) ≡ true =
+          rw same (is_some-marked (lookup (nat_eq u) s.requests) marked) in
           let absent : count_by (nat_eq v) s.interrupts ≡ 0 = rw same none in
           rw (there, counted, e) (omega arith)
       by v false e =
           let counted = count_by-cons (nat_eq v) u s.interrupts in
-          let fewer : count_by (nat_eq v) (u ∷ s.interrupts) ≤ count_by (nat_eq v) s.interrupts = rw (counted, e) (omega arith) in
-          below_later _ _ (is_interrupted s v) (is_some (lookup (nat_eq v) s.requests)) fewer (sound.interrupts v) (is_some-interrupted (lookup (nat_eq v) s.requests))
+          let fewer : count_by (nat_eq v) (u ∷ s.interrupts) ≤ count_by (nat_eq v) s.interrupts =
+          rw (counted, e) (omega arith) in
+          below_later _ _ (is_interrupted s v) (is_some (lookup (nat_eq v) s.requests)) fewer (sound.interrupts v)
+          (is_some-interrupted (lookup (nat_eq v) s.requests))
 
   -- the calls
 
@@ -94,54 +105,65 @@ module _ {W : Type 0} where
   IsSound-enqueue s w sound next = record {
     next = next;
     requests = λ u. drawn u (nat_eq u s.next) refl;
-    interrupts = λ u. below_later _ _ (is_interrupted s u) (is_interrupted (after_enqueue s w) u) (omega arith) (sound.interrupts u) (still u);
+    interrupts = λ u. below_later _ _ (is_interrupted s u) (is_interrupted (after_enqueue s w) u) (omega arith)
+        (sound.interrupts u) (still u);
   }
     where
       new : ℕ × QueuedRequest W
       new = (s.next, record { mark = Unread; kept = w })
 
-      drawn : (u : ℕ) (b : Bool) → nat_eq u s.next ≡ b → key_count u (s.requests ++ new ∷ []) ≤ cond (was_drawn (s.next + 2) u) 1 0
+      drawn : (u : ℕ) (b : Bool) → nat_eq u s.next ≡ b
+          → key_count u (s.requests ++ new ∷ []) ≤ cond (was_drawn (s.next + 2) u) 1 0
       drawn u true e =
           let pushed = count_by-push (λ d. nat_eq u d.0) s.requests new in
           let same : u ≡ s.next = grind (arith, nat_tests, e) in
-          let before : key_count u s.requests ≤ cond (was_drawn s.next s.next) 1 0 = subst (λ (n : ℕ). key_count u s.requests ≤ cond (was_drawn s.next n) 1 0) same (sound.requests u) in
+          let before : key_count u s.requests ≤ cond (was_drawn s.next s.next) 1 0 =
+          subst (λ (n : ℕ). key_count u s.requests ≤ cond (was_drawn s.next n) 1 0) same (sound.requests u) in
           let none : key_count u s.requests ≤ 0 = rw was_drawn-self at before in
           let here : was_drawn (s.next + 2) u ≡ true = rw same (was_drawn-here s.next sound.next) in
           rw (here, pushed, e) (omega arith)
       drawn u false e =
           let pushed = count_by-push (λ d. nat_eq u d.0) s.requests new in
           let same : key_count u (s.requests ++ new ∷ []) ≤ key_count u s.requests = rw (pushed, e) (omega arith) in
-          below_later _ _ (was_drawn s.next u) (was_drawn (s.next + 2) u) same (sound.requests u) (was_drawn-later s.next u)
+          below_later _ _ (was_drawn s.next u) (was_drawn (s.next + 2) u) same (sound.requests u)
+          (was_drawn-later s.next u)
 
       still : (u : ℕ) → is_interrupted s u ≡ true → is_interrupted (after_enqueue s w) u ≡ true
       still u was = by (lookup (nat_eq u) s.requests) refl
         where
-          by : (o : Option (QueuedRequest W)) → lookup (nat_eq u) s.requests ≡ o → is_interrupted (after_enqueue s w) u ≡ true
-          by None e = absurd (true≢false (sym was ∙ ap (λ o. option_map_or has_interrupt (option_map (λ r. r.mark) o) false) e))
+          by : (o : Option (QueuedRequest W)) → lookup (nat_eq u) s.requests ≡ o
+              → is_interrupted (after_enqueue s w) u ≡ true
+          by None e = absurd (true≢false (sym was ∙ ap (λ o. option_map_or has_interrupt
+              (option_map (λ r. r.mark) o) false) e))
           by (Some r) e = is_interrupted-later s (after_enqueue s w) u (lookup-push u s.requests new r e ∙ sym e) was
 
-  pub IsSound-mark : (s : QueueState W) (u : ℕ) (old m : Mark) → IsSound s → mark_under s u ≡ Some old → has_interrupt old ≡ false → IsSound (with_mark s u m)
+  pub IsSound-mark : (s : QueueState W) (u : ℕ) (old m : Mark) → IsSound s → mark_under s u ≡ Some old
+      → has_interrupt old ≡ false → IsSound (with_mark s u m)
   IsSound-mark s u old m sound marked quiet = record {
     next = sound.next;
     requests = λ v. rw (key_count-set_mark v u s.requests m) (sound.requests v);
     interrupts = λ v. by v (nat_eq v u) refl;
   }
     where
-      by : (v : ℕ) (b : Bool) → nat_eq v u ≡ b → count_by (nat_eq v) s.interrupts ≤ cond (is_interrupted (with_mark s u m) v) 1 0
+      by : (v : ℕ) (b : Bool) → nat_eq v u ≡ b → count_by (nat_eq v) s.interrupts ≤ cond
+          (is_interrupted (with_mark s u m) v) 1 0
       by v true e =
           let same : v ≡ u = grind (arith, nat_tests, e) in
           let none : count_by (nat_eq v) s.interrupts ≡ 0 = rw same (none_queued s u old sound marked quiet) in
           rw none (omega arith)
-      by v false e = below_later _ _ (is_interrupted s v) (is_interrupted (with_mark s u m) v) (omega arith) (sound.interrupts v) (is_interrupted-later s (with_mark s u m) v (lookup-set_mark_other v u s.requests m e))
+      by v false e = below_later _ _ (is_interrupted s v) (is_interrupted (with_mark s u m) v) (omega arith)
+          (sound.interrupts v) (is_interrupted-later s (with_mark s u m) v (lookup-set_mark_other v u s.requests m e))
 
-  pub IsSound-interrupt : (s : QueueState W) (u : ℕ) → IsSound s → is_interrupted s u ≡ true → count_by (nat_eq u) s.interrupts ≡ 0 → IsSound (with_interrupt s u)
+  pub IsSound-interrupt : (s : QueueState W) (u : ℕ) → IsSound s → is_interrupted s u ≡ true
+      → count_by (nat_eq u) s.interrupts ≡ 0 → IsSound (with_interrupt s u)
   IsSound-interrupt s u sound is none = record {
     next = sound.next;
     requests = sound.requests;
     interrupts = λ v. by v s.interrupts_off;
   }
     where
-      one_more : (v : ℕ) (b : Bool) → nat_eq v u ≡ b → count_by (nat_eq v) (s.interrupts ++ u ∷ []) ≤ cond (is_interrupted s v) 1 0
+      one_more : (v : ℕ) (b : Bool) → nat_eq v u ≡ b → count_by (nat_eq v) (s.interrupts ++ u ∷ []) ≤ cond
+          (is_interrupted s v) 1 0
       one_more v true e =
           let pushed = count_by-push (nat_eq v) s.interrupts u in
           let same : v ≡ u = grind (arith, nat_tests, e) in
@@ -152,7 +174,8 @@ module _ {W : Type 0} where
           let pushed = count_by-push (nat_eq v) s.interrupts u in
           rw (pushed, e) (omega (arith, sound.interrupts v))
 
-      by : (v : ℕ) (off : Bool) → count_by (nat_eq v) (cond off s.interrupts (s.interrupts ++ u ∷ [])) ≤ cond (is_interrupted s v) 1 0
+      by : (v : ℕ) (off : Bool) → count_by (nat_eq v) (cond off s.interrupts (s.interrupts ++ u ∷ [])) ≤ cond
+          (is_interrupted s v) 1 0
       by v true = sound.interrupts v
       by v false = one_more v (nat_eq v u) refl
 
@@ -163,35 +186,47 @@ module _ {W : Type 0} where
     interrupts = λ v. by v (nat_eq v u) refl (count_by-without v u s.interrupts);
   }
     where
-      by : (v : ℕ) (b : Bool) → nat_eq v u ≡ b → count_by (nat_eq v) (filter (λ i. not (nat_eq u i)) s.interrupts) ≤ cond (nat_eq v u) 0 (count_by (nat_eq v) s.interrupts) → count_by (nat_eq v) (filter (λ i. not (nat_eq u i)) s.interrupts) ≤ cond (is_interrupted (without s u) v) 1 0
+      by : (v : ℕ) (b : Bool) → nat_eq v u ≡ b → count_by (nat_eq v)
+          (filter (λ i. not (nat_eq u i)) s.interrupts) ≤ cond (nat_eq v u) 0 (count_by (nat_eq v) s.interrupts)
+          → count_by (nat_eq v) (filter (λ i. not (nat_eq u i)) s.interrupts) ≤ cond
+          (is_interrupted (without s u) v) 1 0
       by v true e fewer = le_trans (rw e at fewer) (omega arith)
-      by v false e fewer = below_later _ _ (is_interrupted s v) (is_interrupted (without s u) v) (rw e at fewer) (sound.interrupts v) (is_interrupted-later s (without s u) v (lookup-remove_entry_other v u s.requests e))
+      by v false e fewer = below_later _ _ (is_interrupted s v) (is_interrupted (without s u) v) (rw e at fewer)
+          (sound.interrupts v) (is_interrupted-later s (without s u) v (lookup-remove_entry_other v u s.requests e))
 
-  pub IsSound-dequeue : (s : QueueState W) (u : ℕ) (old : Mark) → IsSound s → mark_under s u ≡ Some old → has_interrupt old ≡ false → IsSound (record s { requests = remove_entry (nat_eq u) s.requests })
+  pub IsSound-dequeue : (s : QueueState W) (u : ℕ) (old : Mark) → IsSound s → mark_under s u ≡ Some old
+      → has_interrupt old ≡ false → IsSound (record s { requests = remove_entry (nat_eq u) s.requests })
   IsSound-dequeue s u old sound marked quiet = record {
     next = sound.next;
     requests = λ v. le_trans (key_count-remove_entry v (nat_eq u) s.requests) (sound.requests v);
     interrupts = λ v. by v (nat_eq v u) refl;
   }
     where
-      by : (v : ℕ) (b : Bool) → nat_eq v u ≡ b → count_by (nat_eq v) s.interrupts ≤ cond (is_interrupted (record s { requests = remove_entry (nat_eq u) s.requests }) v) 1 0
+      by : (v : ℕ) (b : Bool) → nat_eq v u ≡ b → count_by (nat_eq v) s.interrupts ≤ cond
+          (is_interrupted (record s { requests = remove_entry (nat_eq u) s.requests }) v) 1 0
       by v true e =
           let same : v ≡ u = grind (arith, nat_tests, e) in
           let none : count_by (nat_eq v) s.interrupts ≡ 0 = rw same (none_queued s u old sound marked quiet) in
           rw none (omega arith)
-      by v false e = below_later _ _ (is_interrupted s v) (is_interrupted (record s { requests = remove_entry (nat_eq u) s.requests }) v) (omega arith) (sound.interrupts v) (is_interrupted-later s (record s { requests = remove_entry (nat_eq u) s.requests }) v (lookup-remove_entry_other v u s.requests e))
+      by v false e = below_later _ _ (is_interrupted s v)
+          (is_interrupted (record s { requests = remove_entry (nat_eq u) s.requests }) v) (omega arith)
+          (sound.interrupts v) (is_interrupted-later s (record s { requests = remove_entry (nat_eq u) s.requests }) v
+          (lookup-remove_entry_other v u s.requests e))
 
   pub IsSound-read_interrupt : (s : QueueState W) → IsSound s → IsSound (after_read_interrupt s)
   IsSound-read_interrupt s sound = record {
     next = sound.next;
     requests = sound.requests;
-    interrupts = λ u. below_later _ _ (is_interrupted s u) (is_interrupted s u) (count_by-drop_first (nat_eq u) s.interrupts) (sound.interrupts u) (λ was. was);
+    interrupts = λ u. below_later _ _ (is_interrupted s u) (is_interrupted s u)
+        (count_by-drop_first (nat_eq u) s.interrupts) (sound.interrupts u) (λ was. was);
   }
 
-  pub IsSound-draw : (s : QueueState W) (forgets : List (ℕ × ℕ)) → IsSound s → IsNextNumber (s.next + 2) → IsSound (record s { forgets = forgets; next = s.next + 2 })
+  pub IsSound-draw : (s : QueueState W) (forgets : List (ℕ × ℕ)) → IsSound s → IsNextNumber (s.next + 2)
+      → IsSound (record s { forgets = forgets; next = s.next + 2 })
   IsSound-draw s forgets sound next = record {
     next = next;
-    requests = λ u. below_later _ _ (was_drawn s.next u) (was_drawn (s.next + 2) u) (omega arith) (sound.requests u) (was_drawn-later s.next u);
+    requests = λ u. below_later _ _ (was_drawn s.next u) (was_drawn (s.next + 2) u) (omega arith) (sound.requests u)
+        (was_drawn-later s.next u);
     interrupts = sound.interrupts;
   }
 
@@ -203,7 +238,8 @@ module _ {W : Type 0} where
       lookup-no_key s.next s.requests (omega arith)
 
   -- the INTERRUPT of a request that is marked so is queued
-  pub IsSound-mark_interrupted : (s : QueueState W) (u : ℕ) (old : Mark) → IsSound s → mark_under s u ≡ Some old → has_interrupt old ≡ false → IsSound (with_interrupt (with_mark s u Interrupted) u)
+  pub IsSound-mark_interrupted : (s : QueueState W) (u : ℕ) (old : Mark) → IsSound s → mark_under s u ≡ Some old
+      → has_interrupt old ≡ false → IsSound (with_interrupt (with_mark s u Interrupted) u)
   IsSound-mark_interrupted s u old sound marked quiet =
       let now = lookup-set_mark_same u s.requests Interrupted old marked in
       IsSound-interrupt
@@ -214,7 +250,8 @@ module _ {W : Type 0} where
       (none_queued s u old sound marked quiet)
 
   -- the mark of a pending request is found by its number
-  pub mark_under-pending : (s : QueueState W) (place : ℕ) (e : ℕ × QueuedRequest W) → IsSound s → slice_get (pending s) place ≡ Some e → mark_under s e.0 ≡ Some e.1.mark
+  pub mark_under-pending : (s : QueueState W) (place : ℕ) (e : ℕ × QueuedRequest W) → IsSound s
+      → slice_get (pending s) place ≡ Some e → mark_under s e.0 ≡ Some e.1.mark
   mark_under-pending s place e sound found =
       let bound = sound.requests e.0 in
       let few : key_count e.0 s.requests ≤ 1 = by (was_drawn s.next e.0) bound in

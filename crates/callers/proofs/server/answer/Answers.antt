@@ -9,11 +9,13 @@ use Rattle.callers.proofs.server.answer.Goals as goal
 pub returns-then-has_reply-clause-answered : goal.returns-then-has_reply-clause-answered
 returns-then-has_reply-clause-answered g c =
     on_ok_weaker c.write_reply.result
-    (answered_by c.args.frame.now c.args.out.now.items c.write_reply.new.out.items (request_message c.in_ok-request.request) (reply_message c.reply_to-reply.result)
+    (answered_by c.args.frame.now c.args.out.now.items c.write_reply.new.out.items
+    (request_message c.in_ok-request.request) (reply_message c.reply_to-reply.result)
     c.in_ok-request.ensures.ok c.reply_to-reply.ensures.unique c.reply_to-reply.ensures.goes)
     c.write_reply.ensures.ok
 
 pub returns-else-has_reply-clause-answered : goal.returns-else-has_reply-clause-answered
 returns-else-has_reply-clause-answered g c =
     unreplied (request_message c.in_ok-request.request) c.in_ok-request.ensures.ok
-    (none_there (kind_of (opcode_of (request_content c.in_ok-request.request.body))) (sym c.if-has_reply.false ∙ c.has_reply.ensures)) refl
+    (none_there (kind_of (opcode_of (request_content c.in_ok-request.request.body)))
+    (sym c.if-has_reply.false ∙ c.has_reply.ensures)) refl

@@ -35,7 +35,9 @@ loop-id-preserved-then-count-gt0 g c =
 pub loop-id-preserved : goal.loop-id-preserved
 loop-id-preserved g c =
     let is = c.loop-id.invariant in (
-      λ test. (let rest = ap (weight test) c.in-Some.ensures.steps in let none = no_weight (test c.in-Some.id.now) c.in-Some.count.now c.if-count-gt0.false in omega (arith, is.0 test, rest, none)),
+      λ test. (let rest = ap (weight test) c.in-Some.ensures.steps in
+          let none = no_weight (test c.in-Some.id.now) c.in-Some.count.now c.if-count-gt0.false in
+          omega (arith, is.0 test, rest, none)),
       is.1,
       is.2,
     )

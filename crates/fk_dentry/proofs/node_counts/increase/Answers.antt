@@ -13,10 +13,12 @@ overflow_add-count g c =
 pub returns-in-Some-clause-counts : goal.returns-in-Some-clause-counts
 returns-in-Some-clause-counts g c = λ test.
     let wrote = c.get_mut.follows.holds _ in
-    ap (weight test) wrote.0 ∙ weight-more test c.args.counts.now.entries c.args.id _ c.args.more (sym c.in-Some.ensures.value)
+    ap (weight test) wrote.0 ∙ weight-more test c.args.counts.now.entries c.args.id _ c.args.more
+    (sym c.in-Some.ensures.value)
 
 pub returns-clause-counts : goal.returns-clause-counts
 returns-clause-counts g c = λ test.
-    let none : lookup (nat_eq c.args.id) c.args.counts.now.entries ≡ None = sym c.get_mut.ensures.value ∙ ap option_copied_mut c.in_default.is in
+    let none : lookup (nat_eq c.args.id) c.args.counts.now.entries ≡ None =
+    sym c.get_mut.ensures.value ∙ ap option_copied_mut c.in_default.is in
     let entries = rw (c.unwrap-old.ensures, c.get_mut.follows.holds-at-none) at c.insert.ensures.entries in
     ap (weight test) entries ∙ weight-insert test c.args.counts.now.entries c.args.id c.args.more none

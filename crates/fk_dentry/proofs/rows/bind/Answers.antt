@@ -16,7 +16,8 @@ returns-in-Some-clause-slots g c =
     let key : Place = (c.args.directory, c.args.name.now) in
     let wrote = c.get_mut.follows.holds _ in
     let updates = wrote.3 (ap is_some (sym c.in-Some.ensures.value)) in
-    slots-put c.args.rows.now.entries _ key c.replace.new.self updates.1 updates.3 ∙ ap (λ (slot : Option Binding). put_name (slots_of c.args.rows.now.entries) key slot) c.replace.ensures.after
+    slots-put c.args.rows.now.entries _ key c.replace.new.self updates.1 updates.3 ∙ ap
+    (λ (slot : Option Binding). put_name (slots_of c.args.rows.now.entries) key slot) c.replace.ensures.after
 
 pub returns-in-None-clause-old : goal.returns-in-None-clause-old
 returns-in-None-clause-old g c =

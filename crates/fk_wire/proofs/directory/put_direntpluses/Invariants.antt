@@ -8,7 +8,8 @@ abbrev pub invariant-pairs : goal.invariant-pairs
 invariant-pairs g l =
     (goal.iterator-pairs g).can_next l.pair-iterator
     × (goal.iterator-pairs g).is_finite l.pair-iterator
-    × (l.out.items ++ spellings (direntpluses (pluses_in l.pair-iterator)) ≡ l.fn.out.items ++ spellings (direntpluses (pluses_in l.fn.records)))
+    × (l.out.items ++ spellings (direntpluses (pluses_in l.pair-iterator)) ≡ l.fn.out.items
+    ++ spellings (direntpluses (pluses_in l.fn.records)))
     × (vec_len l.out + sizes (direntpluses (pluses_in l.pair-iterator)) ≤ vec_capacity l.out)
     × (InRange (direntpluses (pluses_in l.pair-iterator)) → InRange (direntpluses (pluses_in l.fn.records)))
     × HavePlusNames (pluses_in l.pair-iterator)

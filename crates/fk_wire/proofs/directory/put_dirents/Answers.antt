@@ -3,4 +3,5 @@ use Rattle.fk_wire.proofs.RecordLists.{records_are_named}
 use Rattle.fk_wire.proofs.directory.put_dirents.Goals as goal
 
 pub records-init : goal.records-init
-records-init g c = rw c.into_iter-dirent-iterator.ensures.into_iter_gives (tt, tt, refl, c.requires, (λ h. h), records_are_named c.args.records)
+records-init g c = rw c.into_iter-dirent-iterator.ensures.into_iter_gives
+    (tt, tt, refl, c.requires, (λ h. h), records_are_named c.args.records)

@@ -8,7 +8,8 @@ abbrev pub invariant-records : goal.invariant-records
 invariant-records g l =
     (goal.iterator-records g).can_next l.dirent-iterator
     × (goal.iterator-records g).is_finite l.dirent-iterator
-    × (l.out.items ++ spellings (dirents (records_in l.dirent-iterator)) ≡ l.fn.out.items ++ spellings (dirents (records_in l.fn.records)))
+    × (l.out.items ++ spellings (dirents (records_in l.dirent-iterator)) ≡ l.fn.out.items
+    ++ spellings (dirents (records_in l.fn.records)))
     × (vec_len l.out + sizes (dirents (records_in l.dirent-iterator)) ≤ vec_capacity l.out)
     × (InRange (dirents (records_in l.dirent-iterator)) → InRange (dirents (records_in l.fn.records)))
     × HaveRecordNames (records_in l.dirent-iterator)

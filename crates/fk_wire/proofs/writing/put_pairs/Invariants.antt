@@ -7,6 +7,7 @@ abbrev pub invariant-pairs : goal.invariant-pairs
 invariant-pairs g l =
     (goal.iterator-pairs g).can_next l.nodeid-iterator
     × (goal.iterator-pairs g).is_finite l.nodeid-iterator
-    × (l.out.items ++ spellings (forget_ones (pairs_in l.nodeid-iterator)) ≡ l.fn.out.items ++ spellings (forget_ones (pairs_in l.fn.pairs)))
+    × (l.out.items ++ spellings (forget_ones (pairs_in l.nodeid-iterator)) ≡ l.fn.out.items
+    ++ spellings (forget_ones (pairs_in l.fn.pairs)))
     × (vec_len l.out + 16 * length (pairs_in l.nodeid-iterator) ≤ vec_capacity l.out)
     × (InRange (forget_ones (pairs_in l.nodeid-iterator)) → InRange (forget_ones (pairs_in l.fn.pairs)))

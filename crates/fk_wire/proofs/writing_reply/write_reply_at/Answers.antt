@@ -11,11 +11,16 @@ use Rattle.fk_wire.proofs.writing_reply.write_reply_at.Goals.{else-word-ne0-via-
 pub returns-clause-ok : goal.returns-clause-ok
 returns-clause-ok g c =
     let error : IsErrorNumber c.args.reply.now.error = search (arith, ints) in
-    let same : c.error_word-word.result ≡ cast_unsigned w32 c.args.reply.now.error = c.error_word-word.ensures ∙ ap (cast_unsigned w32) (to_z-of_z w32 c.args.reply.now.error (error_fits c.args.reply.now.error error)) in
+    let same : c.error_word-word.result ≡ cast_unsigned w32 c.args.reply.now.error =
+    c.error_word-word.ensures ∙ ap (cast_unsigned w32)
+    (to_z-of_z w32 c.args.reply.now.error (error_fits c.args.reply.now.error error)) in
     let word : cast_unsigned w32 c.args.reply.now.error < 2 ^ 32 = omega (arith, same, c.error_word-word.type_inv) in
     let alone : IsAlone (reply_message c.args.reply.now) = elim c.else-word-ne0.branch [
       | else-word-ne0-via-then-word-ne0+else-not-is_empty w ↦ λ _. w.if-not-is_empty.ensures.0 refl
       | else-word-ne0-via-else-word-ne0 w ↦ λ some. absurd (some (sym same ∙ w.if-word-ne0.false))
     ] in
-    reply_frame c.args.minor (reply_message c.args.reply.now) c.args.out.now.items c.put_reply_body.new.out.items (16 + c.reply_size-size.result)
-    (omega (arith, c.reply_size-size.ensures)) (omega arith) error (c.if-not-is_known_body.ensures.0 refl) alone (c.if-not-has_times.ensures.0 refl) (names_hold c.args.reply.now.body) word (omega arith) c.put_reply_body.ensures.fits (cc)
+    reply_frame c.args.minor (reply_message c.args.reply.now) c.args.out.now.items c.put_reply_body.new.out.items
+    (16 + c.reply_size-size.result)
+    (omega (arith, c.reply_size-size.ensures)) (omega arith) error (c.if-not-is_known_body.ensures.0 refl) alone
+    (c.if-not-has_times.ensures.0 refl) (names_hold c.args.reply.now.body) word
+    (omega arith) c.put_reply_body.ensures.fits (cc)

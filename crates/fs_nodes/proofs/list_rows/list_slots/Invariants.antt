@@ -5,4 +5,5 @@ use Rattle.fs_nodes.proofs.list_rows.list_slots.Given as goal
 
 -- what is listed, and then the nodes that are left, are all
 abbrev pub invariant-loop-place : goal.invariant-loop-place
-invariant-loop-place g l = l.list.items ++ listed (rows_from (l.place + 2) (drop l.place l.slots)) ≡ listed (rows_from 2 l.slots)
+invariant-loop-place g l = l.list.items ++ listed (rows_from (l.place + 2) (drop l.place l.slots))
+    ≡ listed (rows_from 2 l.slots)

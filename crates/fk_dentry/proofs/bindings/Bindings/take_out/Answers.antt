@@ -11,7 +11,9 @@ use Rattle.fk_dentry.proofs.bindings.Bindings.take_out.Goals as goal
 pub leave-requires : goal.leave-requires
 leave-requires g c = λ q.
     let key : Place = (c.args.directory, c.args.name.now) in
-    subst (λ (b : Option Binding). times q (named_by c.args.directory b) ≤ count_in c.self.inside.nodes.counts.entries q) (sym c.take_out-binding.ensures.binding)
+    subst (λ (b : Option Binding). times q
+    (named_by c.args.directory b) ≤ count_in c.self.inside.nodes.counts.entries q)
+    (sym c.take_out-binding.ensures.binding)
     (bound_among key c.self.invariant q)
 
 pub invariant_of-self : goal.invariant_of-self
@@ -21,11 +23,16 @@ invariant_of-self g c =
     let binding = c.take_out-binding.ensures.binding in
     let counts = c.self.inside.nodes.counts.entries in
     let nodes = c.leave.new.self in
-    let gone = subst (λ (b : Option Binding). (q : ℕ) → count_in nodes.counts.entries q + times q (named_by c.args.directory b) ≡ count_in counts q) binding c.leave.ensures.count in
-    let fewer = subst (λ (b : Option Binding). total_in nodes.counts.entries + length (named_by c.args.directory b) ≡ total_in counts) binding c.leave.ensures.total in
+    let gone = subst (λ (b : Option Binding). (q : ℕ)
+    → count_in nodes.counts.entries q + times q (named_by c.args.directory b)
+    ≡ count_in counts q) binding c.leave.ensures.count in
+    let fewer = subst (λ (b : Option Binding). total_in nodes.counts.entries + length (named_by c.args.directory b)
+    ≡ total_in counts) binding c.leave.ensures.total in
     let most = c.leave.ensures.most in
-    let table = table-without key c.self.invariant (count_in nodes.counts.entries) (total_in nodes.counts.entries) nodes.most gone fewer (omega (arith, most)) in
-    subst (λ s. IsTable s (count_in nodes.counts.entries) (total_in nodes.counts.entries) nodes.most) (sym c.take_out-binding.ensures.slots) table
+    let table = table-without key c.self.invariant (count_in nodes.counts.entries)
+    (total_in nodes.counts.entries) nodes.most gone fewer (omega (arith, most)) in
+    subst (λ s. IsTable s (count_in nodes.counts.entries) (total_in nodes.counts.entries) nodes.most)
+    (sym c.take_out-binding.ensures.slots) table
 
 pub returns-clause-bound : goal.returns-clause-bound
 returns-clause-bound g c =
@@ -36,9 +43,12 @@ returns-clause-bound g c =
 pub returns-clause-names : goal.returns-clause-names
 returns-clause-names g c =
     let key : Place = (c.args.directory, c.args.name.now) in
-    rw (← c.self.view_is) (ap names_in c.take_out-binding.ensures.slots ∙ names-remove (slots_of c.self.inside.rows.entries) key)
+    rw (← c.self.view_is) (ap names_in c.take_out-binding.ensures.slots ∙ names-remove
+    (slots_of c.self.inside.rows.entries) key)
 
 pub returns-clause-kept : goal.returns-clause-kept
 returns-clause-kept g c =
     let key : Place = (c.args.directory, c.args.name.now) in
-    rw (← c.self.view_is) (λ other ne some. ap (λ s. is_some (get_name s other)) c.take_out-binding.ensures.slots ∙ room-remove (slots_of c.self.inside.rows.entries) key other ne some)
+    rw (← c.self.view_is) (λ other ne some. ap (λ s. is_some
+    (get_name s other)) c.take_out-binding.ensures.slots ∙ room-remove
+    (slots_of c.self.inside.rows.entries) key other ne some)

@@ -11,4 +11,5 @@ returns g c =
     let rows = rows_of c.self.inside.nodes.slots c.self.inside.places.entries in
     let all : c.loop-id.nodes.items ≡ listed (nodes_among rows) = search rules in
     let ordered = c.into_iter-id-iterator.ensures.into_iter_gives in
-    rw (← c.self.view_is) (all ∙ sym (ap (λ es. listed (nodes_among es)) (entries-map_of rows (sorted_rows c.self.inside.nodes.slots c.self.inside.places.entries ordered.5))))
+    rw (← c.self.view_is) (all ∙ sym (ap (λ es. listed (nodes_among es))
+    (entries-map_of rows (sorted_rows c.self.inside.nodes.slots c.self.inside.places.entries ordered.5))))

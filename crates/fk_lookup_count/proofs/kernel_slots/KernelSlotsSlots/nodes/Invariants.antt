@@ -7,4 +7,5 @@ use Rattle.fk_lookup_count.proofs.kernel_slots.KernelSlotsSlots.nodes.Given as g
 -- the nodes so far, and those of the ids that are left
 abbrev pub invariant-loop-id : goal.invariant-loop-id
 invariant-loop-id g l =
-    l.nodes.items ++ listed (nodes_among (rows_of l.self-inside.nodes.slots l.id-iterator)) ≡ listed (nodes_among (rows_of l.self-inside.nodes.slots l.self-inside.places.entries))
+    l.nodes.items ++ listed (nodes_among (rows_of l.self-inside.nodes.slots l.id-iterator))
+    ≡ listed (nodes_among (rows_of l.self-inside.nodes.slots l.self-inside.places.entries))

@@ -7,7 +7,8 @@ pub returns-in_default : goal.returns-in_default
 returns-in_default g c =
     let slots = c.self.inside.nodes.slots in
     rw (← c.self.view_is)
-    (ap (table_of slots) c.in_default.ensures.unchanged ∙ without_absent _ c.args.id (no_slot_at slots c.self.inside.places.entries c.args.id (sym c.in_default.ensures.value)))
+    (ap (table_of slots) c.in_default.ensures.unchanged ∙ without_absent _ c.args.id
+    (no_slot_at slots c.self.inside.places.entries c.args.id (sym c.in_default.ensures.value)))
 
 pub returns : goal.returns
 returns g c =

@@ -6,7 +6,8 @@ use Rattle.fk_lookup_count.proofs.kernel_slots.KernelSlotsSlots.write.Goals as g
 pub returns-in_default : goal.returns-in_default
 returns-in_default g c =
     let none = sym c.get.ensures.value ∙ sym c.copied.ensures ∙ c.in_default.is in
-    let absent : get c.args.self.now c.args.id ≡ None = rw (← c.self.view_is) (no_slot_at c.self.inside.nodes.slots c.self.inside.places.entries c.args.id none) in
+    let absent : get c.args.self.now c.args.id ≡ None =
+    rw (← c.self.view_is) (no_slot_at c.self.inside.nodes.slots c.self.inside.places.entries c.args.id none) in
     absurd (false_true (sym (ap is_some absent) ∙ c.requires))
   where
     false_true : false ≡ true → ⊥

@@ -5,4 +5,5 @@ use Rattle.fk_lookup_count.proofs.list_slots.ListSlotsSlots.nodes.Given as goal
 
 -- the nodes so far, and those of the rows that are left
 abbrev pub invariant-loop-row : goal.invariant-loop-row
-invariant-loop-row g l = l.nodes.items ++ listed (nodes_among (drop l.row-index l.row-items)) ≡ listed (nodes_among l.row-items)
+invariant-loop-row g l = l.nodes.items ++ listed (nodes_among (drop l.row-index l.row-items))
+    ≡ listed (nodes_among l.row-items)

@@ -8,12 +8,14 @@ use Rattle.fk_lookup_count.proofs.list_slots.ListSlotsSlots.take_out.Goals as go
 pub returns-in_default : goal.returns-in_default
 returns-in_default g c =
     let old = c.self.inside.rows.items in
-    rw (← c.self.view_is) (ap map_of (sym (absent_is old c.args.id (rw c.deref.ensures.value at c.in_default.ensures))) ∙ map_of-remove old c.args.id)
+    rw (← c.self.view_is) (ap map_of (sym (absent_is old c.args.id
+    (rw c.deref.ensures.value at c.in_default.ensures))) ∙ map_of-remove old c.args.id)
 
 pub invariant_of-self : goal.invariant_of-self
 invariant_of-self g c =
     let rows = c.remove-row.ensures.items ∙ without_there c.self.inside.rows.items c.args.id c.in-Some.place c.self.invariant (rw c.deref.ensures.value at c.in-Some.ensures) in
-    subst (λ es. T (is_sorted nat_cmp es)) (sym rows) (sorted_without c.self.inside.rows.items c.args.id c.self.invariant)
+    subst (λ es. T (is_sorted nat_cmp es)) (sym rows)
+    (sorted_without c.self.inside.rows.items c.args.id c.self.invariant)
 
 pub returns : goal.returns
 returns g c =

@@ -9,7 +9,8 @@ use Rattle.fk_lookup_count.proofs.list_slots.ListSlotsSlots.write.Goals as goal
 pub returns-in_default : goal.returns-in_default
 returns-in_default g c =
     let none = rw c.deref.ensures.value at c.in_default.ensures in
-    let absent : get c.args.self.now c.args.id ≡ None = rw (← c.self.view_is) (get-map_of c.self.inside.rows.items c.args.id ∙ none) in
+    let absent : get c.args.self.now c.args.id ≡ None =
+    rw (← c.self.view_is) (get-map_of c.self.inside.rows.items c.args.id ∙ none) in
     absurd (false_true (sym (ap is_some absent) ∙ c.requires))
   where
     false_true : false ≡ true → ⊥

@@ -7,7 +7,9 @@ use Rattle.fs_handles.proofs.handle_table.HandleTable.take_back.Goals as goal
 
 pub returns-in_default-clause-table : goal.returns-in_default-clause-table
 returns-in_default-clause-table g c =
-    rw (← c.self.view_is, c.get_mut.follows.holds-at-none) (less-none c.self.inside.opens.entries c.self.inside.next c.args.fh (sym c.get_mut.ensures.value ∙ ap option_copied_mut c.in_default.is))
+    rw (← c.self.view_is, c.get_mut.follows.holds-at-none)
+    (less-none c.self.inside.opens.entries c.self.inside.next c.args.fh
+    (sym c.get_mut.ensures.value ∙ ap option_copied_mut c.in_default.is))
 
 pub invariant_of-self-then-open_file-gt1 : goal.invariant_of-self-then-open_file-gt1
 invariant_of-self-then-open_file-gt1 g c =
@@ -38,4 +40,5 @@ returns-clause-table g c =
     let at = ((c.get_mut.follows.holds c.in-Some.open_file.now).3 (ap is_some is)).0 in
     let removed = c.swap_remove-last.ensures.updates.0 in
     rw (← c.self.view_is) (less-last _ c.self.inside.opens.entries c.self.inside.next c.args.fh _ is c.if-open_file-gt1.false
-    (λ q. removed q ∙ ap (cond (nat_eq c.args.fh q) None) (at q) ∙ without_twice (nat_eq c.args.fh q) (Some c.in-Some.open_file.now) (lookup (nat_eq q) c.self.inside.opens.entries)))
+    (λ q. removed q ∙ ap (cond (nat_eq c.args.fh q) None) (at q) ∙ without_twice (nat_eq c.args.fh q)
+    (Some c.in-Some.open_file.now) (lookup (nat_eq q) c.self.inside.opens.entries)))

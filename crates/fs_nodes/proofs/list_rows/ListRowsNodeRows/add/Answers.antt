@@ -29,26 +29,36 @@ invariant_of-self g c =
 pub overflow_add-result : goal.overflow_add-result
 overflow_add-result g c =
     let old = c.args.self.now in
-    omega (arith, (place_taken _ c.in-Some.place old.vacant c.in-Some.ensures.items).0, old.slots.ok.0, old.slots.ok.1, old.slots.small)
+    omega (
+      arith,
+      (place_taken _ c.in-Some.place old.vacant c.in-Some.ensures.items).0,
+      old.slots.ok.0,
+      old.slots.ok.1,
+      old.slots.small,
+    )
 
 pub returns-in-Some-clause-free : goal.returns-in-Some-clause-free
 returns-in-Some-clause-free g c =
     let old = c.args.self.now in
-    get_at old.slots.items c.in-Some.place ∙ ap (option_map node_of) (place_taken _ c.in-Some.place old.vacant c.in-Some.ensures.items).1
+    get_at old.slots.items c.in-Some.place ∙ ap (option_map node_of)
+    (place_taken _ c.in-Some.place old.vacant c.in-Some.ensures.items).1
 
 pub returns-in-Some-clause-rows : goal.returns-in-Some-clause-rows
 returns-in-Some-clause-rows g c =
     let old = c.args.self.now in
-    rows_set _ old.slots.items c.in-Some.place c.args.node (place_taken _ c.in-Some.place old.vacant c.in-Some.ensures.items).0 c.put_slot.ensures.items
+    rows_set _ old.slots.items c.in-Some.place c.args.node
+    (place_taken _ c.in-Some.place old.vacant c.in-Some.ensures.items).0 c.put_slot.ensures.items
 
 pub returns-clause-free : goal.returns-clause-free
 returns-clause-free g c =
     let slots = c.args.self.now.slots in
     let place = c.len-place.ensures ∙ slots.ok.0 in
-    ap (λ p. get (rows_from 2 slots.items) (p + 2)) place ∙ get_at slots.items (length slots.items) ∙ ap (option_map node_of) (at_end slots.items)
+    ap (λ p. get (rows_from 2 slots.items) (p + 2)) place ∙ get_at slots.items (length slots.items) ∙ ap
+    (option_map node_of) (at_end slots.items)
 
 pub returns-clause-rows : goal.returns-clause-rows
 returns-clause-rows g c =
     let slots = c.args.self.now.slots in
     let place = c.len-place.ensures ∙ slots.ok.0 in
-    rows_push _ slots.items c.args.node c.push_reserved.ensures.items ∙ ap (λ p. put (rows_from 2 slots.items) (p + 2) (node_of c.args.node)) (sym place)
+    rows_push _ slots.items c.args.node c.push_reserved.ensures.items ∙ ap
+    (λ p. put (rows_from 2 slots.items) (p + 2) (node_of c.args.node)) (sym place)

@@ -5,7 +5,8 @@ use Rattle.fs_nodes.proofs.nodes_of.NodesOfNodeStore.take_back.Goals as goal
 pub invariant_of-self : goal.invariant_of-self
 invariant_of-self g c = record {
   limit = c.self.invariant.limit;
-  sound = sound_counted _ c.args.id _ _ c.self.invariant.sound (sym c.in-Some.ensures) refl refl (omega arith) c.write.ensures.rows;
+  sound = sound_counted _ c.args.id _ _ c.self.invariant.sound (sym c.in-Some.ensures) refl refl
+      (omega arith) c.write.ensures.rows;
 }
 
 pub invariant_of-self-else-count-node : goal.invariant_of-self-else-count-node

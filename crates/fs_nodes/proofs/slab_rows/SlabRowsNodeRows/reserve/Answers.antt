@@ -7,7 +7,8 @@ use Rattle.fs_nodes.proofs.slab_rows.SlabRowsNodeRows.reserve.Goals as goal
 pub returns-in_err-reserve-2-clause-succeeds : goal.returns-in_err-reserve-2-clause-succeeds
 returns-in_err-reserve-2-clause-succeeds g c = λ fits.
     let some = c.if-more-eq0.false in
-    absurd (true≢false (sym (c.in_err-reserve-2.ensures.succeeds (has_room _ _ _ c.args.more (omega arith) fits).slots)))
+    absurd (true≢false (sym (c.in_err-reserve-2.ensures.succeeds
+    (has_room _ _ _ c.args.more (omega arith) fits).slots)))
 
 pub returns-then-capacity-gt-MOST-clause-succeeds : goal.returns-then-capacity-gt-MOST-clause-succeeds
 returns-then-capacity-gt-MOST-clause-succeeds g c = λ fits.

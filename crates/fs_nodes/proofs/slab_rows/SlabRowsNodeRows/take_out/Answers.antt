@@ -15,13 +15,15 @@ use Rattle.fs_nodes.proofs.slab_rows.SlabRowsNodeRows.take_out.Goals as goal
 pub returns-in_default-clause-rows : goal.returns-in_default-clause-rows
 returns-in_default-clause-rows g c =
     let slots = c.args.self.now.nodes.slots in
-    rows_without_none slots c.args.id (get_low slots c.args.id (place-low c.args.id (sym c.place_of.ensures ∙ c.in_default.is)))
+    rows_without_none slots c.args.id (get_low slots c.args.id
+    (place-low c.args.id (sym c.place_of.ensures ∙ c.in_default.is)))
 
 pub returns-in_default-try_remove-clause-rows : goal.returns-in_default-try_remove-clause-rows
 returns-in_default-try_remove-clause-rows g c =
     let slots = c.args.self.now.nodes.slots in
     let id_is = place-high c.args.id c.in-Some.place (sym c.place_of.ensures ∙ c.in-Some.is) in
-    let none = ap (get (rows_from 2 slots)) id_is ∙ get_at slots c.in-Some.place ∙ ap (option_map node_of) (sym c.try_remove.ensures.value ∙ c.in_default-try_remove.is) in
+    let none = ap (get (rows_from 2 slots)) id_is ∙ get_at slots c.in-Some.place ∙ ap (option_map node_of)
+    (sym c.try_remove.ensures.value ∙ c.in_default-try_remove.is) in
     ap (λ (s : Slab StoredNode). rows_from 2 s.slots) c.in_default-try_remove.ensures.absent ∙ rows_without_none slots c.args.id none
 
 pub invariant_of-self-2 : goal.invariant_of-self-2
@@ -33,11 +35,14 @@ invariant_of-self-2 g c =
     let there = sym c.try_remove.ensures.value ∙ c.in-Some-try_remove.is in
     let removed = c.swap_remove-place.ensures.updates.0 in
     record {
-      inverse = inverse_without _ _ node.file place old.inverse (ap (option_map (λ (kept : StoredNode). kept.file)) there)
+      inverse = inverse_without _ _ node.file place old.inverse
+          (ap (option_map (λ (kept : StoredNode). kept.file)) there)
           (file_at-changed _ old.nodes.slots place None updates.changed updates.others) removed;
       small = λ file p is. elim (cases_eq node.file file) [
-        | inl e ↦ absurd (none-some p (sym (at_written _ (λ q. lookup (nat_eq q) old.places.entries) node.file None removed file e) ∙ is))
-        | inr ne ↦ old.small file p (sym (at_other _ (λ q. lookup (nat_eq q) old.places.entries) node.file None removed file ne) ∙ is)
+        | inl e ↦ absurd (none-some p (sym (at_written _
+            (λ q. lookup (nat_eq q) old.places.entries) node.file None removed file e) ∙ is))
+        | inr ne ↦ old.small file p (sym (at_other _ (λ q. lookup
+            (nat_eq q) old.places.entries) node.file None removed file ne) ∙ is)
       ];
     }
 
