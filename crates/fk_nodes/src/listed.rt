@@ -79,7 +79,7 @@ fn bind_name<A: Allocator + Copy, C: CountTable>(
     };
     match nodes.use_of(&entry) {
         EntryUse::Usable => {
-            let until = clock + valid_ms(&pair.entry_out);
+            let until = clock + valid_ms(pair);
             names.put(directory, pair.dirent.name, Some(entry.nodeid), until);
         }
         EntryUse::Useless => {}
