@@ -1,82 +1,91 @@
-//! The queues as one map from number to request, in order of queuing.
-ghost use Rattle.std.specs.Prelude.{◌≡◌, ℕ, ◌+◌, ◌-◌, ◌<◌, ◌≤◌, List, Option, OnOk, IsOk, None, Some, option_map, slice_get, nat_eq, min, filter, length, vec_capacity};
+//! The calls of the queues, over any store of their requests.
+ghost use Rattle.std.specs.Prelude.{◌≡◌, ℕ, ◌+◌, ◌-◌, ◌<◌, ◌≤◌, Option, OnOk, IsOk, None, Some, option_map, slice_get, nat_eq, min, length, vec_capacity};
 ghost use Rattle.std.specs.Map.{lookup};
 ghost use Rattle.std.specs.VecDeque.{deque_len, deque_capacity};
-ghost use Rattle.indexmap.specs.IndexMap.{spare};
-ghost use Rattle.fuse_spec.specs.Kernel.Queues.{QueueState, is_unread, IsSound};
-ghost use Rattle.fuse_spec.specs.Kernel.QueueCalls.{set_mark};
+ghost use Rattle.fuse_spec.specs.Kernel.Queues.{QueueState, IsSound};
 ghost use Rattle.fk_queues.specs.Room.{Room};
 
 use crate::forgets::{ForgetList, Forgets};
 use crate::interrupts::InterruptList;
 use crate::marks::is_unread;
 use crate::no_memory::NoMemory;
+use crate::request_store::RequestStore;
 use crate::table::QueueTable;
 use fk_unique::Uniques;
 use fuse_spec::limits::MAX_FORGETS;
-use fuse_spec::{IntrEffect, Mark, QueuedRequest};
-use indexmap::IndexMap;
-use std::alloc::{AllocError, Allocator, Global};
-use std::hash::{BuildHasherDefault, FoldHasher};
+use fuse_spec::{IntrEffect, Mark};
+use std::marker::{Model, PhantomData};
 
-type Builder = BuildHasherDefault<FoldHasher>;
-
-/// The queues, with their requests in a map from number to request, in order of queuing.
-///
-/// What each call costs, for `n` requests pending and in processing:
-///
-/// | Call | Time |
-/// |---|---|
-/// | `numbers_left`, `request_count`, `request_at`, `first_interrupt`, `forget`, `no_interrupts` | constant |
-/// | `enqueue`, `waiting` | one look-up by hash |
-/// | `interrupt` | two look-ups by hash; a request that is dequeued has those queued after it moved up, at most `n` |
-/// | `answer` | look-ups by hash, one pass over the queued INTERRUPTs, and those queued after it moved up, at most `n` |
-/// | `again` | one look-up by hash, and one pass over the queued INTERRUPTs |
-/// | `pending(place)`, `read_pending(place)` | a scan from the oldest request to the one at that place, at most `n` |
-/// | `read_interrupt` | the queued INTERRUPTs behind the first move up |
-/// | `first_forgets(count)`, `read_forgets(count)` | `count` steps |
-/// | `reserve` | nothing where the room is there, else a copy of what grows |
-/// | `abort` | `n` steps, and one for each forget |
-///
-/// A place among the pending requests is a promise of the contract, so a request that ends leaves no hole: that is what moves.
+/// The queues: requests in a store, INTERRUPTs and forgets in lists, and the coming number.
 #[derive(Drop)]
-pub struct Queues<W, A: Allocator = Global> {
-    requests: IndexMap<u64, QueuedRequest<W>, Builder, A>,
-    interrupts: InterruptList<A>,
-    forgets: ForgetList<A>,
+pub struct QueuesOf<W: Drop, S: RequestStore<W>> {
+    requests: S,
+    interrupts: InterruptList<S::Heap>,
+    forgets: ForgetList<S::Heap>,
     uniques: Uniques,
-    ghost sound: { IsSound (record {
-      requests = requests.entries;
-      interrupts = interrupts.numbers.items;
-      forgets = forgets.items.items;
-      next = uniques;
-      interrupts_off = interrupts.off;
-    }) },
-    ghost fits: { length requests.entries ≤ vec_capacity interrupts.numbers },
+    kept: PhantomData<W>,
 }
 
-impl<W: Drop, A: Allocator + Copy> QueueTable<W> for Queues<W, A> {
-    type Heap = A;
+impl<W: Drop, S: RequestStore<W>> Model for QueuesOf<W, S> {
+    ghost use Rattle.std.specs.Prelude.{◌-◌, length, min, vec_capacity};
+    ghost use Rattle.std.specs.Coded.{codes};
+    ghost use Rattle.std.specs.VecDeque.{deque_capacity, deque_len};
+    ghost use Rattle.fuse_spec.specs.contracts.Mark as mark_row;
+    ghost use Rattle.fk_queues.specs.State.{QueuesState, IsKept};
 
-    ghost state = { λ q. record {
-      requests = q.requests.entries;
-      interrupts = q.interrupts.numbers.items;
-      forgets = q.forgets.items.items;
-      next = q.uniques;
-      interrupts_off = q.interrupts.off;
+    ghost Value = { QueuesState W };
+
+    ghost coded = { Prim.hlevel (codes, W.code, mark_row.the_row.coded) };
+
+    ghost view = { λ q. record {
+      queues = record {
+        requests = S.entries q.requests;
+        interrupts = q.interrupts.numbers.items;
+        forgets = q.forgets.items.items;
+        next = q.uniques;
+        interrupts_off = q.interrupts.off;
+      };
+      room = record {
+        requests = min (S.room q.requests) (vec_capacity q.interrupts.numbers - length (S.entries q.requests));
+        forgets = deque_capacity q.forgets.items - deque_len q.forgets.items;
+      };
     } };
 
-    ghost room = { λ q. record {
-      requests = min (spare q.requests) (vec_capacity q.interrupts.numbers - length q.requests.entries);
-      forgets = deque_capacity q.forgets.items - deque_len q.forgets.items;
-    } };
+    ghost invariant = { λ q. IsKept
+        (record {
+          requests = S.entries q.requests;
+          interrupts = q.interrupts.numbers.items;
+          forgets = q.forgets.items.items;
+          next = q.uniques;
+          interrupts_off = q.interrupts.off;
+        })
+        (vec_capacity q.interrupts.numbers) };
+}
 
-    fn new(alloc: A) -> Self {
-        Queues {
-            requests: IndexMap::new(alloc),
+impl<W: Drop, S: RequestStore<W>> QueuesOf<W, S> {
+    /// The mark of the request under a number.
+    fn mark_under(&self, unique: u64) -> Option<Mark>
+        ensures { result ≡ option_map (λ r. r.mark) (lookup (nat_eq unique) self.now.queues.requests) }
+    {
+        let request = self.requests.request(unique)?;
+        Some(request.mark)
+    }
+}
+
+impl<W: Drop, S: RequestStore<W>> QueueTable<W> for QueuesOf<W, S> {
+    type Heap = S::Heap;
+
+    ghost state = { λ q. q.queues };
+
+    ghost room = { λ q. q.room };
+
+    fn new(alloc: S::Heap) -> Self {
+        QueuesOf {
+            requests: S::new(alloc),
             interrupts: InterruptList::new(alloc),
             forgets: ForgetList::new(alloc),
             uniques: Uniques::new(),
+            kept: PhantomData,
         }
     }
 
@@ -96,11 +105,7 @@ impl<W: Drop, A: Allocator + Copy> QueueTable<W> for Queues<W, A> {
 
     fn enqueue(&mut self, kept: W) -> u64 {
         let unique = self.uniques.next().unwrap();
-        let request = QueuedRequest {
-            mark: Mark::Unread,
-            kept,
-        };
-        let _old = self.requests.insert(unique, request).unwrap();
+        self.requests.push(unique, kept);
         unique
     }
 
@@ -109,16 +114,16 @@ impl<W: Drop, A: Allocator + Copy> QueueTable<W> for Queues<W, A> {
     }
 
     fn pending(&self, place: usize) -> Option<(u64, &W)> {
-        let (unique, request) = pending_entry(&self.requests, place)?;
+        let (unique, request) = self.requests.pending(place)?;
         Some((unique, &request.kept))
     }
 
     fn read_pending(&mut self, place: usize) -> Option<u64> {
-        let (unique, request) = pending_entry(&self.requests, place)?;
+        let (unique, request) = self.requests.pending(place)?;
         match request.mark {
-            Mark::Unread => put_mark(&mut self.requests, unique, Mark::Read),
+            Mark::Unread => self.requests.put_mark(unique, Mark::Read),
             Mark::Flagged => {
-                put_mark(&mut self.requests, unique, Mark::Interrupted);
+                self.requests.put_mark(unique, Mark::Interrupted);
                 self.interrupts.push(unique);
             }
             Mark::Read | Mark::Interrupted => {}
@@ -155,12 +160,12 @@ impl<W: Drop, A: Allocator + Copy> QueueTable<W> for Queues<W, A> {
     }
 
     fn request_at(&self, place: usize) -> Option<(u64, &W)> {
-        let (unique, request) = self.requests.get_index(place)?;
-        Some((*unique, &request.kept))
+        let (unique, request) = self.requests.request_at(place)?;
+        Some((unique, &request.kept))
     }
 
     fn waiting(&self, unique: u64) -> Option<&W> {
-        let request = self.requests.get(&unique)?;
+        let request = self.requests.request(unique)?;
         match request.mark {
             Mark::Unread | Mark::Flagged => None,
             Mark::Read | Mark::Interrupted => Some(&request.kept),
@@ -172,16 +177,16 @@ impl<W: Drop, A: Allocator + Copy> QueueTable<W> for Queues<W, A> {
             return None;
         }
         self.interrupts.remove(unique);
-        let request = self.requests.shift_remove(&unique)?;
+        let request = self.requests.take(unique)?;
         Some(request.kept)
     }
 
     fn interrupt(&mut self, unique: u64, fatal: bool) -> IntrEffect {
-        let Some(mark) = mark_under(&self.requests, unique) else {
+        let Some(mark) = self.mark_under(unique) else {
             return IntrEffect::None;
         };
         if fatal && is_unread(mark) {
-            let _gone = self.requests.shift_remove(&unique);
+            let _gone = self.requests.take(unique);
             return IntrEffect::Dequeued;
         }
         if self.interrupts.off {
@@ -189,11 +194,11 @@ impl<W: Drop, A: Allocator + Copy> QueueTable<W> for Queues<W, A> {
         }
         match mark {
             Mark::Unread => {
-                put_mark(&mut self.requests, unique, Mark::Flagged);
+                self.requests.put_mark(unique, Mark::Flagged);
                 IntrEffect::Flagged
             }
             Mark::Read => {
-                put_mark(&mut self.requests, unique, Mark::Interrupted);
+                self.requests.put_mark(unique, Mark::Interrupted);
                 self.interrupts.push(unique);
                 IntrEffect::Queued
             }
@@ -205,7 +210,7 @@ impl<W: Drop, A: Allocator + Copy> QueueTable<W> for Queues<W, A> {
         if self.interrupts.contains(unique) {
             return;
         }
-        if let Some(Mark::Interrupted) = mark_under(&self.requests, unique) {
+        if let Some(Mark::Interrupted) = self.mark_under(unique) {
             self.interrupts.push(unique);
         }
     }
@@ -221,50 +226,8 @@ impl<W: Drop, A: Allocator + Copy> QueueTable<W> for Queues<W, A> {
         self.uniques = Uniques::new();
     }
 
-    ghost sound = { λ q. q.sound };
-}
-
-/// The pending request at a place in order of queuing, with its number.
-fn pending_entry<W, A: Allocator>(
-    requests: &IndexMap<u64, QueuedRequest<W>, Builder, A>,
-    place: usize,
-) -> Option<(u64, &QueuedRequest<W>)>
-    ensures { option_map (λ p. (p.0, p.1.now)) result ≡ slice_get (filter (λ e. is_unread e.1.mark) requests.now.entries) place }
-{
-    let mut left = place;
-    for (unique, request) in requests {
-        if is_unread(request.mark) {
-            if left == 0 {
-                return Some((*unique, request));
-            }
-            left -= 1;
-        }
-    }
-    None
-}
-
-/// The mark of the request under a number.
-fn mark_under<W, A: Allocator>(
-    requests: &IndexMap<u64, QueuedRequest<W>, Builder, A>,
-    unique: u64,
-) -> Option<Mark>
-    ensures { result ≡ option_map (λ r. r.mark) (lookup (nat_eq unique) requests.now.entries) }
-{
-    let request = requests.get(&unique)?;
-    Some(request.mark)
-}
-
-/// Gives the request under a number this mark.
-fn put_mark<W, A: Allocator>(
-    requests: &mut IndexMap<u64, QueuedRequest<W>, Builder, A>,
-    unique: u64,
-    mark: Mark,
-)
-    ensures entries { requests.new.entries ≡ set_mark unique requests.old.entries mark }
-    ensures len { length requests.new.entries ≡ length requests.old.entries }
-    ensures room { spare requests.new ≡ spare requests.old }
-{
-    if let Some(request) = requests.get_mut(&unique) {
-        request.mark = mark;
+    fn keeps_sound(&self) {
+        // A field is touched so that the type's invariant is at hand.
+        let _off = self.interrupts.off;
     }
 }

@@ -140,5 +140,6 @@ pub trait QueueTable<W: Drop> {
 
     /// Numbers are even, rise by 2 and name one request at most. A number stands on the list of INTERRUPTs once at
     /// most, and leaves it when its request ends.
-    ghost sound: { (q : Self) → IsSound (state q) };
+    fn keeps_sound(&self)
+        ensures { IsSound (state self.now) };
 }
