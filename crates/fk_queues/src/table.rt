@@ -138,8 +138,8 @@ pub trait QueueTable<W: Drop> {
     fn abort(&mut self)
         ensures { state self.new ≡ empty_queues };
 
-    /// Numbers are even, rise by 2 and name one request at most. A number stands on the list of INTERRUPTs once at
-    /// most, and leaves it when its request ends.
+    /// A call without effect, for a caller's proof: numbers are even, rise by 2 and name one request at most. A number
+    /// stands on the list of INTERRUPTs once at most, and leaves it when its request ends.
     fn keeps_sound(&self)
         ensures { IsSound (state self.now) };
 }
