@@ -58,8 +58,7 @@ impl<Q: QueueTable<Purpose> + Drop, C: CountTable<Heap = Q::Heap> + Drop> Kernel
         ensures number { IfOk result (λ n. n ≡ self.old.vfs.next_call) }
         ensures begun { OnOk result (self.new ≡ call_begun self.old (call_of call.now)) }
     {
-        // A field is touched so that the type's invariant is at hand.
-        let _ = &self.next_call;
+        self.queues.keeps_sound();
         if self.is_aborted() {
             return self.begin_answered(Answer::Failed { errno: ENOTCONN });
         }

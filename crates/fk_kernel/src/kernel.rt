@@ -89,8 +89,7 @@ impl<Q: QueueTable<Purpose> + Drop, C: CountTable<Heap = Q::Heap> + Drop> Kernel
     pub fn within(&self)
         ensures { is_past_end self.now ≡ false }
     {
-        // A field is touched so that the type's invariant is at hand.
-        let _ = &self.next_call;
+        self.queues.keeps_sound();
     }
 
     /// No node's count has come to the end of counters, and nodes stand in rising id. A call without effect, made where a proof

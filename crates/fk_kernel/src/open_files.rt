@@ -70,6 +70,7 @@ impl<Q: QueueTable<Purpose> + Drop, C: CountTable<Heap = Q::Heap> + Drop> Kernel
         ensures number { IfOk result (λ n. n ≡ self.old.vfs.next_call) }
         ensures begun { OnOk result (self.new ≡ call_begun self.old (call.close handle)) }
     {
+        self.queues.keeps_sound();
         let Some(opened) = self.opens.get(handle) else {
             return self.begin_answered(Answer::Failed { errno: EBADF });
         };
@@ -129,6 +130,7 @@ impl<Q: QueueTable<Purpose> + Drop, C: CountTable<Heap = Q::Heap> + Drop> Kernel
         ensures number { IfOk result (λ n. n ≡ self.old.vfs.next_call) }
         ensures begun { OnOk result (self.new ≡ call_begun self.old (call.close handle)) }
     {
+        self.queues.keeps_sound();
         let Ok(()) = self.answers.reserve(MAX_CALLS) else {
             return Err(Refusal::NoMemory);
         };

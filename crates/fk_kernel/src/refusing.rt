@@ -173,6 +173,7 @@ impl<Q: QueueTable<Purpose> + Drop, C: CountTable<Heap = Q::Heap> + Drop> Kernel
         ensures past { result ≡ true → is_past_end (reply_written self.now unique (reply.found entry.now valid_ms)).1 ≡ true }
         ensures within { result ≡ false → is_past_end (reply_written self.now unique (reply.found entry.now valid_ms)).1 ≡ false }
     {
+        self.queues.keeps_sound();
         if self.queues.numbers_left() != 0 {
             return false;
         }

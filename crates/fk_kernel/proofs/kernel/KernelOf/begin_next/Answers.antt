@@ -18,7 +18,7 @@ returns-in-Waits-clause-refusal g c =
 pub returns-then-is_aborted-clause-refusal : goal.returns-then-is_aborted-clause-refusal
 returns-then-is_aborted-clause-refusal g c =
     let k = c.args.self.now in
-    let high : k.queues.next ≤ 2 ^ 62 = rw (← c.self.view_is) (g.met.Q.QueueTable.sound c.self.inside.queues).next.high in
+    let high : k.queues.next ≤ 2 ^ 62 = rw (← c.self.view_is) c.keeps_sound.ensures.next.high in
     let aborted : is_aborted k.phase ≡ true = sym c.is_aborted.ensures ∙ c.if-is_aborted.true in
     let ends = ap (λ (b : Bool). begun b k.vfs (call_of c.args.call.now)) aborted in
     refused_alike c.begin_answered.result (ap or_no_memory (answered_unrefused k c.args.call.now (aborted_begun k c.args.call.now aborted) (failed 107) c.requires.ready c.requires.few c.requires.number high ends)) c.begin_answered.ensures.refusal
@@ -26,7 +26,7 @@ returns-then-is_aborted-clause-refusal g c =
 pub returns-then-is_aborted-clause-judged : goal.returns-then-is_aborted-clause-judged
 returns-then-is_aborted-clause-judged g c =
     let k = c.args.self.now in
-    let high : k.queues.next ≤ 2 ^ 62 = rw (← c.self.view_is) (g.met.Q.QueueTable.sound c.self.inside.queues).next.high in
+    let high : k.queues.next ≤ 2 ^ 62 = rw (← c.self.view_is) c.keeps_sound.ensures.next.high in
     let aborted : is_aborted k.phase ≡ true = sym c.is_aborted.ensures ∙ c.if-is_aborted.true in
     let ends = ap (λ (b : Bool). begun b k.vfs (call_of c.args.call.now)) aborted in
     if_ok c.begin_answered.result (answered_unrefused k c.args.call.now (aborted_begun k c.args.call.now aborted) (failed 107) c.requires.ready c.requires.few c.requires.number high ends)
@@ -34,14 +34,14 @@ returns-then-is_aborted-clause-judged g c =
 pub returns-in-Answered-clause-refusal : goal.returns-in-Answered-clause-refusal
 returns-in-Answered-clause-refusal g c =
     let k = c.args.self.now in
-    let high : k.queues.next ≤ 2 ^ 62 = rw (← c.self.view_is) (g.met.Q.QueueTable.sound c.self.inside.queues).next.high in
+    let high : k.queues.next ≤ 2 ^ 62 = rw (← c.self.view_is) c.keeps_sound.ensures.next.high in
     let ends = rw c.in-Answered.is at c.in_ok-errno.ensures.begun in
     refused_alike c.begin_answered-in-Answered.result (ap or_no_memory (answered_unrefused k c.args.call.now (plain_begun k c.args.call.now (no_close c.args.call.now c.in_default.not-Close)) (failed c.in-Answered.errno) c.requires.ready c.requires.few c.requires.number high ends)) c.begin_answered-in-Answered.ensures.refusal
 
 pub returns-in-Answered-clause-judged : goal.returns-in-Answered-clause-judged
 returns-in-Answered-clause-judged g c =
     let k = c.args.self.now in
-    let high : k.queues.next ≤ 2 ^ 62 = rw (← c.self.view_is) (g.met.Q.QueueTable.sound c.self.inside.queues).next.high in
+    let high : k.queues.next ≤ 2 ^ 62 = rw (← c.self.view_is) c.keeps_sound.ensures.next.high in
     let ends = rw c.in-Answered.is at c.in_ok-errno.ensures.begun in
     if_ok c.begin_answered-in-Answered.result (answered_unrefused k c.args.call.now (plain_begun k c.args.call.now (no_close c.args.call.now c.in_default.not-Close)) (failed c.in-Answered.errno) c.requires.ready c.requires.few c.requires.number high ends)
 

@@ -16,7 +16,7 @@ returns-in_default-clause-refusal g c =
     let there : get k.opens.entries c.args.handle ≢ None = some_not_none (get k.opens.entries c.args.handle) c.args.opened here in
     let none : get now.closing c.args.handle ≡ None = rw (← c.self.view_is) (old.files.closed_once c.args.handle there) in
     let fresh : get now.vfs.calls now.vfs.next_call ≡ None = rw (← c.self.view_is) (old.numbers.calls_below k.next_call (omega arith)) in
-    let high : now.queues.next ≤ 2 ^ 62 = rw (← c.self.view_is) (g.met.Q.QueueTable.sound c.self.inside.queues).next.high in
+    let high : now.queues.next ≤ 2 ^ 62 = rw (← c.self.view_is) c.keeps_sound.ensures.next.high in
     let judged = used_unrefused now c.args.handle c.args.opened c.requires.not_aborted c.requires.open none fresh c.requires.ready c.requires.few c.requires.number c.requires.used high in
     sym (ap or_no_memory judged)
 
@@ -29,7 +29,7 @@ returns-in_default-reserve-clause-refusal g c =
     let there : get k.opens.entries c.args.handle ≢ None = some_not_none (get k.opens.entries c.args.handle) c.args.opened here in
     let none : get now.closing c.args.handle ≡ None = rw (← c.self.view_is) (old.files.closed_once c.args.handle there) in
     let fresh : get now.vfs.calls now.vfs.next_call ≡ None = rw (← c.self.view_is) (old.numbers.calls_below k.next_call (omega arith)) in
-    let high : now.queues.next ≤ 2 ^ 62 = rw (← c.self.view_is) (g.met.Q.QueueTable.sound c.self.inside.queues).next.high in
+    let high : now.queues.next ≤ 2 ^ 62 = rw (← c.self.view_is) c.keeps_sound.ensures.next.high in
     let judged = used_unrefused now c.args.handle c.args.opened c.requires.not_aborted c.requires.open none fresh c.requires.ready c.requires.few c.requires.number c.requires.used high in
     sym (ap or_no_memory judged)
 
@@ -42,7 +42,7 @@ returns-in_default-checked_add-clause-refusal g c =
     let there : get k.opens.entries c.args.handle ≢ None = some_not_none (get k.opens.entries c.args.handle) c.args.opened here in
     let none : get now.closing c.args.handle ≡ None = rw (← c.self.view_is) (old.files.closed_once c.args.handle there) in
     let fresh : get now.vfs.calls now.vfs.next_call ≡ None = rw (← c.self.view_is) (old.numbers.calls_below k.next_call (omega arith)) in
-    let high : now.queues.next ≤ 2 ^ 62 = rw (← c.self.view_is) (g.met.Q.QueueTable.sound c.self.inside.queues).next.high in
+    let high : now.queues.next ≤ 2 ^ 62 = rw (← c.self.view_is) c.keeps_sound.ensures.next.high in
     let judged = used_unrefused now c.args.handle c.args.opened c.requires.not_aborted c.requires.open none fresh c.requires.ready c.requires.few c.requires.number c.requires.used high in
     sym (ap or_no_memory judged)
 
@@ -55,7 +55,7 @@ returns-in_default-reserve-2-clause-refusal g c =
     let there : get k.opens.entries c.args.handle ≢ None = some_not_none (get k.opens.entries c.args.handle) c.args.opened here in
     let none : get now.closing c.args.handle ≡ None = rw (← c.self.view_is) (old.files.closed_once c.args.handle there) in
     let fresh : get now.vfs.calls now.vfs.next_call ≡ None = rw (← c.self.view_is) (old.numbers.calls_below k.next_call (omega arith)) in
-    let high : now.queues.next ≤ 2 ^ 62 = rw (← c.self.view_is) (g.met.Q.QueueTable.sound c.self.inside.queues).next.high in
+    let high : now.queues.next ≤ 2 ^ 62 = rw (← c.self.view_is) c.keeps_sound.ensures.next.high in
     let judged = used_unrefused now c.args.handle c.args.opened c.requires.not_aborted c.requires.open none fresh c.requires.ready c.requires.few c.requires.number c.requires.used high in
     sym (ap or_no_memory judged)
 
@@ -94,7 +94,7 @@ returns-clause-judged g c =
     let there : get k.opens.entries c.args.handle ≢ None = some_not_none (get k.opens.entries c.args.handle) c.args.opened here in
     let none : get now.closing c.args.handle ≡ None = rw (← c.self.view_is) (old.files.closed_once c.args.handle there) in
     let fresh : get now.vfs.calls now.vfs.next_call ≡ None = rw (← c.self.view_is) (old.numbers.calls_below k.next_call (omega arith)) in
-    let high : now.queues.next ≤ 2 ^ 62 = rw (← c.self.view_is) (g.met.Q.QueueTable.sound c.self.inside.queues).next.high in
+    let high : now.queues.next ≤ 2 ^ 62 = rw (← c.self.view_is) c.keeps_sound.ensures.next.high in
     let judged = used_unrefused now c.args.handle c.args.opened c.requires.not_aborted c.requires.open none fresh c.requires.ready c.requires.few c.requires.number c.requires.used high in
     judged
 

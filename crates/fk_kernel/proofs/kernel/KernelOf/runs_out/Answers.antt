@@ -61,7 +61,7 @@ returns-clause-within g c = λ would.
     let now = c.args.self.now in
     let entry = c.args.entry.now in
     let stands = c.requires.looks_up in
-    let low : now.queues.next ≤ 2 ^ 62 = rw (← c.self.view_is) (g.met.Q.QueueTable.sound c.self.inside.queues).next.high in
+    let low : now.queues.next ≤ 2 ^ 62 = rw (← c.self.view_is) c.keeps_sound.ensures.next.high in
     let few : now.vfs.next_call ≤ 2 ^ 62 = rw (← c.self.view_is) c.self.invariant.numbers.next in
     let asks = walks_so g c stands.directory stands.word stands.words stands.plan stands.is ∙ would in
     ap (λ (r : WriteResult × Kernel). is_past_end r.1) (lookup_found now c.args.unique c.args.call c.requires.even c.requires.waits stands.directory stands.word stands.words stands.plan stands.is entry c.args.valid_ms c.requires.usable)
@@ -72,7 +72,7 @@ returns-then-numbers_left-ne0-clause-within g c = λ would.
     let now = c.args.self.now in
     let entry = c.args.entry.now in
     let stands = c.requires.looks_up in
-    let low : now.queues.next ≤ 2 ^ 62 = rw (← c.self.view_is) (g.met.Q.QueueTable.sound c.self.inside.queues).next.high in
+    let low : now.queues.next ≤ 2 ^ 62 = rw (← c.self.view_is) c.keeps_sound.ensures.next.high in
     let few : now.vfs.next_call ≤ 2 ^ 62 = rw (← c.self.view_is) c.self.invariant.numbers.next in
     let here : 0 < numbers_left_from (g.Q.QueueTable.state c.self.inside.queues).next = omega (arith, c.numbers_left.ensures, c.if-numbers_left-ne0.true) in
     let left : 0 < numbers_left_from now.queues.next = rw (← c.self.view_is) here in
