@@ -6,7 +6,7 @@ use Rattle.fuse_spec.specs.Kernel.Kernel.{Kernel, is_live, forgets_read}
 use Rattle.fuse_spec.specs.Kernel.Uniques.{numbers_left_from}
 use Rattle.fuse_spec.specs.Kernel.QueueCalls.{can_read_forgets}
 use Rattle.fuse_spec.specs.declared.Refusal.TheVariants.{InterruptFirst, NoSuch, Exhausted}
-use Rattle.fk_kernel.specs.RefusedUpkeep.{read_forgets_refusal}
+use Rattle.fk_kernel.specs.Refused.{read_forgets_refusal}
 use Rattle.fk_kernel.proofs.Phases.{none_past_end}
 
 has_none : (xs : List ℕ) → is_some (slice_get xs 0) ≡ false → nat_eq (length xs) 0 ≡ true

@@ -26,7 +26,7 @@ use Rattle.fuse_spec.specs.Calls.Vfs.{CallState, using, answered}
 use Rattle.fk_queues.specs.Room.{Room, KeepsRoom}
 use Rattle.fk_kernel.specs.Entries.{EndsPast}
 use Rattle.fk_kernel.specs.Refused.{is_past_end}
-use Rattle.fk_kernel.specs.RefusedSignals.{standing_refusal, signal_refusal, IsSignalled}
+use Rattle.fk_kernel.specs.Refused.{standing_refusal, signal_refusal, IsSignalled}
 use Rattle.fk_kernel.specs.Soundness.{IsSoundKernel}
 use Rattle.fk_kernel.proofs.Closes.{released_some}
 use Rattle.fk_kernel.proofs.Nodes.{still_counted}

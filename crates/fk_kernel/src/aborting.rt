@@ -2,7 +2,7 @@
 
 ghost use Rattle.std.specs.Prelude.{◌≡◌, Some, None, OnOk, OnErr, IfErr};
 ghost use Rattle.fuse_spec.specs.Kernel.Kernel.{kernel_aborted};
-ghost use Rattle.fk_kernel.specs.RefusedSignals.{abort_refusal};
+ghost use Rattle.fk_kernel.specs.Refused.{abort_refusal};
 
 use crate::kernel::KernelOf;
 use fk_calls::answer_all;

@@ -6,7 +6,7 @@ ghost use Rattle.fuse_spec.specs.Values.Maps.{get};
 ghost use Rattle.fuse_spec.specs.Kernel.QueueCalls.{after_read_forgets};
 ghost use Rattle.fuse_spec.specs.declared.Counted.{Counted};
 ghost use Rattle.fk_kernel.specs.Refused.{or_no_memory};
-ghost use Rattle.fk_kernel.specs.RefusedUpkeep.{evict_refusal, read_forgets_refusal, IsForgetFrame};
+ghost use Rattle.fk_kernel.specs.Refused.{evict_refusal, read_forgets_refusal, IsForgetFrame};
 
 use crate::kernel::KernelOf;
 use crate::open_files::is_releasing;

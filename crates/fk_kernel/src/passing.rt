@@ -3,7 +3,7 @@
 ghost use Rattle.std.specs.Prelude.{◌≡◌, ◌+◌, Some, None, OnOk, OnErr, IfOk, IfErr};
 ghost use Rattle.fuse_spec.specs.Values.Maps.{remove_name};
 ghost use Rattle.fuse_spec.specs.Calls.Vfs.{later};
-ghost use Rattle.fk_kernel.specs.RefusedUpkeep.{tick_refusal, drop_refusal};
+ghost use Rattle.fk_kernel.specs.Refused.{tick_refusal, drop_refusal};
 
 use crate::kernel::KernelOf;
 use fk_lookup_count::CountTable;

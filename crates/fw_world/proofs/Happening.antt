@@ -25,7 +25,7 @@ use Rattle.fuse_spec.specs.World.Events.{Event, Outcome}
 use Rattle.fuse_spec.specs.World.Events as event
 use Rattle.fuse_spec.specs.World.Steps.{Stepped, going, is_past, is_busy, is_ready, unless, reading_pending, reading_forgets, taking_request, performed_as, performing_held, sending_again, writing_copy, settling, dropping, evicting, MayStep, Happens}
 use Rattle.fk_kernel.specs.Refused.{begin_refusal, mount_refusal, read_refusal, place_refusal, is_past_end, IsPendingRequest}
-use Rattle.fk_kernel.specs.RefusedUpkeep.{read_forgets_refusal, forgets_refusal, tick_refusal, name_refusal, drop_refusal, counted_refusal, evict_refusal}
+use Rattle.fk_kernel.specs.Refused.{read_forgets_refusal, forgets_refusal, tick_refusal, name_refusal, drop_refusal, counted_refusal, evict_refusal}
 
 -- any ids will do, where none is given
 abbrev any_id : ℕ → ℕ

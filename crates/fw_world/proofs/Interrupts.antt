@@ -14,7 +14,7 @@ use Rattle.fuse_spec.specs.World.Events.{Outcome}
 use Rattle.fuse_spec.specs.World.Events as event
 use Rattle.fuse_spec.specs.World.Steps.{Stepped, going, is_past, unless, reading_interrupt, signalling, Happens, IsRefused}
 use Rattle.fk_kernel.specs.Refused.{is_past_end}
-use Rattle.fk_kernel.specs.RefusedSignals.{standing_refusal, signal_refusal, IsSignalled, oldest_refusal, read_interrupt_refusal, abort_refusal}
+use Rattle.fk_kernel.specs.Refused.{standing_refusal, signal_refusal, IsSignalled, oldest_refusal, read_interrupt_refusal, abort_refusal}
 use Rattle.fw_world.proofs.Counters.{past_by_kernel}
 use Rattle.fw_world.proofs.Happening.{accepted}
 use Rattle.fw_world.proofs.Refusing.{is_exhausted}

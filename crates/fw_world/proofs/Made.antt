@@ -36,8 +36,8 @@ use Rattle.fuse_theorem.proofs.WholeLists.ReachedWorlds.{reached_next}
 use Rattle.fk_kernel.specs.Refused.{mount_refusal, begin_refusal, read_refusal, IsPendingRequest}
 use Rattle.fs_server.specs.Effects.{TakesFrame, PerformsHeld, SendsAgain, Settles, copy_of, first_copy}
 use Rattle.fs_server.specs.declared.server.Took.{Took}
-use Rattle.fk_kernel.specs.RefusedUpkeep.{read_forgets_refusal, tick_refusal, drop_refusal, evict_refusal, IsForgetFrame}
-use Rattle.fk_kernel.specs.RefusedSignals.{signal_refusal, read_interrupt_refusal, abort_refusal, IsSignalled, IsInterruptFrame}
+use Rattle.fk_kernel.specs.Refused.{read_forgets_refusal, tick_refusal, drop_refusal, evict_refusal, IsForgetFrame}
+use Rattle.fk_kernel.specs.Refused.{signal_refusal, read_interrupt_refusal, abort_refusal, IsSignalled, IsInterruptFrame}
 use Rattle.fw_world.specs.Values.{with_copy}
 use Rattle.fw_world.proofs.Parts.{world_of, is_made, happens_so, replying_is}
 use Rattle.fw_world.proofs.Interrupts.{signals, reads_interrupt, aborts}

@@ -30,7 +30,7 @@ use Rattle.fk_kernel.specs.Refused.{begin_refusal, mount_refusal, read_refusal, 
 use Rattle.fk_kernel.specs.Refused as kernel
 use Rattle.fs_server.specs.Effects as server
 use Rattle.fuse_theorem.specs.Reached.{IsReached}
-use Rattle.fk_kernel.specs.RefusedUpkeep.{read_forgets_refusal, forgets_refusal, tick_refusal, name_refusal, drop_refusal, counted_refusal, evict_refusal}
+use Rattle.fk_kernel.specs.Refused.{read_forgets_refusal, forgets_refusal, tick_refusal, name_refusal, drop_refusal, counted_refusal, evict_refusal}
 use Rattle.fs_server.specs.Effects.{RefusesHeld, not_held, told_too_often, exhausted, RefusesAgain, not_kept, not_current, copied_too_often, no_number, RefusesFrame}
 use Rattle.fs_server.specs.Effects.{fault_or, past_or_memory}
 use Rattle.fw_world.proofs.Counters.{past_by_kernel, past_by_server, past_by_all}

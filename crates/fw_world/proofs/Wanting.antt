@@ -34,8 +34,8 @@ use Rattle.fuse_spec.specs.World.Worlds.{World, after_call, after_take, after_pe
 use Rattle.fuse_theorem.proofs.Refining.Choosing.{some_choice, not_both}
 use Rattle.fk_kernel.specs.Refused.{begin_refusal, mount_refusal, read_refusal, place_refusal, body_refusal, is_past_end}
 use Rattle.fk_kernel.specs.Refused as kernel
-use Rattle.fk_kernel.specs.RefusedSignals.{read_interrupt_refusal, oldest_refusal}
-use Rattle.fk_kernel.specs.RefusedUpkeep.{read_forgets_refusal, forgets_refusal}
+use Rattle.fk_kernel.specs.Refused.{read_interrupt_refusal, oldest_refusal}
+use Rattle.fk_kernel.specs.Refused.{read_forgets_refusal, forgets_refusal}
 use Rattle.fs_server.specs.Effects as server
 use Rattle.fs_server.specs.declared.server.Took.{Took}
 use Rattle.fs_server.specs.Effects.{CanSendAgain, CanTake, TakesFrame, AnswersFrame, copy_of, RefusesFrame, fault_or, past_or_memory}

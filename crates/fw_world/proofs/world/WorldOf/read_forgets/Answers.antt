@@ -2,7 +2,7 @@ use Rattle.std.proofs.Common.{refl, ap, sym, ◌∙◌}
 use Rattle.std.specs.Option.{unwrap_or}
 use Rattle.fuse_spec.specs.World.Events as event
 use Rattle.fuse_spec.specs.declared.Refusal.TheVariants.{NoMemory}
-use Rattle.fk_kernel.specs.RefusedUpkeep.{read_forgets_refusal}
+use Rattle.fk_kernel.specs.Refused.{read_forgets_refusal}
 use Rattle.fw_world.proofs.Parts.{world_of}
 use Rattle.fw_world.proofs.Made.{forgets_read}
 use Rattle.fw_world.proofs.Refusing.{forgets_refused, or_default}

@@ -4,7 +4,7 @@ use Rattle.fuse_spec.specs.World.Events as event
 use Rattle.fuse_spec.specs.World.Steps.{Happens, RefusedWith}
 use Rattle.fuse_spec.specs.World.Worlds.{World}
 use Rattle.fuse_spec.specs.declared.Refusal.TheVariants.{NoMemory}
-use Rattle.fk_kernel.specs.RefusedSignals.{read_interrupt_refusal}
+use Rattle.fk_kernel.specs.Refused.{read_interrupt_refusal}
 use Rattle.fw_world.proofs.Parts.{world_of}
 use Rattle.fw_world.proofs.Made.{interrupt_read}
 use Rattle.fw_world.proofs.Interrupts.{read_interrupt_refused}
