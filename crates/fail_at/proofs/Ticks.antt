@@ -26,18 +26,34 @@ module _ {M : Type 1} {𝓤 : Ura M} (𝓛 : Logic 𝓤) (at_mem : Memory → SP
   Tick = triple_of 𝓛 TK.signature (TK.spec 𝓛 at_mem run)
 
   abbrev pub at_tick : Lft → Share → ℕ × ℕ → Tick.Ghost
-  at_tick κ q c = (((κ, tt), (q, tt), tt, (record { ref_ptr = c; now = record { value = tt } }, tt), (vptr c.0 c.1 ∷ [], tt)), tt)
+  at_tick κ q c = (
+    (
+      (κ, tt),
+      (q, tt),
+      tt,
+      (record { ref_ptr = c; now = record { value = tt } }, tt),
+      (vptr c.0 c.1 ∷ [], tt),
+    ),
+    tt,
+  )
 
-module _ {M : Type 1} {𝓤 : Ura M} (𝓛 : Logic 𝓤) (at_mem : Memory → SProp 𝓤) (run : Routine → Fun 𝓤) (κ : Lft) (q : Share) (c : ℕ × ℕ) where
+module _ {M : Type 1} {𝓤 : Ura M} (𝓛 : Logic 𝓤) (at_mem : Memory → SProp 𝓤) (run : Routine → Fun 𝓤) (κ : Lft)
+    (q : Share) (c : ℕ × ℕ) where
   open 𝓛 use {H, A}
 
-  pub Tick-goes : ent 𝓤 (sep 𝓤 (sem 𝓛 (hidden_shr Calls κ (record { value = tt }) c.0 c.1)) (A.lft κ q)) ((Tick 𝓛 at_mem run).pre (at_tick 𝓛 at_mem run κ q c))
+  pub Tick-goes : ent 𝓤 (sep 𝓤 (sem 𝓛 (hidden_shr Calls κ (record { value = tt }) c.0 c.1)) (A.lft κ q))
+      ((Tick 𝓛 at_mem run).pre (at_tick 𝓛 at_mem run κ q c))
   Tick-goes =
-      qed 𝓛 (‵ (hidden_shr Calls κ (record { value = tt }) c.0 c.1) ∷ ‵ (flft κ q) ∷ []) ∵ feq_i ! (List Val) (vptr c.0 c.1 ∷ []) (vptr c.0 c.1 ∷ []) refl $ fjoin ! $
-      nothing ! $ move ! (1 ∷ []) $ fjoin ! $ nothing ! $ move ! (2 ∷ []) $ join ! $ join ! $ nothing ! $ move ! (1 ∷ []) $ done !
+      qed 𝓛 (‵ (hidden_shr Calls κ (record { value = tt }) c.0 c.1) ∷ ‵ (flft κ q) ∷ []) ∵ feq_i ! (List Val)
+      (vptr c.0 c.1 ∷ []) (vptr c.0 c.1 ∷ []) refl $ fjoin ! $
+      nothing ! $ move ! (1 ∷ []) $ fjoin ! $ nothing ! $ move ! (2 ∷ []) $ join ! $ join ! $ nothing ! $ move !
+      (1 ∷ []) $ done !
 
-  pub Tick-gives : (v : Val) → ent 𝓤 ((Tick 𝓛 at_mem run).post (at_tick 𝓛 at_mem run κ q c) v) (H.⇛ (guard 𝓤 (v ≡ vunit) (A.lft κ q)))
+  pub Tick-gives : (v : Val) → ent 𝓤 ((Tick 𝓛 at_mem run).post (at_tick 𝓛 at_mem run κ q c) v)
+      (H.⇛ (guard 𝓤 (v ≡ vunit) (A.lft κ q)))
   Tick-gives v =
       qed 𝓛 (types.Kit.raw ((Tick 𝓛 at_mem run).post (at_tick 𝓛 at_mem run κ q c) v) ∷ []) ∵ updating ! $
-      use1 𝓛 (later (some (λ (r : Unit {0}). ((‵ (flft κ q) ⊛ ‵ ftrue) ⊛ ‵ (unit.own_val r (v ∷ []))) ⊛ some (λ (ws : Unit {0} × Unit {0}). ‵ (fsep ftrue ftrue) ⊛ ‵ ftrue)))) (id⊢ 𝓤 _) $ await ! tt $ pick ! (λ r.
-      split ! $ split ! $ move ! (1 ∷ []) $ feq_l ! (λ e. split ! $ at_once ! $ check ! (ap only e) $ keep ! (0 ∷ []) $ done !))
+      use1 𝓛 (later (some (λ (r : Unit {0}). ((‵ (flft κ q) ⊛ ‵ ftrue) ⊛ ‵ (unit.own_val r (v ∷ []))) ⊛ some
+      (λ (ws : Unit {0} × Unit {0}). ‵ (fsep ftrue ftrue) ⊛ ‵ ftrue)))) (id⊢ 𝓤 _) $ await ! tt $ pick ! (λ r.
+      split ! $ split ! $ move ! (1 ∷ []) $ feq_l ! (λ e. split ! $ at_once ! $ check ! (ap only e) $ keep !
+      (0 ∷ []) $ done !))

@@ -1,5 +1,5 @@
-//! The kernel's unanswered calls, over tables: how they are answered, which names in force go or come with a reply, which open
-//! files they use, and which nodes they pin.
+//! The kernel's unanswered calls, over tables: how they are answered, which names in force go or come with a reply,
+//! which open files they use, and which nodes they pin.
 #![tactic(auto)]
 
 mod answers;

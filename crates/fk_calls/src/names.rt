@@ -18,7 +18,8 @@ pub fn unbind<A: Allocator + Copy>(
     names: &mut Bindings<A>,
     call: u64,
 )
-    ensures { (state : State Opened) → get calls.now.entries call ≡ Some state → names.new.names ≡ names_left (asked state) names.old.names }
+    ensures { (state : State Opened) → get calls.now.entries call ≡ Some state
+        → names.new.names ≡ names_left (asked state) names.old.names }
 {
     let Some(waiting) = calls.get(call) else {
         return;
@@ -53,7 +54,8 @@ pub fn bind_missing<A: Allocator + Copy>(
     valid_ms: u64,
 ) -> Result<(), AllocError>
     requires { clock + valid_ms < 2 ^ 64 }
-    ensures ok { OnOk result (names.new.names ≡ put_name names.old.names (directory, name.now) (record { target = None; until = clock + valid_ms })) }
+    ensures ok { OnOk result (names.new.names ≡ put_name names.old.names (directory, name.now)
+        (record { target = None; until = clock + valid_ms })) }
     ensures err { OnErr result (names.new.names ≡ names.old.names) }
 {
     names.reserve(directory, name)?;

@@ -45,7 +45,8 @@ fn is_open(opens: &[(u64, Opened)], node: u64) -> bool
     false
 }
 
-/// Whether an unanswered call stands on the node or names it, an open file is of it, or the RELEASE of one is unanswered.
+/// Whether an unanswered call stands on the node or names it, an open file is of it, or the RELEASE of one is
+/// unanswered.
 fn is_pinned<A: Allocator + Copy>(
     calls: &Table<CallState<A>, A>,
     opens: &Table<Opened, A>,
@@ -65,7 +66,8 @@ pub fn is_node_in_use<A: Allocator + Copy>(
     names: &Bindings<A>,
     node: u64,
 ) -> bool
-    ensures { result ≡ (pins calls.now.entries opens.now.entries is_releasing node || names_the_node node names.now.names) }
+    ensures { result ≡ (pins calls.now.entries opens.now.entries is_releasing node
+        || names_the_node node names.now.names) }
 {
     is_pinned(calls, opens, is_releasing, node) || names.names_node(node)
 }

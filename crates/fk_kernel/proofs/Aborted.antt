@@ -17,12 +17,16 @@ use Rattle.fk_kernel.proofs.Files.{no_files}
 use Rattle.fk_kernel.proofs.Nodes.{none_counted}
 
 -- An aborted kernel is sound.
-pub sound_aborted : (phase : Phase) (calls : Map (CallState Opened)) (answers : Map Answer) (free more coming : ℕ) (opens closing : Map Opened) (s : QueueState Purpose) (space left : Room) (known : Map Counted) (clock : ℕ)
-    → IsSoundKernel phase calls answers free coming opens closing s space known clock → IsSoundKernel Aborted [] (all_answered (failed econnaborted) calls answers) more coming [] [] empty_queues left [] clock
+pub sound_aborted : (phase : Phase) (calls : Map (CallState Opened)) (answers : Map Answer) (free more coming : ℕ)
+    (opens closing : Map Opened) (s : QueueState Purpose) (space left : Room) (known : Map Counted) (clock : ℕ)
+    → IsSoundKernel phase calls answers free coming opens closing s space known clock
+    → IsSoundKernel Aborted []
+    (all_answered (failed econnaborted) calls answers) more coming [] [] empty_queues left [] clock
 sound_aborted phase calls answers free more coming opens closing s space left known clock old = record {
   numbers = record {
     calls_below = λ n le. refl;
-    answers_below = λ n le. untold (failed econnaborted) calls answers n (old.numbers.calls_below n le) (old.numbers.answers_below n le);
+    answers_below = λ n le. untold (failed econnaborted) calls answers n (old.numbers.calls_below n le)
+        (old.numbers.answers_below n le);
     apart = λ n there. absurd (there refl);
     room = omega arith;
     next = old.numbers.next;

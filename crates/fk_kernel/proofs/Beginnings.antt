@@ -18,15 +18,18 @@ use Rattle.fuse_spec.specs.declared.Refusal.TheVariants.{NoMemory, NotReady, Ful
 use Rattle.fk_kernel.specs.Refused.{is_past_end, or_no_memory, begin_refusal, begun_refusal}
 
 -- one number more is past the end where none is left
-pub past_end : (unique call : ℕ) → call < 2 ^ 62 → (nat_lt (2 ^ 62) (unique + 2) || nat_lt (2 ^ 62) (call + 1)) ≡ nat_eq ((2 ^ 62 - unique) / 2) 0
+pub past_end : (unique call : ℕ) → call < 2 ^ 62
+    → (nat_lt (2 ^ 62) (unique + 2) || nat_lt (2 ^ 62) (call + 1)) ≡ nat_eq ((2 ^ 62 - unique) / 2) 0
 past_end unique call low = grind (arith, nat_tests)
 
 pub by_tests : (ready full past none : Bool) → ready ≡ true → full ≡ false → past ≡ none
-    → or_no_memory (cond (not ready) (Some NotReady) (cond full (Some Full) (cond past (Some Exhausted) None))) ≡ cond none Exhausted NoMemory
+    → or_no_memory (cond (not ready) (Some NotReady) (cond full (Some Full) (cond past (Some Exhausted) None)))
+    ≡ cond none Exhausted NoMemory
 by_tests ready full true none r f p = rw (r, f, sym p) refl
 by_tests ready full false none r f p = rw (r, f, sym p) refl
 
-pub unrefused : (ready full past : Bool) → ready ≡ true → full ≡ false → past ≡ false → cond (not ready) (Some NotReady) (cond full (Some Full) (cond past (Some Exhausted) None)) ≡ None
+pub unrefused : (ready full past : Bool) → ready ≡ true → full ≡ false → past ≡ false
+    → cond (not ready) (Some NotReady) (cond full (Some Full) (cond past (Some Exhausted) None)) ≡ None
 unrefused ready full past r f p = rw (r, f, p) refl
 
 no_file : (b : Bool) (k : Kernel) (file : Option (ℕ × Opened)) → file ≡ None → closing_of k (cond b None file) ≡ k
@@ -37,28 +40,40 @@ no_file true k None none = refl
 no_file false k None none = refl
 
 abbrev pub IsBegun : Kernel → Call → Type 0
-IsBegun k made = call_begun k (call_of made) ≡ advanced k k.vfs.next_call (begun (is_aborted k.phase) k.vfs (call_of made))
+IsBegun k made = call_begun k (call_of made) ≡ advanced k k.vfs.next_call
+    (begun (is_aborted k.phase) k.vfs (call_of made))
 
 -- no file is closed but by a close, and none where the mount is aborted
 pub plain_begun : (k : Kernel) (made : Call) → ClosesNone made → IsBegun k made
-plain_begun k made closes = no_file (is_aborted k.phase) (advanced k k.vfs.next_call (begun (is_aborted k.phase) k.vfs (call_of made))) (closed_by k.vfs.opens (call_of made)) (closes_none k.vfs.opens made closes)
+plain_begun k made closes = no_file (is_aborted k.phase)
+    (advanced k k.vfs.next_call (begun (is_aborted k.phase) k.vfs (call_of made)))
+    (closed_by k.vfs.opens (call_of made)) (closes_none k.vfs.opens made closes)
 
 pub aborted_begun : (k : Kernel) (made : Call) → is_aborted k.phase ≡ true → IsBegun k made
-aborted_begun k made aborted = ap (λ (b : Bool). closing_of (advanced k k.vfs.next_call (begun (is_aborted k.phase) k.vfs (call_of made))) (cond b None (closed_by k.vfs.opens (call_of made)))) aborted
+aborted_begun k made aborted = ap (λ (b : Bool). closing_of
+    (advanced k k.vfs.next_call (begun (is_aborted k.phase) k.vfs (call_of made)))
+    (cond b None (closed_by k.vfs.opens (call_of made)))) aborted
 
 module _ (k : Kernel) (made : Call) (begun_is : IsBegun k made) where
-  pub asks_refusal : (state : CallState Opened) → is_ready k.phase ≡ true → length k.vfs.calls < 64 → k.vfs.next_call < 2 ^ 62 → begun (is_aborted k.phase) k.vfs (call_of made) ≡ asking (numbered k.vfs) k.vfs.next_call state
-      → or_no_memory (begun_refusal k (call_of made)) ≡ cond (nat_eq (numbers_left_from k.queues.next) 0) Exhausted NoMemory
+  pub asks_refusal : (state : CallState Opened) → is_ready k.phase ≡ true → length k.vfs.calls < 64
+      → k.vfs.next_call < 2 ^ 62 → begun (is_aborted k.phase) k.vfs (call_of made)
+      ≡ asking (numbered k.vfs) k.vfs.next_call state
+      → or_no_memory (begun_refusal k (call_of made)) ≡ cond
+      (nat_eq (numbers_left_from k.queues.next) 0) Exhausted NoMemory
   asks_refusal state ready few low asks =
       let full : nat_le 64 (length k.vfs.calls) ≡ false = grind (arith, nat_tests, few) in
-      let past = ap is_past_end begun_is ∙ ap (λ (a : Advance Opened). is_past_end (advanced k k.vfs.next_call a)) asks ∙ past_end k.queues.next k.vfs.next_call low in
+      let past = ap is_past_end begun_is ∙ ap (λ (a : Advance Opened). is_past_end
+      (advanced k k.vfs.next_call a)) asks ∙ past_end k.queues.next k.vfs.next_call low in
       by_tests _ _ _ _ ready full past
 
-  pub answered_unrefused : (a : Answer) → is_ready k.phase ≡ true → length k.vfs.calls < 64 → k.vfs.next_call < 2 ^ 62 → k.queues.next ≤ 2 ^ 62
-      → begun (is_aborted k.phase) k.vfs (call_of made) ≡ no_more (answered (numbered k.vfs) k.vfs.next_call a) → begun_refusal k (call_of made) ≡ None
+  pub answered_unrefused : (a : Answer) → is_ready k.phase ≡ true → length k.vfs.calls < 64 → k.vfs.next_call < 2 ^ 62
+      → k.queues.next ≤ 2 ^ 62
+      → begun (is_aborted k.phase) k.vfs (call_of made) ≡ no_more (answered (numbered k.vfs) k.vfs.next_call a)
+      → begun_refusal k (call_of made) ≡ None
   answered_unrefused a ready few low high ends =
       let full : nat_le 64 (length k.vfs.calls) ≡ false = grind (arith, nat_tests, few) in
-      let past = ap is_past_end begun_is ∙ ap (λ (b : Advance Opened). is_past_end (advanced k k.vfs.next_call b)) ends ∙ none_past_end k.queues.next (k.vfs.next_call + 1) high (omega arith) in
+      let past = ap is_past_end begun_is ∙ ap (λ (b : Advance Opened). is_past_end
+      (advanced k k.vfs.next_call b)) ends ∙ none_past_end k.queues.next (k.vfs.next_call + 1) high (omega arith) in
       unrefused _ _ _ ready full past
 
 -- before it is known what it asks
@@ -66,7 +81,8 @@ module _ (k : Kernel) (made : Call) where
   pub unready_refused : is_ready k.phase ≡ false → NotReady ≡ or_no_memory (begin_refusal k (call_of made))
   unready_refused unready = rw unready refl
 
-  pub full_refused : is_ready k.phase ≡ true → 64 ≤ length k.vfs.calls → Full ≡ or_no_memory (begin_refusal k (call_of made))
+  pub full_refused : is_ready k.phase ≡ true → 64 ≤ length k.vfs.calls
+      → Full ≡ or_no_memory (begin_refusal k (call_of made))
   full_refused ready many =
       let full : nat_le 64 (length k.vfs.calls) ≡ true = grind (arith, nat_tests, many) in
       rw (ready, full) refl
@@ -75,7 +91,8 @@ pub if_ok : {T : Type 0} (r : Result T Refusal) {X : Type 0} → X → OnOk r X
 if_ok (Ok t) x = x
 if_ok (Err e) x = tt
 
-pub refused_alike : {T : Type 0} (r : Result T Refusal) {a b : Refusal} → a ≡ b → IfErr r (λ refusal. refusal ≡ b) → IfErr r (λ refusal. refusal ≡ a)
+pub refused_alike : {T : Type 0} (r : Result T Refusal) {a b : Refusal} → a ≡ b → IfErr r (λ refusal. refusal ≡ b)
+    → IfErr r (λ refusal. refusal ≡ a)
 refused_alike (Ok t) same is = tt
 refused_alike (Err e) same is = is ∙ sym same
 

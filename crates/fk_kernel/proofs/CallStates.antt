@@ -18,7 +18,8 @@ use Rattle.fk_syscalls.specs.declared.call.Call.{Call}
 use Rattle.fk_syscalls.specs.declared.call.Call.TheVariants.{Stat, List as Lists, ListPlus, Open, Mkdir, Create, Unlink, Rmdir, Rename, Link, Read, Write, Close}
 use Rattle.fk_kernel.specs.Entries.{MakesName, place_of, Makes, mkdirs, links, Creates, Opens, ListsPlus}
 
-pub asked_is : (operation : Operation ℕ Opened) (state : CallState Opened) → StandsAt operation state → asked state ≡ operation
+pub asked_is : (operation : Operation ℕ Opened) (state : CallState Opened) → StandsAt operation state
+    → asked state ≡ operation
 asked_is (lookup d w) state s = ap asked s.is
 asked_is (getattr x) state s = ap asked s
 asked_is (mkdir d n) state s = ap asked s
@@ -35,29 +36,39 @@ asked_is (write o f b) state s = ap asked s.is
 
 -- A call that does not look up a word makes a name, where an entry goes with what it asked.
 abbrev pub LooksNone : CallState Opened → Type 0
-LooksNone state = (directory : ℕ) (word : Name) (words : List Name) (plan : WalkPlan ℕ) → Some state ≢ Some (walking directory word words plan)
+LooksNone state = (directory : ℕ) (word : Name) (words : List Name) (plan : WalkPlan ℕ)
+    → Some state ≢ Some (walking directory word words plan)
 
-pub makes_found : (operation : Operation ℕ Opened) (state : CallState Opened) (g : Entry) (valid : ℕ) → StandsAt operation state → goes_with operation (reply.found g valid) ≡ true → LooksNone state → Makes (Some state)
+pub makes_found : (operation : Operation ℕ Opened) (state : CallState Opened) (g : Entry) (valid : ℕ)
+    → StandsAt operation state → goes_with operation (reply.found g valid) ≡ true → LooksNone state → Makes (Some state)
 makes_found (lookup d w) state g valid s goes other = absurd (other d w s.words s.plan (ap Some s.is))
-makes_found (mkdir d n) state g valid s goes other = record { operation = mkdir d n; place = (d, n); makes = mkdirs d n; is = ap Some s }
-makes_found (link x d n) state g valid s goes other = record { operation = link x d n; place = (d, n); makes = links x d n; is = ap Some s }
+makes_found (mkdir d n) state g valid s goes other =
+    record { operation = mkdir d n; place = (d, n); makes = mkdirs d n; is = ap Some s }
+makes_found (link x d n) state g valid s goes other =
+    record { operation = link x d n; place = (d, n); makes = links x d n; is = ap Some s }
 makes_found operation state g valid s goes other = absurd (true≢false (sym goes))
 
-pub makes_missing : (operation : Operation ℕ Opened) (state : CallState Opened) (valid : ℕ) → StandsAt operation state → goes_with operation (reply.missing valid) ≡ true → LooksNone state → Makes (Some state)
+pub makes_missing : (operation : Operation ℕ Opened) (state : CallState Opened) (valid : ℕ) → StandsAt operation state
+    → goes_with operation (reply.missing valid) ≡ true → LooksNone state → Makes (Some state)
 makes_missing (lookup d w) state valid s goes other = absurd (other d w s.words s.plan (ap Some s.is))
-makes_missing (mkdir d n) state valid s goes other = record { operation = mkdir d n; place = (d, n); makes = mkdirs d n; is = ap Some s }
-makes_missing (link x d n) state valid s goes other = record { operation = link x d n; place = (d, n); makes = links x d n; is = ap Some s }
+makes_missing (mkdir d n) state valid s goes other =
+    record { operation = mkdir d n; place = (d, n); makes = mkdirs d n; is = ap Some s }
+makes_missing (link x d n) state valid s goes other =
+    record { operation = link x d n; place = (d, n); makes = links x d n; is = ap Some s }
 makes_missing operation state valid s goes other = absurd (true≢false (sym goes))
 
-pub creates_from : (operation : Operation ℕ Opened) (state : CallState Opened) (g : Entry) (valid fh : ℕ) → StandsAt operation state → goes_with operation (reply.created g valid fh) ≡ true → Creates (Some state)
+pub creates_from : (operation : Operation ℕ Opened) (state : CallState Opened) (g : Entry) (valid fh : ℕ)
+    → StandsAt operation state → goes_with operation (reply.created g valid fh) ≡ true → Creates (Some state)
 creates_from (create d n) state g valid fh s goes = record { directory = d; name = n; is = ap Some s }
 creates_from operation state g valid fh s goes = absurd (true≢false (sym goes))
 
-pub opens_from : (operation : Operation ℕ Opened) (state : CallState Opened) (fh : ℕ) → StandsAt operation state → goes_with operation (reply.opened fh) ≡ true → Opens (Some state)
+pub opens_from : (operation : Operation ℕ Opened) (state : CallState Opened) (fh : ℕ) → StandsAt operation state
+    → goes_with operation (reply.opened fh) ≡ true → Opens (Some state)
 opens_from (opening x) state fh s goes = record { node = x; is = ap Some s }
 opens_from operation state fh s goes = absurd (true≢false (sym goes))
 
-pub lists_from : (operation : Operation ℕ Opened) (state : CallState Opened) (pairs : List (DirentPlus Entry)) → StandsAt operation state → goes_with operation (reply.listed_plus pairs) ≡ true → ListsPlus (Some state)
+pub lists_from : (operation : Operation ℕ Opened) (state : CallState Opened) (pairs : List (DirentPlus Entry))
+    → StandsAt operation state → goes_with operation (reply.listed_plus pairs) ≡ true → ListsPlus (Some state)
 lists_from (readdirplus d a z) state pairs s goes = record { directory = d; after = a; size = z; is = ap Some s }
 lists_from (lookup d w) state pairs s goes = absurd (true≢false (sym goes))
 lists_from operation state pairs s goes = absurd (true≢false (sym goes))
@@ -73,13 +84,15 @@ stays k (using handle operation) none =
 unused : (operation : Operation ℕ Opened) (state : CallState Opened) → state ≡ doing operation → used_by state ≡ None
 unused operation state s = ap used_by s
 
-pub found_unused : (operation : Operation ℕ Opened) (state : CallState Opened) (g : Entry) (valid : ℕ) → StandsAt operation state → goes_with operation (reply.found g valid) ≡ true → used_by state ≡ None
+pub found_unused : (operation : Operation ℕ Opened) (state : CallState Opened) (g : Entry) (valid : ℕ)
+    → StandsAt operation state → goes_with operation (reply.found g valid) ≡ true → used_by state ≡ None
 found_unused (lookup d w) state g valid s goes = ap used_by s.is
 found_unused (mkdir d n) state g valid s goes = unused (mkdir d n) state s
 found_unused (link x d n) state g valid s goes = unused (link x d n) state s
 found_unused operation state g valid s goes = absurd (true≢false (sym goes))
 
-pub done_unused : (operation : Operation ℕ Opened) (state : CallState Opened) → StandsAt operation state → goes_with operation reply.done ≡ true → used_by state ≡ None
+pub done_unused : (operation : Operation ℕ Opened) (state : CallState Opened) → StandsAt operation state
+    → goes_with operation reply.done ≡ true → used_by state ≡ None
 done_unused (unlink d n) state s goes = unused (unlink d n) state s
 done_unused (rmdir d n) state s goes = unused (rmdir d n) state s
 done_unused (rename d o e n) state s goes = unused (rename d o e n) state s
@@ -106,7 +119,8 @@ pub some_state : (o : Option (CallState Opened)) → is_some o ≡ true → (sta
 some_state None is = absurd (true≢false (sym is))
 some_state (Some state) is = (state, refl)
 
-pub using_of : (state : CallState Opened) (handle : ℕ) → used_by state ≡ Some handle → (operation : Operation ℕ Opened) × (state ≡ using handle operation)
+pub using_of : (state : CallState Opened) (handle : ℕ) → used_by state ≡ Some handle
+    → (operation : Operation ℕ Opened) × (state ≡ using handle operation)
 using_of (walking d w ws p) handle is =
     let no : ◌≡◌ {A = Option ℕ} None (Some handle) = is in
     cc
@@ -117,11 +131,13 @@ using_of (using other operation) handle is =
     let same : other ≡ handle = cc is in
     (operation, ap (λ (h : ℕ). using h operation) same)
 
-pub makes_place : (operation : Operation ℕ Opened) (place : Place) → MakesName operation place → place_of operation ≡ Some place
+pub makes_place : (operation : Operation ℕ Opened) (place : Place) → MakesName operation place
+    → place_of operation ≡ Some place
 makes_place operation place (mkdirs d n) = refl
 makes_place operation place (links x d n) = refl
 
-pub uses_there : (o : Option (CallState Opened)) (r : Option ℕ) (handle : ℕ) → r ≡ Some handle → (o ≡ None → r ≡ None) → ((state : CallState Opened) → o ≡ Some state → r ≡ used_by state)
+pub uses_there : (o : Option (CallState Opened)) (r : Option ℕ) (handle : ℕ) → r ≡ Some handle → (o ≡ None → r ≡ None)
+    → ((state : CallState Opened) → o ≡ Some state → r ≡ used_by state)
     → (operation : Operation ℕ Opened) × (o ≡ Some (using handle operation))
 uses_there None r handle is none used =
     let no : ◌≡◌ {A = Option ℕ} (Some handle) None = sym is ∙ none refl in

@@ -27,16 +27,24 @@ use Rattle.fk_kernel.proofs.Sound.{gone_absent}
 
 -- what is put at a new key goes with it
 pub gone_put : {V : Type 0} (m : Map V) (k : ℕ) (v : V) → get m k ≡ None → remove (put m k v) k ≡ m
-gone_put [] k v none = elim (eqb_tells k k) as (λ r. remove ((k, v) ∷ []) k ≡ []) [ inl h ↦ rw h.0 refl | inr h ↦ absurd (h.1 refl) ]
+gone_put [] k v none = elim (eqb_tells k k) as (λ r. remove ((k, v) ∷ []) k
+    ≡ []) [ inl h ↦ rw h.0 refl | inr h ↦ absurd (h.1 refl) ]
 gone_put {V} (e ∷ m) k v none = by (λ rest. gone_put m k v rest) (nat_cmp k e.0) refl none
   where
     alone : (es : Map V) → cond (not (nat_eq k k)) ((k, v) ∷ remove es k) (remove es k) ≡ remove es k
     alone es = elim (eqb_tells k k) [ inl h ↦ rw h.0 refl | inr h ↦ absurd (h.1 refl) ]
 
-    behind : (get m k ≡ None → remove (put m k v) k ≡ m) → e.0 ≢ k → get m k ≡ None → cond (not (nat_eq e.0 k)) (e ∷ remove (put m k v) k) (remove (put m k v) k) ≡ e ∷ m
-    behind inner apart rest = elim (eqb_tells e.0 k) [ inl h ↦ absurd (apart h.1) | inr h ↦ rw h.0 (ap (λ (t : Map V). e ∷ t) (inner rest)) ]
+    behind : (get m k ≡ None → remove (put m k v) k ≡ m) → e.0 ≢ k → get m k ≡ None
+        → cond (not (nat_eq e.0 k)) (e ∷ remove (put m k v) k) (remove (put m k v) k) ≡ e ∷ m
+    behind inner apart rest = elim (eqb_tells e.0 k) [
+      | inl h ↦ absurd (apart h.1)
+      | inr h ↦ rw h.0
+          (ap (λ (t : Map V). e ∷ t) (inner rest))
+    ]
 
-    by : (get m k ≡ None → remove (put m k v) k ≡ m) → (r : Ordering) → nat_cmp k e.0 ≡ r → cond (is_eq r) (Some e.1) (get m k) ≡ None → remove (by_order r ((k, v) ∷ e ∷ m) ((e.0, v) ∷ m) (e ∷ put m k v)) k ≡ e ∷ m
+    by : (get m k ≡ None → remove (put m k v) k ≡ m) → (r : Ordering) → nat_cmp k e.0 ≡ r
+        → cond (is_eq r) (Some e.1) (get m k) ≡ None → remove
+        (by_order r ((k, v) ∷ e ∷ m) ((e.0, v) ∷ m) (e ∷ put m k v)) k ≡ e ∷ m
     by inner Less at rest = alone (e ∷ m) ∙ gone_absent (e ∷ m) k none
     by inner Equal at rest =
         let no : ◌≡◌ {A = Option V} (Some e.1) None = rest in
@@ -49,7 +57,9 @@ gone_put {V} (e ∷ m) k v none = by (λ rest. gone_put m k v rest) (nat_cmp k e
 abbrev pub shut : Vfs Opened → ℕ → Vfs Opened
 shut c handle = answered (record (numbered c) { opens = remove c.opens handle }) c.next_call answer.done
 
-module _ (k : Kernel) (handle : ℕ) (file : Opened) (going : is_aborted k.phase ≡ false) (is_open : get k.vfs.opens handle ≡ Some file) (none : get k.closing handle ≡ None) (fresh : get k.vfs.calls k.vfs.next_call ≡ None) where
+module _ (k : Kernel) (handle : ℕ) (file : Opened) (going : is_aborted k.phase ≡ false)
+    (is_open : get k.vfs.opens handle ≡ Some file) (none : get k.closing handle ≡ None)
+    (fresh : get k.vfs.calls k.vfs.next_call ≡ None) where
   abbrev after : Kernel
   after = record k { vfs = shut k.vfs handle; closing = put k.closing handle file }
 
@@ -62,30 +72,44 @@ module _ (k : Kernel) (handle : ℕ) (file : Opened) (going : is_aborted k.phase
   same_use : is_used after handle ≡ is_used k handle
   same_use = ap (λ calls. list_any (is_using handle) (values calls)) (gone_absent k.vfs.calls k.vfs.next_call fresh)
 
-  pub closes_idle : is_used k handle ≡ false → call_begun k (call.close handle) ≡ record k { vfs = shut k.vfs handle; queues = after_enqueue k.queues (Release file) }
+  pub closes_idle : is_used k handle ≡ false → call_begun k (call.close handle)
+      ≡ record k { vfs = shut k.vfs handle; queues = after_enqueue k.queues (Release file) }
   closes_idle idle =
-      closes ∙ lets_go ∙ ap (λ (b : Bool). record after { closing = cond b after.closing (remove after.closing handle); queues = cond b k.queues (after_enqueue k.queues (Release file)) }) (same_use ∙ idle)
-      ∙ ap (λ (m : Map Opened). record after { closing = m; queues = after_enqueue k.queues (Release file) }) (gone_put k.closing handle file none)
+      closes ∙ lets_go ∙ ap (λ (b : Bool). record after {
+        closing = cond b after.closing (remove after.closing handle);
+        queues = cond b k.queues (after_enqueue k.queues (Release file));
+      }) (same_use ∙ idle)
+      ∙ ap (λ (m : Map Opened). record after { closing = m; queues = after_enqueue k.queues (Release file) })
+      (gone_put k.closing handle file none)
 
   pub closes_in_use : is_used k handle ≡ true → call_begun k (call.close handle) ≡ after
   closes_in_use used =
-      closes ∙ lets_go ∙ ap (λ (b : Bool). record after { closing = cond b after.closing (remove after.closing handle); queues = cond b k.queues (after_enqueue k.queues (Release file)) }) (same_use ∙ used)
+      closes ∙ lets_go ∙ ap (λ (b : Bool). record after {
+        closing = cond b after.closing (remove after.closing handle);
+        queues = cond b k.queues (after_enqueue k.queues (Release file));
+      }) (same_use ∙ used)
 
   -- why it is refused, or not
   module _ (ready : is_ready k.phase ≡ true) (few : length k.vfs.calls < 64) (low : k.vfs.next_call < 2 ^ 62) where
     full : nat_le 64 (length k.vfs.calls) ≡ false
     full = grind (arith, nat_tests, few)
 
-    pub idle_refusal : is_used k handle ≡ false → or_no_memory (begun_refusal k (call.close handle)) ≡ cond (nat_eq (numbers_left_from k.queues.next) 0) Exhausted NoMemory
-    idle_refusal idle = by_tests _ _ _ _ ready full (ap is_past_end (closes_idle idle) ∙ past_end k.queues.next k.vfs.next_call low)
+    pub idle_refusal : is_used k handle ≡ false → or_no_memory (begun_refusal k (call.close handle))
+        ≡ cond (nat_eq (numbers_left_from k.queues.next) 0) Exhausted NoMemory
+    idle_refusal idle = by_tests _ _ _ _ ready full (ap is_past_end
+        (closes_idle idle) ∙ past_end k.queues.next k.vfs.next_call low)
 
     pub used_unrefused : is_used k handle ≡ true → k.queues.next ≤ 2 ^ 62 → begun_refusal k (call.close handle) ≡ None
-    used_unrefused used high = unrefused _ _ _ ready full (ap is_past_end (closes_in_use used) ∙ none_past_end k.queues.next (k.vfs.next_call + 1) high (omega arith))
+    used_unrefused used high = unrefused _ _ _ ready full
+        (ap is_past_end (closes_in_use used) ∙ none_past_end k.queues.next (k.vfs.next_call + 1) high (omega arith))
 
 -- a closed file that is used waits, and one that is not is let go
 module _ (k : Kernel) (handle : ℕ) where
   abbrev by_use : Bool → Opened → Kernel
-  by_use b opened = record k { closing = cond b k.closing (remove k.closing handle); queues = cond b k.queues (after_enqueue k.queues (Release opened)) }
+  by_use b opened = record k {
+    closing = cond b k.closing (remove k.closing handle);
+    queues = cond b k.queues (after_enqueue k.queues (Release opened));
+  }
 
   pub released_used : is_used k handle ≡ true → released_if_idle k handle ≡ k
   released_used used = by (get k.closing handle)
@@ -97,5 +121,9 @@ module _ (k : Kernel) (handle : ℕ) where
   pub released_none : get k.closing handle ≡ None → released_if_idle k handle ≡ k
   released_none none = ap (released k handle) none
 
-  pub released_some : (opened : Opened) → get k.closing handle ≡ Some opened → is_used k handle ≡ false → released_if_idle k handle ≡ record k { closing = remove k.closing handle; queues = after_enqueue k.queues (Release opened) }
+  pub released_some : (opened : Opened) → get k.closing handle ≡ Some opened → is_used k handle ≡ false
+      → released_if_idle k handle ≡ record k {
+        closing = remove k.closing handle;
+        queues = after_enqueue k.queues (Release opened);
+      }
   released_some opened at idle = ap (released k handle) at ∙ ap (λ (b : Bool). by_use b opened) idle

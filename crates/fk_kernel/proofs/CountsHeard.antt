@@ -50,13 +50,16 @@ asking_nodes k call (Some operation) = refl
 
 -- ---- what a reply makes of them
 
-judged_nodes : (k : Kernel) (call : ℕ) (state : CallState Opened) (wire : WireReply) (u : Use) → (judged k call state wire u).nodes ≡ learnt_by_all k.nodes (files_in_reply wire) u
+judged_nodes : (k : Kernel) (call : ℕ) (state : CallState Opened) (wire : WireReply) (u : Use)
+    → (judged k call state wire u).nodes ≡ learnt_by_all k.nodes (files_in_reply wire) u
 judged_nodes k call state wire usable = asking_nodes _ call _
 judged_nodes k call state wire useless = refl
 judged_nodes k call state wire (stale node) = refl
 
-module _ (k : Kernel) (unique call : ℕ) (even : nat_eq (unique % 2) 1 ≡ false) (waits : waiting k.queues unique ≡ Some (Call call)) where
-  pub goes_nodes : (wire : WireReply) (aw : Awaits (get k.vfs.calls call) wire) → (reply_written k unique wire).1.nodes ≡ nodes_heard k.nodes wire
+module _ (k : Kernel) (unique call : ℕ) (even : nat_eq (unique % 2) 1 ≡ false)
+    (waits : waiting k.queues unique ≡ Some (Call call)) where
+  pub goes_nodes : (wire : WireReply) (aw : Awaits (get k.vfs.calls call) wire)
+      → (reply_written k unique wire).1.nodes ≡ nodes_heard k.nodes wire
   goes_nodes wire aw =
       let ended_so : Kernel = record k { queues = without k.queues unique } in
       ap (λ (r : WriteResult × Kernel). r.1.nodes) (goes_is k unique call even waits wire aw)
@@ -64,17 +67,22 @@ module _ (k : Kernel) (unique call : ℕ) (even : nat_eq (unique % 2) 1 ≡ fals
       ∙ judged_nodes (without_stale ended_so wire) call aw.state (reply_judged k.nodes wire) (use_of_reply k.nodes wire)
 
   -- a body that does not go with what was asked
-  pub wrong_nodes : (state : CallState Opened) → get k.vfs.calls call ≡ Some state → (wire : WireReply) → goes_with (asked state) wire ≡ false → (reply_written k unique wire).1.nodes ≡ k.nodes
+  pub wrong_nodes : (state : CallState Opened) → get k.vfs.calls call ≡ Some state → (wire : WireReply)
+      → goes_with (asked state) wire ≡ false → (reply_written k unique wire).1.nodes ≡ k.nodes
   wrong_nodes state at wire other =
-      ap (λ (r : WriteResult × Kernel). r.1.nodes) (wrong_is k unique call even waits state at wire other) ∙ use_nodes (ended k unique k.vfs call (answer.failed 5)) state
+      ap (λ (r : WriteResult × Kernel). r.1.nodes) (wrong_is k unique call even waits state at wire other) ∙ use_nodes
+      (ended k unique k.vfs call (answer.failed 5)) state
 
 -- ---- whether a count comes to its end
 
 -- an entry that can be used
-pub one_out : (nodes : Map Counted) (g : Entry) → T (is_sorted nat_cmp nodes) → T (is_sorted nat_cmp (learnt nodes (g ∷ []))) → AreBelow nodes → (b : Bool) → nat_le counter_end (counted_more g (get nodes g.nodeid)).count ≡ b → is_out (learnt nodes (g ∷ [])) ≡ b
+pub one_out : (nodes : Map Counted) (g : Entry) → T (is_sorted nat_cmp nodes)
+    → T (is_sorted nat_cmp (learnt nodes (g ∷ []))) → AreBelow nodes → (b : Bool)
+    → nat_le counter_end (counted_more g (get nodes g.nodeid)).count ≡ b → is_out (learnt nodes (g ∷ [])) ≡ b
 one_out nodes g sorted after below true out =
     let most : counter_end ≤ (counted_more g (get nodes g.nodeid)).count = at_least counter_end _ out in
-    some_out (learnt nodes (g ∷ [])) g.nodeid (counted_more g (get nodes g.nodeid)) (get_put_here nodes g.nodeid (counted_more g (get nodes g.nodeid))) most
+    some_out (learnt nodes (g ∷ [])) g.nodeid (counted_more g (get nodes g.nodeid))
+    (get_put_here nodes g.nodeid (counted_more g (get nodes g.nodeid))) most
   where
     at_least : (m n : ℕ) → nat_le m n ≡ true → m ≤ n
     at_least m n is = grind (arith, nat_tests)
@@ -85,24 +93,34 @@ one_out nodes g sorted after below false within =
     at_most : (m n : ℕ) → nat_le m n ≡ false → n < m
     at_most m n is = grind (arith, nat_tests)
 
-fits_at : (nodes : Map Counted) (g : Entry) → is_out (learnt nodes (g ∷ [])) ≡ false → (counted_more g (get nodes g.nodeid)).count < counter_end
-fits_at nodes g none = (out_below (learnt nodes (g ∷ [])) none).below g.nodeid (counted_more g (get nodes g.nodeid)) (get_put_here nodes g.nodeid (counted_more g (get nodes g.nodeid)))
+fits_at : (nodes : Map Counted) (g : Entry) → is_out (learnt nodes (g ∷ [])) ≡ false
+    → (counted_more g (get nodes g.nodeid)).count < counter_end
+fits_at nodes g none = (out_below (learnt nodes (g ∷ [])) none).below g.nodeid (counted_more g (get nodes g.nodeid))
+    (get_put_here nodes g.nodeid (counted_more g (get nodes g.nodeid)))
 
 -- Where no count comes to its end, one lookup more of the node of a usable entry fits.
-pub entry_fits : (nodes : Map Counted) (g : Entry) → use_of nodes g ≡ usable → is_out (learnt_by_all nodes (g ∷ []) (first_use (use_of nodes g) usable)) ≡ false → (counted_more g (get nodes g.nodeid)).count < counter_end
-entry_fits nodes g is none = fits_at nodes g (subst (λ (u : Use). is_out (learnt_by_all nodes (g ∷ []) (first_use u usable)) ≡ false) is none)
+pub entry_fits : (nodes : Map Counted) (g : Entry) → use_of nodes g ≡ usable
+    → is_out (learnt_by_all nodes (g ∷ []) (first_use (use_of nodes g) usable)) ≡ false
+    → (counted_more g (get nodes g.nodeid)).count < counter_end
+entry_fits nodes g is none = fits_at nodes g (subst
+    (λ (u : Use). is_out (learnt_by_all nodes (g ∷ []) (first_use u usable)) ≡ false) is none)
 
 -- The names of a list.
-pub pairs_below : (nodes : Map Counted) (pairs : List (DirentPlus Entry)) → is_out (nodes_heard nodes (reply.listed_plus pairs)) ≡ false → AreBelow (learnt_from nodes pairs)
-pairs_below nodes pairs none = out_below (learnt_from nodes pairs) (subst (λ (m : Map Counted). is_out m ≡ false) (learnt_is nodes pairs) none)
+pub pairs_below : (nodes : Map Counted) (pairs : List (DirentPlus Entry))
+    → is_out (nodes_heard nodes (reply.listed_plus pairs)) ≡ false → AreBelow (learnt_from nodes pairs)
+pairs_below nodes pairs none = out_below (learnt_from nodes pairs)
+    (subst (λ (m : Map Counted). is_out m ≡ false) (learnt_is nodes pairs) none)
 
 -- whether one of them brings a count to its end
-pub pairs_out : (nodes : Map Counted) (pairs : List (DirentPlus Entry)) → T (is_sorted nat_cmp nodes) → (b : Bool) → (b ≡ true → SomeOut (learnt_from nodes pairs)) → (b ≡ false → AreBelow (learnt_from nodes pairs))
+pub pairs_out : (nodes : Map Counted) (pairs : List (DirentPlus Entry)) → T (is_sorted nat_cmp nodes) → (b : Bool)
+    → (b ≡ true → SomeOut (learnt_from nodes pairs)) → (b ≡ false → AreBelow (learnt_from nodes pairs))
     → b ≡ is_out (nodes_heard nodes (reply.listed_plus pairs))
 pairs_out nodes pairs sorted true out within =
     let past = out refl in
     sym (ap is_out (learnt_is nodes pairs) ∙ some_out (learnt_from nodes pairs) past.id past.counted past.at past.out)
-pairs_out nodes pairs sorted false out within = sym (ap is_out (learnt_is nodes pairs) ∙ none_out (learnt_from nodes pairs) (sorted_from pairs nodes sorted) (within refl))
+pairs_out nodes pairs sorted false out within = sym
+    (ap is_out (learnt_is nodes pairs) ∙ none_out (learnt_from nodes pairs) (sorted_from pairs nodes sorted)
+    (within refl))
 
 -- ---- a list with files has few names
 
@@ -113,7 +131,8 @@ few_long (pair ∷ pairs) =
     let sum = sum_by-cons pair_length pair pairs in
     omega (arith, rest, sum)
 
-few_within : (pairs : List (DirentPlus Entry)) (size : ℕ) → size ≡ max_transfer → nat_le (sum_by pair_length pairs) size ≡ true → length pairs < counter_end
+few_within : (pairs : List (DirentPlus Entry)) (size : ℕ) → size ≡ max_transfer
+    → nat_le (sum_by pair_length pairs) size ≡ true → length pairs < counter_end
 few_within pairs size is goes =
     let long = few_long pairs in
     let most : sum_by pair_length pairs ≤ size = at_most (sum_by pair_length pairs) size goes in
@@ -122,7 +141,8 @@ few_within pairs size is goes =
     at_most : (m n : ℕ) → nat_le m n ≡ true → m ≤ n
     at_most m n is = grind (arith, nat_tests)
 
-pub said_few : (a : Asked (Bor (List ℕ))) → AsksWhole a → (wire : WireReply) → goes_with (operation_of (λ s. s.now) a) wire ≡ true → IsFew wire
+pub said_few : (a : Asked (Bor (List ℕ))) → AsksWhole a → (wire : WireReply)
+    → goes_with (operation_of (λ s. s.now) a) wire ≡ true → IsFew wire
 said_few (asks.Readdirplus directory after size) whole (reply.listed_plus pairs) goes = few_within pairs size whole goes
 said_few a whole (reply.listed_plus pairs) goes = absurd (true≢false (sym goes))
 said_few a whole wire goes = tt

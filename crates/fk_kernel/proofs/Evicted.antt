@@ -15,7 +15,8 @@ use Rattle.fk_kernel.specs.Soundness.{AreCounted}
 use Rattle.fk_kernel.proofs.Sound.{length_gone}
 
 -- One node fewer is counted, and there is room for one forget fewer.
-pub evicted_counted : (nodes : Map Counted) (node forgets more : ℕ) → AreCounted nodes forgets → get nodes node ≢ None → forgets ≤ more + 1 → AreCounted (remove nodes node) more
+pub evicted_counted : (nodes : Map Counted) (node forgets more : ℕ) → AreCounted nodes forgets → get nodes node ≢ None
+    → forgets ≤ more + 1 → AreCounted (remove nodes node) more
 evicted_counted nodes node forgets more old there room =
     let fewer = length_gone nodes node there in
     record {
@@ -23,7 +24,8 @@ evicted_counted nodes node forgets more old there room =
         below = λ id counted at.
             elim (cases_eq id node) [
               | inl e ↦
-                  let no : ◌≡◌ {A = Option Counted} None (Some counted) = sym (get_gone_here nodes node) ∙ ap (λ (k : ℕ). get (remove nodes node) k) (sym e) ∙ at in
+                  let no : ◌≡◌ {A = Option Counted} None (Some counted) =
+                  sym (get_gone_here nodes node) ∙ ap (λ (k : ℕ). get (remove nodes node) k) (sym e) ∙ at in
                   cc
               | inr ne ↦ old.below.below id counted (sym (get_gone_there nodes node id ne) ∙ at)
             ];
@@ -31,22 +33,26 @@ evicted_counted nodes node forgets more old there room =
       room = omega (arith, fewer, old.room);
     }
 
-pub is_there : (nodes : Map Counted) (node count : ℕ) → Some count ≡ option_map (λ (counted : Counted). counted.count) (get nodes node) → get nodes node ≢ None
+pub is_there : (nodes : Map Counted) (node count : ℕ)
+    → Some count ≡ option_map (λ (counted : Counted). counted.count) (get nodes node) → get nodes node ≢ None
 is_there nodes node count is none =
     let no : ◌≡◌ {A = Option ℕ} (Some count) None = is ∙ ap (option_map (λ (counted : Counted). counted.count)) none in
     cc
 
 -- What a test of the entries but one finds is what a test finds once that is gone.
-pub any_gone : {V : Type 0} (test : V → Bool) (m : Map V) (k : ℕ) → list_any (λ (e : ℕ × V). not (nat_eq e.0 k) && test e.1) m ≡ list_any test (values (remove m k))
+pub any_gone : {V : Type 0} (test : V → Bool) (m : Map V) (k : ℕ)
+    → list_any (λ (e : ℕ × V). not (nat_eq e.0 k) && test e.1) m ≡ list_any test (values (remove m k))
 any_gone test [] k = refl
 any_gone {V} test (e ∷ m) k =
-    elim (nat_eq e.0 k) as (λ b. ((not b && test e.1) || list_any (λ (x : ℕ × V). not (nat_eq x.0 k) && test x.1) m) ≡ list_any test (values (cond (not b) (e ∷ remove m k) (remove m k)))) [
+    elim (nat_eq e.0 k) as (λ b. ((not b && test e.1) || list_any (λ (x : ℕ × V). not (nat_eq x.0 k) && test x.1) m)
+    ≡ list_any test (values (cond (not b) (e ∷ remove m k) (remove m k)))) [
       | true ↦ any_gone test m k
       | false ↦ ap (λ (b : Bool). test e.1 || b) (any_gone test m k)
     ]
 
 -- what is kept of the request at a place, and what is behind it
-pub at_place : (es : List (ℕ × QueuedRequest Purpose)) (i : ℕ) (q : ℕ × Purpose) → Some q ≡ slice_get (kept_entries es) i
+pub at_place : (es : List (ℕ × QueuedRequest Purpose)) (i : ℕ) (q : ℕ × Purpose)
+    → Some q ≡ slice_get (kept_entries es) i
     → (e : ℕ × QueuedRequest Purpose) × (e.1.kept ≡ q.1) × (drop i es ≡ e ∷ drop (i + 1) es)
 at_place [] i q is =
     let no : ◌≡◌ {A = Option (ℕ × Purpose)} (Some q) None = is in

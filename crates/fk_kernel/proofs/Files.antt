@@ -21,7 +21,8 @@ some_not_none {X} o x is none =
     let no : ◌≡◌ {A = Option X} (Some x) None = sym is ∙ none in
     cc
 
-module _ {V : Type 0} (calls : Map V) (opens closing : Map Opened) (coming : ℕ) (old : AreFiles calls opens closing coming) where
+module _ {V : Type 0} (calls : Map V) (opens closing : Map Opened) (coming : ℕ)
+    (old : AreFiles calls opens closing coming) where
   -- the next number is drawn
   pub numbered_files : AreFiles calls opens closing (coming + 1)
   numbered_files = record {
@@ -37,8 +38,16 @@ module _ {V : Type 0} (calls : Map V) (opens closing : Map Opened) (coming : ℕ
   asking_files v = record {
     opens_below = λ n le. old.opens_below n (omega arith);
     closing_below = λ n le. old.closing_below n (omega arith);
-    opens_apart = λ n there. elim (cases_eq n coming) [ inl e ↦ old.opens_below n (omega arith) | inr ne ↦ old.opens_apart n (λ none. there (get_put_there calls coming v n ne ∙ none)) ];
-    closing_apart = λ n there. elim (cases_eq n coming) [ inl e ↦ old.closing_below n (omega arith) | inr ne ↦ old.closing_apart n (λ none. there (get_put_there calls coming v n ne ∙ none)) ];
+    opens_apart = λ n there. elim (cases_eq n coming) [
+      | inl e ↦ old.opens_below n
+          (omega arith)
+      | inr ne ↦ old.opens_apart n (λ none. there (get_put_there calls coming v n ne ∙ none))
+    ];
+    closing_apart = λ n there. elim (cases_eq n coming) [
+      | inl e ↦ old.closing_below n
+          (omega arith)
+      | inr ne ↦ old.closing_apart n (λ none. there (get_put_there calls coming v n ne ∙ none))
+    ];
     closed_once = old.closed_once;
   }
 
@@ -47,8 +56,18 @@ module _ {V : Type 0} (calls : Map V) (opens closing : Map Opened) (coming : ℕ
   walking_files call v is_there = record {
     opens_below = old.opens_below;
     closing_below = old.closing_below;
-    opens_apart = λ n there. elim (cases_eq n call) [ inl e ↦ old.opens_apart n (λ none. is_there (ap (λ (i : ℕ). get calls i) (sym e) ∙ none)) | inr ne ↦ old.opens_apart n (λ none. there (get_put_there calls call v n ne ∙ none)) ];
-    closing_apart = λ n there. elim (cases_eq n call) [ inl e ↦ old.closing_apart n (λ none. is_there (ap (λ (i : ℕ). get calls i) (sym e) ∙ none)) | inr ne ↦ old.closing_apart n (λ none. there (get_put_there calls call v n ne ∙ none)) ];
+    opens_apart = λ n there. elim (cases_eq n call) [
+      | inl e ↦ old.opens_apart n
+          (λ none. is_there (ap (λ (i : ℕ). get calls i) (sym e) ∙ none))
+      | inr ne ↦ old.opens_apart n
+          (λ none. there (get_put_there calls call v n ne ∙ none))
+    ];
+    closing_apart = λ n there. elim (cases_eq n call) [
+      | inl e ↦ old.closing_apart n
+          (λ none. is_there (ap (λ (i : ℕ). get calls i) (sym e) ∙ none))
+      | inr ne ↦ old.closing_apart n
+          (λ none. there (get_put_there calls call v n ne ∙ none))
+    ];
     closed_once = old.closed_once;
   }
 
@@ -63,9 +82,11 @@ module _ {V : Type 0} (calls : Map V) (opens closing : Map Opened) (coming : ℕ
   }
 
   -- a call is answered, and the file that it opened is open
-  pub opened_files : (below : (n : ℕ) → coming ≤ n → get calls n ≡ None) (call : ℕ) (file : Opened) → get calls call ≢ None → AreFiles (remove calls call) (put opens call file) closing coming
+  pub opened_files : (below : (n : ℕ) → coming ≤ n → get calls n ≡ None) (call : ℕ) (file : Opened)
+      → get calls call ≢ None → AreFiles (remove calls call) (put opens call file) closing coming
   opened_files below call file is_there = record {
-    opens_below = λ n le. get_put_there opens call file n (λ e. is_there (ap (λ (i : ℕ). get calls i) (sym e) ∙ below n le)) ∙ old.opens_below n le;
+    opens_below = λ n le. get_put_there opens call file n
+        (λ e. is_there (ap (λ (i : ℕ). get calls i) (sym e) ∙ below n le)) ∙ old.opens_below n le;
     closing_below = old.closing_below;
     opens_apart = λ n there. elim (cases_eq n call) [
       | inl e ↦ absurd (there (subst (λ (i : ℕ). get (remove calls call) i ≡ None) (sym e) (get_gone_here calls call)))
@@ -89,15 +110,20 @@ module _ {V : Type 0} (calls : Map V) (opens closing : Map Opened) (coming : ℕ
   }
 
   -- it is closed while it is used
-  pub closed_files : (handle : ℕ) (file : Opened) → get opens handle ≢ None → AreFiles calls (remove opens handle) (put closing handle file) coming
+  pub closed_files : (handle : ℕ) (file : Opened) → get opens handle ≢ None
+      → AreFiles calls (remove opens handle) (put closing handle file) coming
   closed_files handle file is_open = record {
     opens_below = λ n le. gone_none opens handle n (old.opens_below n le);
-    closing_below = λ n le. get_put_there closing handle file n (λ e. is_open (ap (λ (i : ℕ). get opens i) (sym e) ∙ old.opens_below n le)) ∙ old.closing_below n le;
+    closing_below = λ n le. get_put_there closing handle file n
+        (λ e. is_open (ap (λ (i : ℕ). get opens i) (sym e) ∙ old.opens_below n le)) ∙ old.closing_below n le;
     opens_apart = λ n there. gone_none opens handle n (old.opens_apart n there);
-    closing_apart = λ n there. get_put_there closing handle file n (λ e. is_open (ap (λ (i : ℕ). get opens i) (sym e) ∙ old.opens_apart n there)) ∙ old.closing_apart n there;
+    closing_apart = λ n there. get_put_there closing handle file n
+        (λ e. is_open (ap (λ (i : ℕ). get opens i) (sym e) ∙ old.opens_apart n there)) ∙ old.closing_apart n there;
     closed_once = λ n there. elim (cases_eq n handle) [
-      | inl e ↦ absurd (there (subst (λ (i : ℕ). get (remove opens handle) i ≡ None) (sym e) (get_gone_here opens handle)))
-      | inr ne ↦ get_put_there closing handle file n ne ∙ old.closed_once n (λ none. there (gone_none opens handle n none))
+      | inl e ↦ absurd (there (subst (λ (i : ℕ). get (remove opens handle) i ≡ None) (sym e)
+          (get_gone_here opens handle)))
+      | inr ne ↦ get_put_there closing handle file n ne ∙ old.closed_once n
+          (λ none. there (gone_none opens handle n none))
     ];
   }
 
@@ -113,4 +139,10 @@ module _ {V : Type 0} (calls : Map V) (opens closing : Map Opened) (coming : ℕ
 
 -- No file is open.
 pub no_files : {V : Type 0} (calls : Map V) (coming : ℕ) → AreFiles calls [] [] coming
-no_files calls coming = record { opens_below = λ n le. refl; closing_below = λ n le. refl; opens_apart = λ n there. refl; closing_apart = λ n there. refl; closed_once = λ n there. refl }
+no_files calls coming = record {
+  opens_below = λ n le. refl;
+  closing_below = λ n le. refl;
+  opens_apart = λ n there. refl;
+  closing_apart = λ n there. refl;
+  closed_once = λ n there. refl;
+}

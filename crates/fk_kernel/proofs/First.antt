@@ -7,9 +7,16 @@ use Rattle.fk_queues.specs.Room.{Room}
 use Rattle.fk_kernel.proofs.Files.{no_files}
 use Rattle.fk_kernel.proofs.Nodes.{none_counted}
 
-pub sound_first : {W : Type 0} (free : ℕ) (space : Room) → IsSoundKernel {W = W} Down [] [] free 1 [] [] empty_queues space [] 0
+pub sound_first : {W : Type 0} (free : ℕ) (space : Room)
+    → IsSoundKernel {W = W} Down [] [] free 1 [] [] empty_queues space [] 0
 sound_first free space = record {
-  numbers = record { calls_below = λ n le. refl; answers_below = λ n le. refl; apart = λ n there. refl; room = omega arith; next = omega arith };
+  numbers = record {
+    calls_below = λ n le. refl;
+    answers_below = λ n le. refl;
+    apart = λ n there. refl;
+    room = omega arith;
+    next = omega arith;
+  };
   idle = λ down. refl;
   sorted = tt;
   files = no_files [] 1;

@@ -37,7 +37,8 @@ below : (next : ℕ) → 0 < (2 ^ 62 - next) / 2 → next + 2 ≤ 2 ^ 62
 below next some = omega arith
 
 module _ (k : Kernel) (count : ℕ) (live : is_live k.phase ≡ true) where
-  pub interrupts_first : is_some (slice_get k.queues.interrupts 0) ≡ true → read_forgets_refusal k count ≡ Some InterruptFirst
+  pub interrupts_first : is_some (slice_get k.queues.interrupts 0) ≡ true
+      → read_forgets_refusal k count ≡ Some InterruptFirst
   interrupts_first some = rw (live, has_some k.queues.interrupts some) refl
 
   module _ (none : is_some (slice_get k.queues.interrupts 0) ≡ false) where
@@ -51,5 +52,12 @@ module _ (k : Kernel) (count : ℕ) (live : is_live k.phase ≡ true) where
       pub no_number_left : numbers_left_from k.queues.next ≡ 0 → read_forgets_refusal k count ≡ Some Exhausted
       no_number_left left = rw (live, has_none k.queues.interrupts none, first, can_read, past k.queues.next left) refl
 
-      pub read_unrefused : 0 < numbers_left_from k.queues.next → k.vfs.next_call ≤ 2 ^ 62 → read_forgets_refusal k count ≡ None
-      read_unrefused left low = rw (live, has_none k.queues.interrupts none, first, can_read, none_past_end (k.queues.next + 2) k.vfs.next_call (below k.queues.next left) low) refl
+      pub read_unrefused : 0 < numbers_left_from k.queues.next → k.vfs.next_call ≤ 2 ^ 62
+          → read_forgets_refusal k count ≡ None
+      read_unrefused left low = rw (
+        live,
+        has_none k.queues.interrupts none,
+        first,
+        can_read,
+        none_past_end (k.queues.next + 2) k.vfs.next_call (below k.queues.next left) low,
+      ) refl

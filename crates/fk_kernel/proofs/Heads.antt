@@ -12,7 +12,8 @@ use Rattle.fk_wire.specs.ReplyFaults.{HasReplyLength, ReplyFaultIsAt, IsReplyHea
 use Rattle.fk_kernel.specs.Said.{HasReplyHead}
 use Rattle.fk_said.proofs.Sayings.{same_error}
 
-pub no_head : (bytes : List ℕ) (f : WireFault) → ReplyFaultIsAt served op.Getattr bytes f → IsReplyHeadFault f → HasReplyHead bytes → ⊥
+pub no_head : (bytes : List ℕ) (f : WireFault) → ReplyFaultIsAt served op.Getattr bytes f → IsReplyHeadFault f
+    → HasReplyHead bytes → ⊥
 no_head bytes faults.Short is head has = omega (arith, is, has.0.0)
 no_head bytes faults.Length is head has = is.1 has.0.1
 no_head bytes faults.ErrorRange is head has = is.1 has.1
@@ -22,5 +23,10 @@ no_head bytes faults.Body is head has = head
 no_head bytes faults.Memory is head has = head
 
 -- and one in which none was found is a head
-pub has_head : (bytes : List ℕ) (z : ℤ) → HasReplyLength bytes → IsErrorNumber z → cast_unsigned w32 z ≡ number_at 4 4 bytes → HasReplyHead bytes
-has_head bytes z long range same = (long, subst (λ (n : ℕ). IsErrorNumber (cast_signed w32 n)) same (subst IsErrorNumber (sym (same_error z range)) range))
+pub has_head : (bytes : List ℕ) (z : ℤ) → HasReplyLength bytes → IsErrorNumber z
+    → cast_unsigned w32 z ≡ number_at 4 4 bytes → HasReplyHead bytes
+has_head bytes z long range same = (
+  long,
+  subst (λ (n : ℕ). IsErrorNumber (cast_signed w32 n)) same
+      (subst IsErrorNumber (sym (same_error z range)) range),
+)

@@ -23,8 +23,12 @@ use Rattle.fk_nodes.proofs.Outs.{one_below, long_from}
 use Rattle.fk_kernel.specs.Soundness.{AreCounted}
 
 -- The counts stay within what room there is.
-pub still_counted : (nodes : Map Counted) (forgets more : ℕ) → AreCounted nodes forgets → forgets ≤ more → AreCounted nodes more
-still_counted nodes forgets more counted room = record { below = counted.below; room = omega (arith, counted.room, room) }
+pub still_counted : (nodes : Map Counted) (forgets more : ℕ) → AreCounted nodes forgets → forgets ≤ more
+    → AreCounted nodes more
+still_counted nodes forgets more counted room = record {
+  below = counted.below;
+  room = omega (arith, counted.room, room);
+}
 
 -- No node is counted yet.
 pub none_counted : (forgets : ℕ) → AreCounted [] forgets
@@ -38,18 +42,23 @@ none_counted forgets = record {
 }
 
 -- One lookup more is counted.
-pub learnt_counted : (nodes : Map Counted) (forgets more : ℕ) → AreCounted nodes forgets → length nodes + 1 ≤ more → (g : NodeEntry) → (counted_more g (get nodes g.nodeid)).count < counter_end → AreCounted (learnt nodes (g ∷ [])) more
+pub learnt_counted : (nodes : Map Counted) (forgets more : ℕ) → AreCounted nodes forgets → length nodes + 1 ≤ more
+    → (g : NodeEntry) → (counted_more g (get nodes g.nodeid)).count < counter_end
+    → AreCounted (learnt nodes (g ∷ [])) more
 learnt_counted nodes forgets more counted room g fits =
     let long = length_put nodes g.nodeid (counted_more g (get nodes g.nodeid)) in
     record { below = one_below nodes g counted.below fits; room = omega (arith, long, room) }
 
 -- The names of a list are counted.
-pub listed_counted : (nodes : Map Counted) (more : ℕ) (pairs : List (DirentPlus NodeEntry)) → AreBelow (learnt_from nodes pairs) → length nodes + length pairs ≤ more → AreCounted (learnt_from nodes pairs) more
+pub listed_counted : (nodes : Map Counted) (more : ℕ) (pairs : List (DirentPlus NodeEntry))
+    → AreBelow (learnt_from nodes pairs) → length nodes + length pairs ≤ more
+    → AreCounted (learnt_from nodes pairs) more
 listed_counted nodes more pairs below room =
     let long = long_from pairs nodes in
     record { below = below; room = omega (arith, long, room) }
 
-pub answered_is : (s : QueueState Purpose) (unique : ℕ) → is_some (waiting s unique) ≡ true → after_answer s unique ≡ without s unique
+pub answered_is : (s : QueueState Purpose) (unique : ℕ) → is_some (waiting s unique) ≡ true
+    → after_answer s unique ≡ without s unique
 answered_is s unique waits = rw waits refl
 
 -- The keys of calls rise.
@@ -63,14 +72,18 @@ module _ {V : Type 0} where
   -- what goes and comes again under its key is put there
   pub put_gone : (m : Map V) (k : ℕ) (v : V) → T (is_sorted nat_cmp m) → put (remove m k) k v ≡ put m k v
   put_gone m k v sorted =
-      same_entries nat_cmp nat_cmp_total nat_cmp-IsAntisymmetric (put (remove m k) k v) (put m k v) (sorted_put (remove m k) k v (sorted_gone m k sorted)) (sorted_put m k v sorted) at
+      same_entries nat_cmp nat_cmp_total nat_cmp-IsAntisymmetric (put (remove m k) k v) (put m k v)
+      (sorted_put (remove m k) k v (sorted_gone m k sorted)) (sorted_put m k v sorted) at
     where
       at : (q : ℕ) → get (put (remove m k) k v) q ≡ get (put m k v) q
       at q = elim (cases_eq q k) [
-        | inl e ↦ subst (λ (n : ℕ). get (put (remove m k) k v) n ≡ get (put m k v) n) (sym e) (get_put_here (remove m k) k v ∙ sym (get_put_here m k v))
+        | inl e ↦ subst (λ (n : ℕ). get (put (remove m k) k v) n ≡ get (put m k v) n) (sym e)
+            (get_put_here (remove m k) k v ∙ sym (get_put_here m k v))
         | inr ne ↦ get_put_there (remove m k) k v q ne ∙ get_gone_there m k q ne ∙ sym (get_put_there m k v q ne)
       ]
 
   -- it adds no entry
-  pub length_again : (m : Map V) (k : ℕ) (v : V) → T (is_sorted nat_cmp m) → is_some (get m k) ≡ true → length (put m k v) ≡ length m
-  length_again m k v sorted there = length-put nat_cmp nat_cmp_total k v m sorted ∙ ap (λ (b : Bool). cond b (length m) (length m + 1)) there
+  pub length_again : (m : Map V) (k : ℕ) (v : V) → T (is_sorted nat_cmp m) → is_some (get m k) ≡ true
+      → length (put m k v) ≡ length m
+  length_again m k v sorted there = length-put nat_cmp nat_cmp_total k v m sorted ∙ ap
+      (λ (b : Bool). cond b (length m) (length m + 1)) there

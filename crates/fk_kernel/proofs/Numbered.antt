@@ -26,17 +26,20 @@ begun_numbers false c call = by (beginning c.opens call)
     by (uses handle operation) = refl
     by (closes handle opened) = refl
 
-asked_numbers : (k : Kernel) (call : ℕ) (operation : Option (Operation ℕ Opened)) → (asking_for k call operation).vfs.next_call ≡ k.vfs.next_call
+asked_numbers : (k : Kernel) (call : ℕ) (operation : Option (Operation ℕ Opened))
+    → (asking_for k call operation).vfs.next_call ≡ k.vfs.next_call
 asked_numbers k call None = refl
 asked_numbers k call (Some operation) = refl
 
-released_numbers : (k : Kernel) (handle : ℕ) (file : Option Opened) → (released k handle file).vfs.next_call ≡ k.vfs.next_call
+released_numbers : (k : Kernel) (handle : ℕ) (file : Option Opened)
+    → (released k handle file).vfs.next_call ≡ k.vfs.next_call
 released_numbers k handle None = refl
 released_numbers k handle (Some file) = refl
 
 closed_numbers : (k : Kernel) (file : Option (ℕ × Opened)) → (closing_of k file).vfs.next_call ≡ k.vfs.next_call
 closed_numbers k None = refl
-closed_numbers k (Some file) = released_numbers (record k { closing = put k.closing file.0 file.1 }) file.0 (get (put k.closing file.0 file.1) file.0)
+closed_numbers k (Some file) = released_numbers (record k { closing = put k.closing file.0 file.1 }) file.0
+    (get (put k.closing file.0 file.1) file.0)
 
 call_numbers : (k : Kernel) (call : Call) → (call_begun k call).vfs.next_call ≡ k.vfs.next_call + 1
 call_numbers k call =
@@ -48,12 +51,16 @@ call_numbers k call =
 past : (unique call now : ℕ) → call ≡ now + 1 → 2 ^ 62 ≤ now → (nat_lt (2 ^ 62) unique || nat_lt (2 ^ 62) call) ≡ true
 past unique call now next last = grind (arith, nat_tests)
 
-by_tests : (ready full past : Bool) → ready ≡ true → full ≡ false → past ≡ true → Exhausted ≡ or_no_memory (cond (not ready) (Some NotReady) (cond full (Some Full) (cond past (Some Exhausted) None)))
+by_tests : (ready full past : Bool) → ready ≡ true → full ≡ false → past ≡ true
+    → Exhausted ≡ or_no_memory (cond (not ready) (Some NotReady)
+    (cond full (Some Full) (cond past (Some Exhausted) None)))
 by_tests ready full past r f p = rw (r, f, p) refl
 
 -- no call begins where no number is left for it
-pub exhausted_refused : (k : Kernel) (made : Made) → is_ready k.phase ≡ true → length k.vfs.calls < 64 → 2 ^ 62 ≤ k.vfs.next_call → Exhausted ≡ or_no_memory (begin_refusal k (call_of made))
+pub exhausted_refused : (k : Kernel) (made : Made) → is_ready k.phase ≡ true → length k.vfs.calls < 64
+    → 2 ^ 62 ≤ k.vfs.next_call → Exhausted ≡ or_no_memory (begin_refusal k (call_of made))
 exhausted_refused k made ready few last =
     let after = call_begun k (spoken k.lists_files (call_of made)) in
     let full : nat_le 64 (length k.vfs.calls) ≡ false = grind (arith, nat_tests, few) in
-    by_tests _ _ _ ready full (past after.queues.next after.vfs.next_call k.vfs.next_call (call_numbers k (spoken k.lists_files (call_of made))) last)
+    by_tests _ _ _ ready full (past after.queues.next after.vfs.next_call k.vfs.next_call
+    (call_numbers k (spoken k.lists_files (call_of made))) last)

@@ -37,7 +37,8 @@ abbrev IsPast : Kernel → ℕ → WireReply → Bool
 IsPast k unique wire = is_past (reply_written k unique wire).1
 
 -- What was said goes past the end: so does all that the bytes mean.
-pub passes : (k : Kernel) (unique : ℕ) (bytes : List ℕ) (o : Opcode) → IsJudged o → (wire : WireReply) → Says o bytes wire → is_past (reply_written k unique wire).1 ≡ true → PassesEnd k unique bytes (reply_to o)
+pub passes : (k : Kernel) (unique : ℕ) (bytes : List ℕ) (o : Opcode) → IsJudged o → (wire : WireReply)
+    → Says o bytes wire → is_past (reply_written k unique wire).1 ≡ true → PassesEnd k unique bytes (reply_to o)
 passes k unique bytes o judged wire says past = record { opcode = o; judged = judged; awaits = refl; past = each }
   where
     each : (other : WireReply) → Means o bytes other → IsPast k unique other ≡ true
@@ -50,14 +51,18 @@ module _ (k : Kernel) (unique : ℕ) (bytes : List ℕ) where
   nothing_passes p = let e = p.awaits in cc e
 
   -- nor where what they say does not,
-  pub said_passes : (o : Opcode) (wire : WireReply) → Says o bytes wire → is_past (reply_written k unique wire).1 ≡ false → PassesEnd k unique bytes (reply_to o) → ⊥
+  pub said_passes : (o : Opcode) (wire : WireReply) → Says o bytes wire
+      → is_past (reply_written k unique wire).1 ≡ false → PassesEnd k unique bytes (reply_to o) → ⊥
   said_passes o wire says within p =
       let s = subst (λ (x : Opcode). Says x bytes wire) (ap opcode_in p.awaits) says in
       true≢false (sym (p.past wire (said wire s)) ∙ within)
 
   -- nor where nothing that they may mean does.
-  pub none_passes : (o : Opcode) → ((wire : WireReply) → Says o bytes wire → is_past (reply_written k unique wire).1 ≡ false) → is_past (reply_written k unique (wrong_body_to o)).1 ≡ false → PassesEnd k unique bytes (reply_to o) → ⊥
-  none_passes o each wrong p = true≢false (sym (p.past (wrong_body_to p.opcode) (unsaid none)) ∙ subst (λ (x : Opcode). IsPast k unique (wrong_body_to x) ≡ false) same wrong)
+  pub none_passes : (o : Opcode) → ((wire : WireReply) → Says o bytes wire
+      → is_past (reply_written k unique wire).1 ≡ false) → is_past (reply_written k unique (wrong_body_to o)).1 ≡ false
+      → PassesEnd k unique bytes (reply_to o) → ⊥
+  none_passes o each wrong p = true≢false (sym (p.past (wrong_body_to p.opcode) (unsaid none)) ∙ subst
+      (λ (x : Opcode). IsPast k unique (wrong_body_to x) ≡ false) same wrong)
     where
       same : o ≡ p.opcode
       same = ap opcode_in p.awaits
@@ -70,9 +75,14 @@ module _ (k : Kernel) (unique : ℕ) (bytes : List ℕ) where
   module _ (same : is_past k ≡ false) where
     -- A reply to an INTERRUPT draws no number,
     marked_within : (original : ℕ) (reply : InterruptReply) (o : Option Mark)
-        → is_past (record k { queues = option_map_or (λ m. after_reply_effect k.queues original (reply_effect reply m (list_any (nat_eq original) k.queues.interrupts) k.queues.interrupts_off)) o k.queues }) ≡ false
+        → is_past (record k {
+          queues = option_map_or (λ m. after_reply_effect k.queues original
+              (reply_effect reply m (list_any
+              (nat_eq original) k.queues.interrupts) k.queues.interrupts_off)) o k.queues;
+        }) ≡ false
     marked_within original reply None = same
-    marked_within original reply (Some m) = by (reply_effect reply m (list_any (nat_eq original) k.queues.interrupts) k.queues.interrupts_off)
+    marked_within original reply (Some m) = by (reply_effect reply m
+        (list_any (nat_eq original) k.queues.interrupts) k.queues.interrupts_off)
       where
         by : (x : InterruptReplyEffect) → is_past (record k { queues = after_reply_effect k.queues original x }) ≡ false
         by QueuedAgain = same
@@ -80,19 +90,24 @@ module _ (k : Kernel) (unique : ℕ) (bytes : List ℕ) where
         by NoReplyEffect = same
 
     interrupt_within : (original : ℕ) (wire : WireReply) → is_past (interrupt_replied k original wire).1 ≡ false
-    interrupt_within original (reply.failed errno) = marked_within original (interrupt_reply_of errno) (mark_under k.queues original)
+    interrupt_within original (reply.failed errno) =
+        marked_within original (interrupt_reply_of errno) (mark_under k.queues original)
     interrupt_within original wire = same
 
     module _ (odd : nat_eq (unique % 2) 1 ≡ true) where
-      by_interrupt : (w : Option Purpose) → waiting k.queues (unique - 1) ≡ w → PassesEnd k unique bytes (awaited_by_interrupt w) → ⊥
+      by_interrupt : (w : Option Purpose) → waiting k.queues (unique - 1) ≡ w
+          → PassesEnd k unique bytes (awaited_by_interrupt w) → ⊥
       by_interrupt None waits = nothing_passes
-      by_interrupt (Some purpose) waits = none_passes op.Interrupt (λ wire says. within wire) (within (wrong_body_to op.Interrupt))
+      by_interrupt (Some purpose) waits = none_passes op.Interrupt (λ wire says. within wire)
+          (within (wrong_body_to op.Interrupt))
         where
           within : (wire : WireReply) → IsPast k unique wire ≡ false
-          within wire = ap (λ (r : WriteResult × Kernel). is_past r.1) (written_odd k unique odd wire purpose waits) ∙ interrupt_within (unique - 1) wire
+          within wire = ap (λ (r : WriteResult × Kernel). is_past r.1)
+              (written_odd k unique odd wire purpose waits) ∙ interrupt_within (unique - 1) wire
 
       pub odd_passes : PassesEnd k unique bytes (awaited k unique) → ⊥
-      odd_passes p = by_interrupt (waiting k.queues (unique - 1)) refl (subst (λ (a : Awaited). PassesEnd k unique bytes a) (awaited_odd k unique odd) p)
+      odd_passes p = by_interrupt (waiting k.queues (unique - 1)) refl
+          (subst (λ (a : Awaited). PassesEnd k unique bytes a) (awaited_odd k unique odd) p)
 
     -- nor does one to INIT or to a RELEASE.
     module _ (even : nat_eq (unique % 2) 1 ≡ false) where
@@ -101,19 +116,25 @@ module _ (k : Kernel) (unique : ℕ) (bytes : List ℕ) where
         where
           by : (wire : WireReply) (b : Bool) → is_past (by_agreement k unique even waits wire b) ≡ false
           by wire true = same
-          by wire false = or_none _ false (none_past_end 2 k.vfs.next_call (lit≤ tt) (within_ends k.queues.next k.vfs.next_call (or_first _ (is_out k.nodes) same)).1) refl
+          by wire false = or_none _ false (none_past_end 2 k.vfs.next_call (lit≤ tt)
+              (within_ends k.queues.next k.vfs.next_call (or_first _ (is_out k.nodes) same)).1) refl
 
           within : (wire : WireReply) → IsPast k unique wire ≡ false
-          within wire = ap (λ (r : WriteResult × Kernel). is_past r.1) (init_is k unique even waits wire) ∙ by wire (is_agreement wire)
+          within wire = ap (λ (r : WriteResult × Kernel). is_past r.1) (init_is k unique even waits wire) ∙ by wire
+              (is_agreement wire)
 
-      pub release_passes : (opened : Opened) → waiting k.queues unique ≡ Some (Release opened) → PassesEnd k unique bytes (reply_to op.Release) → ⊥
-      release_passes opened waits = none_passes op.Release (λ wire says. within wire) (within (wrong_body_to op.Release))
+      pub release_passes : (opened : Opened) → waiting k.queues unique ≡ Some (Release opened)
+          → PassesEnd k unique bytes (reply_to op.Release) → ⊥
+      release_passes opened waits = none_passes op.Release (λ wire says. within wire)
+          (within (wrong_body_to op.Release))
         where
           within : (wire : WireReply) → IsPast k unique wire ≡ false
-          within wire = ap (λ (r : WriteResult × Kernel). is_past r.1) (release_is k unique opened even waits wire) ∙ same
+          within wire = ap (λ (r : WriteResult × Kernel). is_past r.1)
+              (release_is k unique opened even waits wire) ∙ same
 
 -- A wrong body goes with no operation of a call.
-pub wrong_to_call : (operation : Operation ℕ Opened) → goes_with operation (wrong_body_to (asked_opcode (asks operation))) ≡ false
+pub wrong_to_call : (operation : Operation ℕ Opened)
+    → goes_with operation (wrong_body_to (asked_opcode (asks operation))) ≡ false
 wrong_to_call (lookup d w) = refl
 wrong_to_call (getattr x) = refl
 wrong_to_call (mkdir d n) = refl
@@ -129,7 +150,9 @@ wrong_to_call (read o f z) = refl
 wrong_to_call (write o f b) = refl
 
 -- Where want of memory is refused, the bytes do not go past the end.
-pub memory_last : {X : Type 0} (k : Kernel) (unique : ℕ) (bytes : List ℕ) (awaits : Awaited) (r : Result X Refusal) → (WritePasses k bytes → PassesEnd k unique bytes awaits)
-    → IfErr r (λ refusal. refusal ≡ NoMemory → PassesEnd k unique bytes awaits → ⊥) → IfErr r (λ refusal. refusal ≡ NoMemory → WritePasses k bytes → ⊥)
+pub memory_last : {X : Type 0} (k : Kernel) (unique : ℕ) (bytes : List ℕ) (awaits : Awaited) (r : Result X Refusal)
+    → (WritePasses k bytes → PassesEnd k unique bytes awaits)
+    → IfErr r (λ refusal. refusal ≡ NoMemory → PassesEnd k unique bytes awaits → ⊥)
+    → IfErr r (λ refusal. refusal ≡ NoMemory → WritePasses k bytes → ⊥)
 memory_last k unique bytes awaits (Ok x) same is = tt
 memory_last k unique bytes awaits (Err refusal) same is = λ wants p. is wants (same p)

@@ -14,8 +14,10 @@ live_if Ready ready aborted = refl
 live_if Aborted ready aborted = absurd (true≢false aborted)
 
 -- two counters of which neither is past its end
-pub none_past_end : (unique call : ℕ) → unique ≤ 2 ^ 62 → call ≤ 2 ^ 62 → (nat_lt (2 ^ 62) unique || nat_lt (2 ^ 62) call) ≡ false
+pub none_past_end : (unique call : ℕ) → unique ≤ 2 ^ 62 → call ≤ 2 ^ 62
+    → (nat_lt (2 ^ 62) unique || nat_lt (2 ^ 62) call) ≡ false
 none_past_end unique call low few = grind (arith, nat_tests)
 
-pub within_ends : (unique call : ℕ) → (nat_lt (2 ^ 62) unique || nat_lt (2 ^ 62) call) ≡ false → (unique ≤ 2 ^ 62) × (call ≤ 2 ^ 62)
+pub within_ends : (unique call : ℕ) → (nat_lt (2 ^ 62) unique || nat_lt (2 ^ 62) call) ≡ false
+    → (unique ≤ 2 ^ 62) × (call ≤ 2 ^ 62)
 within_ends unique call within = (grind (arith, nat_tests), grind (arith, nat_tests))

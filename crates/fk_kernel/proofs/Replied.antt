@@ -58,18 +58,22 @@ IsPlain wire = ⊥
 
 module _ (c : Vfs Opened) (call : ℕ) where
   abbrev Answers : WireReply → CallState Opened → Type 0
-  Answers wire state = call_replied c call state (kernel_reply (asked state) wire) ≡ no_more (answered c call (answer_by wire))
+  Answers wire state = call_replied c call state (kernel_reply (asked state) wire)
+      ≡ no_more (answered c call (answer_by wire))
 
   failed_answers : (errno : ℕ) (state : CallState Opened) → Answers (reply.failed errno) state
   failed_answers errno (walking d w ws p) = refl
   failed_answers errno (doing operation) = refl
   failed_answers errno (using handle operation) = refl
 
-  attributes_answers : (a : Attributes) (operation : Operation ℕ Opened) (state : CallState Opened) → StandsAt operation state → goes_with operation (reply.attributes a) ≡ true → Answers (reply.attributes a) state
+  attributes_answers : (a : Attributes) (operation : Operation ℕ Opened) (state : CallState Opened)
+      → StandsAt operation state → goes_with operation (reply.attributes a) ≡ true → Answers (reply.attributes a) state
   attributes_answers a (getattr x) state s goes = subst (Answers (reply.attributes a)) (sym s) refl
   attributes_answers a operation state s goes = absurd (true≢false (sym goes))
 
-  listed_answers : (records : List Dirent) (operation : Operation ℕ Opened) (state : CallState Opened) → StandsAt operation state → goes_with operation (reply.listed records) ≡ true → Answers (reply.listed records) state
+  listed_answers : (records : List Dirent) (operation : Operation ℕ Opened) (state : CallState Opened)
+      → StandsAt operation state → goes_with operation (reply.listed records) ≡ true
+      → Answers (reply.listed records) state
   listed_answers records (readdir d a z) state s goes = subst (Answers (reply.listed records)) (sym s) refl
   listed_answers records (lookup d w) state s goes = absurd (true≢false (sym goes))
   listed_answers records (readdirplus d a z) state s goes = absurd (true≢false (sym goes))
@@ -84,7 +88,9 @@ module _ (c : Vfs Opened) (call : ℕ) where
   listed_answers records (read o f z) state s goes = absurd (true≢false (sym goes))
   listed_answers records (write o f b) state s goes = absurd (true≢false (sym goes))
 
-  content_answers : (bytes : List ℕ) (operation : Operation ℕ Opened) (state : CallState Opened) → StandsAt operation state → goes_with operation (reply.content bytes) ≡ true → Answers (reply.content bytes) state
+  content_answers : (bytes : List ℕ) (operation : Operation ℕ Opened) (state : CallState Opened)
+      → StandsAt operation state → goes_with operation (reply.content bytes) ≡ true
+      → Answers (reply.content bytes) state
   content_answers bytes (read o f z) state s goes = subst (Answers (reply.content bytes)) (sym s.is) refl
   content_answers bytes (lookup d w) state s goes = absurd (true≢false (sym goes))
   content_answers bytes (readdirplus d a z) state s goes = absurd (true≢false (sym goes))
@@ -99,7 +105,8 @@ module _ (c : Vfs Opened) (call : ℕ) where
   content_answers bytes (readdir d a z) state s goes = absurd (true≢false (sym goes))
   content_answers bytes (write o f b) state s goes = absurd (true≢false (sym goes))
 
-  written_answers : (size : ℕ) (operation : Operation ℕ Opened) (state : CallState Opened) → StandsAt operation state → goes_with operation (reply.written size) ≡ true → Answers (reply.written size) state
+  written_answers : (size : ℕ) (operation : Operation ℕ Opened) (state : CallState Opened) → StandsAt operation state
+      → goes_with operation (reply.written size) ≡ true → Answers (reply.written size) state
   written_answers size (write o f b) state s goes = subst (Answers (reply.written size)) (sym s.is) refl
   written_answers size (lookup d w) state s goes = absurd (true≢false (sym goes))
   written_answers size (readdirplus d a z) state s goes = absurd (true≢false (sym goes))
@@ -115,13 +122,20 @@ module _ (c : Vfs Opened) (call : ℕ) where
   written_answers size (read o f z) state s goes = absurd (true≢false (sym goes))
 
 -- a plain reply does nothing but answer
-module _ (k : Kernel) (call : ℕ) (operation : Operation ℕ Opened) (state : CallState Opened) (s : StandsAt operation state) where
-  pub plain_judged : (wire : WireReply) → IsPlain wire → goes_with operation wire ≡ true → reply_received k call state wire ≡ record k { vfs = answered k.vfs call (answer_by wire) }
-  plain_judged (reply.failed errno) plain goes = ap (λ (a : Advance Opened). advanced k call a) (failed_answers k.vfs call errno state)
-  plain_judged (reply.attributes x) plain goes = ap (λ (a : Advance Opened). advanced k call a) (attributes_answers k.vfs call x operation state s goes)
-  plain_judged (reply.listed records) plain goes = ap (λ (a : Advance Opened). advanced k call a) (listed_answers k.vfs call records operation state s goes)
-  plain_judged (reply.content bytes) plain goes = ap (λ (a : Advance Opened). advanced k call a) (content_answers k.vfs call bytes operation state s goes)
-  plain_judged (reply.written size) plain goes = ap (λ (a : Advance Opened). advanced k call a) (written_answers k.vfs call size operation state s goes)
+module _ (k : Kernel) (call : ℕ) (operation : Operation ℕ Opened) (state : CallState Opened)
+    (s : StandsAt operation state) where
+  pub plain_judged : (wire : WireReply) → IsPlain wire → goes_with operation wire ≡ true
+      → reply_received k call state wire ≡ record k { vfs = answered k.vfs call (answer_by wire) }
+  plain_judged (reply.failed errno) plain goes = ap (λ (a : Advance Opened). advanced k call a)
+      (failed_answers k.vfs call errno state)
+  plain_judged (reply.attributes x) plain goes = ap (λ (a : Advance Opened). advanced k call a)
+      (attributes_answers k.vfs call x operation state s goes)
+  plain_judged (reply.listed records) plain goes =
+      ap (λ (a : Advance Opened). advanced k call a) (listed_answers k.vfs call records operation state s goes)
+  plain_judged (reply.content bytes) plain goes = ap (λ (a : Advance Opened). advanced k call a)
+      (content_answers k.vfs call bytes operation state s goes)
+  plain_judged (reply.written size) plain goes = ap (λ (a : Advance Opened). advanced k call a)
+      (written_answers k.vfs call size operation state s goes)
   plain_judged (reply.found g valid) plain goes = absurd plain
   plain_judged (reply.missing valid) plain goes = absurd plain
   plain_judged (reply.created g valid fh) plain goes = absurd plain
@@ -133,140 +147,231 @@ module _ (k : Kernel) (call : ℕ) (operation : Operation ℕ Opened) (state : C
 -- names go once it is done
 module _ (k : Kernel) (call : ℕ) where
   abbrev Undone : CallState Opened → Type 0
-  Undone state = judged k call state reply.done usable ≡ record k { vfs = answered (record k.vfs { names = names_left (asked state) k.vfs.names }) call answer.done }
+  Undone state = judged k call state reply.done usable
+      ≡ record k { vfs = answered (record k.vfs { names = names_left (asked state) k.vfs.names }) call answer.done }
 
-  pub done_judged : (operation : Operation ℕ Opened) (state : CallState Opened) → StandsAt operation state → goes_with operation reply.done ≡ true → Undone state
+  pub done_judged : (operation : Operation ℕ Opened) (state : CallState Opened) → StandsAt operation state
+      → goes_with operation reply.done ≡ true → Undone state
   done_judged (unlink d n) state s goes = subst Undone (sym s) refl
   done_judged (rmdir d n) state s goes = subst Undone (sym s) refl
   done_judged (rename d o e n) state s goes = subst Undone (sym s) refl
   done_judged operation state s goes = absurd (true≢false (sym goes))
 
-module _ (k : Kernel) (unique call : ℕ) (even : nat_eq (unique % 2) 1 ≡ false) (waits : waiting k.queues unique ≡ Some (Call call)) where
-  taken : (wire : WireReply) → reply_written k unique wire ≡ replied_to_call (record k { queues = without k.queues unique }) call wire (get k.vfs.calls call)
+module _ (k : Kernel) (unique call : ℕ) (even : nat_eq (unique % 2) 1 ≡ false)
+    (waits : waiting k.queues unique ≡ Some (Call call)) where
+  taken : (wire : WireReply) → reply_written k unique wire
+      ≡ replied_to_call (record k { queues = without k.queues unique }) call wire (get k.vfs.calls call)
   taken wire =
-      ap (λ (b : Bool). cond b (interrupt_reply_written k unique wire (waiting k.queues (unique - 1))) (request_reply_written k unique wire (waiting k.queues unique))) even
+      ap (λ (b : Bool). cond b (interrupt_reply_written k unique wire (waiting k.queues (unique - 1)))
+      (request_reply_written k unique wire (waiting k.queues unique))) even
       ∙ ap (request_reply_written k unique wire) waits
 
   stands : (state : CallState Opened) → get k.vfs.calls call ≡ Some state → (wire : WireReply)
-      → reply_written k unique wire ≡ replied (record k { queues = without k.queues unique }) call state (goes_with (asked state) wire) wire
+      → reply_written k unique wire ≡ replied (record k { queues = without k.queues unique }) call state
+      (goes_with (asked state) wire) wire
   stands state at wire = taken wire ∙ ap (replied_to_call (record k { queues = without k.queues unique }) call wire) at
 
   -- a body that does not go with what was asked
-  pub wrong_is : (state : CallState Opened) → get k.vfs.calls call ≡ Some state → (wire : WireReply) → goes_with (asked state) wire ≡ false
+  pub wrong_is : (state : CallState Opened) → get k.vfs.calls call ≡ Some state → (wire : WireReply)
+      → goes_with (asked state) wire ≡ false
       → reply_written k unique wire ≡ (Invalid, after_use (ended k unique k.vfs call (answer.failed 5)) state)
-  wrong_is state at wire other = stands state at wire ∙ ap (λ (b : Bool). replied (record k { queues = without k.queues unique }) call state b wire) other
+  wrong_is state at wire other = stands state at wire ∙ ap
+      (λ (b : Bool). replied (record k { queues = without k.queues unique }) call state b wire) other
 
   pub goes_is : (wire : WireReply) (aw : Awaits (get k.vfs.calls call) wire)
-      → reply_written k unique wire ≡ (Accepted, after_use (reply_received (record k { queues = without k.queues unique }) call aw.state wire) aw.state)
+      → reply_written k unique wire ≡ (
+        Accepted,
+        after_use
+            (reply_received (record k { queues = without k.queues unique }) call aw.state wire) aw.state,
+      )
   goes_is wire aw =
       stands aw.state aw.at wire
-      ∙ ap (λ (b : Bool). replied (record k { queues = without k.queues unique }) call aw.state b wire) (ap (λ (o : Operation ℕ Opened). goes_with o wire) (asked_is aw.operation aw.state aw.stands) ∙ aw.goes)
+      ∙ ap (λ (b : Bool). replied (record k { queues = without k.queues unique }) call aw.state b wire)
+      (ap (λ (o : Operation ℕ Opened). goes_with o wire) (asked_is aw.operation aw.state aw.stands) ∙ aw.goes)
 
-  pub plain_is : (wire : WireReply) → IsPlain wire → (aw : Awaits (get k.vfs.calls call) wire) → reply_written k unique wire ≡ (Accepted, after_use (ended k unique k.vfs call (answer_by wire)) aw.state)
-  plain_is wire plain aw = goes_is wire aw ∙ ap (λ (n : Kernel). (Accepted, after_use n aw.state)) (plain_judged (record k { queues = without k.queues unique }) call aw.operation aw.state aw.stands wire plain aw.goes)
+  pub plain_is : (wire : WireReply) → IsPlain wire → (aw : Awaits (get k.vfs.calls call) wire)
+      → reply_written k unique wire ≡ (Accepted, after_use (ended k unique k.vfs call (answer_by wire)) aw.state)
+  plain_is wire plain aw = goes_is wire aw ∙ ap (λ (n : Kernel). (Accepted, after_use n aw.state))
+      (plain_judged (record k {
+        queues =
+            without k.queues unique;
+      }) call aw.operation aw.state aw.stands wire plain aw.goes)
 
   pub done_is : (aw : Awaits (get k.vfs.calls call) reply.done)
-      → reply_written k unique reply.done ≡ (Accepted, ended k unique (record k.vfs { names = names_left (asked aw.state) k.vfs.names }) call answer.done)
+      → reply_written k unique reply.done ≡ (
+        Accepted,
+        ended k unique (record k.vfs { names = names_left (asked aw.state) k.vfs.names }) call answer.done,
+      )
   done_is aw =
-      goes_is reply.done aw ∙ ap (λ (n : Kernel). (Accepted, after_use n aw.state)) (done_judged (record k { queues = without k.queues unique }) call aw.operation aw.state aw.stands aw.goes)
+      goes_is reply.done aw ∙ ap (λ (n : Kernel). (Accepted, after_use n aw.state))
+      (done_judged (record k { queues = without k.queues unique }) call aw.operation aw.state aw.stands aw.goes)
       ∙ ap (λ (n : Kernel). (Accepted, n)) (stays _ aw.state (done_unused aw.operation aw.state aw.stands aw.goes))
 
   -- the kernel whose call is answered EIO, and to whose forgets one was added
   abbrev pub given_back : ℕ → Kernel
-  given_back node = record k { vfs = answered k.vfs call (answer.failed 5); queues = after_forget (without k.queues unique) node 1 }
+  given_back node = record k {
+    vfs = answered k.vfs call (answer.failed 5);
+    queues = after_forget (without k.queues unique) node 1;
+  }
 
   -- the kernel once the entry is counted and the request is ended
   abbrev pub knowing : Entry → Kernel
   knowing g = record k { queues = without k.queues unique; nodes = learnt k.nodes (g ∷ []) }
 
   abbrev judged_so : CallState Opened → WireReply → Use → Kernel
-  judged_so state wire outcome = after_use (judged (record k { queues = without k.queues unique }) call state wire (first_use outcome usable)) state
+  judged_so state wire outcome = after_use (judged (record k { queues = without k.queues unique }) call state wire
+      (first_use outcome usable)) state
 
   -- an entry that can't be used
   module _ (g : Entry) (valid : ℕ) (aw : Awaits (get k.vfs.calls call) (reply.found g valid)) where
-    pub found_useless : use_of k.nodes g ≡ useless → reply_written k unique (reply.found g valid) ≡ (Accepted, ended k unique k.vfs call (answer.failed 5))
+    pub found_useless : use_of k.nodes g ≡ useless → reply_written k unique (reply.found g valid)
+        ≡ (Accepted, ended k unique k.vfs call (answer.failed 5))
     found_useless is =
         goes_is (reply.found g valid) aw ∙ ap (λ (u : Use). (Accepted, judged_so aw.state (reply.found g valid) u)) is
-        ∙ ap (λ (n : Kernel). (Accepted, n)) (stays _ aw.state (found_unused aw.operation aw.state g valid aw.stands aw.goes))
+        ∙ ap (λ (n : Kernel). (Accepted, n)) (stays _ aw.state
+        (found_unused aw.operation aw.state g valid aw.stands aw.goes))
 
-    pub found_stale : (node : ℕ) → use_of k.nodes g ≡ stale node → reply_written k unique (reply.found g valid) ≡ (Accepted, given_back node)
+    pub found_stale : (node : ℕ) → use_of k.nodes g ≡ stale node
+        → reply_written k unique (reply.found g valid) ≡ (Accepted, given_back node)
     found_stale node is =
         goes_is (reply.found g valid) aw ∙ ap (λ (u : Use). (Accepted, judged_so aw.state (reply.found g valid) u)) is
-        ∙ ap (λ (n : Kernel). (Accepted, n)) (stays _ aw.state (found_unused aw.operation aw.state g valid aw.stands aw.goes))
+        ∙ ap (λ (n : Kernel). (Accepted, n)) (stays _ aw.state
+        (found_unused aw.operation aw.state g valid aw.stands aw.goes))
 
-  module _ (directory : ℕ) (word : Name) (words : List Name) (plan : WalkPlan ℕ) (at : get k.vfs.calls call ≡ Some (walking directory word words plan)) where
-    pub lookup_missing : (valid : ℕ) → reply_written k unique (reply.missing valid) ≡ (Accepted, ended k unique (bound k.vfs directory word None valid) call (answer.failed 2))
+  module _ (directory : ℕ) (word : Name) (words : List Name) (plan : WalkPlan ℕ)
+      (at : get k.vfs.calls call ≡ Some (walking directory word words plan)) where
+    pub lookup_missing : (valid : ℕ) → reply_written k unique (reply.missing valid)
+        ≡ (Accepted, ended k unique (bound k.vfs directory word None valid) call (answer.failed 2))
     lookup_missing valid = stands (walking directory word words plan) at (reply.missing valid)
 
-    pub lookup_found : (g : Entry) (valid : ℕ) → use_of k.nodes g ≡ usable → reply_written k unique (reply.found g valid) ≡ (Accepted, advanced (knowing g) call (walks_on (bound k.vfs directory word (Some g.nodeid) valid) call g.nodeid words plan))
-    lookup_found g valid is = stands (walking directory word words plan) at (reply.found g valid) ∙ ap (λ (u : Use). (Accepted, judged_so (walking directory word words plan) (reply.found g valid) u)) is
+    pub lookup_found : (g : Entry) (valid : ℕ) → use_of k.nodes g ≡ usable
+        → reply_written k unique (reply.found g valid) ≡ (
+          Accepted,
+          advanced (knowing g) call (walks_on (bound k.vfs directory word
+              (Some g.nodeid) valid) call g.nodeid words plan),
+        )
+    lookup_found g valid is = stands (walking directory word words plan) at (reply.found g valid) ∙ ap
+        (λ (u : Use). (Accepted, judged_so (walking directory word words plan) (reply.found g valid) u)) is
 
-  pub made_missing : (operation : Operation ℕ Opened) (place : Place) → MakesName operation place → get k.vfs.calls call ≡ Some (doing operation) → (valid : ℕ)
+  pub made_missing : (operation : Operation ℕ Opened) (place : Place) → MakesName operation place
+      → get k.vfs.calls call ≡ Some (doing operation) → (valid : ℕ)
       → reply_written k unique (reply.missing valid) ≡ (Accepted, ended k unique k.vfs call (answer.failed 5))
   made_missing operation place (mkdirs d n) at valid = stands (doing (mkdir d n)) at (reply.missing valid)
   made_missing operation place (links x d n) at valid = stands (doing (link x d n)) at (reply.missing valid)
 
-  pub made_found : (operation : Operation ℕ Opened) (place : Place) → MakesName operation place → get k.vfs.calls call ≡ Some (doing operation) → (g : Entry) (valid : ℕ) → use_of k.nodes g ≡ usable
-      → reply_written k unique (reply.found g valid) ≡ (Accepted, record (knowing g) { vfs = answered (bound k.vfs place.0 place.1 (Some g.nodeid) valid) call answer.done })
-  made_found operation place (mkdirs d n) at g valid is = stands (doing (mkdir d n)) at (reply.found g valid) ∙ ap (λ (u : Use). (Accepted, judged_so (doing (mkdir d n)) (reply.found g valid) u)) is
-  made_found operation place (links x d n) at g valid is = stands (doing (link x d n)) at (reply.found g valid) ∙ ap (λ (u : Use). (Accepted, judged_so (doing (link x d n)) (reply.found g valid) u)) is
+  pub made_found : (operation : Operation ℕ Opened) (place : Place) → MakesName operation place
+      → get k.vfs.calls call ≡ Some (doing operation) → (g : Entry) (valid : ℕ) → use_of k.nodes g ≡ usable
+      → reply_written k unique (reply.found g valid) ≡ (
+        Accepted,
+        record (knowing g) {
+          vfs = answered (bound k.vfs place.0 place.1
+              (Some g.nodeid) valid) call answer.done;
+        },
+      )
+  made_found operation place (mkdirs d n) at g valid is =
+      stands (doing (mkdir d n)) at (reply.found g valid) ∙ ap
+      (λ (u : Use). (Accepted, judged_so (doing (mkdir d n)) (reply.found g valid) u)) is
+  made_found operation place (links x d n) at g valid is =
+      stands (doing (link x d n)) at (reply.found g valid) ∙ ap
+      (λ (u : Use). (Accepted, judged_so (doing (link x d n)) (reply.found g valid) u)) is
 
-  module _ (directory : ℕ) (name : Name) (at : get k.vfs.calls call ≡ Some (doing (create directory name))) (g : Entry) (valid fh : ℕ) where
-    pub create_useless : use_of k.nodes g ≡ useless → reply_written k unique (reply.created g valid fh) ≡ (Accepted, ended k unique k.vfs call (answer.failed 5))
-    create_useless is = stands (doing (create directory name)) at (reply.created g valid fh) ∙ ap (λ (u : Use). (Accepted, judged_so (doing (create directory name)) (reply.created g valid fh) u)) is
+  module _ (directory : ℕ) (name : Name) (at : get k.vfs.calls call ≡ Some (doing (create directory name))) (g : Entry)
+      (valid fh : ℕ) where
+    pub create_useless : use_of k.nodes g ≡ useless → reply_written k unique (reply.created g valid fh)
+        ≡ (Accepted, ended k unique k.vfs call (answer.failed 5))
+    create_useless is = stands (doing (create directory name)) at (reply.created g valid fh) ∙ ap
+        (λ (u : Use). (Accepted, judged_so (doing (create directory name)) (reply.created g valid fh) u)) is
 
-    pub create_stale : (node : ℕ) → use_of k.nodes g ≡ stale node → reply_written k unique (reply.created g valid fh) ≡ (Accepted, given_back node)
-    create_stale node is = stands (doing (create directory name)) at (reply.created g valid fh) ∙ ap (λ (u : Use). (Accepted, judged_so (doing (create directory name)) (reply.created g valid fh) u)) is
+    pub create_stale : (node : ℕ) → use_of k.nodes g ≡ stale node
+        → reply_written k unique (reply.created g valid fh) ≡ (Accepted, given_back node)
+    create_stale node is = stands (doing (create directory name)) at (reply.created g valid fh) ∙ ap
+        (λ (u : Use). (Accepted, judged_so (doing (create directory name)) (reply.created g valid fh) u)) is
 
     pub create_made : use_of k.nodes g ≡ usable
         → reply_written k unique (reply.created g valid fh)
-        ≡ (Accepted, record (knowing g) { vfs = answered (opened_by (bound k.vfs directory name (Some g.nodeid) valid) call (record { nodeid = g.nodeid; fh = fh })) call answer.done })
-    create_made is = stands (doing (create directory name)) at (reply.created g valid fh) ∙ ap (λ (u : Use). (Accepted, judged_so (doing (create directory name)) (reply.created g valid fh) u)) is
+        ≡ (
+          Accepted,
+          record (knowing g) {
+            vfs = answered
+                (opened_by (bound k.vfs directory name (Some g.nodeid) valid) call
+                (record { nodeid = g.nodeid; fh = fh })) call answer.done;
+          },
+        )
+    create_made is = stands (doing (create directory name)) at (reply.created g valid fh) ∙ ap
+        (λ (u : Use). (Accepted, judged_so (doing (create directory name)) (reply.created g valid fh) u)) is
 
-  pub open_done : (node : ℕ) → get k.vfs.calls call ≡ Some (doing (opening node)) → (fh : ℕ) → reply_written k unique (reply.opened fh) ≡ (Accepted, ended k unique (opened_by k.vfs call (record { nodeid = node; fh = fh })) call answer.done)
+  pub open_done : (node : ℕ) → get k.vfs.calls call ≡ Some (doing (opening node)) → (fh : ℕ)
+      → reply_written k unique (reply.opened fh) ≡ (
+        Accepted,
+        ended k unique (opened_by k.vfs call (record { nodeid = node; fh = fh })) call answer.done,
+      )
   open_done node at fh = stands (doing (opening node)) at (reply.opened fh)
 
   -- the kernel once these names are listed with their files
   module _ (directory : ℕ) (pairs : List (DirentPlus Entry)) where
     abbrev listing_of : Map Counted → List (DirentPlus Entry) → List ℕ → List Dirent → Kernel
     listing_of nodes names back dirents = record k {
-      vfs = answered (record k.vfs { names = names_told k.vfs.clock directory k.vfs.names (map (pair_with (λ (g : Entry). g.nodeid)) names) }) call (answer.listing dirents);
+      vfs = answered (record k.vfs {
+        names = names_told k.vfs.clock directory k.vfs.names
+            (map (pair_with (λ (g : Entry). g.nodeid)) names);
+      }) call (answer.listing dirents);
       queues = each_forgotten (without k.queues unique) back;
       nodes = nodes;
     }
 
     abbrev pub listed_so : Kernel
-    listed_so = listing_of (learnt_from k.nodes pairs) (map (judged_in (learnt_from k.nodes pairs)) pairs) (stale_by (learnt_from k.nodes pairs) pairs) (map (λ (pair : DirentPlus Entry). pair.dirent) pairs)
+    listed_so = listing_of (learnt_from k.nodes pairs) (map (judged_in (learnt_from k.nodes pairs)) pairs)
+        (stale_by (learnt_from k.nodes pairs) pairs) (map (λ (pair : DirentPlus Entry). pair.dirent) pairs)
 
-    pub list_done : (after size : ℕ) → get k.vfs.calls call ≡ Some (doing (readdirplus directory after size)) → goes_with (readdirplus directory after size) (reply.listed_plus pairs) ≡ true
+    pub list_done : (after size : ℕ) → get k.vfs.calls call ≡ Some (doing (readdirplus directory after size))
+        → goes_with (readdirplus directory after size) (reply.listed_plus pairs) ≡ true
         → reply_written k unique (reply.listed_plus pairs) ≡ (Accepted, listed_so)
     list_done after size at goes =
         stands (doing (readdirplus directory after size)) at (reply.listed_plus pairs)
-        ∙ ap (λ (b : Bool). replied (record k { queues = without k.queues unique }) call (doing (readdirplus directory after size)) b (reply.listed_plus pairs)) goes
-        ∙ (λ i. (Accepted, listing_of (learnt_is k.nodes pairs i) (settled k.nodes pairs i) (stale_settled k.nodes pairs i) (dirents_kept k.nodes pairs i)))
+        ∙ ap (λ (b : Bool). replied (record k { queues = without k.queues unique }) call
+        (doing (readdirplus directory after size)) b (reply.listed_plus pairs)) goes
+        ∙ (λ i. (
+          Accepted,
+          listing_of (learnt_is k.nodes pairs i) (settled k.nodes pairs i)
+              (stale_settled k.nodes pairs i) (dirents_kept k.nodes pairs i),
+        ))
 
 -- a RELEASE ends, whatever its reply says
-pub release_is : (k : Kernel) (unique : ℕ) (opened : Opened) → nat_eq (unique % 2) 1 ≡ false → waiting k.queues unique ≡ Some (Release opened) → (wire : WireReply)
-    → reply_written k unique wire ≡ (write_result_of (is_empty_reply wire), record k { queues = without k.queues unique })
+pub release_is : (k : Kernel) (unique : ℕ) (opened : Opened) → nat_eq (unique % 2) 1 ≡ false
+    → waiting k.queues unique ≡ Some (Release opened) → (wire : WireReply)
+    → reply_written k unique wire ≡ (
+      write_result_of (is_empty_reply wire),
+      record k { queues = without k.queues unique },
+    )
 release_is k unique opened even waits wire =
-    ap (λ (b : Bool). cond b (interrupt_reply_written k unique wire (waiting k.queues (unique - 1))) (request_reply_written k unique wire (waiting k.queues unique))) even
+    ap (λ (b : Bool). cond b (interrupt_reply_written k unique wire (waiting k.queues (unique - 1)))
+    (request_reply_written k unique wire (waiting k.queues unique))) even
     ∙ ap (request_reply_written k unique wire) waits
 
 -- INIT's reply makes the mount ready or aborts it
-module _ (k : Kernel) (unique : ℕ) (even : nat_eq (unique % 2) 1 ≡ false) (waits : waiting k.queues unique ≡ Some Init) where
+module _ (k : Kernel) (unique : ℕ) (even : nat_eq (unique % 2) 1 ≡ false)
+    (waits : waiting k.queues unique ≡ Some Init) where
   abbrev pub by_agreement : WireReply → Bool → Kernel
   by_agreement wire b = cond b (made_ready (record k { queues = without k.queues unique }) wire) (kernel_aborted k)
 
-  pub init_is : (wire : WireReply) → reply_written k unique wire ≡ (write_result_of (is_init_reply wire), by_agreement wire (is_agreement wire))
+  pub init_is : (wire : WireReply) → reply_written k unique wire
+      ≡ (write_result_of (is_init_reply wire), by_agreement wire (is_agreement wire))
   init_is wire =
-      ap (λ (b : Bool). cond b (interrupt_reply_written k unique wire (waiting k.queues (unique - 1))) (request_reply_written k unique wire (waiting k.queues unique))) even
+      ap (λ (b : Bool). cond b (interrupt_reply_written k unique wire (waiting k.queues (unique - 1)))
+      (request_reply_written k unique wire (waiting k.queues unique))) even
       ∙ ap (request_reply_written k unique wire) waits
 
-  pub init_agreed : (wire : WireReply) → is_init_reply wire ≡ true → is_agreement wire ≡ true → reply_written k unique wire ≡ (Accepted, made_ready (record k { queues = without k.queues unique }) wire)
-  init_agreed wire reply is = init_is wire ∙ ap (λ (b : Bool). (write_result_of b, by_agreement wire (is_agreement wire))) reply ∙ ap (λ (b : Bool). (Accepted, by_agreement wire b)) is
+  pub init_agreed : (wire : WireReply) → is_init_reply wire ≡ true → is_agreement wire ≡ true
+      → reply_written k unique wire ≡ (Accepted, made_ready (record k { queues = without k.queues unique }) wire)
+  init_agreed wire reply is = init_is wire ∙ ap (λ (b : Bool).
+      (write_result_of b, by_agreement wire (is_agreement wire))) reply ∙ ap
+      (λ (b : Bool). (Accepted, by_agreement wire b)) is
 
-  pub init_aborts : (wire : WireReply) → is_init_reply wire ≡ true → is_agreement wire ≡ false → reply_written k unique wire ≡ (Accepted, kernel_aborted k)
-  init_aborts wire reply is = init_is wire ∙ ap (λ (b : Bool). (write_result_of b, by_agreement wire (is_agreement wire))) reply ∙ ap (λ (b : Bool). (Accepted, by_agreement wire b)) is
+  pub init_aborts : (wire : WireReply) → is_init_reply wire ≡ true → is_agreement wire ≡ false
+      → reply_written k unique wire ≡ (Accepted, kernel_aborted k)
+  init_aborts wire reply is = init_is wire ∙ ap (λ (b : Bool).
+      (write_result_of b, by_agreement wire (is_agreement wire))) reply ∙ ap
+      (λ (b : Bool). (Accepted, by_agreement wire b)) is
 
   pub init_unsaid : reply_written k unique reply.done ≡ (Invalid, kernel_aborted k)
   init_unsaid = init_is reply.done
@@ -303,10 +408,12 @@ uses_write o f b reply.done goes = absurd (true≢false (sym goes))
 apart : {T : Type 0} (h : ℕ) (operation other : Operation ℕ Opened) → using h operation ≡ doing other → T
 apart h operation other e = cc
 
-walks_not : {T : Type 0} (h : ℕ) (operation : Operation ℕ Opened) (d : ℕ) (w : Name) (ws : List Name) (p : WalkPlan ℕ) → using h operation ≡ walking d w ws p → T
+walks_not : {T : Type 0} (h : ℕ) (operation : Operation ℕ Opened) (d : ℕ) (w : Name) (ws : List Name) (p : WalkPlan ℕ)
+    → using h operation ≡ walking d w ws p → T
 walks_not h operation d w ws p e = cc
 
-pub uses_plain : (operation : Operation ℕ Opened) (h : ℕ) → StandsAt operation (using h operation) → (wire : WireReply) → goes_with operation wire ≡ true → IsPlain wire
+pub uses_plain : (operation : Operation ℕ Opened) (h : ℕ) → StandsAt operation (using h operation) → (wire : WireReply)
+    → goes_with operation wire ≡ true → IsPlain wire
 uses_plain (read o f z) h s wire goes = uses_read o f z wire goes
 uses_plain (write o f b) h s wire goes = uses_write o f b wire goes
 uses_plain (lookup d w) h s wire goes = walks_not h (lookup d w) d w s.words s.plan s.is
@@ -338,25 +445,38 @@ judged_op (read o f z) = tt
 judged_op (write o f b) = tt
 
 -- The end of a call that lets a closed file go needs a number.
-module _ (k : Kernel) (unique call : ℕ) (even : nat_eq (unique % 2) 1 ≡ false) (waits : waiting k.queues unique ≡ Some (Call call)) (p : EndsPast k call) (s : StandsAt p.operation (using p.handle p.operation)) where
+module _ (k : Kernel) (unique call : ℕ) (even : nat_eq (unique % 2) 1 ≡ false)
+    (waits : waiting k.queues unique ≡ Some (Call call)) (p : EndsPast k call)
+    (s : StandsAt p.operation (using p.handle p.operation)) where
   abbrev over : answer.Answer → Kernel
   over a = ended k unique k.vfs call a
 
   let_go : (a : answer.Answer) → is_past_end (after_use (over a) (using p.handle p.operation)) ≡ true
   let_go a = closed_some (get k.closing p.handle) refl p.closed
     where
-      closed_some : (o : Option Opened) → get k.closing p.handle ≡ o → is_some o ≡ true → is_past_end (released_if_idle (over a) p.handle) ≡ true
+      closed_some : (o : Option Opened) → get k.closing p.handle ≡ o → is_some o ≡ true
+          → is_past_end (released_if_idle (over a) p.handle) ≡ true
       closed_some None at is = absurd (true≢false (sym is))
-      closed_some (Some file) at is = ap is_past_end (released_some (over a) p.handle file at p.idle) ∙ asks_past (over a) call (Some p.operation) refl p.none_left
+      closed_some (Some file) at is = ap is_past_end (released_some (over a) p.handle file at p.idle) ∙ asks_past
+          (over a) call (Some p.operation) refl p.none_left
 
   ends_past_end : (wire : WireReply) → is_past_end (reply_written k unique wire).1 ≡ true
   ends_past_end wire = by (goes_with p.operation wire) refl
     where
       by : (b : Bool) → goes_with p.operation wire ≡ b → is_past_end (reply_written k unique wire).1 ≡ true
       by true goes =
-          ap (λ (r : WriteResult × Kernel). is_past_end r.1) (plain_is k unique call even waits wire (uses_plain p.operation p.handle s wire goes) (record { operation = p.operation; state = using p.handle p.operation; at = p.is; stands = s; goes = goes }))
+          ap (λ (r : WriteResult × Kernel). is_past_end r.1)
+          (plain_is k unique call even waits wire (uses_plain p.operation p.handle s wire goes)
+          (record {
+            operation = p.operation;
+            state = using p.handle p.operation;
+            at = p.is;
+            stands = s;
+            goes = goes;
+          }))
           ∙ let_go (answer_by wire)
-      by false goes = ap (λ (r : WriteResult × Kernel). is_past_end r.1) (wrong_is k unique call even waits (using p.handle p.operation) p.is wire goes) ∙ let_go (answer.failed 5)
+      by false goes = ap (λ (r : WriteResult × Kernel). is_past_end r.1)
+          (wrong_is k unique call even waits (using p.handle p.operation) p.is wire goes) ∙ let_go (answer.failed 5)
 
   pub ends_over : (wire : WireReply) → is_past (reply_written k unique wire).1 ≡ true
   ends_over wire = ap (λ (b : Bool). b || is_out (reply_written k unique wire).1.nodes) (ends_past_end wire)

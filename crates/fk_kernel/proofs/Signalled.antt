@@ -49,10 +49,12 @@ module _ (call : ℕ) where
   abbrev pub first_for : List Entry → Option Entry
   first_for es = find (λ e. is_for call e.1.kept) es
 
-  here : (e : Entry) (es : List Entry) (b : Bool) → is_for call e.1.kept ≡ b → first_for (e ∷ es) ≡ cond b (Some e) (first_for es)
+  here : (e : Entry) (es : List Entry) (b : Bool) → is_for call e.1.kept ≡ b
+      → first_for (e ∷ es) ≡ cond b (Some e) (first_for es)
   here e es b is = ap (λ (c : Bool). cond c (Some e) (first_for es)) is
 
-  pub found_at : (es : List Entry) (place unique : ℕ) (purpose : Purpose) → Some (unique, purpose) ≡ slice_get (kept_entries es) place → is_for call purpose ≡ true
+  pub found_at : (es : List Entry) (place unique : ℕ) (purpose : Purpose)
+      → Some (unique, purpose) ≡ slice_get (kept_entries es) place → is_for call purpose ≡ true
       → Some unique ≡ option_map (λ e. e.0) (first_for (drop place es))
   found_at [] place unique purpose at is =
       let no : ◌≡◌ {A = Option (ℕ × Purpose)} (Some (unique, purpose)) None = at in
@@ -65,7 +67,8 @@ module _ (call : ℕ) where
       ap Some first ∙ sym (ap (option_map (λ (x : Entry). x.0)) (here e es true serves))
   found_at (e ∷ es) (suc place) unique purpose at is = found_at es place unique purpose at is
 
-  pub passed_at : (es : List Entry) (place unique : ℕ) (purpose : Purpose) → Some (unique, purpose) ≡ slice_get (kept_entries es) place → is_for call purpose ≡ false
+  pub passed_at : (es : List Entry) (place unique : ℕ) (purpose : Purpose)
+      → Some (unique, purpose) ≡ slice_get (kept_entries es) place → is_for call purpose ≡ false
       → first_for (drop place es) ≡ first_for (drop (suc place) es)
   passed_at [] place unique purpose at is =
       let no : ◌≡◌ {A = Option (ℕ × Purpose)} (Some (unique, purpose)) None = at in
@@ -77,7 +80,8 @@ module _ (call : ℕ) where
   passed_at (e ∷ es) (suc place) unique purpose at is = passed_at es place unique purpose at is
 
 -- A signal takes a request out where it is fatal and the request is unread, and not else.
-takes_out : (r : QueuedRequest Purpose) (off : Bool) → is_unread r.mark ≡ true → signal_effect r.mark true off ≡ Dequeued
+takes_out : (r : QueuedRequest Purpose) (off : Bool) → is_unread r.mark ≡ true
+    → signal_effect r.mark true off ≡ Dequeued
 takes_out r off unread = by r.mark unread
   where
     by : (mark : Mark) → is_unread mark ≡ true → signal_effect mark true off ≡ Dequeued
@@ -96,7 +100,8 @@ module _ (s : QueueState Purpose) (unique : ℕ) where
   pub once_read : (fatal : Bool) → is_some (waiting s unique) ≡ true → interrupt_effect s unique fatal ≢ Dequeued
   once_read fatal waits is = by (request_under s unique) waits is
     where
-      marked : (kept : Purpose) (mark : Mark) (f off : Bool) → is_some (cond (is_unread mark) None (Some kept)) ≡ true → signal_effect mark f off ≢ Dequeued
+      marked : (kept : Purpose) (mark : Mark) (f off : Bool) → is_some (cond (is_unread mark) None (Some kept)) ≡ true
+          → signal_effect mark f off ≢ Dequeued
       marked kept Unread f off there e = true≢false (sym there)
       marked kept Flagged f off there e = true≢false (sym there)
       marked kept Read f true there e = cc
@@ -107,67 +112,87 @@ module _ (s : QueueState Purpose) (unique : ℕ) where
       by None there e = true≢false (sym there)
       by (Some r) there e = marked r.kept r.mark fatal s.interrupts_off there e
 
-  pub unread_dequeued : is_some (request_under s unique) ≡ true → is_some (waiting s unique) ≡ false → interrupt_effect s unique true ≡ Dequeued
+  pub unread_dequeued : is_some (request_under s unique) ≡ true → is_some (waiting s unique) ≡ false
+      → interrupt_effect s unique true ≡ Dequeued
   unread_dequeued there none = by (request_under s unique) there none
     where
-      marked : (r : QueuedRequest Purpose) (b : Bool) → is_unread r.mark ≡ b → is_some (cond b None (Some r.kept)) ≡ false → signal_effect r.mark true s.interrupts_off ≡ Dequeued
+      marked : (r : QueuedRequest Purpose) (b : Bool) → is_unread r.mark ≡ b
+          → is_some (cond b None (Some r.kept)) ≡ false → signal_effect r.mark true s.interrupts_off ≡ Dequeued
       marked r true is gone = takes_out r s.interrupts_off is
       marked r false is gone = absurd (true≢false gone)
 
-      by : (o : Option (QueuedRequest Purpose)) → is_some o ≡ true → is_some (waits_by o) ≡ false → effect_by true o ≡ Dequeued
+      by : (o : Option (QueuedRequest Purpose)) → is_some o ≡ true → is_some (waits_by o) ≡ false
+          → effect_by true o ≡ Dequeued
       by None is gone = absurd (true≢false (sym is))
       by (Some r) is gone = marked r (is_unread r.mark) refl gone
 
 -- the request that is found for a call is one of those under its number
-found_under : (call : ℕ) (es : List Entry) (unique : ℕ) → option_map (λ (e : Entry). e.0) (first_for call es) ≡ Some unique → is_some (lookup (nat_eq unique) es) ≡ true
+found_under : (call : ℕ) (es : List Entry) (unique : ℕ)
+    → option_map (λ (e : Entry). e.0) (first_for call es) ≡ Some unique → is_some (lookup (nat_eq unique) es) ≡ true
 found_under call [] unique is =
     let no : ◌≡◌ {A = Option ℕ} None (Some unique) = is in
     cc
-found_under call (e ∷ es) unique is = by (is_for call e.1.kept) is (nat_eq unique e.0) (eqb_tells unique e.0) (found_under call es unique)
+found_under call (e ∷ es) unique is = by (is_for call e.1.kept) is (nat_eq unique e.0) (eqb_tells unique e.0)
+    (found_under call es unique)
   where
-    by : (b : Bool) → option_map (λ (x : Entry). x.0) (cond b (Some e) (first_for call es)) ≡ Some unique → (t : Bool) → ((t ≡ true) × (unique ≡ e.0)) ⊎ ((t ≡ false) × (unique ≢ e.0))
-        → (option_map (λ (x : Entry). x.0) (first_for call es) ≡ Some unique → is_some (lookup (nat_eq unique) es) ≡ true) → is_some (cond t (Some e.1) (lookup (nat_eq unique) es)) ≡ true
+    by : (b : Bool) → option_map (λ (x : Entry). x.0) (cond b (Some e) (first_for call es)) ≡ Some unique → (t : Bool)
+        → ((t ≡ true) × (unique ≡ e.0)) ⊎ ((t ≡ false) × (unique ≢ e.0))
+        → (option_map (λ (x : Entry). x.0) (first_for call es) ≡ Some unique
+        → is_some (lookup (nat_eq unique) es) ≡ true) → is_some (cond t (Some e.1) (lookup (nat_eq unique) es))
+        ≡ true
     by b is true tells rest = refl
     by true is false tells rest =
         let same : e.0 ≡ unique = cc is in
         elim tells [ inl h ↦ absurd (true≢false (sym h.0)) | inr h ↦ absurd (h.1 (sym same)) ]
     by false is false tells rest = rest is
 
-pub current_there : (k : Kernel) (call unique : ℕ) → request_of k call ≡ Some unique → is_some (request_under k.queues unique) ≡ true
+pub current_there : (k : Kernel) (call unique : ℕ) → request_of k call ≡ Some unique
+    → is_some (request_under k.queues unique) ≡ true
 current_there k call unique is = found_under call k.queues.requests unique is
 
 -- A signal to a call without a request does nothing.
-pub unrequested : (k : Kernel) (call : ℕ) (state : CallState Opened) (fatal : Bool) → request_of k call ≡ None → call_signalled k call state fatal ≡ (NoEffect, k)
+pub unrequested : (k : Kernel) (call : ℕ) (state : CallState Opened) (fatal : Bool) → request_of k call ≡ None
+    → call_signalled k call state fatal ≡ (NoEffect, k)
 unrequested k call state fatal none = ap (signalled_at k call state fatal) none
 
-requested : (k : Kernel) (call : ℕ) (state : CallState Opened) (fatal : Bool) (unique : ℕ) → request_of k call ≡ Some unique → call_signalled k call state fatal ≡ signalled_at k call state fatal (Some unique)
+requested : (k : Kernel) (call : ℕ) (state : CallState Opened) (fatal : Bool) (unique : ℕ)
+    → request_of k call ≡ Some unique → call_signalled k call state fatal
+    ≡ signalled_at k call state fatal (Some unique)
 requested k call state fatal unique at = ap (signalled_at k call state fatal) at
 
 -- A signal that lets a closed file go needs a number.
-module _ (k : Kernel) (call unique : ℕ) (fatal : Bool) (current : request_of k call ≡ Some unique) (effect : interrupt_effect k.queues unique fatal ≡ Dequeued) (p : EndsPast k call) where
+module _ (k : Kernel) (call unique : ℕ) (fatal : Bool) (current : request_of k call ≡ Some unique)
+    (effect : interrupt_effect k.queues unique fatal ≡ Dequeued) (p : EndsPast k call) where
   abbrev over : Kernel
   over = record k { vfs = answered k.vfs call (failed eintr); queues = after_dequeue k.queues unique }
 
   let_go : is_past_end (after_use over (using p.handle p.operation)) ≡ true
   let_go = closed_some (get k.closing p.handle) refl p.closed
     where
-      closed_some : (o : Option Opened) → get k.closing p.handle ≡ o → is_some o ≡ true → is_past_end (released_if_idle over p.handle) ≡ true
+      closed_some : (o : Option Opened) → get k.closing p.handle ≡ o → is_some o ≡ true
+          → is_past_end (released_if_idle over p.handle) ≡ true
       closed_some None at is = absurd (true≢false (sym is))
-      closed_some (Some file) at is = ap is_past_end (released_some over p.handle file at p.idle) ∙ asks_past over call (Some p.operation) refl p.none_left
+      closed_some (Some file) at is = ap is_past_end (released_some over p.handle file at p.idle) ∙ asks_past over call
+          (Some p.operation) refl p.none_left
 
   past : is_past_end (call_signalled k call (using p.handle p.operation) fatal).1 ≡ true
   past =
-      ap (λ (r : IntrEffect × Kernel). is_past_end r.1) (requested k call (using p.handle p.operation) fatal unique current)
-      ∙ ap (λ (e : IntrEffect). is_past_end (after_signal (record k { queues = after_effect k.queues unique e }) call (using p.handle p.operation) e)) effect ∙ let_go
+      ap (λ (r : IntrEffect × Kernel). is_past_end r.1)
+      (requested k call (using p.handle p.operation) fatal unique current)
+      ∙ ap (λ (e : IntrEffect). is_past_end (after_signal (record k { queues = after_effect k.queues unique e }) call
+      (using p.handle p.operation) e)) effect ∙ let_go
 
   pub exhausted : is_live k.phase ≡ true → signal_refusal k call fatal ≡ Some Exhausted
   exhausted live =
-      ap (λ (b : Bool). cond (not b) (Some NotReady) (standing_refusal k call fatal (get k.vfs.calls call))) live ∙ ap (standing_refusal k call fatal) p.is
+      ap (λ (b : Bool). cond (not b) (Some NotReady) (standing_refusal k call fatal (get k.vfs.calls call))) live ∙ ap
+      (standing_refusal k call fatal) p.is
       ∙ ap (λ (b : Bool). cond b (Some Exhausted) None) past
 
 -- The kernel stays sound after a signal to a request.
-pub sound_signalled : {W : Type 0} (phase : Phase) (calls : Map (CallState Opened)) (answers : Map W) (free coming : ℕ) (opens closing : Map Opened) (s : QueueState Purpose) (space more : Room) (known : Map Counted) (clock : ℕ)
-    → IsSoundKernel phase calls answers free coming opens closing s space known clock → KeepsRoom space more → (unique : ℕ) (fatal : Bool)
+pub sound_signalled : {W : Type 0} (phase : Phase) (calls : Map (CallState Opened)) (answers : Map W) (free coming : ℕ)
+    (opens closing : Map Opened) (s : QueueState Purpose) (space more : Room) (known : Map Counted) (clock : ℕ)
+    → IsSoundKernel phase calls answers free coming opens closing s space known clock → KeepsRoom space more
+    → (unique : ℕ) (fatal : Bool)
     → IsSoundKernel phase calls answers free coming opens closing (after_interrupt s unique fatal) more known clock
 sound_signalled phase calls answers free coming opens closing s space more known clock old room unique fatal = record {
   numbers = old.numbers;
@@ -180,7 +205,10 @@ sound_signalled phase calls answers free coming opens closing s space more known
 }
 
 -- A call that is unanswered stands somewhere.
-pub signalled_there : (k : Kernel) (call : ℕ) (fatal : Bool) (effect : IntrEffect) (after : Kernel) (o : Option (CallState Opened)) → get k.vfs.calls call ≡ o → is_some o ≡ true
-    → ((state : CallState Opened) → get k.vfs.calls call ≡ Some state → call_signalled k call state fatal ≡ (effect, after)) → IsSignalled k call fatal effect after
+pub signalled_there : (k : Kernel) (call : ℕ) (fatal : Bool) (effect : IntrEffect) (after : Kernel)
+    (o : Option (CallState Opened)) → get k.vfs.calls call ≡ o → is_some o ≡ true
+    → ((state : CallState Opened) → get k.vfs.calls call ≡ Some state
+    → call_signalled k call state fatal ≡ (effect, after)) → IsSignalled k call fatal effect after
 signalled_there k call fatal effect after None at there is = absurd (true≢false (sym there))
-signalled_there k call fatal effect after (Some state) at there is = record { state = state; unanswered = at; signalled = is state at }
+signalled_there k call fatal effect after (Some state) at there is =
+    record { state = state; unanswered = at; signalled = is state at }

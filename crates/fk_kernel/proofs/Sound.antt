@@ -13,13 +13,16 @@ module _ {V : Type 0} where
   entry k v = Some (k, v)
 
   -- the lowest entry is found under its key
-  pub first_found : (m : Map V) (k : ℕ) (v : Option V) → option_map {T = ℕ × V} {U = ℕ} (λ e. e.0) (slice_get m 0) ≡ Some k → v ≡ get m k → option_map {T = V} {U = ℕ × V} (λ x. (k, x)) v ≡ slice_get m 0
+  pub first_found : (m : Map V) (k : ℕ) (v : Option V)
+      → option_map {T = ℕ × V} {U = ℕ} (λ e. e.0) (slice_get m 0) ≡ Some k → v ≡ get m k
+      → option_map {T = V} {U = ℕ × V} (λ x. (k, x)) v ≡ slice_get m 0
   first_found [] k v first found =
       let no : None ≡ Some k = first in
       cc
   first_found (e ∷ m) k v first found =
       let same : e.0 ≡ k = cc first in
-      let here : v ≡ Some e.1 = found ∙ ap (λ (n : ℕ). cond (is_eq (nat_cmp n e.0)) (Some e.1) (get m n)) (sym same) ∙ ap (λ r. cond (is_eq r) (Some e.1) (get m e.0)) (cmp_same e.0) in
+      let here : v ≡ Some e.1 = found ∙ ap (λ (n : ℕ). cond (is_eq (nat_cmp n e.0)) (Some e.1) (get m n))
+      (sym same) ∙ ap (λ r. cond (is_eq r) (Some e.1) (get m e.0)) (cmp_same e.0) in
       ap (option_map {T = V} {U = ℕ × V} (λ x. (k, x))) here ∙ ap (λ (n : ℕ). entry n e.1) (sym same)
 
   -- a look-up that finds something does not find nothing
@@ -31,48 +34,73 @@ module _ {V : Type 0} where
   none_is None e = refl
   none_is (Some v) e = absurd (true≢false e)
 
-module _ {V W : Type 0} (calls : Map V) (answers : Map W) (free coming : ℕ) (old : IsSound calls answers free coming) where
-  pub sound_begun_answered : (w : W) (free' : ℕ) → coming < 2 ^ 62 → length calls ≤ free' → IsSound calls (put answers coming w) free' (coming + 1)
+module _ {V W : Type 0} (calls : Map V) (answers : Map W) (free coming : ℕ)
+    (old : IsSound calls answers free coming) where
+  pub sound_begun_answered : (w : W) (free' : ℕ) → coming < 2 ^ 62 → length calls ≤ free'
+      → IsSound calls (put answers coming w) free' (coming + 1)
   sound_begun_answered w free' low room =
       record {
         calls_below = λ n le. old.calls_below n (omega arith);
-        answers_below = λ n le. get_put_there answers coming w n (λ e. absurd (omega arith)) ∙ old.answers_below n (omega arith);
-        apart = λ n there. get_put_there answers coming w n (λ e. there (old.calls_below n (omega arith))) ∙ old.apart n there;
+        answers_below = λ n le. get_put_there answers coming w n (λ e. absurd (omega arith)) ∙ old.answers_below n
+            (omega arith);
+        apart = λ n there. get_put_there answers coming w n
+            (λ e. there (old.calls_below n (omega arith))) ∙ old.apart n there;
         room = room;
         next = omega arith;
       }
 
-  pub sound_begun_asking : (v : V) (free' : ℕ) → coming < 2 ^ 62 → length calls + 1 ≤ free' → IsSound (put calls coming v) answers free' (coming + 1)
+  pub sound_begun_asking : (v : V) (free' : ℕ) → coming < 2 ^ 62 → length calls + 1 ≤ free'
+      → IsSound (put calls coming v) answers free' (coming + 1)
   sound_begun_asking v free' low room =
       let long = length_put calls coming v in
       record {
-        calls_below = λ n le. get_put_there calls coming v n (λ e. absurd (omega arith)) ∙ old.calls_below n (omega arith);
+        calls_below = λ n le. get_put_there calls coming v n (λ e. absurd (omega arith)) ∙ old.calls_below n
+            (omega arith);
         answers_below = λ n le. old.answers_below n (omega arith);
-        apart = λ n there. elim (cases_eq n coming) [ inl e ↦ old.answers_below n (omega arith) | inr ne ↦ old.apart n (λ none. there (get_put_there calls coming v n ne ∙ none)) ];
+        apart = λ n there. elim (cases_eq n coming) [
+          | inl e ↦ old.answers_below n (omega arith)
+          | inr ne ↦ old.apart n
+              (λ none. there (get_put_there calls coming v n ne ∙ none))
+        ];
         room = omega arith;
         next = omega arith;
       }
 
-  pub sound_answered : (call : ℕ) (w : W) (free' : ℕ) → get calls call ≢ None → free ≤ free' + 1 → IsSound (remove calls call) (put answers call w) free' coming
+  pub sound_answered : (call : ℕ) (w : W) (free' : ℕ) → get calls call ≢ None → free ≤ free' + 1
+      → IsSound (remove calls call) (put answers call w) free' coming
   sound_answered call w free' there room =
       let short = length_gone calls call there in
       let fits = old.room in
       record {
         calls_below = λ n le. gone_none calls call n (old.calls_below n le);
-        answers_below = λ n le. get_put_there answers call w n (λ e. there (old.calls_below call (omega arith))) ∙ old.answers_below n le;
-        apart = λ n still. elim (cases_eq n call) [ inl e ↦ absurd (still (subst (λ (m : ℕ). get (remove calls call) m ≡ None) (sym e) (get_gone_here calls call))) | inr ne ↦ get_put_there answers call w n ne ∙ old.apart n (λ none. still (gone_none calls call n none)) ];
+        answers_below = λ n le. get_put_there answers call w n
+            (λ e. there (old.calls_below call (omega arith))) ∙ old.answers_below n le;
+        apart = λ n still. elim (cases_eq n call) [
+          | inl e ↦ absurd
+              (still (subst (λ (m : ℕ). get (remove calls call) m ≡ None) (sym e)
+              (get_gone_here calls call)))
+          | inr ne ↦ get_put_there answers call w n ne ∙ old.apart n
+              (λ none. still (gone_none calls call n none))
+        ];
         room = omega arith;
         next = old.next;
       }
 
   -- a call that is there waits for something else
-  pub sound_walks : (call : ℕ) (v : V) → get calls call ≢ None → length (put calls call v) ≡ length calls → IsSound (put calls call v) answers free coming
+  pub sound_walks : (call : ℕ) (v : V) → get calls call ≢ None → length (put calls call v) ≡ length calls
+      → IsSound (put calls call v) answers free coming
   sound_walks call v there same =
       let fits = old.room in
       record {
-        calls_below = λ n le. get_put_there calls call v n (λ e. there (old.calls_below call (omega arith))) ∙ old.calls_below n le;
+        calls_below = λ n le. get_put_there calls call v n
+            (λ e. there (old.calls_below call (omega arith))) ∙ old.calls_below n le;
         answers_below = old.answers_below;
-        apart = λ n still. elim (cases_eq n call) [ inl e ↦ old.apart n (λ none. there (ap (λ (m : ℕ). get calls m) (sym e) ∙ none)) | inr ne ↦ old.apart n (λ none. still (get_put_there calls call v n ne ∙ none)) ];
+        apart = λ n still. elim (cases_eq n call) [
+          | inl e ↦ old.apart n
+              (λ none. there (ap (λ (m : ℕ). get calls m) (sym e) ∙ none))
+          | inr ne ↦ old.apart n
+              (λ none. still (get_put_there calls call v n ne ∙ none))
+        ];
         room = omega arith;
         next = old.next;
       }

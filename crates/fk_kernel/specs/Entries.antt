@@ -66,7 +66,8 @@ place_of operation = None
 -- Where the end of this call lets a closed file go, a number is left for its RELEASE.
 abbrev pub EndsWithin : Kernel → ℕ → Type 0
 EndsWithin k call =
-    (handle : ℕ) (operation : Operation ℕ Opened) → get k.vfs.calls call ≡ Some (using handle operation) → is_some (get k.closing handle) ≡ true
+    (handle : ℕ) (operation : Operation ℕ Opened) → get k.vfs.calls call ≡ Some (using handle operation)
+    → is_some (get k.closing handle) ≡ true
     → list_any (is_using handle) (values (remove k.vfs.calls call)) ≡ false → 0 < numbers_left_from k.queues.next
 
 -- The end of this call lets a closed file go, and no number is left for its RELEASE.

@@ -1,5 +1,5 @@
--- Which refusal each call of the kernel gets, and what it comes to where it has none. The refusals stand in the order in which they are
--- judged; want of memory comes last.
+-- Which refusal each call of the kernel gets, and what it comes to where it has none. The refusals stand in the order
+-- in which they are judged; want of memory comes last.
 use Rattle.std.specs.Prelude.{◌≡◌, ℕ, List, Bool, true, ◌||◌, cond, not, Option, Some, None, length, nat_eq, nat_lt, nat_le, [], ◌∷◌, ◌+◌}
 use Rattle.fuse_spec.specs.Values.Numbers.{max_calls, counter_end, clock_end}
 use Rattle.fuse_spec.specs.Calls.Calls.{Call, spoken}
@@ -40,7 +40,8 @@ is_past k = is_past_end k || is_out k.nodes
 -- why a call cannot begin that is put so, want of memory aside
 abbrev pub begun_refusal : Kernel → Call → Option Refusal
 begun_refusal k call =
-    cond (not (is_ready k.phase)) (Some NotReady) (cond (nat_le max_calls (length k.vfs.calls)) (Some Full) (cond (is_past_end (call_begun k call)) (Some Exhausted) None))
+    cond (not (is_ready k.phase)) (Some NotReady) (cond (nat_le max_calls (length k.vfs.calls)) (Some Full)
+    (cond (is_past_end (call_begun k call)) (Some Exhausted) None))
 
 -- why a call cannot begin, want of memory aside
 abbrev pub begin_refusal : Kernel → Call → Option Refusal
@@ -63,7 +64,8 @@ place_refusal k (Some request) = body_refusal (body_of k request.1)
 abbrev pub read_refusal : Kernel → ℕ → Option Refusal
 read_refusal k place =
     cond (not (is_live k.phase)) (Some NotReady)
-    (cond (not (nat_eq (length k.queues.interrupts) 0)) (Some InterruptFirst) (place_refusal k (pending_at k.queues place)))
+    (cond (not (nat_eq (length k.queues.interrupts) 0)) (Some InterruptFirst)
+    (place_refusal k (pending_at k.queues place)))
 
 -- the request that is pending at a place, and what it asks
 pub record IsPendingRequest (k : Kernel) (place : ℕ) (request : Request) : Type 0 where
@@ -71,7 +73,8 @@ pub record IsPendingRequest (k : Kernel) (place : ℕ) (request : Request) : Typ
   pub pending : pending_at k.queues place ≡ Some (request.unique, purpose)
   pub body : body_of k purpose ≡ Some request.body
 
--- What the bytes say to what awaits them would have queued a request for which no number is left, or brought a node's count to the end of counters.
+-- What the bytes say to what awaits them would have queued a request for which no number is left, or brought a node's
+-- count to the end of counters.
 pub record PassesEnd (k : Kernel) (unique : ℕ) (bytes : List ℕ) (awaiting : Awaited) : Type 0 where
   pub opcode : Opcode
   pub judged : IsJudged opcode
@@ -87,20 +90,24 @@ pub data IsWriteRefusal (k : Kernel) (unique : ℕ) (bytes : List ℕ) (awaiting
 abbrev pub WriteRefused : Kernel → List ℕ → Refusal → Type 0
 WriteRefused k bytes = IsWriteRefusal k (head_unique bytes) bytes (awaited k (head_unique bytes))
 
--- What the bytes say would have queued a request for which no number is left, or brought a node's count to the end of counters.
+-- What the bytes say would have queued a request for which no number is left, or brought a node's count to the end of
+-- counters.
 abbrev pub WritePasses : Kernel → List ℕ → Type 0
 WritePasses k bytes = HasReplyHead bytes × PassesEnd k (head_unique bytes) bytes (awaited k (head_unique bytes))
 
 -- ---- a signal, a read of an INTERRUPT and an abort
 
--- why a call that stands so, if it is unanswered at all, cannot be signalled; a number may be wanting for the RELEASE of a file that the call used last
+-- why a call that stands so, if it is unanswered at all, cannot be signalled; a number may be wanting for the RELEASE
+-- of a file that the call used last
 abbrev pub standing_refusal : Kernel → ℕ → Bool → Option (CallState Opened) → Option Refusal
 standing_refusal k call fatal None = Some NoSuch
-standing_refusal k call fatal (Some state) = cond (is_past_end (call_signalled k call state fatal).1) (Some Exhausted) None
+standing_refusal k call fatal (Some state) = cond (is_past_end (call_signalled k call state fatal).1)
+    (Some Exhausted) None
 
 -- why a call cannot be signalled
 abbrev pub signal_refusal : Kernel → ℕ → Bool → Option Refusal
-signal_refusal k call fatal = cond (not (is_live k.phase)) (Some NotReady) (standing_refusal k call fatal (get k.vfs.calls call))
+signal_refusal k call fatal = cond (not (is_live k.phase)) (Some NotReady)
+    (standing_refusal k call fatal (get k.vfs.calls call))
 
 -- The call is unanswered, and the signal to it has this effect and leads to that kernel.
 pub record IsSignalled (k : Kernel) (call : ℕ) (fatal : Bool) (effect : IntrEffect) (after : Kernel) : Type 0 where
@@ -141,7 +148,8 @@ name_refusal (Some binding) = None
 
 -- why a name cannot be dropped
 abbrev pub drop_refusal : Kernel → ℕ → Name → Option Refusal
-drop_refusal k directory name = cond (not (is_live k.phase)) (Some NotReady) (name_refusal (get_name k.vfs.names (directory, name)))
+drop_refusal k directory name = cond (not (is_live k.phase)) (Some NotReady)
+    (name_refusal (get_name k.vfs.names (directory, name)))
 
 -- why a node that is counted so, if at all, cannot be given up
 abbrev pub counted_refusal : Kernel → ℕ → Option Counted → Option Refusal
@@ -155,13 +163,15 @@ evict_refusal k node = cond (not (is_live k.phase)) (Some NotReady) (counted_ref
 -- why these forgets, if they are there, cannot be read as one frame, want of memory aside
 abbrev pub forgets_refusal : Kernel → ℕ → Option (ℕ × List Forget) → Option Refusal
 forgets_refusal k count None = Some NoSuch
-forgets_refusal k count (Some read) = cond (is_past_end (record k { queues = after_read_forgets k.queues count })) (Some Exhausted) None
+forgets_refusal k count (Some read) = cond (is_past_end (record k { queues = after_read_forgets k.queues count }))
+    (Some Exhausted) None
 
 -- why so many forgets cannot be read as one frame, want of memory aside
 abbrev pub read_forgets_refusal : Kernel → ℕ → Option Refusal
 read_forgets_refusal k count =
     cond (not (is_live k.phase)) (Some NotReady)
-    (cond (not (nat_eq (length k.queues.interrupts) 0)) (Some InterruptFirst) (forgets_refusal k count (forgets_read k count)))
+    (cond (not (nat_eq (length k.queues.interrupts) 0)) (Some InterruptFirst)
+    (forgets_refusal k count (forgets_read k count)))
 
 -- The frame of the first so many forgets, under the coming number.
 pub record IsForgetFrame (k : Kernel) (count : ℕ) (frame : Request) : Type 0 where

@@ -38,7 +38,8 @@ awaited_by_interrupt (Some purpose) = reply_to op.Interrupt
 
 -- An odd unique is that of the INTERRUPT of the request before it.
 abbrev pub awaited : Kernel → ℕ → Awaited
-awaited k unique = cond (nat_eq (unique % 2) 1) (awaited_by_interrupt (waiting k.queues (unique - 1))) (awaited_by k (waiting k.queues unique))
+awaited k unique = cond (nat_eq (unique % 2) 1) (awaited_by_interrupt (waiting k.queues (unique - 1)))
+    (awaited_by k (waiting k.queues unique))
 
 -- a body that goes with no operation of a call
 abbrev pub wrong_body : WireReply
@@ -67,9 +68,12 @@ IsAwaited gone = Unit {0}
 IsAwaited (reply_to o) = IsJudged o
 
 -- What becomes of a reply with a head, by what awaits it.
-pub record IsReplyWritten (k : Kernel) (unique : ℕ) (bytes : List ℕ) (awaits : Awaited) (result : WriteResult) (after : Kernel) : Type 0 where
+pub record IsReplyWritten (k : Kernel) (unique : ℕ) (bytes : List ℕ) (awaits : Awaited) (result : WriteResult)
+    (after : Kernel) : Type 0 where
   pub kinds : IsAwaited awaits
   -- the call is not unanswered: the request just ends
   pub gone : awaits ≡ gone → (result ≡ Accepted) × (after ≡ record k { queues = without k.queues unique })
-  pub said : (o : Opcode) → IsJudged o → awaits ≡ reply_to o → (wire : WireReply) → Says o bytes wire → reply_written k unique wire ≡ (result, after)
-  pub unsaid : (o : Opcode) → IsJudged o → awaits ≡ reply_to o → IsNoReply o bytes → reply_written k unique (wrong_body_to o) ≡ (result, after)
+  pub said : (o : Opcode) → IsJudged o → awaits ≡ reply_to o → (wire : WireReply) → Says o bytes wire
+      → reply_written k unique wire ≡ (result, after)
+  pub unsaid : (o : Opcode) → IsJudged o → awaits ≡ reply_to o → IsNoReply o bytes
+      → reply_written k unique (wrong_body_to o) ≡ (result, after)

@@ -14,7 +14,8 @@ use Rattle.fuse_spec.specs.declared.Purpose.{Purpose}
 use Rattle.fk_nodes.specs.Learning.{AreBelow}
 use Rattle.fk_queues.specs.Room.{Room}
 
--- No call of the next number or a later one is there, none is both unanswered and answered, and there is room to answer all.
+-- No call of the next number or a later one is there, none is both unanswered and answered, and there is room to answer
+-- all.
 pub record IsSound {V W : Type 0} (calls : Map V) (answers : Map W) (free coming : ℕ) : Type 0 where
   pub calls_below : (n : ℕ) → coming ≤ n → get calls n ≡ None
   pub answers_below : (n : ℕ) → coming ≤ n → get answers n ≡ None
@@ -22,7 +23,8 @@ pub record IsSound {V W : Type 0} (calls : Map V) (answers : Map W) (free coming
   pub room : length calls ≤ free
   pub next : coming ≤ 2 ^ 62
 
--- A file is opened by a call that is answered, and is closed once; so no number of one is that of a call that is unanswered or to come.
+-- A file is opened by a call that is answered, and is closed once; so no number of one is that of a call that is
+-- unanswered or to come.
 pub record AreFiles {V : Type 0} (calls : Map V) (opens closing : Map Opened) (coming : ℕ) : Type 0 where
   pub opens_below : (n : ℕ) → coming ≤ n → get opens n ≡ None
   pub closing_below : (n : ℕ) → coming ≤ n → get closing n ≡ None
@@ -36,7 +38,9 @@ pub record AreCounted (nodes : Map Counted) (forgets : ℕ) : Type 0 where
   pub room : length nodes ≤ forgets
 
 -- All that is true of the kernel.
-pub record IsSoundKernel {W : Type 0} (phase : Phase) (calls : Map (CallState Opened)) (answers : Map W) (free coming : ℕ) (opens closing : Map Opened) (queues : QueueState Purpose) (space : Room) (known : Map Counted) (clock : ℕ) : Type 0 where
+pub record IsSoundKernel {W : Type 0} (phase : Phase) (calls : Map (CallState Opened)) (answers : Map W)
+    (free coming : ℕ) (opens closing : Map Opened) (queues : QueueState Purpose) (space : Room) (known : Map Counted)
+    (clock : ℕ) : Type 0 where
   pub numbers : IsSound calls answers free coming
   -- where no mount is live there is no call
   pub idle : is_live phase ≡ false → calls ≡ []

@@ -17,7 +17,10 @@ impl<Q: QueueTable<Purpose> + Drop, C: CountTable<Heap = Q::Heap> + Drop> Kernel
     pub(crate) fn answer_call(&mut self, unique: u64, call: u64, answer: Answer<Q::Heap>)
         requires waits { is_some (waiting self.old.queues unique) ≡ true }
         requires unanswered { is_some (get self.old.vfs.calls call) ≡ true }
-        ensures { self.new ≡ record self.old { vfs = answered self.old.vfs call (answer_of answer); queues = without self.old.queues unique } }
+        ensures { self.new ≡ record self.old {
+          vfs = answered self.old.vfs call (answer_of answer);
+          queues = without self.old.queues unique;
+        } }
     {
         let _kept = self.queues.answer(unique);
         self.finish(call, answer);
@@ -49,7 +52,8 @@ impl<Q: QueueTable<Purpose> + Drop, C: CountTable<Heap = Q::Heap> + Drop> Kernel
     pub fn collect(&mut self) -> Option<(u64, Answer<Q::Heap>)>
         ensures answer { option_map (λ r. (r.0, answer_of r.1)) result ≡ slice_get self.old.vfs.answers 0 }
         ensures none { IfNone result (self.new ≡ self.old) }
-        ensures taken { IfSome result (λ r. self.new ≡ record self.old { vfs = record self.old.vfs { answers = remove self.old.vfs.answers r.0 } }) }
+        ensures taken { IfSome result
+            (λ r. self.new ≡ record self.old { vfs = record self.old.vfs { answers = remove self.old.vfs.answers r.0 } }) }
     {
         let Some(call) = self.answers.first_key() else {
             return None;

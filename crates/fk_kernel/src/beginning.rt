@@ -20,8 +20,8 @@ use fuse_spec::limits::{COUNTER_END, MAX_CALLS};
 use fuse_spec::{Purpose, Refusal};
 
 impl<Q: QueueTable<Purpose> + Drop, C: CountTable<Heap = Q::Heap> + Drop> KernelOf<Q, C> {
-    /// Begins a call and gives its number. It is answered at once, or its first request is queued. Where files may not be listed
-    /// with their names, the names are listed alone.
+    /// Begins a call and gives its number. It is answered at once, or its first request is queued. Where files may not
+    /// be listed with their names, the names are listed alone.
     ///
     /// # Errors
     ///
@@ -75,9 +75,13 @@ impl<Q: QueueTable<Purpose> + Drop, C: CountTable<Heap = Q::Heap> + Drop> Kernel
     fn set_out(&self, call: &Call<'_>) -> Result<Next<Q::Heap>, Refusal>
         requires not_aborted { is_aborted self.now.phase ≡ false }
         requires closes_none { ClosesNone call.now }
-        ensures begun { IfOk result (λ next. begun (is_aborted self.now.phase) self.now.vfs (call_of call.now) ≡ comes_to (numbered self.now.vfs) self.now.vfs.next_call next) }
-        ensures asks { OnErr result ((state : State Opened) × (begun (is_aborted self.now.phase) self.now.vfs (call_of call.now) ≡ asking (numbered self.now.vfs) self.now.vfs.next_call state)) }
-        ensures refusal { IfErr result (λ refusal. refusal ≡ cond (nat_eq (numbers_left_from self.now.queues.next) 0) Refusal.Exhausted Refusal.NoMemory) }
+        ensures begun { IfOk result (λ next. begun (is_aborted self.now.phase) self.now.vfs (call_of call.now)
+            ≡ comes_to (numbered self.now.vfs) self.now.vfs.next_call next) }
+        ensures asks { OnErr result ((state : State Opened)
+            × (begun (is_aborted self.now.phase) self.now.vfs (call_of call.now)
+            ≡ asking (numbered self.now.vfs) self.now.vfs.next_call state)) }
+        ensures refusal { IfErr result (λ refusal. refusal
+            ≡ cond (nat_eq (numbers_left_from self.now.queues.next) 0) Refusal.Exhausted Refusal.NoMemory) }
     {
         match begin(self.alloc, &self.names, self.clock, &self.opens, call) {
             Ok(next) => Ok(next),
@@ -103,7 +107,8 @@ impl<Q: QueueTable<Purpose> + Drop, C: CountTable<Heap = Q::Heap> + Drop> Kernel
         ensures err { OnErr result (self.new ≡ self.old) }
         ensures refusal { IfErr result (λ refusal. refusal ≡ Refusal.NoMemory) }
         ensures number { IfOk result (λ n. n ≡ self.old.vfs.next_call) }
-        ensures vfs { OnOk result (self.new.vfs ≡ answered (numbered self.old.vfs) self.old.vfs.next_call (answer_of answer)) }
+        ensures vfs { OnOk result (self.new.vfs ≡ answered (numbered self.old.vfs) self.old.vfs.next_call
+            (answer_of answer)) }
         ensures same { OnOk result (self.new ≡ record self.old { vfs = self.new.vfs }) }
     {
         let Ok(()) = self.answers.reserve(MAX_CALLS) else {
@@ -122,11 +127,13 @@ impl<Q: QueueTable<Purpose> + Drop, C: CountTable<Heap = Q::Heap> + Drop> Kernel
         requires ready { is_ready self.old.phase ≡ true }
         requires not_aborted { is_aborted self.old.phase ≡ false }
         ensures err { OnErr result (self.new ≡ self.old) }
-        ensures refusal { IfErr result (λ refusal. refusal ≡ cond (nat_eq (numbers_left_from self.old.queues.next) 0) Refusal.Exhausted Refusal.NoMemory) }
+        ensures refusal { IfErr result (λ refusal. refusal
+            ≡ cond (nat_eq (numbers_left_from self.old.queues.next) 0) Refusal.Exhausted Refusal.NoMemory) }
         ensures number { IfOk result (λ n. n ≡ self.old.vfs.next_call) }
         ensures left { OnOk result (0 < numbers_left_from self.old.queues.next) }
         ensures vfs { OnOk result (self.new.vfs ≡ (asking (numbered self.old.vfs) self.old.vfs.next_call state).vfs) }
-        ensures queues { OnOk result (self.new.queues ≡ after_enqueue self.old.queues (Purpose.Call self.old.vfs.next_call)) }
+        ensures queues { OnOk result (self.new.queues ≡ after_enqueue self.old.queues
+            (Purpose.Call self.old.vfs.next_call)) }
         ensures same { OnOk result (self.new ≡ record self.old { vfs = self.new.vfs; queues = self.new.queues }) }
     {
         if self.queues.numbers_left() == 0 {

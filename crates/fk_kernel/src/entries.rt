@@ -31,7 +31,8 @@ use fuse_spec::{Entry, Opened, Operation, Purpose, Refusal, WriteResult};
 use fuse_tables::Table;
 use std::alloc::{AllocError, Allocator};
 
-/// The word or name that a call asks for leads to the node of an entry until a time, and one lookup more of the node is counted.
+/// The word or name that a call asks for leads to the node of an entry until a time, and one lookup more of the node is
+/// counted.
 fn bind_entry<A: Allocator + Copy, C: CountTable>(
     calls: &Table<CallState<A>, A>,
     names: &mut Bindings<A>,
@@ -42,10 +43,13 @@ fn bind_entry<A: Allocator + Copy, C: CountTable>(
 ) -> Result<(), AllocError>
     requires alike { ForSome (get nodes.old entry.now.nodeid) (λ counted. counted.generation ≡ entry.now.generation) }
     requires fits { ForSome (get nodes.old entry.now.nodeid) (λ counted. counted.count + 1 < 2 ^ 64) }
-    requires names_one { (state : State OpenedFile) × (place : Place) × (get calls.now.entries call ≡ Some state) × (place_of (asked state) ≡ Some place) }
+    requires names_one { (state : State OpenedFile) × (place : Place) × (get calls.now.entries call ≡ Some state)
+        × (place_of (asked state) ≡ Some place) }
     ensures err_names { OnErr result (names.new.names ≡ names.old.names) }
     ensures err_nodes { OnErr result (nodes.new ≡ nodes.old) }
-    ensures names { OnOk result ((state : State OpenedFile) (place : Place) → get calls.now.entries call ≡ Some state → place_of (asked state) ≡ Some place → names.new.names ≡ put_name names.old.names place (record { target = Some entry.now.nodeid; until = until })) }
+    ensures names { OnOk result ((state : State OpenedFile) (place : Place) → get calls.now.entries call ≡ Some state
+        → place_of (asked state) ≡ Some place → names.new.names
+        ≡ put_name names.old.names place (record { target = Some entry.now.nodeid; until = until })) }
     ensures nodes { OnOk result (nodes.new ≡ learnt nodes.old (entry.now ∷ [])) }
 {
     let Some(waiting) = calls.get(call) else {
@@ -85,7 +89,8 @@ impl<Q: QueueTable<Purpose> + Drop, C: CountTable<Heap = Q::Heap> + Drop> Kernel
         requires counts { is_out (nodes_heard self.old.nodes (reply.found entry.now valid_ms)) ≡ false }
         ensures err { OnErr result (self.new ≡ self.old) }
         ensures refusal { IfErr result (λ refusal. refusal ≡ Refusal.NoMemory) }
-        ensures ok { OnOk result (reply_written self.old unique (reply.found entry.now valid_ms) ≡ (WriteResult.Accepted, self.new)) }
+        ensures ok { OnOk result (reply_written self.old unique (reply.found entry.now valid_ms)
+            ≡ (WriteResult.Accepted, self.new)) }
     {
         match self.use_of(entry) {
             EntryUse::Usable => {
@@ -119,7 +124,8 @@ impl<Q: QueueTable<Purpose> + Drop, C: CountTable<Heap = Q::Heap> + Drop> Kernel
         requires counts { is_out (nodes_heard self.old.nodes (reply.created entry.now valid_ms fh)) ≡ false }
         ensures err { OnErr result (self.new ≡ self.old) }
         ensures refusal { IfErr result (λ refusal. refusal ≡ Refusal.NoMemory) }
-        ensures ok { OnOk result (reply_written self.old unique (reply.created entry.now valid_ms fh) ≡ (WriteResult.Accepted, self.new)) }
+        ensures ok { OnOk result (reply_written self.old unique (reply.created entry.now valid_ms fh)
+            ≡ (WriteResult.Accepted, self.new)) }
     {
         match self.use_of(entry) {
             EntryUse::Usable => self.file_is_made(unique, call, entry, valid_ms, fh),
@@ -134,7 +140,8 @@ impl<Q: QueueTable<Purpose> + Drop, C: CountTable<Heap = Q::Heap> + Drop> Kernel
     /// Whether a call looks up a word.
     pub(crate) fn looks_up(&self, call: u64) -> bool
         ensures looks { result ≡ true → LooksUp (get self.now.vfs.calls call) }
-        ensures other { result ≡ false → (directory : ℕ) (word : Name) (words : List Name) (plan : WalkPlan ℕ) → get self.now.vfs.calls call ≢ Some (walking directory word words plan) }
+        ensures other { result ≡ false → (directory : ℕ) (word : Name) (words : List Name) (plan : WalkPlan ℕ)
+            → get self.now.vfs.calls call ≢ Some (walking directory word words plan) }
     {
         let Some(waiting) = self.calls.get(call) else {
             return false;
@@ -155,7 +162,10 @@ impl<Q: QueueTable<Purpose> + Drop, C: CountTable<Heap = Q::Heap> + Drop> Kernel
         requires unanswered { is_some (get self.old.vfs.calls call) ≡ true }
         ensures err { OnErr result (self.new ≡ self.old) }
         ensures refusal { IfErr result (λ refusal. refusal ≡ Refusal.NoMemory) }
-        ensures ok { OnOk result (self.new ≡ record self.old { vfs = answered self.old.vfs call (failed 5); queues = after_forget (without self.old.queues unique) node 1 }) }
+        ensures ok { OnOk result (self.new ≡ record self.old {
+          vfs = answered self.old.vfs call (failed 5);
+          queues = after_forget (without self.old.queues unique) node 1;
+        }) }
     {
         self.forget_one(node)?;
         self.answer_call(unique, call, Answer::Failed { errno: EIO });
@@ -178,7 +188,8 @@ impl<Q: QueueTable<Purpose> + Drop, C: CountTable<Heap = Q::Heap> + Drop> Kernel
         Ok(())
     }
 
-    /// The word that a call looks up leads to the node of an entry, for so many milliseconds from now on. The call walks on.
+    /// The word that a call looks up leads to the node of an entry, for so many milliseconds from now on. The call
+    /// walks on.
     fn walk_on(
         &mut self,
         unique: u64,
@@ -195,7 +206,8 @@ impl<Q: QueueTable<Purpose> + Drop, C: CountTable<Heap = Q::Heap> + Drop> Kernel
         requires within { is_past_end (reply_written self.old unique (reply.found entry.now valid_ms)).1 ≡ false }
         ensures err { OnErr result (self.new ≡ self.old) }
         ensures refusal { IfErr result (λ refusal. refusal ≡ Refusal.NoMemory) }
-        ensures ok { OnOk result (reply_written self.old unique (reply.found entry.now valid_ms) ≡ (WriteResult.Accepted, self.new)) }
+        ensures ok { OnOk result (reply_written self.old unique (reply.found entry.now valid_ms)
+            ≡ (WriteResult.Accepted, self.new)) }
     {
         let Some(forgets) = self.nodes.most().checked_add(1) else {
             return Err(Refusal::NoMemory);
@@ -245,7 +257,8 @@ impl<Q: QueueTable<Purpose> + Drop, C: CountTable<Heap = Q::Heap> + Drop> Kernel
         requires day { valid_ms ≤ max_validity }
         ensures err { OnErr result (self.new ≡ self.old) }
         ensures refusal { IfErr result (λ refusal. refusal ≡ Refusal.NoMemory) }
-        ensures ok { OnOk result (reply_written self.old unique (reply.found entry.now valid_ms) ≡ (WriteResult.Accepted, self.new)) }
+        ensures ok { OnOk result (reply_written self.old unique (reply.found entry.now valid_ms)
+            ≡ (WriteResult.Accepted, self.new)) }
     {
         let Some(forgets) = self.nodes.most().checked_add(1) else {
             return Err(Refusal::NoMemory);
@@ -263,8 +276,8 @@ impl<Q: QueueTable<Purpose> + Drop, C: CountTable<Heap = Q::Heap> + Drop> Kernel
         Ok(())
     }
 
-    /// The new file of a call leads to the node of an entry, for so many milliseconds from now on, and is open under the call's
-    /// number. The call is answered that it is done.
+    /// The new file of a call leads to the node of an entry, for so many milliseconds from now on, and is open under
+    /// the call's number. The call is answered that it is done.
     fn file_is_made(
         &mut self,
         unique: u64,
@@ -281,7 +294,8 @@ impl<Q: QueueTable<Purpose> + Drop, C: CountTable<Heap = Q::Heap> + Drop> Kernel
         requires day { valid_ms ≤ max_validity }
         ensures err { OnErr result (self.new ≡ self.old) }
         ensures refusal { IfErr result (λ refusal. refusal ≡ Refusal.NoMemory) }
-        ensures ok { OnOk result (reply_written self.old unique (reply.created entry.now valid_ms fh) ≡ (WriteResult.Accepted, self.new)) }
+        ensures ok { OnOk result (reply_written self.old unique (reply.created entry.now valid_ms fh)
+            ≡ (WriteResult.Accepted, self.new)) }
     {
         let Some(forgets) = self.nodes.most().checked_add(1) else {
             return Err(Refusal::NoMemory);
@@ -339,8 +353,8 @@ impl<Q: QueueTable<Purpose> + Drop, C: CountTable<Heap = Q::Heap> + Drop> Kernel
         node
     }
 
-    /// The word that a call looks up is missing for so many milliseconds from now on, and the call is answered that no such
-    /// file is there.
+    /// The word that a call looks up is missing for so many milliseconds from now on, and the call is answered that no
+    /// such file is there.
     pub(crate) fn word_is_missing(
         &mut self,
         unique: u64,
@@ -353,7 +367,8 @@ impl<Q: QueueTable<Purpose> + Drop, C: CountTable<Heap = Q::Heap> + Drop> Kernel
         requires day { valid_ms ≤ max_validity }
         ensures err { OnErr result (self.new ≡ self.old) }
         ensures refusal { IfErr result (λ refusal. refusal ≡ Refusal.NoMemory) }
-        ensures ok { OnOk result (reply_written self.old unique (reply.missing valid_ms) ≡ (WriteResult.Accepted, self.new)) }
+        ensures ok { OnOk result (reply_written self.old unique (reply.missing valid_ms)
+            ≡ (WriteResult.Accepted, self.new)) }
     {
         self.name_is_missing(call, valid_ms)?;
         self.answer_call(unique, call, Answer::Failed { errno: ENOENT });
@@ -365,7 +380,9 @@ impl<Q: QueueTable<Purpose> + Drop, C: CountTable<Heap = Q::Heap> + Drop> Kernel
         requires day { valid_ms ≤ max_validity }
         ensures err { OnErr result (self.new ≡ self.old) }
         ensures refusal { IfErr result (λ refusal. refusal ≡ Refusal.NoMemory) }
-        ensures bound { OnOk result ((directory : ℕ) (word : Name) (words : List Name) (plan : WalkPlan ℕ) → get self.old.vfs.calls call ≡ Some (walking directory word words plan) → self.new ≡ record self.old { vfs = bound self.old.vfs directory word None valid_ms }) }
+        ensures bound { OnOk result ((directory : ℕ) (word : Name) (words : List Name) (plan : WalkPlan ℕ)
+            → get self.old.vfs.calls call ≡ Some (walking directory word words plan)
+            → self.new ≡ record self.old { vfs = bound self.old.vfs directory word None valid_ms }) }
     {
         let Some(waiting) = self.calls.get(call) else {
             return Ok(());

@@ -36,7 +36,8 @@ impl<Q: QueueTable<Purpose> + Drop, C: CountTable<Heap = Q::Heap> + Drop> Kernel
         None
     }
 
-    /// Gives a node up and queues the forget of its whole count, which is given (libfuse, low-level: forget). Takes no memory.
+    /// Gives a node up and queues the forget of its whole count, which is given (libfuse, low-level: forget). Takes no
+    /// memory.
     ///
     /// # Errors
     ///
@@ -45,7 +46,8 @@ impl<Q: QueueTable<Purpose> + Drop, C: CountTable<Heap = Q::Heap> + Drop> Kernel
         ensures err { OnErr result (self.new ≡ self.old) }
         ensures refusal { IfErr result (λ refusal. evict_refusal self.old node ≡ Some refusal) }
         ensures judged { OnOk result (evict_refusal self.old node ≡ None) }
-        ensures evicted { IfOk result (λ count. (counted : Counted) × (get self.old.nodes node ≡ Some counted) × (counted.count ≡ count) × (self.new ≡ evicted self.old node counted)) }
+        ensures evicted { IfOk result (λ count. (counted : Counted) × (get self.old.nodes node ≡ Some counted)
+            × (counted.count ≡ count) × (self.new ≡ evicted self.old node counted)) }
     {
         if let Some(refusal) = self.evict_refusal(node) {
             return Err(refusal);
@@ -93,8 +95,8 @@ impl<Q: QueueTable<Purpose> + Drop, C: CountTable<Heap = Q::Heap> + Drop> Kernel
     }
 
     /// Why so many forgets cannot be read as one frame, want of memory aside: `NotReady` where the mount is not live,
-    /// `InterruptFirst` while an INTERRUPT is queued, `NoSuch` for 0, for more than 64 and for more than are queued, and for
-    /// more than 1 after 7.15, `Exhausted` where no number is left.
+    /// `InterruptFirst` while an INTERRUPT is queued, `NoSuch` for 0, for more than 64 and for more than are queued,
+    /// and for more than 1 after 7.15, `Exhausted` where no number is left.
     pub fn read_forgets_refusal(&self, count: u64) -> Option<Refusal>
         ensures { result ≡ read_forgets_refusal self.now count }
     {

@@ -20,8 +20,8 @@ use fuse_tables::Table;
 use std::alloc::Global;
 use std::marker::Model;
 
-/// The kernel's half of the protocol, over any queues and any table of counted nodes. It is told of system calls, hands out
-/// requests and takes any bytes as replies.
+/// The kernel's half of the protocol, over any queues and any table of counted nodes. It is told of system calls, hands
+/// out requests and takes any bytes as replies.
 #[derive(Drop)]
 pub struct KernelOf<Q: QueueTable<Purpose>, C: CountTable<Heap = Q::Heap>> {
     pub(crate) alloc: Q::Heap,
@@ -58,7 +58,23 @@ impl<Q: QueueTable<Purpose>, C: CountTable<Heap = Q::Heap>> Model for KernelOf<Q
 
     ghost coded = { Prim.hlevel (codes) };
 
-    ghost view = { λ k. record { phase = k.phase; vfs = record { calls = k.calls.entries; names = k.names.names; opens = k.opens.entries; answers = k.answers.entries; next_call = k.next_call; clock = k.clock; root = 1 }; queues = Q.state k.queues; nodes = k.nodes; closing = k.closing.entries; minor = k.minor; lists_files = k.lists_files } };
+    ghost view = { λ k. record {
+      phase = k.phase;
+      vfs = record {
+        calls = k.calls.entries;
+        names = k.names.names;
+        opens = k.opens.entries;
+        answers = k.answers.entries;
+        next_call = k.next_call;
+        clock = k.clock;
+        root = 1;
+      };
+      queues = Q.state k.queues;
+      nodes = k.nodes;
+      closing = k.closing.entries;
+      minor = k.minor;
+      lists_files = k.lists_files;
+    } };
 
     ghost invariant = { λ k. IsSoundKernel k.phase k.calls.entries k.answers.entries k.answers.room k.next_call k.opens.entries k.closing.entries (Q.state k.queues) (Q.room k.queues) k.nodes k.clock };
 }
@@ -92,8 +108,8 @@ impl<Q: QueueTable<Purpose> + Drop, C: CountTable<Heap = Q::Heap> + Drop> Kernel
         self.queues.keeps_sound();
     }
 
-    /// No node's count has come to the end of counters, and nodes stand in rising id. A call without effect, made where a proof
-    /// rests on that.
+    /// No node's count has come to the end of counters, and nodes stand in rising id. A call without effect, made where
+    /// a proof rests on that.
     pub fn counts_within(&self)
         ensures sorted { T (is_sorted nat_cmp self.now.nodes) }
         ensures below { AreBelow self.now.nodes }
@@ -127,8 +143,8 @@ impl<Q: QueueTable<Purpose> + Drop, C: CountTable<Heap = Q::Heap> + Drop> Kernel
         matches!(self.phase, Phase::Aborted)
     }
 
-    /// Mounts anew: everything of the old mount is given up, without forgets, and INIT is queued. Until it is answered no more is
-    /// spoken than 7.15 has (this project's rule).
+    /// Mounts anew: everything of the old mount is given up, without forgets, and INIT is queued. Until it is answered
+    /// no more is spoken than 7.15 has (this project's rule).
     ///
     /// # Errors
     ///

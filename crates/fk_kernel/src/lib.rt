@@ -1,5 +1,5 @@
-//! The kernel's half of the protocol: calls, names in force, counted nodes and requests, against any bytes that are written as
-//! replies.
+//! The kernel's half of the protocol: calls, names in force, counted nodes and requests, against any bytes that are
+//! written as replies.
 #![tactic(auto)]
 
 mod aborting;

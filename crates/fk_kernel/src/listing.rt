@@ -20,8 +20,9 @@ use fk_wire::RecordsPlus;
 use fuse_spec::{Operation, Purpose, Refusal, WriteResult};
 
 impl<Q: QueueTable<Purpose> + Drop, C: CountTable<Heap = Q::Heap> + Drop> KernelOf<Q, C> {
-    /// The call is answered the names that a directory lists with their files. Each is counted and in force from now on, but for
-    /// those that tell no file, the root, or a node that is counted under another generation, of which one lookup is forgotten.
+    /// The call is answered the names that a directory lists with their files. Each is counted and in force from now
+    /// on, but for those that tell no file, the root, or a node that is counted under another generation, of which one
+    /// lookup is forgotten.
     pub(crate) fn pairs_listed(
         &mut self,
         unique: u64,
@@ -35,7 +36,8 @@ impl<Q: QueueTable<Purpose> + Drop, C: CountTable<Heap = Q::Heap> + Drop> Kernel
         requires counts { is_out (nodes_heard self.old.nodes (reply.listed_plus (pairs_in pairs))) ≡ false }
         ensures err { OnErr result (self.new ≡ self.old) }
         ensures refusal { IfErr result (λ refusal. refusal ≡ Refusal.NoMemory) }
-        ensures ok { OnOk result (reply_written self.old unique (reply.listed_plus (pairs_in pairs.entry)) ≡ (WriteResult.Accepted, self.new)) }
+        ensures ok { OnOk result (reply_written self.old unique (reply.listed_plus (pairs_in pairs.entry))
+            ≡ (WriteResult.Accepted, self.new)) }
     {
         let directory = self.directory_listed(call);
         let Ok(listed) = names_listed(self.alloc, pairs) else {
@@ -60,7 +62,8 @@ impl<Q: QueueTable<Purpose> + Drop, C: CountTable<Heap = Q::Heap> + Drop> Kernel
 
     /// The directory that a call lists with its names' files.
     fn directory_listed(&self, call: u64) -> u64
-        ensures { (directory after size : ℕ) → get self.now.vfs.calls call ≡ Some (doing (readdirplus directory after size)) → result ≡ directory }
+        ensures { (directory after size : ℕ) → get self.now.vfs.calls call
+            ≡ Some (doing (readdirplus directory after size)) → result ≡ directory }
     {
         let Some(waiting) = self.calls.get(call) else {
             return 0;

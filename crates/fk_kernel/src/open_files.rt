@@ -57,15 +57,16 @@ pub(crate) fn is_releasing<Q: QueueTable<Purpose>>(queues: &Q, node: u64) -> boo
 }
 
 impl<Q: QueueTable<Purpose> + Drop, C: CountTable<Heap = Q::Heap> + Drop> KernelOf<Q, C> {
-    /// A call of the next number closes an open file: it is answered at once. The RELEASE is queued unless a read or write of
-    /// the file is unanswered.
+    /// A call of the next number closes an open file: it is answered at once. The RELEASE is queued unless a read or
+    /// write of the file is unanswered.
     pub(crate) fn begin_close(&mut self, handle: u64) -> Result<u64, Refusal>
         requires number { self.old.vfs.next_call < 2 ^ 62 }
         requires few { length self.old.vfs.calls < 64 }
         requires ready { is_ready self.old.phase ≡ true }
         requires not_aborted { is_aborted self.old.phase ≡ false }
         ensures err { OnErr result (self.new ≡ self.old) }
-        ensures refusal { IfErr result (λ refusal. refusal ≡ or_no_memory (begun_refusal self.old (call.close handle))) }
+        ensures refusal { IfErr result (λ refusal. refusal
+            ≡ or_no_memory (begun_refusal self.old (call.close handle))) }
         ensures judged { OnOk result (begun_refusal self.old (call.close handle) ≡ None) }
         ensures number { IfOk result (λ n. n ≡ self.old.vfs.next_call) }
         ensures begun { OnOk result (self.new ≡ call_begun self.old (call.close handle)) }
@@ -91,7 +92,8 @@ impl<Q: QueueTable<Purpose> + Drop, C: CountTable<Heap = Q::Heap> + Drop> Kernel
         requires open { get self.old.vfs.opens handle ≡ Some opened }
         requires idle { is_used self.old handle ≡ false }
         ensures err { OnErr result (self.new ≡ self.old) }
-        ensures refusal { IfErr result (λ refusal. refusal ≡ or_no_memory (begun_refusal self.old (call.close handle))) }
+        ensures refusal { IfErr result (λ refusal. refusal
+            ≡ or_no_memory (begun_refusal self.old (call.close handle))) }
         ensures judged { OnOk result (begun_refusal self.old (call.close handle) ≡ None) }
         ensures number { IfOk result (λ n. n ≡ self.old.vfs.next_call) }
         ensures begun { OnOk result (self.new ≡ call_begun self.old (call.close handle)) }
@@ -125,7 +127,8 @@ impl<Q: QueueTable<Purpose> + Drop, C: CountTable<Heap = Q::Heap> + Drop> Kernel
         requires open { get self.old.vfs.opens handle ≡ Some opened }
         requires used { is_used self.old handle ≡ true }
         ensures err { OnErr result (self.new ≡ self.old) }
-        ensures refusal { IfErr result (λ refusal. refusal ≡ or_no_memory (begun_refusal self.old (call.close handle))) }
+        ensures refusal { IfErr result (λ refusal. refusal
+            ≡ or_no_memory (begun_refusal self.old (call.close handle))) }
         ensures judged { OnOk result (begun_refusal self.old (call.close handle) ≡ None) }
         ensures number { IfOk result (λ n. n ≡ self.old.vfs.next_call) }
         ensures begun { OnOk result (self.new ≡ call_begun self.old (call.close handle)) }
@@ -153,7 +156,8 @@ impl<Q: QueueTable<Purpose> + Drop, C: CountTable<Heap = Q::Heap> + Drop> Kernel
 
     /// Queues the RELEASE of a closed file of which no read or write is unanswered. Takes no memory.
     fn release_if_idle(&mut self, handle: u64)
-        requires { is_some (get self.old.closing handle) ≡ true → is_used self.old handle ≡ false → 0 < numbers_left_from self.old.queues.next }
+        requires { is_some (get self.old.closing handle) ≡ true → is_used self.old handle ≡ false
+            → 0 < numbers_left_from self.old.queues.next }
         ensures { self.new ≡ released_if_idle self.old handle }
     {
         if is_in_use(self.calls.rows(), handle) {
@@ -165,12 +169,17 @@ impl<Q: QueueTable<Purpose> + Drop, C: CountTable<Heap = Q::Heap> + Drop> Kernel
         let _unique = self.queues.enqueue(Purpose::Release(opened));
     }
 
-    /// The call's request ends, and the call is answered. A closed file that it read or wrote is let go. Takes no memory.
+    /// The call's request ends, and the call is answered. A closed file that it read or wrote is let go. Takes no
+    /// memory.
     pub(crate) fn end_call(&mut self, unique: u64, call: u64, answer: Answer<Q::Heap>)
         requires waits { is_some (waiting self.old.queues unique) ≡ true }
         requires unanswered { is_some (get self.old.vfs.calls call) ≡ true }
         requires within { EndsWithin self.old call }
-        ensures { (state : State OpenedFile) → get self.old.vfs.calls call ≡ Some state → self.new ≡ after_use (record self.old { vfs = answered self.old.vfs call (answer_of answer); queues = without self.old.queues unique }) state }
+        ensures { (state : State OpenedFile) → get self.old.vfs.calls call ≡ Some state
+            → self.new ≡ after_use (record self.old {
+              vfs = answered self.old.vfs call (answer_of answer);
+              queues = without self.old.queues unique;
+            }) state }
     {
         let _kept = self.queues.answer(unique);
         self.finish_use(call, answer);
@@ -180,7 +189,8 @@ impl<Q: QueueTable<Purpose> + Drop, C: CountTable<Heap = Q::Heap> + Drop> Kernel
     pub(crate) fn finish_use(&mut self, call: u64, answer: Answer<Q::Heap>)
         requires unanswered { is_some (get self.old.vfs.calls call) ≡ true }
         requires within { EndsWithin self.old call }
-        ensures { (state : State OpenedFile) → get self.old.vfs.calls call ≡ Some state → self.new ≡ after_use (record self.old { vfs = answered self.old.vfs call (answer_of answer) }) state }
+        ensures { (state : State OpenedFile) → get self.old.vfs.calls call ≡ Some state
+            → self.new ≡ after_use (record self.old { vfs = answered self.old.vfs call (answer_of answer) }) state }
     {
         let handle = self.used_by(call);
         self.finish(call, answer);

@@ -40,7 +40,13 @@ impl<Q: QueueTable<Purpose> + Drop, C: CountTable<Heap = Q::Heap> + Drop> Kernel
         ensures err { OnErr result (self.new ≡ self.old) }
         ensures refusal { IfErr result (λ refusal. drop_refusal self.old directory name.now ≡ Some refusal) }
         ensures judged { OnOk result (drop_refusal self.old directory name.now ≡ None) }
-        ensures dropped { OnOk result (self.new ≡ record self.old { vfs = record self.old.vfs { names = remove_name self.old.vfs.names (directory, name.now) } }) }
+        ensures dropped { OnOk result
+            (self.new ≡ record self.old {
+              vfs = record self.old.vfs {
+                names = remove_name self.old.vfs.names
+                    (directory, name.now);
+              };
+            }) }
     {
         if !self.is_live() {
             return Err(Refusal::NotReady);

@@ -1,4 +1,5 @@
-//! Whether a reply would have a request queued for which no number is left, or bring a node's count to the end of counters.
+//! Whether a reply would have a request queued for which no number is left, or bring a node's count to the end of
+//! counters.
 
 ghost use Rattle.std.specs.Prelude.{◌≡◌, ◌≤◌, ◌%◌, [], ◌∷◌, Some, IfSome, IfNone, true, false, nat_eq};
 ghost use Rattle.fuse_spec.specs.Values.Maps.{get};
@@ -22,8 +23,8 @@ use fk_wire::read_reply_head;
 use fuse_spec::{Entry, Operation, Purpose, Refusal};
 
 impl<Q: QueueTable<Purpose> + Drop, C: CountTable<Heap = Q::Heap> + Drop> KernelOf<Q, C> {
-    /// Why `write` would refuse these bytes, want of memory aside: `Exhausted` where no number is left for the request that
-    /// they would have queued, or a node's count would come to the end of counters. Takes no memory.
+    /// Why `write` would refuse these bytes, want of memory aside: `Exhausted` where no number is left for the request
+    /// that they would have queued, or a node's count would come to the end of counters. Takes no memory.
     pub fn write_refusal(&self, bytes: &[u8]) -> Option<Refusal>
         ensures refused { IfSome result (λ refusal. (refusal ≡ Refusal.Exhausted) × WritePasses self.now bytes.now) }
         ensures none { IfNone result (WritePasses self.now bytes.now → ⊥) }
@@ -52,13 +53,15 @@ impl<Q: QueueTable<Purpose> + Drop, C: CountTable<Heap = Q::Heap> + Drop> Kernel
         }
     }
 
-    /// Whether what the bytes say to the request of a call would have one queued for which no number is left, or bring a node's
-    /// count to the end of counters.
+    /// Whether what the bytes say to the request of a call would have one queued for which no number is left, or bring
+    /// a node's count to the end of counters.
     fn call_passes_end(&self, unique: u64, call: u64, bytes: &[u8]) -> bool
         requires even { nat_eq (unique % 2) 1 ≡ false }
         requires waits { waiting self.now.queues unique ≡ Some (Purpose.Call call) }
-        ensures past { result ≡ true → PassesEnd self.now unique bytes.now (awaited_by_call (get self.now.vfs.calls call)) }
-        ensures within { result ≡ false → PassesEnd self.now unique bytes.now (awaited_by_call (get self.now.vfs.calls call)) → ⊥ }
+        ensures past { result ≡ true → PassesEnd self.now unique bytes.now
+            (awaited_by_call (get self.now.vfs.calls call)) }
+        ensures within { result ≡ false → PassesEnd self.now unique bytes.now
+            (awaited_by_call (get self.now.vfs.calls call)) → ⊥ }
     {
         self.within();
         self.counts_within();
@@ -75,8 +78,8 @@ impl<Q: QueueTable<Purpose> + Drop, C: CountTable<Heap = Q::Heap> + Drop> Kernel
         }
     }
 
-    /// Whether what is said to a call would bring a node's count to the end of counters, or have a request queued for which no
-    /// number is left.
+    /// Whether what is said to a call would bring a node's count to the end of counters, or have a request queued for
+    /// which no number is left.
     pub(crate) fn said_past(&self, unique: u64, call: u64, said: &ReplySaid<'_>) -> bool
         requires even { nat_eq (unique % 2) 1 ≡ false }
         requires waits { waiting self.now.queues unique ≡ Some (Purpose.Call call) }
@@ -111,7 +114,8 @@ impl<Q: QueueTable<Purpose> + Drop, C: CountTable<Heap = Q::Heap> + Drop> Kernel
 
     /// Whether an entry would bring its node's count to the end of counters.
     fn entry_past(&self, entry: &Entry) -> bool
-        ensures { result ≡ is_out (learnt_by_all self.now.nodes (entry.now ∷ []) (first_use (use_of self.now.nodes entry.now) usable)) }
+        ensures { result ≡ is_out (learnt_by_all self.now.nodes (entry.now ∷ [])
+            (first_use (use_of self.now.nodes entry.now) usable)) }
     {
         self.counts_within();
         match self.use_of(entry) {
@@ -146,8 +150,10 @@ impl<Q: QueueTable<Purpose> + Drop, C: CountTable<Heap = Q::Heap> + Drop> Kernel
         requires waits { waiting self.now.queues unique ≡ Some (Purpose.Call call) }
         requires awaits { Awaits (get self.now.vfs.calls call) (reply.found entry.now valid_ms) }
         requires day { valid_ms ≤ max_validity }
-        ensures past { result ≡ true → is_past_end (reply_written self.now unique (reply.found entry.now valid_ms)).1 ≡ true }
-        ensures within { result ≡ false → is_past_end (reply_written self.now unique (reply.found entry.now valid_ms)).1 ≡ false }
+        ensures past { result ≡ true → is_past_end (reply_written self.now unique (reply.found entry.now valid_ms)).1
+            ≡ true }
+        ensures within { result ≡ false → is_past_end (reply_written self.now unique
+            (reply.found entry.now valid_ms)).1 ≡ false }
     {
         self.within();
         match self.use_of(entry) {
@@ -170,8 +176,10 @@ impl<Q: QueueTable<Purpose> + Drop, C: CountTable<Heap = Q::Heap> + Drop> Kernel
         requires looks_up { LooksUp (get self.now.vfs.calls call) }
         requires usable { use_of self.now.nodes entry.now ≡ usable }
         requires day { valid_ms ≤ max_validity }
-        ensures past { result ≡ true → is_past_end (reply_written self.now unique (reply.found entry.now valid_ms)).1 ≡ true }
-        ensures within { result ≡ false → is_past_end (reply_written self.now unique (reply.found entry.now valid_ms)).1 ≡ false }
+        ensures past { result ≡ true → is_past_end (reply_written self.now unique (reply.found entry.now valid_ms)).1
+            ≡ true }
+        ensures within { result ≡ false → is_past_end (reply_written self.now unique
+            (reply.found entry.now valid_ms)).1 ≡ false }
     {
         self.queues.keeps_sound();
         if self.queues.numbers_left() != 0 {

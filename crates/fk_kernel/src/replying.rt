@@ -38,9 +38,12 @@ impl<Q: QueueTable<Purpose> + Drop, C: CountTable<Heap = Q::Heap> + Drop> Kernel
         requires even { nat_eq (unique % 2) 1 ≡ false }
         requires waits { waiting self.old.queues unique ≡ Some (Purpose.Call call) }
         ensures err { OnErr result (self.new ≡ self.old) }
-        ensures refusal { IfErr result (IsWriteRefusal self.old unique bytes.now (awaited_by_call (get self.old.vfs.calls call))) }
-        ensures memory { IfErr result (λ refusal. refusal ≡ Refusal.NoMemory → PassesEnd self.old unique bytes.now (awaited_by_call (get self.old.vfs.calls call)) → ⊥) }
-        ensures taken { IfOk result (λ written. IsReplyWritten self.old unique bytes.now (awaited_by_call (get self.old.vfs.calls call)) written self.new) }
+        ensures refusal { IfErr result (IsWriteRefusal self.old unique bytes.now
+            (awaited_by_call (get self.old.vfs.calls call))) }
+        ensures memory { IfErr result (λ refusal. refusal ≡ Refusal.NoMemory
+            → PassesEnd self.old unique bytes.now (awaited_by_call (get self.old.vfs.calls call)) → ⊥) }
+        ensures taken { IfOk result (λ written. IsReplyWritten self.old unique bytes.now
+            (awaited_by_call (get self.old.vfs.calls call)) written self.new) }
     {
         let Some(waiting) = self.calls.get(call) else {
             let _kept = self.queues.answer(unique);
@@ -76,7 +79,8 @@ impl<Q: QueueTable<Purpose> + Drop, C: CountTable<Heap = Q::Heap> + Drop> Kernel
         requires counts { is_out (nodes_heard self.old.nodes (wire_of said)) ≡ false }
         ensures err { OnErr result (self.new ≡ self.old) }
         ensures refusal { IfErr result (λ refusal. refusal ≡ Refusal.NoMemory) }
-        ensures ok { OnOk result (reply_written self.old unique (wire_of said.entry) ≡ (WriteResult.Accepted, self.new)) }
+        ensures ok { OnOk result (reply_written self.old unique (wire_of said.entry)
+            ≡ (WriteResult.Accepted, self.new)) }
     {
         match said {
             ReplySaid::Failed { errno } => {
@@ -119,7 +123,8 @@ impl<Q: QueueTable<Purpose> + Drop, C: CountTable<Heap = Q::Heap> + Drop> Kernel
         requires within { EndsWithin self.old call }
         ensures err { OnErr result (self.new ≡ self.old) }
         ensures refusal { IfErr result (λ refusal. refusal ≡ Refusal.NoMemory) }
-        ensures ok { OnOk result (reply_written self.old unique (reply.listed (map dirent_in (records_in records.entry))) ≡ (WriteResult.Accepted, self.new)) }
+        ensures ok { OnOk result (reply_written self.old unique
+            (reply.listed (map dirent_in (records_in records.entry))) ≡ (WriteResult.Accepted, self.new)) }
     {
         let Ok(names) = names_listed(self.alloc, records) else {
             return Err(Refusal::NoMemory);
@@ -136,7 +141,8 @@ impl<Q: QueueTable<Purpose> + Drop, C: CountTable<Heap = Q::Heap> + Drop> Kernel
         requires within { EndsWithin self.old call }
         ensures err { OnErr result (self.new ≡ self.old) }
         ensures refusal { IfErr result (λ refusal. refusal ≡ Refusal.NoMemory) }
-        ensures ok { OnOk result (reply_written self.old unique (reply.content bytes.now) ≡ (WriteResult.Accepted, self.new)) }
+        ensures ok { OnOk result (reply_written self.old unique (reply.content bytes.now)
+            ≡ (WriteResult.Accepted, self.new)) }
     {
         let Ok(content) = bytes.to_vec(self.alloc) else {
             return Err(Refusal::NoMemory);
@@ -164,7 +170,8 @@ impl<Q: QueueTable<Purpose> + Drop, C: CountTable<Heap = Q::Heap> + Drop> Kernel
         requires day { valid_ms ≤ max_validity }
         ensures err { OnErr result (self.new ≡ self.old) }
         ensures refusal { IfErr result (λ refusal. refusal ≡ Refusal.NoMemory) }
-        ensures ok { OnOk result (reply_written self.old unique (reply.missing valid_ms) ≡ (WriteResult.Accepted, self.new)) }
+        ensures ok { OnOk result (reply_written self.old unique (reply.missing valid_ms)
+            ≡ (WriteResult.Accepted, self.new)) }
     {
         if self.looks_up(call) {
             self.word_is_missing(unique, call, valid_ms)
@@ -178,8 +185,10 @@ impl<Q: QueueTable<Purpose> + Drop, C: CountTable<Heap = Q::Heap> + Drop> Kernel
     pub(crate) fn write_to_release(&mut self, unique: u64, bytes: &[u8]) -> WriteResult
         requires even { nat_eq (unique % 2) 1 ≡ false }
         requires waits { (opened : OpenedFile) × (waiting self.old.queues unique ≡ Some (Purpose.Release opened)) }
-        ensures said { (wire : WireReply) → Says Opcode.Release bytes.now wire → reply_written self.old unique wire ≡ (result, self.new) }
-        ensures unsaid { IsNoReply Opcode.Release bytes.now → reply_written self.old unique wrong_body ≡ (result, self.new) }
+        ensures said { (wire : WireReply) → Says Opcode.Release bytes.now wire
+            → reply_written self.old unique wire ≡ (result, self.new) }
+        ensures unsaid { IsNoReply Opcode.Release bytes.now
+            → reply_written self.old unique wrong_body ≡ (result, self.new) }
     {
         let _kept = self.queues.answer(unique);
         let Ok(_) = read_reply(Opcode::Release, bytes) else {

@@ -46,14 +46,15 @@ fn request_for<Q: QueueTable<Purpose>>(queues: &Q, call: u64) -> Option<u64>
 }
 
 impl<Q: QueueTable<Purpose> + Drop, C: CountTable<Heap = Q::Heap> + Drop> KernelOf<Q, C> {
-    /// Signals an unanswered call, fatally or not (fuse.rst). Where its request is unread and the signal is fatal, the request
-    /// goes and the call is answered EINTR; a closed file that it would have read or written last is released. Takes no memory:
-    /// the answer has its room since the call began, an INTERRUPT since its request was queued, and a RELEASE since the close.
+    /// Signals an unanswered call, fatally or not (fuse.rst). Where its request is unread and the signal is fatal, the
+    /// request goes and the call is answered EINTR; a closed file that it would have read or written last is released.
+    /// Takes no memory: the answer has its room since the call began, an INTERRUPT since its request was queued, and a
+    /// RELEASE since the close.
     ///
     /// # Errors
     ///
-    /// `NotReady` where the mount is not live, `NoSuch` where no call of this number is unanswered, `Exhausted` where no
-    /// number is left for the RELEASE. The kernel is as before.
+    /// `NotReady` where the mount is not live, `NoSuch` where no call of this number is unanswered, `Exhausted` where
+    /// no number is left for the RELEASE. The kernel is as before.
     pub fn interrupt(&mut self, call: u64, fatal: bool) -> Result<IntrEffect, Refusal>
         ensures err { OnErr result (self.new ≡ self.old) }
         ensures refusal { IfErr result (λ refusal. signal_refusal self.old call fatal ≡ Some refusal) }
@@ -81,8 +82,10 @@ impl<Q: QueueTable<Purpose> + Drop, C: CountTable<Heap = Q::Heap> + Drop> Kernel
     /// Whether a signal to the request of a call would let a closed file go, for whose RELEASE no number is left.
     fn signal_ends_past(&self, unique: u64, call: u64, fatal: bool) -> bool
         requires current { request_of self.now call ≡ Some unique }
-        ensures past { result ≡ true → (interrupt_effect self.now.queues unique fatal ≡ IntrEffect.Dequeued) × EndsPast self.now call }
-        ensures within { result ≡ false → interrupt_effect self.now.queues unique fatal ≡ IntrEffect.Dequeued → EndsWithin self.now call }
+        ensures past { result ≡ true → (interrupt_effect self.now.queues unique fatal ≡ IntrEffect.Dequeued)
+            × EndsPast self.now call }
+        ensures within { result ≡ false → interrupt_effect self.now.queues unique fatal ≡ IntrEffect.Dequeued
+            → EndsWithin self.now call }
     {
         if !fatal {
             return false;
@@ -97,8 +100,10 @@ impl<Q: QueueTable<Purpose> + Drop, C: CountTable<Heap = Q::Heap> + Drop> Kernel
     fn signal(&mut self, unique: u64, call: u64, fatal: bool) -> IntrEffect
         requires current { request_of self.old call ≡ Some unique }
         requires unanswered { is_some (get self.old.vfs.calls call) ≡ true }
-        requires within { interrupt_effect self.old.queues unique fatal ≡ IntrEffect.Dequeued → EndsWithin self.old call }
-        ensures { (state : State Opened) → get self.old.vfs.calls call ≡ Some state → call_signalled self.old call state fatal ≡ (result, self.new) }
+        requires within { interrupt_effect self.old.queues unique fatal ≡ IntrEffect.Dequeued
+            → EndsWithin self.old call }
+        ensures { (state : State Opened) → get self.old.vfs.calls call ≡ Some state
+            → call_signalled self.old call state fatal ≡ (result, self.new) }
     {
         let effect = self.queues.interrupt(unique, fatal);
         if is_interrupted(effect) {
@@ -107,8 +112,8 @@ impl<Q: QueueTable<Purpose> + Drop, C: CountTable<Heap = Q::Heap> + Drop> Kernel
         effect
     }
 
-    /// Why the oldest INTERRUPT cannot be read, want of memory aside: `NotReady` where the mount is not live, `NoSuch` where
-    /// none is queued.
+    /// Why the oldest INTERRUPT cannot be read, want of memory aside: `NotReady` where the mount is not live, `NoSuch`
+    /// where none is queued.
     pub fn read_interrupt_refusal(&self) -> Option<Refusal>
         ensures { result ≡ read_interrupt_refusal self.now }
     {

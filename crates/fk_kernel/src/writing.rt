@@ -20,15 +20,18 @@ impl<Q: QueueTable<Purpose> + Drop, C: CountTable<Heap = Q::Heap> + Drop> Kernel
     ///
     /// # Errors
     ///
-    /// `Exhausted` where no number is left for the request that would be queued, or a node's count would come to the end of
-    /// counters, as `write_refusal` says; then `NoMemory`. The kernel is as before.
+    /// `Exhausted` where no number is left for the request that would be queued, or a node's count would come to the
+    /// end of counters, as `write_refusal` says; then `NoMemory`. The kernel is as before.
     pub fn write(&mut self, bytes: &[u8]) -> Result<WriteResult, Refusal>
         ensures err { OnErr result (self.new ≡ self.old) }
         ensures refusal { HasReplyHead bytes.now → IfErr result (WriteRefused self.old bytes.now) }
         ensures memory { IfErr result (λ refusal. refusal ≡ Refusal.NoMemory → WritePasses self.old bytes.now → ⊥) }
         ensures headless { (HasReplyHead bytes.now → ⊥) → (result ≡ Ok WriteResult.Invalid) × (self.new ≡ self.old) }
-        ensures unawaited { HasReplyHead bytes.now → awaited self.old (head_unique bytes.now) ≡ nothing → (result ≡ Ok WriteResult.NoEntry) × (self.new ≡ self.old) }
-        ensures taken { HasReplyHead bytes.now → IfOk result (λ written. IsReplyWritten self.old (head_unique bytes.now) bytes.now (awaited self.old (head_unique bytes.now)) written self.new) }
+        ensures unawaited { HasReplyHead bytes.now → awaited self.old (head_unique bytes.now) ≡ nothing
+            → (result ≡ Ok WriteResult.NoEntry) × (self.new ≡ self.old) }
+        ensures taken { HasReplyHead bytes.now → IfOk result
+            (λ written. IsReplyWritten self.old (head_unique bytes.now) bytes.now
+            (awaited self.old (head_unique bytes.now)) written self.new) }
     {
         let Ok((_, unique)) = read_reply_head(bytes) else {
             return Ok(WriteResult::Invalid);
@@ -48,9 +51,12 @@ impl<Q: QueueTable<Purpose> + Drop, C: CountTable<Heap = Q::Heap> + Drop> Kernel
 
     /// A reply to the INTERRUPT of a request: it counts while that request is read and unanswered (fuse.rst).
     fn write_to_interrupt(&mut self, original: u64, bytes: &[u8]) -> WriteResult
-        ensures unawaited { waiting self.old.queues original ≡ None → (result ≡ WriteResult.NoEntry) × (self.new ≡ self.old) }
-        ensures said { is_some (waiting self.old.queues original) ≡ true → (wire : WireReply) → Says Opcode.Interrupt bytes.now wire → interrupt_replied self.old original wire ≡ (result, self.new) }
-        ensures unsaid { is_some (waiting self.old.queues original) ≡ true → IsNoReply Opcode.Interrupt bytes.now → interrupt_replied self.old original wrong_body ≡ (result, self.new) }
+        ensures unawaited { waiting self.old.queues original ≡ None
+            → (result ≡ WriteResult.NoEntry) × (self.new ≡ self.old) }
+        ensures said { is_some (waiting self.old.queues original) ≡ true → (wire : WireReply)
+            → Says Opcode.Interrupt bytes.now wire → interrupt_replied self.old original wire ≡ (result, self.new) }
+        ensures unsaid { is_some (waiting self.old.queues original) ≡ true → IsNoReply Opcode.Interrupt bytes.now
+            → interrupt_replied self.old original wrong_body ≡ (result, self.new) }
     {
         if self.queues.waiting(original).is_none() {
             return WriteResult::NoEntry;
@@ -68,7 +74,10 @@ impl<Q: QueueTable<Purpose> + Drop, C: CountTable<Heap = Q::Heap> + Drop> Kernel
     /// An INTERRUPT was answered an error: EAGAIN queues it again, and after ENOSYS none is queued any more (fuse.rst).
     fn interrupt_failed(&mut self, original: u64, errno: u32)
         requires { is_some (waiting self.old.queues original) ≡ true }
-        ensures { self.new ≡ record self.old { queues = after_interrupt_reply self.old.queues original (interrupt_reply_of errno) } }
+        ensures { self.new ≡ record self.old {
+          queues = after_interrupt_reply self.old.queues original
+              (interrupt_reply_of errno);
+        } }
     {
         match errno {
             EAGAIN => self.queues.again(original),
@@ -77,13 +86,15 @@ impl<Q: QueueTable<Purpose> + Drop, C: CountTable<Heap = Q::Heap> + Drop> Kernel
         }
     }
 
-    /// A reply to INIT: an agreement on 7.15, or on 7.31 or later, makes the mount ready. Any other reply, and bytes that are none,
-    /// abort it (this project's rule).
+    /// A reply to INIT: an agreement on 7.15, or on 7.31 or later, makes the mount ready. Any other reply, and bytes
+    /// that are none, abort it (this project's rule).
     fn write_to_init(&mut self, unique: u64, bytes: &[u8]) -> WriteResult
         requires even { nat_eq (unique % 2) 1 ≡ false }
         requires waits { waiting self.old.queues unique ≡ Some Purpose.Init }
-        ensures said { (wire : WireReply) → Says Opcode.Init bytes.now wire → reply_written self.old unique wire ≡ (result, self.new) }
-        ensures unsaid { IsNoReply Opcode.Init bytes.now → reply_written self.old unique (wrong_body_to Opcode.Init) ≡ (result, self.new) }
+        ensures said { (wire : WireReply) → Says Opcode.Init bytes.now wire
+            → reply_written self.old unique wire ≡ (result, self.new) }
+        ensures unsaid { IsNoReply Opcode.Init bytes.now
+            → reply_written self.old unique (wrong_body_to Opcode.Init) ≡ (result, self.new) }
     {
         let Some(said) = said_to_init(bytes) else {
             self.give_up();

@@ -14,7 +14,8 @@ use Rattle.fk_lookup_count.specs.CountedNodes.{IsUnlike, learnt, forget_of, gene
 use Rattle.fk_nodes.proofs.Lengths.{length_put, length_gone}
 
 -- the forget of a node has its whole count
-pub count_of_forget : (id : ℕ) (o : Option Counted) → option_map (λ (f : Forget). f.nlookup) (forget_of id o) ≡ option_map (λ (c : Counted). c.count) o
+pub count_of_forget : (id : ℕ) (o : Option Counted)
+    → option_map (λ (f : Forget). f.nlookup) (forget_of id o) ≡ option_map (λ (c : Counted). c.count) o
 count_of_forget id None = refl
 count_of_forget id (Some node) = refl
 
@@ -23,7 +24,8 @@ generation_is None = refl
 generation_is (Some node) = refl
 
 -- one node fewer is counted
-pub fewer : (m : Map Counted) (most id : ℕ) (f : Forget) → length m ≤ most → Some f ≡ forget_of id (get m id) → length (remove m id) ≤ most - 1
+pub fewer : (m : Map Counted) (most id : ℕ) (f : Forget) → length m ≤ most → Some f ≡ forget_of id (get m id)
+    → length (remove m id) ≤ most - 1
 fewer m most id f within is =
     let shorter = length_gone m id (there_was (get m id) is) in
     omega arith
@@ -45,12 +47,14 @@ module _ (m : Map Counted) (g : Entry) where
   pub learnt_is : learnt m g.nodeid g.generation (get m g.nodeid) ≡ replies.learnt m (g ∷ [])
   learnt_is = learnt_by (get m g.nodeid)
 
-  unlike_by : (o : Option Counted) → ((c : Counted) → o ≡ Some c → c.generation ≡ g.generation) → IsUnlike o g.generation → ⊥
+  unlike_by : (o : Option Counted) → ((c : Counted) → o ≡ Some c → c.generation ≡ g.generation)
+      → IsUnlike o g.generation → ⊥
   unlike_by None alike other = other
   unlike_by (Some node) alike other = other (alike node refl)
 
   -- under the generation under which a node is counted it is not unlike
-  pub not_unlike : ((c : Counted) → get m g.nodeid ≡ Some c → c.generation ≡ g.generation) → IsUnlike (get m g.nodeid) g.generation → ⊥
+  pub not_unlike : ((c : Counted) → get m g.nodeid ≡ Some c → c.generation ≡ g.generation)
+      → IsUnlike (get m g.nodeid) g.generation → ⊥
   not_unlike = unlike_by (get m g.nodeid)
 
   pub one_more : (most : ℕ) → length m ≤ most → length (replies.learnt m (g ∷ [])) ≤ most + 1
@@ -59,9 +63,11 @@ module _ (m : Map Counted) (g : Entry) where
       omega arith
 
   -- of one that is not new
-  pub as_many : (most : ℕ) → length m ≤ most → is_some (generation_at (get m g.nodeid)) ≡ true → T (is_sorted nat_cmp m) → length (replies.learnt m (g ∷ [])) ≤ most
+  pub as_many : (most : ℕ) → length m ≤ most → is_some (generation_at (get m g.nodeid)) ≡ true
+      → T (is_sorted nat_cmp m) → length (replies.learnt m (g ∷ [])) ≤ most
   as_many most within known sorted =
-      let long = length-put nat_cmp nat_cmp_total g.nodeid (replies.counted_more g (get m g.nodeid)) m sorted ∙ ap (λ b. cond b (length m) (length m + 1)) (known_there (get m g.nodeid) known) in
+      let long = length-put nat_cmp nat_cmp_total g.nodeid (replies.counted_more g (get m g.nodeid)) m sorted ∙ ap
+      (λ b. cond b (length m) (length m + 1)) (known_there (get m g.nodeid) known) in
       omega arith
     where
       known_there : (o : Option Counted) → is_some (generation_at o) ≡ true → is_some o ≡ true

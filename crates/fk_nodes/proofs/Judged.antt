@@ -28,24 +28,30 @@ told_judged pair usable = refl
 told_judged pair useless = tells_none (is_dots pair.dirent.name)
 told_judged pair (stale node) = tells_none (is_dots pair.dirent.name)
 
-learnt_kept : (nodes : Map Counted) (g : Entry) (u : Use) → learnt nodes (first_told (kept_by u (Some g)) []) ≡ learnt_by_use nodes g u
+learnt_kept : (nodes : Map Counted) (g : Entry) (u : Use)
+    → learnt nodes (first_told (kept_by u (Some g)) []) ≡ learnt_by_use nodes g u
 learnt_kept nodes g usable = refl
 learnt_kept nodes g useless = refl
 learnt_kept nodes g (stale node) = refl
 
-kept_is : (nodes : Map Counted) (o : Option Entry) → learnt nodes (first_told (kept_by (use_of_told nodes o) o) []) ≡ learnt_told nodes o
+kept_is : (nodes : Map Counted) (o : Option Entry)
+    → learnt nodes (first_told (kept_by (use_of_told nodes o) o) []) ≡ learnt_told nodes o
 kept_is nodes None = refl
 kept_is nodes (Some g) = learnt_kept nodes g (use_of nodes g)
 
-pub learnt_by_is : (nodes : Map Counted) (pair : DirentPlus Entry) → learnt_by nodes pair ≡ learnt_told nodes (told_by pair)
-learnt_by_is nodes pair = ap (λ (o : Option Entry). learnt nodes (first_told o [])) (told_judged pair (use_of_told nodes (told_by pair))) ∙ kept_is nodes (told_by pair)
+pub learnt_by_is : (nodes : Map Counted) (pair : DirentPlus Entry)
+    → learnt_by nodes pair ≡ learnt_told nodes (told_by pair)
+learnt_by_is nodes pair = ap (λ (o : Option Entry). learnt nodes (first_told o []))
+    (told_judged pair (use_of_told nodes (told_by pair))) ∙ kept_is nodes (told_by pair)
 
-in_turn : (nodes : Map Counted) (o : Option Entry) (files : List Entry) → learnt nodes (first_told o files) ≡ learnt (learnt nodes (first_told o [])) files
+in_turn : (nodes : Map Counted) (o : Option Entry) (files : List Entry)
+    → learnt nodes (first_told o files) ≡ learnt (learnt nodes (first_told o [])) files
 in_turn nodes None files = refl
 in_turn nodes (Some g) files = refl
 
 -- The counts after the names of a list are those of the files that are told once they are judged.
-pub learnt_is : (nodes : Map Counted) (pairs : List (DirentPlus Entry)) → learnt nodes (files_told (pairs_judged nodes pairs)) ≡ learnt_from nodes pairs
+pub learnt_is : (nodes : Map Counted) (pairs : List (DirentPlus Entry))
+    → learnt nodes (files_told (pairs_judged nodes pairs)) ≡ learnt_from nodes pairs
 learnt_is nodes [] = refl
 learnt_is nodes (pair ∷ pairs) =
     in_turn nodes (told_by (judged_in nodes pair)) (files_told (pairs_judged (learnt_by nodes pair) pairs))
@@ -57,76 +63,102 @@ learnt_is nodes (pair ∷ pairs) =
 abbrev pub generation_in : Map Counted → ℕ → Option ℕ
 generation_in nodes id = option_map (λ (c : Counted). c.generation) (get nodes id)
 
-more_generation : (g : Entry) (o : Option Counted) (generation : ℕ) → option_map (λ (c : Counted). c.generation) o ≡ Some generation → (counted_more g o).generation ≡ generation
+more_generation : (g : Entry) (o : Option Counted) (generation : ℕ)
+    → option_map (λ (c : Counted). c.generation) o ≡ Some generation → (counted_more g o).generation ≡ generation
 more_generation g None generation at = absurd (cc)
 more_generation g (Some c) generation at = cc
 
-stays_by : (nodes : Map Counted) (g : Entry) (u : Use) (id generation : ℕ) → generation_in nodes id ≡ Some generation → generation_in (learnt_by_use nodes g u) id ≡ Some generation
+stays_by : (nodes : Map Counted) (g : Entry) (u : Use) (id generation : ℕ) → generation_in nodes id ≡ Some generation
+    → generation_in (learnt_by_use nodes g u) id ≡ Some generation
 stays_by nodes g usable id generation at = elim (cases_eq id g.nodeid) [
   | inl e ↦
       let new = counted_more g (get nodes g.nodeid) in
-      let there : generation_in nodes g.nodeid ≡ Some generation = subst (λ (n : ℕ). generation_in nodes n ≡ Some generation) e at in
-      let found : get (put nodes g.nodeid new) id ≡ Some new = subst (λ (n : ℕ). get (put nodes g.nodeid new) n ≡ Some new) (sym e) (get_put_here nodes g.nodeid new) in
-      ap (option_map (λ (c : Counted). c.generation)) found ∙ ap (λ (n : ℕ). Some n) (more_generation g (get nodes g.nodeid) generation there)
-  | inr ne ↦ ap (option_map (λ (c : Counted). c.generation)) (get_put_there nodes g.nodeid (counted_more g (get nodes g.nodeid)) id ne) ∙ at
+      let there : generation_in nodes g.nodeid ≡ Some generation =
+      subst (λ (n : ℕ). generation_in nodes n ≡ Some generation) e at in
+      let found : get (put nodes g.nodeid new) id ≡ Some new =
+      subst (λ (n : ℕ). get (put nodes g.nodeid new) n ≡ Some new) (sym e) (get_put_here nodes g.nodeid new) in
+      ap (option_map (λ (c : Counted). c.generation)) found ∙ ap (λ (n : ℕ). Some n)
+      (more_generation g (get nodes g.nodeid) generation there)
+  | inr ne ↦ ap (option_map (λ (c : Counted). c.generation))
+      (get_put_there nodes g.nodeid (counted_more g (get nodes g.nodeid)) id ne) ∙ at
 ]
 stays_by nodes g useless id generation at = at
 stays_by nodes g (stale node) id generation at = at
 
-stays_told : (nodes : Map Counted) (o : Option Entry) (id generation : ℕ) → generation_in nodes id ≡ Some generation → generation_in (learnt_told nodes o) id ≡ Some generation
+stays_told : (nodes : Map Counted) (o : Option Entry) (id generation : ℕ) → generation_in nodes id ≡ Some generation
+    → generation_in (learnt_told nodes o) id ≡ Some generation
 stays_told nodes None id generation at = at
 stays_told nodes (Some g) id generation at = stays_by nodes g (use_of nodes g) id generation at
 
-stays : (pairs : List (DirentPlus Entry)) (nodes : Map Counted) (id generation : ℕ) → generation_in nodes id ≡ Some generation → generation_in (learnt_from nodes pairs) id ≡ Some generation
+stays : (pairs : List (DirentPlus Entry)) (nodes : Map Counted) (id generation : ℕ)
+    → generation_in nodes id ≡ Some generation → generation_in (learnt_from nodes pairs) id ≡ Some generation
 stays [] nodes id generation at = at
-stays (pair ∷ pairs) nodes id generation at = stays pairs (learnt_told nodes (told_by pair)) id generation (stays_told nodes (told_by pair) id generation at)
+stays (pair ∷ pairs) nodes id generation at = stays pairs (learnt_told nodes (told_by pair)) id generation
+    (stays_told nodes (told_by pair) id generation at)
 
 -- ---- an entry is judged alike by any later counts
 
-use_by : (g : Entry) (o : Option Counted) (generation : ℕ) → option_map (λ (c : Counted). c.generation) o ≡ Some generation → use_counted g o ≡ cond (nat_eq generation g.generation) usable (stale g.nodeid)
+use_by : (g : Entry) (o : Option Counted) (generation : ℕ)
+    → option_map (λ (c : Counted). c.generation) o ≡ Some generation
+    → use_counted g o ≡ cond (nat_eq generation g.generation) usable (stale g.nodeid)
 use_by g None generation at = absurd (cc)
 use_by g (Some c) generation at =
     let same : c.generation ≡ generation = cc at in
     ap (λ (n : ℕ). cond (nat_eq n g.generation) usable (stale g.nodeid)) same
 
-alike_by : (nodes later : Map Counted) (g : Entry) (o : Option Counted) → get nodes g.nodeid ≡ o → ((generation : ℕ) → generation_in (learnt_by_use nodes g (use_counted g o)) g.nodeid ≡ Some generation → generation_in later g.nodeid ≡ Some generation)
+alike_by : (nodes later : Map Counted) (g : Entry) (o : Option Counted) → get nodes g.nodeid ≡ o
+    → ((generation : ℕ) → generation_in (learnt_by_use nodes g (use_counted g o)) g.nodeid ≡ Some generation
+    → generation_in later g.nodeid ≡ Some generation)
     → use_counted g o ≡ use_counted g (get later g.nodeid)
 alike_by nodes later g None at more =
     let new = counted_more g (get nodes g.nodeid) in
     let fresh : new.generation ≡ g.generation = ap (λ (x : Option Counted). (counted_more g x).generation) at in
-    let there : generation_in (put nodes g.nodeid new) g.nodeid ≡ Some g.generation = ap (option_map (λ (c : Counted). c.generation)) (get_put_here nodes g.nodeid new) ∙ ap (λ (n : ℕ). Some n) fresh in
-    sym (use_by g (get later g.nodeid) g.generation (more g.generation there) ∙ ap (λ (b : Bool). cond b usable (stale g.nodeid)) (itself g.generation))
+    let there : generation_in (put nodes g.nodeid new) g.nodeid ≡ Some g.generation =
+    ap (option_map (λ (c : Counted). c.generation)) (get_put_here nodes g.nodeid new) ∙ ap
+    (λ (n : ℕ). Some n) fresh in
+    sym (use_by g (get later g.nodeid) g.generation (more g.generation there) ∙ ap
+    (λ (b : Bool). cond b usable (stale g.nodeid)) (itself g.generation))
   where
     itself : (n : ℕ) → nat_eq n n ≡ true
     itself n = elim (eqb_tells n n) [ inl h ↦ h.0 | inr h ↦ absurd (h.1 refl) ]
 alike_by nodes later g (Some c) at more =
     let here : generation_in nodes g.nodeid ≡ Some c.generation = ap (option_map (λ (x : Counted). x.generation)) at in
-    sym (use_by g (get later g.nodeid) c.generation (more c.generation (stays_by nodes g (use_counted g (Some c)) g.nodeid c.generation here)))
+    sym (use_by g (get later g.nodeid) c.generation (more c.generation
+    (stays_by nodes g (use_counted g (Some c)) g.nodeid c.generation here)))
 
-alike_low : (b : Bool) (nodes later : Map Counted) (g : Entry) → ((generation : ℕ) → generation_in (learnt_by_use nodes g (cond b useless (use_counted g (get nodes g.nodeid)))) g.nodeid ≡ Some generation → generation_in later g.nodeid ≡ Some generation)
+alike_low : (b : Bool) (nodes later : Map Counted) (g : Entry)
+    → ((generation : ℕ) → generation_in (learnt_by_use nodes g
+    (cond b useless (use_counted g (get nodes g.nodeid)))) g.nodeid ≡ Some generation
+    → generation_in later g.nodeid ≡ Some generation)
     → cond b useless (use_counted g (get nodes g.nodeid)) ≡ cond b useless (use_counted g (get later g.nodeid))
 alike_low true nodes later g more = refl
 alike_low false nodes later g more = alike_by nodes later g (get nodes g.nodeid) refl more
 
-alike : (nodes : Map Counted) (o : Option Entry) (pairs : List (DirentPlus Entry)) → use_of_told nodes o ≡ use_of_told (learnt_from (learnt_told nodes o) pairs) o
+alike : (nodes : Map Counted) (o : Option Entry) (pairs : List (DirentPlus Entry))
+    → use_of_told nodes o ≡ use_of_told (learnt_from (learnt_told nodes o) pairs) o
 alike nodes None pairs = refl
 alike nodes (Some g) pairs =
-    alike_low (nat_lt g.nodeid 2) nodes (learnt_from (learnt_told nodes (Some g)) pairs) g (λ generation at. stays pairs (learnt_told nodes (Some g)) g.nodeid generation at)
+    alike_low (nat_lt g.nodeid 2) nodes (learnt_from (learnt_told nodes (Some g)) pairs) g
+    (λ generation at. stays pairs (learnt_told nodes (Some g)) g.nodeid generation at)
 
 -- So each name may be judged by the counts after all of them.
-pub settled : (nodes : Map Counted) (pairs : List (DirentPlus Entry)) → pairs_judged nodes pairs ≡ map (judged_in (learnt_from nodes pairs)) pairs
+pub settled : (nodes : Map Counted) (pairs : List (DirentPlus Entry))
+    → pairs_judged nodes pairs ≡ map (judged_in (learnt_from nodes pairs)) pairs
 settled nodes [] = refl
 settled nodes (pair ∷ pairs) =
     let next = learnt_told nodes (told_by pair) in
-    let rest : pairs_judged (learnt_by nodes pair) pairs ≡ map (judged_in (learnt_from next pairs)) pairs = ap (λ (m : Map Counted). pairs_judged m pairs) (learnt_by_is nodes pair) ∙ settled next pairs in
+    let rest : pairs_judged (learnt_by nodes pair) pairs ≡ map (judged_in (learnt_from next pairs)) pairs =
+    ap (λ (m : Map Counted). pairs_judged m pairs) (learnt_by_is nodes pair) ∙ settled next pairs in
     ap (λ (u : Use). pair_judged pair u ∷ pairs_judged (learnt_by nodes pair) pairs) (alike nodes (told_by pair) pairs)
     ∙ ap (λ (ps : List (DirentPlus Entry)). judged_in (learnt_from next pairs) pair ∷ ps) rest
 
-pub stale_settled : (nodes : Map Counted) (pairs : List (DirentPlus Entry)) → stale_among nodes pairs ≡ stale_by (learnt_from nodes pairs) pairs
+pub stale_settled : (nodes : Map Counted) (pairs : List (DirentPlus Entry))
+    → stale_among nodes pairs ≡ stale_by (learnt_from nodes pairs) pairs
 stale_settled nodes [] = refl
 stale_settled nodes (pair ∷ pairs) =
     let next = learnt_told nodes (told_by pair) in
-    let rest : stale_among (learnt_by nodes pair) pairs ≡ stale_by (learnt_from next pairs) pairs = ap (λ (m : Map Counted). stale_among m pairs) (learnt_by_is nodes pair) ∙ stale_settled next pairs in
+    let rest : stale_among (learnt_by nodes pair) pairs ≡ stale_by (learnt_from next pairs) pairs =
+    ap (λ (m : Map Counted). stale_among m pairs) (learnt_by_is nodes pair) ∙ stale_settled next pairs in
     ap (λ (u : Use). stale_in u ++ stale_among (learnt_by nodes pair) pairs) (alike nodes (told_by pair) pairs)
     ∙ ap (λ (ns : List ℕ). stale_in (use_of_told (learnt_from next pairs) (told_by pair)) ++ ns) rest
 
@@ -136,6 +168,9 @@ dirent_kept pair usable = refl
 dirent_kept pair useless = refl
 dirent_kept pair (stale node) = refl
 
-pub dirents_kept : (nodes : Map Counted) (pairs : List (DirentPlus Entry)) → map (λ (p : DirentPlus ℕ). p.dirent) (map (pair_with (λ (g : Entry). g.nodeid)) (pairs_judged nodes pairs)) ≡ map (λ (p : DirentPlus Entry). p.dirent) pairs
+pub dirents_kept : (nodes : Map Counted) (pairs : List (DirentPlus Entry))
+    → map (λ (p : DirentPlus ℕ). p.dirent) (map (pair_with (λ (g : Entry). g.nodeid)) (pairs_judged nodes pairs))
+    ≡ map (λ (p : DirentPlus Entry). p.dirent) pairs
 dirents_kept nodes [] = refl
-dirents_kept nodes (pair ∷ pairs) = λ i. dirent_kept pair (use_of_told nodes (told_by pair)) i ∷ dirents_kept (learnt_by nodes pair) pairs i
+dirents_kept nodes (pair ∷ pairs) = λ i. dirent_kept pair (use_of_told nodes (told_by pair)) i ∷ dirents_kept
+    (learnt_by nodes pair) pairs i

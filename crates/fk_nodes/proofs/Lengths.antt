@@ -14,17 +14,23 @@ module _ {V : Type 0} where
   length_put [] k v = omega arith
   length_put (e ∷ m) k v =
       let rest = length_put m k v in
-      elim (nat_cmp k e.0) as (λ r. length (by_order r ((k, v) ∷ e ∷ m) ((e.0, v) ∷ m) (e ∷ put m k v)) ≤ length (e ∷ m) + 1) [ Less ↦ omega arith | Equal ↦ omega arith | Greater ↦ omega arith ]
+      elim (nat_cmp k e.0) as (λ r. length (by_order r ((k, v) ∷ e ∷ m) ((e.0, v) ∷ m) (e ∷ put m k v)) ≤ length
+      (e ∷ m) + 1) [ Less ↦ omega arith | Equal ↦ omega arith | Greater ↦ omega arith ]
 
   pub length_kept : (m : Map V) (k : ℕ) → length (remove m k) ≤ length m
   length_kept [] k = omega arith
   length_kept (e ∷ m) k =
       let rest = length_kept m k in
-      elim (nat_eq e.0 k) as (λ b. length (cond (not b) (e ∷ remove m k) (remove m k)) ≤ length (e ∷ m)) [ true ↦ omega arith | false ↦ omega arith ]
+      elim (nat_eq e.0 k) as (λ b. length (cond (not b) (e ∷ remove m k) (remove m k)) ≤ length
+      (e ∷ m)) [ true ↦ omega arith | false ↦ omega arith ]
 
   pub gone_none : (m : Map V) (k q : ℕ) → get m q ≡ None → get (remove m k) q ≡ None
   gone_none m k q none =
-      elim (cases_eq q k) [ inl e ↦ subst (λ (n : ℕ). get (remove m k) n ≡ None) (sym e) (get_gone_here m k) | inr ne ↦ get_gone_there m k q ne ∙ none ]
+      elim (cases_eq q k) [
+        | inl e ↦ subst (λ (n : ℕ). get (remove m k) n ≡ None) (sym e)
+            (get_gone_here m k)
+        | inr ne ↦ get_gone_there m k q ne ∙ none
+      ]
 
   pub length_gone : (m : Map V) (k : ℕ) → get m k ≢ None → length (remove m k) + 1 ≤ length m
   length_gone [] k there = absurd (there refl)
@@ -33,7 +39,8 @@ module _ {V : Type 0} where
       elim (eqb_tells e.0 k) [
         | inl h ↦ rw h.0 (omega arith)
         | inr h ↦
-            let rest = length_gone m k (λ none. there (ap (λ (b : Bool). cond b (Some e.1) (get m k)) (tie_no k e.0 (λ q. h.1 (sym q))) ∙ none)) in
+            let rest = length_gone m k (λ none. there (ap (λ (b : Bool). cond b (Some e.1) (get m k))
+            (tie_no k e.0 (λ q. h.1 (sym q))) ∙ none)) in
             rw h.0 (omega arith)
       ]
 
@@ -43,7 +50,8 @@ module _ {V : Type 0} where
   gone_absent (e ∷ m) k none =
       elim (eqb_tells e.0 k) [
         | inl h ↦
-            let here : Some e.1 ≡ None = sym (ap (λ (n : ℕ). cond (is_eq (nat_cmp k n)) (Some e.1) (get m k)) h.1 ∙ ap (λ r. cond (is_eq r) (Some e.1) (get m k)) (cmp_same k)) ∙ none in
+            let here : Some e.1 ≡ None = sym (ap (λ (n : ℕ). cond (is_eq (nat_cmp k n)) (Some e.1) (get m k)) h.1 ∙ ap
+            (λ r. cond (is_eq r) (Some e.1) (get m k)) (cmp_same k)) ∙ none in
             cc
         | inr h ↦
             let rest = sym (ap (λ (b : Bool). cond b (Some e.1) (get m k)) (tie_no k e.0 (λ q. h.1 (sym q)))) ∙ none in

@@ -44,21 +44,27 @@ pub some_out : (m : Map Counted) (id : ℕ) (c : Counted) → get m id ≡ Some 
 some_out [] id c at out = absurd (cc)
 some_out (e ∷ m) id c at out = by (is_eq (nat_cmp id e.0)) at (λ there. some_out m id c there out)
   where
-    by : (b : Bool) → cond b (Some e.1) (get m id) ≡ Some c → (get m id ≡ Some c → is_out m ≡ true) → (nat_le counter_end e.1.count || is_out m) ≡ true
+    by : (b : Bool) → cond b (Some e.1) (get m id) ≡ Some c → (get m id ≡ Some c → is_out m ≡ true)
+        → (nat_le counter_end e.1.count || is_out m) ≡ true
     by true here rest =
         let same : e.1 ≡ c = cc here in
-        ap (λ (b : Bool). b || is_out m) (is_le counter_end e.1.count (subst (λ (x : Counted). counter_end ≤ x.count) (sym same) out))
-    by false there rest = ap (λ (b : Bool). nat_le counter_end e.1.count || b) (rest there) ∙ or_true (nat_le counter_end e.1.count)
+        ap (λ (b : Bool). b || is_out m) (is_le counter_end e.1.count
+        (subst (λ (x : Counted). counter_end ≤ x.count) (sym same) out))
+    by false there rest = ap (λ (b : Bool). nat_le counter_end e.1.count || b) (rest there) ∙ or_true
+        (nat_le counter_end e.1.count)
 
 -- where none has, each is below
 below_at : (m : Map Counted) → is_out m ≡ false → (id : ℕ) (c : Counted) → get m id ≡ Some c → c.count < counter_end
 below_at [] none id c at = absurd (cc)
-below_at (e ∷ m) none id c at = by (is_eq (nat_cmp id e.0)) at (λ there. below_at m (or_second (nat_le counter_end e.1.count) (is_out m) none) id c there)
+below_at (e ∷ m) none id c at = by (is_eq (nat_cmp id e.0)) at
+    (λ there. below_at m (or_second (nat_le counter_end e.1.count) (is_out m) none) id c there)
   where
-    by : (b : Bool) → cond b (Some e.1) (get m id) ≡ Some c → (get m id ≡ Some c → c.count < counter_end) → c.count < counter_end
+    by : (b : Bool) → cond b (Some e.1) (get m id) ≡ Some c → (get m id ≡ Some c → c.count < counter_end)
+        → c.count < counter_end
     by true here rest =
         let same : e.1 ≡ c = cc here in
-        subst (λ (x : Counted). x.count < counter_end) same (is_less counter_end e.1.count (or_first (nat_le counter_end e.1.count) (is_out m) none))
+        subst (λ (x : Counted). x.count < counter_end) same
+        (is_less counter_end e.1.count (or_first (nat_le counter_end e.1.count) (is_out m) none))
     by false there rest = rest there
 
 pub out_below : (m : Map Counted) → is_out m ≡ false → AreBelow m
@@ -82,12 +88,14 @@ none_out (e ∷ m) sorted all =
     ]
 
 -- one lookup more
-pub one_below : (m : Map Counted) (g : Entry) → AreBelow m → (counted_more g (get m g.nodeid)).count < counter_end → AreBelow (put m g.nodeid (counted_more g (get m g.nodeid)))
+pub one_below : (m : Map Counted) (g : Entry) → AreBelow m → (counted_more g (get m g.nodeid)).count < counter_end
+    → AreBelow (put m g.nodeid (counted_more g (get m g.nodeid)))
 one_below m g old fits = record {
   below = λ id c at. elim (cases_eq id g.nodeid) [
     | inl same ↦
         let new = counted_more g (get m g.nodeid) in
-        let found : get (put m g.nodeid new) id ≡ Some new = subst (λ (n : ℕ). get (put m g.nodeid new) n ≡ Some new) (sym same) (get_put_here m g.nodeid new) in
+        let found : get (put m g.nodeid new) id ≡ Some new =
+        subst (λ (n : ℕ). get (put m g.nodeid new) n ≡ Some new) (sym same) (get_put_here m g.nodeid new) in
         let is : new ≡ c = cc (found, at) in
         subst (λ (x : Counted). x.count < counter_end) is fits
     | inr apart ↦ old.below id c (sym (get_put_there m g.nodeid (counted_more g (get m g.nodeid)) id apart) ∙ at)
@@ -96,7 +104,8 @@ one_below m g old fits = record {
 
 -- ---- the order stays
 
-sorted_by : (m : Map Counted) (g : Entry) (u : Use) → T (is_sorted nat_cmp m) → T (is_sorted nat_cmp (learnt_by_use m g u))
+sorted_by : (m : Map Counted) (g : Entry) (u : Use) → T (is_sorted nat_cmp m)
+    → T (is_sorted nat_cmp (learnt_by_use m g u))
 sorted_by m g usable sorted = is_sorted-put nat_cmp nat_cmp_total g.nodeid (counted_more g (get m g.nodeid)) m sorted
 sorted_by m g useless sorted = sorted
 sorted_by m g (stale node) sorted = sorted
@@ -105,9 +114,11 @@ sorted_told : (m : Map Counted) (o : Option Entry) → T (is_sorted nat_cmp m) �
 sorted_told m None sorted = sorted
 sorted_told m (Some g) sorted = sorted_by m g (use_of m g) sorted
 
-pub sorted_from : (pairs : List (DirentPlus Entry)) (m : Map Counted) → T (is_sorted nat_cmp m) → T (is_sorted nat_cmp (learnt_from m pairs))
+pub sorted_from : (pairs : List (DirentPlus Entry)) (m : Map Counted) → T (is_sorted nat_cmp m)
+    → T (is_sorted nat_cmp (learnt_from m pairs))
 sorted_from [] m sorted = sorted
-sorted_from (pair ∷ pairs) m sorted = sorted_from pairs (learnt_told m (told_by pair)) (sorted_told m (told_by pair) sorted)
+sorted_from (pair ∷ pairs) m sorted = sorted_from pairs (learnt_told m (told_by pair))
+    (sorted_told m (told_by pair) sorted)
 
 -- how many nodes there are then
 long_by : (m : Map Counted) (g : Entry) (u : Use) → length (learnt_by_use m g u) ≤ length m + 1
@@ -119,7 +130,8 @@ long_told : (m : Map Counted) (o : Option Entry) → length (learnt_told m o) �
 long_told m None = omega arith
 long_told m (Some g) = long_by m g (use_of m g)
 
-pub long_from : (pairs : List (DirentPlus Entry)) (m : Map Counted) → length (learnt_from m pairs) ≤ length m + length pairs
+pub long_from : (pairs : List (DirentPlus Entry)) (m : Map Counted)
+    → length (learnt_from m pairs) ≤ length m + length pairs
 long_from [] m = omega arith
 long_from (pair ∷ pairs) m =
     let rest = long_from pairs (learnt_told m (told_by pair)) in

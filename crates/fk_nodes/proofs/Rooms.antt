@@ -18,35 +18,47 @@ pub record RoomBehind (names : NamesInForce) (directory : ℕ) (all left : List 
 abbrev Keeps : NamesInForce → NamesInForce → Type 0
 Keeps old new = (other : Place) → HasRoom old other → HasRoom new other
 
-kept_one : (old new : NamesInForce) (directory : ℕ) (pair : DirentPlus Entry) (o : Option Entry) → Keeps old new → HasToldRoom old directory pair o → HasToldRoom new directory pair o
+kept_one : (old new : NamesInForce) (directory : ℕ) (pair : DirentPlus Entry) (o : Option Entry) → Keeps old new
+    → HasToldRoom old directory pair o → HasToldRoom new directory pair o
 kept_one old new directory pair None kept room = tt
 kept_one old new directory pair (Some g) kept room = kept (directory, pair.dirent.name) room
 
-pub kept_rooms : (old new : NamesInForce) (directory : ℕ) (pairs : List (DirentPlus Entry)) → Keeps old new → HaveToldRoom old directory pairs → HaveToldRoom new directory pairs
+pub kept_rooms : (old new : NamesInForce) (directory : ℕ) (pairs : List (DirentPlus Entry)) → Keeps old new
+    → HaveToldRoom old directory pairs → HaveToldRoom new directory pairs
 kept_rooms old new directory [] kept rooms = tt
-kept_rooms old new directory (pair ∷ pairs) kept rooms = (kept_one old new directory pair (told_by pair) kept rooms.0, kept_rooms old new directory pairs kept rooms.1)
+kept_rooms old new directory (pair ∷ pairs) kept rooms =
+    (kept_one old new directory pair (told_by pair) kept rooms.0, kept_rooms old new directory pairs kept rooms.1)
 
-one_more : (names : NamesInForce) (directory : ℕ) (done : List (DirentPlus Entry)) (pair : DirentPlus Entry) → HaveToldRoom names directory done → HasToldRoom names directory pair (told_by pair) → HaveToldRoom names directory (done ++ pair ∷ [])
+one_more : (names : NamesInForce) (directory : ℕ) (done : List (DirentPlus Entry)) (pair : DirentPlus Entry)
+    → HaveToldRoom names directory done → HasToldRoom names directory pair (told_by pair)
+    → HaveToldRoom names directory (done ++ pair ∷ [])
 one_more names directory [] pair rooms room = (room, tt)
 one_more names directory (first ∷ done) pair rooms room = (rooms.0, one_more names directory done pair rooms.1 room)
 
-pub none_behind : (names : NamesInForce) (directory : ℕ) (all : List (DirentPlus Entry)) → RoomBehind names directory all all
+pub none_behind : (names : NamesInForce) (directory : ℕ) (all : List (DirentPlus Entry))
+    → RoomBehind names directory all all
 none_behind names directory all = record { done = []; parts = refl; rooms = tt }
 
-pub room_made : (old new : NamesInForce) (directory : ℕ) (all left rest : List (DirentPlus Entry)) (pair : DirentPlus Entry) → RoomBehind old directory all left → left ≡ pair ∷ rest → Keeps old new → HasToldRoom new directory pair (told_by pair)
+pub room_made : (old new : NamesInForce) (directory : ℕ) (all left rest : List (DirentPlus Entry))
+    (pair : DirentPlus Entry) → RoomBehind old directory all left → left ≡ pair ∷ rest → Keeps old new
+    → HasToldRoom new directory pair (told_by pair)
     → RoomBehind new directory all rest
 room_made old new directory all left rest pair behind is kept room = record {
   done = behind.done ++ pair ∷ [];
-  parts = behind.parts ∙ ap (λ (ps : List (DirentPlus Entry)). behind.done ++ ps) is ∙ sym (append_assoc behind.done (pair ∷ []) rest);
+  parts = behind.parts ∙ ap (λ (ps : List (DirentPlus Entry)). behind.done ++ ps) is ∙ sym
+      (append_assoc behind.done (pair ∷ []) rest);
   rooms = one_more new directory behind.done pair (kept_rooms old new directory behind.done kept behind.rooms) room;
 }
 
-pub all_behind : (names : NamesInForce) (directory : ℕ) (all left : List (DirentPlus Entry)) → RoomBehind names directory all left → left ≡ [] → HaveToldRoom names directory all
+pub all_behind : (names : NamesInForce) (directory : ℕ) (all left : List (DirentPlus Entry))
+    → RoomBehind names directory all left → left ≡ [] → HaveToldRoom names directory all
 all_behind names directory all left behind none =
-    subst (HaveToldRoom names directory) (sym (behind.parts ∙ ap (λ (ps : List (DirentPlus Entry)). behind.done ++ ps) none ∙ append-nil behind.done)) behind.rooms
+    subst (HaveToldRoom names directory) (sym (behind.parts ∙ ap
+    (λ (ps : List (DirentPlus Entry)). behind.done ++ ps) none ∙ append-nil behind.done)) behind.rooms
 
 -- the forget of one node and of those behind it
-pub forgotten_then : (q : QueueState Purpose) (u : Use) (rest : List ℕ) → each_forgotten q (stale_in u ++ rest) ≡ each_forgotten (each_forgotten q (stale_in u)) rest
+pub forgotten_then : (q : QueueState Purpose) (u : Use) (rest : List ℕ)
+    → each_forgotten q (stale_in u ++ rest) ≡ each_forgotten (each_forgotten q (stale_in u)) rest
 forgotten_then q usable rest = refl
 forgotten_then q useless rest = refl
 forgotten_then q (stale node) rest = refl

@@ -41,7 +41,8 @@ tells id generation (Some g) = nat_eq g.nodeid id && nat_eq g.generation generat
 -- How many names of a list do.
 abbrev pub times_told : (id generation : ℕ) → List (DirentPlus Entry) → ℕ
 times_told id generation [] = 0
-times_told id generation (pair ∷ pairs) = cond (tells id generation (told_by pair)) (suc (times_told id generation pairs)) (times_told id generation pairs)
+times_told id generation (pair ∷ pairs) = cond (tells id generation (told_by pair))
+    (suc (times_told id generation pairs)) (times_told id generation pairs)
 
 -- No node's count has come to the end of counters.
 pub record AreBelow (nodes : Map Counted) : Type 0 where
@@ -58,7 +59,9 @@ pub record SomeOut (nodes : Map Counted) : Type 0 where
 abbrev pub is_out : Map Counted → Bool
 is_out nodes = list_any (λ (node : Counted). nat_le counter_end node.count) (values nodes)
 
--- Where this name tells a counted node under its generation, all of these names that tell it so leave its count below the end.
+-- Where this name tells a counted node under its generation, all of these names that tell it so leave its count below
+-- the end.
 abbrev pub LeavesBelow : Map Counted → List (DirentPlus Entry) → Option Entry → Type 0
 LeavesBelow nodes pairs None = Unit {0}
-LeavesBelow nodes pairs (Some g) = (c : Counted) → nat_lt g.nodeid 2 ≡ false → get nodes g.nodeid ≡ Some c → c.generation ≡ g.generation → c.count + times_told g.nodeid g.generation pairs < counter_end
+LeavesBelow nodes pairs (Some g) = (c : Counted) → nat_lt g.nodeid 2 ≡ false → get nodes g.nodeid ≡ Some c
+    → c.generation ≡ g.generation → c.count + times_told g.nodeid g.generation pairs < counter_end

@@ -24,8 +24,11 @@ HasToldRoom names directory pair (Some g) = HasRoom names (directory, pair.diren
 -- Each name of a list that tells a file has room.
 abbrev pub HaveToldRoom : NamesInForce → (directory : ℕ) → List (DirentPlus Entry) → Type 0
 HaveToldRoom names directory [] = Unit {0}
-HaveToldRoom names directory (pair ∷ pairs) = HasToldRoom names directory pair (told_by pair) × HaveToldRoom names directory pairs
+HaveToldRoom names directory (pair ∷ pairs) = HasToldRoom names directory pair (told_by pair)
+    × HaveToldRoom names directory pairs
 
 -- The names in force once those of a list are, each judged by these counts.
-abbrev pub names_judged : (now directory : ℕ) → Map Counted → NameMap Binding → List (DirentPlus Entry) → NameMap Binding
-names_judged now directory nodes names pairs = names_told now directory names (map (pair_with (λ (g : Entry). g.nodeid)) (map (judged_in nodes) pairs))
+abbrev pub names_judged : (now directory : ℕ) → Map Counted → NameMap Binding → List (DirentPlus Entry)
+    → NameMap Binding
+names_judged now directory nodes names pairs = names_told now directory names
+    (map (pair_with (λ (g : Entry). g.nodeid)) (map (judged_in nodes) pairs))

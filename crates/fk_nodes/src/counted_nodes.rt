@@ -110,7 +110,8 @@ impl<C: CountTable> CountedNodes<C> {
     ///
     /// Memory was wanting. Nothing changed.
     pub fn learn(&mut self, entry: &Entry) -> Result<(), AllocError>
-        requires alike { ForSome (get self.old entry.now.nodeid) (λ counted. counted.generation ≡ entry.now.generation) }
+        requires alike { ForSome (get self.old entry.now.nodeid)
+            (λ counted. counted.generation ≡ entry.now.generation) }
         requires fits { ForSome (get self.old entry.now.nodeid) (λ counted. counted.count + 1 < 2 ^ 64) }
         ensures ok { OnOk result (self.new ≡ learnt self.old (entry.now ∷ [])) }
         ensures err { OnErr result (self.new ≡ self.old) }
@@ -147,12 +148,13 @@ impl<C: CountTable> CountedNodes<C> {
         }
     }
 
-    /// Whether the names of a list that tell the node that this one tells, under the same generation, bring its count to the end of
-    /// counters, where it is counted under that generation.
+    /// Whether the names of a list that tell the node that this one tells, under the same generation, bring its count
+    /// to the end of counters, where it is counted under that generation.
     fn brings_out(&self, pair: &DirentPlus<'_>, pairs: RecordsPlus<'_>) -> bool
         requires { AreBelow self.now }
         ensures out { result ≡ true → SomeOut (learnt_from self.now (pairs_in pairs.entry)) }
-        ensures within { result ≡ false → LeavesBelow self.now (pairs_in pairs.entry) (told_by (pair_in (direntplus_content pair.now))) }
+        ensures within { result ≡ false → LeavesBelow self.now (pairs_in pairs.entry)
+            (told_by (pair_in (direntplus_content pair.now))) }
     {
         let Some(entry) = told(pair) else {
             return false;
@@ -170,8 +172,8 @@ impl<C: CountTable> CountedNodes<C> {
         tell_more(pairs, entry.nodeid, entry.generation, left)
     }
 
-    /// Whether a node's count comes to the end of counters once the names of a list are counted, each judged by the counts that
-    /// those before it left. Takes no memory.
+    /// Whether a node's count comes to the end of counters once the names of a list are counted, each judged by the
+    /// counts that those before it left. Takes no memory.
     pub fn listed_count_out(&self, pairs: RecordsPlus<'_>) -> bool
         requires below { AreBelow self.now }
         requires few { length (pairs_in pairs) < counter_end }

@@ -46,7 +46,8 @@ pub(crate) fn reserve_nodes<C: CountTable>(
 /// Counts one lookup more of a node that has room.
 fn count_one<C: CountTable>(table: &mut C, entry: &Entry)
     requires room { C.has_room table.old entry.now.nodeid }
-    requires alike { ForSome (get (C.counted table.old) entry.now.nodeid) (λ counted. counted.generation ≡ entry.now.generation) }
+    requires alike { ForSome (get (C.counted table.old) entry.now.nodeid)
+        (λ counted. counted.generation ≡ entry.now.generation) }
     requires fits { ForSome (get (C.counted table.old) entry.now.nodeid) (λ counted. counted.count + 1 < 2 ^ 64) }
     ensures counted { C.counted table.new ≡ learnt (C.counted table.old) (entry.now ∷ []) }
     ensures kept { (other : ℕ) → C.has_room table.old other → C.has_room table.new other }
@@ -58,14 +59,15 @@ fn count_one<C: CountTable>(table: &mut C, entry: &Entry)
     }
 }
 
-/// Counts one lookup more of the node that a name tells, if its entry can be used. Gives a number that is no lower than that of the
-/// counted nodes, as the one that it is given.
+/// Counts one lookup more of the node that a name tells, if its entry can be used. Gives a number that is no lower than
+/// that of the counted nodes, as the one that it is given.
 fn count_told<C: CountTable>(table: &mut C, most: usize, pair: &DirentPlus<'_>) -> usize
     requires room { HasNodeRoom (C.has_room table.old) (told_by (pair_in (direntplus_content pair.now))) }
     requires below { AreBelow (C.counted table.old) }
     requires within { length (C.counted table.old) ≤ most }
     requires low { most + 1 < 2 ^ 64 }
-    ensures counted { C.counted table.new ≡ learnt_told (C.counted table.old) (told_by (pair_in (direntplus_content pair.now))) }
+    ensures counted { C.counted table.new ≡ learnt_told (C.counted table.old)
+        (told_by (pair_in (direntplus_content pair.now))) }
     ensures kept { (other : ℕ) → C.has_room table.old other → C.has_room table.new other }
     ensures within { length (C.counted table.new) ≤ result }
     ensures more { result ≤ most + 1 }
@@ -91,8 +93,8 @@ fn count_told<C: CountTable>(table: &mut C, most: usize, pair: &DirentPlus<'_>) 
     }
 }
 
-/// Counts the nodes that names of a list tell, each judged by the counts that those before it left. Gives a number that is no lower
-/// than that of the counted nodes, as the one that it is given. Takes no memory.
+/// Counts the nodes that names of a list tell, each judged by the counts that those before it left. Gives a number that
+/// is no lower than that of the counted nodes, as the one that it is given. Takes no memory.
 pub(crate) fn count_all<C: CountTable>(table: &mut C, most: usize, pairs: RecordsPlus<'_>) -> usize
     requires room { HaveNodeRoom (C.has_room table.old) (pairs_in pairs) }
     requires below { AreBelow (learnt_from (C.counted table.old) (pairs_in pairs)) }

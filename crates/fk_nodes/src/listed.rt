@@ -33,7 +33,8 @@ fn reserve_name<A: Allocator + Copy>(
     pair: &DirentPlus<'_>,
 ) -> Result<(), AllocError>
     ensures names { names.new.names ≡ names.old.names }
-    ensures room { OnOk result (HasToldRoom names.new directory (pair_in (direntplus_content pair.now)) (told_by (pair_in (direntplus_content pair.now)))) }
+    ensures room { OnOk result (HasToldRoom names.new directory (pair_in (direntplus_content pair.now))
+        (told_by (pair_in (direntplus_content pair.now)))) }
     ensures kept { (other : Place) → HasRoom names.old other → HasRoom names.new other }
 {
     match told(pair) {
@@ -69,9 +70,13 @@ fn bind_name<A: Allocator + Copy, C: CountTable>(
     clock: u64,
     pair: &DirentPlus<'_>,
 )
-    requires room { HasToldRoom names.old directory (pair_in (direntplus_content pair.now)) (told_by (pair_in (direntplus_content pair.now))) }
+    requires room { HasToldRoom names.old directory (pair_in (direntplus_content pair.now))
+        (told_by (pair_in (direntplus_content pair.now))) }
     requires clock { clock + max_validity < 2 ^ 64 }
-    ensures names { names.new.names ≡ name_told clock directory names.old.names (pair_with (λ (g : NodeEntry). g.nodeid) (judged_in nodes.now (pair_in (direntplus_content pair.now)))) (told_by (pair_with (λ (g : NodeEntry). g.nodeid) (judged_in nodes.now (pair_in (direntplus_content pair.now))))) }
+    ensures names { names.new.names ≡ name_told clock directory names.old.names
+        (pair_with (λ (g : NodeEntry). g.nodeid) (judged_in nodes.now (pair_in (direntplus_content pair.now))))
+        (told_by (pair_with (λ (g : NodeEntry). g.nodeid)
+        (judged_in nodes.now (pair_in (direntplus_content pair.now))))) }
     ensures kept { (other : Place) → HasRoom names.old other → HasRoom names.new other }
 {
     let Some(entry) = told(pair) else {
@@ -111,7 +116,8 @@ fn forget_one<Q: QueueTable<Purpose>, C: CountTable>(
     pair: &DirentPlus<'_>,
 )
     requires { 0 < (Q.room queues.old).forgets }
-    ensures state { Q.state queues.new ≡ each_forgotten (Q.state queues.old) (stale_in (use_of_told nodes.now (told_by (pair_in (direntplus_content pair.now))))) }
+    ensures state { Q.state queues.new ≡ each_forgotten (Q.state queues.old)
+        (stale_in (use_of_told nodes.now (told_by (pair_in (direntplus_content pair.now))))) }
     ensures requests { (Q.room queues.old).requests ≤ (Q.room queues.new).requests }
     ensures forgets { (Q.room queues.old).forgets ≤ (Q.room queues.new).forgets + 1 }
 {
@@ -125,15 +131,16 @@ fn forget_one<Q: QueueTable<Purpose>, C: CountTable>(
     }
 }
 
-/// Queues a forget of one lookup of each node that a name of a list tells under another generation than it is counted (this
-/// project's rule). Takes no memory.
+/// Queues a forget of one lookup of each node that a name of a list tells under another generation than it is counted
+/// (this project's rule). Takes no memory.
 pub fn forget_stale<Q: QueueTable<Purpose>, C: CountTable>(
     queues: &mut Q,
     nodes: &CountedNodes<C>,
     pairs: RecordsPlus<'_>,
 )
     requires { length (pairs_in pairs) ≤ (Q.room queues.old).forgets }
-    ensures state { Q.state queues.new ≡ each_forgotten (Q.state queues.old) (stale_by nodes.now (pairs_in pairs.entry)) }
+    ensures state { Q.state queues.new ≡ each_forgotten (Q.state queues.old)
+        (stale_by nodes.now (pairs_in pairs.entry)) }
     ensures requests { (Q.room queues.old).requests ≤ (Q.room queues.new).requests }
     ensures forgets { (Q.room queues.old).forgets ≤ (Q.room queues.new).forgets + length (pairs_in pairs.entry) }
 {
@@ -179,8 +186,8 @@ pub fn pair_count(pairs: RecordsPlus<'_>) -> usize
     count
 }
 
-/// Counts the names of a list that tell files, and puts those in force of which the entry can be used, from this time in
-/// milliseconds on.
+/// Counts the names of a list that tell files, and puts those in force of which the entry can be used, from this time
+/// in milliseconds on.
 ///
 /// # Errors
 ///
@@ -198,7 +205,8 @@ pub fn learn_and_bind<A: Allocator + Copy, C: CountTable>(
     ensures err_names { OnErr result (names.new.names ≡ names.old.names) }
     ensures err_nodes { OnErr result (nodes.new ≡ nodes.old) }
     ensures nodes { OnOk result (nodes.new ≡ learnt_from nodes.old (pairs_in pairs.entry)) }
-    ensures names { OnOk result (names.new.names ≡ names_judged clock directory (learnt_from nodes.old (pairs_in pairs.entry)) names.old.names (pairs_in pairs.entry)) }
+    ensures names { OnOk result (names.new.names ≡ names_judged clock directory
+        (learnt_from nodes.old (pairs_in pairs.entry)) names.old.names (pairs_in pairs.entry)) }
 {
     reserve_listed(names, directory, pairs)?;
     nodes.learn_listed(pairs)?;

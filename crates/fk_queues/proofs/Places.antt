@@ -16,7 +16,11 @@ module _ {X : Type 0} (u : ℕ) (d : ℕ × X) where
     pub before : (k : ℕ) → k < i → nat_eq u (get_or es k d).0 ≡ false
 
   pub is_first-later : (e : ℕ × X) (es : List (ℕ × X)) (i : ℕ) → IsFirstAt (e ∷ es) (suc i) → IsFirstAt es i
-  is_first-later e es i f = record { within = omega (arith, f.within); here = f.here; before = λ k lt. f.before (suc k) (omega (arith, lt)) }
+  is_first-later e es i f = record {
+    within = omega (arith, f.within);
+    here = f.here;
+    before = λ k lt. f.before (suc k) (omega (arith, lt));
+  }
 
   pub lookup-first : (es : List (ℕ × X)) (i : ℕ) → IsFirstAt es i → lookup (nat_eq u) es ≡ Some (get_or es i d).1
   lookup-first [] i f = absurd (omega (arith, f.within))
@@ -26,7 +30,10 @@ module _ {X : Type 0} (u : ℕ) (d : ℕ × X) where
   pub remove_entry-first : (es : List (ℕ × X)) (i : ℕ) → IsFirstAt es i → remove_entry (nat_eq u) es ≡ remove es i
   remove_entry-first [] i f = absurd (omega (arith, f.within))
   remove_entry-first (e ∷ es) zero f = rw f.here refl
-  remove_entry-first (e ∷ es) (suc i) f = rw (f.before 0 (omega arith), remove_entry-first es i (is_first-later e es i f)) refl
+  remove_entry-first (e ∷ es) (suc i) f = rw (
+    f.before 0 (omega arith),
+    remove_entry-first es i (is_first-later e es i f),
+  ) refl
 
   pub is_first-position : (es : List (ℕ × X)) (i : ℕ) → position (λ e. nat_eq u e.0) es ≡ Some i → IsFirstAt es i
   is_first-position es i found =
@@ -42,7 +49,8 @@ module _ {X : Type 0} (u : ℕ) where
   pub lookup-no_place : (es : List (ℕ × X)) → position (λ e. nat_eq u e.0) es ≡ None → lookup (nat_eq u) es ≡ None
   lookup-no_place es none = lookup-past es (by (nat_lt (position_or_len (λ e. nat_eq u e.0) es) (length es)) refl)
     where
-      by : (b : Bool) → nat_lt (position_or_len (λ (e : ℕ × X). nat_eq u e.0) es) (length es) ≡ b → length es ≤ position_or_len (λ (e : ℕ × X). nat_eq u e.0) es
+      by : (b : Bool) → nat_lt (position_or_len (λ (e : ℕ × X). nat_eq u e.0) es) (length es) ≡ b
+          → length es ≤ position_or_len (λ (e : ℕ × X). nat_eq u e.0) es
       by true h =
           let there : Some (position_or_len (λ (e : ℕ × X). nat_eq u e.0) es) ≡ None = rw h at none in
           cc
@@ -53,7 +61,11 @@ module _ {X : Type 0} (u : ℕ) where
   remove_entry-absent (e ∷ es) none = grind (arith, none, remove_entry-absent es)
 
 module _ {W : Type 0} (u : ℕ) (d : ℕ × QueuedRequest W) where
-  pub set_mark-first : (es : List (ℕ × QueuedRequest W)) (i : ℕ) (m : Mark) → IsFirstAt u d es i → set_mark u es m ≡ set es i ((get_or es i d).0, record { mark = m; kept = (get_or es i d).1.kept })
+  pub set_mark-first : (es : List (ℕ × QueuedRequest W)) (i : ℕ) (m : Mark) → IsFirstAt u d es i
+      → set_mark u es m ≡ set es i ((get_or es i d).0, record { mark = m; kept = (get_or es i d).1.kept })
   set_mark-first [] i m f = absurd (omega (arith, f.within))
   set_mark-first (e ∷ es) zero m f = rw f.here refl
-  set_mark-first (e ∷ es) (suc i) m f = rw (f.before 0 (omega arith), set_mark-first es i m (is_first-later u d e es i f)) refl
+  set_mark-first (e ∷ es) (suc i) m f = rw (
+    f.before 0 (omega arith),
+    set_mark-first es i m (is_first-later u d e es i f),
+  ) refl

@@ -1,5 +1,5 @@
-//! Laws of the queues for the layers above: how the pending requests and those in processing change with each call, as lists,
-//! and which call each row of the table of replies to an INTERRUPT is.
+//! Laws of the queues for the layers above: how the pending requests and those in processing change with each call, as
+//! lists, and which call each row of the table of replies to an INTERRUPT is.
 //!
 //! The functions do nothing: each contract is a law.
 ghost use Rattle.std.specs.Prelude.{◌≡◌, ◌≢◌, ℕ, [], ◌∷◌, ◌++◌, Bool, remove, slice_get, nat_eq};
@@ -22,9 +22,11 @@ pub fn enqueue_appends<W>()
 
 /// A pending request that is read goes from its place to processing. The others keep their order in both lists.
 pub fn read_pending_moves_one<W>()
-    ensures pending { (s : QueueState W) (place : ℕ) (e : ℕ × QueuedRequest W) → IsSound s → slice_get (pending s) place ≡ Some e →
+    ensures pending { (s : QueueState W) (place : ℕ) (e : ℕ × QueuedRequest W) → IsSound s
+        → slice_get (pending s) place ≡ Some e →
         pending (after_read_pending s place) ≡ remove (pending s) place }
-    ensures processing { (s : QueueState W) (place : ℕ) (e : ℕ × QueuedRequest W) → IsSound s → slice_get (pending s) place ≡ Some e →
+    ensures processing { (s : QueueState W) (place : ℕ) (e : ℕ × QueuedRequest W) → IsSound s
+        → slice_get (pending s) place ≡ Some e →
         AddsOne (e.0, record { mark = mark_read e.1.mark; kept = e.1.kept }) (processing s) (processing (after_read_pending s place)) }
 {}
 
@@ -52,8 +54,8 @@ pub fn interrupt_moves_none<W>()
         kept_entries (processing (after_interrupt s unique fatal)) ≡ kept_entries (processing s) }
 {}
 
-/// The reply ENOSYS to the INTERRUPT of a request that waits is `no_interrupts`, and every other than that and EAGAIN is no
-/// call at all. EAGAIN is `again`, by the contract of that call.
+/// The reply ENOSYS to the INTERRUPT of a request that waits is `no_interrupts`, and every other than that and EAGAIN
+/// is no call at all. EAGAIN is `again`, by the contract of that call.
 pub fn interrupt_replies_are_calls<W>()
     ensures not_supported { (s : QueueState W) (unique : ℕ) (kept : W) → waiting s unique ≡ Some kept →
         after_interrupt_reply s unique NotSupported ≡ after_no_interrupts s }

@@ -14,10 +14,11 @@ use std::alloc::Allocator;
 
 /// The kernel's queues of requests, INTERRUPTs and forgets. `W` is what the kernel keeps of a request.
 ///
-/// Under a number or at a place that has no such request, a call gives `None` and changes nothing. Only `reserve` takes memory.
+/// Under a number or at a place that has no such request, a call gives `None` and changes nothing. Only `reserve` takes
+/// memory.
 ///
-/// While an INTERRUPT is queued, the kernel reads no other kind (this project's rule): `first_interrupt`, `first_forgets` and
-/// `pending` say what each read would give.
+/// While an INTERRUPT is queued, the kernel reads no other kind (this project's rule): `first_interrupt`,
+/// `first_forgets` and `pending` say what each read would give.
 pub trait QueueTable<W: Drop> {
     /// Where the room comes from.
     type Heap: Allocator + Copy;
@@ -69,8 +70,8 @@ pub trait QueueTable<W: Drop> {
     fn pending(&self, place: usize) -> Option<(u64, &W)>
         ensures { option_map (λ p. (p.0, p.1.now)) result ≡ pending_at (state self.now) place };
 
-    /// Reads the pending request at a place, not the oldest alone, and gives its number. It is in processing from then on.
-    /// Where it was flagged, its INTERRUPT is queued, unless INTERRUPTs are off.
+    /// Reads the pending request at a place, not the oldest alone, and gives its number. It is in processing from then
+    /// on. Where it was flagged, its INTERRUPT is queued, unless INTERRUPTs are off.
     fn read_pending(&mut self, place: usize) -> Option<u64>
         ensures unique { result ≡ option_map (λ p. p.0) (pending_at (state self.old) place) }
         ensures state { state self.new ≡ after_read_pending (state self.old) place }
@@ -122,8 +123,8 @@ pub trait QueueTable<W: Drop> {
         ensures state { state self.new ≡ after_interrupt (state self.old) unique fatal }
         ensures room { KeepsRoom (room self.old) (room self.new) };
 
-    /// The INTERRUPT of a request was answered EAGAIN. It is queued again, last, if the request waits and its INTERRUPT is
-    /// not queued already. Under a request that was never signalled nothing happens.
+    /// The INTERRUPT of a request was answered EAGAIN. It is queued again, last, if the request waits and its INTERRUPT
+    /// is not queued already. Under a request that was never signalled nothing happens.
     fn again(&mut self, unique: u64)
         ensures state { state self.new ≡ after_interrupt_reply (state self.old) unique Again }
         ensures room { KeepsRoom (room self.old) (room self.new) };

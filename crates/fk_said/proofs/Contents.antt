@@ -26,35 +26,46 @@ pad_is : (n : ℕ) → 24 + n + padding n ≡ (31 + n) / 8 * 8
 pad_is n = omega arith
 
 -- records are as long as their frame says
-records_end : (ds : List DirentContent) (place : ℕ) (bytes : List ℕ) → ReadsAs place (dirents ds) bytes → length bytes ≡ place + sum_by record_length (map dirent_in ds)
+records_end : (ds : List DirentContent) (place : ℕ) (bytes : List ℕ) → ReadsAs place (dirents ds) bytes
+    → length bytes ≡ place + sum_by record_length (map dirent_in ds)
 records_end [] place bytes reads = omega (arith, reads)
 records_end (d ∷ ds) place bytes reads =
     let rest = records_end ds (place + 8 + 8 + 4 + 4 + length d.name + padding (length d.name)) bytes reads.1.1.1.1.1 in
     let pad = pad_is (length d.name) in
-    let sum : sum_by record_length (map dirent_in (d ∷ ds)) ≡ (31 + length d.name) / 8 * 8 + sum_by record_length (map dirent_in ds) = sum_by-cons record_length (dirent_in d) (map dirent_in ds) in
+    let sum : sum_by record_length (map dirent_in (d ∷ ds))
+    ≡ (31 + length d.name) / 8 * 8 + sum_by record_length (map dirent_in ds) =
+    sum_by-cons record_length (dirent_in d) (map dirent_in ds) in
     omega (arith, rest, pad, sum)
 
 -- an entry has 128 bytes
-entry_end : (e : EntryContent) (after : List Field) (place : ℕ) (bytes : List ℕ) → ReadsAs place (entry_fields e after) bytes → ReadsAs (place + 128) after bytes
+entry_end : (e : EntryContent) (after : List Field) (place : ℕ) (bytes : List ℕ)
+    → ReadsAs place (entry_fields e after) bytes → ReadsAs (place + 128) after bytes
 entry_end (missing valid nsec) after place bytes reads =
     let end : place + 8 + 8 + 8 + 8 + 4 + 4 + 88 ≡ place + 128 = omega arith in
     subst (λ (p : ℕ). ReadsAs p after bytes) end reads.1.1.1
 entry_end (found nodeid generation valid nsec a) after place bytes reads =
-    let end : place + 8 + 8 + 8 + 8 + 4 + 4 + 8 + 8 + 8 + 8 + 8 + 8 + 4 + 4 + 4 + 4 + 4 + 4 + 4 + 4 + 4 + 4 ≡ place + 128 = omega arith in
+    let end : place + 8 + 8 + 8 + 8 + 4 + 4 + 8 + 8 + 8 + 8 + 8 + 8 + 4 + 4 + 4 + 4 + 4 + 4 + 4 + 4 + 4 + 4
+    ≡ place + 128 = omega arith in
     subst (λ (p : ℕ). ReadsAs p after bytes) end reads.1.1.1.1.1.1.1.1
 
 -- and so are pairs
-pairs_end : (ps : List DirentPlusContent) (place : ℕ) (bytes : List ℕ) → ReadsAs place (direntpluses ps) bytes → length bytes ≡ place + sum_by pair_length (map pair_in ps)
+pairs_end : (ps : List DirentPlusContent) (place : ℕ) (bytes : List ℕ) → ReadsAs place (direntpluses ps) bytes
+    → length bytes ≡ place + sum_by pair_length (map pair_in ps)
 pairs_end [] place bytes reads = omega (arith, reads)
 pairs_end (p ∷ ps) place bytes reads =
     let name = p.dirent.name in
     let behind = entry_end p.entry_out (dirent_fields p.dirent (direntpluses ps)) place bytes reads in
-    let rest = pairs_end ps (place + 128 + 8 + 8 + 4 + 4 + length name + padding (length name)) bytes behind.1.1.1.1.1 in
+    let rest = pairs_end ps (place + 128 + 8 + 8 + 4 + 4 + length name + padding
+    (length name)) bytes behind.1.1.1.1.1 in
     let pad = pad_is (length name) in
-    let sum : sum_by pair_length (map pair_in (p ∷ ps)) ≡ 128 + (31 + length name) / 8 * 8 + sum_by pair_length (map pair_in ps) = sum_by-cons pair_length (pair_in p) (map pair_in ps) in
+    let sum : sum_by pair_length (map pair_in (p ∷ ps))
+    ≡ 128 + (31 + length name) / 8 * 8 + sum_by pair_length (map pair_in ps) =
+    sum_by-cons pair_length (pair_in p) (map pair_in ps) in
     omega (arith, rest, pad, sum)
 
-pub fits : (operation : Operation ℕ Opened) (content : ReplyContent) (bytes : List ℕ) → reply_kind served (asked_opcode (asks operation)) ≡ Some (kind_of_content content) → ReadsAs 16 (reply_body content) bytes
+pub fits : (operation : Operation ℕ Opened) (content : ReplyContent) (bytes : List ℕ)
+    → reply_kind served (asked_opcode (asks operation)) ≡ Some (kind_of_content content)
+    → ReadsAs 16 (reply_body content) bytes
     → goes_with operation (wire_body content) ≡ is_within operation (length bytes) content
 fits (lookup d w) (entry_reply (missing s n)) bytes is reads = refl
 fits (lookup d w) (entry_reply (found x g s n a)) bytes is reads = refl
@@ -96,7 +107,8 @@ fits (write o f b) (write_reply n) bytes is reads = refl
 fits (write o f b) content bytes is reads = cc
 
 -- INIT is asked by no call
-no_init : (operation : Operation ℕ Opened) (major minor flags : ℕ) {T : Type 0} → reply_kind served (asked_opcode (asks operation)) ≡ Some (kind_of_content (init_reply major minor flags)) → T
+no_init : (operation : Operation ℕ Opened) (major minor flags : ℕ) {T : Type 0}
+    → reply_kind served (asked_opcode (asks operation)) ≡ Some (kind_of_content (init_reply major minor flags)) → T
 no_init (lookup d w) major minor flags is = cc
 no_init (getattr x) major minor flags is = cc
 no_init (mkdir d n) major minor flags is = cc
@@ -111,16 +123,23 @@ no_init (readdirplus d a z) major minor flags is = cc
 no_init (read o f z) major minor flags is = cc
 no_init (write o f b) major minor flags is = cc
 
-pub said_body : (operation : Operation ℕ Opened) (content : ReplyContent) → reply_kind served (asked_opcode (asks operation)) ≡ Some (kind_of_content content) → IsSaidBody content
+pub said_body : (operation : Operation ℕ Opened) (content : ReplyContent)
+    → reply_kind served (asked_opcode (asks operation)) ≡ Some (kind_of_content content) → IsSaidBody content
 said_body operation (init_reply major minor flags) is = no_init operation major minor flags is
 said_body operation content is = tt
 
 -- a body without an error
-pub content_fits : (operation : Operation ℕ Opened) (bytes : List ℕ) (unique : ℕ) (error : ℤ) (content : ReplyContent) → error ≡ pos 0 → SpellsReply (asked_opcode (asks operation)) bytes (record { unique = unique; error = error; content = content })
+pub content_fits : (operation : Operation ℕ Opened) (bytes : List ℕ) (unique : ℕ) (error : ℤ) (content : ReplyContent)
+    → error ≡ pos 0 → SpellsReply (asked_opcode (asks operation)) bytes
+    (record { unique = unique; error = error; content = content })
     → (goes_with operation (wire_body content) ≡ is_within operation (length bytes) content) × IsSaidBody content
-content_fits operation bytes unique error content none spells = by (subst (λ (z : ℤ). SpellsReply (asked_opcode (asks operation)) bytes (record { unique = unique; error = z; content = content })) none spells)
+content_fits operation bytes unique error content none spells =
+    by (subst (λ (z : ℤ). SpellsReply (asked_opcode (asks operation)) bytes
+    (record { unique = unique; error = z; content = content })) none spells)
   where
-    by : SpellsReply (asked_opcode (asks operation)) bytes (record { unique = unique; error = pos 0; content = content }) → (goes_with operation (wire_body content) ≡ is_within operation (length bytes) content) × IsSaidBody content
+    by : SpellsReply (asked_opcode (asks operation)) bytes
+        (record { unique = unique; error = pos 0; content = content })
+        → (goes_with operation (wire_body content) ≡ is_within operation (length bytes) content) × IsSaidBody content
     by s =
         let kind = s.2.1 ∙ ap Some (sym s.2.2) in
         (fits operation content bytes kind s.5.1.1.1, said_body operation content kind)
@@ -142,11 +161,20 @@ failed_goes (read o f z) errno = refl
 failed_goes (write o f b) errno = refl
 
 -- what was made of a body says it
-pub said_so : (operation : Operation ℕ Opened) (bytes : List ℕ) (wire : WireReply) (r : Option ReplySaid) (N : Type 0) → MatchOption r N (λ said. (wire ≡ wire_of said) × LastsADay said) → Says (asked_opcode (asks operation)) bytes wire → goes_with operation wire ≡ true → IfSome r (SaysTo operation bytes)
+pub said_so : (operation : Operation ℕ Opened) (bytes : List ℕ) (wire : WireReply) (r : Option ReplySaid) (N : Type 0)
+    → MatchOption r N (λ said. (wire ≡ wire_of said) × LastsADay said)
+    → Says (asked_opcode (asks operation)) bytes wire → goes_with operation wire ≡ true
+    → IfSome r (SaysTo operation bytes)
 said_so operation bytes wire None N made says goes = tt
-said_so operation bytes wire (Some said) N made says goes = record { says = subst (Says (asked_opcode (asks operation)) bytes) made.0 says; goes = subst (λ (x : WireReply). goes_with operation x ≡ true) made.0 goes; day = made.1 }
+said_so operation bytes wire (Some said) N made says goes =
+    record {
+      says = subst (Says (asked_opcode (asks operation)) bytes) made.0 says;
+      goes = subst (λ (x : WireReply). goes_with operation x ≡ true) made.0 goes;
+      day = made.1;
+    }
 
-pub none_said : (operation : Operation ℕ Opened) (bytes : List ℕ) (content : ReplyContent) (r : Option ReplySaid) (P : ReplySaid → Type 0) → MatchOption r (IsSaidBody content → ⊥) P → IsSaidBody content
+pub none_said : (operation : Operation ℕ Opened) (bytes : List ℕ) (content : ReplyContent) (r : Option ReplySaid)
+    (P : ReplySaid → Type 0) → MatchOption r (IsSaidBody content → ⊥) P → IsSaidBody content
     → IfNone r ((wire : WireReply) → Says (asked_opcode (asks operation)) bytes wire → goes_with operation wire ≡ false)
 none_said operation bytes content None P made is = absurd (made is)
 none_said operation bytes content (Some said) P made is = tt

@@ -15,9 +15,12 @@ use Rattle.fk_said.specs.Said.{Says}
 above_zero : (n : ℕ) → pos (suc n) ≤ℤ pos 0 → ⊥
 above_zero n h = omega (arith, ints)
 
-module _ (o : Opcode) (P : WireReply → Type 0) (failed : (errno : ℕ) → P (reply.failed errno)) (other : (content : ReplyContent) → reply_kind served o ≡ Some (kind_of_content content) → P (wire_body content)) where
+module _ (o : Opcode) (P : WireReply → Type 0) (failed : (errno : ℕ) → P (reply.failed errno))
+    (other : (content : ReplyContent) → reply_kind served o ≡ Some (kind_of_content content)
+    → P (wire_body content)) where
   -- an error alone, or a body of the kind that goes with the opcode
-  by_error : (unique : ℕ) (z : ℤ) (content : ReplyContent) → IsErrorNumber z → GoesWith served o (record { unique = unique; error = z; content = content }) → P (wire_said z content)
+  by_error : (unique : ℕ) (z : ℤ) (content : ReplyContent) → IsErrorNumber z
+      → GoesWith served o (record { unique = unique; error = z; content = content }) → P (wire_said z content)
   by_error unique (negsuc n) content range goes = failed (n + 1)
   by_error unique (pos zero) content range goes = other content (goes.1 ∙ ap Some (sym goes.2))
   by_error unique (pos (suc n)) content range goes = absurd (above_zero n range.0)
@@ -27,7 +30,8 @@ module _ (o : Opcode) (P : WireReply → Type 0) (failed : (errno : ℕ) → P (
       let m = s.says.message in
       subst P s.says.says (by_error m.unique m.error m.content s.says.spells.1 s.says.spells.2)
 
-release_body : (content : ReplyContent) → reply_kind served op.Release ≡ Some (kind_of_content content) → is_empty_reply (wire_body content) ≡ true
+release_body : (content : ReplyContent) → reply_kind served op.Release ≡ Some (kind_of_content content)
+    → is_empty_reply (wire_body content) ≡ true
 release_body empty_reply is = refl
 release_body content is = cc
 

@@ -20,17 +20,23 @@ pub same_error : (z : ℤ) → IsErrorNumber z → cast_signed w32 (cast_unsigne
 same_error z p = to_z-of_z w32 z (error_fits z p)
 
 -- Where nothing was read nothing is said.
-pub says_nothing : (o : Opcode) (bytes : List ℕ) (r : Result Reply WireFault) (f : WireFault) → r ≡ Err f → ((t : ReplyMessage) → SpellsReply o bytes t → IsOkAnd r (λ v. reply_message v ≡ t)) → IsNoReply o bytes
+pub says_nothing : (o : Opcode) (bytes : List ℕ) (r : Result Reply WireFault) (f : WireFault) → r ≡ Err f
+    → ((t : ReplyMessage) → SpellsReply o bytes t → IsOkAnd r (λ v. reply_message v ≡ t)) → IsNoReply o bytes
 says_nothing o bytes r f e only wire h =
     let there : IsOkAnd r (λ v. reply_message v ≡ h.says.message) = only h.says.message h.says.spells in
     rw e at there
 
 -- What was read is said.
-pub says_read : (o : Opcode) (bytes : List ℕ) (r : Reply) (wire : WireReply) → SpellsReply o bytes (reply_message r) → wire_said r.error (reply_content r.body) ≡ wire → Says o bytes wire
-says_read o bytes r wire spells e = record { unique = r.unique; says = record { message = reply_message r; spells = spells; unique_is = refl; says = e } }
+pub says_read : (o : Opcode) (bytes : List ℕ) (r : Reply) (wire : WireReply) → SpellsReply o bytes (reply_message r)
+    → wire_said r.error (reply_content r.body) ≡ wire → Says o bytes wire
+says_read o bytes r wire spells e = record {
+  unique = r.unique;
+  says = record { message = reply_message r; spells = spells; unique_is = refl; says = e };
+}
 
 -- One thing is said.
-pub says_one : (o : Opcode) (bytes : List ℕ) (wire other : WireReply) → Says o bytes wire → Says o bytes other → wire ≡ other
+pub says_one : (o : Opcode) (bytes : List ℕ) (wire other : WireReply) → Says o bytes wire → Says o bytes other
+    → wire ≡ other
 says_one o bytes wire other a b =
     let same = sym (decoded_reply_is o bytes a.says.message a.says.spells) ∙ decoded_reply_is o bytes b.says.message b.says.spells in
     sym a.says.says ∙ ap (λ (m : ReplyMessage). wire_said m.error m.content) same ∙ b.says.says

@@ -135,7 +135,8 @@ fn said_by_create(entry: &fk_wire::Entry, fh: u64) -> ReplySaid<'static>
 
 /// What a body says. One of INIT says nothing to a call.
 fn said_by(body: ReplyBody<'_>) -> Option<ReplySaid<'_>>
-    ensures { MatchOption result (IsSaidBody (reply_content body.entry) → ⊥) (λ said. (wire_body (reply_content body.entry) ≡ wire_of said) × LastsADay said) }
+    ensures { MatchOption result (IsSaidBody (reply_content body.entry) → ⊥)
+        (λ said. (wire_body (reply_content body.entry) ≡ wire_of said) × LastsADay said) }
 {
     match body {
         ReplyBody::Empty => Some(ReplySaid::Done),
@@ -154,7 +155,9 @@ fn said_by(body: ReplyBody<'_>) -> Option<ReplySaid<'_>>
 /// What the bytes say to what a call asked, if they are a reply that goes with it.
 pub fn said_to<'a>(asked: &Operation<&[u8]>, bytes: &'a [u8]) -> Option<ReplySaid<'a>>
     ensures said { IfSome result (SaysTo (operation_of (λ s. s.now) asked.now) bytes.now) }
-    ensures none { IfNone result ((wire : WireReply) → Says (asked_opcode (asks (operation_of (λ s. s.now) asked.now))) bytes.now wire → goes_with (operation_of (λ s. s.now) asked.now) wire ≡ false) }
+    ensures none { IfNone result ((wire : WireReply)
+        → Says (asked_opcode (asks (operation_of (λ s. s.now) asked.now))) bytes.now wire
+        → goes_with (operation_of (λ s. s.now) asked.now) wire ≡ false) }
 {
     let Ok(reply) = read_reply(opcode_asked(asked), bytes) else {
         return None;

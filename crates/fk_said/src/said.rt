@@ -36,7 +36,8 @@ pub enum InterruptSaid {
 /// The error number that stands in a reply, if it is not 0.
 pub(crate) fn failure(error: i32) -> Option<u32>
     requires { IsErrorNumber error }
-    ensures { MatchOption result (error ≡ pos 0) (λ errno. (content : ReplyContent) → wire_said error content ≡ reply.failed errno) }
+    ensures { MatchOption result (error ≡ pos 0) (λ errno. (content : ReplyContent)
+        → wire_said error content ≡ reply.failed errno) }
 {
     if error == 0 {
         return None;
@@ -64,8 +65,8 @@ pub fn minor_agreed(said: &InitSaid) -> Minor
     }
 }
 
-/// Whether files may be listed with their names: the server takes up FUSE_DO_READDIRPLUS, and the minor is not 15, which has no
-/// READDIRPLUS (linux/fuse.h).
+/// Whether files may be listed with their names: the server takes up FUSE_DO_READDIRPLUS, and the minor is not 15,
+/// which has no READDIRPLUS (linux/fuse.h).
 #[tactic(auto, using(crate::proofs::Agreements::readdirplus_known))]
 pub fn files_agreed(said: &InitSaid) -> bool
     ensures { result ≡ files_agreed (init_wire said.now) }

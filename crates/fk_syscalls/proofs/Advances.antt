@@ -36,61 +36,83 @@ module _ (c : Vfs Opened) (names : NameMap Binding) (clock : ℕ) (has : HasName
       walks = λ i. after (go (known (has.names i) (has.clock i)) from words)
 
       -- where a word is left, or no second walk follows
-      by_left : (node : ℕ) (left : List Name) → (left ≡ [] → IsLast plan) → after (stop_at node left) ≡ asking c call (walking_at node left plan)
+      by_left : (node : ℕ) (left : List Name) → (left ≡ [] → IsLast plan)
+          → after (stop_at node left) ≡ asking c call (walking_at node left plan)
       by_left node [] ends = by_plan plan (ends refl)
         where
-          by_plan : (p : WalkPlan ℕ) → IsLast p → after_walk c call (after_stop (look c) c.root p (arrived node)) ≡ asking c call (walking_at node [] p)
+          by_plan : (p : WalkPlan ℕ) → IsLast p → after_walk c call (after_stop (look c) c.root p (arrived node))
+              ≡ asking c call (walking_at node [] p)
           by_plan (last operation) is = refl
           by_plan (rename old words new) is = absurd is
           by_plan (link words name) is = absurd is
       by_left node (word ∷ left) ends = refl
 
-      pub waits : (node : ℕ) (left : List Name) → (left ≡ [] → IsLast plan) → go (known names clock) from words ≡ stop_at node left → walks_on c call from words plan ≡ asking c call (walking_at node left plan)
+      pub waits : (node : ℕ) (left : List Name) → (left ≡ [] → IsLast plan)
+          → go (known names clock) from words ≡ stop_at node left
+          → walks_on c call from words plan ≡ asking c call (walking_at node left plan)
       waits node left ends stop = walks ∙ ap after stop ∙ by_left node left ends
 
-      pub finds_none : go (known names clock) from words ≡ missing → walks_on c call from words plan ≡ no_more (answered c call (failed 2))
+      pub finds_none : go (known names clock) from words ≡ missing
+          → walks_on c call from words plan ≡ no_more (answered c call (failed 2))
       finds_none stop = walks ∙ ap after stop
 
-  pub waits_at_end : (words : List Name) (operation : FinalOperation ℕ) (from node : ℕ) → go (known names clock) from words ≡ arrived node → walks_on c call from words (last operation) ≡ asking c call (walking_at node [] (last operation))
+  pub waits_at_end : (words : List Name) (operation : FinalOperation ℕ) (from node : ℕ)
+      → go (known names clock) from words ≡ arrived node
+      → walks_on c call from words (last operation) ≡ asking c call (walking_at node [] (last operation))
   waits_at_end words operation from node arrives = waits words (last operation) from node [] (λ e. tt) arrives
 
   -- The second walk is a walk of its own.
-  same_walk : (operation : FinalOperation ℕ) (stop : WalkStop ℕ) → after_walk c call (after_last operation stop) ≡ after_walk c call (after_stop (look c) c.root (last operation) stop)
+  same_walk : (operation : FinalOperation ℕ) (stop : WalkStop ℕ)
+      → after_walk c call (after_last operation stop) ≡ after_walk c call
+      (after_stop (look c) c.root (last operation) stop)
   same_walk operation (unknown at word words) = refl
   same_walk operation missing = refl
   same_walk operation (arrived file) = refl
 
-  pub renames : (from : ℕ) (words : List Name) (old : Name) (more : List Name) (new : Name) (node : ℕ) → go (known names clock) from words ≡ arrived node
+  pub renames : (from : ℕ) (words : List Name) (old : Name) (more : List Name) (new : Name) (node : ℕ)
+      → go (known names clock) from words ≡ arrived node
       → walks_on c call from words (rename old more new) ≡ walks_on c call c.root more (last (rename_from node old new))
-  renames from words old more new node stop = walks words (rename old more new) from ∙ ap (after words (rename old more new)) stop ∙ same_walk (rename_from node old new) (go (look c) c.root more)
+  renames from words old more new node stop = walks words (rename old more new) from ∙ ap
+      (after words (rename old more new)) stop ∙ same_walk (rename_from node old new) (go (look c) c.root more)
 
-  pub links : (from : ℕ) (words : List Name) (more : List Name) (name : Name) (node : ℕ) → go (known names clock) from words ≡ arrived node
+  pub links : (from : ℕ) (words : List Name) (more : List Name) (name : Name) (node : ℕ)
+      → go (known names clock) from words ≡ arrived node
       → walks_on c call from words (link more name) ≡ walks_on c call c.root more (last (link_to node name))
-  links from words more name node stop = walks words (link more name) from ∙ ap (after words (link more name)) stop ∙ same_walk (link_to node name) (go (look c) c.root more)
+  links from words more name node stop = walks words (link more name) from ∙ ap
+      (after words (link more name)) stop ∙ same_walk (link_to node name) (go (look c) c.root more)
 
   -- from the root
-  pub root_is : (words : List Name) (plan : WalkPlan ℕ) → walks_on c call c.root words plan ≡ walks_on c call 1 words plan
+  pub root_is : (words : List Name) (plan : WalkPlan ℕ)
+      → walks_on c call c.root words plan ≡ walks_on c call 1 words plan
   root_is words plan = ap (λ (root : ℕ). walks_on c call root words plan) has.root
 
-  pub all_root_waits : (words : List Name) (plan : WalkPlan ℕ) (node : ℕ) (left : List Name) → (left ≡ [] → IsLast plan) → go (known names clock) 1 words ≡ stop_at node left → walks_on c call c.root words plan ≡ asking c call (walking_at node left plan)
+  pub all_root_waits : (words : List Name) (plan : WalkPlan ℕ) (node : ℕ) (left : List Name)
+      → (left ≡ [] → IsLast plan) → go (known names clock) 1 words ≡ stop_at node left
+      → walks_on c call c.root words plan ≡ asking c call (walking_at node left plan)
   all_root_waits words plan node left ends stop = root_is words plan ∙ waits words plan 1 node left ends stop
 
   -- from the root, where no walk follows
   module _ (words : List Name) (operation : FinalOperation ℕ) where
-    pub root_waits : (node : ℕ) (left : List Name) → go (known names clock) 1 words ≡ stop_at node left → walks_on c call c.root words (last operation) ≡ asking c call (walking_at node left (last operation))
+    pub root_waits : (node : ℕ) (left : List Name) → go (known names clock) 1 words ≡ stop_at node left
+        → walks_on c call c.root words (last operation) ≡ asking c call (walking_at node left (last operation))
     root_waits node left stop = root_is words (last operation) ∙ waits words (last operation) 1 node left (λ e. tt) stop
 
-    pub root_none : go (known names clock) 1 words ≡ missing → walks_on c call c.root words (last operation) ≡ no_more (answered c call (failed 2))
+    pub root_none : go (known names clock) 1 words ≡ missing
+        → walks_on c call c.root words (last operation) ≡ no_more (answered c call (failed 2))
     root_none stop = root_is words (last operation) ∙ finds_none words (last operation) 1 stop
 
     -- whether it asks is whether it stands
-    pub root_asks : (bytes : List ℕ) (r : Option Stop) → MatchOption r (go (known names clock) 1 words ≡ missing) (λ stop. go (known names clock) 1 words ≡ stop_at stop.node (words_from bytes stop.at))
+    pub root_asks : (bytes : List ℕ) (r : Option Stop)
+        → MatchOption r (go (known names clock) 1 words ≡ missing)
+        (λ stop. go (known names clock) 1 words ≡ stop_at stop.node (words_from bytes stop.at))
         → is_some (walks_on c call c.root words (last operation)).operation ≡ is_some r
     root_asks bytes None stop = ap (λ (a : Advance Opened). is_some a.operation) (root_none stop)
-    root_asks bytes (Some s) stop = ap (λ (a : Advance Opened). is_some a.operation) (root_waits s.node (words_from bytes s.at) stop)
+    root_asks bytes (Some s) stop = ap (λ (a : Advance Opened). is_some a.operation)
+        (root_waits s.node (words_from bytes s.at) stop)
 
 -- What is behind the word that is looked up, and what is to be done at the end.
-pub left_to_walk : (node : ℕ) (left : List Name) (aim : WalkPlan ℕ) (directory : ℕ) (word : Name) (words : List Name) (plan : WalkPlan ℕ) → walking_at node left aim ≡ walking directory word words plan
+pub left_to_walk : (node : ℕ) (left : List Name) (aim : WalkPlan ℕ) (directory : ℕ) (word : Name) (words : List Name)
+    (plan : WalkPlan ℕ) → walking_at node left aim ≡ walking directory word words plan
     → (words ≡ behind_first left) × (plan ≡ aim)
 left_to_walk node [] (last operation) directory word words plan e = cc
 left_to_walk node [] (rename old more new) directory word words plan e = cc
@@ -98,18 +120,22 @@ left_to_walk node [] (link more name) directory word words plan e = cc
 left_to_walk node (first ∷ left) aim directory word words plan e = (cc, cc)
 
 -- A call that looked up a word walks on along those behind it.
-pub looks_on : (c : Vfs Opened) (call from node : ℕ) (left : List Name) (aim : WalkPlan ℕ) (directory : ℕ) (word : Name) (words : List Name) (plan : WalkPlan ℕ) (next : List Name)
-    → walking_at node left aim ≡ walking directory word words plan → next ≡ behind_first left → walks_on c call from words plan ≡ walks_on c call from next aim
+pub looks_on : (c : Vfs Opened) (call from node : ℕ) (left : List Name) (aim : WalkPlan ℕ) (directory : ℕ)
+    (word : Name) (words : List Name) (plan : WalkPlan ℕ) (next : List Name)
+    → walking_at node left aim ≡ walking directory word words plan → next ≡ behind_first left
+    → walks_on c call from words plan ≡ walks_on c call from next aim
 looks_on c call from node left aim directory word words plan next e behind =
     let both = left_to_walk node left aim directory word words plan e in
-    ap (λ (p : WalkPlan ℕ). walks_on c call from words p) both.1 ∙ ap (λ (ws : List Name). walks_on c call from ws aim) (both.0 ∙ sym behind)
+    ap (λ (p : WalkPlan ℕ). walks_on c call from words p) both.1 ∙ ap (λ (ws : List Name). walks_on c call from ws aim)
+    (both.0 ∙ sym behind)
 
 -- Where a place is left a word is left, and else none.
 split_some : (word : Name) (bytes : List ℕ) {T : Type 0} → split word bytes ≡ [] → T
 split_some word [] e = cc
 split_some word (b ∷ bytes) {T} e = by (nat_eq b 47) e (split_some (word ++ b ∷ []) bytes)
   where
-    by : (t : Bool) → cond t (word ∷ split [] bytes) (split (word ++ b ∷ []) bytes) ≡ [] → (split (word ++ b ∷ []) bytes ≡ [] → T) → T
+    by : (t : Bool) → cond t (word ∷ split [] bytes) (split (word ++ b ∷ []) bytes) ≡ []
+        → (split (word ++ b ∷ []) bytes ≡ [] → T) → T
     by true is rest = cc
     by false is rest = rest is
 
@@ -132,8 +158,11 @@ on_err (Ok t) then x = tt
 on_err (Err e) then x = then x
 
 -- Beginnings that leave a call alike.
-module _ {A : Type 0} (names : NameMap Binding) (clock : ℕ) (one other : Beginning ℕ Opened) (same : (c : Vfs Opened) (call : ℕ) → HasNames c names clock → after_beginning c call one ≡ after_beginning c call other) where
-  pub begun_so : (r : Result (Next A) AllocError) → IfOk r (IsBegun names clock other) → IfOk r (IsBegun names clock one)
+module _ {A : Type 0} (names : NameMap Binding) (clock : ℕ) (one other : Beginning ℕ Opened)
+    (same : (c : Vfs Opened) (call : ℕ) → HasNames c names clock
+    → after_beginning c call one ≡ after_beginning c call other) where
+  pub begun_so : (r : Result (Next A) AllocError) → IfOk r (IsBegun names clock other)
+      → IfOk r (IsBegun names clock one)
   begun_so (Ok next) begun = λ c call has. same c call has ∙ begun c call has
   begun_so (Err e) begun = tt
 
@@ -142,19 +171,24 @@ module _ {A : Type 0} (names : NameMap Binding) (clock : ℕ) (one other : Begin
   asks_so (Err e) asks = λ c call has. ((asks c call has).0, same c call has ∙ (asks c call has).1)
 
 -- What the first step of a call asks.
-module _ {A : Type 0} (names : NameMap Binding) (clock : ℕ) (opens : Map Opened) (made : Call) (begins : Beginning ℕ Opened) where
+module _ {A : Type 0} (names : NameMap Binding) (clock : ℕ) (opens : Map Opened) (made : Call)
+    (begins : Beginning ℕ Opened) where
   abbrev AsksFirst : Result (Next A) AllocError → Type 0
-  AsksFirst r = OnErr r ((c : Vfs Opened) → HasNames c names clock → c.opens ≡ opens → (state : CallState Opened) × (begun false c made ≡ asking (numbered c) c.next_call state))
+  AsksFirst r = OnErr r ((c : Vfs Opened) → HasNames c names clock → c.opens ≡ opens
+      → (state : CallState Opened) × (begun false c made ≡ asking (numbered c) c.next_call state))
 
-  pub first_asks : ((c : Vfs Opened) → beginning c.opens made ≡ begins) → (r : Result (Next A) AllocError) → OnErr r (Asks names clock begins) → AsksFirst r
+  pub first_asks : ((c : Vfs Opened) → beginning c.opens made ≡ begins) → (r : Result (Next A) AllocError)
+      → OnErr r (Asks names clock begins) → AsksFirst r
   first_asks same (Ok next) asks = tt
   first_asks same (Err e) asks = λ c has is.
       let first = asks (numbered c) c.next_call (record { names = has.names; clock = has.clock; root = has.root }) in
       (first.0, ap (after_beginning (numbered c) c.next_call) (same c) ∙ first.1)
 
   -- of a call on an open file
-  pub file_asks : ((c : Vfs Opened) → c.opens ≡ opens → beginning c.opens made ≡ begins) → (r : Result (Next A) AllocError)
-      → OnErr r ((c : Vfs Opened) (call : ℕ) → (state : CallState Opened) × (after_beginning c call begins ≡ asking c call state)) → AsksFirst r
+  pub file_asks : ((c : Vfs Opened) → c.opens ≡ opens → beginning c.opens made ≡ begins)
+      → (r : Result (Next A) AllocError)
+      → OnErr r ((c : Vfs Opened) (call : ℕ) → (state : CallState Opened)
+      × (after_beginning c call begins ≡ asking c call state)) → AsksFirst r
   file_asks same (Ok next) asks = tt
   file_asks same (Err e) asks = λ c has is.
       let first = asks (numbered c) c.next_call in
@@ -167,7 +201,9 @@ either true false = refl
 either false true = refl
 either false false = refl
 
-pub names_walked : (node at : ℕ) (words : List Name) (plan : WalkPlan ℕ) → list_any (nat_eq node) (nodes_of_state (walking_at at words plan)) ≡ (nat_eq node at || list_any (nat_eq node) (files_of_plan plan))
+pub names_walked : (node at : ℕ) (words : List Name) (plan : WalkPlan ℕ)
+    → list_any (nat_eq node) (nodes_of_state (walking_at at words plan))
+    ≡ (nat_eq node at || list_any (nat_eq node) (files_of_plan plan))
 names_walked node at (word ∷ words) plan = refl
 names_walked node at [] (rename old words new) = refl
 names_walked node at [] (link words name) = refl
@@ -186,7 +222,9 @@ names_walked node at [] (last (link_to file name)) = refl
 itself : (node at : ℕ) → at ≡ node → nat_eq node at ≡ true
 itself node at same = grind (arith, nat_tests)
 
-pub names_self : {A : Type 0} (node at : ℕ) (words : List Name) (aim : Aim A) → at ≡ node → list_any (nat_eq node) (nodes_of_state (state_of at words aim)) ≡ true
-names_self node at words (Walks plan) same = names_walked node at words (plan_of (λ s. s.items) plan) ∙ ap (λ (b : Bool). b || list_any (nat_eq node) (files_of_plan (plan_of (λ s. s.items) plan))) (itself node at same)
+pub names_self : {A : Type 0} (node at : ℕ) (words : List Name) (aim : Aim A) → at ≡ node
+    → list_any (nat_eq node) (nodes_of_state (state_of at words aim)) ≡ true
+names_self node at words (Walks plan) same = names_walked node at words (plan_of (λ s. s.items) plan) ∙ ap
+    (λ (b : Bool). b || list_any (nat_eq node) (files_of_plan (plan_of (λ s. s.items) plan))) (itself node at same)
 names_self node at words (Reads handle fh offset size) same = ap (λ (b : Bool). b || false) (itself node at same)
 names_self node at words (Writes handle fh offset bytes) same = ap (λ (b : Bool). b || false) (itself node at same)

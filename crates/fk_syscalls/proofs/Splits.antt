@@ -19,10 +19,12 @@ abbrev words_behind : List ℕ → List Name
 words_behind [] = []
 words_behind (slash ∷ bytes) = split [] bytes
 
-split_on : (word : Name) (bytes : List ℕ) → split word bytes ≡ (word ++ take (first_len bytes) bytes) ∷ words_behind (drop (first_len bytes) bytes)
+split_on : (word : Name) (bytes : List ℕ) → split word bytes
+    ≡ (word ++ take (first_len bytes) bytes) ∷ words_behind (drop (first_len bytes) bytes)
 split_on word [] = rw append-nil refl
 split_on word (b ∷ bytes) =
-    elim (nat_eq b 47) as (λ t. nat_eq b 47 ≡ t → split word (b ∷ bytes) ≡ (word ++ take (first_len (b ∷ bytes)) (b ∷ bytes)) ∷ words_behind (drop (first_len (b ∷ bytes)) (b ∷ bytes))) [
+    elim (nat_eq b 47) as (λ t. nat_eq b 47 ≡ t → split word (b ∷ bytes)
+    ≡ (word ++ take (first_len (b ∷ bytes)) (b ∷ bytes)) ∷ words_behind (drop (first_len (b ∷ bytes)) (b ∷ bytes))) [
       | true ↦ λ e. rw (e, append-nil) refl
       | false ↦ λ e. rw (e, split_on (word ++ b ∷ []) bytes, one-add, append_assoc) refl
     ] refl
@@ -36,7 +38,8 @@ module _ (bytes : List ℕ) (n : ℕ) (found : position is_slash bytes ≡ Some 
   slash_there =
       let within = slash_within in
       let byte = eqb-true (get_or bytes n 0) 47 (position-Some is_slash bytes n 0 found).1 in
-      drop-cons bytes n 0 within ∙ ap (λ (b : ℕ). b ∷ drop (suc n) bytes) byte ∙ ap (λ (k : ℕ). 47 ∷ drop k bytes) (sym (add-one n))
+      drop-cons bytes n 0 within ∙ ap (λ (b : ℕ). b ∷ drop (suc n) bytes) byte ∙ ap (λ (k : ℕ). 47 ∷ drop k bytes)
+      (sym (add-one n))
 
   pub split_slash : split [] bytes ≡ take n bytes ∷ split [] (drop (n + 1) bytes)
   split_slash =
@@ -63,8 +66,10 @@ module _ (words : List ℕ) (place : ℕ) where
     pub word_there : split [] (drop place words) ≡ take n rest ∷ split [] (drop (place + n + 1) words)
     word_there =
         let sum : place + (n + 1) ≡ place + n + 1 = omega arith in
-        split_slash (drop place words) n first ∙ ap (λ (bs : List ℕ). take n bs ∷ split [] (drop (n + 1) (drop place words))) (sym (take_rest words place))
-        ∙ ap (λ (bs : List ℕ). take n rest ∷ split [] bs) (drop-drop (n + 1) place words) ∙ ap (λ (k : ℕ). take n rest ∷ split [] (drop k words)) sum
+        split_slash (drop place words) n first ∙ ap (λ (bs : List ℕ). take n bs ∷ split []
+        (drop (n + 1) (drop place words))) (sym (take_rest words place))
+        ∙ ap (λ (bs : List ℕ). take n rest ∷ split [] bs) (drop-drop (n + 1) place words) ∙ ap
+        (λ (k : ℕ). take n rest ∷ split [] (drop k words)) sum
 
     pub slash_before : drop (place + n + 1 - 1) words ≡ 47 ∷ drop (place + n + 1) words
     slash_before =

@@ -30,8 +30,10 @@ walking_at node (word ∷ words) plan = walking node word words plan
 -- A call at a node: it walks, or waits for a read or write of an open file of that node.
 abbrev pub state_of : {A : Type 0} → ℕ → List Name → Aim A → CallState Opened
 state_of node words (Walks plan) = walking_at node words (plan_of (λ s. s.items) plan)
-state_of node words (Reads handle fh offset size) = using handle (op.read (record { nodeid = node; fh = fh }) offset size)
-state_of node words (Writes handle fh offset bytes) = using handle (op.write (record { nodeid = node; fh = fh }) offset bytes.items)
+state_of node words (Reads handle fh offset size) =
+    using handle (op.read (record { nodeid = node; fh = fh }) offset size)
+state_of node words (Writes handle fh offset bytes) =
+    using handle (op.write (record { nodeid = node; fh = fh }) offset bytes.items)
 
 abbrev pub IsSoundAim : {A : Type 0} → Option ℕ → Aim A → Type 0
 IsSoundAim at (Walks plan) = IsSoundPlan (λ s. s.items) plan × (at ≡ None → IsLast (plan_of (λ s. s.items) plan))
@@ -85,4 +87,5 @@ pub record HasNames (c : Vfs Opened) (in_force : NameMap Binding) (time : ℕ) :
 
 -- A call that begins so asks an operation.
 abbrev pub Asks : NameMap Binding → ℕ → Beginning ℕ Opened → Type 0
-Asks names clock begins = (c : Vfs Opened) (call : ℕ) → HasNames c names clock → (state : CallState Opened) × (after_beginning c call begins ≡ asking c call state)
+Asks names clock begins = (c : Vfs Opened) (call : ℕ) → HasNames c names clock
+    → (state : CallState Opened) × (after_beginning c call begins ≡ asking c call state)

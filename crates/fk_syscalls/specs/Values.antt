@@ -81,4 +81,5 @@ comes_to c call (Answered errno) = no_more (answered c call (failed errno))
 
 -- Where its beginning leaves a call.
 abbrev pub IsBegun : {A : Type 0} → NameMap Binding → ℕ → Beginning ℕ Opened → Next A → Type 0
-IsBegun names clock begins next = (c : Vfs Opened) (call : ℕ) → HasNames c names clock → after_beginning c call begins ≡ comes_to c call next
+IsBegun names clock begins next = (c : Vfs Opened) (call : ℕ) → HasNames c names clock
+    → after_beginning c call begins ≡ comes_to c call next

@@ -27,8 +27,8 @@ use std::alloc::{AllocError, Allocator};
 /// A read or write has at most so many bytes.
 const MAX_TRANSFER: u64 = 4_096;
 
-/// Begins a call on a mount that is not aborted: a fault answers it; a read or write asks at once; else it walks from the root
-/// as far as the names in force lead at this time, in milliseconds. A close is the kernel's own.
+/// Begins a call on a mount that is not aborted: a fault answers it; a read or write asks at once; else it walks from
+/// the root as far as the names in force lead at this time, in milliseconds. A close is the kernel's own.
 ///
 /// # Errors
 ///
@@ -41,8 +41,10 @@ pub fn begin<A: Allocator + Copy>(
     call: &Call<'_>,
 ) -> Result<Next<A>, AllocError>
     requires { ClosesNone call.now }
-    ensures begun { IfOk result (λ next. (c : Vfs Opened) → HasNames c names.now.names clock → c.opens ≡ opens.now.entries → begun false c (call_of call.now) ≡ comes_to (numbered c) c.next_call next) }
-    ensures wanting { OnErr result ((c : Vfs Opened) → HasNames c names.now.names clock → c.opens ≡ opens.now.entries → (state : State Opened) × (begun false c (call_of call.now) ≡ asking (numbered c) c.next_call state)) }
+    ensures begun { IfOk result (λ next. (c : Vfs Opened) → HasNames c names.now.names clock
+        → c.opens ≡ opens.now.entries → begun false c (call_of call.now) ≡ comes_to (numbered c) c.next_call next) }
+    ensures wanting { OnErr result ((c : Vfs Opened) → HasNames c names.now.names clock → c.opens ≡ opens.now.entries
+        → (state : State Opened) × (begun false c (call_of call.now) ≡ asking (numbered c) c.next_call state)) }
 {
     match call {
         Call::Stat { path } => begin_whole(alloc, names, clock, path, FinalOperation::Stat),
@@ -85,8 +87,10 @@ fn begin_whole<A: Allocator + Copy>(
     operation: FinalOperation<&[u8]>,
 ) -> Result<Next<A>, AllocError>
     requires { IsSoundFinal (λ s. s.now) operation }
-    ensures begun { IfOk result (IsBegun names.now.names clock (whole_path path.now (λ words. sets_out words (last (final_of (λ s. s.now) operation.entry))))) }
-    ensures wanting { OnErr result (Asks names.now.names clock (whole_path path.now (λ words. sets_out words (last (final_of (λ s. s.now) operation.entry))))) }
+    ensures begun { IfOk result (IsBegun names.now.names clock
+        (whole_path path.now (λ words. sets_out words (last (final_of (λ s. s.now) operation.entry))))) }
+    ensures wanting { OnErr result (Asks names.now.names clock
+        (whole_path path.now (λ words. sets_out words (last (final_of (λ s. s.now) operation.entry))))) }
 {
     match first_word(path) {
         Ok(at) => set_out(alloc, names, clock, path, at, Plan::Last(operation)),
@@ -102,8 +106,10 @@ fn begin_change<A: Allocator + Copy>(
     path: &[u8],
     change: Change,
 ) -> Result<Next<A>, AllocError>
-    ensures begun { IfOk result (IsBegun names.now.names clock (parent_path path.now (λ words name. sets_out words (last (final_change change name))))) }
-    ensures wanting { OnErr result (Asks names.now.names clock (parent_path path.now (λ words name. sets_out words (last (final_change change name))))) }
+    ensures begun { IfOk result (IsBegun names.now.names clock
+        (parent_path path.now (λ words name. sets_out words (last (final_change change name))))) }
+    ensures wanting { OnErr result (Asks names.now.names clock
+        (parent_path path.now (λ words name. sets_out words (last (final_change change name))))) }
 {
     match parent_of(path) {
         Ok(parent) => {
@@ -123,8 +129,10 @@ fn begin_rename<A: Allocator + Copy>(
     old: &[u8],
     new: &[u8],
 ) -> Result<Next<A>, AllocError>
-    ensures begun { IfOk result (IsBegun names.now.names clock (parent_path old.now (λ words from. parent_path new.now (λ more to. sets_out words (rename from more to))))) }
-    ensures wanting { OnErr result (Asks names.now.names clock (parent_path old.now (λ words from. parent_path new.now (λ more to. sets_out words (rename from more to))))) }
+    ensures begun { IfOk result (IsBegun names.now.names clock
+        (parent_path old.now (λ words from. parent_path new.now (λ more to. sets_out words (rename from more to))))) }
+    ensures wanting { OnErr result (Asks names.now.names clock
+        (parent_path old.now (λ words from. parent_path new.now (λ more to. sets_out words (rename from more to))))) }
 {
     let from = match parent_of(old) {
         Ok(from) => from,
@@ -151,8 +159,10 @@ fn begin_link<A: Allocator + Copy>(
     old: &[u8],
     new: &[u8],
 ) -> Result<Next<A>, AllocError>
-    ensures begun { IfOk result (IsBegun names.now.names clock (whole_path old.now (λ words. parent_path new.now (λ more name. sets_out words (link more name))))) }
-    ensures wanting { OnErr result (Asks names.now.names clock (whole_path old.now (λ words. parent_path new.now (λ more name. sets_out words (link more name))))) }
+    ensures begun { IfOk result (IsBegun names.now.names clock
+        (whole_path old.now (λ words. parent_path new.now (λ more name. sets_out words (link more name))))) }
+    ensures wanting { OnErr result (Asks names.now.names clock
+        (whole_path old.now (λ words. parent_path new.now (λ more name. sets_out words (link more name))))) }
 {
     let at = match first_word(old) {
         Ok(at) => at,
@@ -181,8 +191,10 @@ fn set_out<A: Allocator + Copy>(
 ) -> Result<Next<A>, AllocError>
     requires words { AreWords words.now at }
     requires plan { IsSoundPlan (λ s. s.now) plan }
-    ensures begun { IfOk result (IsBegun names.now.names clock (sets_out (words_from words.now at) (plan_of (λ s. s.now) plan.entry))) }
-    ensures wanting { OnErr result (Asks names.now.names clock (sets_out (words_from words.now at) (plan_of (λ s. s.now) plan.entry))) }
+    ensures begun { IfOk result (IsBegun names.now.names clock
+        (sets_out (words_from words.now at) (plan_of (λ s. s.now) plan.entry))) }
+    ensures wanting { OnErr result (Asks names.now.names clock
+        (sets_out (words_from words.now at) (plan_of (λ s. s.now) plan.entry))) }
 {
     let Some(stop) = walk(names, clock, ROOT, words, at) else {
         return Ok(Next::Answered { errno: ENOENT });
@@ -230,8 +242,10 @@ fn set_out_again<A: Allocator + Copy>(
 ) -> Result<Next<A>, AllocError>
     requires words { AreWords words.now at }
     requires sound { IsSoundFinal (λ s. s.now) operation }
-    ensures begun { IfOk result (IsBegun names.now.names clock (sets_out (words_from words.now at) (last (final_of (λ s. s.now) operation.entry)))) }
-    ensures wanting { OnErr result (Asks names.now.names clock (sets_out (words_from words.now at) (last (final_of (λ s. s.now) operation.entry)))) }
+    ensures begun { IfOk result (IsBegun names.now.names clock
+        (sets_out (words_from words.now at) (last (final_of (λ s. s.now) operation.entry)))) }
+    ensures wanting { OnErr result (Asks names.now.names clock
+        (sets_out (words_from words.now at) (last (final_of (λ s. s.now) operation.entry)))) }
 {
     match walk(names, clock, ROOT, words, at) {
         Some(stop) => {
@@ -251,7 +265,9 @@ fn begin_read<A: Allocator + Copy>(
     offset: u64,
     size: u64,
 ) -> Next<A>
-    ensures { (c : Vfs Opened) (call : ℕ) → after_beginning c call (using_file handle (get opens.now.entries handle) offset size (λ opened. op.read opened offset size)) ≡ comes_to c call result }
+    ensures { (c : Vfs Opened) (call : ℕ) → after_beginning c call
+        (using_file handle (get opens.now.entries handle) offset size (λ opened. op.read opened offset size))
+        ≡ comes_to c call result }
 {
     let Some(opened) = opens.get(handle) else {
         return Next::Answered { errno: EBADF };
@@ -270,8 +286,13 @@ fn begin_write<A: Allocator + Copy>(
     offset: u64,
     bytes: &[u8],
 ) -> Result<Next<A>, AllocError>
-    ensures begun { IfOk result (λ next. (c : Vfs Opened) (call : ℕ) → after_beginning c call (using_file handle (get opens.now.entries handle) offset (length bytes.now) (λ opened. op.write opened offset bytes.now)) ≡ comes_to c call next) }
-    ensures wanting { OnErr result ((c : Vfs Opened) (call : ℕ) → (state : State Opened) × (after_beginning c call (using_file handle (get opens.now.entries handle) offset (length bytes.now) (λ opened. op.write opened offset bytes.now)) ≡ asking c call state)) }
+    ensures begun { IfOk result (λ next. (c : Vfs Opened) (call : ℕ)
+        → after_beginning c call (using_file handle (get opens.now.entries handle) offset (length bytes.now)
+        (λ opened. op.write opened offset bytes.now)) ≡ comes_to c call next) }
+    ensures wanting { OnErr result ((c : Vfs Opened) (call : ℕ)
+        → (state : State Opened) × (after_beginning c call
+        (using_file handle (get opens.now.entries handle) offset (length bytes.now)
+        (λ opened. op.write opened offset bytes.now)) ≡ asking c call state)) }
 {
     let Some(opened) = opens.get(handle) else {
         return Ok(Next::Answered { errno: EBADF });

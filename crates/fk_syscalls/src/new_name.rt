@@ -69,7 +69,8 @@ impl NewName<'_> {
 
     /// What it would lead to at a time.
     fn at(&self, clock: u64) -> Found
-        ensures { result ≡ found_of (valid_at clock (Some (record { target = Some self.now.node; until = self.now.until }))) }
+        ensures { result ≡ found_of (valid_at clock (Some
+            (record { target = Some self.now.node; until = self.now.until }))) }
     {
         if clock < self.until {
             Found::Node(self.node)
@@ -89,7 +90,9 @@ pub(crate) fn walk_past<A: Allocator + Copy>(
     at: Option<usize>,
 ) -> Option<Stop>
     requires { AreWords words.now at }
-    ensures stop { MatchOption result (go (known (with_name names.now.names new.now) clock) from (words_from words.now at) ≡ missing) (λ stop. go (known (with_name names.now.names new.now) clock) from (words_from words.now at) ≡ stop_at stop.node (words_from words.now stop.at)) }
+    ensures stop { MatchOption result (go (known (with_name names.now.names new.now) clock) from
+        (words_from words.now at) ≡ missing) (λ stop. go (known (with_name names.now.names new.now) clock) from
+        (words_from words.now at) ≡ stop_at stop.node (words_from words.now stop.at)) }
 {
     let mut stop = Stop { node: from, at };
     while let Some(place) = stop.at {

@@ -11,7 +11,8 @@ use crate::words::word_at;
 use fuse_spec::errno::{EINVAL, ENAMETOOLONG};
 use fuse_spec::limits::{MAX_NAME, MAX_WORDS};
 
-/// The fault of the word at this place of a path, counted from 0: first its place, then what it may not hold, then its length.
+/// The fault of the word at this place of a path, counted from 0: first its place, then what it may not hold, then its
+/// length.
 fn word_fault(place: usize, word: &[u8]) -> Option<u32>
     ensures { result ≡ word_fault place word.now }
 {
@@ -46,10 +47,11 @@ fn words_fault(words: &[u8], first: usize) -> Option<u32>
     None
 }
 
-/// Where the words of a path begin, if it has some; or the path's first fault, as an error number. `/` alone is the root
-/// and has no words.
+/// Where the words of a path begin, if it has some; or the path's first fault, as an error number. `/` alone is the
+/// root and has no words.
 pub(crate) fn first_word(path: &[u8]) -> Result<Option<usize>, u32>
-    ensures words { MatchResult result (λ at. words_of path.now ≡ Ok (words_from path.now at)) (λ errno. words_of path.now ≡ Err errno) }
+    ensures words { MatchResult result (λ at. words_of path.now ≡ Ok (words_from path.now at))
+        (λ errno. words_of path.now ≡ Err errno) }
     ensures left { IfOk result (λ at. AreWords path.now at) }
 {
     match path {
@@ -74,7 +76,8 @@ pub(crate) struct Parent<'a> {
 /// Parts the last word from those before it, of the words from a place on.
 pub(crate) fn split_last_word(words: &[u8], first: usize) -> Parent<'_>
     requires { AreWords words.now (Some first) }
-    ensures parts { parent_and_last (words_from words.now (Some first)) ≡ Some (words_from result.words.now result.at, result.name.now) }
+    ensures parts { parent_and_last (words_from words.now (Some first))
+        ≡ Some (words_from result.words.now result.at, result.name.now) }
     ensures left { AreWords result.words.now result.at }
     ensures name { IsWord result.name.now }
 {
@@ -103,7 +106,9 @@ pub(crate) fn split_last_word(words: &[u8], first: usize) -> Parent<'_>
 
 /// The words of a path before its last one, and the last one; or the path's first fault, as an error number.
 pub(crate) fn parent_of(path: &[u8]) -> Result<Parent<'_>, u32>
-    ensures parts { MatchResult result (λ parent. (then : List Name → Name → Beginning ℕ Opened) → parent_path path.now then ≡ then (words_from parent.words.now parent.at) parent.name.now) (λ errno. (then : List Name → Name → Beginning ℕ Opened) → parent_path path.now then ≡ faulty errno) }
+    ensures parts { MatchResult result (λ parent. (then : List Name → Name → Beginning ℕ Opened)
+        → parent_path path.now then ≡ then (words_from parent.words.now parent.at) parent.name.now)
+        (λ errno. (then : List Name → Name → Beginning ℕ Opened) → parent_path path.now then ≡ faulty errno) }
     ensures left { IfOk result (λ parent. AreWords parent.words.now parent.at) }
     ensures name { IfOk result (λ parent. IsWord parent.name.now) }
 {

@@ -92,7 +92,9 @@ fn second_walk<A: Allocator + Copy>(
 ) -> Next<A>
     requires words { AreWords words.items at }
     requires sound { IsSoundFinal (λ s. s.items) operation }
-    ensures { (c : Vfs Opened) (call : ℕ) → HasNames c names.now.names clock → walks_on c call c.root (words_from words.items at) (last (final_of (λ s. s.items) operation)) ≡ comes_to c call result }
+    ensures { (c : Vfs Opened) (call : ℕ) → HasNames c names.now.names clock
+        → walks_on c call c.root (words_from words.items at) (last (final_of (λ s. s.items) operation))
+        ≡ comes_to c call result }
 {
     match walk(names, clock, ROOT, &words, at) {
         Some(stop) => Next::Waits(CallState {
@@ -114,7 +116,9 @@ fn arrived_at<A: Allocator + Copy>(
     plan: Plan<Vec<u8, A>>,
 ) -> Next<A>
     requires { IsSoundPlan (λ s. s.items) plan }
-    ensures { (c : Vfs Opened) (call from : ℕ) (walked : List Name) → HasNames c names.now.names clock → go (known names.now.names clock) from walked ≡ arrived node → walks_on c call from walked (plan_of (λ s. s.items) plan) ≡ comes_to c call result }
+    ensures { (c : Vfs Opened) (call from : ℕ) (walked : List Name) → HasNames c names.now.names clock
+        → go (known names.now.names clock) from walked ≡ arrived node
+        → walks_on c call from walked (plan_of (λ s. s.items) plan) ≡ comes_to c call result }
 {
     match plan {
         Plan::Last(operation) => Next::Waits(CallState {
@@ -160,7 +164,8 @@ impl<A: Allocator + Copy> CallState<A> {
         plan: Plan<&[u8]>,
     ) -> Result<Self, AllocError>
         requires { IsSoundLentCall words.now at plan }
-        ensures { IfOk result (λ state. state ≡ walking_at node (words_from words.now at) (plan_of (λ s. s.now) plan.entry)) }
+        ensures { IfOk result (λ state. state ≡ walking_at node (words_from words.now at)
+            (plan_of (λ s. s.now) plan.entry)) }
     {
         let plan = plan.to_owned(alloc)?;
         match at {
@@ -226,7 +231,9 @@ impl<A: Allocator + Copy> CallState<A> {
     /// milliseconds. Takes no memory.
     pub fn found(self, names: &Bindings<A>, clock: u64, node: u64) -> Next<A>
         requires { IsWalking self }
-        ensures { (c : Vfs Opened) (call directory : ℕ) (word : Name) (words : List Name) (plan : WalkPlan ℕ) → HasNames c names.now.names clock → self ≡ walking directory word words plan → walks_on c call node words plan ≡ comes_to c call result }
+        ensures { (c : Vfs Opened) (call directory : ℕ) (word : Name) (words : List Name) (plan : WalkPlan ℕ)
+            → HasNames c names.now.names clock → self ≡ walking directory word words plan
+            → walks_on c call node words plan ≡ comes_to c call result }
     {
         let CallState {
             node: _,
@@ -256,7 +263,9 @@ impl<A: Allocator + Copy> CallState<A> {
     /// Whether it would ask anew, were the word that it asked for bound so and found.
     pub fn would_ask(&self, names: &Bindings<A>, clock: u64, new: &NewName<'_>) -> bool
         requires { IsWalking self.now }
-        ensures { (c : Vfs Opened) (call directory : ℕ) (word : Name) (words : List Name) (plan : WalkPlan ℕ) → HasNames c (with_name names.now.names new.now) clock → self.now ≡ walking directory word words plan → is_some (walks_on c call new.now.node words plan).operation ≡ result }
+        ensures { (c : Vfs Opened) (call directory : ℕ) (word : Name) (words : List Name) (plan : WalkPlan ℕ)
+            → HasNames c (with_name names.now.names new.now) clock → self.now ≡ walking directory word words plan
+            → is_some (walks_on c call new.now.node words plan).operation ≡ result }
     {
         let Aim::Walks(plan) = &self.aim else {
             return false;

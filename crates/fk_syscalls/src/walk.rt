@@ -16,8 +16,8 @@ pub(crate) struct Stop {
     pub at: Option<usize>,
 }
 
-/// Walks from a node along the words from a place on, as far as names in force lead at this time. None where one leads to
-/// no file.
+/// Walks from a node along the words from a place on, as far as names in force lead at this time. None where one leads
+/// to no file.
 pub(crate) fn walk<A: Allocator + Copy>(
     names: &Bindings<A>,
     clock: u64,
@@ -26,7 +26,9 @@ pub(crate) fn walk<A: Allocator + Copy>(
     at: Option<usize>,
 ) -> Option<Stop>
     requires { AreWords words.now at }
-    ensures stop { MatchOption result (go (known names.now.names clock) from (words_from words.now at) ≡ missing) (λ stop. go (known names.now.names clock) from (words_from words.now at) ≡ stop_at stop.node (words_from words.now stop.at)) }
+    ensures stop { MatchOption result (go (known names.now.names clock) from (words_from words.now at) ≡ missing)
+        (λ stop. go (known names.now.names clock) from (words_from words.now at)
+        ≡ stop_at stop.node (words_from words.now stop.at)) }
     ensures left { IfSome result (λ stop. AreWords words.now stop.at) }
 {
     let mut stop = Stop { node: from, at };

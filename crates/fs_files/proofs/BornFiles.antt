@@ -21,34 +21,50 @@ use Rattle.fs_files.specs.Performing.{Operates}
 use Rattle.fs_files.proofs.StaysKnown.{put_regular, put_there, regular_file}
 use Rattle.fs_tree.specs.Outcomes.{is_regular}
 
-found_file : (tree : Tree) → IsShaped tree → (o : Option Named) → ((n : Named) → o ≡ Some n → Stands tree n) → (file : ℕ) → option_map (λ n. n.file) o ≡ Some file → file < tree.next_birth
+found_file : (tree : Tree) → IsShaped tree → (o : Option Named) → ((n : Named) → o ≡ Some n → Stands tree n)
+    → (file : ℕ) → option_map (λ n. n.file) o ≡ Some file → file < tree.next_birth
 found_file tree shaped None stands file is = absurd (none-some file is)
-found_file tree shaped (Some n) stands file is = subst (λ (x : ℕ). x < tree.next_birth) (same_Some n.file file is) (by (nat_lt n.file tree.next_birth) refl)
+found_file tree shaped (Some n) stands file is =
+    subst (λ (x : ℕ). x < tree.next_birth) (same_Some n.file file is) (by (nat_lt n.file tree.next_birth) refl)
   where
     by : (b : Bool) → nat_lt n.file tree.next_birth ≡ b → n.file < tree.next_birth
     by true e = ltb-true n.file tree.next_birth e
-    by false e = let le = ltb-false n.file tree.next_birth e in absurd (true≢false (sym (stands n refl).file ∙ ap is_some (shaped.unborn n.file le)))
+    by false e = let le = ltb-false n.file tree.next_birth e in
+        absurd (true≢false (sym (stands n refl).file ∙ ap is_some (shaped.unborn n.file le)))
 
 -- the file to which a name leads was born
-pub is_born : (tree : Tree) → IsShaped tree → (d : ℕ) (name : List ℕ) (file : ℕ) → file_at tree d name ≡ Some file → file < tree.next_birth
+pub is_born : (tree : Tree) → IsShaped tree → (d : ℕ) (name : List ℕ) (file : ℕ) → file_at tree d name ≡ Some file
+    → file < tree.next_birth
 is_born tree shaped d name file at =
-    found_file tree shaped (find (is_at d name) tree.names) (λ n there. All-contains (Stands tree) tree.names n shaped.names (found_there (is_at d name) tree.names n there)) file at
+    found_file tree shaped (find (is_at d name) tree.names)
+    (λ n there. All-contains (Stands tree) tree.names n shaped.names
+    (found_there (is_at d name) tree.names n there)) file at
 
 -- and is there
-found_there_so : (tree : Tree) → (o : Option Named) → ((n : Named) → o ≡ Some n → Stands tree n) → (file : ℕ) → option_map (λ n. n.file) o ≡ Some file → IsThere tree file
+found_there_so : (tree : Tree) → (o : Option Named) → ((n : Named) → o ≡ Some n → Stands tree n) → (file : ℕ)
+    → option_map (λ n. n.file) o ≡ Some file → IsThere tree file
 found_there_so tree None stands file is = absurd (none-some file is)
-found_there_so tree (Some n) stands file is = subst (λ (x : ℕ). IsThere tree x) (same_Some n.file file is) (stands n refl).file
+found_there_so tree (Some n) stands file is = subst (λ (x : ℕ). IsThere tree x) (same_Some n.file file is)
+    (stands n refl).file
 
-is_there : (tree : Tree) → IsShaped tree → (d : ℕ) (name : List ℕ) (file : ℕ) → file_at tree d name ≡ Some file → IsThere tree file
+is_there : (tree : Tree) → IsShaped tree → (d : ℕ) (name : List ℕ) (file : ℕ) → file_at tree d name ≡ Some file
+    → IsThere tree file
 is_there tree shaped d name file at =
-    found_there_so tree (find (is_at d name) tree.names) (λ n there. All-contains (Stands tree) tree.names n shaped.names (found_there (is_at d name) tree.names n there)) file at
+    found_there_so tree (find (is_at d name) tree.names)
+    (λ n there. All-contains (Stands tree) tree.names n shaped.names
+    (found_there (is_at d name) tree.names n there)) file at
 
-pub looks_up : {A : Type 0} (valid : Validity) (tree : Tree) → IsShaped tree → tree.next_birth ≤ 2 ^ 62 → (d : ℕ) (name : List ℕ) (file : ℕ) → file_at tree d name ≡ Some file
+pub looks_up : {A : Type 0} (valid : Validity) (tree : Tree) → IsShaped tree → tree.next_birth ≤ 2 ^ 62
+    → (d : ℕ) (name : List ℕ) (file : ℕ) → file_at tree d name ≡ Some file
     → Operates {A = A} valid tree (lookup d name) (Found file) tree
 looks_up valid tree shaped births d name file at = record {
   says = sym (ap (looked_up valid) at);
   tree_is = refl;
-  tellable = (let low = is_born tree shaped d name file at in omega (arith, low, births), is_there tree shaped d name file at);
+  tellable = (
+    let low = is_born tree shaped d name file at in
+        omega (arith, low, births),
+    is_there tree shaped d name file at,
+  );
   short = omega arith;
 }
 
@@ -66,7 +82,8 @@ abbrev bytes_in : Reply ℕ ℕ → List ℕ
 bytes_in (content bytes) = bytes
 bytes_in reply = []
 
-pub reads_bytes : {A : Type 0} (valid : Validity) (tree : Tree) (file offset size : ℕ) (bytes : Vec ℕ A) (read_now : List ℕ) → bytes.items ≡ read_now → reply_unrefused valid tree (read file offset size) ≡ content read_now
+pub reads_bytes : {A : Type 0} (valid : Validity) (tree : Tree) (file offset size : ℕ) (bytes : Vec ℕ A)
+    (read_now : List ℕ) → bytes.items ≡ read_now → reply_unrefused valid tree (read file offset size) ≡ content read_now
     → Operates valid tree (read file offset size) (Plain (Content bytes)) tree
 reads_bytes valid tree file offset size bytes read_now same is = record {
   says = ap content same ∙ sym is;
@@ -77,29 +94,42 @@ reads_bytes valid tree file offset size bytes read_now same is = record {
   where
     few : length bytes.items ≤ max_transfer
     few =
-        let all : bytes.items ≡ take (min size max_transfer) (drop offset (bytes_of (get tree.files file))) = same ∙ sym (ap bytes_in is) in
+        let all : bytes.items ≡ take (min size max_transfer) (drop offset (bytes_of (get tree.files file))) =
+        same ∙ sym (ap bytes_in is) in
         let most = length-take (min size max_transfer) (drop offset (bytes_of (get tree.files file))) in
         let len = ap length all in
         omega (arith, most, len)
 
 -- ---- files that are born, and files that are opened
 
-module _ (valid : Validity) (tree : Tree) (d : ℕ) (name : List ℕ) (file : ℕ) (new : Tree) (low : tree.next_birth < 2 ^ 62) (born : file ≡ tree.next_birth) where
+module _ (valid : Validity) (tree : Tree) (d : ℕ) (name : List ℕ) (file : ℕ) (new : Tree)
+    (low : tree.next_birth < 2 ^ 62) (born : file ≡ tree.next_birth) where
   file_is_low : file < 2 ^ 62
   file_is_low = omega (arith, low, born)
 
-  pub makes_directory : {A : Type 0} → new ≡ with_birth tree d name a_directory → Operates {A = A} valid tree (mkdir d name) (Found file) new
+  pub makes_directory : {A : Type 0} → new ≡ with_birth tree d name a_directory
+      → Operates {A = A} valid tree (mkdir d name) (Found file) new
   makes_directory is = record {
     says = ap (λ (f : ℕ). found f valid.found_ms) born;
     tree_is = is;
-    tellable = (file_is_low, subst (λ (t : Tree). IsThere t file) (sym is) (subst (λ (f : ℕ). IsThere (with_birth tree d name a_directory) f) (sym born) (put_there tree tree.next_birth a_directory)));
+    tellable = (
+      file_is_low,
+      subst (λ (t : Tree). IsThere t file) (sym is)
+          (subst (λ (f : ℕ). IsThere (with_birth tree d name a_directory) f) (sym born)
+          (put_there tree tree.next_birth a_directory)),
+    );
     short = omega arith;
   }
 
-  pub makes_file : {A : Type 0} → new ≡ with_birth tree d name (a_file []) → Operates {A = A} valid tree (create d name) (Created file) new
+  pub makes_file : {A : Type 0} → new ≡ with_birth tree d name (a_file [])
+      → Operates {A = A} valid tree (create d name) (Created file) new
   makes_file is =
-      let there = subst (λ (t : Tree). IsThere t file) (sym is) (subst (λ (f : ℕ). IsThere (with_birth tree d name (a_file [])) f) (sym born) (put_there tree tree.next_birth (a_file []))) in
-      let regular = subst (λ (t : Tree). IsTrue (is_regular t file)) (sym is) (subst (λ (f : ℕ). IsTrue (is_regular (with_birth tree d name (a_file [])) f)) (sym born) (put_regular tree tree.next_birth [])) in
+      let there = subst (λ (t : Tree). IsThere t file) (sym is)
+      (subst (λ (f : ℕ). IsThere (with_birth tree d name (a_file [])) f) (sym born)
+      (put_there tree tree.next_birth (a_file []))) in
+      let regular = subst (λ (t : Tree). IsTrue (is_regular t file)) (sym is)
+      (subst (λ (f : ℕ). IsTrue (is_regular (with_birth tree d name (a_file [])) f)) (sym born)
+      (put_regular tree tree.next_birth [])) in
       record {
         says = ap (λ (f : ℕ). created f valid.found_ms f) born;
         tree_is = is;
@@ -112,7 +142,8 @@ unrefused : (b : Bool) → ◌≡◌ {A = Option ℕ} (cond b (Some eisdir) None
 unrefused true e = absurd (none-some eisdir (sym e))
 unrefused false e = refl
 
-pub opens : {A : Type 0} (valid : Validity) (tree : Tree) (file : ℕ) → IsThere tree file → refusal tree (opening file) ≡ None → Operates {A = A} valid tree (opening file) (Opened file) tree
+pub opens : {A : Type 0} (valid : Validity) (tree : Tree) (file : ℕ) → IsThere tree file
+    → refusal tree (opening file) ≡ None → Operates {A = A} valid tree (opening file) (Opened file) tree
 opens valid tree file there none = record {
   says = refl;
   tree_is = refl;

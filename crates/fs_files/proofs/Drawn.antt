@@ -20,28 +20,41 @@ pub not_refused : (first : Option ℕ) (o : Option TreeError) → Refuses first 
 not_refused first None refuses none = refuses
 not_refused first (Some error) refuses none = absurd (true≢false none)
 
-pub draws_unrefused : (v : Validity) (tree : Tree) (operation : FileOperation) (plan : Plan) → refusal tree operation ≡ None → Draws tree (tree_unrefused tree operation) (reply_unrefused v tree operation) plan
+pub draws_unrefused : (v : Validity) (tree : Tree) (operation : FileOperation) (plan : Plan)
+    → refusal tree operation ≡ None → Draws tree (tree_unrefused tree operation) (reply_unrefused v tree operation) plan
     → Draws tree (tree_after tree operation) (reply_by v tree operation) plan
 draws_unrefused v tree operation plan none draws =
-    subst (λ (r : Option ℕ). Draws tree (tree_or tree (tree_unrefused tree operation) r) (reply_or (reply_unrefused v tree operation) r) plan) (sym none) draws
+    subst (λ (r : Option ℕ). Draws tree (tree_or tree (tree_unrefused tree operation) r)
+    (reply_or (reply_unrefused v tree operation) r) plan) (sym none) draws
 
 -- ---- requests that no INTERRUPT marked, and whose nodes are held
 
-module _ (s : Server) (h : HeldRequest) (unmarked : h.marked ≡ false) (still : is_still_held s.nodes h.generations ≡ true) where
+module _ (s : Server) (h : HeldRequest) (unmarked : h.marked ≡ false)
+    (still : is_still_held s.nodes h.generations ≡ true) where
   pub handles_release : (o : Opened) → h.body ≡ release o → handles_by s (release o) ≡ handles_said s h
   handles_release o is = sym (λ i. cond (unmarked i) s.handles (cond (still i) (handles_by s (is i)) s.handles))
 
-  pub body_draws : (body : RequestBody) → h.body ≡ body → (plan : Plan) → Draws s.tree (tree_by s body) (said_by s body) plan → Draws s.tree (tree_said s h) (said s h) plan
+  pub body_draws : (body : RequestBody) → h.body ≡ body → (plan : Plan)
+      → Draws s.tree (tree_by s body) (said_by s body) plan → Draws s.tree (tree_said s h) (said s h) plan
   body_draws body is plan draws =
-      subst (λ (t : Tree). Draws s.tree t (said s h) plan) (sym (λ i. cond (unmarked i) s.tree (cond (still i) (tree_by s (is i)) s.tree)))
-      (subst (λ (r : Reply ℕ ℕ). Draws s.tree (tree_by s body) r plan) (sym (λ i. cond (unmarked i) (failed eintr) (cond (still i) (said_by s (is i)) (failed eio)))) draws)
+      subst (λ (t : Tree). Draws s.tree t (said s h) plan)
+      (sym (λ i. cond (unmarked i) s.tree (cond (still i) (tree_by s (is i)) s.tree)))
+      (subst (λ (r : Reply ℕ ℕ). Draws s.tree (tree_by s body) r plan)
+      (sym (λ i. cond (unmarked i) (failed eintr) (cond (still i) (said_by s (is i)) (failed eio)))) draws)
 
 -- nothing is drawn
 abbrev pub nothing : Plan
 nothing = record { births = 0; serials = 0; opens = 0; told = record { items = [] } }
 
-pub none_drawn : (tree : Tree) (reply : Reply ℕ ℕ) (plan : Plan) → files_in_reply reply ≡ [] → opens_in_reply reply ≡ [] → plan ≡ nothing → Draws tree tree reply plan
-none_drawn tree reply plan files opens is = subst (Draws tree tree reply) (sym is) (record { births = omega arith; serials = omega arith; told = files; opens = ap (λ (os : List ℕ). length os) opens })
+pub none_drawn : (tree : Tree) (reply : Reply ℕ ℕ) (plan : Plan) → files_in_reply reply ≡ []
+    → opens_in_reply reply ≡ [] → plan ≡ nothing → Draws tree tree reply plan
+none_drawn tree reply plan files opens is = subst (Draws tree tree reply) (sym is)
+    (record {
+      births = omega arith;
+      serials = omega arith;
+      told = files;
+      opens = ap (λ (os : List ℕ). length os) opens;
+    })
 
 -- ---- operations, under an open number of their file or not
 
@@ -49,11 +62,18 @@ module _ (s : Server) (o : Operation ℕ Opened) where
   abbrev on_tree : FileOperation
   on_tree = file_operation_of s.nodes o
 
-  asked_draws : (b : Bool) (plan : Plan) → is_open_for s o ≡ b → Draws s.tree (cond b (tree_after s.tree on_tree) s.tree) (cond b (reply_by s.validity s.tree on_tree) (failed ebadf)) plan → Draws s.tree (tree_by s (asks o)) (said_by s (asks o)) plan
-  asked_draws b plan open' = subst (λ (c : Bool). Draws s.tree (cond c (tree_after s.tree on_tree) s.tree) (cond c (reply_by s.validity s.tree on_tree) (failed ebadf)) plan) (sym open')
+  asked_draws : (b : Bool) (plan : Plan) → is_open_for s o ≡ b
+      → Draws s.tree (cond b (tree_after s.tree on_tree) s.tree)
+      (cond b (reply_by s.validity s.tree on_tree) (failed ebadf)) plan
+      → Draws s.tree (tree_by s (asks o)) (said_by s (asks o)) plan
+  asked_draws b plan open' = subst (λ (c : Bool). Draws s.tree (cond c (tree_after s.tree on_tree) s.tree)
+      (cond c (reply_by s.validity s.tree on_tree) (failed ebadf)) plan) (sym open')
 
-  pub open_draws : (plan : Plan) → is_open_for s o ≡ true → Draws s.tree (tree_after s.tree on_tree) (reply_by s.validity s.tree on_tree) plan → Draws s.tree (tree_by s (asks o)) (said_by s (asks o)) plan
+  pub open_draws : (plan : Plan) → is_open_for s o ≡ true
+      → Draws s.tree (tree_after s.tree on_tree) (reply_by s.validity s.tree on_tree) plan
+      → Draws s.tree (tree_by s (asks o)) (said_by s (asks o)) plan
   open_draws plan open' = asked_draws true plan open'
 
-  pub closed_draws : (plan : Plan) → is_open_for s o ≡ false → plan ≡ nothing → Draws s.tree (tree_by s (asks o)) (said_by s (asks o)) plan
+  pub closed_draws : (plan : Plan) → is_open_for s o ≡ false → plan ≡ nothing
+      → Draws s.tree (tree_by s (asks o)) (said_by s (asks o)) plan
   closed_draws plan closed is = asked_draws false plan closed (none_drawn s.tree (failed ebadf) plan refl refl is)

@@ -10,7 +10,8 @@ none_on : {A : Type 0} (xs ys : List A) → (xs ++ []) ++ ys ≡ xs ++ ys
 none_on {A} [] ys = refl
 none_on {A} (y ∷ xs) ys = ap (λ (zs : List A). y ∷ zs) (none_on xs ys)
 
-pub told_on : {A : Type 0} (xs : List A) (file : Option A) (ys : List A) → (xs ++ first_told file []) ++ ys ≡ xs ++ first_told file ys
+pub told_on : {A : Type 0} (xs : List A) (file : Option A) (ys : List A)
+    → (xs ++ first_told file []) ++ ys ≡ xs ++ first_told file ys
 told_on xs None ys = none_on xs ys
 told_on xs (Some x) ys = one_on xs x ys
 

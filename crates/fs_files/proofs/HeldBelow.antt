@@ -32,7 +32,8 @@ pub within_first : (t : NodeTable) (files : List ℕ) → counts_out t files ≡
 within_first t files none id row there = by (nat_le counter_end (row.count + count_by (nat_eq row.file) files)) refl
   where
     by : (b : Bool) → nat_le counter_end (row.count + count_by (nat_eq row.file) files) ≡ b → Fits files row
-    by true e = absurd (true≢false (sym (any_there t.rows (λ (r : HeldNode). nat_le counter_end (r.count + count_by (nat_eq r.file) files)) id row there e) ∙ none))
+    by true e = absurd (true≢false (sym (any_there t.rows
+        (λ (r : HeldNode). nat_le counter_end (r.count + count_by (nat_eq r.file) files)) id row there e) ∙ none))
     by false e = leb-false counter_end (row.count + count_by (nat_eq row.file) files) e
 
 -- ---- one file more
@@ -46,8 +47,10 @@ fits_later row file files fits = by (nat_eq row.file file) (rw (count_by-cons (n
     by false fits = omega (arith, fits)
 
 -- the file that is told is told once less later
-pub fits_once : (row : HeldNode) (file : ℕ) (files : List ℕ) → row.file ≡ file → Fits (file ∷ files) row → Fits files (record row { count = row.count + 1 })
-fits_once row file files same fits = by (nat_eq row.file file) refl (rw (count_by-cons (nat_eq row.file) file files) at fits)
+pub fits_once : (row : HeldNode) (file : ℕ) (files : List ℕ) → row.file ≡ file → Fits (file ∷ files) row
+    → Fits files (record row { count = row.count + 1 })
+fits_once row file files same fits = by (nat_eq row.file file) refl
+    (rw (count_by-cons (nat_eq row.file) file files) at fits)
   where
     is_itself : nat_eq row.file file ≡ true
     is_itself = ap (λ n. nat_eq n file) same ∙ itself file
@@ -55,22 +58,28 @@ fits_once row file files same fits = by (nat_eq row.file file) refl (rw (count_b
         itself : (n : ℕ) → nat_eq n n ≡ true
         itself n = grind (arith, common_steps)
 
-    by : (b : Bool) → nat_eq row.file file ≡ b → row.count + (cond b 1 0 + count_by (nat_eq row.file) files) < 2 ^ 62 → Fits files (record row { count = row.count + 1 })
+    by : (b : Bool) → nat_eq row.file file ≡ b → row.count + (cond b 1 0 + count_by (nat_eq row.file) files) < 2 ^ 62
+        → Fits files (record row { count = row.count + 1 })
     by true e fits = omega (arith, fits)
     by false e fits = absurd (true≢false (sym is_itself ∙ e))
 
-pub within_next : (t : NodeTable) (file id : ℕ) (files : List ℕ) → length files + 1 < 2 ^ 62 → MayName t file id → IsWithin t (file ∷ files) → IsWithin (given t file id) files
-within_next t file id files short may old = each_put (Fits files) t.rows id (given_row t file (get t.rows id)) (by (get t.rows id) refl may) (λ q row is. fits_later row file files (old q row is))
+pub within_next : (t : NodeTable) (file id : ℕ) (files : List ℕ) → length files + 1 < 2 ^ 62 → MayName t file id
+    → IsWithin t (file ∷ files) → IsWithin (given t file id) files
+within_next t file id files short may old = each_put (Fits files) t.rows id (given_row t file (get t.rows id))
+    (by (get t.rows id) refl may) (λ q row is. fits_later row file files (old q row is))
   where
-    by : (o : Option HeldNode) → get t.rows id ≡ o → MatchOption o ((2 ≤ id) × IsUnheld t file) (λ row. row.file ≡ file) → Fits files (given_row t file o)
+    by : (o : Option HeldNode) → get t.rows id ≡ o → MatchOption o ((2 ≤ id) × IsUnheld t file)
+        (λ row. row.file ≡ file) → Fits files (given_row t file o)
     by None e m = let few = count_by-le-length (nat_eq file) files in omega (arith, few, short)
     by (Some row) e same = fits_once row file files same (old id row e)
 
 -- Each node's lookups are below their end, once the files are told.
-pub within_told : (choice : ℕ → ℕ) (t : NodeTable) (files : List ℕ) → length files < 2 ^ 62 → MayChoose choice t files → IsWithin t files → AreHeldBelow (all_given choice t files)
+pub within_told : (choice : ℕ → ℕ) (t : NodeTable) (files : List ℕ) → length files < 2 ^ 62 → MayChoose choice t files
+    → IsWithin t files → AreHeldBelow (all_given choice t files)
 within_told choice t [] short may old = λ id row is. let low = old id row is in omega (arith, low)
 within_told choice t (file ∷ files) short may old =
-    within_told choice (given t file (choice file)) files (omega (arith, short)) may.1 (within_next t file (choice file) files (omega (arith, short)) may.0 old)
+    within_told choice (given t file (choice file)) files (omega (arith, short)) may.1
+    (within_next t file (choice file) files (omega (arith, short)) may.0 old)
 
 -- ---- a reply tells few files
 
@@ -78,15 +87,18 @@ told_few : (ms : ℕ) (ds : List Dirent) → length (files_told (map (pair_liste
 told_few ms [] = omega arith
 told_few ms (d ∷ ds) = by (is_dots d.name) (told_few ms ds)
   where
-    by : (b : Bool) → length (files_told (map (pair_listed ms) ds)) ≤ length ds → length (first_told (cond b None (Some (d.ino - 1))) (files_told (map (pair_listed ms) ds))) ≤ length (d ∷ ds)
+    by : (b : Bool) → length (files_told (map (pair_listed ms) ds)) ≤ length ds
+        → length (first_told (cond b None (Some (d.ino - 1))) (files_told (map (pair_listed ms) ds))) ≤ length (d ∷ ds)
     by true rest = omega (arith, rest)
     by false rest = omega (arith, rest)
 
-pub few_told : {A : Type 0} (tree : Tree) (ms : ℕ) (o : Outcome A) → IsTellable tree o → length (files_in_reply (outcome_reply ms o)) ≤ 32
+pub few_told : {A : Type 0} (tree : Tree) (ms : ℕ) (o : Outcome A) → IsTellable tree o
+    → length (files_in_reply (outcome_reply ms o)) ≤ 32
 few_told tree ms (Found file) told = omega arith
 few_told tree ms (Created file) told = omega arith
 few_told tree ms (Opened file) told = omega arith
-few_told tree ms (ListedPlus records) told = let most = told.1 in let few = told_few ms (names_in records.items) in omega (arith, most, few)
+few_told tree ms (ListedPlus records) told = let most = told.1 in let few =
+    told_few ms (names_in records.items) in omega (arith, most, few)
 few_told tree ms (Plain (Missing missing_ms)) told = omega arith
 few_told tree ms (Plain (Attributes attributes)) told = omega arith
 few_told tree ms (Plain (Listed records)) told = omega arith

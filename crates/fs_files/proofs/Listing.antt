@@ -26,8 +26,10 @@ use Rattle.fs_tree.specs.Views.{dirent_of}
 use Rattle.fs_files.specs.Listing.{record_of}
 use Rattle.fs_files.specs.Listed.{AreRecordBytes, dirents_in}
 
-pub records_read : (ds : List DirentContent) (bytes : List ℕ) → InRange (dirents ds) → bytes ≡ spellings (dirents ds) → ReadsAs 0 (dirents ds) bytes
-records_read ds bytes fits is = subst (λ (b : List ℕ). ReadsAs 0 (dirents ds) b) (sym is) (reads_back (dirents ds) [] fits (dirents_are_named ds))
+pub records_read : (ds : List DirentContent) (bytes : List ℕ) → InRange (dirents ds) → bytes ≡ spellings (dirents ds)
+    → ReadsAs 0 (dirents ds) bytes
+records_read ds bytes fits is = subst (λ (b : List ℕ). ReadsAs 0 (dirents ds) b) (sym is)
+    (reads_back (dirents ds) [] fits (dirents_are_named ds))
 
 -- bytes have one list of records
 pub dirents_are : (ds : List DirentContent) (bytes : List ℕ) → ReadsAs 0 (dirents ds) bytes → dirents_in bytes ≡ ds
@@ -37,17 +39,20 @@ dirents_are ds bytes h =
     let few : length ds ≤ length bytes = omega (arith, beyond, one.1) in
     ap (λ (n : ℕ). dirents_from n 0 bytes) (counted_from (length bytes) false (length ds) 0 bytes one.1 few) ∙ one.0
 
-pub size_is : (ds : List DirentContent) (bytes : List ℕ) → ReadsAs 0 (dirents ds) bytes → sizes (dirents ds) ≡ length bytes
+pub size_is : (ds : List DirentContent) (bytes : List ℕ) → ReadsAs 0 (dirents ds) bytes
+    → sizes (dirents ds) ≡ length bytes
 size_is ds bytes h =
     let one = one_dirent_list ds 0 bytes h in
     let all = sizes_of_dirents (length ds) 0 bytes one.1 in
-    let same : sizes (dirents (dirents_from (length ds) 0 bytes)) ≡ sizes (dirents ds) = ap (λ (xs : List DirentContent). sizes (dirents xs)) one.0 in
+    let same : sizes (dirents (dirents_from (length ds) 0 bytes)) ≡ sizes (dirents ds) =
+    ap (λ (xs : List DirentContent). sizes (dirents xs)) one.0 in
     omega (arith, all, same)
 
 abbrev AreTyped : List DirentContent → Type 0
 AreTyped ds = map dirent_written (map dirent_in ds) ≡ ds
 
-are_records : (ds : List DirentContent) (bytes : List ℕ) → AreTyped ds → HaveRecordNames ds → InRange (dirents ds) → bytes ≡ spellings (dirents ds) → AreRecordBytes bytes
+are_records : (ds : List DirentContent) (bytes : List ℕ) → AreTyped ds → HaveRecordNames ds → InRange (dirents ds)
+    → bytes ≡ spellings (dirents ds) → AreRecordBytes bytes
 are_records ds bytes typed named fits is =
     let reads = records_read ds bytes fits is in
     let same = sym (dirents_are ds bytes reads) in
@@ -60,30 +65,46 @@ kind_back Other = refl
 
 pub records_back : (rs : List Record) → map dirent_in (map record_of rs) ≡ map dirent_of rs
 records_back [] = refl
-records_back (r ∷ rs) = λ i. record { ino = (dirent_of r).ino; offset = (dirent_of r).offset; kind = kind_back r.kind i; name = (dirent_of r).name } ∷ records_back rs i
+records_back (r ∷ rs) = λ i. record {
+  ino = (dirent_of r).ino;
+  offset = (dirent_of r).offset;
+  kind = kind_back r.kind i;
+  name = (dirent_of r).name;
+} ∷ records_back rs i
 
 types_back : (rs : List Record) → AreTyped (map record_of rs)
 types_back [] = refl
-types_back (r ∷ rs) = λ i. record { ino = (record_of r).ino; off = (record_of r).off; kind = type_of (kind_back r.kind i); name = (record_of r).name } ∷ types_back rs i
+types_back (r ∷ rs) = λ i. record {
+  ino = (record_of r).ino;
+  off = (record_of r).off;
+  kind = type_of (kind_back r.kind i);
+  name = (record_of r).name;
+} ∷ types_back rs i
 
-pub names_are_records : (rs : List Record) (bytes : List ℕ) → HaveRecordNames (map record_of rs) → InRange (dirents (map record_of rs)) → bytes ≡ spellings (dirents (map record_of rs)) → AreRecordBytes bytes
+pub names_are_records : (rs : List Record) (bytes : List ℕ) → HaveRecordNames (map record_of rs)
+    → InRange (dirents (map record_of rs)) → bytes ≡ spellings (dirents (map record_of rs)) → AreRecordBytes bytes
 names_are_records rs bytes named fits is = are_records (map record_of rs) bytes (types_back rs) named fits is
 
 -- the records of these names, as they were written
-pub listed_are : (rs : List Record) (bytes : List ℕ) → InRange (dirents (map record_of rs)) → bytes ≡ spellings (dirents (map record_of rs)) → map dirent_in (dirents_in bytes) ≡ map dirent_of rs
-listed_are rs bytes fits is = ap (λ (xs : List DirentContent). map dirent_in xs) (dirents_are (map record_of rs) bytes (records_read (map record_of rs) bytes fits is)) ∙ records_back rs
+pub listed_are : (rs : List Record) (bytes : List ℕ) → InRange (dirents (map record_of rs))
+    → bytes ≡ spellings (dirents (map record_of rs)) → map dirent_in (dirents_in bytes) ≡ map dirent_of rs
+listed_are rs bytes fits is = ap (λ (xs : List DirentContent). map dirent_in xs)
+    (dirents_are (map record_of rs) bytes (records_read (map record_of rs) bytes fits is)) ∙ records_back rs
 
 -- ---- what is read over the bytes of records
 
 abbrev IsOver : List ℕ → Option Records → Type 0
-IsOver bytes r = MatchOption r ((ds : List DirentContent) → AreRecords 0 bytes ds → ⊥) (λ p. AreRecords 0 bytes (records_in p))
+IsOver bytes r = MatchOption r ((ds : List DirentContent) → AreRecords 0 bytes ds → ⊥)
+    (λ p. AreRecords 0 bytes (records_in p))
 
 pub is_over : (bytes : List ℕ) (r : Option Records) → AreRecordBytes bytes → IsOver bytes r → IsSome r
 is_over bytes None h over = absurd (over (dirents_in bytes) h.0)
 is_over bytes (Some p) h over = search rules
 
-pub over_are : (bytes : List ℕ) (r : Option Records) (p : Records) → IsOver bytes r → r ≡ Some p → (records_in p ≡ dirents_in bytes) × (sizes (dirents (records_in p)) ≡ length bytes)
-over_are bytes r p over is = let reads = (rw is at over).1 in (sym (dirents_are (records_in p) bytes reads), size_is (records_in p) bytes reads)
+pub over_are : (bytes : List ℕ) (r : Option Records) (p : Records) → IsOver bytes r → r ≡ Some p
+    → (records_in p ≡ dirents_in bytes) × (sizes (dirents (records_in p)) ≡ length bytes)
+over_are bytes r p over is = let reads = (rw is at over).1 in
+    (sym (dirents_are (records_in p) bytes reads), size_is (records_in p) bytes reads)
 
 -- ---- how long records are
 
@@ -91,12 +112,15 @@ pad_is : (n : ℕ) → 24 + n + padding n ≡ (31 + n) / 8 * 8
 pad_is n = omega arith
 
 -- as long as their names say
-pub records_end : (ds : List DirentContent) (place : ℕ) (bytes : List ℕ) → ReadsAs place (dirents ds) bytes → length bytes ≡ place + sum_by record_length (map dirent_in ds)
+pub records_end : (ds : List DirentContent) (place : ℕ) (bytes : List ℕ) → ReadsAs place (dirents ds) bytes
+    → length bytes ≡ place + sum_by record_length (map dirent_in ds)
 records_end [] place bytes reads = omega (arith, reads)
 records_end (d ∷ ds) place bytes reads =
     let rest = records_end ds (place + 8 + 8 + 4 + 4 + length d.name + padding (length d.name)) bytes reads.1.1.1.1.1 in
     let pad = pad_is (length d.name) in
-    let sum : sum_by record_length (map dirent_in (d ∷ ds)) ≡ (31 + length d.name) / 8 * 8 + sum_by record_length (map dirent_in ds) = sum_by-cons record_length (dirent_in d) (map dirent_in ds) in
+    let sum : sum_by record_length (map dirent_in (d ∷ ds))
+    ≡ (31 + length d.name) / 8 * 8 + sum_by record_length (map dirent_in ds) =
+    sum_by-cons record_length (dirent_in d) (map dirent_in ds) in
     omega (arith, rest, pad, sum)
 
 -- records that fit some room are no longer than it
@@ -104,18 +128,25 @@ fitting_fits : (room : ℕ) (rs : List SpecDirent) → sum_by record_length (fit
 fitting_fits room [] = omega arith
 fitting_fits room (r ∷ rs) = by (nat_le (record_length r) room) refl (fitting_fits (room - record_length r) rs)
   where
-    by : (b : Bool) → nat_le (record_length r) room ≡ b → sum_by record_length (fitting (room - record_length r) rs) ≤ room - record_length r → sum_by record_length (cond b (r ∷ fitting (room - record_length r) rs) []) ≤ room
+    by : (b : Bool) → nat_le (record_length r) room ≡ b
+        → sum_by record_length (fitting (room - record_length r) rs) ≤ room - record_length r
+        → sum_by record_length (cond b (r ∷ fitting (room - record_length r) rs) []) ≤ room
     by false e rest = omega arith
     by true e rest =
-        let sum : sum_by record_length (r ∷ fitting (room - record_length r) rs) ≡ record_length r + sum_by record_length (fitting (room - record_length r) rs) = sum_by-cons record_length r (fitting (room - record_length r) rs) in
+        let sum : sum_by record_length (r ∷ fitting (room - record_length r) rs)
+        ≡ record_length r + sum_by record_length (fitting (room - record_length r) rs) =
+        sum_by-cons record_length r (fitting (room - record_length r) rs) in
         let le = leb-true (record_length r) room e in
         omega (arith, rest, sum, le)
 
 -- the bytes of a listing that fits some room
-pub few_bytes : (rs : List Record) (bytes : List ℕ) (room : ℕ) (all : List SpecDirent) → InRange (dirents (map record_of rs)) → bytes ≡ spellings (dirents (map record_of rs)) → fitting room all ≡ map dirent_of rs → length bytes ≤ room
+pub few_bytes : (rs : List Record) (bytes : List ℕ) (room : ℕ) (all : List SpecDirent)
+    → InRange (dirents (map record_of rs)) → bytes ≡ spellings (dirents (map record_of rs))
+    → fitting room all ≡ map dirent_of rs → length bytes ≤ room
 few_bytes rs bytes room all fits is some =
     let end = records_end (map record_of rs) 0 bytes (records_read (map record_of rs) bytes fits is) in
-    let same : sum_by record_length (map dirent_in (map record_of rs)) ≡ sum_by record_length (fitting room all) = ap (λ (ds : List SpecDirent). sum_by record_length ds) (records_back rs ∙ sym some) in
+    let same : sum_by record_length (map dirent_in (map record_of rs)) ≡ sum_by record_length (fitting room all) =
+    ap (λ (ds : List SpecDirent). sum_by record_length ds) (records_back rs ∙ sym some) in
     let most = fitting_fits room all in
     omega (arith, end, same, most)
 
@@ -128,12 +159,14 @@ listed_same ds es e = ap records_said e
 
 -- ---- which files are listed
 
-pub low_born : (tree : Tree) → IsShaped tree → tree.next_birth ≤ 2 ^ 62 → (file : ℕ) → IsSome (get tree.files file) → file < 2 ^ 62
+pub low_born : (tree : Tree) → IsShaped tree → tree.next_birth ≤ 2 ^ 62 → (file : ℕ) → IsSome (get tree.files file)
+    → file < 2 ^ 62
 low_born tree shaped births file there = by (nat_lt file tree.next_birth) refl
   where
     by : (b : Bool) → nat_lt file tree.next_birth ≡ b → file < 2 ^ 62
     by true e = let lt = ltb-true file tree.next_birth e in omega (arith, lt, births)
-    by false e = let le = ltb-false file tree.next_birth e in absurd (true≢false (sym there ∙ ap is_some (shaped.unborn file le)))
+    by false e = let le = ltb-false file tree.next_birth e in
+        absurd (true≢false (sym there ∙ ap is_some (shaped.unborn file le)))
 
 -- a record of a file that was born
 abbrev IsLow : SpecDirent → Type 0
@@ -141,9 +174,11 @@ IsLow d = d.ino ≤ 2 ^ 62
 
 low_fitting : (room : ℕ) (ds : List SpecDirent) → All IsLow ds → All IsLow (fitting room ds)
 low_fitting room [] low = low
-low_fitting room (d ∷ ds) low = by (nat_le (record_length d) room) (low_fitting (room - record_length d) ds (All-tail IsLow d ds low))
+low_fitting room (d ∷ ds) low = by (nat_le (record_length d) room)
+    (low_fitting (room - record_length d) ds (All-tail IsLow d ds low))
   where
-    by : (b : Bool) → All IsLow (fitting (room - record_length d) ds) → All IsLow (cond b (d ∷ fitting (room - record_length d) ds) [])
+    by : (b : Bool) → All IsLow (fitting (room - record_length d) ds)
+        → All IsLow (cond b (d ∷ fitting (room - record_length d) ds) [])
     by true rest = All-cons IsLow d (fitting (room - record_length d) ds) (All-head IsLow d ds low) rest
     by false rest = All-nil IsLow
 
@@ -151,11 +186,18 @@ low_files : (rs : List Record) → All IsLow (map dirent_of rs) → All (λ (r :
 low_files [] low = All-nil (λ (r : Record). r.file < 2 ^ 62)
 low_files (r ∷ rs) low =
     let first : r.file + 1 ≤ 2 ^ 62 = All-head IsLow (dirent_of r) (map dirent_of rs) low in
-    All-cons (λ (q : Record). q.file < 2 ^ 62) r rs (omega (arith, first)) (low_files rs (All-tail IsLow (dirent_of r) (map dirent_of rs) low))
+    All-cons (λ (q : Record). q.file < 2 ^ 62) r rs (omega (arith, first))
+    (low_files rs (All-tail IsLow (dirent_of r) (map dirent_of rs) low))
 
 -- the files of the names in a directory are below the end of births
-pub low_records : (tree : Tree) → IsShaped tree → tree.next_birth ≤ 2 ^ 62 → (directory after room : ℕ) (rs : List Record) → fitting room (records_after tree directory after) ≡ map dirent_of rs → All (λ (r : Record). r.file < 2 ^ 62) rs
+pub low_records : (tree : Tree) → IsShaped tree → tree.next_birth ≤ 2 ^ 62
+    → (directory after room : ℕ) (rs : List Record) → fitting room (records_after tree directory after)
+    ≡ map dirent_of rs → All (λ (r : Record). r.file < 2 ^ 62) rs
 low_records tree shaped births directory after room rs some =
-    let named : All (λ (n : Named). IsLow (spec_record_of tree n)) tree.names = λ i d lt. let low = low_born tree shaped births _ (shaped.names i d lt).file in omega (arith, low) in
-    let here = All-filter (λ n. nat_lt after n.serial) (λ n. IsLow (spec_record_of tree n)) (names_in tree directory) (All-filter (λ n. nat_eq n.directory directory) (λ n. IsLow (spec_record_of tree n)) tree.names named) in
-    low_files rs (subst (λ (ds : List SpecDirent). All IsLow ds) some (low_fitting room (records_after tree directory after) (All-map IsLow (spec_record_of tree) (filter (λ n. nat_lt after n.serial) (names_in tree directory)) here)))
+    let named : All (λ (n : Named). IsLow (spec_record_of tree n)) tree.names = λ i d lt. let low =
+    low_born tree shaped births _ (shaped.names i d lt).file in omega (arith, low) in
+    let here = All-filter (λ n. nat_lt after n.serial) (λ n. IsLow (spec_record_of tree n)) (names_in tree directory)
+    (All-filter (λ n. nat_eq n.directory directory) (λ n. IsLow (spec_record_of tree n)) tree.names named) in
+    low_files rs (subst (λ (ds : List SpecDirent). All IsLow ds) some
+    (low_fitting room (records_after tree directory after)
+    (All-map IsLow (spec_record_of tree) (filter (λ n. nat_lt after n.serial) (names_in tree directory)) here)))

@@ -9,10 +9,12 @@ first_few None files = omega arith
 first_few (Some e) files = omega arith
 
 -- a list tells at most as many files as it has names
-pub told_few : (valid : ℕ) (es : List Entry) (ds : List Dirent) → length (files_told (pairs_told valid es ds)) ≤ length es
+pub told_few : (valid : ℕ) (es : List Entry) (ds : List Dirent)
+    → length (files_told (pairs_told valid es ds)) ≤ length es
 told_few valid [] ds = omega arith
 told_few valid (e ∷ es) [] = omega arith
 told_few valid (e ∷ es) (d ∷ ds) =
     let rest = told_few valid es ds in
-    let first = first_few (told_by (record { file = entry_told e; valid = valid; dirent = d })) (files_told (pairs_told valid es ds)) in
+    let first = first_few (told_by (record { file = entry_told e; valid = valid; dirent = d }))
+    (files_told (pairs_told valid es ds)) in
     omega (arith, rest, first)

@@ -18,27 +18,39 @@ abbrev pub answered : Server → HeldRequest → Server
 answered s h = record s { tree = tree_said s h; handles = handles_said s h }
 
 module _ (choice : ℕ → ℕ) (s : Server) (up : s.aborted ≡ false) where
-  does : (operation : FileOperation) → doing choice s operation ≡ telling choice (record s { tree = tree_after s.tree operation }) (reply_by s.validity s.tree operation)
+  does : (operation : FileOperation) → doing choice s operation
+      ≡ telling choice (record s { tree = tree_after s.tree operation }) (reply_by s.validity s.tree operation)
   does operation =
       let reply = reply_by s.validity s.tree operation in
       let nodes = all_given choice s.nodes (files_in_reply reply) in
       ap (λ (a : Bool). record {
-        server = record s { tree = tree_after s.tree operation; nodes = cond a s.nodes nodes; handles = cond a s.handles (all_opened s.handles (opens_in_reply reply)) };
-        wire = cond a (failed (errno_of reply)) (wire_of choice nodes (tree_after s.tree operation) s.handles.next_fh reply);
+        server = record s {
+          tree = tree_after s.tree operation;
+          nodes = cond a s.nodes nodes;
+          handles = cond a s.handles (all_opened s.handles (opens_in_reply reply));
+        };
+        wire = cond a (failed (errno_of reply)) (wire_of choice nodes
+            (tree_after s.tree operation) s.handles.next_fh reply);
       }) up
 
   asked_so : (operation : Operation ℕ Opened) (b : Bool)
       → cond b (doing choice s (file_operation_of s.nodes operation)) (refusing s ebadf)
-      ≡ telling choice (record s { tree = cond b (tree_after s.tree (file_operation_of s.nodes operation)) s.tree }) (cond b (reply_by s.validity s.tree (file_operation_of s.nodes operation)) (failed ebadf))
+      ≡ telling choice (record s { tree = cond b (tree_after s.tree (file_operation_of s.nodes operation)) s.tree })
+      (cond b (reply_by s.validity s.tree (file_operation_of s.nodes operation)) (failed ebadf))
   asked_so operation true = does (file_operation_of s.nodes operation)
   asked_so operation false = refl
 
   released_so : (o : Opened) (b : Bool)
-      → ◌≡◌ {A = PerformResult} (cond b (record { server = record s { handles = handle_back s.handles o.fh }; wire = done }) (refusing s ebadf)) (telling choice (record s { handles = cond b (handle_back s.handles o.fh) s.handles }) (cond b done (failed ebadf)))
+      → ◌≡◌ {A = PerformResult} (cond b (record {
+        server = record s { handles = handle_back s.handles o.fh };
+        wire = done;
+      }) (refusing s ebadf)) (telling choice
+      (record s { handles = cond b (handle_back s.handles o.fh) s.handles }) (cond b done (failed ebadf)))
   released_so o true = refl
   released_so o false = refl
 
-  of_body : (body : RequestBody) → performing choice s body ≡ telling choice (record s { tree = tree_by s body; handles = handles_by s body }) (said_by s body)
+  of_body : (body : RequestBody) → performing choice s body
+      ≡ telling choice (record s { tree = tree_by s body; handles = handles_by s body }) (said_by s body)
   of_body (init flags) = refl
   of_body (asks operation) = asked_so operation (is_open_for s operation)
   of_body (release o) = released_so o (is_open s.handles o.fh (file_of s.nodes o.nodeid))
@@ -51,7 +63,10 @@ module _ (choice : ℕ → ℕ) (s : Server) (up : s.aborted ≡ false) where
   performed_is h = by h.marked (is_still_held s.nodes h.generations)
     where
       by : (m b : Bool) → cond m (refusing s eintr) (cond b (performing choice s h.body) (refusing s eio))
-          ≡ telling choice (record s { tree = cond m s.tree (cond b (tree_by s h.body) s.tree); handles = cond m s.handles (cond b (handles_by s h.body) s.handles) })
+          ≡ telling choice (record s {
+            tree = cond m s.tree (cond b (tree_by s h.body) s.tree);
+            handles = cond m s.handles (cond b (handles_by s h.body) s.handles);
+          })
           (cond m (failed eintr) (cond b (said_by s h.body) (failed eio)))
       by true b = refl
       by false true = of_body h.body
@@ -63,26 +78,36 @@ abbrev pub IsLost : Server → Reply ℕ ℕ → PerformResult → Type 0
 IsLost after reply did = (did.server ≡ after) × (errno_of did.wire ≡ errno_of reply)
 
 module _ (choice : ℕ → ℕ) (s : Server) (gone : s.aborted ≡ true) where
-  loses : (operation : FileOperation) → IsLost (record s { tree = tree_after s.tree operation }) (reply_by s.validity s.tree operation) (doing choice s operation)
+  loses : (operation : FileOperation) → IsLost (record s { tree = tree_after s.tree operation })
+      (reply_by s.validity s.tree operation) (doing choice s operation)
   loses operation =
       let reply = reply_by s.validity s.tree operation in
       let nodes = all_given choice s.nodes (files_in_reply reply) in (
-        ap (λ (a : Bool). record s { tree = tree_after s.tree operation; nodes = cond a s.nodes nodes; handles = cond a s.handles (all_opened s.handles (opens_in_reply reply)) }) gone,
-        ap (λ (a : Bool). errno_of (cond a (failed (errno_of reply)) (wire_of choice nodes (tree_after s.tree operation) s.handles.next_fh reply))) gone,
+        ap (λ (a : Bool). record s {
+          tree = tree_after s.tree operation;
+          nodes = cond a s.nodes nodes;
+          handles = cond a s.handles (all_opened s.handles (opens_in_reply reply));
+        }) gone,
+        ap (λ (a : Bool). errno_of (cond a (failed (errno_of reply))
+            (wire_of choice nodes (tree_after s.tree operation) s.handles.next_fh reply))) gone,
       )
 
   asked_lost : (operation : Operation ℕ Opened) (b : Bool)
-      → IsLost (record s { tree = cond b (tree_after s.tree (file_operation_of s.nodes operation)) s.tree }) (cond b (reply_by s.validity s.tree (file_operation_of s.nodes operation)) (failed ebadf))
+      → IsLost (record s { tree = cond b (tree_after s.tree (file_operation_of s.nodes operation)) s.tree })
+      (cond b (reply_by s.validity s.tree (file_operation_of s.nodes operation)) (failed ebadf))
       (cond b (doing choice s (file_operation_of s.nodes operation)) (refusing s ebadf))
   asked_lost operation true = loses (file_operation_of s.nodes operation)
   asked_lost operation false = (refl, refl)
 
   released_lost : (o : Opened) (b : Bool)
-      → IsLost (record s { handles = cond b (handle_back s.handles o.fh) s.handles }) (cond b done (failed ebadf)) (cond b (record { server = record s { handles = handle_back s.handles o.fh }; wire = done }) (refusing s ebadf))
+      → IsLost (record s { handles = cond b (handle_back s.handles o.fh) s.handles }) (cond b done (failed ebadf))
+      (cond b (record { server = record s { handles = handle_back s.handles o.fh }; wire = done })
+      (refusing s ebadf))
   released_lost o true = (refl, refl)
   released_lost o false = (refl, refl)
 
-  body_lost : (body : RequestBody) → IsLost (record s { tree = tree_by s body; handles = handles_by s body }) (said_by s body) (performing choice s body)
+  body_lost : (body : RequestBody) → IsLost (record s { tree = tree_by s body; handles = handles_by s body })
+      (said_by s body) (performing choice s body)
   body_lost (init flags) = (refl, refl)
   body_lost (asks operation) = asked_lost operation (is_open_for s operation)
   body_lost (release o) = released_lost o (is_open s.handles o.fh (file_of s.nodes o.nodeid))
@@ -93,8 +118,12 @@ module _ (choice : ℕ → ℕ) (s : Server) (gone : s.aborted ≡ true) where
   pub performed_lost : (h : HeldRequest) → IsLost (answered s h) (said s h) (performed choice s h)
   performed_lost h = by h.marked (is_still_held s.nodes h.generations)
     where
-      by : (m b : Bool) → IsLost (record s { tree = cond m s.tree (cond b (tree_by s h.body) s.tree); handles = cond m s.handles (cond b (handles_by s h.body) s.handles) })
-          (cond m (failed eintr) (cond b (said_by s h.body) (failed eio))) (cond m (refusing s eintr) (cond b (performing choice s h.body) (refusing s eio)))
+      by : (m b : Bool) → IsLost (record s {
+        tree = cond m s.tree (cond b (tree_by s h.body) s.tree);
+        handles = cond m s.handles (cond b (handles_by s h.body) s.handles);
+      })
+          (cond m (failed eintr) (cond b (said_by s h.body) (failed eio)))
+          (cond m (refusing s eintr) (cond b (performing choice s h.body) (refusing s eio)))
       by true b = (refl, refl)
       by false true = body_lost h.body
       by false false = (refl, refl)
@@ -105,7 +134,8 @@ files_said : (s : Server) (body : RequestBody) → files_by s body ≡ files_in_
 files_said s (init flags) = refl
 files_said s (asks operation) = by (is_open_for s operation)
   where
-    by : (b : Bool) → cond b (files_in_reply (reply_by s.validity s.tree (file_operation_of s.nodes operation))) [] ≡ files_in_reply (cond b (reply_by s.validity s.tree (file_operation_of s.nodes operation)) (failed ebadf))
+    by : (b : Bool) → cond b (files_in_reply (reply_by s.validity s.tree (file_operation_of s.nodes operation))) []
+        ≡ files_in_reply (cond b (reply_by s.validity s.tree (file_operation_of s.nodes operation)) (failed ebadf))
     by true = refl
     by false = refl
 files_said s (release o) = by (is_open s.handles o.fh (file_of s.nodes o.nodeid))
@@ -118,15 +148,18 @@ files_said s (batch_forget fs) = refl
 files_said s (interrupt original) = refl
 
 pub files_are : (s : Server) (h : HeldRequest) → s.aborted ≡ false → files_given s h ≡ files_in_reply (said s h)
-files_are s h up = ap (λ (a : Bool). cond (a || (h.marked || not (is_still_held s.nodes h.generations))) [] (files_by s h.body)) up ∙ by h.marked (is_still_held s.nodes h.generations)
+files_are s h up = ap (λ (a : Bool). cond (a || (h.marked || not (is_still_held s.nodes h.generations))) []
+    (files_by s h.body)) up ∙ by h.marked (is_still_held s.nodes h.generations)
   where
-    by : (m b : Bool) → cond (m || not b) [] (files_by s h.body) ≡ files_in_reply (cond m (failed eintr) (cond b (said_by s h.body) (failed eio)))
+    by : (m b : Bool) → cond (m || not b) [] (files_by s h.body)
+        ≡ files_in_reply (cond m (failed eintr) (cond b (said_by s h.body) (failed eio)))
     by true b = refl
     by false true = files_said s h.body
     by false false = refl
 
 pub no_files : (s : Server) (h : HeldRequest) → s.aborted ≡ true → files_given s h ≡ []
-no_files s h gone = ap (λ (a : Bool). cond (a || (h.marked || not (is_still_held s.nodes h.generations))) [] (files_by s h.body)) gone
+no_files s h gone = ap (λ (a : Bool). cond (a || (h.marked || not (is_still_held s.nodes h.generations))) []
+    (files_by s h.body)) gone
 
 -- ---- what is answered is the same whatever else the server has
 
@@ -151,7 +184,8 @@ module _ (s : Server) (held : Map HeldRequest) (kept : Map Kept) (copies : Map C
 
   same_by : (body : RequestBody) → said_by other body ≡ said_by s body
   same_by (init flags) = refl
-  same_by (asks operation) = ap (λ (b : Bool). cond b (reply_by s.validity s.tree (file_operation_of s.nodes operation)) (failed ebadf)) (same_open operation)
+  same_by (asks operation) = ap (λ (b : Bool). cond b
+      (reply_by s.validity s.tree (file_operation_of s.nodes operation)) (failed ebadf)) (same_open operation)
   same_by (release o) = refl
   same_by (forget f) = refl
   same_by (batch_forget fs) = refl
@@ -159,7 +193,8 @@ module _ (s : Server) (held : Map HeldRequest) (kept : Map Kept) (copies : Map C
 
   same_tree_by : (body : RequestBody) → tree_by other body ≡ tree_by s body
   same_tree_by (init flags) = refl
-  same_tree_by (asks operation) = ap (λ (b : Bool). cond b (tree_after s.tree (file_operation_of s.nodes operation)) s.tree) (same_open operation)
+  same_tree_by (asks operation) = ap (λ (b : Bool). cond b
+      (tree_after s.tree (file_operation_of s.nodes operation)) s.tree) (same_open operation)
   same_tree_by (release o) = refl
   same_tree_by (forget f) = refl
   same_tree_by (batch_forget fs) = refl
@@ -174,10 +209,13 @@ module _ (s : Server) (held : Map HeldRequest) (kept : Map Kept) (copies : Map C
   same_handles_by (interrupt original) = refl
 
   pub same_said : (h : HeldRequest) → said other h ≡ said s h
-  same_said h = ap (λ (r : Reply ℕ ℕ). cond h.marked (failed eintr) (cond (is_still_held s.nodes h.generations) r (failed eio))) (same_by h.body)
+  same_said h = ap (λ (r : Reply ℕ ℕ). cond h.marked (failed eintr)
+      (cond (is_still_held s.nodes h.generations) r (failed eio))) (same_by h.body)
 
   pub same_tree : (h : HeldRequest) → tree_said other h ≡ tree_said s h
-  same_tree h = ap (λ (t : Tree). cond h.marked s.tree (cond (is_still_held s.nodes h.generations) t s.tree)) (same_tree_by h.body)
+  same_tree h = ap (λ (t : Tree). cond h.marked s.tree (cond (is_still_held s.nodes h.generations) t s.tree))
+      (same_tree_by h.body)
 
   pub same_handles : (h : HeldRequest) → handles_said other h ≡ handles_said s h
-  same_handles h = ap (λ (t : HandleTable). cond h.marked s.handles (cond (is_still_held s.nodes h.generations) t s.handles)) (same_handles_by h.body)
+  same_handles h = ap (λ (t : HandleTable). cond h.marked s.handles
+      (cond (is_still_held s.nodes h.generations) t s.handles)) (same_handles_by h.body)

@@ -20,11 +20,16 @@ file_stays t id q = either (nat_eq q 1)
     by : (o : Option HeldNode) → get t.rows id ≡ o → file_in (get (rows_more t.rows id o) q) ≡ file_in (get t.rows q)
     by None e = refl
     by (Some row) e = elim (cases_eq q id) [
-      | inl same ↦ ap file_in (ap (get (put t.rows id (record row { count = row.count + 1 }))) same ∙ get_put_here t.rows id (record row { count = row.count + 1 })) ∙ sym (ap file_in (ap (get t.rows) same ∙ e))
+      | inl same ↦ ap file_in (ap (get (put t.rows id (record row {
+        count =
+            row.count + 1;
+      }))) same ∙ get_put_here t.rows id (record row { count = row.count + 1 })) ∙ sym
+          (ap file_in (ap (get t.rows) same ∙ e))
       | inr ne ↦ ap file_in (get_put_there t.rows id (record row { count = row.count + 1 }) q ne)
     ]
 
-    either : (root : Bool) → file_in (cond root (Some root_row) (get (row_more t id).rows q)) ≡ file_in (cond root (Some root_row) (get t.rows q))
+    either : (root : Bool) → file_in (cond root (Some root_row) (get (row_more t id).rows q))
+        ≡ file_in (cond root (Some root_row) (get t.rows q))
     either true = refl
     either false = by (get t.rows id) refl
 
@@ -34,19 +39,25 @@ files_stay t id (g ∷ gs) = λ i. file_stays t id g.nodeid i ∷ files_stay t i
 
 -- ---- one entry more
 
-pub within_more : (t : NodeTable) → IsSound t → (g : Entry) (gs : List Entry) → IsWithin t (files_of t (g ∷ gs)) → IsWithin (row_more t g.nodeid) (files_of (row_more t g.nodeid) gs)
-within_more t sound g gs old = subst (IsWithin (row_more t g.nodeid)) (sym (files_stay t g.nodeid gs)) (by (get t.rows g.nodeid) refl)
+pub within_more : (t : NodeTable) → IsSound t → (g : Entry) (gs : List Entry) → IsWithin t (files_of t (g ∷ gs))
+    → IsWithin (row_more t g.nodeid) (files_of (row_more t g.nodeid) gs)
+within_more t sound g gs old = subst (IsWithin (row_more t g.nodeid)) (sym (files_stay t g.nodeid gs))
+    (by (get t.rows g.nodeid) refl)
   where
     not_root : (row : HeldNode) → get t.rows g.nodeid ≡ Some row → nat_eq g.nodeid 1 ≡ false
-    not_root row e = let two = sound.from_two g.nodeid row e in other_number g.nodeid 1 (λ one. absurd (omega (arith, two, one)))
+    not_root row e = let two = sound.from_two g.nodeid row e in
+        other_number g.nodeid 1 (λ one. absurd (omega (arith, two, one)))
 
     same : (row : HeldNode) → get t.rows g.nodeid ≡ Some row → row.file ≡ file_of t g.nodeid
-    same row e = sym (ap (λ (b : Bool). file_in (cond b (Some root_row) (get t.rows g.nodeid))) (not_root row e) ∙ ap file_in e)
+    same row e = sym (ap (λ (b : Bool). file_in (cond b (Some root_row) (get t.rows g.nodeid)))
+        (not_root row e) ∙ ap file_in e)
 
-    by : (o : Option HeldNode) → get t.rows g.nodeid ≡ o → IsWithin (record t { rows = rows_more t.rows g.nodeid o }) (files_of t gs)
+    by : (o : Option HeldNode) → get t.rows g.nodeid ≡ o
+        → IsWithin (record t { rows = rows_more t.rows g.nodeid o }) (files_of t gs)
     by None e = λ id row there. fits_later row (file_of t g.nodeid) (files_of t gs) (old id row there)
     by (Some row) e =
-        each_put (Fits (files_of t gs)) t.rows g.nodeid (record row { count = row.count + 1 }) (fits_once row (file_of t g.nodeid) (files_of t gs) (same row e) (old g.nodeid row e))
+        each_put (Fits (files_of t gs)) t.rows g.nodeid (record row { count = row.count + 1 })
+        (fits_once row (file_of t g.nodeid) (files_of t gs) (same row e) (old g.nodeid row e))
         (λ q r is. fits_later r (file_of t g.nodeid) (files_of t gs) (old q r is))
 
 -- ---- counts below their end

@@ -31,7 +31,8 @@ use Rattle.fs_files.proofs.Bounds.{back_each, given_each, more_each, number_more
 -- ---- nodes and open numbers
 
 -- where no file has a node and none an open number
-pub nothing_known : (tree : Tree) (nodes : NodeTable) (handles : HandleTable) → nodes.rows ≡ [] → handles.handles ≡ [] → AreKnown tree nodes handles
+pub nothing_known : (tree : Tree) (nodes : NodeTable) (handles : HandleTable) → nodes.rows ≡ [] → handles.handles ≡ []
+    → AreKnown tree nodes handles
 nothing_known tree nodes handles none empty = record {
   low = λ id row is. absurd (none-some row (ap (λ (m : Map HeldNode). get m id) (sym none) ∙ is));
   there = λ id row is. absurd (none-some row (ap (λ (m : Map HeldNode). get m id) (sym none) ∙ is));
@@ -55,33 +56,43 @@ module _ (tree : Tree) (nodes : NodeTable) (handles : HandleTable) (old : AreKno
 
   pub known_more : (id : ℕ) → AreKnown tree (row_more nodes id) handles
   known_more id = record {
-    low = more_each (λ row. row.file < 2 ^ 62) (λ row. row.file < 2 ^ 62) nodes id (λ row is. is) (λ row is. is) old.low;
-    there = more_each (λ row. IsThere tree row.file) (λ row. IsThere tree row.file) nodes id (λ row is. is) (λ row is. is) old.there;
+    low = more_each (λ row. row.file < 2 ^ 62) (λ row. row.file < 2 ^ 62) nodes id (λ row is. is)
+        (λ row is. is) old.low;
+    there = more_each (λ row. IsThere tree row.file) (λ row. IsThere tree row.file) nodes id (λ row is. is)
+        (λ row is. is) old.there;
     regular = old.regular;
   }
 
   pub known_given : (file id : ℕ) → file < 2 ^ 62 → IsThere tree file → AreKnown tree (given nodes file id) handles
   known_given file id low there = record {
-    low = given_each (λ row. row.file < 2 ^ 62) (λ row. row.file < 2 ^ 62) nodes file id (λ row is. is) (λ row is. is) low old.low;
-    there = given_each (λ row. IsThere tree row.file) (λ row. IsThere tree row.file) nodes file id (λ row is. is) (λ row is. is) there old.there;
+    low = given_each (λ row. row.file < 2 ^ 62) (λ row. row.file < 2 ^ 62) nodes file id (λ row is. is)
+        (λ row is. is) low old.low;
+    there = given_each (λ row. IsThere tree row.file) (λ row. IsThere tree row.file) nodes file id (λ row is. is)
+        (λ row is. is) there old.there;
     regular = old.regular;
   }
 
   pub known_number_back : (fh : ℕ) → AreKnown tree nodes (handle_back handles fh)
-  known_number_back fh = record { low = old.low; there = old.there; regular = back_each (λ h. IsTrue (is_regular tree h.file)) handles fh (λ h is. is) old.regular }
+  known_number_back fh = record {
+    low = old.low;
+    there = old.there;
+    regular = back_each (λ h. IsTrue (is_regular tree h.file)) handles fh (λ h is. is) old.regular;
+  }
 
   pub known_number_more : (fh : ℕ) → AreKnown tree nodes (handle_more handles fh)
   known_number_more fh = record {
     low = old.low;
     there = old.there;
-    regular = number_more_each (λ h. IsTrue (is_regular tree h.file)) (λ h. IsTrue (is_regular tree h.file)) handles fh (λ h is. is) (λ h is. is) old.regular;
+    regular = number_more_each (λ h. IsTrue (is_regular tree h.file)) (λ h. IsTrue (is_regular tree h.file)) handles fh
+        (λ h is. is) (λ h is. is) old.regular;
   }
 
   pub known_opened : (file : ℕ) → IsTrue (is_regular tree file) → AreKnown tree nodes (handle_opened handles file)
   known_opened file regular = record {
     low = old.low;
     there = old.there;
-    regular = opened_each (λ h. IsTrue (is_regular tree h.file)) (λ h. IsTrue (is_regular tree h.file)) handles file (λ h is. is) regular old.regular;
+    regular = opened_each (λ h. IsTrue (is_regular tree h.file)) (λ h. IsTrue (is_regular tree h.file)) handles file
+        (λ h is. is) regular old.regular;
   }
 
 -- ---- files
@@ -91,16 +102,19 @@ pub regular_there : (tree : Tree) (file : ℕ) → IsTrue (is_regular tree file)
 regular_there tree file is = there-content (get tree.files file) (regular_kind (kind_of (get tree.files file)) is)
 
 -- a file that is there and no directory is regular
-not_directory : (o : Option Content) → IsSome o → is_kind_directory (kind_of o) ≡ false → IsTrue (is_kind_regular (kind_of o))
+not_directory : (o : Option Content) → IsSome o → is_kind_directory (kind_of o) ≡ false
+    → IsTrue (is_kind_regular (kind_of o))
 not_directory None there not = absurd (cc)
 not_directory (Some a_directory) there not = absurd (cc)
 not_directory (Some (a_file bytes)) there not = refl
 
-pub regular_file : (tree : Tree) (file : ℕ) → IsThere tree file → is_directory tree file ≡ false → IsTrue (is_regular tree file)
+pub regular_file : (tree : Tree) (file : ℕ) → IsThere tree file → is_directory tree file ≡ false
+    → IsTrue (is_regular tree file)
 regular_file tree file there not = not_directory (get tree.files file) there not
 
 -- the file of a node is there, as the root is
-pub file_there : (tree : Tree) (nodes : NodeTable) → IsShaped tree → AreThere tree nodes → (id : ℕ) → IsThere tree (file_of nodes id)
+pub file_there : (tree : Tree) (nodes : NodeTable) → IsShaped tree → AreThere tree nodes → (id : ℕ)
+    → IsThere tree (file_of nodes id)
 file_there tree nodes shaped known id = by (nat_eq id 1) (get nodes.rows id) refl
   where
     root : IsThere tree 0
@@ -115,18 +129,25 @@ file_there tree nodes shaped known id = by (nat_eq id 1) (get nodes.rows id) ref
 pub put_there : (tree : Tree) (file : ℕ) (c : Content) → IsSome (get (put tree.files file c) file)
 put_there tree file c = ap is_some (get_put_here tree.files file c)
 
-pub put_regular : (tree : Tree) (file : ℕ) (bytes : List ℕ) → IsTrue (is_kind_regular (kind_of (get (put tree.files file (a_file bytes)) file)))
-put_regular tree file bytes = ap (λ (o : Option Content). is_kind_regular (kind_of o)) (get_put_here tree.files file (a_file bytes))
+pub put_regular : (tree : Tree) (file : ℕ) (bytes : List ℕ)
+    → IsTrue (is_kind_regular (kind_of (get (put tree.files file (a_file bytes)) file)))
+put_regular tree file bytes = ap (λ (o : Option Content). is_kind_regular (kind_of o))
+    (get_put_here tree.files file (a_file bytes))
 
 -- what is written is regular, as open numbers are of regular files
-same_kind : (file : ℕ) (tree : Tree) (handles : HandleTable) → AreRegular tree handles → (fh : ℕ) → is_open handles fh file ≡ true → kind_of (get tree.files file) ≡ Regular
+same_kind : (file : ℕ) (tree : Tree) (handles : HandleTable) → AreRegular tree handles → (fh : ℕ)
+    → is_open handles fh file ≡ true → kind_of (get tree.files file) ≡ Regular
 same_kind file tree handles known fh is_opened = by (get handles.handles fh) refl is_opened
   where
-    by : (o : Option OpenNumber) → get handles.handles fh ≡ o → is_file_of file o ≡ true → kind_of (get tree.files file) ≡ Regular
+    by : (o : Option OpenNumber) → get handles.handles fh ≡ o → is_file_of file o ≡ true
+        → kind_of (get tree.files file) ≡ Regular
     by None e is = absurd (cc)
-    by (Some h) e is = regular_kind (kind_of (get tree.files file)) (subst (λ (f : ℕ). IsTrue (is_regular tree f)) (same_number h.file file is) (known fh h e))
+    by (Some h) e is = regular_kind (kind_of (get tree.files file))
+        (subst (λ (f : ℕ). IsTrue (is_regular tree f)) (same_number h.file file is) (known fh h e))
 
-pub writes_regular : (files : FilesState) (v : Validity) → AreRegular files.tree files.handles → (o : operation.Operation ℕ Opened) → is_open_for (server_of files v) o ≡ true → WritesRegular files.tree (file_operation_of files.nodes o)
+pub writes_regular : (files : FilesState) (v : Validity) → AreRegular files.tree files.handles
+    → (o : operation.Operation ℕ Opened) → is_open_for (server_of files v) o ≡ true
+    → WritesRegular files.tree (file_operation_of files.nodes o)
 writes_regular files v known (operation.lookup d name) is = tt
 writes_regular files v known (operation.getattr node) is = tt
 writes_regular files v known (operation.mkdir d name) is = tt
@@ -139,7 +160,8 @@ writes_regular files v known (operation.readdir d after size) is = tt
 writes_regular files v known (operation.readdirplus d after size) is = tt
 writes_regular files v known (operation.opening node) is = tt
 writes_regular files v known (operation.read o offset size) is = tt
-writes_regular files v known (operation.write o offset bytes) is = same_kind (file_of files.nodes o.nodeid) files.tree files.handles known o.fh is
+writes_regular files v known (operation.write o offset bytes) is =
+    same_kind (file_of files.nodes o.nodeid) files.tree files.handles known o.fh is
 
 -- ---- trees that keep their files
 
@@ -163,7 +185,8 @@ module _ (tree : Tree) (shaped : IsShaped tree) where
     kind = λ file is. ap kind_of (get_put_there tree.files tree.next_birth c file (is_old file is));
   }
 
-  keeps_written : (file : ℕ) (bytes : List ℕ) → kind_of (get tree.files file) ≡ Regular → KeepsFiles tree (record tree { files = put tree.files file (a_file bytes) })
+  keeps_written : (file : ℕ) (bytes : List ℕ) → kind_of (get tree.files file) ≡ Regular
+      → KeepsFiles tree (record tree { files = put tree.files file (a_file bytes) })
   keeps_written file bytes regular = record { there = λ x is. (at x is).0; kind = λ x is. (at x is).1 }
     where
       now : Map Content
@@ -187,8 +210,10 @@ module _ (tree : Tree) (shaped : IsShaped tree) where
   keeps_files (operation.create d name) regular = keeps_birth d name (a_file [])
   keeps_files (operation.unlink d name) regular = same_files tree (tree_unrefused tree (operation.unlink d name)) refl
   keeps_files (operation.rmdir d name) regular = same_files tree (tree_unrefused tree (operation.rmdir d name)) refl
-  keeps_files (operation.link file d name) regular = same_files tree (tree_unrefused tree (operation.link file d name)) refl
-  keeps_files (operation.rename d old e new) regular = by (is_same (file_at tree d old) (file_at tree e new)) (file_at tree d old)
+  keeps_files (operation.link file d name) regular =
+      same_files tree (tree_unrefused tree (operation.link file d name)) refl
+  keeps_files (operation.rename d old e new) regular =
+      by (is_same (file_at tree d old) (file_at tree e new)) (file_at tree d old)
     where
       by : (b : Bool) (moved : Option ℕ) → KeepsFiles tree (cond b tree (renamed tree d old e new moved))
       by true moved = same_files tree tree refl
@@ -199,15 +224,20 @@ module _ (tree : Tree) (shaped : IsShaped tree) where
   keeps_files (operation.opening file) regular = same_files tree tree refl
   keeps_files (operation.read file offset size) regular = same_files tree tree refl
   keeps_files (operation.write file offset []) regular = same_files tree tree refl
-  keeps_files (operation.write file offset (b ∷ bytes)) regular = keeps_written file (overwritten (bytes_of (get tree.files file)) offset (b ∷ bytes)) regular
+  keeps_files (operation.write file offset (b ∷ bytes)) regular =
+      keeps_written file (overwritten (bytes_of (get tree.files file)) offset (b ∷ bytes)) regular
 
   -- whether or not memory was wanting
-  pub keeps_result : {A E : Type 0} (v : Validity) (o : FileOperation) → WritesRegular tree o → (new : Tree) (r : Result (Outcome A) E) → IfOk r (λ outcome. Operates v tree o outcome new) → OnErr r (new ≡ tree) → KeepsFiles tree new
-  keeps_result v o regular new (Ok outcome) ok err = subst (λ (t : Tree). KeepsFiles tree t) (sym ok.tree_is) (keeps_files o regular)
+  pub keeps_result : {A E : Type 0} (v : Validity) (o : FileOperation) → WritesRegular tree o
+      → (new : Tree) (r : Result (Outcome A) E) → IfOk r (λ outcome. Operates v tree o outcome new)
+      → OnErr r (new ≡ tree) → KeepsFiles tree new
+  keeps_result v o regular new (Ok outcome) ok err =
+      subst (λ (t : Tree). KeepsFiles tree t) (sym ok.tree_is) (keeps_files o regular)
   keeps_result v o regular new (Err e) ok err = same_files tree new (ap (λ (t : Tree). t.files) err)
 
 -- what is known stays so
-pub known_kept : (old new : Tree) (nodes : NodeTable) (handles : HandleTable) → KeepsFiles old new → AreKnown old nodes handles → AreKnown new nodes handles
+pub known_kept : (old new : Tree) (nodes : NodeTable) (handles : HandleTable) → KeepsFiles old new
+    → AreKnown old nodes handles → AreKnown new nodes handles
 known_kept old new nodes handles keeps known = record {
   low = known.low;
   there = λ id row is. keeps.there row.file (known.there id row is);
@@ -218,11 +248,13 @@ known_kept old new nodes handles keeps known = record {
 
 -- ---- a file that nothing holds goes
 
-pub known_discarded : (files : FilesState) (v : Validity) → AreKnown files.tree files.nodes files.handles → (file : ℕ) → is_file_held (server_of files v) file ≡ false → AreKnown (discarded files.tree file) files.nodes files.handles
+pub known_discarded : (files : FilesState) (v : Validity) → AreKnown files.tree files.nodes files.handles → (file : ℕ)
+    → is_file_held (server_of files v) file ≡ false → AreKnown (discarded files.tree file) files.nodes files.handles
 known_discarded files v known file none = record {
   low = known.low;
   there = λ id row is. ap is_some (left_is row.file (unheld files v file none id row is)) ∙ known.there id row is;
-  regular = λ fh h is. ap (λ (o : Option Content). is_kind_regular (kind_of o)) (left_is h.file (unopened files v file none fh h is)) ∙ known.regular fh h is;
+  regular = λ fh h is. ap (λ (o : Option Content). is_kind_regular (kind_of o))
+      (left_is h.file (unopened files v file none fh h is)) ∙ known.regular fh h is;
 }
   where
     left_is : (x : ℕ) → x ≢ file → get (discarded files.tree file).files x ≡ get files.tree.files x

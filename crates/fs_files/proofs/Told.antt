@@ -11,7 +11,8 @@ use Rattle.fs_files.specs.declared.replies.PlainReply.{PlainReply}
 use Rattle.fs_files.specs.declared.replies.PlainReply.TheVariants.{Missing, Attributes, Listed, Content, Written, Agreed, Done, Failed}
 use Rattle.fs_files.specs.declared.replies.SentReply.TheVariants.{Found, Created, Opened, Plain}
 
-pub tells_found : {A : Type 0} (one two : FilesState) (file ms : ℕ) (entry : Entry) → GivesEntry one.tree one.nodes file two.nodes entry → two.tree ≡ one.tree → two.handles ≡ one.handles
+pub tells_found : {A : Type 0} (one two : FilesState) (file ms : ℕ) (entry : Entry)
+    → GivesEntry one.tree one.nodes file two.nodes entry → two.tree ≡ one.tree → two.handles ≡ one.handles
     → Tells {A = A} one (operation.found file ms) (Found entry ms) two
 tells_found one two file ms entry g tree handles = record {
   choice = λ n. g.id;
@@ -22,18 +23,23 @@ tells_found one two file ms entry g tree handles = record {
   wire_is = ap (λ (e : Entry). operation.found e ms) g.entry_is;
 }
 
-pub tells_created : {A : Type 0} (one mid two : FilesState) (file ms : ℕ) (entry : Entry) (fh : ℕ) → GivesEntry one.tree one.nodes file mid.nodes entry → mid.tree ≡ one.tree → mid.handles ≡ one.handles
-    → fh ≡ mid.handles.next_fh → two.tree ≡ mid.tree → two.nodes ≡ mid.nodes → two.handles ≡ handle_opened mid.handles file → Tells {A = A} one (operation.created file ms file) (Created entry ms fh) two
+pub tells_created : {A : Type 0} (one mid two : FilesState) (file ms : ℕ) (entry : Entry) (fh : ℕ)
+    → GivesEntry one.tree one.nodes file mid.nodes entry → mid.tree ≡ one.tree → mid.handles ≡ one.handles
+    → fh ≡ mid.handles.next_fh → two.tree ≡ mid.tree → two.nodes ≡ mid.nodes
+    → two.handles ≡ handle_opened mid.handles file → Tells {A = A} one (operation.created file ms file)
+    (Created entry ms fh) two
 tells_created one mid two file ms entry fh g tree handles fh_is tree_two nodes_two handles_two = record {
   choice = λ n. g.id;
   may = (g.may, tt);
   tree_is = tree_two ∙ tree;
   nodes_is = nodes_two ∙ g.nodes_is;
   handles_is = handles_two ∙ ap (λ (t : HandleTable). handle_opened t file) handles;
-  wire_is = λ i. operation.created ((g.entry_is ∙ ap (λ (n : NodeTable). entry_for (λ k. g.id) n one.tree file) (sym nodes_two)) i) ms ((fh_is ∙ ap (λ (t : HandleTable). t.next_fh) handles) i);
+  wire_is = λ i. operation.created ((g.entry_is ∙ ap (λ (n : NodeTable). entry_for (λ k. g.id) n one.tree file)
+      (sym nodes_two)) i) ms ((fh_is ∙ ap (λ (t : HandleTable). t.next_fh) handles) i);
 }
 
-pub tells_opened : {A : Type 0} (one two : FilesState) (file fh : ℕ) → fh ≡ one.handles.next_fh → two.tree ≡ one.tree → two.nodes ≡ one.nodes → two.handles ≡ handle_opened one.handles file
+pub tells_opened : {A : Type 0} (one two : FilesState) (file fh : ℕ) → fh ≡ one.handles.next_fh → two.tree ≡ one.tree
+    → two.nodes ≡ one.nodes → two.handles ≡ handle_opened one.handles file
     → Tells {A = A} one (operation.opened file) (Opened fh) two
 tells_opened one two file fh fh_is tree nodes handles = record {
   choice = λ n. n;
@@ -44,12 +50,69 @@ tells_opened one two file fh fh_is tree nodes handles = record {
   wire_is = ap (λ (n : ℕ). operation.opened n) fh_is;
 }
 
-pub tells_plain : {A : Type 0} (one : FilesState) (reply : PlainReply A) → Tells {A = A} one (plain_reply reply) (Plain reply) one
-tells_plain one (Missing missing_ms) = record { choice = λ n. n; may = tt; tree_is = refl; nodes_is = refl; handles_is = refl; wire_is = refl }
-tells_plain one (Attributes attributes) = record { choice = λ n. n; may = tt; tree_is = refl; nodes_is = refl; handles_is = refl; wire_is = refl }
-tells_plain one (Listed records) = record { choice = λ n. n; may = tt; tree_is = refl; nodes_is = refl; handles_is = refl; wire_is = refl }
-tells_plain one (Content bytes) = record { choice = λ n. n; may = tt; tree_is = refl; nodes_is = refl; handles_is = refl; wire_is = refl }
-tells_plain one (Written size) = record { choice = λ n. n; may = tt; tree_is = refl; nodes_is = refl; handles_is = refl; wire_is = refl }
-tells_plain one (Agreed minor flags) = record { choice = λ n. n; may = tt; tree_is = refl; nodes_is = refl; handles_is = refl; wire_is = refl }
-tells_plain one Done = record { choice = λ n. n; may = tt; tree_is = refl; nodes_is = refl; handles_is = refl; wire_is = refl }
-tells_plain one (Failed errno) = record { choice = λ n. n; may = tt; tree_is = refl; nodes_is = refl; handles_is = refl; wire_is = refl }
+pub tells_plain : {A : Type 0} (one : FilesState) (reply : PlainReply A)
+    → Tells {A = A} one (plain_reply reply) (Plain reply) one
+tells_plain one (Missing missing_ms) = record {
+  choice = λ n. n;
+  may = tt;
+  tree_is = refl;
+  nodes_is = refl;
+  handles_is = refl;
+  wire_is = refl;
+}
+tells_plain one (Attributes attributes) = record {
+  choice = λ n. n;
+  may = tt;
+  tree_is = refl;
+  nodes_is = refl;
+  handles_is = refl;
+  wire_is = refl;
+}
+tells_plain one (Listed records) = record {
+  choice = λ n. n;
+  may = tt;
+  tree_is = refl;
+  nodes_is = refl;
+  handles_is = refl;
+  wire_is = refl;
+}
+tells_plain one (Content bytes) = record {
+  choice = λ n. n;
+  may = tt;
+  tree_is = refl;
+  nodes_is = refl;
+  handles_is = refl;
+  wire_is = refl;
+}
+tells_plain one (Written size) = record {
+  choice = λ n. n;
+  may = tt;
+  tree_is = refl;
+  nodes_is = refl;
+  handles_is = refl;
+  wire_is = refl;
+}
+tells_plain one (Agreed minor flags) = record {
+  choice = λ n. n;
+  may = tt;
+  tree_is = refl;
+  nodes_is = refl;
+  handles_is = refl;
+  wire_is = refl;
+}
+tells_plain one Done = record {
+  choice = λ n. n;
+  may = tt;
+  tree_is = refl;
+  nodes_is = refl;
+  handles_is = refl;
+  wire_is = refl;
+}
+tells_plain one (Failed errno) = record {
+  choice = λ n. n;
+  may = tt;
+  tree_is = refl;
+  nodes_is = refl;
+  handles_is = refl;
+  wire_is = refl;
+}

@@ -22,27 +22,34 @@ module _ (tree : Tree) (nodes : NodeTable) (sound : IsSound nodes) where
   some_entry d = ap (λ (b : Bool). cond b None (Some (entry_named tree nodes d))) (no_zero nodes sound (d.ino - 1))
 
   -- the pairs that are sent
-  pub pairs_are : (ms : ℕ) (ds : List Dirent) → pairs_told ms (map (entry_named tree nodes) ds) ds ≡ map (pair_with (entry_for (node_in nodes.rows) nodes tree)) (map (pair_listed ms) ds)
+  pub pairs_are : (ms : ℕ) (ds : List Dirent) → pairs_told ms (map (entry_named tree nodes) ds) ds
+      ≡ map (pair_with (entry_for (node_in nodes.rows) nodes tree)) (map (pair_listed ms) ds)
   pairs_are ms [] = refl
   pairs_are ms (d ∷ ds) = λ i. record { file = some_entry d i; valid = ms; dirent = d } ∷ pairs_are ms ds i
 
   -- the entries that tell a file
-  pub told_are : (ms : ℕ) (ds : List Dirent) → files_told (pairs_told ms (map (entry_named tree nodes) ds) ds) ≡ files_told (entries_named tree nodes ds)
+  pub told_are : (ms : ℕ) (ds : List Dirent) → files_told (pairs_told ms (map (entry_named tree nodes) ds) ds)
+      ≡ files_told (entries_named tree nodes ds)
   told_are ms [] = refl
   told_are ms (d ∷ ds) = λ i. first_told (cond (is_dots d.name) None (some_entry d i)) (told_are ms ds i)
 
 -- the files are the same however long they are valid
-pub same_files : (ms : ℕ) (ds : List Dirent) → files_told (map (pair_listed ms) ds) ≡ files_told (map (pair_listed 0) ds)
+pub same_files : (ms : ℕ) (ds : List Dirent) → files_told (map (pair_listed ms) ds)
+    ≡ files_told (map (pair_listed 0) ds)
 same_files ms [] = refl
-same_files ms (d ∷ ds) = ap (λ (files : List ℕ). first_told (cond (is_dots d.name) None (Some (d.ino - 1))) files) (same_files ms ds)
+same_files ms (d ∷ ds) = ap (λ (files : List ℕ). first_told (cond (is_dots d.name) None (Some (d.ino - 1))) files)
+    (same_files ms ds)
 
-pub tells_listed : {A : Type 0} (one two : FilesState) (ms : ℕ) (bytes : List ℕ) (listing : ListedNames A) → GivenEach one.nodes (files_told (map (pair_listed 0) (names_in bytes))) two.nodes → IsSound two.nodes
-    → listing.entries.items ≡ map (entry_named two.tree two.nodes) (names_in bytes) → listing.records.items ≡ bytes → listing.found_ms ≡ ms → two.tree ≡ one.tree → two.handles ≡ one.handles
+pub tells_listed : {A : Type 0} (one two : FilesState) (ms : ℕ) (bytes : List ℕ) (listing : ListedNames A)
+    → GivenEach one.nodes (files_told (map (pair_listed 0) (names_in bytes))) two.nodes → IsSound two.nodes
+    → listing.entries.items ≡ map (entry_named two.tree two.nodes) (names_in bytes) → listing.records.items ≡ bytes
+    → listing.found_ms ≡ ms → two.tree ≡ one.tree → two.handles ≡ one.handles
     → Tells {A = A} one (operation.listed_plus (map (pair_listed ms) (names_in bytes))) (ListedPlus listing) two
 tells_listed one two ms bytes listing given sound entries records valid tree handles =
     let names = names_in bytes in
     let files = files_told (map (pair_listed ms) names) in
-    let each : GivenEach one.nodes files two.nodes = subst (λ (fs : List ℕ). GivenEach one.nodes fs two.nodes) (sym (same_files ms names)) given in
+    let each : GivenEach one.nodes files two.nodes =
+    subst (λ (fs : List ℕ). GivenEach one.nodes fs two.nodes) (sym (same_files ms names)) given in
     record {
       choice = node_in two.nodes.rows;
       may = may_each two.nodes sound one.nodes files each;
@@ -52,7 +59,8 @@ tells_listed one two ms bytes listing given sound entries records valid tree han
       wire_is =
           (λ i. operation.listed_plus (pairs_told (valid i) (entries i) (names_in (records i))))
           ∙ ap (λ pairs. operation.listed_plus pairs) (pairs_are two.tree two.nodes sound ms names)
-          ∙ ap (λ (t : Tree). operation.listed_plus (map (pair_with (entry_for (node_in two.nodes.rows) two.nodes t)) (map (pair_listed ms) names))) tree;
+          ∙ ap (λ (t : Tree). operation.listed_plus (map (pair_with (entry_for (node_in two.nodes.rows) two.nodes t))
+          (map (pair_listed ms) names))) tree;
     }
 
 -- ---- what a list keeps
@@ -61,12 +69,16 @@ mapped_length : {X Y : Type 0} (f : X → Y) (xs : List X) → length (map f xs)
 mapped_length f [] = refl
 mapped_length f (x ∷ xs) = let rest = mapped_length f xs in omega (arith, rest)
 
-module _ (tree : Tree) (nodes : NodeTable) (bytes view : List ℕ) (same : view ≡ bytes) (entries : List Entry) (is_entries : entries ≡ map (entry_named tree nodes) (names_in view)) where
+module _ (tree : Tree) (nodes : NodeTable) (bytes view : List ℕ) (same : view ≡ bytes) (entries : List Entry)
+    (is_entries : entries ≡ map (entry_named tree nodes) (names_in view)) where
   pub one_each : length entries ≡ length (names_in bytes)
-  one_each = ap (λ (es : List Entry). length es) is_entries ∙ mapped_length (entry_named tree nodes) (names_in view) ∙ ap (λ (b : List ℕ). length (names_in b)) same
+  one_each = ap (λ (es : List Entry). length es) is_entries ∙ mapped_length (entry_named tree nodes)
+      (names_in view) ∙ ap (λ (b : List ℕ). length (names_in b)) same
 
   pub one_a_record : length entries ≡ length (dirents_in bytes)
   one_a_record = one_each ∙ mapped_length dirent_in (dirents_in bytes)
 
-  pub told_so : IsSound nodes → (ms : ℕ) (told : List Entry) → told ≡ files_told (entries_named tree nodes (names_in view)) → told ≡ files_told (listed_pairs ms entries bytes)
-  told_so sound ms told is_told = is_told ∙ sym (told_are tree nodes sound ms (names_in view)) ∙ (λ i. files_told (pairs_told ms (sym is_entries i) (names_in (same i))))
+  pub told_so : IsSound nodes → (ms : ℕ) (told : List Entry)
+      → told ≡ files_told (entries_named tree nodes (names_in view)) → told ≡ files_told (listed_pairs ms entries bytes)
+  told_so sound ms told is_told = is_told ∙ sym (told_are tree nodes sound ms (names_in view)) ∙
+      (λ i. files_told (pairs_told ms (sym is_entries i) (names_in (same i))))

@@ -18,7 +18,8 @@ abbrev pub told_of : Dirent → Option ℕ
 told_of d = cond (is_dots d.name) None (Some (d.ino - 1))
 
 -- These names are still to be told, of those whose files are to get nodes.
-pub record StillTold (tree : Tree) (old : NodeTable) (all : List ℕ) (t : NodeTable) (room : ℕ) (ds : List Dirent) : Type 0 where
+pub record StillTold (tree : Tree) (old : NodeTable) (all : List ℕ) (t : NodeTable) (room : ℕ)
+    (ds : List Dirent) : Type 0 where
   pub goes : (last : NodeTable) → GivenEach t (files_told (map (pair_listed 0) ds)) last → GivenEach old all last
   pub listable : All (IsListable tree) ds
   pub few : length ds ≤ 32
@@ -26,8 +27,10 @@ pub record StillTold (tree : Tree) (old : NodeTable) (all : List ℕ) (t : NodeT
   pub generations : generations_after t (files_told (map (pair_listed 0) ds)) ≤ 2 ^ 62
   pub counted : AreCounted (2 ^ 63 - length ds) t
 
-pub told_first : (tree : Tree) (t : NodeTable) (room : ℕ) (ds : List Dirent) → All (IsListable tree) ds → length ds ≤ 32 → length ds ≤ room
-    → generations_after t (files_told (map (pair_listed 0) ds)) ≤ 2 ^ 62 → AreHeldBelow t → StillTold tree t (files_told (map (pair_listed 0) ds)) t room ds
+pub told_first : (tree : Tree) (t : NodeTable) (room : ℕ) (ds : List Dirent) → All (IsListable tree) ds
+    → length ds ≤ 32 → length ds ≤ room
+    → generations_after t (files_told (map (pair_listed 0) ds)) ≤ 2 ^ 62 → AreHeldBelow t
+    → StillTold tree t (files_told (map (pair_listed 0) ds)) t room ds
 told_first tree t room ds listable few roomy generations below = record {
   goes = λ last rest. rest;
   listable = listable;
@@ -37,8 +40,11 @@ told_first tree t room ds listable few roomy generations below = record {
   counted = λ id row is. let low = below id row is in omega (arith, low, few);
 }
 
-module _ (tree : Tree) (old : NodeTable) (all : List ℕ) (t : NodeTable) (room : ℕ) (d : Dirent) (ds : List Dirent) (still : StillTold tree old all t room (d ∷ ds)) where
-  pub told_next : (new : NodeTable) (more : ℕ) → GivenEach t (first_told (told_of d) []) new → ((files : List ℕ) → generations_after new files ≡ generations_after t (first_told (told_of d) files)) → room ≤ more + 1
+module _ (tree : Tree) (old : NodeTable) (all : List ℕ) (t : NodeTable) (room : ℕ) (d : Dirent) (ds : List Dirent)
+    (still : StillTold tree old all t room (d ∷ ds)) where
+  pub told_next : (new : NodeTable) (more : ℕ) → GivenEach t (first_told (told_of d) []) new
+      → ((files : List ℕ) → generations_after new files ≡ generations_after t (first_told (told_of d) files))
+      → room ≤ more + 1
       → StillTold tree old all new more ds
   told_next new more one next left =
       let files = files_told (map (pair_listed 0) ds) in
@@ -50,7 +56,8 @@ module _ (tree : Tree) (old : NodeTable) (all : List ℕ) (t : NodeTable) (room 
         few = omega (arith, few);
         roomy = omega (arith, roomy, left);
         generations = subst (λ (n : ℕ). n ≤ 2 ^ 62) (sym (next files)) still.generations;
-        counted = λ id row is. let low = one_counted t new (told_of d) (2 ^ 63 - length (d ∷ ds)) one still.counted id row is in omega (arith, low, few);
+        counted = λ id row is. let low = one_counted t new (told_of d)
+            (2 ^ 63 - length (d ∷ ds)) one still.counted id row is in omega (arith, low, few);
       }
 
   pub told_listable : IsListable tree d
@@ -63,7 +70,8 @@ module _ (tree : Tree) (old : NodeTable) (all : List ℕ) (t : NodeTable) (room 
   told_room = let roomy = still.roomy in omega (arith, roomy)
 
 -- the first of some files takes no more generations than all
-fewer_first : (t : NodeTable) (told : Option ℕ) (files : List ℕ) → generations_after t (first_told told files) ≤ 2 ^ 62 → generations_after t (first_told told []) ≤ 2 ^ 62
+fewer_first : (t : NodeTable) (told : Option ℕ) (files : List ℕ) → generations_after t (first_told told files) ≤ 2 ^ 62
+    → generations_after t (first_told told []) ≤ 2 ^ 62
 fewer_first t None files enough = omega (arith, enough)
 fewer_first t (Some file) files enough = by (has_node t file) refl
   where
@@ -71,5 +79,8 @@ fewer_first t (Some file) files enough = by (has_node t file) refl
     by true e = rw e (omega (arith, enough))
     by false e = let some = first_new (has_node t) file files e in rw e (omega (arith, enough, some))
 
-pub told_generations : (tree : Tree) (old : NodeTable) (all : List ℕ) (t : NodeTable) (room : ℕ) (d : Dirent) (ds : List Dirent) → StillTold tree old all t room (d ∷ ds) → generations_after t (first_told (told_of d) []) ≤ 2 ^ 62
-told_generations tree old all t room d ds still = fewer_first t (told_of d) (files_told (map (pair_listed 0) ds)) still.generations
+pub told_generations : (tree : Tree) (old : NodeTable) (all : List ℕ) (t : NodeTable) (room : ℕ) (d : Dirent)
+    (ds : List Dirent) → StillTold tree old all t room (d ∷ ds)
+    → generations_after t (first_told (told_of d) []) ≤ 2 ^ 62
+told_generations tree old all t room d ds still =
+    fewer_first t (told_of d) (files_told (map (pair_listed 0) ds)) still.generations

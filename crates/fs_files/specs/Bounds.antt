@@ -33,7 +33,8 @@ AreThere tree nodes = (id : ℕ) (row : HeldNode) → get nodes.rows id ≡ Some
 
 -- every open number's file is regular
 abbrev pub AreRegular : Tree → HandleTable → Type 0
-AreRegular tree handles = (fh : ℕ) (handle : OpenNumber) → get handles.handles fh ≡ Some handle → IsTrue (is_regular tree handle.file)
+AreRegular tree handles = (fh : ℕ) (handle : OpenNumber) → get handles.handles fh ≡ Some handle
+    → IsTrue (is_regular tree handle.file)
 
 -- Nodes are of files of the tree, and open numbers of regular ones.
 pub record AreKnown (tree : Tree) (nodes : NodeTable) (handles : HandleTable) : Type 0 where
@@ -45,13 +46,14 @@ pub record AreKnown (tree : Tree) (nodes : NodeTable) (handles : HandleTable) : 
 abbrev pub IsUnopened : HandleTable → ℕ → Type 0
 IsUnopened handles file = (fh : ℕ) (handle : OpenNumber) → get handles.handles fh ≡ Some handle → handle.file ≢ file
 
--- Each file of the tree that has no node and no open number has a name, but for one that is still to be looked at. Nodes and open
--- numbers are in rising key, and none is in use from the next number on.
+-- Each file of the tree that has no node and no open number has a name, but for one that is still to be looked at.
+-- Nodes and open numbers are in rising key, and none is in use from the next number on.
 pub record AreNamedBut (loose : Option ℕ) (tree : Tree) (nodes : NodeTable) (handles : HandleTable) : Type 0 where
   pub rows : T (is_sorted nat_cmp nodes.rows)
   pub opens : T (is_sorted nat_cmp handles.handles)
   pub coming : (fh : ℕ) → handles.next_fh ≤ fh → get handles.handles fh ≡ None
-  pub named : (file : ℕ) → (loose ≡ Some file → ⊥) → IsThere tree file → IsUnheld nodes file → IsUnopened handles file → is_nameless tree file ≡ false
+  pub named : (file : ℕ) → (loose ≡ Some file → ⊥) → IsThere tree file → IsUnheld nodes file → IsUnopened handles file
+      → is_nameless tree file ≡ false
 
 -- Each file of the tree that has no node and no open number has a name.
 abbrev pub AreNamed : Tree → NodeTable → HandleTable → Type 0

@@ -30,7 +30,8 @@ node_in (e ∷ rows) file = cond (nat_eq e.1.file file) e.0 (node_in rows file)
 
 -- the file's node has lookups below the end of counters, once these files are told
 abbrev pub IsCountable : NodeTable → List ℕ → ℕ → Type 0
-IsCountable t files file = (id : ℕ) (row : HeldNode) → get t.rows id ≡ Some row → row.file ≡ file → row.count + count_by (nat_eq file) files < 2 ^ 62
+IsCountable t files file = (id : ℕ) (row : HeldNode) → get t.rows id ≡ Some row → row.file ≡ file
+    → row.count + count_by (nat_eq file) files < 2 ^ 62
 
 -- the same for each of some files
 abbrev pub AreCountable : NodeTable → (files some : List ℕ) → Type 0

@@ -14,7 +14,8 @@ dirents_in bytes = dirents_from (count_from (length bytes) false 0 bytes) 0 byte
 
 -- These bytes are records, whose types are those of kinds.
 abbrev pub AreRecordBytes : List ℕ → Type 0
-AreRecordBytes bytes = AreRecords 0 bytes (dirents_in bytes) × (map dirent_of (map dirent_in (dirents_in bytes)) ≡ dirents_in bytes)
+AreRecordBytes bytes = AreRecords 0 bytes (dirents_in bytes)
+    × (map dirent_of (map dirent_in (dirents_in bytes)) ≡ dirents_in bytes)
 
 -- a name with the file that its inode number tells, valid for so many milliseconds
 abbrev pub pair_listed : (valid : ℕ) → Dirent → DirentPlus ℕ

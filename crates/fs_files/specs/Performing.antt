@@ -19,7 +19,8 @@ use Rattle.fs_files.specs.Values.{room_of, room_for}
 -- What a request is answered whose nodes are still held, with files named by their births.
 abbrev pub said_by : Server → RequestBody → Reply ℕ ℕ
 said_by s (init flags) = agreed 7 (minor_number s.minor) (bit_and flags (flags_known s.minor))
-said_by s (asks operation) = cond (is_open_for s operation) (reply_by s.validity s.tree (file_operation_of s.nodes operation)) (failed ebadf)
+said_by s (asks operation) = cond (is_open_for s operation)
+    (reply_by s.validity s.tree (file_operation_of s.nodes operation)) (failed ebadf)
 said_by s (release o) = cond (is_open s.handles o.fh (file_of s.nodes o.nodeid)) done (failed ebadf)
 said_by s (forget f) = failed eio
 said_by s (batch_forget fs) = failed eio
@@ -27,7 +28,8 @@ said_by s (interrupt original) = failed eio
 
 -- the tree after it
 abbrev pub tree_by : Server → RequestBody → Tree
-tree_by s (asks operation) = cond (is_open_for s operation) (tree_after s.tree (file_operation_of s.nodes operation)) s.tree
+tree_by s (asks operation) = cond (is_open_for s operation)
+    (tree_after s.tree (file_operation_of s.nodes operation)) s.tree
 tree_by s (init flags) = s.tree
 tree_by s (release o) = s.tree
 tree_by s (forget f) = s.tree
@@ -36,7 +38,8 @@ tree_by s (interrupt original) = s.tree
 
 -- the open numbers after it, before one is given
 abbrev pub handles_by : Server → RequestBody → HandleTable
-handles_by s (release o) = cond (is_open s.handles o.fh (file_of s.nodes o.nodeid)) (handle_back s.handles o.fh) s.handles
+handles_by s (release o) = cond (is_open s.handles o.fh (file_of s.nodes o.nodeid))
+    (handle_back s.handles o.fh) s.handles
 handles_by s (init flags) = s.handles
 handles_by s (asks operation) = s.handles
 handles_by s (forget f) = s.handles
@@ -45,13 +48,15 @@ handles_by s (interrupt original) = s.handles
 
 -- The same of any held request: EINTR of a marked one, and EIO of one whose node is gone.
 abbrev pub said : Server → HeldRequest → Reply ℕ ℕ
-said s held = cond held.marked (failed eintr) (cond (is_still_held s.nodes held.generations) (said_by s held.body) (failed eio))
+said s held = cond held.marked (failed eintr) (cond (is_still_held s.nodes held.generations) (said_by s held.body)
+    (failed eio))
 
 abbrev pub tree_said : Server → HeldRequest → Tree
 tree_said s held = cond held.marked s.tree (cond (is_still_held s.nodes held.generations) (tree_by s held.body) s.tree)
 
 abbrev pub handles_said : Server → HeldRequest → HandleTable
-handles_said s held = cond held.marked s.handles (cond (is_still_held s.nodes held.generations) (handles_by s held.body) s.handles)
+handles_said s held = cond held.marked s.handles
+    (cond (is_still_held s.nodes held.generations) (handles_by s held.body) s.handles)
 
 -- the file that a request takes a name for good or an open number from, if it is performed
 abbrev pub loosened : Server → RequestBody → Option ℕ
@@ -66,12 +71,16 @@ loosened s (interrupt original) = None
 abbrev pub telling : (ℕ → ℕ) → Server → Reply ℕ ℕ → PerformResult
 telling choice s reply =
     record {
-      server = record s { nodes = all_given choice s.nodes (files_in_reply reply); handles = all_opened s.handles (opens_in_reply reply) };
+      server = record s {
+        nodes = all_given choice s.nodes (files_in_reply reply);
+        handles = all_opened s.handles (opens_in_reply reply);
+      };
       wire = wire_of choice (all_given choice s.nodes (files_in_reply reply)) s.tree s.handles.next_fh reply;
     }
 
 -- An operation that nothing refuses comes to this on the tree.
-pub record Operates {A : Type 0} (valid : Validity) (tree : Tree) (operation : FileOperation) (outcome : Outcome A) (new : Tree) : Type 0 where
+pub record Operates {A : Type 0} (valid : Validity) (tree : Tree) (operation : FileOperation) (outcome : Outcome A)
+    (new : Tree) : Type 0 where
   pub says : outcome_reply valid.found_ms outcome ≡ reply_unrefused valid tree operation
   pub tree_is : new ≡ tree_unrefused tree operation
   pub tellable : IsTellable new outcome

@@ -13,9 +13,10 @@ pub record Draws (tree new : Tree) (reply : Reply ℕ ℕ) (plan : Plan) : Type 
   pub told : files_in_reply reply ≡ plan.told.items
   pub opens : length (opens_in_reply reply) ≡ plan.opens
 
--- The counters have the numbers of a request whose reply and whose tree are these, and no node's lookups come to the end of counters.
--- Where it is lost, no file is told.
-pub record HasNumbers (new : Tree) (nodes : NodeTable) (handles : HandleTable) (lost : Bool) (reply : Reply ℕ ℕ) : Type 0 where
+-- The counters have the numbers of a request whose reply and whose tree are these, and no node's lookups come to the
+-- end of counters. Where it is lost, no file is told.
+pub record HasNumbers (new : Tree) (nodes : NodeTable) (handles : HandleTable) (lost : Bool)
+    (reply : Reply ℕ ℕ) : Type 0 where
   pub births : new.next_birth ≤ 2 ^ 62
   pub serials : new.next_serial ≤ 2 ^ 62
   pub generations : lost ≡ false → generations_after nodes (files_in_reply reply) ≤ 2 ^ 62
@@ -23,7 +24,9 @@ pub record HasNumbers (new : Tree) (nodes : NodeTable) (handles : HandleTable) (
   pub numbers : lost ≡ false → handles.next_fh + length (opens_in_reply reply) ≤ 2 ^ 62
 
 -- A counter from which it draws is at its end, or a node's lookups come to it.
-abbrev pub LacksNumber : (new : Tree) (nodes : NodeTable) (handles : HandleTable) (lost : Bool) (reply : Reply ℕ ℕ) → Type 0
+abbrev pub LacksNumber : (new : Tree) (nodes : NodeTable) (handles : HandleTable) (lost : Bool) (reply : Reply ℕ ℕ)
+    → Type 0
 LacksNumber new nodes handles lost reply =
     (2 ^ 62 < new.next_birth) ⊎ ((2 ^ 62 < new.next_serial) ⊎ ((lost ≡ false)
-    × ((2 ^ 62 < generations_after nodes (files_in_reply reply)) ⊎ ((counts_out nodes (files_in_reply reply) ≡ true) ⊎ (2 ^ 62 < handles.next_fh + length (opens_in_reply reply))))))
+    × ((2 ^ 62 < generations_after nodes (files_in_reply reply))
+    ⊎ ((counts_out nodes (files_in_reply reply) ≡ true) ⊎ (2 ^ 62 < handles.next_fh + length (opens_in_reply reply))))))

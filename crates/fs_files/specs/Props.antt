@@ -20,8 +20,13 @@ ReadsAs-prop place [] bytes = hlevel props
 ReadsAs-prop place (holds width value ∷ fields) bytes = hlevel (props, ReadsAs-prop (place + width) fields bytes)
 ReadsAs-prop place (free width value ∷ fields) bytes = ReadsAs-prop (place + width) fields bytes
 ReadsAs-prop place (bits mask value ∷ fields) bytes = hlevel (props, ReadsAs-prop (place + 4) fields bytes)
-ReadsAs-prop place (named name ∷ fields) bytes = hlevel (props, IsName-prop, ReadsAs-prop (place + (length name + 1)) fields bytes)
+ReadsAs-prop place (named name ∷ fields) bytes =
+    hlevel (props, IsName-prop, ReadsAs-prop (place + (length name + 1)) fields bytes)
 ReadsAs-prop place (raw data' ∷ fields) bytes = hlevel (props, ReadsAs-prop (place + length data') fields bytes)
 
 pub AreRecordBytes-prop : (bytes : List ℕ) → IsProp (AreRecordBytes bytes)
-AreRecordBytes-prop bytes = hlevel (props, HaveRecordNames-prop (dirents_in bytes), ReadsAs-prop 0 (dirents (dirents_in bytes)) bytes)
+AreRecordBytes-prop bytes = hlevel (
+  props,
+  HaveRecordNames-prop (dirents_in bytes),
+  ReadsAs-prop 0 (dirents (dirents_in bytes)) bytes,
+)

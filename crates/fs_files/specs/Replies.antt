@@ -41,7 +41,8 @@ module _ {A : Type 0} where
   plain_reply (Listed records) = operation.listed (map dirent_in (dirents_in records.items))
   plain_reply (Content bytes) = operation.content bytes.items
   plain_reply (Written size) = operation.written size
-  plain_reply (Agreed minor flags) = operation.agreed 7 (minor_number minor) (bit_and (bit_and flags.0 known_flags) (flags_known minor))
+  plain_reply (Agreed minor flags) = operation.agreed 7 (minor_number minor)
+      (bit_and (bit_and flags.0 known_flags) (flags_known minor))
   plain_reply Done = operation.done
   plain_reply (Failed errno) = operation.failed errno
 
@@ -62,7 +63,8 @@ module _ {A : Type 0} where
   outcome_reply found_ms (outcome.Found file) = operation.found file found_ms
   outcome_reply found_ms (outcome.Created file) = operation.created file found_ms file
   outcome_reply found_ms (outcome.Opened file) = operation.opened file
-  outcome_reply found_ms (outcome.ListedPlus records) = operation.listed_plus (map (pair_listed found_ms) (names_in records.items))
+  outcome_reply found_ms (outcome.ListedPlus records) =
+      operation.listed_plus (map (pair_listed found_ms) (names_in records.items))
   outcome_reply found_ms (outcome.Plain reply) = plain_reply reply
 
   abbrev pub outcome_errno : Outcome A → ℕ
@@ -84,7 +86,8 @@ module _ {A : Type 0} where
   sent_wire (sent.Found entry found_ms) = operation.found entry found_ms
   sent_wire (sent.Created entry found_ms fh) = operation.created entry found_ms fh
   sent_wire (sent.Opened fh) = operation.opened fh
-  sent_wire (sent.ListedPlus listing) = operation.listed_plus (listed_pairs listing.found_ms listing.entries.items listing.records.items)
+  sent_wire (sent.ListedPlus listing) = operation.listed_plus
+      (listed_pairs listing.found_ms listing.entries.items listing.records.items)
   sent_wire (sent.Plain reply) = plain_wire reply
 
   abbrev pub sent_len : SentReply A → ℕ
@@ -120,10 +123,13 @@ module _ {A : Type 0} where
   IsSendable (sent.ListedPlus listing) = Unit {0}
   IsSendable (sent.Plain reply) = IsPlainSendable reply
 
-  -- An outcome whose file is in this tree, below the end of births, and regular if it is opened; or whose reply can be written.
+  -- An outcome whose file is in this tree, below the end of births, and regular if it is opened; or whose reply can be
+  -- written.
   abbrev pub IsTellable : Tree → Outcome A → Type 0
   IsTellable tree (outcome.Found file) = (file < 2 ^ 62) × IsThere tree file
   IsTellable tree (outcome.Created file) = (file < 2 ^ 62) × IsThere tree file × IsTrue (is_regular tree file)
   IsTellable tree (outcome.Opened file) = IsTrue (is_regular tree file)
-  IsTellable tree (outcome.ListedPlus records) = AreRecordBytes records.items × (128 * length (names_in records.items) + length records.items ≤ max_transfer) × All (IsListable tree) (names_in records.items)
+  IsTellable tree (outcome.ListedPlus records) = AreRecordBytes records.items
+      × (128 * length (names_in records.items) + length records.items ≤ max_transfer)
+      × All (IsListable tree) (names_in records.items)
   IsTellable tree (outcome.Plain reply) = IsPlainSendable reply

@@ -26,7 +26,8 @@ abbrev pub entries_named : Tree → NodeTable → List Dirent → List (DirentPl
 entries_named tree nodes ds = map (λ d. record { file = Some (entry_named tree nodes d); valid = 0; dirent = d }) ds
 
 -- The files of this reply are told: nodes and open numbers are given, and this is sent.
-pub record Tells {A : Type 0} (old : FilesState) (reply : Reply ℕ ℕ) (sent : SentReply A) (new : FilesState) : Type 0 where
+pub record Tells {A : Type 0} (old : FilesState) (reply : Reply ℕ ℕ) (sent : SentReply A)
+    (new : FilesState) : Type 0 where
   pub choice : ℕ → ℕ
   pub may : MayChoose choice old.nodes (files_in_reply reply)
   pub tree_is : new.tree ≡ old.tree

@@ -53,7 +53,18 @@ pub record FilesState : Type 0 where
 -- A server with these files, which holds no request and keeps no reply.
 abbrev pub server_of : FilesState → Validity → Server
 server_of files validity =
-    record { tree = files.tree; nodes = files.nodes; handles = files.handles; held = []; kept = []; copies = []; next_copy = 1; validity = validity; minor = M31; aborted = false }
+    record {
+      tree = files.tree;
+      nodes = files.nodes;
+      handles = files.handles;
+      held = [];
+      kept = [];
+      copies = [];
+      next_copy = 1;
+      validity = validity;
+      minor = M31;
+      aborted = false;
+    }
 
 -- the same at a minor
 abbrev pub server_at : Minor → FilesState → Validity → Server
@@ -74,7 +85,8 @@ module _ {A : Type 0} where
   operation_of (held.Create directory name) = operation.create directory name.items
   operation_of (held.Unlink directory name) = operation.unlink directory name.items
   operation_of (held.Rmdir directory name) = operation.rmdir directory name.items
-  operation_of (held.Rename directory old new_directory new) = operation.rename directory old.items new_directory new.items
+  operation_of (held.Rename directory old new_directory new) =
+      operation.rename directory old.items new_directory new.items
   operation_of (held.Link node directory name) = operation.link node directory name.items
   operation_of (held.Open node) = operation.opening node
   operation_of (held.Readdir directory after size) = operation.readdir directory after size

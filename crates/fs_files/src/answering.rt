@@ -22,7 +22,8 @@ use fuse_spec::{Minor, Opened, Validity};
 use std::alloc::{AllocError, Allocator};
 
 impl<S: NodeStore> Files<S> {
-    /// What a held request comes to, on the tree as it is now; an INIT is answered this minor. Where memory is wanting nothing changes.
+    /// What a held request comes to, on the tree as it is now; an INIT is answered this minor. Where memory is wanting
+    /// nothing changes.
     pub fn answer(
         &mut self,
         held: &HeldRequest<S::Heap>,
@@ -33,7 +34,8 @@ impl<S: NodeStore> Files<S> {
         requires serials { (tree_said (server_at minor self.old validity) held.now).next_serial ≤ 2 ^ 62 }
         requires day { validity.missing_ms ≤ max_validity }
         ensures err { OnErr result (self.new ≡ self.old) }
-        ensures says { IfOk result (λ outcome. outcome_reply validity.found_ms outcome ≡ said (server_at minor self.old validity) held.now) }
+        ensures says { IfOk result (λ outcome. outcome_reply validity.found_ms outcome
+            ≡ said (server_at minor self.old validity) held.now) }
         ensures tellable { IfOk result (λ outcome. IsTellable self.new.tree outcome) }
         ensures short { IfOk result (λ outcome. outcome_len outcome ≤ room_for held.now.body) }
         ensures tree { OnOk result (self.new.tree ≡ tree_said (server_at minor self.old validity) held.now) }
@@ -66,11 +68,14 @@ impl<S: NodeStore> Files<S> {
         operation: &HeldOperation<S::Heap>,
         validity: Validity,
     ) -> Result<Outcome<S::Heap>, AllocError>
-        requires births { (tree_by (server_of self.old validity) (asks (operation_of operation.now))).next_birth ≤ 2 ^ 62 }
-        requires serials { (tree_by (server_of self.old validity) (asks (operation_of operation.now))).next_serial ≤ 2 ^ 62 }
+        requires births { (tree_by (server_of self.old validity)
+            (asks (operation_of operation.now))).next_birth ≤ 2 ^ 62 }
+        requires serials { (tree_by (server_of self.old validity)
+            (asks (operation_of operation.now))).next_serial ≤ 2 ^ 62 }
         requires day { validity.missing_ms ≤ max_validity }
         ensures err { OnErr result (self.new ≡ self.old) }
-        ensures ok { IfOk result (λ outcome. ComesTo (server_of self.old validity) (asks (operation_of operation.now)) outcome self.new.tree) }
+        ensures ok { IfOk result (λ outcome. ComesTo (server_of self.old validity)
+            (asks (operation_of operation.now)) outcome self.new.tree) }
         ensures handles { self.new.handles ≡ self.old.handles }
         ensures nodes { self.new.nodes ≡ self.old.nodes }
         ensures node_room { self.new.node_room ≡ self.old.node_room }
@@ -117,7 +122,8 @@ impl<S: NodeStore> Files<S> {
 
     /// A RELEASE.
     fn release(&mut self, opened: Opened) -> Outcome<S::Heap>
-        ensures says { (v : ValidityValue) → outcome_reply v.found_ms result ≡ said_by (server_of self.old v) (release opened) }
+        ensures says { (v : ValidityValue) → outcome_reply v.found_ms result
+            ≡ said_by (server_of self.old v) (release opened) }
         ensures tellable { IsTellable self.new.tree result }
         ensures short { outcome_len result ≤ 0 }
         ensures handles { (v : ValidityValue) → self.new.handles ≡ handles_by (server_of self.old v) (release opened) }

@@ -20,8 +20,8 @@ use fuse_spec::Entry;
 use std::alloc::AllocError;
 use std::marker::Model;
 
-/// The files that are served: the tree, and the nodes and open numbers by which the kernel knows its files. Contracts see beside
-/// these how many more files can be told with no memory.
+/// The files that are served: the tree, and the nodes and open numbers by which the kernel knows its files. Contracts
+/// see beside these how many more files can be told with no memory.
 #[derive(Drop)]
 pub struct Files<S: NodeStore> {
     pub(crate) alloc: S::Heap,
@@ -38,7 +38,13 @@ impl<S: NodeStore> Model for Files<S> {
 
     ghost coded = { Prim.hlevel (codes) };
 
-    ghost view = { λ f. record { tree = f.tree; nodes = f.known.nodes; handles = f.known.handles; node_room = f.known.node_room; open_room = f.known.open_room } };
+    ghost view = { λ f. record {
+      tree = f.tree;
+      nodes = f.known.nodes;
+      handles = f.known.handles;
+      node_room = f.known.node_room;
+      open_room = f.known.open_room;
+    } };
 
     ghost invariant = { λ f. AreKnown f.tree f.known.nodes f.known.handles };
 }
@@ -83,7 +89,8 @@ impl<S: NodeStore> Files<S> {
         let _numbers = self.known.handles.numbers_left();
     }
 
-    /// Nodeids rise from 2, no two have one file, each has a lookup, and its generation was given before the coming one.
+    /// Nodeids rise from 2, no two have one file, each has a lookup, and its generation was given before the coming
+    /// one.
     pub fn keeps_sound(&self)
         ensures { IsSound self.now.nodes }
     {
@@ -159,11 +166,12 @@ impl<S: NodeStore> Files<S> {
         self.known.handles.file_of(fh)
     }
 
-    /// Takes a file out of the tree, if no name leads to it and nothing holds it. Every other file that nothing holds has a name, so
-    /// then all nameless files are gone that nothing holds.
+    /// Takes a file out of the tree, if no name leads to it and nothing holds it. Every other file that nothing holds
+    /// has a name, so then all nameless files are gone that nothing holds.
     pub fn discard_unheld(&mut self, loose: Option<u64>)
         requires { AreNamedBut loose self.old.tree self.old.nodes self.old.handles }
-        ensures tree { (v : ValidityValue) → self.new.tree ≡ without_unheld (is_file_held (server_of self.old v)) self.old.tree }
+        ensures tree { (v : ValidityValue) → self.new.tree
+            ≡ without_unheld (is_file_held (server_of self.old v)) self.old.tree }
         ensures nodes { self.new.nodes ≡ self.old.nodes }
         ensures handles { self.new.handles ≡ self.old.handles }
         ensures named { AreNamed self.new.tree self.new.nodes self.new.handles }
@@ -179,7 +187,8 @@ impl<S: NodeStore> Files<S> {
 
     /// Drops all nodes and open numbers, and takes all nameless files out of the tree. Counters go on.
     pub fn clear(&mut self)
-        ensures tree { (v : ValidityValue) → self.new.tree ≡ without_unheld (is_file_held (server_of self.new v)) self.old.tree }
+        ensures tree { (v : ValidityValue) → self.new.tree
+            ≡ without_unheld (is_file_held (server_of self.new v)) self.old.tree }
         ensures nodes { self.new.nodes ≡ record self.old.nodes { rows = [] } }
         ensures handles { self.new.handles ≡ record self.old.handles { handles = [] } }
         ensures named { AreNamed self.new.tree self.new.nodes self.new.handles }

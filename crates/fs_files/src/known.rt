@@ -27,7 +27,12 @@ impl<S: NodeStore> Model for KnownFiles<S> {
 
     ghost coded = { Prim.hlevel (codes) };
 
-    ghost view = { λ k. record { nodes = k.nodes.table; handles = k.handles.table; node_room = k.nodes.room; open_room = k.handles.room } };
+    ghost view = { λ k. record {
+      nodes = k.nodes.table;
+      handles = k.handles.table;
+      node_room = k.nodes.room;
+      open_room = k.handles.room;
+    } };
 }
 
 impl<S: NodeStore> KnownFiles<S> {
@@ -63,7 +68,8 @@ impl<S: NodeStore> KnownFiles<S> {
 
     /// Whether a file has a node or an open number.
     pub(crate) fn holds(&self, file: u64) -> bool
-        ensures { result ≡ (list_any (λ (row : HeldNode). nat_eq row.file file) (values self.now.nodes.rows) || list_any (λ (h : OpenNumber). nat_eq h.file file) (values self.now.handles.handles)) }
+        ensures { result ≡ (list_any (λ (row : HeldNode). nat_eq row.file file) (values self.now.nodes.rows)
+            || list_any (λ (h : OpenNumber). nat_eq h.file file) (values self.now.handles.handles)) }
     {
         let has_node = self.nodes.has(file);
         let is_open = self.handles.has(file);

@@ -1,5 +1,5 @@
-//! The files that a server serves: a tree, and the nodes and open numbers by which requests name its files. Held requests are
-//! performed on them.
+//! The files that a server serves: a tree, and the nodes and open numbers by which requests name its files. Held
+//! requests are performed on them.
 #![tactic(auto)]
 
 mod answering;

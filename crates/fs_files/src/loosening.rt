@@ -16,11 +16,13 @@ use fs_tree::Tree;
 use std::alloc::Allocator;
 
 impl<S: NodeStore> Files<S> {
-    /// The file that a held request takes a name for good or an open number from, if it is performed. Every other file that nothing
-    /// holds keeps a name.
+    /// The file that a held request takes a name for good or an open number from, if it is performed. Every other file
+    /// that nothing holds keeps a name.
     pub fn loosened_by(&self, held: &HeldRequest<S::Heap>) -> Option<u64>
         ensures file { (v : ValidityValue) (m : MinorValue) → result ≡ loosened (server_at m self.now v) held.now.body }
-        ensures others { (v : ValidityValue) (m : MinorValue) → AreNamed self.now.tree self.now.nodes self.now.handles → AreNamedBut result (tree_said (server_at m self.now v) held.now) self.now.nodes (handles_said (server_at m self.now v) held.now) }
+        ensures others { (v : ValidityValue) (m : MinorValue) → AreNamed self.now.tree self.now.nodes self.now.handles
+            → AreNamedBut result (tree_said (server_at m self.now v) held.now) self.now.nodes
+            (handles_said (server_at m self.now v) held.now) }
     {
         self.tree.keeps_shape();
         self.loosened(held.body())
@@ -28,7 +30,8 @@ impl<S: NodeStore> Files<S> {
 
     /// The same of what a request asks.
     fn loosened(&self, body: &HeldBody<S::Heap>) -> Option<u64>
-        ensures { (v : ValidityValue) (m : MinorValue) → result ≡ loosened (server_at m self.now v) (asked_of body.now) }
+        ensures { (v : ValidityValue) (m : MinorValue) → result
+            ≡ loosened (server_at m self.now v) (asked_of body.now) }
     {
         match body {
             HeldBody::Asks { operation } => unnamed_by(&self.tree, &self.known.nodes, operation),

@@ -144,7 +144,8 @@ impl<S: NodeStore> Nodes<S> {
         self.store.id_of(file).unwrap_or(ROOT)
     }
 
-    /// Nodeids rise from 2, no two have one file, each has a lookup, and its generation was given before the coming one.
+    /// Nodeids rise from 2, no two have one file, each has a lookup, and its generation was given before the coming
+    /// one.
     pub fn keeps_sound(&self)
         ensures { IsSound self.now.table }
     {
@@ -175,8 +176,8 @@ impl<S: NodeStore> Nodes<S> {
         !self.has(file) && !others.contains(&file)
     }
 
-    /// Whether some node's lookups come to the end of counters once each of these files is told once more. Only the nodes of these
-    /// files are looked at.
+    /// Whether some node's lookups come to the end of counters once each of these files is told once more. Only the
+    /// nodes of these files are looked at.
     pub fn counts_out(&self, files: &[u64]) -> bool
         requires { AreHeldBelow self.now.table }
         ensures { result ≡ counts_out self.now.table files.now }
@@ -195,8 +196,8 @@ impl<S: NodeStore> Nodes<S> {
         false
     }
 
-    /// Whether some node's lookups come to the end of counters once each of these entries counts its node once more. Only the nodes
-    /// of these entries are looked at.
+    /// Whether some node's lookups come to the end of counters once each of these entries counts its node once more.
+    /// Only the nodes of these entries are looked at.
     pub fn counts_out_again(&self, told: &[Entry]) -> bool
         requires { AreHeldBelow self.now.table }
         ensures { result ≡ counts_out self.now.table (files_of self.now.table told.now) }
@@ -219,8 +220,10 @@ impl<S: NodeStore> Nodes<S> {
     /// Whether the lookups of a file's node come to the end of counters once it is told so many times more.
     fn is_counted_out(&self, file: u64, more: usize) -> bool
         requires { AreHeldBelow self.now.table }
-        ensures out { result ≡ true → (files : List ℕ) → more ≡ count_by (nat_eq file) files → counts_out self.now.table files ≡ true }
-        ensures within { result ≡ false → (files : List ℕ) → more ≡ count_by (nat_eq file) files → IsCountable self.now.table files file }
+        ensures out { result ≡ true → (files : List ℕ) → more ≡ count_by (nat_eq file) files
+            → counts_out self.now.table files ≡ true }
+        ensures within { result ≡ false → (files : List ℕ) → more ≡ count_by (nat_eq file) files
+            → IsCountable self.now.table files file }
     {
         self.store.keeps_sound();
         match self.store.id_of(file) {

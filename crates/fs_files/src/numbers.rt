@@ -18,12 +18,16 @@ use crate::plan::{Plan, no_numbers, plan_of};
 use fs_nodes::NodeStore;
 
 impl<S: NodeStore> Files<S> {
-    /// Whether the counters have the numbers that performing a held request draws. Where its reply is lost it draws only those of
-    /// the tree.
+    /// Whether the counters have the numbers that performing a held request draws. Where its reply is lost it draws
+    /// only those of the tree.
     pub fn has_numbers(&self, held: &HeldRequest<S::Heap>, is_lost: bool) -> bool
         requires { AreHeldBelow self.now.nodes }
-        ensures has { (v : ValidityValue) (m : MinorValue) → result ≡ true → HasNumbers (tree_said (server_at m self.now v) held.now) self.now.nodes self.now.handles is_lost (said (server_at m self.now v) held.now) }
-        ensures lacks { (v : ValidityValue) (m : MinorValue) → result ≡ false → LacksNumber (tree_said (server_at m self.now v) held.now) self.now.nodes self.now.handles is_lost (said (server_at m self.now v) held.now) }
+        ensures has { (v : ValidityValue) (m : MinorValue) → result ≡ true
+            → HasNumbers (tree_said (server_at m self.now v) held.now) self.now.nodes self.now.handles is_lost
+            (said (server_at m self.now v) held.now) }
+        ensures lacks { (v : ValidityValue) (m : MinorValue) → result ≡ false
+            → LacksNumber (tree_said (server_at m self.now v) held.now) self.now.nodes self.now.handles is_lost
+            (said (server_at m self.now v) held.now) }
     {
         let plan = self.plan_for(held);
         plan.births <= self.tree.births_left()
@@ -33,7 +37,8 @@ impl<S: NodeStore> Files<S> {
 
     /// What performing a held request draws.
     fn plan_for(&self, held: &HeldRequest<S::Heap>) -> Plan
-        ensures { (v : ValidityValue) (m : MinorValue) → Draws self.now.tree (tree_said (server_at m self.now v) held.now) (said (server_at m self.now v) held.now) result }
+        ensures { (v : ValidityValue) (m : MinorValue) → Draws self.now.tree
+            (tree_said (server_at m self.now v) held.now) (said (server_at m self.now v) held.now) result }
     {
         if held.is_marked() || !are_held(&self.known.nodes, held.named()) {
             return no_numbers();
@@ -47,7 +52,9 @@ impl<S: NodeStore> Files<S> {
 
     /// What an operation draws: nothing under an open number that is none of its node's file.
     fn plan_asked(&self, operation: &HeldOperation<S::Heap>) -> Plan
-        ensures { (v : ValidityValue) (m : MinorValue) → Draws self.now.tree (tree_by (server_at m self.now v) (asks (operation_of operation.now))) (said_by (server_at m self.now v) (asks (operation_of operation.now))) result }
+        ensures { (v : ValidityValue) (m : MinorValue) → Draws self.now.tree
+            (tree_by (server_at m self.now v) (asks (operation_of operation.now)))
+            (said_by (server_at m self.now v) (asks (operation_of operation.now))) result }
     {
         if !self.is_open_for(operation) {
             return no_numbers();
@@ -55,11 +62,14 @@ impl<S: NodeStore> Files<S> {
         plan_of(&self.tree, &self.known.nodes, operation)
     }
 
-    /// Whether these files can be told by nodes, one after another: the generations are enough, and no node's count comes to its end.
+    /// Whether these files can be told by nodes, one after another: the generations are enough, and no node's count
+    /// comes to its end.
     fn can_tell(&self, told: &[u64]) -> bool
         requires { AreHeldBelow self.now.nodes }
-        ensures can { result ≡ true → (generations_after self.now.nodes told.now ≤ 2 ^ 62) × (counts_out self.now.nodes told.now ≡ false) }
-        ensures cannot { result ≡ false → (2 ^ 62 < generations_after self.now.nodes told.now) ⊎ (counts_out self.now.nodes told.now ≡ true) }
+        ensures can { result ≡ true → (generations_after self.now.nodes told.now ≤ 2 ^ 62)
+            × (counts_out self.now.nodes told.now ≡ false) }
+        ensures cannot { result ≡ false → (2 ^ 62 < generations_after self.now.nodes told.now)
+            ⊎ (counts_out self.now.nodes told.now ≡ true) }
     {
         let nodes = &self.known.nodes;
         nodes.new_among(told) as u64 <= nodes.generations_left() && !nodes.counts_out(told)

@@ -35,7 +35,8 @@ pub(crate) fn operate<A: Allocator + Copy, S: NodeStore>(
     requires there { AreThere tree.old nodes.now.table }
     requires regular { WritesRegular tree.old (on_files nodes.now.table operation.now) }
     requires day { validity.missing_ms ≤ max_validity }
-    ensures ok { IfOk result (λ outcome. Operates validity tree.old (on_files nodes.now.table operation.now) outcome tree.new) }
+    ensures ok { IfOk result (λ outcome. Operates validity tree.old
+        (on_files nodes.now.table operation.now) outcome tree.new) }
     ensures err { OnErr result (tree.new ≡ tree.old) }
 {
     tree.keeps_shape();
@@ -105,7 +106,8 @@ fn make_directory<A: Allocator + Copy>(
 ) -> Result<Outcome<A>, AllocError>
     requires births { tree.old.next_birth < 2 ^ 62 }
     requires serials { tree.old.next_serial < 2 ^ 62 }
-    ensures ok { IfOk result (λ outcome. (v : ValidityValue) → Operates v tree.old (mkdir directory name.now) outcome tree.new) }
+    ensures ok { IfOk result (λ outcome. (v : ValidityValue)
+        → Operates v tree.old (mkdir directory name.now) outcome tree.new) }
     ensures err { OnErr result (tree.new ≡ tree.old) }
 {
     match tree.mkdir(directory, name) {
@@ -122,7 +124,8 @@ fn make_file<A: Allocator + Copy>(
 ) -> Result<Outcome<A>, AllocError>
     requires births { tree.old.next_birth < 2 ^ 62 }
     requires serials { tree.old.next_serial < 2 ^ 62 }
-    ensures ok { IfOk result (λ outcome. (v : ValidityValue) → Operates v tree.old (create directory name.now) outcome tree.new) }
+    ensures ok { IfOk result (λ outcome. (v : ValidityValue)
+        → Operates v tree.old (create directory name.now) outcome tree.new) }
     ensures err { OnErr result (tree.new ≡ tree.old) }
 {
     match tree.create(directory, name) {
@@ -167,7 +170,8 @@ fn move_file<A: Allocator + Copy>(
 ) -> Result<Outcome<A>, AllocError>
     requires unrefused { refusal tree.old (rename directory old.now new_directory new.now) ≡ None }
     requires serials { (tree_unrefused tree.old (rename directory old.now new_directory new.now)).next_serial ≤ 2 ^ 62 }
-    ensures ok { IfOk result (λ outcome. (v : ValidityValue) → Operates v tree.old (rename directory old.now new_directory new.now) outcome tree.new) }
+    ensures ok { IfOk result (λ outcome. (v : ValidityValue)
+        → Operates v tree.old (rename directory old.now new_directory new.now) outcome tree.new) }
     ensures err { OnErr result (tree.new ≡ tree.old) }
 {
     if tree.are_same(directory, old, new_directory, new) {
@@ -189,7 +193,8 @@ fn link_file<A: Allocator + Copy>(
     requires serials { tree.old.next_serial < 2 ^ 62 }
     requires low { file < 2 ^ 62 }
     requires there { IsThere tree.old file }
-    ensures ok { IfOk result (λ outcome. (v : ValidityValue) → Operates v tree.old (link file directory name.now) outcome tree.new) }
+    ensures ok { IfOk result (λ outcome. (v : ValidityValue)
+        → Operates v tree.old (link file directory name.now) outcome tree.new) }
     ensures err { OnErr result (tree.new ≡ tree.old) }
 {
     match tree.link(file, directory, name) {
@@ -206,7 +211,8 @@ fn list_names<A: Allocator + Copy>(
     size: u32,
     alloc: A,
 ) -> Result<Outcome<A>, AllocError>
-    ensures { IfOk result (λ outcome. (v : ValidityValue) → Operates v tree.now (readdir directory after size) outcome tree.now) }
+    ensures { IfOk result (λ outcome. (v : ValidityValue)
+        → Operates v tree.now (readdir directory after size) outcome tree.now) }
 {
     tree.keeps_shape();
     let _births = tree.births_left();
@@ -227,7 +233,8 @@ fn list_files<A: Allocator + Copy>(
     size: u32,
     alloc: A,
 ) -> Result<Outcome<A>, AllocError>
-    ensures { IfOk result (λ outcome. (v : ValidityValue) → Operates v tree.now (readdirplus directory after size) outcome tree.now) }
+    ensures { IfOk result (λ outcome. (v : ValidityValue)
+        → Operates v tree.now (readdirplus directory after size) outcome tree.now) }
 {
     tree.keeps_shape();
     let _births = tree.births_left();
@@ -246,7 +253,8 @@ fn read_bytes<A: Allocator + Copy>(
     size: u32,
     alloc: A,
 ) -> Result<Outcome<A>, AllocError>
-    ensures { IfOk result (λ outcome. (v : ValidityValue) → Operates v tree.now (read file offset size) outcome tree.now) }
+    ensures { IfOk result (λ outcome. (v : ValidityValue)
+        → Operates v tree.now (read file offset size) outcome tree.now) }
 {
     let bytes = tree.read(file, offset, size).to_vec(alloc)?;
     Ok(Outcome::Plain {
@@ -262,7 +270,8 @@ fn write_bytes<A: Allocator + Copy>(
     bytes: &[u8],
 ) -> Result<Outcome<A>, AllocError>
     requires regular { WritesRegular tree.old (write file offset bytes.now) }
-    ensures ok { IfOk result (λ outcome. (v : ValidityValue) → Operates v tree.old (write file offset bytes.now) outcome tree.new) }
+    ensures ok { IfOk result (λ outcome. (v : ValidityValue)
+        → Operates v tree.old (write file offset bytes.now) outcome tree.new) }
     ensures err { OnErr result (tree.new ≡ tree.old) }
 {
     match tree.write(file, offset, bytes) {

@@ -52,7 +52,8 @@ pub(crate) fn plan_of<A: Allocator + Copy, S: NodeStore>(
     nodes: &Nodes<S>,
     operation: &HeldOperation<A>,
 ) -> Plan
-    ensures { (v : ValidityValue) → Draws tree.now (tree_after tree.now (on_files nodes.now.table operation.now)) (reply_by v tree.now (on_files nodes.now.table operation.now)) result }
+    ensures { (v : ValidityValue) → Draws tree.now (tree_after tree.now (on_files nodes.now.table operation.now))
+        (reply_by v tree.now (on_files nodes.now.table operation.now)) result }
 {
     if refusal_of(tree, nodes, operation).is_some() {
         return no_numbers();
@@ -67,7 +68,8 @@ fn unrefused_plan<A: Allocator + Copy, S: NodeStore>(
     operation: &HeldOperation<A>,
 ) -> Plan
     requires unrefused { refusal tree.now (on_files nodes.now.table operation.now) ≡ None }
-    ensures { (v : ValidityValue) → Draws tree.now (tree_unrefused tree.now (on_files nodes.now.table operation.now)) (reply_unrefused v tree.now (on_files nodes.now.table operation.now)) result }
+    ensures { (v : ValidityValue) → Draws tree.now (tree_unrefused tree.now (on_files nodes.now.table operation.now))
+        (reply_unrefused v tree.now (on_files nodes.now.table operation.now)) result }
 {
     match operation {
         HeldOperation::Lookup { directory, name } => {
@@ -108,7 +110,12 @@ fn unrefused_plan<A: Allocator + Copy, S: NodeStore>(
 /// What a LOOKUP draws.
 fn plan_of_lookup<A: Allocator + Copy>(tree: &Tree<A>, directory: u64, name: &[u8]) -> Plan
     requires { refusal tree.now (lookup directory name.now) ≡ None }
-    ensures { result ≡ record { births = 0; serials = 0; opens = 0; told = record { items = option_to_list (file_at tree.now directory name.now) } } }
+    ensures { result ≡ record {
+      births = 0;
+      serials = 0;
+      opens = 0;
+      told = record { items = option_to_list (file_at tree.now directory name.now) };
+    } }
 {
     match tree.lookup(directory, name) {
         Ok(Some(file)) => Plan {
@@ -151,7 +158,9 @@ fn plan_of_rename<A: Allocator + Copy>(
     new: &[u8],
 ) -> Plan
     requires unrefused { refusal tree.now (rename directory old.now new_directory new.now) ≡ None }
-    ensures { (v : ValidityValue) → Draws tree.now (tree_unrefused tree.now (rename directory old.now new_directory new.now)) (reply_unrefused v tree.now (rename directory old.now new_directory new.now)) result }
+    ensures { (v : ValidityValue) → Draws tree.now (tree_unrefused tree.now
+        (rename directory old.now new_directory new.now))
+        (reply_unrefused v tree.now (rename directory old.now new_directory new.now)) result }
 {
     if tree.are_same(directory, old, new_directory, new) {
         return no_numbers();

@@ -29,7 +29,8 @@ pub enum PlainReply<A: Allocator> {
     Failed { errno: u32 },
 }
 
-/// What performing a request comes to: a reply, or a file that is to be told by its node, by an open number, or by both.
+/// What performing a request comes to: a reply, or a file that is to be told by its node, by an open number, or by
+/// both.
 #[derive(Drop)]
 pub enum Outcome<A: Allocator> {
     Found { file: u64 },

@@ -41,7 +41,8 @@ impl<A: Allocator> ListedNames<A> {
 
     /// The entries of the names that tell a file.
     pub fn told(&self) -> &[Entry]
-        ensures { result.now ≡ files_told (listed_pairs self.now.found_ms self.now.entries.items self.now.records.items) }
+        ensures { result.now ≡ files_told
+            (listed_pairs self.now.found_ms self.now.entries.items self.now.records.items) }
     {
         &self.told
     }
@@ -63,7 +64,8 @@ impl<A: Allocator> ListedNames<A> {
     /// The same names once more, in room that is there.
     pub fn copied(&self, spare: ReplySpare<A>) -> ListedNames<A>
         requires { HasSpare spare (length self.now.records.items) (length self.now.entries.items) }
-        ensures { listed_pairs result.found_ms result.entries.items result.records.items ≡ listed_pairs self.now.found_ms self.now.entries.items self.now.records.items }
+        ensures { listed_pairs result.found_ms result.entries.items result.records.items
+            ≡ listed_pairs self.now.found_ms self.now.entries.items self.now.records.items }
     {
         let ReplySpare {
             mut bytes,
@@ -84,7 +86,11 @@ impl<A: Allocator> ListedNames<A> {
     /// Its frame.
     pub fn framed(&self, room: ReplyRoom<A>, unique: u64) -> ReplyFrame<A>
         requires { 16 + (128 * length self.now.entries.items + length self.now.records.items) ≤ room }
-        ensures { result ≡ record { unique = unique; wire = reply.listed_plus (listed_pairs self.now.found_ms self.now.entries.items self.now.records.items) } }
+        ensures { result ≡ record {
+          unique = unique;
+          wire = reply.listed_plus
+              (listed_pairs self.now.found_ms self.now.entries.items self.now.records.items);
+        } }
     {
         let records = Records::over(&self.records).unwrap();
         room.listed_plus(unique, &self.entries, records, self.found_ms)

@@ -25,7 +25,8 @@ use fuse_spec::Entry;
 use std::alloc::Allocator;
 
 impl<S: NodeStore> Files<S> {
-    /// Tells the files of an outcome by their nodes, by a new open number, or by both: each is counted once. No memory is taken.
+    /// Tells the files of an outcome by their nodes, by a new open number, or by both: each is counted once. No memory
+    /// is taken.
     pub fn tell(
         &mut self,
         outcome: Outcome<S::Heap>,
@@ -36,8 +37,10 @@ impl<S: NodeStore> Files<S> {
         requires open_room { 0 < self.old.open_room }
         requires spare { HasSpare spare 0 (outcome_names outcome) }
         requires tellable { IsTellable self.old.tree outcome }
-        requires generations { generations_after self.old.nodes (files_in_reply (outcome_reply found_ms outcome)) ≤ 2 ^ 62 }
-        requires numbers { self.old.handles.next_fh + length (opens_in_reply (outcome_reply found_ms outcome)) ≤ 2 ^ 62 }
+        requires generations { generations_after self.old.nodes
+            (files_in_reply (outcome_reply found_ms outcome)) ≤ 2 ^ 62 }
+        requires numbers { self.old.handles.next_fh + length
+            (opens_in_reply (outcome_reply found_ms outcome)) ≤ 2 ^ 62 }
         requires counted { AreHeldBelow self.old.nodes }
         requires day { found_ms ≤ max_validity }
         ensures tells { Tells self.old (outcome_reply found_ms outcome) result self.new }
@@ -76,14 +79,19 @@ impl<S: NodeStore> Files<S> {
         found_ms: u64,
         spare: ReplySpare<S::Heap>,
     ) -> ListedNames<S::Heap>
-        requires listable { AreRecordBytes records.items × (128 * length (names_in records.items) + length records.items ≤ max_transfer) × All (IsListable self.old.tree) (names_in records.items) }
+        requires listable { AreRecordBytes records.items
+            × (128 * length (names_in records.items) + length records.items ≤ max_transfer)
+            × All (IsListable self.old.tree) (names_in records.items) }
         requires room { length (names_in records.items) ≤ self.old.node_room }
         requires spare { HasSpare spare 0 (length (names_in records.items)) }
-        requires generations { generations_after self.old.nodes (files_told (map (pair_listed 0) (names_in records.items))) ≤ 2 ^ 62 }
+        requires generations { generations_after self.old.nodes
+            (files_told (map (pair_listed 0) (names_in records.items))) ≤ 2 ^ 62 }
         requires counted { AreHeldBelow self.old.nodes }
         requires day { found_ms ≤ max_validity }
-        ensures given { GivenEach self.old.nodes (files_told (map (pair_listed 0) (names_in records.items))) self.new.nodes }
-        ensures entries { result.entries.items ≡ map (entry_named self.new.tree self.new.nodes) (names_in records.items) }
+        ensures given { GivenEach self.old.nodes (files_told
+            (map (pair_listed 0) (names_in records.items))) self.new.nodes }
+        ensures entries { result.entries.items ≡ map (entry_named self.new.tree self.new.nodes)
+            (names_in records.items) }
         ensures records { result.records.items ≡ records.items }
         ensures valid { result.found_ms ≡ found_ms }
         ensures tree { self.new.tree ≡ self.old.tree }
@@ -108,9 +116,11 @@ impl<S: NodeStore> Files<S> {
         requires listable { All (IsListable self.old.tree) (names_in records.now) }
         requires few { length (names_in records.now) ≤ 32 }
         requires room { length (names_in records.now) ≤ self.old.node_room }
-        requires generations { generations_after self.old.nodes (files_told (map (pair_listed 0) (names_in records.now))) ≤ 2 ^ 62 }
+        requires generations { generations_after self.old.nodes
+            (files_told (map (pair_listed 0) (names_in records.now))) ≤ 2 ^ 62 }
         requires counted { AreHeldBelow self.old.nodes }
-        ensures given { GivenEach self.old.nodes (files_told (map (pair_listed 0) (names_in records.now))) self.new.nodes }
+        ensures given { GivenEach self.old.nodes (files_told
+            (map (pair_listed 0) (names_in records.now))) self.new.nodes }
         ensures tree { self.new.tree ≡ self.old.tree }
         ensures handles { self.new.handles ≡ self.old.handles }
         ensures sound { IsSound self.new.nodes }
@@ -124,9 +134,11 @@ impl<S: NodeStore> Files<S> {
         requires listable { All (IsListable self.old.tree) (listed_in records) }
         requires few { length (listed_in records) ≤ 32 }
         requires room { length (listed_in records) ≤ self.old.node_room }
-        requires generations { generations_after self.old.nodes (files_told (map (pair_listed 0) (listed_in records))) ≤ 2 ^ 62 }
+        requires generations { generations_after self.old.nodes
+            (files_told (map (pair_listed 0) (listed_in records))) ≤ 2 ^ 62 }
         requires counted { AreHeldBelow self.old.nodes }
-        ensures given { GivenEach self.old.nodes (files_told (map (pair_listed 0) (listed_in records.entry))) self.new.nodes }
+        ensures given { GivenEach self.old.nodes (files_told
+            (map (pair_listed 0) (listed_in records.entry))) self.new.nodes }
         ensures tree { self.new.tree ≡ self.old.tree }
         ensures handles { self.new.handles ≡ self.old.handles }
     {
@@ -140,13 +152,16 @@ impl<S: NodeStore> Files<S> {
         requires file { file < 2 ^ 62 }
         requires there { IsThere self.old.tree file }
         requires room { 0 < self.old.node_room }
-        requires generations { generations_after self.old.nodes (first_told (cond (is_dots name.now) None (Some file)) []) ≤ 2 ^ 62 }
+        requires generations { generations_after self.old.nodes
+            (first_told (cond (is_dots name.now) None (Some file)) []) ≤ 2 ^ 62 }
         requires counted { AreCounted (2 ^ 63) self.old.nodes }
-        ensures given { GivenEach self.old.nodes (first_told (cond (is_dots name.now) None (Some file)) []) self.new.nodes }
+        ensures given { GivenEach self.old.nodes (first_told
+            (cond (is_dots name.now) None (Some file)) []) self.new.nodes }
         ensures tree { self.new.tree ≡ self.old.tree }
         ensures handles { self.new.handles ≡ self.old.handles }
         ensures room { self.old.node_room ≤ self.new.node_room + 1 }
-        ensures generations { (files : List ℕ) → generations_after self.new.nodes files ≡ generations_after self.old.nodes (first_told (cond (is_dots name.now) None (Some file)) files) }
+        ensures generations { (files : List ℕ) → generations_after self.new.nodes files
+            ≡ generations_after self.old.nodes (first_told (cond (is_dots name.now) None (Some file)) files) }
     {
         self.keeps_sound();
         if !is_dots(name) {

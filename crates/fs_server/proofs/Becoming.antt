@@ -45,8 +45,11 @@ asked_so nodeid (wire.interrupt original) = refl
 asked_so nodeid (wire.readdirplus offset size) = refl
 
 -- a request with nothing wrong has no fault
-no_fault : (s : Server) (unique nodeid : ℕ) (content : RequestContent) → IsFaultless s unique nodeid content → request_fault s unique (body_in nodeid content) ≡ None
-no_fault s unique nodeid content right = sym (judged_so s unique nodeid content right.spoken right.known right.few false (λ i. is_some (right.unheld i) || is_some (right.unkept i)))
+no_fault : (s : Server) (unique nodeid : ℕ) (content : RequestContent) → IsFaultless s unique nodeid content
+    → request_fault s unique (body_in nodeid content) ≡ None
+no_fault s unique nodeid content right =
+    sym (judged_so s unique nodeid content right.spoken right.known right.few false
+    (λ i. is_some (right.unheld i) || is_some (right.unkept i)))
 
 -- forgets draw no generation
 same_generations : (t : NodeTable) (fs : List Forget) → (all_taken_back t fs).next_generation ≡ t.next_generation
@@ -60,18 +63,26 @@ last_or false e f before last = last
 module _ (s : Server) (unique : ℕ) (inside : is_past_end s ≡ false) where
   past_forgotten : (fs : List Forget) → is_past_end (forgetting s fs) ≡ false
   past_forgotten fs =
-      ap (λ (g : ℕ). nat_lt counter_end s.tree.next_birth || nat_lt counter_end s.tree.next_serial || nat_lt counter_end g || nat_lt counter_end s.handles.next_fh || nat_lt counter_end s.next_copy) (same_generations s.nodes fs)
+      ap (λ (g : ℕ). nat_lt counter_end s.tree.next_birth || nat_lt counter_end s.tree.next_serial
+      || nat_lt counter_end g || nat_lt counter_end s.handles.next_fh || nat_lt counter_end s.next_copy)
+      (same_generations s.nodes fs)
       ∙ inside
 
-  past_interrupting : (original : ℕ) (o : Option HeldRequest) (k : Option Kept) → (not (is_some o || is_some k) ≡ true → s.next_copy < 2 ^ 62) → is_past_end (interrupting s unique original o k).server ≡ false
+  past_interrupting : (original : ℕ) (o : Option HeldRequest) (k : Option Kept)
+      → (not (is_some o || is_some k) ≡ true → s.next_copy < 2 ^ 62)
+      → is_past_end (interrupting s unique original o k).server ≡ false
   past_interrupting original (Some h) k number = inside
   past_interrupting original None (Some k) number = inside
   past_interrupting original None None number =
-      last_or (nat_lt counter_end s.tree.next_birth || nat_lt counter_end s.tree.next_serial || nat_lt counter_end s.nodes.next_generation || nat_lt counter_end s.handles.next_fh) (nat_lt counter_end s.next_copy)
-      (nat_lt counter_end (s.next_copy + 1)) inside (le-ltb counter_end (s.next_copy + 1) (let low = number refl in omega (arith, low)))
+      last_or (nat_lt counter_end s.tree.next_birth || nat_lt counter_end s.tree.next_serial
+      || nat_lt counter_end s.nodes.next_generation || nat_lt counter_end s.handles.next_fh)
+      (nat_lt counter_end s.next_copy)
+      (nat_lt counter_end (s.next_copy + 1)) inside (le-ltb counter_end (s.next_copy + 1)
+      (let low = number refl in omega (arith, low)))
 
   -- what is taken draws no number but that of a copy
-  past_taken : (nodeid : ℕ) (content : RequestContent) → (answers s content ≡ true → s.next_copy < 2 ^ 62) → is_past_end (taking s unique (body_of nodeid content)).server ≡ false
+  past_taken : (nodeid : ℕ) (content : RequestContent) → (answers s content ≡ true → s.next_copy < 2 ^ 62)
+      → is_past_end (taking s unique (body_of nodeid content)).server ≡ false
   past_taken nodeid (wire.init major minor flags) number = inside
   past_taken nodeid (wire.lookup name) number = inside
   past_taken nodeid wire.getattr number = inside
@@ -88,24 +99,31 @@ module _ (s : Server) (unique : ℕ) (inside : is_past_end s ≡ false) where
   past_taken nodeid (wire.release fh) number = inside
   past_taken nodeid (wire.forget n) number = past_forgotten ((nodeid, n) ∷ [])
   past_taken nodeid (wire.batch_forget fs) number = past_forgotten fs
-  past_taken nodeid (wire.interrupt original) number = past_interrupting original (get s.held original) (get s.kept original) number
+  past_taken nodeid (wire.interrupt original) number =
+      past_interrupting original (get s.held original) (get s.kept original) number
   past_taken nodeid (wire.readdirplus offset size) number = inside
 
 -- what is answered at once draws a copy number
-past_answered : (s : Server) (unique nodeid : ℕ) (content : RequestContent) → answers s content ≡ true → 2 ^ 62 ≤ s.next_copy → is_past_end (taking s unique (body_of nodeid content)).server ≡ true
-past_answered s unique nodeid (wire.interrupt original) answered over = by (get s.held original) (get s.kept original) answered
+past_answered : (s : Server) (unique nodeid : ℕ) (content : RequestContent) → answers s content ≡ true
+    → 2 ^ 62 ≤ s.next_copy → is_past_end (taking s unique (body_of nodeid content)).server ≡ true
+past_answered s unique nodeid (wire.interrupt original) answered over =
+    by (get s.held original) (get s.kept original) answered
   where
-    by : (o : Option HeldRequest) (k : Option Kept) → not (is_some o || is_some k) ≡ true → is_past_end (interrupting s unique original o k).server ≡ true
+    by : (o : Option HeldRequest) (k : Option Kept) → not (is_some o || is_some k) ≡ true
+        → is_past_end (interrupting s unique original o k).server ≡ true
     by (Some h) k e = absurd (true≢false (sym e))
     by None (Some k) e = absurd (true≢false (sym e))
     by None None e = past (sending s unique (failed eagain) s.next_copy) (inr (inr (inr (inr (omega (arith, over))))))
 past_answered s unique nodeid content answered over = absurd (true≢false (sym answered))
 
 -- a request with nothing wrong that would be answered, where no copy number is left
-pub exhausts : (s : Server) (bytes : List ℕ) (m : RequestMessage) → Spells bytes m → ((n : RequestMessage) → Spells bytes n → m ≡ n) → IsFaultless s m.unique m.nodeid m.content → answers s m.content ≡ true → 2 ^ 62 ≤ s.next_copy
+pub exhausts : (s : Server) (bytes : List ℕ) (m : RequestMessage) → Spells bytes m
+    → ((n : RequestMessage) → Spells bytes n → m ≡ n) → IsFaultless s m.unique m.nodeid m.content
+    → answers s m.content ≡ true → 2 ^ 62 ≤ s.next_copy
     → RefusesFrame s bytes fault.Exhausted
 exhausts s bytes m spells only right answered over =
-    refuses_for s bytes m spells only (body_of m.nodeid m.content) fault.Exhausted (asked_so m.nodeid m.content) (no_fault s m.unique m.nodeid m.content right)
+    refuses_for s bytes m spells only (body_of m.nodeid m.content) fault.Exhausted (asked_so m.nodeid m.content)
+    (no_fault s m.unique m.nodeid m.content right)
     (sym (ap past_or_memory (past_answered s m.unique m.nodeid m.content answered over)))
 
 module _ (s : Server) (bytes : List ℕ) (m : RequestMessage) (right : IsTakeable s bytes m) where
@@ -128,14 +146,21 @@ module _ (s : Server) (bytes : List ℕ) (m : RequestMessage) (right : IsTakeabl
 
   -- only memory can be wanting
   refused : (fault : ServerFault) → fault ≡ Memory → RefusesFrame s bytes fault
-  refused fault memory = refuses_for s bytes m right.spells right.only (body_of m.nodeid m.content) fault asks faultless (memory ∙ sym (ap past_or_memory within))
+  refused fault memory = refuses_for s bytes m right.spells right.only
+      (body_of m.nodeid m.content) fault asks faultless (memory ∙ sym (ap past_or_memory within))
 
-  pub held_so : {A : Type 0} → is_held m.content ≡ true → (new : Server) (r : Result (Took A) ServerFault) → IfErr r (λ f. f ≡ Memory) → IfOk r (λ t. t ≡ record { unique = m.unique; word = Held; copy = None })
-      → OnOk r (new ≡ holding s m.unique (body_of m.nodeid m.content)) → MatchResult r (λ t. TakesFrame s bytes t new) (RefusesFrame s bytes)
-  held_so is new (Ok t) memory e server = holds s bytes m.unique m.nodeid t new m.content is e server right.spells faultless
+  pub held_so : {A : Type 0} → is_held m.content ≡ true → (new : Server) (r : Result (Took A) ServerFault)
+      → IfErr r (λ f. f ≡ Memory) → IfOk r (λ t. t ≡ record { unique = m.unique; word = Held; copy = None })
+      → OnOk r (new ≡ holding s m.unique (body_of m.nodeid m.content))
+      → MatchResult r (λ t. TakesFrame s bytes t new) (RefusesFrame s bytes)
+  held_so is new (Ok t) memory e server =
+      holds s bytes m.unique m.nodeid t new m.content is e server right.spells faultless
   held_so is new (Err f) memory e after = refused f memory
 
-  pub interrupted_so : {A : Type 0} (original : ℕ) → m.content ≡ wire.interrupt original → (new : Server) (r : Result (Took A) ServerFault) → IfErr r (λ f. f ≡ Memory) → IfOk r (λ t. Interrupts s m.unique original t new)
+  pub interrupted_so : {A : Type 0} (original : ℕ) → m.content ≡ wire.interrupt original
+      → (new : Server) (r : Result (Took A) ServerFault) → IfErr r (λ f. f ≡ Memory)
+      → IfOk r (λ t. Interrupts s m.unique original t new)
       → MatchResult r (λ t. TakesFrame s bytes t new) (RefusesFrame s bytes)
-  interrupted_so original is new (Ok t) e i = let spelled = right.spells in let none = faultless in interrupts s bytes m.unique m.nodeid original t new i (rw is at spelled) (rw is at none)
+  interrupted_so original is new (Ok t) e i = let spelled = right.spells in let none =
+      faultless in interrupts s bytes m.unique m.nodeid original t new i (rw is at spelled) (rw is at none)
   interrupted_so original is new (Err f) e i = refused f e

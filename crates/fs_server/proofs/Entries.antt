@@ -20,14 +20,20 @@ entry_at told at = get_or told at no_entry
 
 module _ (t n : NodeTable) (told : List Entry) (at : ℕ) (some : at < length told) where
   -- one entry more is counted back
-  pub back_on : (all : NodeTable) → n ≡ row_back t (entry_at told at) → rows_back t (drop at told) ≡ all → rows_back n (drop (at + 1) told) ≡ all
-  back_on all is before = ap (λ (x : NodeTable). rows_back x (drop (at + 1) told)) is ∙ sym (at_drop_more (rows_back t) told at no_entry some) ∙ before
+  pub back_on : (all : NodeTable) → n ≡ row_back t (entry_at told at) → rows_back t (drop at told) ≡ all
+      → rows_back n (drop (at + 1) told) ≡ all
+  back_on all is before = ap (λ (x : NodeTable). rows_back x (drop (at + 1) told)) is ∙ sym
+      (at_drop_more (rows_back t) told at no_entry some) ∙ before
 
   -- one entry more counts its node
-  pub counted_on : (all : NodeTable) → n ≡ row_more t (entry_at told at).nodeid → rows_counted t (drop at told) ≡ all → rows_counted n (drop (at + 1) told) ≡ all
-  counted_on all is before = ap (λ (x : NodeTable). rows_counted x (drop (at + 1) told)) is ∙ sym (at_drop_more (rows_counted t) told at no_entry some) ∙ before
+  pub counted_on : (all : NodeTable) → n ≡ row_more t (entry_at told at).nodeid → rows_counted t (drop at told) ≡ all
+      → rows_counted n (drop (at + 1) told) ≡ all
+  counted_on all is before = ap (λ (x : NodeTable). rows_counted x (drop (at + 1) told)) is ∙ sym
+      (at_drop_more (rows_counted t) told at no_entry some) ∙ before
 
-  pub within_on : IsSound t → n ≡ row_more t (entry_at told at).nodeid → IsWithin t (files_of t (drop at told)) → IsWithin n (files_of n (drop (at + 1) told))
+  pub within_on : IsSound t → n ≡ row_more t (entry_at told at).nodeid → IsWithin t (files_of t (drop at told))
+      → IsWithin n (files_of n (drop (at + 1) told))
   within_on sound is before =
       subst (λ (x : NodeTable). IsWithin x (files_of x (drop (at + 1) told))) (sym is)
-      (within_more t sound (entry_at told at) (drop (at + 1) told) (subst (λ (gs : List Entry). IsWithin t (files_of t gs)) (drop_more told at no_entry some) before))
+      (within_more t sound (entry_at told at) (drop (at + 1) told)
+      (subst (λ (gs : List Entry). IsWithin t (files_of t gs)) (drop_more told at no_entry some) before))

@@ -23,13 +23,16 @@ no_header bytes faults.Memory fault head has = head
 abbrev error_reply : ℕ → ℤ → ReplyMessage
 error_reply unique error = record { unique = unique; error = error; content = empty_reply }
 
-pub header_long : (unique : ℕ) (error : ℤ) (frame : List ℕ) → WrittenReply (error_reply unique error) frame → length frame ≡ 16
+pub header_long : (unique : ℕ) (error : ℤ) (frame : List ℕ) → WrittenReply (error_reply unique error) frame
+    → length frame ≡ 16
 header_long unique error frame written =
     let all = length-spellings (reply_fields (length frame) (error_reply unique error)) in
     let same = ap (λ (bytes : List ℕ). length bytes) written.8 in
     omega (arith, all, same)
 
-pub longer_by_header : (unique : ℕ) (error : ℤ) (old new : List ℕ) → (frame : List ℕ) × WrittenReply (error_reply unique error) frame × (new ≡ old ++ frame) → length new ≡ length old + 16
+pub longer_by_header : (unique : ℕ) (error : ℤ) (old new : List ℕ)
+    → (frame : List ℕ) × WrittenReply (error_reply unique error) frame × (new ≡ old ++ frame)
+    → length new ≡ length old + 16
 longer_by_header unique error old new written =
     let frame = written.0 in
     let header = header_long unique error frame written.1 in

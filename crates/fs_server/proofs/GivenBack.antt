@@ -22,24 +22,53 @@ pub record AreSwept (mid new : FilesState) : Type 0 where
   pub handles : new.handles ≡ mid.handles
 
 abbrev bare : Tree → NodeTable → HandleTable → Validity → Server
-bare t n h v = record { tree = t; nodes = n; handles = h; held = []; kept = []; copies = []; next_copy = 1; validity = v; minor = M31; aborted = false }
+bare t n h v = record {
+  tree = t;
+  nodes = n;
+  handles = h;
+  held = [];
+  kept = [];
+  copies = [];
+  next_copy = 1;
+  validity = v;
+  minor = M31;
+  aborted = false;
+}
 
-swept : (mid new : FilesState) → AreSwept mid new → (v : Validity) → server_of new v ≡ without_unheld_files (server_of mid v)
+swept : (mid new : FilesState) → AreSwept mid new → (v : Validity)
+    → server_of new v ≡ without_unheld_files (server_of mid v)
 swept mid new s v = λ i. bare (s.tree v i) (s.nodes i) (s.handles i) v
 
-pub forgets : (old mid new : FilesState) (fs : List Forget) → mid.tree ≡ old.tree → mid.nodes ≡ all_taken_back old.nodes fs → mid.handles ≡ old.handles → AreSwept mid new → Forgets old fs new
-forgets old mid new fs tree nodes handles s v = swept mid new s v ∙ (λ i. without_unheld_files (bare (tree i) (nodes i) (handles i) v))
+pub forgets : (old mid new : FilesState) (fs : List Forget) → mid.tree ≡ old.tree
+    → mid.nodes ≡ all_taken_back old.nodes fs → mid.handles ≡ old.handles → AreSwept mid new → Forgets old fs new
+forgets old mid new fs tree nodes handles s v = swept mid new s v ∙
+    (λ i. without_unheld_files (bare (tree i) (nodes i) (handles i) v))
 
-pub gives_back : (old mid new : FilesState) (wire : WireReply) → mid.tree ≡ old.tree → mid.nodes ≡ rows_back old.nodes (files_in_reply wire) → mid.handles ≡ handles_back old.handles (opens_in_reply wire) → AreSwept mid new
+pub gives_back : (old mid new : FilesState) (wire : WireReply) → mid.tree ≡ old.tree
+    → mid.nodes ≡ rows_back old.nodes (files_in_reply wire)
+    → mid.handles ≡ handles_back old.handles (opens_in_reply wire) → AreSwept mid new
     → GivesBack old wire new
-gives_back old mid new wire tree nodes handles s v = swept mid new s v ∙ (λ i. without_unheld_files (bare (tree i) (nodes i) (handles i) v))
+gives_back old mid new wire tree nodes handles s v =
+    swept mid new s v ∙ (λ i. without_unheld_files (bare (tree i) (nodes i) (handles i) v))
 
 -- the same of the whole server
-module _ (old new : FilesState) (held : Map HeldRequest) (kept : Map Kept) (copies : Map Copy) (next : ℕ) (v : Validity) (m : Minor) (a : Bool) where
-  pub forgets_so : (fs : List Forget) → Forgets old fs new → server_with new held kept copies next v m a ≡ forgetting (server_with old held kept copies next v m a) fs
-  forgets_so fs f = ap (λ (b : Server). record b { held = held; kept = kept; copies = copies; next_copy = next; minor = m; aborted = a }) (f v)
+module _ (old new : FilesState) (held : Map HeldRequest) (kept : Map Kept) (copies : Map Copy) (next : ℕ)
+    (v : Validity) (m : Minor) (a : Bool) where
+  pub forgets_so : (fs : List Forget) → Forgets old fs new
+      → server_with new held kept copies next v m a ≡ forgetting (server_with old held kept copies next v m a) fs
+  forgets_so fs f = ap (λ (b : Server). record b {
+    held = held;
+    kept = kept;
+    copies = copies;
+    next_copy = next;
+    minor = m;
+    aborted = a;
+  }) (f v)
 
-  pub remounts : (mid : FilesState) (w : Validity) (n : Minor) → mid.tree ≡ old.tree → mid.nodes ≡ record old.nodes { rows = [] } → mid.handles ≡ record old.handles { handles = [] } → AreSwept mid new
+  pub remounts : (mid : FilesState) (w : Validity) (n : Minor) → mid.tree ≡ old.tree
+      → mid.nodes ≡ record old.nodes { rows = [] } → mid.handles ≡ record old.handles { handles = [] }
+      → AreSwept mid new
       → server_with new [] [] [] next w n false ≡ remounted (server_with old held kept copies next v m a) w n
   remounts mid w n tree nodes handles s =
-      ap (λ (b : Server). record b { next_copy = next; minor = n }) (swept mid new s w ∙ (λ i. without_unheld_files (bare (tree i) (nodes i) (handles i) w)))
+      ap (λ (b : Server). record b { next_copy = next; minor = n })
+      (swept mid new s w ∙ (λ i. without_unheld_files (bare (tree i) (nodes i) (handles i) w)))

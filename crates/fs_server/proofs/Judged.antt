@@ -26,17 +26,20 @@ module _ (s : Server) (unique : ℕ) where
   abbrev reply_of : (original : ℕ) → Option HeldRequest → Option Kept → Option WireReply
   reply_of original o k = (interrupting s unique original o k).reply
 
-  asks_again : (original : ℕ) (o : Option HeldRequest) (k : Option Kept) → not (is_some o || is_some k) ≡ true → reply_of original o k ≡ Some (failed eagain)
+  asks_again : (original : ℕ) (o : Option HeldRequest) (k : Option Kept) → not (is_some o || is_some k) ≡ true
+      → reply_of original o k ≡ Some (failed eagain)
   asks_again original (Some h) k e = absurd (true≢false (sym e))
   asks_again original None (Some k) e = absurd (true≢false (sym e))
   asks_again original None None e = refl
 
-  says_nothing : (original : ℕ) (o : Option HeldRequest) (k : Option Kept) → not (is_some o || is_some k) ≡ false → reply_of original o k ≡ None
+  says_nothing : (original : ℕ) (o : Option HeldRequest) (k : Option Kept) → not (is_some o || is_some k) ≡ false
+      → reply_of original o k ≡ None
   says_nothing original (Some h) k e = refl
   says_nothing original None (Some k) e = refl
   says_nothing original None None e = absurd (true≢false e)
 
-  answered : (nodeid : ℕ) (content : RequestContent) → answers s content ≡ true → reply_to nodeid content ≡ Some (failed eagain)
+  answered : (nodeid : ℕ) (content : RequestContent) → answers s content ≡ true
+      → reply_to nodeid content ≡ Some (failed eagain)
   answered nodeid (wire.interrupt original) e = asks_again original (get s.held original) (get s.kept original) e
   answered nodeid content e = absurd (true≢false (sym e))
 
@@ -63,30 +66,43 @@ module _ (s : Server) (unique : ℕ) where
 -- nothing refuses the frame but want of memory
 module _ (s : Server) (bytes : List ℕ) (m : RequestMessage) (right : IsTakeable s bytes m) where
   pub answers_frame : (b : Bool) → b ≡ answers s m.content → IsTrue b ↔ AnswersFrame s bytes
-  answers_frame true e = ((λ t. record { can = can_take s bytes m right; reply = failed eagain; replies = answered s m.unique m.nodeid m.content (sym e) }), (λ a. refl))
+  answers_frame true e = (
+    (λ t. record {
+      can = can_take s bytes m right;
+      reply = failed eagain;
+      replies = answered s m.unique m.nodeid m.content (sym e);
+    }),
+    (λ a. refl),
+  )
   answers_frame false e = (
     (λ t. absurd (true≢false (sym t))),
     (λ (a : AnswersFrame s bytes).
         let says = a.can.says in
         let one = right.only says.message says.spells in
         let unique : m.unique ≡ a.can.request.unique = ap (λ (n : RequestMessage). n.unique) one ∙ says.unique in
-        let asked : Some (body_of m.nodeid m.content) ≡ Some a.can.request.body = sym (asks s bytes m right) ∙ ap (λ (n : RequestMessage). body_in n.nodeid n.content) one ∙ says.says in
-        let body_is : body_of m.nodeid m.content ≡ a.can.request.body = same_Some (body_of m.nodeid m.content) a.can.request.body asked in
-        let same : (taking s m.unique (body_of m.nodeid m.content)).reply ≡ (taking s a.can.request.unique a.can.request.body).reply = λ i. (taking s (unique i) (body_is i)).reply in
+        let asked : Some (body_of m.nodeid m.content) ≡ Some a.can.request.body =
+        sym (asks s bytes m right) ∙ ap (λ (n : RequestMessage). body_in n.nodeid n.content) one ∙ says.says in
+        let body_is : body_of m.nodeid m.content ≡ a.can.request.body =
+        same_Some (body_of m.nodeid m.content) a.can.request.body asked in
+        let same : (taking s m.unique (body_of m.nodeid m.content)).reply
+        ≡ (taking s a.can.request.unique a.can.request.body).reply = λ i. (taking s (unique i) (body_is i)).reply in
         absurd (none-some a.reply (sym (silent s m.unique m.nodeid m.content (sym e)) ∙ same ∙ a.replies))),
   )
 
 -- a frame that is refused isn't answered
-pub refused_is_silent : (s : Server) (bytes : List ℕ) (fault : ServerFault) → RefusesFrame s bytes fault → (fault ≡ Memory → ⊥) → AnswersFrame s bytes → ⊥
+pub refused_is_silent : (s : Server) (bytes : List ℕ) (fault : ServerFault) → RefusesFrame s bytes fault
+    → (fault ≡ Memory → ⊥) → AnswersFrame s bytes → ⊥
 refused_is_silent s bytes fault refuses other a =
     let can = a.can in
     other
     (refuses.of_request can.request can.says
-    ∙ ap (λ (o : Option ServerFault). fault_or o (past_or_memory (is_past_end (taking s can.request.unique can.request.body).server))) can.faultless
+    ∙ ap (λ (o : Option ServerFault). fault_or o (past_or_memory
+    (is_past_end (taking s can.request.unique can.request.body).server))) can.faultless
     ∙ ap past_or_memory can.within)
 
 -- what no fault is found in can be taken
-pub can_take_it : {Q F : Type 0} (message : Q → RequestMessage) (s : Server) (bytes : List ℕ) (r : Result Q F) → IfOk r (λ q. IsTakeable s bytes (message q)) → (o : Option F) → o ≡ result_err r → IfNone o (CanTake s bytes)
+pub can_take_it : {Q F : Type 0} (message : Q → RequestMessage) (s : Server) (bytes : List ℕ) (r : Result Q F)
+    → IfOk r (λ q. IsTakeable s bytes (message q)) → (o : Option F) → o ≡ result_err r → IfNone o (CanTake s bytes)
 can_take_it message s bytes (Ok q) right None is = can_take s bytes (message q) right
 can_take_it message s bytes (Ok q) right (Some fault) is = tt
 can_take_it message s bytes (Err fault) right None is = absurd (cc)

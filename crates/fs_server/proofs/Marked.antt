@@ -27,11 +27,13 @@ module _ {V : Type 0} where
   -- what goes and comes again under its key is put there
   pub put_gone : (m : Map V) (k : ℕ) (v : V) → T (is_sorted nat_cmp m) → put (remove m k) k v ≡ put m k v
   put_gone m k v sorted =
-      same_entries nat_cmp nat_cmp_total nat_cmp-IsAntisymmetric (put (remove m k) k v) (put m k v) (sorted_put (remove m k) k v (sorted_gone m k sorted)) (sorted_put m k v sorted) at
+      same_entries nat_cmp nat_cmp_total nat_cmp-IsAntisymmetric (put (remove m k) k v) (put m k v)
+      (sorted_put (remove m k) k v (sorted_gone m k sorted)) (sorted_put m k v sorted) at
     where
       at : (q : ℕ) → get (put (remove m k) k v) q ≡ get (put m k v) q
       at q = elim (cases_eq q k) [
-        | inl e ↦ subst (λ (n : ℕ). get (put (remove m k) k v) n ≡ get (put m k v) n) (sym e) (get_put_here (remove m k) k v ∙ sym (get_put_here m k v))
+        | inl e ↦ subst (λ (n : ℕ). get (put (remove m k) k v) n ≡ get (put m k v) n) (sym e)
+            (get_put_here (remove m k) k v ∙ sym (get_put_here m k v))
         | inr ne ↦ get_put_there (remove m k) k v q ne ∙ get_gone_there m k q ne ∙ sym (get_put_there m k v q ne)
       ]
 
@@ -43,7 +45,8 @@ module _ (s : Server) (unique original : ℕ) where
   abbrev comes : TakeResult
   comes = taking s unique (interrupt original)
 
-  by_result : {A : Type 0} (t : TakeResult) → comes ≡ t → (took : Took A) (new : Server) → took.unique ≡ unique → took.word ≡ t.word → new ≡ t.server → took.copy ≡ copy_of s.next_copy unique t.reply
+  by_result : {A : Type 0} (t : TakeResult) → comes ≡ t → (took : Took A) (new : Server) → took.unique ≡ unique
+      → took.word ≡ t.word → new ≡ t.server → took.copy ≡ copy_of s.next_copy unique t.reply
       → Interrupts s unique original took new
   by_result t e took new under word server copy = record {
     under = under;
@@ -53,43 +56,54 @@ module _ (s : Server) (unique original : ℕ) where
   }
 
   -- a request that is held is marked
-  pub marks : {A : Type 0} → is_some (get s.held original) ≡ true → (took : Took A) → took ≡ record { unique = unique; word = Marked; copy = None } → (new : Server)
-      → ((h : HeldRequest) → get s.held original ≡ Some h → new ≡ record s { held = put s.held original (record h { marked = true }) }) → Interrupts s unique original took new
+  pub marks : {A : Type 0} → is_some (get s.held original) ≡ true → (took : Took A)
+      → took ≡ record { unique = unique; word = Marked; copy = None } → (new : Server)
+      → ((h : HeldRequest) → get s.held original ≡ Some h
+      → new ≡ record s { held = put s.held original (record h { marked = true }) })
+      → Interrupts s unique original took new
   marks {A} some took e new marked = by (get s.held original) refl some
     where
       by : (o : Option HeldRequest) → get s.held original ≡ o → is_some o ≡ true → Interrupts s unique original took new
       by None there some = absurd (true≢false (sym some))
       by (Some h) there some =
-          by_result (interrupting s unique original (Some h) (get s.kept original)) (ap (λ (o : Option HeldRequest). interrupting s unique original o (get s.kept original)) there) took new
-          (ap (λ (t : Took A). t.unique) e) (ap (λ (t : Took A). t.word) e) (marked h there) (ap (λ (t : Took A). t.copy) e)
+          by_result (interrupting s unique original (Some h) (get s.kept original))
+          (ap (λ (o : Option HeldRequest). interrupting s unique original o (get s.kept original)) there) took new
+          (ap (λ (t : Took A). t.unique) e) (ap (λ (t : Took A). t.word) e) (marked h there)
+          (ap (λ (t : Took A). t.copy) e)
 
   module _ (unheld : is_some (get s.held original) ≡ false) where
     none : get s.held original ≡ None
     none = none_of (get s.held original) unheld
 
     -- the kept reply of the request ignores it
-    pub ignores : {A : Type 0} → is_some (get s.kept original) ≡ true → (took : Took A) → took ≡ record { unique = unique; word = Ignored; copy = None } → Interrupts s unique original took s
+    pub ignores : {A : Type 0} → is_some (get s.kept original) ≡ true → (took : Took A)
+        → took ≡ record { unique = unique; word = Ignored; copy = None } → Interrupts s unique original took s
     ignores {A} some took e = by (get s.kept original) refl some
       where
         by : (o : Option Kept) → get s.kept original ≡ o → is_some o ≡ true → Interrupts s unique original took s
         by None there some = absurd (true≢false (sym some))
         by (Some k) there some =
-            by_result (interrupting s unique original None (Some k)) (λ i. interrupting s unique original (none i) (there i)) took s (ap (λ (t : Took A). t.unique) e) (ap (λ (t : Took A). t.word) e) refl (ap (λ (t : Took A). t.copy) e)
+            by_result (interrupting s unique original None (Some k))
+            (λ i. interrupting s unique original (none i) (there i)) took s (ap (λ (t : Took A). t.unique) e)
+            (ap (λ (t : Took A). t.word) e) refl (ap (λ (t : Took A). t.copy) e)
 
     module _ (unkept : is_some (get s.kept original) ≡ false) where
       unknown : comes ≡ interrupting s unique original None None
       unknown = λ i. interrupting s unique original (none i) (none_of (get s.kept original) unkept i)
 
       -- and that of one that isn't known is answered
-      pub answers : {A : Type 0} (took : Took A) (new : Server) → AsksAgain s unique took new → Interrupts s unique original took new
-      answers took new asks = by_result (interrupting s unique original None None) unknown took new asks.under asks.word asks.after asks.copy
+      pub answers : {A : Type 0} (took : Took A) (new : Server) → AsksAgain s unique took new
+          → Interrupts s unique original took new
+      answers took new asks = by_result
+          (interrupting s unique original None None) unknown took new asks.under asks.word asks.after asks.copy
 
       pub asks_again : comes.word ≡ Again
       asks_again = ap (λ (r : TakeResult). r.word) unknown
 
 -- ---- counters
 
-or_false : (a b c d e : Bool) → a ≡ false → b ≡ false → c ≡ false → d ≡ false → e ≡ false → (a || b || c || d || e) ≡ false
+or_false : (a b c d e : Bool) → a ≡ false → b ≡ false → c ≡ false → d ≡ false → e ≡ false
+    → (a || b || c || d || e) ≡ false
 or_false true b c d e p q r x y = p
 or_false false true c d e p q r x y = q
 or_false false false true d e p q r x y = r
@@ -97,8 +111,11 @@ or_false false false false true e p q r x y = x
 or_false false false false false e p q r x y = y
 
 -- no counter is past its end
-pub within : (s : Server) → nat_lt (2 ^ 62) s.tree.next_birth ≡ false → nat_lt (2 ^ 62) s.tree.next_serial ≡ false → nat_lt (2 ^ 62) s.nodes.next_generation ≡ false → nat_lt (2 ^ 62) s.handles.next_fh ≡ false → s.next_copy ≤ 2 ^ 62
+pub within : (s : Server) → nat_lt (2 ^ 62) s.tree.next_birth ≡ false → nat_lt (2 ^ 62) s.tree.next_serial ≡ false
+    → nat_lt (2 ^ 62) s.nodes.next_generation ≡ false → nat_lt (2 ^ 62) s.handles.next_fh ≡ false → s.next_copy ≤ 2 ^ 62
     → is_past_end s ≡ false
 within s births serials generations numbers copies =
-    or_false (nat_lt counter_end s.tree.next_birth) (nat_lt counter_end s.tree.next_serial) (nat_lt counter_end s.nodes.next_generation) (nat_lt counter_end s.handles.next_fh) (nat_lt counter_end s.next_copy) births serials generations numbers
+    or_false (nat_lt counter_end s.tree.next_birth) (nat_lt counter_end s.tree.next_serial)
+    (nat_lt counter_end s.nodes.next_generation) (nat_lt counter_end s.handles.next_fh)
+    (nat_lt counter_end s.next_copy) births serials generations numbers
     (le-ltb counter_end s.next_copy copies)

@@ -63,7 +63,8 @@ most_names tree (outcome.ListedPlus records) tellable = let most = tellable.1 in
 most_names tree (outcome.Plain reply) tellable = omega arith
 
 module _ (s : Server) where
-  refused : (b : Bool) (r : Option ℕ) (reply : Reply ℕ ℕ) → names_told reply ≡ 0 → names_told (cond b (reply_or reply r) (operation.failed ebadf)) ≡ 0
+  refused : (b : Bool) (r : Option ℕ) (reply : Reply ℕ ℕ) → names_told reply ≡ 0
+      → names_told (cond b (reply_or reply r) (operation.failed ebadf)) ≡ 0
   refused true None reply none = none
   refused true (Some errno) reply none = refl
   refused false r reply none = refl
@@ -72,11 +73,14 @@ module _ (s : Server) where
   found_none None = refl
   found_none (Some file) = refl
 
-  said_none : (o : Operation ℕ Opened) → names_told (reply_unrefused s.validity s.tree (file_operation_of s.nodes o)) ≡ 0 → (names_of o ≡ 32) ⊎ (names_told (said_by s (asks o)) ≡ 0)
-  said_none o none = inr (refused (is_open_for s o) (refusal s.tree (file_operation_of s.nodes o)) (reply_unrefused s.validity s.tree (file_operation_of s.nodes o)) none)
+  said_none : (o : Operation ℕ Opened) → names_told (reply_unrefused s.validity s.tree (file_operation_of s.nodes o))
+      ≡ 0 → (names_of o ≡ 32) ⊎ (names_told (said_by s (asks o)) ≡ 0)
+  said_none o none = inr (refused (is_open_for s o) (refusal s.tree (file_operation_of s.nodes o))
+      (reply_unrefused s.validity s.tree (file_operation_of s.nodes o)) none)
 
   asked_names : (o : Operation ℕ Opened) → (names_of o ≡ 32) ⊎ (names_told (said_by s (asks o)) ≡ 0)
-  asked_names (operation.lookup d name) = said_none (operation.lookup d name) (found_none (file_at s.tree (file_of s.nodes d) name))
+  asked_names (operation.lookup d name) = said_none (operation.lookup d name)
+      (found_none (file_at s.tree (file_of s.nodes d) name))
   asked_names (operation.getattr x) = said_none (operation.getattr x) refl
   asked_names (operation.mkdir d name) = said_none (operation.mkdir d name) refl
   asked_names (operation.create d name) = said_none (operation.create d name) refl
@@ -105,20 +109,24 @@ module _ (s : Server) where
   held_names : (h : HeldRequest) → (names_for h.body ≡ 32) ⊎ (names_told (said s h) ≡ 0)
   held_names h = by h.marked (is_still_held s.nodes h.generations) (body_names h.body)
     where
-      by : (m b : Bool) → (names_for h.body ≡ 32) ⊎ (names_told (said_by s h.body) ≡ 0) → (names_for h.body ≡ 32) ⊎ (names_told (cond m (operation.failed eintr) (cond b (said_by s h.body) (operation.failed eio))) ≡ 0)
+      by : (m b : Bool) → (names_for h.body ≡ 32) ⊎ (names_told (said_by s h.body) ≡ 0)
+          → (names_for h.body ≡ 32) ⊎ (names_told (cond m (operation.failed eintr)
+          (cond b (said_by s h.body) (operation.failed eio))) ≡ 0)
       by true b each = inr refl
       by false true each = each
       by false false each = inr refl
 
   -- An outcome lists no more names than its request has room for.
-  pub names_fit : {A : Type 0} (h : HeldRequest) (tree : Tree) (ms : ℕ) (o : Outcome A) → outcome_reply ms o ≡ said s h → IsTellable tree o → outcome_names o ≤ names_for h.body
+  pub names_fit : {A : Type 0} (h : HeldRequest) (tree : Tree) (ms : ℕ) (o : Outcome A) → outcome_reply ms o ≡ said s h
+      → IsTellable tree o → outcome_names o ≤ names_for h.body
   names_fit h tree ms o says tellable = elim (held_names h) [
     | inl room ↦ (let most = most_names tree o tellable in omega (arith, most, room))
     | inr none ↦ (let are : outcome_names o ≡ 0 = names_are ms o ∙ ap names_told says ∙ none in omega (arith, are))
   ]
 
 -- room for more is room for less
-pub less_spare : {A : Type 0} (spare : ReplySpare A) (len names l n : ℕ) → HasSpare spare len names → l ≤ len → n ≤ names → HasSpare spare l n
+pub less_spare : {A : Type 0} (spare : ReplySpare A) (len names l n : ℕ) → HasSpare spare len names → l ≤ len
+    → n ≤ names → HasSpare spare l n
 less_spare spare len names l n has fewer less =
     let bytes = has.bytes in
     let entries = has.entries in

@@ -20,7 +20,8 @@ use Rattle.fs_server.specs.Steps.{CanPerform}
 use Rattle.fs_server.specs.Effects.{is_past_end}
 use Rattle.fs_server.proofs.Served.{all_generations, bare, ends_live, files_told, end_live, end_lost, lost_is, numbers_of, all_numbers, numbers_said}
 
-none_past : (a b c d e : Bool) → a ≡ false → b ≡ false → c ≡ false → d ≡ false → e ≡ false → (a || b || c || d || e) ≡ false
+none_past : (a b c d e : Bool) → a ≡ false → b ≡ false → c ≡ false → d ≡ false → e ≡ false
+    → (a || b || c || d || e) ≡ false
 none_past a b c d e fa fb fc fd fe = λ i. fa i || fb i || fc i || fd i || fe i
 
 -- that no counter is past its end, counter by counter
@@ -65,24 +66,34 @@ within n le = le-ltb counter_end n (omega (arith, le))
 
 all_within : (s : Server) → EachWithin s → is_past_end s ≡ false
 all_within s each =
-    none_past (nat_lt counter_end s.tree.next_birth) (nat_lt counter_end s.tree.next_serial) (nat_lt counter_end s.nodes.next_generation) (nat_lt counter_end s.handles.next_fh) (nat_lt counter_end s.next_copy)
-    (within s.tree.next_birth each.births) (within s.tree.next_serial each.serials) (within s.nodes.next_generation each.generations) (within s.handles.next_fh each.numbers) (within s.next_copy each.copies)
+    none_past (nat_lt counter_end s.tree.next_birth) (nat_lt counter_end s.tree.next_serial)
+    (nat_lt counter_end s.nodes.next_generation) (nat_lt counter_end s.handles.next_fh) (nat_lt counter_end s.next_copy)
+    (within s.tree.next_birth each.births) (within s.tree.next_serial each.serials)
+    (within s.nodes.next_generation each.generations) (within s.handles.next_fh each.numbers)
+    (within s.next_copy each.copies)
 
-module _ (files : FilesState) (held : Map HeldRequest) (kept : Map Kept) (copies : Map Copy) (next : ℕ) (v : Validity) (m : Minor) (unique : ℕ) (h : HeldRequest) (there : get held unique ≡ Some h) where
+module _ (files : FilesState) (held : Map HeldRequest) (kept : Map Kept) (copies : Map Copy) (next : ℕ) (v : Validity)
+    (m : Minor) (unique : ℕ) (h : HeldRequest) (there : get held unique ≡ Some h) where
   abbrev old : Bool → Server
   old a = server_with files held kept copies next v m a
 
   abbrev reply : Reply ℕ ℕ
   reply = said (bare files held kept copies next v m unique h there) h
 
-  live_within : CanPerform (old false) unique → is_past_end (old false) ≡ false → (choice : ℕ → ℕ) → MayChoose choice files.nodes (files_given (old false) h) → is_past_end (served choice (old false) unique h).server ≡ false
+  live_within : CanPerform (old false) unique → is_past_end (old false) ≡ false → (choice : ℕ → ℕ)
+      → MayChoose choice files.nodes (files_given (old false) h)
+      → is_past_end (served choice (old false) unique h).server ≡ false
   live_within can before choice may =
       let each = each_within (old false) before in
-      let has : HasNumbers (tree_said (bare files held kept copies next v m unique h there) h) files.nodes files.handles false reply = numbers_of files held kept copies next v m unique h there false can in
+      let has : HasNumbers (tree_said
+      (bare files held kept copies next v m unique h there) h) files.nodes files.handles false reply =
+      numbers_of files held kept copies next v m unique h there false can in
       let next_low = can.copy refl in
-      let generations = all_generations choice files.nodes (files_in_reply reply) can.rising (subst (MayChoose choice files.nodes) (files_told files held kept copies next v m unique h there) may) in
+      let generations = all_generations choice files.nodes (files_in_reply reply) can.rising
+      (subst (MayChoose choice files.nodes) (files_told files held kept copies next v m unique h there) may) in
       let most = has.generations refl in
-      let opens = all_numbers (handles_said (bare files held kept copies next v m unique h there) h) (opens_in_reply reply) in
+      let opens = all_numbers (handles_said (bare files held kept copies next v m unique h there) h)
+      (opens_in_reply reply) in
       let start = numbers_said (bare files held kept copies next v m unique h there) h in
       let numbers = has.numbers refl in
       ap is_past_end (ends_live files held kept copies next v m unique h there choice)
@@ -94,13 +105,18 @@ module _ (files : FilesState) (held : Map HeldRequest) (kept : Map Kept) (copies
         copies = omega (arith, next_low);
       })
 
-  lost_within : CanPerform (old true) unique → is_past_end (old true) ≡ false → (choice : ℕ → ℕ) → is_past_end (served choice (old true) unique h).server ≡ false
+  lost_within : CanPerform (old true) unique → is_past_end (old true) ≡ false → (choice : ℕ → ℕ)
+      → is_past_end (served choice (old true) unique h).server ≡ false
   lost_within can before choice =
       let each = each_within (old true) before in
-      let has : HasNumbers (tree_said (bare files held kept copies next v m unique h there) h) files.nodes files.handles true reply = numbers_of files held kept copies next v m unique h there true can in
+      let has : HasNumbers (tree_said
+      (bare files held kept copies next v m unique h there) h) files.nodes files.handles true reply =
+      numbers_of files held kept copies next v m unique h there true can in
       let start = numbers_said (bare files held kept copies next v m unique h there) h in
       let old_numbers = each.numbers in
-      ap (λ (s : Server). is_past_end (replying (without_unheld_files s) unique (performed choice (server_with files (remove held unique) kept copies next v m true) h).wire)) (lost_is files held kept copies next v m unique h there choice)
+      ap (λ (s : Server). is_past_end (replying (without_unheld_files s) unique
+      (performed choice (server_with files (remove held unique) kept copies next v m true) h).wire))
+      (lost_is files held kept copies next v m unique h there choice)
       ∙ all_within (end_lost files held kept copies next v m unique h there choice) (record {
         births = has.births;
         serials = has.serials;
@@ -109,7 +125,9 @@ module _ (files : FilesState) (held : Map HeldRequest) (kept : Map Kept) (copies
         copies = each.copies;
       })
 
-  any_within : (a : Bool) → CanPerform (old a) unique → is_past_end (old a) ≡ false → (choice : ℕ → ℕ) → MayChoose choice files.nodes (files_given (old a) h) → is_past_end (served choice (old a) unique h).server ≡ false
+  any_within : (a : Bool) → CanPerform (old a) unique → is_past_end (old a) ≡ false → (choice : ℕ → ℕ)
+      → MayChoose choice files.nodes (files_given (old a) h)
+      → is_past_end (served choice (old a) unique h).server ≡ false
   any_within true can before choice may = lost_within can before choice
   any_within false can before choice may = live_within can before choice may
 
@@ -117,8 +135,11 @@ abbrev files_alone : Server → FilesState
 files_alone s = record { tree = s.tree; nodes = s.nodes; handles = s.handles; node_room = 0; open_room = 0 }
 
 -- Where a held request can be performed, no counter is past its end afterwards, whatever is chosen.
-pub performs_within : (s : Server) (unique : ℕ) (h : HeldRequest) → get s.held unique ≡ Some h → CanPerform s unique → is_past_end s ≡ false → (choice : ℕ → ℕ) → MayChoose choice s.nodes (files_given s h) → is_past_end (served choice s unique h).server ≡ false
-performs_within s unique h there can before choice may = any_within (files_alone s) s.held s.kept s.copies s.next_copy s.validity s.minor unique h there s.aborted can before choice may
+pub performs_within : (s : Server) (unique : ℕ) (h : HeldRequest) → get s.held unique ≡ Some h → CanPerform s unique
+    → is_past_end s ≡ false → (choice : ℕ → ℕ) → MayChoose choice s.nodes (files_given s h)
+    → is_past_end (served choice s unique h).server ≡ false
+performs_within s unique h there can before choice may =
+    any_within (files_alone s) s.held s.kept s.copies s.next_copy s.validity s.minor unique h there s.aborted can before choice may
 
 -- ---- one more copy
 
@@ -131,7 +152,8 @@ numbers_next t [] = refl
 numbers_next t (n ∷ ns) = numbers_next (handle_more t n) ns
 
 -- Where one more copy can be sent, no counter is past its end afterwards.
-pub copies_within : (s : Server) (unique : ℕ) (kept : Kept) → s.next_copy < 2 ^ 62 → is_past_end s ≡ false → is_past_end (sent_again s unique kept) ≡ false
+pub copies_within : (s : Server) (unique : ℕ) (kept : Kept) → s.next_copy < 2 ^ 62 → is_past_end s ≡ false
+    → is_past_end (sent_again s unique kept) ≡ false
 copies_within s unique kept low before =
     let each = each_within s before in
     let gs = files_in_reply kept.wire in

@@ -1,4 +1,5 @@
--- The server is sound at first, and stays it as requests are taken and performed, and copies are sent again and settled.
+-- The server is sound at first, and stays it as requests are taken and performed, and copies are sent again and
+-- settled.
 use Rattle.std.proofs.Common.{◌≡◌, ◌≢◌, ℕ, ◌+◌, ◌≤◌, ◌<◌, ◌^◌, Bool, true, false, true≢false, cond, List, [], ◌∷◌, Option, Some, None, refl, sym, ap, subst, ◌∙◌, arith, inl, inr}
 use Rattle.std.specs.Prelude.{is_some}
 use Rattle.std.proofs.lemmas.Bool.{cases_eq}
@@ -19,7 +20,9 @@ use Rattle.fs_files.specs.Values.{FilesState, no_handles, no_nodes}
 use Rattle.fs_files.proofs.Bounds.{taken_each, row_back_each, opened_each, back_each, number_more_each}
 use Rattle.fs_server.specs.Sound.{IsSound, AreApart}
 
-pub sound_first : {V W X : Type 0} (files : FilesState) → files.nodes ≡ no_nodes → files.handles ≡ no_handles → AreNamed files.tree files.nodes files.handles → IsSound {V = V} {W = W} {X = X} files [] [] [] 1 (record { found_ms = 0; missing_ms = 0 })
+pub sound_first : {V W X : Type 0} (files : FilesState) → files.nodes ≡ no_nodes → files.handles ≡ no_handles
+    → AreNamed files.tree files.nodes files.handles → IsSound {V = V} {W = W} {X = X} files [] [] [] 1
+    (record { found_ms = 0; missing_ms = 0 })
 sound_first files nodes handles named = record {
   requests = record { apart = λ n there. refl; copies_below = λ n le. refl };
   below = λ id row is. absurd (none-some row (sym (ap (λ (t : NodeTable). get t.rows id) nodes) ∙ is));
@@ -64,7 +67,8 @@ module _ (next : ℕ) where
   used_one : (t : HandleTable) (file : ℕ) → AreUsed next t → AreUsed (next + 1) (all_opened t (file ∷ []))
   used_one t file old = opened_each Use Uses t file (λ h low. omega (arith, low)) (omega arith) old
 
-  pub used_told : (t : HandleTable) (reply : Reply ℕ ℕ) → AreUsed next t → AreUsed (next + 1) (all_opened t (opens_in_reply reply))
+  pub used_told : (t : HandleTable) (reply : Reply ℕ ℕ) → AreUsed next t
+      → AreUsed (next + 1) (all_opened t (opens_in_reply reply))
   used_told t (operation.created file valid o) old = used_one t o old
   used_told t (operation.opened o) old = used_one t o old
   used_told t (operation.found file valid) old = used_still t old
@@ -79,9 +83,12 @@ module _ (next : ℕ) where
   used_told t (operation.failed errno) old = used_still t old
 
   -- once one more copy of a reply is sent
-  pub used_again : (t : HandleTable) (wire : WireReply) → AreUsed next t → AreUsed (next + 1) (handles_counted t (opens_in_reply wire))
-  used_again t (operation.created g valid o) old = number_more_each Use Uses t o (λ h low. omega (arith, low)) (λ h low. omega (arith, low)) old
-  used_again t (operation.opened o) old = number_more_each Use Uses t o (λ h low. omega (arith, low)) (λ h low. omega (arith, low)) old
+  pub used_again : (t : HandleTable) (wire : WireReply) → AreUsed next t
+      → AreUsed (next + 1) (handles_counted t (opens_in_reply wire))
+  used_again t (operation.created g valid o) old =
+      number_more_each Use Uses t o (λ h low. omega (arith, low)) (λ h low. omega (arith, low)) old
+  used_again t (operation.opened o) old = number_more_each Use Uses t o (λ h low. omega (arith, low))
+      (λ h low. omega (arith, low)) old
   used_again t (operation.found g valid) old = used_still t old
   used_again t (operation.missing valid) old = used_still t old
   used_again t (operation.attributes a) old = used_still t old
@@ -128,29 +135,45 @@ there_is (Some v) e = λ h. true≢false (ap is_some h)
 
 pub gone_none : {V : Type 0} (m : Map V) (k q : ℕ) → get m q ≡ None → get (remove m k) q ≡ None
 gone_none m k q none =
-    elim (cases_eq q k) [ inl e ↦ subst (λ (n : ℕ). get (remove m k) n ≡ None) (sym e) (get_gone_here m k) | inr ne ↦ get_gone_there m k q ne ∙ none ]
+    elim (cases_eq q k) [
+      | inl e ↦ subst (λ (n : ℕ). get (remove m k) n ≡ None) (sym e)
+          (get_gone_here m k)
+      | inr ne ↦ get_gone_there m k q ne ∙ none
+    ]
 
-module _ {V W X : Type 0} (held : Map V) (kept : Map W) (copies : Map X) (coming : ℕ) (old : AreApart held kept copies coming) where
+module _ {V W X : Type 0} (held : Map V) (kept : Map W) (copies : Map X) (coming : ℕ)
+    (old : AreApart held kept copies coming) where
   pub apart_taken : (unique : ℕ) (v : V) → get kept unique ≡ None → AreApart (put held unique v) kept copies coming
   apart_taken unique v none = record {
-    apart = λ n there. elim (cases_eq n unique) [ inl e ↦ subst (λ (m : ℕ). get kept m ≡ None) (sym e) none | inr ne ↦ old.apart n (λ gone. there (get_put_there held unique v n ne ∙ gone)) ];
+    apart = λ n there. elim (cases_eq n unique) [
+      | inl e ↦ subst (λ (m : ℕ). get kept m ≡ None)
+          (sym e) none
+      | inr ne ↦ old.apart n (λ gone. there (get_put_there held unique v n ne ∙ gone))
+    ];
     copies_below = old.copies_below;
   }
 
-  pub apart_performed : (unique : ℕ) (w : W) (x : X) → AreApart (remove held unique) (put kept unique w) (put copies coming x) (coming + 1)
+  pub apart_performed : (unique : ℕ) (w : W) (x : X)
+      → AreApart (remove held unique) (put kept unique w) (put copies coming x) (coming + 1)
   apart_performed unique w x = record {
     apart = λ n still. elim (cases_eq n unique) [
-      | inl e ↦ absurd (still (subst (λ (m : ℕ). get (remove held unique) m ≡ None) (sym e) (get_gone_here held unique)))
+      | inl e ↦ absurd (still (subst (λ (m : ℕ). get (remove held unique) m ≡ None) (sym e)
+          (get_gone_here held unique)))
       | inr ne ↦ get_put_there kept unique w n ne ∙ old.apart n (λ none. still (gone_none held unique n none))
     ];
-    copies_below = λ n le. get_put_there copies coming x n (λ e. absurd (omega arith)) ∙ old.copies_below n (omega arith);
+    copies_below = λ n le. get_put_there copies coming x n (λ e. absurd (omega arith)) ∙ old.copies_below n
+        (omega arith);
   }
 
   pub apart_again : (x : X) → AreApart held kept (put copies coming x) (coming + 1)
   apart_again x = record {
     apart = old.apart;
-    copies_below = λ n le. get_put_there copies coming x n (λ e. absurd (omega arith)) ∙ old.copies_below n (omega arith);
+    copies_below = λ n le. get_put_there copies coming x n (λ e. absurd (omega arith)) ∙ old.copies_below n
+        (omega arith);
   }
 
   pub apart_settled : (number : ℕ) → AreApart held kept (remove copies number) coming
-  apart_settled number = record { apart = old.apart; copies_below = λ n le. gone_none copies number n (old.copies_below n le) }
+  apart_settled number = record {
+    apart = old.apart;
+    copies_below = λ n le. gone_none copies number n (old.copies_below n le);
+  }

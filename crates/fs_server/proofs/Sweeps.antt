@@ -29,53 +29,91 @@ use Rattle.fs_server.proofs.GivenBack.{forgets, gives_back}
 -- ---- what is to be looked at
 
 -- the same tree, nodes and open numbers under other names
-but_same : (loose l : Option ℕ) (mid : FilesState) (tree : Tree) (nodes : NodeTable) (handles : HandleTable) → loose ≡ l → mid.tree ≡ tree → mid.nodes ≡ nodes → mid.handles ≡ handles → AreNamedBut l tree nodes handles
+but_same : (loose l : Option ℕ) (mid : FilesState) (tree : Tree) (nodes : NodeTable) (handles : HandleTable)
+    → loose ≡ l → mid.tree ≡ tree → mid.nodes ≡ nodes → mid.handles ≡ handles → AreNamedBut l tree nodes handles
     → AreNamedBut loose mid.tree mid.nodes mid.handles
 but_same loose l mid tree nodes handles o t n h named =
     subst (λ (x : Option ℕ). AreNamedBut x mid.tree mid.nodes mid.handles) (sym o)
-    (subst (λ (x : Tree). AreNamedBut l x mid.nodes mid.handles) (sym t) (subst (λ (x : NodeTable). AreNamedBut l tree x mid.handles) (sym n) (subst (λ (x : HandleTable). AreNamedBut l tree nodes x) (sym h) named)))
+    (subst (λ (x : Tree). AreNamedBut l x mid.nodes mid.handles) (sym t)
+    (subst (λ (x : NodeTable). AreNamedBut l tree x mid.handles) (sym n)
+    (subst (λ (x : HandleTable). AreNamedBut l tree nodes x) (sym h) named)))
 
 module _ (old mid : FilesState) (named : AreNamed old.tree old.nodes old.handles) (tree : mid.tree ≡ old.tree) where
-  pub but_less : (loose : Option ℕ) (t : NodeTable) (id n : ℕ) → t ≡ old.nodes → loose ≡ option_map (λ (row : HeldNode). row.file) (get t.rows id) → mid.nodes ≡ taken_back old.nodes id n → mid.handles ≡ old.handles
+  pub but_less : (loose : Option ℕ) (t : NodeTable) (id n : ℕ) → t ≡ old.nodes
+      → loose ≡ option_map (λ (row : HeldNode). row.file) (get t.rows id) → mid.nodes ≡ taken_back old.nodes id n
+      → mid.handles ≡ old.handles
       → AreNamedBut loose mid.tree mid.nodes mid.handles
   but_less loose t id n same is nodes handles =
-      but_same loose (option_map (λ (row : HeldNode). row.file) (get old.nodes.rows id)) mid old.tree (taken_back old.nodes id n) old.handles (is ∙ ap (λ (x : NodeTable). option_map (λ (row : HeldNode). row.file) (get x.rows id)) same) tree nodes handles
+      but_same loose (option_map (λ (row : HeldNode). row.file) (get old.nodes.rows id)) mid old.tree
+      (taken_back old.nodes id n) old.handles (is ∙ ap
+      (λ (x : NodeTable). option_map (λ (row : HeldNode). row.file) (get x.rows id)) same) tree nodes handles
       (named_less old.tree old.nodes old.handles named id n)
 
-  pub but_row_back : (loose : Option ℕ) (t : NodeTable) (g : Entry) → t ≡ old.nodes → loose ≡ option_map (λ (row : HeldNode). row.file) (get t.rows g.nodeid) → mid.nodes ≡ row_back old.nodes g → mid.handles ≡ old.handles
+  pub but_row_back : (loose : Option ℕ) (t : NodeTable) (g : Entry) → t ≡ old.nodes
+      → loose ≡ option_map (λ (row : HeldNode). row.file) (get t.rows g.nodeid) → mid.nodes ≡ row_back old.nodes g
+      → mid.handles ≡ old.handles
       → AreNamedBut loose mid.tree mid.nodes mid.handles
   but_row_back loose t g same is nodes handles =
-      but_same loose (option_map (λ (row : HeldNode). row.file) (get old.nodes.rows g.nodeid)) mid old.tree (row_back old.nodes g) old.handles (is ∙ ap (λ (x : NodeTable). option_map (λ (row : HeldNode). row.file) (get x.rows g.nodeid)) same) tree nodes handles
+      but_same loose (option_map (λ (row : HeldNode). row.file) (get old.nodes.rows g.nodeid)) mid old.tree
+      (row_back old.nodes g) old.handles (is ∙ ap (λ (x : NodeTable). option_map (λ (row : HeldNode). row.file)
+      (get x.rows g.nodeid)) same) tree nodes handles
       (named_row_back old.tree old.nodes old.handles named g)
 
-  pub but_number_back : (loose : Option ℕ) (fh : ℕ) → loose ≡ option_map (λ (h : OpenNumber). h.file) (get old.handles.handles fh) → mid.nodes ≡ old.nodes → mid.handles ≡ handle_back old.handles fh → AreNamedBut loose mid.tree mid.nodes mid.handles
+  pub but_number_back : (loose : Option ℕ) (fh : ℕ)
+      → loose ≡ option_map (λ (h : OpenNumber). h.file) (get old.handles.handles fh) → mid.nodes ≡ old.nodes
+      → mid.handles ≡ handle_back old.handles fh → AreNamedBut loose mid.tree mid.nodes mid.handles
   but_number_back loose fh is nodes handles =
-      but_same loose (option_map (λ (h : OpenNumber). h.file) (get old.handles.handles fh)) mid old.tree old.nodes (handle_back old.handles fh) is tree nodes handles (named_number_back old.tree old.nodes old.handles named fh)
+      but_same loose (option_map (λ (h : OpenNumber). h.file) (get old.handles.handles fh)) mid old.tree old.nodes
+      (handle_back old.handles fh) is tree nodes handles (named_number_back old.tree old.nodes old.handles named fh)
 
 -- what a request leaves is told
-pub but_told : {A : Type 0} (loose : Option ℕ) (start one two : FilesState) (v : Validity) (m : Minor) (h : HeldRequest) (reply : Reply ℕ ℕ) (sent : SentReply A) → AreNamedBut loose (tree_said (server_at m start v) h) start.nodes (handles_said (server_at m start v) h)
-    → one.tree ≡ tree_said (server_at m start v) h → one.handles ≡ handles_said (server_at m start v) h → one.nodes ≡ start.nodes → Tells one reply sent two → AreNamedBut loose two.tree two.nodes two.handles
+pub but_told : {A : Type 0} (loose : Option ℕ) (start one two : FilesState) (v : Validity) (m : Minor)
+    (h : HeldRequest) (reply : Reply ℕ ℕ) (sent : SentReply A)
+    → AreNamedBut loose (tree_said (server_at m start v) h) start.nodes (handles_said (server_at m start v) h)
+    → one.tree ≡ tree_said (server_at m start v) h → one.handles ≡ handles_said (server_at m start v) h
+    → one.nodes ≡ start.nodes → Tells one reply sent two → AreNamedBut loose two.tree two.nodes two.handles
 but_told loose start one two v m h reply sent named tree handles nodes tells =
-    let one_named = but_same loose loose one (tree_said (server_at m start v) h) start.nodes (handles_said (server_at m start v) h) refl tree nodes handles named in
-    but_same loose loose two one.tree (all_given tells.choice one.nodes (files_in_reply reply)) (all_opened one.handles (opens_in_reply reply)) refl tells.tree_is tells.nodes_is tells.handles_is
-    (named_all_opened loose one.tree (all_given tells.choice one.nodes (files_in_reply reply)) one.handles (named_all_given tells.choice loose one.tree one.nodes one.handles one_named (files_in_reply reply)) (opens_in_reply reply))
+    let one_named = but_same loose loose one (tree_said (server_at m start v) h) start.nodes
+    (handles_said (server_at m start v) h) refl tree nodes handles named in
+    but_same loose loose two one.tree (all_given tells.choice one.nodes (files_in_reply reply))
+    (all_opened one.handles (opens_in_reply reply)) refl tells.tree_is tells.nodes_is tells.handles_is
+    (named_all_opened loose one.tree (all_given tells.choice one.nodes (files_in_reply reply)) one.handles
+    (named_all_given tells.choice loose one.tree one.nodes one.handles one_named (files_in_reply reply))
+    (opens_in_reply reply))
 
-pub but_said : (loose : Option ℕ) (start one : FilesState) (v : Validity) (m : Minor) (h : HeldRequest) → AreNamedBut loose (tree_said (server_at m start v) h) start.nodes (handles_said (server_at m start v) h)
-    → one.tree ≡ tree_said (server_at m start v) h → one.handles ≡ handles_said (server_at m start v) h → one.nodes ≡ start.nodes → AreNamedBut loose one.tree one.nodes one.handles
-but_said loose start one v m h named tree handles nodes = but_same loose loose one (tree_said (server_at m start v) h) start.nodes (handles_said (server_at m start v) h) refl tree nodes handles named
+pub but_said : (loose : Option ℕ) (start one : FilesState) (v : Validity) (m : Minor) (h : HeldRequest)
+    → AreNamedBut loose (tree_said (server_at m start v) h) start.nodes (handles_said (server_at m start v) h)
+    → one.tree ≡ tree_said (server_at m start v) h → one.handles ≡ handles_said (server_at m start v) h
+    → one.nodes ≡ start.nodes → AreNamedBut loose one.tree one.nodes one.handles
+but_said loose start one v m h named tree handles nodes =
+    but_same loose loose one (tree_said (server_at m start v) h) start.nodes
+    (handles_said (server_at m start v) h) refl tree nodes handles named
 
-pub named_as : (start files : FilesState) → start.tree ≡ files.tree → start.nodes ≡ files.nodes → start.handles ≡ files.handles → AreNamed files.tree files.nodes files.handles → AreNamed start.tree start.nodes start.handles
-named_as start files tree nodes handles named = but_same None None start files.tree files.nodes files.handles refl tree nodes handles named
+pub named_as : (start files : FilesState) → start.tree ≡ files.tree → start.nodes ≡ files.nodes
+    → start.handles ≡ files.handles → AreNamed files.tree files.nodes files.handles
+    → AreNamed start.tree start.nodes start.handles
+named_as start files tree nodes handles named =
+    but_same None None start files.tree files.nodes files.handles refl tree nodes handles named
 
 -- ---- one step
 
-pub sweeps_none : (files : FilesState) → AreNamed files.tree files.nodes files.handles → Sweeps files files.nodes files.handles files
-sweeps_none files named = record { tree = λ v. swept_none files v named; nodes_are = refl; handles_are = refl; named = named }
+pub sweeps_none : (files : FilesState) → AreNamed files.tree files.nodes files.handles
+    → Sweeps files files.nodes files.handles files
+sweeps_none files named = record {
+  tree = λ v. swept_none files v named;
+  nodes_are = refl;
+  handles_are = refl;
+  named = named;
+}
 
-pub sweeps_from : (old mid new : FilesState) (nodes : NodeTable) (handles : HandleTable) → mid.tree ≡ old.tree → mid.nodes ≡ nodes → mid.handles ≡ handles → ((v : Validity) → new.tree ≡ without_unheld (is_file_held (server_of mid v)) mid.tree)
-    → new.nodes ≡ mid.nodes → new.handles ≡ mid.handles → AreNamed new.tree new.nodes new.handles → Sweeps old nodes handles new
+pub sweeps_from : (old mid new : FilesState) (nodes : NodeTable) (handles : HandleTable) → mid.tree ≡ old.tree
+    → mid.nodes ≡ nodes → mid.handles ≡ handles → ((v : Validity)
+    → new.tree ≡ without_unheld (is_file_held (server_of mid v)) mid.tree)
+    → new.nodes ≡ mid.nodes → new.handles ≡ mid.handles → AreNamed new.tree new.nodes new.handles
+    → Sweeps old nodes handles new
 sweeps_from old mid new nodes handles tree n h left n_left h_left named = record {
-  tree = λ v. left v ∙ (λ i. without_unheld (is_file_held (server_of (record mid { nodes = sym n_left i; handles = sym h_left i }) v)) (tree i));
+  tree = λ v. left v ∙ (λ i. without_unheld (is_file_held
+      (server_of (record mid { nodes = sym n_left i; handles = sym h_left i }) v)) (tree i));
   nodes_are = n_left ∙ n;
   handles_are = h_left ∙ h;
   named = named;
@@ -83,46 +121,79 @@ sweeps_from old mid new nodes handles tree n h left n_left h_left named = record
 
 -- ---- one step after another
 
-sweeps_then : (old one two : FilesState) (nodes n : NodeTable) (handles h : HandleTable) → Sweeps old nodes handles one → Sweeps one n h two → ((x : ℕ) → IsUnheld one.nodes x → IsUnheld two.nodes x) → ((x : ℕ) → IsUnopened one.handles x → IsUnopened two.handles x)
+sweeps_then : (old one two : FilesState) (nodes n : NodeTable) (handles h : HandleTable) → Sweeps old nodes handles one
+    → Sweeps one n h two → ((x : ℕ) → IsUnheld one.nodes x → IsUnheld two.nodes x)
+    → ((x : ℕ) → IsUnopened one.handles x → IsUnopened two.handles x)
     → Sweeps old n h two
 sweeps_then old one two nodes n handles h first second no_node no_number = record {
-  tree = λ v. second.tree v ∙ ap (without_unheld (is_file_held (server_of two v))) (first.tree v) ∙ swept_twice one two v second.named no_node no_number old.tree;
+  tree = λ v. second.tree v ∙ ap (without_unheld (is_file_held (server_of two v)))
+      (first.tree v) ∙ swept_twice one two v second.named no_node no_number old.tree;
   nodes_are = second.nodes_are;
   handles_are = second.handles_are;
   named = second.named;
 }
 
 -- lookups of one more pair are given back
-pub sweeps_on : (old one two : FilesState) (id n : ℕ) → Sweeps old one.nodes old.handles one → TakesBack one ((id, n) ∷ []) two → Sweeps old two.nodes old.handles two
+pub sweeps_on : (old one two : FilesState) (id n : ℕ) → Sweeps old one.nodes old.handles one
+    → TakesBack one ((id, n) ∷ []) two → Sweeps old two.nodes old.handles two
 sweeps_on old one two id n first second =
     let both = sweeps_then old one two one.nodes (taken_back one.nodes id n) old.handles one.handles first second
-    (λ x lacks. subst (λ (t : NodeTable). IsUnheld t x) (sym second.nodes_are) (taken_each (λ row. row.file ≢ x) one.nodes id n (λ row is. is) lacks)) (λ x lacks. subst (λ (t : HandleTable). IsUnopened t x) (sym second.handles_are) lacks) in
-    record { tree = both.tree; nodes_are = refl; handles_are = second.handles_are ∙ first.handles_are; named = both.named }
+    (λ x lacks. subst (λ (t : NodeTable). IsUnheld t x) (sym second.nodes_are)
+    (taken_each (λ row. row.file ≢ x) one.nodes id n (λ row is. is) lacks))
+    (λ x lacks. subst (λ (t : HandleTable). IsUnopened t x) (sym second.handles_are) lacks) in
+    record {
+      tree = both.tree;
+      nodes_are = refl;
+      handles_are = second.handles_are ∙ first.handles_are;
+      named = both.named;
+    }
 
 -- one entry more is counted back
-pub counts_on : (old one two : FilesState) (g : Entry) → Sweeps old one.nodes old.handles one → CountsBack one (g ∷ []) [] two → Sweeps old two.nodes old.handles two
+pub counts_on : (old one two : FilesState) (g : Entry) → Sweeps old one.nodes old.handles one
+    → CountsBack one (g ∷ []) [] two → Sweeps old two.nodes old.handles two
 counts_on old one two g first second =
     let both = sweeps_then old one two one.nodes (row_back one.nodes g) old.handles one.handles first second
-    (λ x lacks. subst (λ (t : NodeTable). IsUnheld t x) (sym second.nodes_are) (row_back_each (λ row. row.file ≢ x) one.nodes g (λ row is. is) lacks)) (λ x lacks. subst (λ (t : HandleTable). IsUnopened t x) (sym second.handles_are) lacks) in
-    record { tree = both.tree; nodes_are = refl; handles_are = second.handles_are ∙ first.handles_are; named = both.named }
+    (λ x lacks. subst (λ (t : NodeTable). IsUnheld t x) (sym second.nodes_are)
+    (row_back_each (λ row. row.file ≢ x) one.nodes g (λ row is. is) lacks))
+    (λ x lacks. subst (λ (t : HandleTable). IsUnopened t x) (sym second.handles_are) lacks) in
+    record {
+      tree = both.tree;
+      nodes_are = refl;
+      handles_are = second.handles_are ∙ first.handles_are;
+      named = both.named;
+    }
 
-no_more_opened : (handles : HandleTable) (fhs : List ℕ) (x : ℕ) → IsUnopened handles x → IsUnopened (handles_back handles fhs) x
+no_more_opened : (handles : HandleTable) (fhs : List ℕ) (x : ℕ) → IsUnopened handles x
+    → IsUnopened (handles_back handles fhs) x
 no_more_opened handles [] x lacks = lacks
-no_more_opened handles (fh ∷ fhs) x lacks = no_more_opened (handle_back handles fh) fhs x (back_each (λ h. h.file ≢ x) handles fh (λ h is. is) lacks)
+no_more_opened handles (fh ∷ fhs) x lacks = no_more_opened (handle_back handles fh) fhs x
+    (back_each (λ h. h.file ≢ x) handles fh (λ h is. is) lacks)
 
 -- an entry is counted back, and then an open number
-counts_both : (old one two : FilesState) (gs : List Entry) (fhs : List ℕ) → CountsBack old gs [] one → CountsBack one [] fhs two → CountsBack old gs fhs two
+counts_both : (old one two : FilesState) (gs : List Entry) (fhs : List ℕ) → CountsBack old gs [] one
+    → CountsBack one [] fhs two → CountsBack old gs fhs two
 counts_both old one two gs fhs first second =
-    let both = sweeps_then old one two (rows_back old.nodes gs) one.nodes old.handles (handles_back one.handles fhs) first second (λ x lacks. subst (λ (t : NodeTable). IsUnheld t x) (sym second.nodes_are) lacks)
-    (λ x lacks. subst (λ (t : HandleTable). IsUnopened t x) (sym second.handles_are) (no_more_opened one.handles fhs x lacks)) in
-    record { tree = both.tree; nodes_are = second.nodes_are ∙ first.nodes_are; handles_are = second.handles_are ∙ ap (λ (t : HandleTable). handles_back t fhs) first.handles_are; named = both.named }
+    let both = sweeps_then old one two (rows_back old.nodes gs) one.nodes old.handles
+    (handles_back one.handles fhs) first second (λ x lacks. subst (λ (t : NodeTable). IsUnheld t x)
+    (sym second.nodes_are) lacks)
+    (λ x lacks. subst (λ (t : HandleTable). IsUnopened t x) (sym second.handles_are)
+    (no_more_opened one.handles fhs x lacks)) in
+    record {
+      tree = both.tree;
+      nodes_are = second.nodes_are ∙ first.nodes_are;
+      handles_are = second.handles_are ∙ ap (λ (t : HandleTable). handles_back t fhs) first.handles_are;
+      named =
+          both.named;
+    }
 
 -- ---- what it is in the definitions' words
 
 pub as_forgets : (old new : FilesState) (fs : List Forget) → TakesBack old fs new → Forgets old fs new
-as_forgets old new fs t = forgets old (record new { tree = old.tree }) new fs refl t.nodes_are t.handles_are (record { tree = t.tree; nodes = refl; handles = refl })
+as_forgets old new fs t = forgets old (record new { tree = old.tree }) new fs refl t.nodes_are t.handles_are
+    (record { tree = t.tree; nodes = refl; handles = refl })
 
-numbers_listed : {A : Type 0} (reply : SentReply A) → option_to_list (opened_in reply) ≡ opens_in_reply (sent_wire reply)
+numbers_listed : {A : Type 0} (reply : SentReply A)
+    → option_to_list (opened_in reply) ≡ opens_in_reply (sent_wire reply)
 numbers_listed (Found entry found_ms) = refl
 numbers_listed (Created entry found_ms fh) = refl
 numbers_listed (Opened fh) = refl
@@ -136,9 +207,13 @@ numbers_listed (Plain (Agreed minor flags)) = refl
 numbers_listed (Plain Done) = refl
 numbers_listed (Plain (Failed errno)) = refl
 
-pub as_given_back : {A : Type 0} (old one two : FilesState) (reply : SentReply A) (told : List Entry) (fh : Option ℕ) → told ≡ files_in_reply (sent_wire reply) → fh ≡ opened_in reply → CountsBack old told [] one → CountsBack one [] (option_to_list fh) two
+pub as_given_back : {A : Type 0} (old one two : FilesState) (reply : SentReply A) (told : List Entry) (fh : Option ℕ)
+    → told ≡ files_in_reply (sent_wire reply) → fh ≡ opened_in reply → CountsBack old told [] one
+    → CountsBack one [] (option_to_list fh) two
     → GivesBack old (sent_wire reply) two
 as_given_back old one two reply told fh told_is fh_is first second =
     let both = counts_both old one two told (option_to_list fh) first second in
     let fhs = ap option_to_list fh_is ∙ numbers_listed reply in
-    gives_back old (record two { tree = old.tree }) two (sent_wire reply) refl (both.nodes_are ∙ ap (rows_back old.nodes) told_is) (both.handles_are ∙ ap (handles_back old.handles) fhs) (record { tree = both.tree; nodes = refl; handles = refl })
+    gives_back old (record two { tree = old.tree }) two (sent_wire reply) refl
+    (both.nodes_are ∙ ap (rows_back old.nodes) told_is) (both.handles_are ∙ ap (handles_back old.handles) fhs)
+    (record { tree = both.tree; nodes = refl; handles = refl })

@@ -34,11 +34,14 @@ judged_apart (Some too_many_forgets) = refl
 judged_apart (Some repeated_unique) = refl
 
 -- the fault of a request is no want of memory
-pub fault_apart : (s : Server) (unique : ℕ) (o : Option RequestBody) (fault : ServerFault) → request_fault s unique o ≡ Some fault → fault ≡ Memory → ⊥
+pub fault_apart : (s : Server) (unique : ℕ) (o : Option RequestBody) (fault : ServerFault)
+    → request_fault s unique o ≡ Some fault → fault ≡ Memory → ⊥
 fault_apart s unique None fault is = other_fault fault (sym (ap is_memory_in is))
-fault_apart s unique (Some body) fault is = other_fault fault (sym (ap is_memory_in is) ∙ judged_apart (fault_of s (record { unique = unique; body = body })))
+fault_apart s unique (Some body) fault is = other_fault fault
+    (sym (ap is_memory_in is) ∙ judged_apart (fault_of s (record { unique = unique; body = body })))
 
-held_word : (s : Server) (unique nodeid : ℕ) (content : RequestContent) → is_held content ≡ true → (taking s unique (body_of nodeid content)).word ≡ Held
+held_word : (s : Server) (unique nodeid : ℕ) (content : RequestContent) → is_held content ≡ true
+    → (taking s unique (body_of nodeid content)).word ≡ Held
 held_word s unique nodeid (wire.init major minor flags) is = refl
 held_word s unique nodeid (wire.lookup name) is = refl
 held_word s unique nodeid wire.getattr is = refl
@@ -60,26 +63,33 @@ held_word s unique nodeid (wire.interrupt original) is = absurd (true≢false (s
 
 -- nothing refuses the frame but want of memory
 module _ (s : Server) (bytes : List ℕ) (m : RequestMessage) (right : IsTakeable s bytes m) where
-  wants_for : (body : RequestBody) → body_in m.nodeid m.content ≡ Some body → takes_memory (taking s m.unique body).word ≡ true → WantsMemory s bytes
+  wants_for : (body : RequestBody) → body_in m.nodeid m.content ≡ Some body
+      → takes_memory (taking s m.unique body).word ≡ true → WantsMemory s bytes
   wants_for body is takes request says =
       let one = right.only says.message says.spells in
       let unique : m.unique ≡ request.unique = ap (λ (n : RequestMessage). n.unique) one ∙ says.unique in
-      let asked : Some body ≡ Some request.body = sym is ∙ ap (λ (n : RequestMessage). body_in n.nodeid n.content) one ∙ says.says in
+      let asked : Some body ≡ Some request.body = sym is ∙ ap
+      (λ (n : RequestMessage). body_in n.nodeid n.content) one ∙ says.says in
       let body_is : body ≡ request.body = same_Some body request.body asked in
       sym (λ i. takes_memory (taking s (unique i) (body_is i)).word) ∙ takes
 
   held_wants : is_held m.content ≡ true → WantsMemory s bytes
-  held_wants is = wants_for (body_of m.nodeid m.content) (asks s bytes m right) (ap takes_memory (held_word s m.unique m.nodeid m.content is))
+  held_wants is = wants_for (body_of m.nodeid m.content) (asks s bytes m right)
+      (ap takes_memory (held_word s m.unique m.nodeid m.content is))
 
-  interrupt_wants : (original : ℕ) → m.content ≡ wire.interrupt original → (taking s m.unique (interrupt original)).word ≡ Again → WantsMemory s bytes
+  interrupt_wants : (original : ℕ) → m.content ≡ wire.interrupt original
+      → (taking s m.unique (interrupt original)).word ≡ Again → WantsMemory s bytes
   interrupt_wants original is word = wants_for (interrupt original) (ap (body_in m.nodeid) is) (ap takes_memory word)
 
   -- the same of what comes of it
-  pub hold_wants : {T : Type 0} → is_held m.content ≡ true → (r : Result T ServerFault) → IfErr r (λ fault. fault ≡ Memory → WantsMemory s bytes)
+  pub hold_wants : {T : Type 0} → is_held m.content ≡ true → (r : Result T ServerFault)
+      → IfErr r (λ fault. fault ≡ Memory → WantsMemory s bytes)
   hold_wants is (Ok took) = tt
   hold_wants is (Err fault) = λ memory. held_wants is
 
-  pub answer_wants : {T : Type 0} (original : ℕ) → m.content ≡ wire.interrupt original → (r : Result T ServerFault) → OnErr r ((taking s m.unique (interrupt original)).word ≡ Again) → IfErr r (λ fault. fault ≡ Memory → WantsMemory s bytes)
+  pub answer_wants : {T : Type 0} (original : ℕ) → m.content ≡ wire.interrupt original → (r : Result T ServerFault)
+      → OnErr r ((taking s m.unique (interrupt original)).word ≡ Again)
+      → IfErr r (λ fault. fault ≡ Memory → WantsMemory s bytes)
   answer_wants original is (Ok took) word = tt
   answer_wants original is (Err fault) word = λ memory. interrupt_wants original is word
 

@@ -35,8 +35,8 @@ as_fault (Some unknown_node) = Some UnknownNode
 as_fault (Some too_many_forgets) = Some TooManyForgets
 as_fault (Some repeated_unique) = Some RepeatedUnique
 
--- What is wrong with a request under this unique, want of memory and of a number aside. Where the machine has no such request it
--- isn't served.
+-- What is wrong with a request under this unique, want of memory and of a number aside. Where the machine has no such
+-- request it isn't served.
 abbrev pub request_fault : Server → ℕ → Option RequestBody → Option ServerFault
 request_fault s unique None = Some Wire
 request_fault s unique (Some body) = as_fault (fault_of s (record { unique = unique; body = body }))
@@ -44,7 +44,9 @@ request_fault s unique (Some body) = as_fault (fault_of s (record { unique = uni
 -- Whether a counter of the server would have given a number past its end.
 abbrev pub is_past_end : Server → Bool
 is_past_end s =
-    nat_lt counter_end s.tree.next_birth || nat_lt counter_end s.tree.next_serial || nat_lt counter_end s.nodes.next_generation || nat_lt counter_end s.handles.next_fh || nat_lt counter_end s.next_copy
+    nat_lt counter_end s.tree.next_birth || nat_lt counter_end s.tree.next_serial
+    || nat_lt counter_end s.nodes.next_generation || nat_lt counter_end s.handles.next_fh
+    || nat_lt counter_end s.next_copy
 
 -- what a request is refused for that has no fault: a counter at its end, or else want of memory
 abbrev pub past_or_memory : Bool → ServerFault
@@ -58,9 +60,11 @@ fault_or (Some fault) other = fault
 
 -- What a request that is refused is refused for.
 abbrev pub refused_for : Server → Request → ServerFault
-refused_for s request = fault_or (request_fault s request.unique (Some request.body)) (past_or_memory (is_past_end (taking s request.unique request.body).server))
+refused_for s request = fault_or (request_fault s request.unique (Some request.body))
+    (past_or_memory (is_past_end (taking s request.unique request.body).server))
 
--- A frame spells a request that has no fault, and no counter would have given a number past its end: only memory can be wanting.
+-- A frame spells a request that has no fault, and no counter would have given a number past its end: only memory can be
+-- wanting.
 pub record CanTake (s : Server) (bytes : List ℕ) : Type 0 where
   pub request : Request
   pub says : SaysRequest bytes request
@@ -88,8 +92,8 @@ pub record TakesFrame {A : Type 0} (old : Server) (bytes : List ℕ) (took : Too
   pub after : new ≡ (taking old request.unique request.body).server
   pub copy : took.copy ≡ copy_of old.next_copy request.unique (taking old request.unique request.body).reply
 
--- A frame is refused for the first fault of the request that it spells, or for want of a number or of memory, and where it spells none
--- as no request.
+-- A frame is refused for the first fault of the request that it spells, or for want of a number or of memory, and where
+-- it spells none as no request.
 pub record RefusesFrame (old : Server) (bytes : List ℕ) (fault : ServerFault) : Type 0 where
   pub of_request : (request : Request) → SaysRequest bytes request → fault ≡ refused_for old request
   pub of_none : ((request : Request) → SaysRequest bytes request → ⊥) → fault ≡ Wire
@@ -104,7 +108,8 @@ takes_memory Ignored = false
 
 -- Taking the request that a frame spells takes memory.
 abbrev pub WantsMemory : Server → List ℕ → Type 0
-WantsMemory s bytes = (request : Request) → SaysRequest bytes request → takes_memory (taking s request.unique request.body).word ≡ true
+WantsMemory s bytes = (request : Request) → SaysRequest bytes request
+    → takes_memory (taking s request.unique request.body).word ≡ true
 
 -- These nodes and open numbers are left, and nameless files that nothing holds have gone.
 pub record Sweeps (old : FilesState) (nodes : NodeTable) (handles : HandleTable) (new : FilesState) : Type 0 where
@@ -154,9 +159,11 @@ is_of_copy (Some kept) first = nat_eq kept.first first
 -- Why a held request can't be performed, want of memory aside.
 pub data RefusesHeld (s : Server) (unique : ℕ) : Refusal → Type 0 where
   not_held : get s.held unique ≡ None → RefusesHeld s unique NoSuch
-  told_too_often : (held : HeldRequest) → get s.held unique ≡ Some held → counts_out s.nodes (files_given s held) ≡ true → RefusesHeld s unique Exhausted
+  told_too_often : (held : HeldRequest) → get s.held unique ≡ Some held
+      → counts_out s.nodes (files_given s held) ≡ true → RefusesHeld s unique Exhausted
   exhausted : (held : HeldRequest) → get s.held unique ≡ Some held
-      → ((choice : ℕ → ℕ) → MayChoose choice s.nodes (files_given s held) → is_past_end (served choice s unique held).server ≡ true) → RefusesHeld s unique Exhausted
+      → ((choice : ℕ → ℕ) → MayChoose choice s.nodes (files_given s held)
+      → is_past_end (served choice s unique held).server ≡ true) → RefusesHeld s unique Exhausted
 
 -- the first copy of a reply: none after an abort
 abbrev pub first_copy : (aborted : Bool) (number unique : ℕ) → WireReply → Option Sent
@@ -177,9 +184,12 @@ pub record PerformsHeld (old : Server) (unique errno : ℕ) (copy : Option Sent)
 -- Why no copy of a kept reply can be sent, want of memory aside.
 pub data RefusesAgain (s : Server) (unique : ℕ) : Refusal → Type 0 where
   not_kept : get s.kept unique ≡ None → RefusesAgain s unique NoCopy
-  not_current : (kept : Kept) → get s.kept unique ≡ Some kept → is_current s kept.wire ≡ false → RefusesAgain s unique NoCopy
-  copied_too_often : (kept : Kept) → get s.kept unique ≡ Some kept → is_current s kept.wire ≡ true → counts_out s.nodes (files_named s kept.wire) ≡ true → RefusesAgain s unique Exhausted
-  no_number : (kept : Kept) → get s.kept unique ≡ Some kept → is_current s kept.wire ≡ true → is_past_end (sent_again s unique kept) ≡ true → RefusesAgain s unique Exhausted
+  not_current : (kept : Kept) → get s.kept unique ≡ Some kept → is_current s kept.wire ≡ false
+      → RefusesAgain s unique NoCopy
+  copied_too_often : (kept : Kept) → get s.kept unique ≡ Some kept → is_current s kept.wire ≡ true
+      → counts_out s.nodes (files_named s kept.wire) ≡ true → RefusesAgain s unique Exhausted
+  no_number : (kept : Kept) → get s.kept unique ≡ Some kept → is_current s kept.wire ≡ true
+      → is_past_end (sent_again s unique kept) ≡ true → RefusesAgain s unique Exhausted
 
 -- A reply is kept under this unique, each node and open number that it names is still held, and a copy number is left.
 pub record CanSendAgain (s : Server) (unique : ℕ) : Type 0 where

@@ -31,7 +31,8 @@ pub record IsAnswerable (bytes : List ℕ) (fault : ServerFault) : Type 0 where
 -- the error of the reply: ENOSYS where the minor doesn't know the opcode, else EIO
 abbrev pub IsErrorOf : Minor → (code : ℕ) → ℤ → Type 0
 IsErrorOf minor code error =
-    (((o : Opcode) × IsTrue (knows (codec_minor minor) o) × (code_of o ≡ code)) × (error ≡ negsuc (eio - 1))) ⊎ (((o : Opcode) → IsTrue (knows (codec_minor minor) o) → code_of o ≢ code) × (error ≡ negsuc (enosys - 1)))
+    (((o : Opcode) × IsTrue (knows (codec_minor minor) o) × (code_of o ≡ code)) × (error ≡ negsuc (eio - 1)))
+    ⊎ (((o : Opcode) → IsTrue (knows (codec_minor minor) o) → code_of o ≢ code) × (error ≡ negsuc (enosys - 1)))
 
 -- The error reply to a frame is appended: the header alone, with the frame's unique.
 pub record FaultReplied (minor : Minor) (bytes old new : List ℕ) : Type 0 where

@@ -75,16 +75,22 @@ knows nodes nodeid content = is_known nodes nodeid
 -- Whether more lookups of a node are given back than it has.
 abbrev pub forgets_too_many : NodeTable → ℕ → RequestContent → Bool
 forgets_too_many nodes nodeid (wire.forget nlookup) = nat_lt (count_in (get nodes.rows nodeid)) nlookup
-forgets_too_many nodes nodeid (wire.batch_forget forgets) = list_any (λ f. nat_lt (count_in (get nodes.rows f.0)) (forgotten f.0 forgets)) forgets
+forgets_too_many nodes nodeid (wire.batch_forget forgets) =
+    list_any (λ f. nat_lt (count_in (get nodes.rows f.0)) (forgotten f.0 forgets)) forgets
 forgets_too_many nodes nodeid content = false
 
 -- the nodes that a request names, with the generations that they have
 abbrev pub generations_for : NodeTable → ℕ → RequestContent → List (ℕ × ℕ)
-generations_for nodes nodeid content = map (λ id. (id, generation_in (row_of nodes id))) (nodes_of_body (body_of nodeid content))
+generations_for nodes nodeid content = map (λ id. (id, generation_in (row_of nodes id)))
+    (nodes_of_body (body_of nodeid content))
 
 -- what is held for it
 abbrev pub held_for : NodeTable → ℕ → RequestContent → HeldRequest
-held_for nodes nodeid content = record { body = body_of nodeid content; generations = generations_for nodes nodeid content; marked = false }
+held_for nodes nodeid content = record {
+  body = body_of nodeid content;
+  generations = generations_for nodes nodeid content;
+  marked = false;
+}
 
 -- Whether the minor knows what a request of this node asks.
 abbrev pub is_spoken : Minor → ℕ → RequestContent → Bool
@@ -98,8 +104,8 @@ pub record IsFaultless (s : Server) (unique nodeid : ℕ) (content : RequestCont
   pub unheld : get s.held unique ≡ None
   pub unkept : get s.kept unique ≡ None
 
--- A frame spells this message and no other. It is a request with nothing wrong, no counter is past its end, and the copy number is
--- left that it draws.
+-- A frame spells this message and no other. It is a request with nothing wrong, no counter is past its end, and the
+-- copy number is left that it draws.
 pub record IsTakeable (s : Server) (bytes : List ℕ) (m : RequestMessage) : Type 0 where
   pub spells : Spells bytes m
   pub only : (n : RequestMessage) → Spells bytes n → m ≡ n

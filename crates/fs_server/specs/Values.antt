@@ -8,4 +8,11 @@ use Rattle.fs_files.specs.Values.{FilesState, server_at}
 
 -- A server with these files and these parts.
 abbrev pub server_with : FilesState → Map HeldRequest → Map Kept → Map Copy → ℕ → Validity → Minor → Bool → Server
-server_with files held kept copies next_copy validity minor aborted = record (server_at minor files validity) { held = held; kept = kept; copies = copies; next_copy = next_copy; aborted = aborted }
+server_with files held kept copies next_copy validity minor aborted =
+    record (server_at minor files validity) {
+      held = held;
+      kept = kept;
+      copies = copies;
+      next_copy = next_copy;
+      aborted = aborted;
+    }

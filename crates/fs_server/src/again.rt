@@ -23,9 +23,9 @@ use fuse_spec::{Entry, Refusal};
 use std::alloc::AllocError;
 
 impl<S: NodeStore> ServerOf<S> {
-    /// Why no copy of a kept reply can be sent, want of memory aside: `NoCopy` where no reply is kept under the unique, or a node
-    /// or open number that it names is no longer held, the node under the same generation; `Exhausted` where a node's lookups would
-    /// come to the end of counters, or no copy number is left.
+    /// Why no copy of a kept reply can be sent, want of memory aside: `NoCopy` where no reply is kept under the unique,
+    /// or a node or open number that it names is no longer held, the node under the same generation; `Exhausted` where
+    /// a node's lookups would come to the end of counters, or no copy number is left.
     pub fn again_refusal(&self, unique: u64) -> Option<Refusal>
         ensures refuses { IfSome result (RefusesAgain self.now unique) }
         ensures none { IfNone result (CanSendAgain self.now unique) }
@@ -50,9 +50,9 @@ impl<S: NodeStore> ServerOf<S> {
     ///
     /// # Errors
     ///
-    /// `NoCopy` where no reply is kept under the unique, or a node or open number that it names is no longer held, the node under the
-    /// same generation; `Exhausted` where a node's lookups would come to the end of counters, or no copy number is left; then
-    /// `NoMemory`. The server is as before.
+    /// `NoCopy` where no reply is kept under the unique, or a node or open number that it names is no longer held, the
+    /// node under the same generation; `Exhausted` where a node's lookups would come to the end of counters, or no copy
+    /// number is left; then `NoMemory`. The server is as before.
     pub fn again(&mut self, unique: u64) -> Result<ReplyCopy<S::Heap>, Refusal>
         ensures err { OnErr result (self.new ≡ self.old) }
         ensures refusal { IfErr result (λ refusal. RefusesAgain self.old unique refusal ⊎ (refusal ≡ NoMemory)) }
@@ -94,7 +94,9 @@ impl<S: NodeStore> ServerOf<S> {
 
 /// Whether each node and open number that a reply names is still held, the node under the same generation.
 fn is_current<S: NodeStore>(files: &Files<S>, reply: &SentReply<S::Heap>) -> bool
-    ensures { result ≡ (list_all (λ (g : ReplyEntry). is_held files.now.nodes g.nodeid g.generation) (files_in_reply (sent_wire reply.now)) && list_all (λ fh. is_some (get files.now.handles.handles fh)) (opens_in_reply (sent_wire reply.now))) }
+    ensures { result ≡ (list_all (λ (g : ReplyEntry). is_held files.now.nodes g.nodeid g.generation)
+        (files_in_reply (sent_wire reply.now)) && list_all (λ fh. is_some (get files.now.handles.handles fh))
+        (opens_in_reply (sent_wire reply.now))) }
 {
     let has_number = match reply.opened() {
         Some(fh) => files.has_number(fh),
@@ -117,7 +119,8 @@ fn are_held<S: NodeStore>(files: &Files<S>, told: &[Entry]) -> bool
 
 /// Counts once more each node and the open number that a reply names.
 fn count_again<S: NodeStore>(files: &mut Files<S>, reply: &SentReply<S::Heap>)
-    requires counts { counts_out files.old.nodes (files_of files.old.nodes (files_in_reply (sent_wire reply.now))) ≡ false }
+    requires counts { counts_out files.old.nodes (files_of files.old.nodes (files_in_reply (sent_wire reply.now)))
+        ≡ false }
     requires used { AreUsed (2 ^ 62) files.old.handles }
     ensures tree { files.new.tree ≡ files.old.tree }
     ensures nodes { files.new.nodes ≡ rows_counted files.old.nodes (files_in_reply (sent_wire reply.now)) }

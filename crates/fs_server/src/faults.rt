@@ -24,20 +24,22 @@ const INTERRUPT: u32 = 36;
 
 const BATCH_FORGET: u32 = 42;
 
-/// Appends the 16 bytes of the error reply to a frame that a server of minor 31 refused with a fault; `fault_reply_at` says more.
+/// Appends the 16 bytes of the error reply to a frame that a server of minor 31 refused with a fault; `fault_reply_at`
+/// says more.
 pub fn fault_reply<A: Allocator>(bytes: &[u8], fault: ServerFault, out: &mut Vec<u8, A>) -> bool
     requires { vec_len out.old + 16 ≤ vec_capacity out.old }
     ensures none { result ≡ false → (IsAnswerable bytes.now fault → ⊥) × (out.new.items ≡ out.old.items) }
     ensures len { result ≡ true → length out.new.items ≡ length out.old.items + 16 }
-    ensures replied { result ≡ true → IsAnswerable bytes.now fault × FaultReplied M31 bytes.now out.old.items out.new.items }
+    ensures replied { result ≡ true → IsAnswerable bytes.now fault
+        × FaultReplied M31 bytes.now out.old.items out.new.items }
 {
     fault_reply_at(Minor::M31, bytes, fault, out)
 }
 
-/// Appends the 16 bytes of the error reply to a frame that a server of a minor refused with a fault, and says whether there is one:
-/// ENOSYS where the minor does not know the opcode, else EIO. There is none to a frame with no whole header or of another length than
-/// it says, to FORGET, INTERRUPT and BATCH_FORGET, and for a repeated unique, a counter at its end or want of memory. No memory is
-/// taken.
+/// Appends the 16 bytes of the error reply to a frame that a server of a minor refused with a fault, and says whether
+/// there is one: ENOSYS where the minor does not know the opcode, else EIO. There is none to a frame with no whole
+/// header or of another length than it says, to FORGET, INTERRUPT and BATCH_FORGET, and for a repeated unique, a
+/// counter at its end or want of memory. No memory is taken.
 pub fn fault_reply_at<A: Allocator>(
     minor: Minor,
     bytes: &[u8],
@@ -47,7 +49,8 @@ pub fn fault_reply_at<A: Allocator>(
     requires { vec_len out.old + 16 ≤ vec_capacity out.old }
     ensures none { result ≡ false → (IsAnswerable bytes.now fault → ⊥) × (out.new.items ≡ out.old.items) }
     ensures len { result ≡ true → length out.new.items ≡ length out.old.items + 16 }
-    ensures replied { result ≡ true → IsAnswerable bytes.now fault × FaultReplied minor bytes.now out.old.items out.new.items }
+    ensures replied { result ≡ true → IsAnswerable bytes.now fault
+        × FaultReplied minor bytes.now out.old.items out.new.items }
 {
     let Ok((code, unique)) = read_request_head(bytes) else {
         return false;

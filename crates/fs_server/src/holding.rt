@@ -19,7 +19,8 @@ pub(crate) fn held_request<A: Allocator + Copy, S: NodeStore>(
     request: &Request<'_>,
 ) -> Result<HeldRequest<A>, AllocError>
     requires { is_held (request_content request.now.body) ≡ true }
-    ensures { IfOk result (λ held. held ≡ held_for nodes.now.table request.now.nodeid (request_content request.now.body)) }
+    ensures { IfOk result (λ held. held ≡ held_for nodes.now.table request.now.nodeid
+        (request_content request.now.body)) }
 {
     let body = held_body(alloc, request.nodeid, &request.body)?;
     let named = named_nodes(nodes, request.nodeid, &request.body);

@@ -21,7 +21,8 @@ use fuse_spec::errno::EAGAIN;
 use std::alloc::Allocator;
 
 impl<S: NodeStore> ServerOf<S> {
-    /// Takes an INTERRUPT: it marks a request that is held, is ignored while the request's reply is kept, and else is answered EAGAIN.
+    /// Takes an INTERRUPT: it marks a request that is held, is ignored while the request's reply is kept, and else is
+    /// answered EAGAIN.
     ///
     /// # Errors
     ///
@@ -49,7 +50,8 @@ impl<S: NodeStore> ServerOf<S> {
 
     /// Marks a request that is held.
     fn mark(&mut self, original: u64)
-        ensures { (h : HeldState) → get self.old.held original ≡ Some h → self.new ≡ record self.old { held = put self.old.held original (record h { marked = true }) } }
+        ensures { (h : HeldState) → get self.old.held original ≡ Some h
+            → self.new ≡ record self.old { held = put self.old.held original (record h { marked = true }) } }
     {
         let Some(held) = self.held.remove(original) else {
             return;

@@ -28,8 +28,8 @@ impl<S: NodeStore> ServerOf<S> {
         self.judged(bytes).err()
     }
 
-    /// Whether taking a frame sends a copy of a reply at once: to an INTERRUPT of a request that is not held and whose reply is not
-    /// kept. A frame that is refused is not answered.
+    /// Whether taking a frame sends a copy of a reply at once: to an INTERRUPT of a request that is not held and whose
+    /// reply is not kept. A frame that is refused is not answered.
     pub fn take_answers(&self, bytes: &[u8]) -> bool
         ensures { IsTrue result ↔ AnswersFrame self.now bytes.now }
     {
@@ -70,8 +70,10 @@ impl<S: NodeStore> ServerOf<S> {
 
     /// What is wrong with a request, want of memory and of a number aside.
     fn request_fault(&self, request: &Request<'_>) -> Option<ServerFault>
-        ensures fault { result ≡ request_fault self.now request.now.unique (body_in request.now.nodeid (request_content request.now.body)) }
-        ensures faultless { IfNone result (IsFaultless self.now request.now.unique request.now.nodeid (request_content request.now.body)) }
+        ensures fault { result ≡ request_fault self.now request.now.unique
+            (body_in request.now.nodeid (request_content request.now.body)) }
+        ensures faultless { IfNone result (IsFaultless self.now request.now.unique request.now.nodeid
+            (request_content request.now.body)) }
     {
         if !is_spoken(self.minor, request.nodeid, &request.body) {
             return Some(ServerFault::Wire);
@@ -100,7 +102,8 @@ impl<S: NodeStore> ServerOf<S> {
     }
 }
 
-/// Whether the minor knows what a request asks: 7.15 has no READDIRPLUS and no BATCH_FORGET (linux/fuse.h, enum fuse_opcode).
+/// Whether the minor knows what a request asks: 7.15 has no READDIRPLUS and no BATCH_FORGET (linux/fuse.h, enum
+/// fuse_opcode).
 fn is_spoken(minor: Minor, nodeid: u64, body: &RequestBody<'_>) -> bool
     ensures { result ≡ is_spoken minor nodeid (request_content body.now) }
 {
@@ -154,7 +157,8 @@ fn forgets_too_many<S: NodeStore>(nodes: &Nodes<S>, nodeid: u64, body: &RequestB
 
 /// Whether more lookups of some node are given back by all these pairs than it has.
 fn some_has_fewer<S: NodeStore>(nodes: &Nodes<S>, pairs: Pairs<'_>) -> bool
-    ensures { result ≡ list_any (λ f. nat_lt (count_in (get nodes.now.table.rows f.0)) (forgotten f.0 (pairs_in pairs.entry))) (pairs_in pairs.entry) }
+    ensures { result ≡ list_any (λ f. nat_lt (count_in (get nodes.now.table.rows f.0))
+        (forgotten f.0 (pairs_in pairs.entry))) (pairs_in pairs.entry) }
 {
     'pairs: for (nodeid, _) in pairs {
         if has_fewer(nodes.count_of(nodeid), nodeid, pairs) {

@@ -15,8 +15,9 @@ use fuse_spec::limits::COUNTER_END;
 use std::alloc::AllocError;
 
 impl<S: NodeStore> ServerOf<S> {
-    /// Why a held request cannot be performed, want of memory aside: `NoSuch` where none is held under the unique, `Exhausted`
-    /// where a counter from which it draws is at its end, or the lookups of a node that its reply tells would come to it.
+    /// Why a held request cannot be performed, want of memory aside: `NoSuch` where none is held under the unique,
+    /// `Exhausted` where a counter from which it draws is at its end, or the lookups of a node that its reply tells
+    /// would come to it.
     pub fn perform_refusal(&self, unique: u64) -> Option<Refusal>
         ensures refuses { IfSome result (RefusesHeld self.now unique) }
         ensures none { IfNone result (CanPerform self.now unique) }
@@ -33,13 +34,14 @@ impl<S: NodeStore> ServerOf<S> {
         None
     }
 
-    /// Performs a held request, and gives the first copy of its reply. A request that an INTERRUPT marked is answered EINTR, one
-    /// whose node is gone EIO. After an abort a request is performed, but no node and no open number is given, and no copy is sent.
+    /// Performs a held request, and gives the first copy of its reply. A request that an INTERRUPT marked is answered
+    /// EINTR, one whose node is gone EIO. After an abort a request is performed, but no node and no open number is
+    /// given, and no copy is sent.
     ///
     /// # Errors
     ///
-    /// `NoSuch` where no request is held under the unique, `Exhausted` where a counter is at its end or the lookups of a node would
-    /// come to it; then `NoMemory`. The server is as before.
+    /// `NoSuch` where no request is held under the unique, `Exhausted` where a counter is at its end or the lookups of
+    /// a node would come to it; then `NoMemory`. The server is as before.
     pub fn perform(&mut self, unique: u64) -> Result<Done<S::Heap>, Refusal>
         ensures err { OnErr result (self.new ≡ self.old) }
         ensures refusal { IfErr result (λ refusal. RefusesHeld self.old unique refusal ⊎ (refusal ≡ NoMemory)) }

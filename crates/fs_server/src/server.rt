@@ -41,8 +41,8 @@ pub struct Done<A: Allocator = Global> {
     pub copy: Option<ReplyCopy<A>>,
 }
 
-/// What became of a request that was taken, and the copy of a reply that was sent at once: that to an INTERRUPT of a request that is
-/// not known.
+/// What became of a request that was taken, and the copy of a reply that was sent at once: that to an INTERRUPT of a
+/// request that is not known.
 #[derive(Drop)]
 pub struct Took<A: Allocator = Global> {
     pub unique: u64,
@@ -128,7 +128,8 @@ impl<S: NodeStore> ServerOf<S> {
         self.minor
     }
 
-    /// The mount is aborted: kept replies and copies go, and what is held stays until the next mount. No memory is taken.
+    /// The mount is aborted: kept replies and copies go, and what is held stays until the next mount. No memory is
+    /// taken.
     pub fn connection_lost(&mut self)
         ensures { self.new ≡ connection_lost self.old }
     {
@@ -137,8 +138,9 @@ impl<S: NodeStore> ServerOf<S> {
         self.is_aborted = true;
     }
 
-    /// A new mount: the nodes, open numbers, held requests, kept replies and copies go, and so do nameless files; the tree stays, and
-    /// generations, open numbers and copy numbers go on. Validities are in milliseconds; the minor is the one that is spoken.
+    /// A new mount: the nodes, open numbers, held requests, kept replies and copies go, and so do nameless files; the
+    /// tree stays, and generations, open numbers and copy numbers go on. Validities are in milliseconds; the minor is
+    /// the one that is spoken.
     pub fn remount(&mut self, found_ms: u64, missing_ms: u64, minor: Minor)
         requires found { found_ms ≤ max_validity }
         requires missing { missing_ms ≤ max_validity }

@@ -16,8 +16,8 @@ use fuse_tables::Table;
 use std::alloc::Allocator;
 
 impl<S: NodeStore> ServerOf<S> {
-    /// Hands the server the result of one copy. Its reply is not kept any longer, and what a refused copy carried is given back.
-    /// No memory is taken.
+    /// Hands the server the result of one copy. Its reply is not kept any longer, and what a refused copy carried is
+    /// given back. No memory is taken.
     ///
     /// # Errors
     ///

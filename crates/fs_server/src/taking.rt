@@ -21,16 +21,17 @@ use fs_nodes::NodeStore;
 use fuse_spec::Taken;
 
 impl<S: NodeStore> ServerOf<S> {
-    /// Takes a request frame: forgets and INTERRUPTs are done at once, and any other request is held until it is performed. Memory is
-    /// taken only by what is held and by an INTERRUPT that is answered.
+    /// Takes a request frame: forgets and INTERRUPTs are done at once, and any other request is held until it is
+    /// performed. Memory is taken only by what is held and by an INTERRUPT that is answered.
     ///
     /// # Errors
     ///
-    /// The first of `Wire`, `UnknownNode`, `TooManyForgets`, `RepeatedUnique`, `Exhausted` and `Memory` that applies; the server is as
-    /// before.
+    /// The first of `Wire`, `UnknownNode`, `TooManyForgets`, `RepeatedUnique`, `Exhausted` and `Memory` that applies;
+    /// the server is as before.
     pub fn take(&mut self, bytes: &[u8]) -> Result<Took<S::Heap>, ServerFault>
         ensures refused { OnErr result (self.new ≡ self.old) }
-        ensures effect { MatchResult result (λ took. TakesFrame self.old bytes.now took self.new) (RefusesFrame self.old bytes.now) }
+        ensures effect { MatchResult result (λ took. TakesFrame self.old bytes.now took self.new)
+            (RefusesFrame self.old bytes.now) }
         ensures memory { IfErr result (λ fault. fault ≡ MemoryFault → WantsMemory self.old bytes.now) }
         ensures can { IfErr result (λ fault. fault ≡ MemoryFault → CanTake self.old bytes.now) }
     {
@@ -49,12 +50,18 @@ impl<S: NodeStore> ServerOf<S> {
 
     /// Holds a request until it is performed.
     fn hold(&mut self, request: &Request<'_>) -> Result<Took<S::Heap>, ServerFault>
-        requires faultless { IsFaultless self.old request.now.unique request.now.nodeid (request_content request.now.body) }
+        requires faultless { IsFaultless self.old request.now.unique request.now.nodeid
+            (request_content request.now.body) }
         requires holds { is_held (request_content request.now.body) ≡ true }
         ensures refused { OnErr result (self.new ≡ self.old) }
         ensures fault { IfErr result (λ fault. fault ≡ MemoryFault) }
-        ensures took { IfOk result (λ took. took ≡ record { unique = request.now.unique; word = HeldWord; copy = None }) }
-        ensures held { OnOk result (self.new ≡ holding self.old request.now.unique (body_of request.now.nodeid (request_content request.now.body))) }
+        ensures took { IfOk result (λ took. took ≡ record {
+          unique = request.now.unique;
+          word = HeldWord;
+          copy = None;
+        }) }
+        ensures held { OnOk result (self.new ≡ holding self.old request.now.unique
+            (body_of request.now.nodeid (request_content request.now.body))) }
     {
         let Ok(()) = self.held.reserve(1) else {
             return Err(ServerFault::Memory);
@@ -111,7 +118,8 @@ fn forget_one<S: NodeStore>(files: &mut Files<S>, nodeid: u64, nlookup: u64)
 
 /// Gives lookups back, pair by pair.
 fn forget_all<S: NodeStore>(files: &mut Files<S>, pairs: Pairs<'_>)
-    requires enough { list_any (λ f. nat_lt (count_in (get files.old.nodes.rows f.0)) (forgotten f.0 (pairs_in pairs))) (pairs_in pairs) ≡ false }
+    requires enough { list_any (λ f. nat_lt (count_in (get files.old.nodes.rows f.0)) (forgotten f.0 (pairs_in pairs)))
+        (pairs_in pairs) ≡ false }
     requires named { AreNamed files.old.tree files.old.nodes files.old.handles }
     ensures { TakesBack files.old (pairs_in pairs.entry) files.new }
 {

@@ -44,15 +44,19 @@ module _ (top : ℕ) where
   up : (steps : ℕ) (names : List Named) (dir : ℕ) → Goes steps names dir → Within (suc steps) names top dir
   up steps names dir goes = by (nat_eq dir top) (ap (onward steps names top) goes.1 ∙ goes.2)
     where
-      by : (b : Bool) → onward steps names top (first_of names dir) ≡ true → cond b true (onward steps names top (first_of names dir)) ≡ true
+      by : (b : Bool) → onward steps names top (first_of names dir) ≡ true
+          → cond b true (onward steps names top (first_of names dir)) ≡ true
       by true rest = refl
       by false rest = rest
 
   -- a way ends here or goes on
-  split : (steps : ℕ) (names : List Named) (dir : ℕ) → Within (suc steps) names top dir → (nat_eq dir top ≡ true) ⊎ ((nat_eq dir top ≡ false) × Goes steps names dir)
+  split : (steps : ℕ) (names : List Named) (dir : ℕ) → Within (suc steps) names top dir
+      → (nat_eq dir top ≡ true) ⊎ ((nat_eq dir top ≡ false) × Goes steps names dir)
   split steps names dir within = by (nat_eq dir top) refl (first_of names dir) refl within
     where
-      by : (b : Bool) → nat_eq dir top ≡ b → (o : Option Named) → first_of names dir ≡ o → cond b true (onward steps names top o) ≡ true → (nat_eq dir top ≡ true) ⊎ ((nat_eq dir top ≡ false) × Goes steps names dir)
+      by : (b : Bool) → nat_eq dir top ≡ b → (o : Option Named) → first_of names dir ≡ o
+          → cond b true (onward steps names top o) ≡ true → (nat_eq dir top ≡ true)
+          ⊎ ((nat_eq dir top ≡ false) × Goes steps names dir)
       by true e o at rest = inl e
       by false e None at rest = absurd (true≢false (sym rest))
       by false e (Some n) at rest = inr (e, (n, at, rest))
@@ -66,10 +70,13 @@ module _ (top : ℕ) where
   ]
 
   -- the first name of a file, where another file's names are gone
-  kept_first : (names : List Named) (file dir : ℕ) → nat_eq dir file ≡ false → first_of (others names file) dir ≡ first_of names dir
-  kept_first names file dir apart = find-kept (λ n. nat_eq n.file dir) (λ n. nat_eq n.file file) (λ n passes. grind (arith, nat_tests, passes, apart)) names
+  kept_first : (names : List Named) (file dir : ℕ) → nat_eq dir file ≡ false
+      → first_of (others names file) dir ≡ first_of names dir
+  kept_first names file dir apart = find-kept (λ n. nat_eq n.file dir) (λ n. nat_eq n.file file)
+      (λ n passes. grind (arith, nat_tests, passes, apart)) names
 
-  was_first : (names : List Named) (file dir : ℕ) (n : Named) → first_of (others names file) dir ≡ Some n → first_of names dir ≡ Some n
+  was_first : (names : List Named) (file dir : ℕ) (n : Named) → first_of (others names file) dir ≡ Some n
+      → first_of names dir ≡ Some n
   was_first names file dir n at = by (nat_eq dir file) refl
     where
       none_some : None ≡ Some n → ⊥
@@ -78,34 +85,44 @@ module _ (top : ℕ) where
       by : (b : Bool) → nat_eq dir file ≡ b → first_of names dir ≡ Some n
       by true e =
           let same = same_number dir file e in
-          absurd (none_some (sym (find-gone (λ m. nat_eq m.file dir) names) ∙ subst (λ f. first_of (others names f) dir ≡ Some n) (sym same) at))
+          absurd (none_some (sym (find-gone (λ m. nat_eq m.file dir) names) ∙ subst
+          (λ f. first_of (others names f) dir ≡ Some n) (sym same) at))
       by false e = sym (kept_first names file dir e) ∙ at
 
   -- a way among fewer names is one among all
-  regain : (steps : ℕ) (names : List Named) (file dir : ℕ) → Within steps (others names file) top dir → Within steps names top dir
+  regain : (steps : ℕ) (names : List Named) (file dir : ℕ) → Within steps (others names file) top dir
+      → Within steps names top dir
   regain zero names file dir within = within
   regain (suc steps) names file dir within = elim (split steps (others names file) dir within) [
     | inl e ↦ here (suc steps) names dir e
-    | inr goes ↦ up steps names dir (goes.1.0, was_first names file dir goes.1.0 goes.1.1, regain steps names file goes.1.0.directory goes.1.2)
+    | inr goes ↦ up steps names dir (
+      goes.1.0,
+      was_first names file dir goes.1.0 goes.1.1,
+      regain steps names file goes.1.0.directory goes.1.2,
+    )
   ]
 
   -- a way leads past the names of a file, or on from that file
-  avoid : (steps : ℕ) (names : List Named) (file dir : ℕ) → Within steps names top dir → Within steps (others names file) top dir ⊎ Within steps names top file
+  avoid : (steps : ℕ) (names : List Named) (file dir : ℕ) → Within steps names top dir
+      → Within steps (others names file) top dir ⊎ Within steps names top file
   avoid zero names file dir within = inl within
   avoid (suc steps) names file dir within = elim (split steps names dir within) [
     | inl e ↦ inl (here (suc steps) (others names file) dir e)
     | inr goes ↦ past (nat_eq dir file) refl goes.1 (avoid steps names file goes.1.0.directory goes.1.2)
   ]
     where
-      past : (b : Bool) → nat_eq dir file ≡ b → (goes : Goes steps names dir) → Within steps (others names file) top goes.0.directory ⊎ Within steps names top file
+      past : (b : Bool) → nat_eq dir file ≡ b → (goes : Goes steps names dir)
+          → Within steps (others names file) top goes.0.directory ⊎ Within steps names top file
           → Within (suc steps) (others names file) top dir ⊎ Within (suc steps) names top file
       past true e goes rest = inr (subst (Within (suc steps) names top) (same_number dir file e) within)
-      past false e goes (inl h) = inl (up steps (others names file) dir (goes.0, kept_first names file dir e ∙ goes.1, h))
+      past false e goes (inl h) = inl (up steps (others names file) dir
+          (goes.0, kept_first names file dir e ∙ goes.1, h))
       past false e goes (inr h) = inr (more steps names file h)
 
   -- no way needs more steps than there are names
   abbrev Short : ℕ → Type 0
-  Short size = (steps : ℕ) (names : List Named) (dir : ℕ) → length names ≤ size → Within steps names top dir → Within size names top dir
+  Short size = (steps : ℕ) (names : List Named) (dir : ℕ) → length names ≤ size → Within steps names top dir
+      → Within size names top dir
 
   shorter : (size : ℕ) → Short size → Short (suc size)
   shorter size short zero names dir few within = here (suc size) names dir within
@@ -115,14 +132,23 @@ module _ (top : ℕ) where
       | inl h ↦
           let fewer = length-without (λ m. nat_eq m.file dir) names goes.1.0 goes.1.1 in
           let less : length (others names dir) ≤ size = omega (arith, fewer, few) in
-          up size names dir (goes.1.0, goes.1.1, regain size names dir goes.1.0.directory (short steps (others names dir) goes.1.0.directory less h))
+          up size names dir (
+            goes.1.0,
+            goes.1.1,
+            regain size names dir goes.1.0.directory
+                (short steps (others names dir) goes.1.0.directory less h),
+          )
       | inr h ↦ shorter size short steps names dir few h
     ]
   ]
 
   none_left : Short zero
   none_left zero names dir few within = within
-  none_left (suc steps) [] dir few within = elim (split steps [] dir within) [ inl e ↦ e | inr goes ↦ absurd (cc (goes.1.1)) ]
+  none_left (suc steps) [] dir few within = elim (split steps [] dir within) [
+    | inl e ↦ e
+    | inr goes ↦ absurd
+        (cc (goes.1.1))
+  ]
   none_left (suc steps) (n ∷ names) dir few within = absurd (omega (arith, few))
 
   short : (size : ℕ) → Short size
@@ -137,22 +163,28 @@ module _ (tree : Tree) (top : ℕ) where
     | inl e ↦ is_top dir (same_number dir top e)
     | inr goes ↦
         let n = goes.1.0 in
-        is_in n dir (found_there (λ m. nat_eq m.file dir) tree.names n goes.1.1) (same_number n.file dir (found_passes (λ m. nat_eq m.file dir) tree.names n goes.1.1)) (leads steps n.directory goes.1.2)
+        is_in n dir (found_there (λ m. nat_eq m.file dir) tree.names n goes.1.1)
+        (same_number n.file dir (found_passes (λ m. nat_eq m.file dir) tree.names n goes.1.1))
+        (leads steps n.directory goes.1.2)
   ]
 
   module _ (shaped : IsShaped tree) where
     -- a directory has no other name
-    first_is : (n : Named) (dir : ℕ) → Contains tree.names n → n.file ≡ dir → is_directory tree dir ≡ true → first_of tree.names dir ≡ Some n
+    first_is : (n : Named) (dir : ℕ) → Contains tree.names n → n.file ≡ dir → is_directory tree dir ≡ true
+        → first_of tree.names dir ≡ Some n
     first_is n dir there at directory = by (first_of tree.names dir) refl
       where
         by : (o : Option Named) → first_of tree.names dir ≡ o → o ≡ Some n
-        by None none = absurd (true≢false (sym (eq-eqb n.file dir at) ∙ All-contains (λ m. nat_eq m.file dir ≡ false) tree.names n (none_passes (λ m. nat_eq m.file dir) tree.names none) there))
+        by None none = absurd (true≢false (sym (eq-eqb n.file dir at) ∙ All-contains
+            (λ m. nat_eq m.file dir ≡ false) tree.names n (none_passes (λ m. nat_eq m.file dir) tree.names none) there))
         by (Some m) found =
             let one = only_one (λ k. nat_eq k.file dir) tree.names m (shaped.one_name dir directory) found in
-            ap Some (sym (All-contains (λ k. nat_eq k.file dir ≡ true → k ≡ m) tree.names n one there (eq-eqb n.file dir at)))
+            ap Some (sym (All-contains (λ k. nat_eq k.file dir ≡ true → k ≡ m) tree.names n one there
+            (eq-eqb n.file dir at)))
 
     -- the parents of a directory are followed by some steps up
-    steps_up : (dir : ℕ) → IsBelow tree top dir → is_directory tree dir ≡ true → (steps : ℕ) × Within steps tree.names top dir
+    steps_up : (dir : ℕ) → IsBelow tree top dir → is_directory tree dir ≡ true
+        → (steps : ℕ) × Within steps tree.names top dir
     steps_up dir (is_top _ at) directory = (0, eq-eqb dir top at)
     steps_up dir (is_in n _ there at below) directory =
         let stands = All-contains (Stands tree) tree.names n shaped.names there in
@@ -162,7 +194,8 @@ module _ (tree : Tree) (top : ℕ) where
     pub below_exactly : (dir : ℕ) → is_directory tree dir ≡ true → (is_below tree top dir ≡ true) ↔ IsBelow tree top dir
     below_exactly dir directory = (
       leads (length tree.names) dir,
-      λ below. let way = steps_up dir below directory in short top (length tree.names) way.0 tree.names dir (omega arith) way.1,
+      λ below. let way = steps_up dir below directory in
+          short top (length tree.names) way.0 tree.names dir (omega arith) way.1,
     )
 
 -- ---- a rename into the moved directory or below it
@@ -170,7 +203,9 @@ module _ (tree : Tree) (top : ℕ) where
 -- what a rename is refused for after it
 abbrev replacing : Tree → Option ℕ → Option ℕ → List Check
 replacing tree moved there =
-    (replaces moved there && (is_dir tree moved && is_file tree there), enotdir) ∷ (replaces moved there && (is_file tree moved && is_dir tree there), eisdir) ∷ (replaces moved there && is_filled tree there, enotempty) ∷ []
+    (replaces moved there && (is_dir tree moved && is_file tree there), enotdir) ∷
+    (replaces moved there && (is_file tree moved && is_dir tree there), eisdir) ∷
+    (replaces moved there && is_filled tree there, enotempty) ∷ []
 
 other_error : (a b : ℕ) → nat_eq a b ≡ false → Some a ≡ Some b → ⊥
 other_error a b apart e = let same : a ≡ b = cc in true≢false (sym (eq-eqb a b same) ∙ apart)
@@ -181,17 +216,24 @@ other_errors false true c e = other_error eisdir einval refl e
 other_errors false false true e = other_error enotempty einval refl e
 other_errors false false false e = absurd (cc)
 
-module _ (tree : Tree) (shaped : IsShaped tree) (from to moved : ℕ) (old new : Name) (from_is : is_directory tree from ≡ true) (to_is : is_directory tree to ≡ true) (at : file_at tree from old ≡ Some moved) (named : is_nameless tree to ≡ false) where
-  comes_to : refusal tree (rename from old to new) ≡ cond (is_directory tree moved && is_below tree moved to) (Some einval) (first_refusal (replacing tree (Some moved) (file_at tree to new)))
+module _ (tree : Tree) (shaped : IsShaped tree) (from to moved : ℕ) (old new : Name)
+    (from_is : is_directory tree from ≡ true) (to_is : is_directory tree to ≡ true)
+    (at : file_at tree from old ≡ Some moved) (named : is_nameless tree to ≡ false) where
+  comes_to : refusal tree (rename from old to new)
+      ≡ cond (is_directory tree moved && is_below tree moved to) (Some einval)
+      (first_refusal (replacing tree (Some moved) (file_at tree to new)))
   comes_to = rw (from_is, to_is, at, named) refl
 
-  pub refused_below : (refusal tree (rename from old to new) ≡ Some einval) ↔ ((is_directory tree moved ≡ true) × IsBelow tree moved to)
+  pub refused_below : (refusal tree (rename from old to new) ≡ Some einval) ↔
+      ((is_directory tree moved ≡ true) × IsBelow tree moved to)
   refused_below = (
     λ refused. into (is_directory tree moved) refl (is_below tree moved to) refl (sym comes_to ∙ refused),
     λ below. comes_to ∙ rw (below.0, (below_exactly tree moved shaped to to_is).1 below.1) refl,
   )
     where
-      into : (b : Bool) → is_directory tree moved ≡ b → (c : Bool) → is_below tree moved to ≡ c → cond (b && c) (Some einval) (first_refusal (replacing tree (Some moved) (file_at tree to new))) ≡ Some einval → (is_directory tree moved ≡ true) × IsBelow tree moved to
+      into : (b : Bool) → is_directory tree moved ≡ b → (c : Bool) → is_below tree moved to ≡ c
+          → cond (b && c) (Some einval) (first_refusal (replacing tree (Some moved) (file_at tree to new)))
+          ≡ Some einval → (is_directory tree moved ≡ true) × IsBelow tree moved to
       into true d true e refused = (d, (below_exactly tree moved shaped to to_is).0 e)
       into true d false e refused = absurd (other_errors _ _ _ refused)
       into false d c e refused = absurd (other_errors _ _ _ refused)

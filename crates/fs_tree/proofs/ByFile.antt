@@ -19,50 +19,66 @@ use Rattle.fs_tree.proofs.SerialRows.{put-undone}
 
 -- ---- what is read
 
-first-found : (p : Named → Bool) (names : List Named) → option_map (λ e. e.1) (slice_get (map parent_of (filter p names)) 0) ≡ option_map (λ n. n.directory) (find p names)
+first-found : (p : Named → Bool) (names : List Named)
+    → option_map (λ e. e.1) (slice_get (map parent_of (filter p names)) 0)
+    ≡ option_map (λ n. n.directory) (find p names)
 first-found p [] = refl
 first-found p (n ∷ names) = by (p n) (first-found p names)
   where
-    by : (b : Bool) → option_map (λ e. e.1) (slice_get (map parent_of (filter p names)) 0) ≡ option_map (λ n. n.directory) (find p names)
-        → option_map (λ e. e.1) (slice_get (map parent_of (cond b (n ∷ filter p names) (filter p names))) 0) ≡ option_map (λ n. n.directory) (cond b (Some n) (find p names))
+    by : (b : Bool) → option_map (λ e. e.1) (slice_get (map parent_of (filter p names)) 0)
+        ≡ option_map (λ n. n.directory) (find p names)
+        → option_map (λ e. e.1) (slice_get (map parent_of (cond b (n ∷ filter p names) (filter p names))) 0)
+        ≡ option_map (λ n. n.directory) (cond b (Some n) (find p names))
     by true rest = refl
     by false rest = rest
 
 module _ (parents : ℕ → List (ℕ × ℕ)) (names : List Named) (by_file : AreByFile parents names) where
   pub count-in : (file : ℕ) → length (parents file) ≡ count_by (λ n. nat_eq n.file file) names
-  count-in file = ap length (by_file file) ∙ length-map parent_of (filter (λ n. nat_eq n.file file) names) ∙ length-filter (λ n. nat_eq n.file file) names
+  count-in file = ap length (by_file file) ∙ length-map parent_of
+      (filter (λ n. nat_eq n.file file) names) ∙ length-filter (λ n. nat_eq n.file file) names
 
-  pub parent-in : (file : ℕ) → option_map (λ e. e.1) (slice_get (parents file) 0) ≡ option_map (λ n. n.directory) (find (λ n. nat_eq n.file file) names)
-  parent-in file = ap (λ l. option_map (λ e. e.1) (slice_get l 0)) (by_file file) ∙ first-found (λ n. nat_eq n.file file) names
+  pub parent-in : (file : ℕ) → option_map (λ e. e.1) (slice_get (parents file) 0)
+      ≡ option_map (λ n. n.directory) (find (λ n. nat_eq n.file file) names)
+  parent-in file = ap (λ l. option_map (λ e. e.1) (slice_get l 0)) (by_file file) ∙ first-found
+      (λ n. nat_eq n.file file) names
 
 -- ---- serials below the next
 
 below-mapped : (low next : ℕ) (names : List Named) → IsRising low names next → AreBelow next (map parent_of names)
 below-mapped low next [] rising = tt
-below-mapped low next (n ∷ names) rising = (first (n.serial) names rising.1, below-mapped (n.serial + 1) next names rising.1)
+below-mapped low next (n ∷ names) rising = (
+  first (n.serial) names rising.1,
+  below-mapped (n.serial + 1) next names rising.1,
+)
   where
     first : (s : ℕ) (names : List Named) → IsRising (s + 1) names next → s < next
     first s [] rising = omega (arith, rising)
     first s (m ∷ names) rising = let rest = first m.serial names rising.1 in omega (arith, rising.0)
 
-pub below-parents : (low next : ℕ) (parents : ℕ → List (ℕ × ℕ)) (names : List Named) → AreByFile parents names → IsRising low names next → (file : ℕ) → AreBelow next (parents file)
+pub below-parents : (low next : ℕ) (parents : ℕ → List (ℕ × ℕ)) (names : List Named) → AreByFile parents names
+    → IsRising low names next → (file : ℕ) → AreBelow next (parents file)
 below-parents low next parents names by_file rising file =
-    rw (by_file file) (below-mapped low next (filter (λ n. nat_eq n.file file) names) (IsRising-where (λ n. nat_eq n.file file) low next names rising))
+    rw (by_file file) (below-mapped low next (filter (λ n. nat_eq n.file file) names)
+    (IsRising-where (λ n. nat_eq n.file file) low next names rising))
 
 -- ---- what changes
 
 -- the same parents
-pub AreByFile-same : (parents after : ℕ → List (ℕ × ℕ)) (names : List Named) → ((k : ℕ) → after k ≡ parents k) → AreByFile parents names → AreByFile after names
+pub AreByFile-same : (parents after : ℕ → List (ℕ × ℕ)) (names : List Named) → ((k : ℕ) → after k ≡ parents k)
+    → AreByFile parents names → AreByFile after names
 AreByFile-same parents after names same by_file = λ k. same k ∙ by_file k
 
 -- a name put last
-pub AreByFile-pushed : (parents after : ℕ → List (ℕ × ℕ)) (names : List Named) (n : Named) → ((k : ℕ) → after k ≡ cond (nat_eq n.file k) (parents k ++ (n.serial, n.directory) ∷ []) (parents k))
+pub AreByFile-pushed : (parents after : ℕ → List (ℕ × ℕ)) (names : List Named) (n : Named)
+    → ((k : ℕ) → after k ≡ cond (nat_eq n.file k) (parents k ++ (n.serial, n.directory) ∷ []) (parents k))
     → AreByFile parents names → AreByFile after (names ++ n ∷ [])
 AreByFile-pushed parents after names n is by_file = λ k.
-    is k ∙ by k (nat_eq n.file k) ∙ sym (map-append parent_of (filter (λ m. nat_eq m.file k) names) (cond (nat_eq n.file k) (n ∷ []) []))
+    is k ∙ by k (nat_eq n.file k) ∙ sym (map-append parent_of (filter (λ m. nat_eq m.file k) names)
+    (cond (nat_eq n.file k) (n ∷ []) []))
     ∙ ap (map parent_of) (sym (filter-append (λ m. nat_eq m.file k) names (n ∷ [])))
   where
-    by : (k : ℕ) (b : Bool) → cond b (parents k ++ (n.serial, n.directory) ∷ []) (parents k) ≡ map parent_of (filter (λ m. nat_eq m.file k) names) ++ map parent_of (cond b (n ∷ []) [])
+    by : (k : ℕ) (b : Bool) → cond b (parents k ++ (n.serial, n.directory) ∷ []) (parents k)
+        ≡ map parent_of (filter (λ m. nat_eq m.file k) names) ++ map parent_of (cond b (n ∷ []) [])
     by k true = ap (λ l. l ++ parent_of n ∷ []) (by_file k)
     by k false = by_file k ∙ sym (append-nil (map parent_of (filter (λ m. nat_eq m.file k) names)))
 
@@ -72,9 +88,12 @@ pub AreByFile-undone : (parents put after : ℕ → List (ℕ × ℕ)) (names : 
     → ((k : ℕ) → after k ≡ cond (nat_eq file k) (filter (λ e. not (nat_eq e.0 serial)) (put k)) (put k))
     → ((k : ℕ) → AreBelow serial (parents k)) → AreByFile parents names → AreByFile after names
 AreByFile-undone parents put after names file serial directory is_put is below by_file = λ k.
-    is k ∙ ap (λ l. cond (nat_eq file k) (filter (λ e. not (nat_eq e.0 serial)) l) l) (is_put k) ∙ by k (nat_eq file k) ∙ by_file k
+    is k ∙ ap (λ l. cond (nat_eq file k) (filter (λ e. not (nat_eq e.0 serial)) l) l) (is_put k) ∙ by k
+    (nat_eq file k) ∙ by_file k
   where
-    by : (k : ℕ) (b : Bool) → cond b (filter (λ e. not (nat_eq e.0 serial)) (cond b (parents k ++ (serial, directory) ∷ []) (parents k))) (cond b (parents k ++ (serial, directory) ∷ []) (parents k)) ≡ parents k
+    by : (k : ℕ) (b : Bool) → cond b (filter (λ e. not (nat_eq e.0 serial))
+        (cond b (parents k ++ (serial, directory) ∷ []) (parents k)))
+        (cond b (parents k ++ (serial, directory) ∷ []) (parents k)) ≡ parents k
     by k true = put-undone (parents k) serial directory (below k)
     by k false = refl
 
@@ -83,26 +102,34 @@ pub AreByFile-removed : (parents after : ℕ → List (ℕ × ℕ)) (low next : 
     → ((k : ℕ) → after k ≡ cond (nat_eq n.file k) (filter (λ e. not (nat_eq e.0 serial)) (parents k)) (parents k))
     → IsRising low names next → find (λ m. nat_eq m.serial serial) names ≡ Some n
     → AreByFile parents names → AreByFile after (filter (λ m. not (nat_eq m.serial serial)) names)
-AreByFile-removed parents after low next names n serial is rising found by_file = λ k. is k ∙ by k (nat_eq n.file k) refl
+AreByFile-removed parents after low next names n serial is rising found by_file =
+    λ k. is k ∙ by k (nat_eq n.file k) refl
   where
-    by : (k : ℕ) (b : Bool) → nat_eq n.file k ≡ b → cond b (filter (λ e. not (nat_eq e.0 serial)) (parents k)) (parents k) ≡ map parent_of (filter (λ m. nat_eq m.file k) (filter (λ m. not (nat_eq m.serial serial)) names))
+    by : (k : ℕ) (b : Bool) → nat_eq n.file k ≡ b → cond b (filter (λ e. not (nat_eq e.0 serial)) (parents k))
+        (parents k) ≡ map parent_of (filter (λ m. nat_eq m.file k) (filter (λ m. not (nat_eq m.serial serial)) names))
     by k true e =
         ap (filter (λ e. not (nat_eq e.0 serial))) (by_file k)
-        ∙ sym (filter-map parent_of (λ m. not (nat_eq m.serial serial)) (λ e. not (nat_eq e.0 serial)) (λ m. refl) (filter (λ m. nat_eq m.file k) names))
+        ∙ sym (filter-map parent_of (λ m. not (nat_eq m.serial serial)) (λ e. not (nat_eq e.0 serial)) (λ m. refl)
+        (filter (λ m. nat_eq m.file k) names))
         ∙ ap (map parent_of) (filter-swap (λ m. not (nat_eq m.serial serial)) (λ m. nat_eq m.file k) names)
-    by k false e = by_file k ∙ ap (map parent_of) (sym (filter-apart (λ m. nat_eq m.file k) serial low next names n rising found e))
+    by k false e = by_file k ∙ ap (map parent_of) (sym
+        (filter-apart (λ m. nat_eq m.file k) serial low next names n rising found e))
 
 -- ---- rows
 
 module _ {A : Type 0} where
   -- the name that a row shows is found by its serial
-  pub row-found : (serial : ℕ) (es : List (ℕ × Row A)) (r : Row A) → lookup (λ k. is_eq (nat_cmp serial k)) es ≡ Some r → find (λ n. nat_eq n.serial serial) (map named_of es) ≡ Some (named_of (serial, r))
+  pub row-found : (serial : ℕ) (es : List (ℕ × Row A)) (r : Row A) → lookup (λ k. is_eq (nat_cmp serial k)) es ≡ Some r
+      → find (λ n. nat_eq n.serial serial) (map named_of es) ≡ Some (named_of (serial, r))
   row-found serial [] r found = cc
-  row-found serial (e ∷ es) r found = by (nat_eq serial e.0) refl (rw (is_eq-nat_cmp serial e.0) at found) (row-found serial es r)
+  row-found serial (e ∷ es) r found = by (nat_eq serial e.0) refl (rw (is_eq-nat_cmp serial e.0) at found)
+      (row-found serial es r)
     where
       by : (b : Bool) → nat_eq serial e.0 ≡ b → cond b (Some e.1) (lookup (λ k. is_eq (nat_cmp serial k)) es) ≡ Some r
-          → (lookup (λ k. is_eq (nat_cmp serial k)) es ≡ Some r → find (λ n. nat_eq n.serial serial) (map named_of es) ≡ Some (named_of (serial, r)))
-          → cond (nat_eq e.0 serial) (Some (named_of e)) (find (λ n. nat_eq n.serial serial) (map named_of es)) ≡ Some (named_of (serial, r))
+          → (lookup (λ k. is_eq (nat_cmp serial k)) es ≡ Some r
+          → find (λ n. nat_eq n.serial serial) (map named_of es) ≡ Some (named_of (serial, r)))
+          → cond (nat_eq e.0 serial) (Some (named_of e)) (find (λ n. nat_eq n.serial serial) (map named_of es))
+          ≡ Some (named_of (serial, r))
       by true same found rest =
           let back : nat_eq e.0 serial ≡ true = grind (arith, common_steps, same) in
           let key : e.0 ≡ serial = grind (arith, common_steps, same) in
@@ -111,7 +138,8 @@ module _ {A : Type 0} where
         where
           some_row : (x y : Row A) → Some x ≡ Some y → x ≡ y
           some_row x y e = cc
-      by false other found rest = let back : nat_eq e.0 serial ≡ false = grind (arith, common_steps, other) in rw back (rest found)
+      by false other found rest = let back : nat_eq e.0 serial ≡ false =
+          grind (arith, common_steps, other) in rw back (rest found)
 
   pub below-rows : (low next : ℕ) (es : List (ℕ × Row A)) → IsRising low (map named_of es) next → AreBelow next es
   below-rows low next [] rising = tt

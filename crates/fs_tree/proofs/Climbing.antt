@@ -17,7 +17,9 @@ module _ (names : List Named) (top directory : ℕ) where
   within-here zero here = eq-eqb directory top here
   within-here (suc steps) here = rw (eq-eqb directory top here) refl
 
-  above : (o : Option Named) (steps : ℕ) → find (λ n. nat_eq n.file directory) names ≡ o → nat_eq directory top ≡ false → is_within (suc steps) names top directory ≡ elim o [ None ↦ false | Some n ↦ is_within steps names top n.directory ]
+  above : (o : Option Named) (steps : ℕ) → find (λ n. nat_eq n.file directory) names ≡ o → nat_eq directory top ≡ false
+      → is_within (suc steps) names top directory
+      ≡ elim o [ None ↦ false | Some n ↦ is_within steps names top n.directory ]
   above o steps at apart = rw (apart, at) refl
 
   -- one step up
@@ -27,10 +29,12 @@ module _ (names : List Named) (top directory : ℕ) where
       let e : steps - i ≡ suc (steps - (i + 1)) = omega arith in
       rw e (by (find (λ n. nat_eq n.file directory) names) refl at)
     where
-      by : (o : Option Named) → find (λ n. nat_eq n.file directory) names ≡ o → option_map (λ n. n.directory) o ≡ Some parent
+      by : (o : Option Named) → find (λ n. nat_eq n.file directory) names ≡ o
+          → option_map (λ n. n.directory) o ≡ Some parent
           → is_within (suc (steps - (i + 1))) names top directory ≡ is_within (steps - (i + 1)) names top parent
       by None found at = cc
-      by (Some n) found at = above (Some n) (steps - (i + 1)) found (other not_here) ∙ ap (is_within (steps - (i + 1)) names top) (same_parent n.directory parent at)
+      by (Some n) found at = above (Some n) (steps - (i + 1)) found (other not_here) ∙ ap
+          (is_within (steps - (i + 1)) names top) (same_parent n.directory parent at)
         where
           same_parent : (a b : ℕ) → Some a ≡ Some b → a ≡ b
           same_parent a b e = cc

@@ -30,8 +30,10 @@ module _ {E : Type 0} (p : E → Bool) where
   found_there [] x found = absurd (cc)
   found_there (y ∷ ys) x found = by (p y) found (found_there ys x)
     where
-      by : (b : Bool) → cond b (Some y) (find p ys) ≡ Some x → (find p ys ≡ Some x → Contains ys x) → Contains (y ∷ ys) x
-      by true f rest = let same : y ≡ x = cc in subst (Contains (y ∷ ys)) same (Contains-append_left (y ∷ []) ys y (Contains-push [] y))
+      by : (b : Bool) → cond b (Some y) (find p ys) ≡ Some x → (find p ys ≡ Some x → Contains ys x)
+          → Contains (y ∷ ys) x
+      by true f rest = let same : y ≡ x = cc in subst (Contains (y ∷ ys)) same
+          (Contains-append_left (y ∷ []) ys y (Contains-push [] y))
       by false f rest = Contains-append_right (y ∷ []) ys x (rest f)
 
   -- where none is found, each fails the test
@@ -39,7 +41,8 @@ module _ {E : Type 0} (p : E → Bool) where
   none_passes [] none = All-nil (λ x. p x ≡ false)
   none_passes (x ∷ xs) none = by (p x) refl none (none_passes xs)
     where
-      by : (b : Bool) → p x ≡ b → cond b (Some x) (find p xs) ≡ None → (find p xs ≡ None → All (λ y. p y ≡ false) xs) → All (λ y. p y ≡ false) (x ∷ xs)
+      by : (b : Bool) → p x ≡ b → cond b (Some x) (find p xs) ≡ None → (find p xs ≡ None → All (λ y. p y ≡ false) xs)
+          → All (λ y. p y ≡ false) (x ∷ xs)
       by true h f rest = absurd (cc)
       by false h f rest = All-cons (λ y. p y ≡ false) x xs h (rest f)
 
@@ -56,11 +59,16 @@ module _ {E : Type 0} (p : E → Bool) where
 
       failing : (zs : List E) → All (λ z. p z ≡ false) zs → All Only zs
       failing [] h = All-nil Only
-      failing (z ∷ zs) h = All-cons Only z zs (λ passes. absurd (true≢false (sym passes ∙ All-head (λ w. p w ≡ false) z zs h))) (failing zs (All-tail (λ w. p w ≡ false) z zs h))
+      failing (z ∷ zs) h = All-cons Only z zs (λ passes. absurd
+          (true≢false (sym passes ∙ All-head (λ w. p w ≡ false) z zs h)))
+          (failing zs (All-tail (λ w. p w ≡ false) z zs h))
 
-      by : (b : Bool) → p y ≡ b → cond b (Some y) (find p ys) ≡ Some x → (count_by p ys ≤ 1 → find p ys ≡ Some x → All Only ys) → All Only (y ∷ ys)
-      by true h f rest = let same : y ≡ x = cc in All-cons Only y ys (λ passes. same) (failing ys (each_fails ys (grind (arith, counted, few, h))))
-      by false h f rest = All-cons Only y ys (λ passes. absurd (true≢false (sym passes ∙ h))) (rest (grind (arith, counted, few, h)) f)
+      by : (b : Bool) → p y ≡ b → cond b (Some y) (find p ys) ≡ Some x
+          → (count_by p ys ≤ 1 → find p ys ≡ Some x → All Only ys) → All Only (y ∷ ys)
+      by true h f rest = let same : y ≡ x = cc in All-cons Only y ys (λ passes. same)
+          (failing ys (each_fails ys (grind (arith, counted, few, h))))
+      by false h f rest = All-cons Only y ys (λ passes. absurd (true≢false (sym passes ∙ h)))
+          (rest (grind (arith, counted, few, h)) f)
 
   -- where each fails the test, none passes
   pub none_counted : (xs : List E) → All (λ x. p x ≡ false) xs → count_by p xs ≡ 0
@@ -96,39 +104,48 @@ module _ {E : Type 0} (p q : E → Bool) where
       counted : count_by p (x ∷ xs) ≡ cond (p x) 1 0 + count_by p xs
       counted = count_by-cons p x xs
 
-      by : (b : Bool) → count_by p (filter q xs) ≤ count_by p xs → count_by p (cond b (x ∷ filter q xs) (filter q xs)) ≤ count_by p (x ∷ xs)
+      by : (b : Bool) → count_by p (filter q xs) ≤ count_by p xs
+          → count_by p (cond b (x ∷ filter q xs) (filter q xs)) ≤ count_by p (x ∷ xs)
       by true rest = let left = count_by-cons p x (filter q xs) in rw (counted, left) (omega (arith, rest))
       by false rest = rw counted (omega (arith, rest))
 
 module _ {E : Type 0} (p q : E → Bool) where
   -- where those that go fail the test, as many pass as before
-  pub count_kept : (xs : List E) → All (λ x. q x ≡ true → p x ≡ false) xs → count_by p (filter (λ x. not (q x)) xs) ≡ count_by p xs
+  pub count_kept : (xs : List E) → All (λ x. q x ≡ true → p x ≡ false) xs
+      → count_by p (filter (λ x. not (q x)) xs) ≡ count_by p xs
   count_kept [] h = refl
   count_kept (x ∷ xs) h = by (q x) refl (count_kept xs (All-tail (λ y. q y ≡ true → p y ≡ false) x xs h))
     where
       counted : count_by p (x ∷ xs) ≡ cond (p x) 1 0 + count_by p xs
       counted = count_by-cons p x xs
 
-      by : (b : Bool) → q x ≡ b → count_by p (filter (λ y. not (q y)) xs) ≡ count_by p xs → count_by p (cond (not b) (x ∷ filter (λ y. not (q y)) xs) (filter (λ y. not (q y)) xs)) ≡ count_by p (x ∷ xs)
-      by true e rest = let fails = All-head (λ y. q y ≡ true → p y ≡ false) x xs h e in rw (counted, fails) (omega (arith, rest))
+      by : (b : Bool) → q x ≡ b → count_by p (filter (λ y. not (q y)) xs) ≡ count_by p xs
+          → count_by p (cond (not b) (x ∷ filter (λ y. not (q y)) xs) (filter (λ y. not (q y)) xs))
+          ≡ count_by p (x ∷ xs)
+      by true e rest = let fails = All-head (λ y. q y ≡ true → p y ≡ false) x xs h e in
+          rw (counted, fails) (omega (arith, rest))
       by false e rest = let left = count_by-cons p x (filter (λ y. not (q y)) xs) in rw (counted, left, rest) refl
 
   -- where one that goes passes, fewer are left
-  pub count_fewer : (xs : List E) (x : E) → find q xs ≡ Some x → p x ≡ true → count_by p (filter (λ y. not (q y)) xs) + 1 ≤ count_by p xs
+  pub count_fewer : (xs : List E) (x : E) → find q xs ≡ Some x → p x ≡ true
+      → count_by p (filter (λ y. not (q y)) xs) + 1 ≤ count_by p xs
   count_fewer [] x found passes = absurd (cc)
   count_fewer (y ∷ ys) x found passes = by (q y) refl found (count_fewer ys x)
     where
       counted : count_by p (y ∷ ys) ≡ cond (p y) 1 0 + count_by p ys
       counted = count_by-cons p y ys
 
-      by : (b : Bool) → q y ≡ b → cond b (Some y) (find q ys) ≡ Some x → (find q ys ≡ Some x → p x ≡ true → count_by p (filter (λ z. not (q z)) ys) + 1 ≤ count_by p ys)
-          → count_by p (cond (not b) (y ∷ filter (λ z. not (q z)) ys) (filter (λ z. not (q z)) ys)) + 1 ≤ count_by p (y ∷ ys)
+      by : (b : Bool) → q y ≡ b → cond b (Some y) (find q ys) ≡ Some x
+          → (find q ys ≡ Some x → p x ≡ true → count_by p (filter (λ z. not (q z)) ys) + 1 ≤ count_by p ys)
+          → count_by p (cond (not b) (y ∷ filter (λ z. not (q z)) ys) (filter (λ z. not (q z)) ys)) + 1 ≤ count_by p
+          (y ∷ ys)
       by true e f rest =
           let same : y ≡ x = cc in
           let mine : p y ≡ true = subst (λ z. p z ≡ true) (sym same) passes in
           let few = count_where p (λ z. not (q z)) ys in
           rw (counted, mine) (omega (arith, few))
-      by false e f rest = let left = count_by-cons p y (filter (λ z. not (q z)) ys) in let few = rest f passes in rw (counted, left) (omega (arith, few))
+      by false e f rest = let left = count_by-cons p y (filter (λ z. not (q z)) ys) in let few =
+          rest f passes in rw (counted, left) (omega (arith, few))
 
 module _ {E : Type 0} (q : E → Bool) where
   -- none is left of those that go
@@ -139,6 +156,7 @@ module _ {E : Type 0} (q : E → Bool) where
       left [] = All-nil (λ x. q x ≡ false)
       left (y ∷ ys) = by (q y) refl (left ys)
         where
-          by : (b : Bool) → q y ≡ b → All (λ x. q x ≡ false) (filter (λ x. not (q x)) ys) → All (λ x. q x ≡ false) (cond (not b) (y ∷ filter (λ x. not (q x)) ys) (filter (λ x. not (q x)) ys))
+          by : (b : Bool) → q y ≡ b → All (λ x. q x ≡ false) (filter (λ x. not (q x)) ys)
+              → All (λ x. q x ≡ false) (cond (not b) (y ∷ filter (λ x. not (q x)) ys) (filter (λ x. not (q x)) ys))
           by true e rest = rest
           by false e rest = All-cons (λ x. q x ≡ false) y (filter (λ x. not (q x)) ys) e rest

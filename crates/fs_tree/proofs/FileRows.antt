@@ -19,7 +19,8 @@ use Rattle.fs_tree.specs.declared.files.Content.{Content as Stored}
 pub is_eq-nat_cmp : (x y : ℕ) → is_eq (nat_cmp x y) ≡ nat_eq x y
 is_eq-nat_cmp x y = by (nat_lt x y) refl (nat_eq x y) refl
   where
-    by : (lower : Bool) → nat_lt x y ≡ lower → (same : Bool) → nat_eq x y ≡ same → is_eq (cond lower Less (cond same Equal Greater)) ≡ same
+    by : (lower : Bool) → nat_lt x y ≡ lower → (same : Bool) → nat_eq x y ≡ same
+        → is_eq (cond lower Less (cond same Equal Greater)) ≡ same
     by true l true s = absurd (grind (arith, common_steps, l, s))
     by true l false s = refl
     by false l true s = refl
@@ -51,21 +52,27 @@ module _ {V W : Type 0} (h : V → W) where
   abbrev seen : ℕ × V → ℕ × W
   seen e = (e.0, h e.1)
 
-  pub get-seen : (es : List (ℕ × V)) (key : ℕ) → get (map seen es) key ≡ option_map h (lookup (λ k. is_eq (nat_cmp key k)) es)
+  pub get-seen : (es : List (ℕ × V)) (key : ℕ) → get (map seen es) key
+      ≡ option_map h (lookup (λ k. is_eq (nat_cmp key k)) es)
   get-seen [] key = refl
   get-seen (e ∷ es) key = by (is_eq (nat_cmp key e.0)) (get-seen es key)
     where
-      by : (b : Bool) → get (map seen es) key ≡ option_map h (lookup (λ k. is_eq (nat_cmp key k)) es) → cond b (Some (h e.1)) (get (map seen es) key) ≡ option_map h (cond b (Some e.1) (lookup (λ k. is_eq (nat_cmp key k)) es))
+      by : (b : Bool) → get (map seen es) key ≡ option_map h (lookup (λ k. is_eq (nat_cmp key k)) es)
+          → cond b (Some (h e.1)) (get (map seen es) key) ≡ option_map h
+          (cond b (Some e.1) (lookup (λ k. is_eq (nat_cmp key k)) es))
       by true rest = refl
       by false rest = rest
 
   -- a file put, in place of another or not
-  pub put-seen : (es : List (ℕ × V)) (key : ℕ) (v : V) → map seen (insert_entry nat_cmp es key v) ≡ put (map seen es) key (h v)
+  pub put-seen : (es : List (ℕ × V)) (key : ℕ) (v : V)
+      → map seen (insert_entry nat_cmp es key v) ≡ put (map seen es) key (h v)
   put-seen [] key v = refl
   put-seen (e ∷ es) key v = by (nat_cmp key e.0) (put-seen es key v)
     where
       by : (r : Ordering) → map seen (insert_entry nat_cmp es key v) ≡ put (map seen es) key (h v)
-          → map seen (by_order r ((key, v) ∷ e ∷ es) ((e.0, v) ∷ es) (e ∷ insert_entry nat_cmp es key v)) ≡ by_order r ((key, h v) ∷ seen e ∷ map seen es) ((e.0, h v) ∷ map seen es) (seen e ∷ put (map seen es) key (h v))
+          → map seen (by_order r ((key, v) ∷ e ∷ es) ((e.0, v) ∷ es) (e ∷ insert_entry nat_cmp es key v))
+          ≡ by_order r ((key, h v) ∷ seen e ∷ map seen es) ((e.0, h v) ∷ map seen es)
+          (seen e ∷ put (map seen es) key (h v))
       by Less rest = refl
       by Equal rest = refl
       by Greater rest = ap (λ l. seen e ∷ l) rest
@@ -80,5 +87,8 @@ module _ {V : Type 0} where
       rw (← nat_cmp_is key e.0 Greater (omega arith), other) (ap (λ l. e ∷ l) (put-undone es key v below.1))
 
 module _ {A : Type 0} where
-  pub there-kind : (es : List (ℕ × Stored A)) (file : ℕ) → kind_of (get (map file_of es) file) ≡ Regular → IsSome (lookup (λ k. is_eq (nat_cmp file k)) es)
-  there-kind es file kind = some_before content_in (lookup (λ k. is_eq (nat_cmp file k)) es) (there-content (option_map content_in (lookup (λ k. is_eq (nat_cmp file k)) es)) (ap kind_of (sym (get-seen content_in es file)) ∙ kind))
+  pub there-kind : (es : List (ℕ × Stored A)) (file : ℕ) → kind_of (get (map file_of es) file) ≡ Regular
+      → IsSome (lookup (λ k. is_eq (nat_cmp file k)) es)
+  there-kind es file kind = some_before content_in (lookup (λ k. is_eq (nat_cmp file k)) es)
+      (there-content (option_map content_in (lookup (λ k. is_eq (nat_cmp file k)) es))
+      (ap kind_of (sym (get-seen content_in es file)) ∙ kind))

@@ -22,16 +22,19 @@ module _ {V : Type 0} where
   AreBelow-more next more [] le below = tt
   AreBelow-more next more (e ∷ es) le below = (omega (arith, below.0), AreBelow-more next more es le below.1)
 
-  pub AreBelow-put : (next key : ℕ) (v : V) (es : List (ℕ × V)) → key < next → AreBelow next es → AreBelow next (put es key v)
+  pub AreBelow-put : (next key : ℕ) (v : V) (es : List (ℕ × V)) → key < next → AreBelow next es
+      → AreBelow next (put es key v)
   AreBelow-put next key v [] lt below = (lt, tt)
   AreBelow-put next key v (e ∷ es) lt below = by (nat_cmp key e.0) (AreBelow-put next key v es lt below.1)
     where
-      by : (r : Ordering) → AreBelow next (put es key v) → AreBelow next (by_order r ((key, v) ∷ e ∷ es) ((e.0, v) ∷ es) (e ∷ put es key v))
+      by : (r : Ordering) → AreBelow next (put es key v)
+          → AreBelow next (by_order r ((key, v) ∷ e ∷ es) ((e.0, v) ∷ es) (e ∷ put es key v))
       by Less rest = (lt, below)
       by Equal rest = (below.0, below.1)
       by Greater rest = (below.0, rest)
 
-  pub AreBelow-where : (next : ℕ) (p : ℕ × V → Bool) (es : List (ℕ × V)) → AreBelow next es → AreBelow next (filter p es)
+  pub AreBelow-where : (next : ℕ) (p : ℕ × V → Bool) (es : List (ℕ × V)) → AreBelow next es
+      → AreBelow next (filter p es)
   AreBelow-where next p [] below = tt
   AreBelow-where next p (e ∷ es) below = by (p e) (AreBelow-where next p es below.1)
     where
@@ -43,29 +46,34 @@ module _ {V : Type 0} where
   key_below next key [] below there = cc
   key_below next key (e ∷ es) below there = by (nat_cmp key e.0) refl there (key_below next key es below.1)
     where
-      by : (r : Ordering) → nat_cmp key e.0 ≡ r → IsSome (cond (is_eq r) (Some e.1) (get es key)) → (IsSome (get es key) → key < next) → key < next
+      by : (r : Ordering) → nat_cmp key e.0 ≡ r → IsSome (cond (is_eq r) (Some e.1) (get es key))
+          → (IsSome (get es key) → key < next) → key < next
       by Less q there rest = rest there
       by Equal q there rest = let same = ranked key e.0 Equal (sym q) in omega (arith, below.0)
       by Greater q there rest = rest there
 
 -- ---- serials
 
-pub IsRising-lower : (low lower next : ℕ) (names : List Named) → lower ≤ low → IsRising low names next → IsRising lower names next
+pub IsRising-lower : (low lower next : ℕ) (names : List Named) → lower ≤ low → IsRising low names next
+    → IsRising lower names next
 IsRising-lower low lower next [] le rising = omega arith
 IsRising-lower low lower next (n ∷ names) le rising = (omega (arith, rising.0), rising.1)
 
 -- one more name, under the next serial
-pub IsRising-push : (low next : ℕ) (names : List Named) (n : Named) → n.serial ≡ next → IsRising low names next → IsRising low (names ++ n ∷ []) (next + 1)
+pub IsRising-push : (low next : ℕ) (names : List Named) (n : Named) → n.serial ≡ next → IsRising low names next
+    → IsRising low (names ++ n ∷ []) (next + 1)
 IsRising-push low next [] n is rising = (omega arith, omega arith)
 IsRising-push low next (m ∷ names) n is rising = (rising.0, IsRising-push (m.serial + 1) next names n is rising.1)
 
 -- some names less
-pub IsRising-where : (p : Named → Bool) (low next : ℕ) (names : List Named) → IsRising low names next → IsRising low (filter p names) next
+pub IsRising-where : (p : Named → Bool) (low next : ℕ) (names : List Named) → IsRising low names next
+    → IsRising low (filter p names) next
 IsRising-where p low next [] rising = rising
 IsRising-where p low next (n ∷ names) rising =
     by (p n) (IsRising-where p (n.serial + 1) next names rising.1)
   where
-    by : (b : Bool) → IsRising (n.serial + 1) (filter p names) next → IsRising low (cond b (n ∷ filter p names) (filter p names)) next
+    by : (b : Bool) → IsRising (n.serial + 1) (filter p names) next
+        → IsRising low (cond b (n ∷ filter p names) (filter p names)) next
     by true rest = (rising.0, rest)
     by false rest = IsRising-lower (n.serial + 1) low next (filter p names) (omega (arith, rising.0)) rest
 
@@ -78,19 +86,24 @@ module _ {E : Type 0} (p : E → Bool) where
   -- one that is found is one less
   pub length-without : (xs : List E) (x : E) → find p xs ≡ Some x → length (filter (λ e. not (p e)) xs) + 1 ≤ length xs
   length-without [] x found = cc
-  length-without (y ∷ ys) x found = by (p y) found (length-without ys x) (length-filter (λ e. not (p e)) ys) (count_by-le-length (λ e. not (p e)) ys)
+  length-without (y ∷ ys) x found = by (p y) found (length-without ys x) (length-filter (λ e. not (p e)) ys)
+      (count_by-le-length (λ e. not (p e)) ys)
     where
-      by : (b : Bool) → cond b (Some y) (find p ys) ≡ Some x → (find p ys ≡ Some x → length (filter (λ e. not (p e)) ys) + 1 ≤ length ys)
-          → length (filter (λ e. not (p e)) ys) ≡ count_by (λ e. not (p e)) ys → count_by (λ e. not (p e)) ys ≤ length ys
+      by : (b : Bool) → cond b (Some y) (find p ys) ≡ Some x
+          → (find p ys ≡ Some x → length (filter (λ e. not (p e)) ys) + 1 ≤ length ys)
+          → length (filter (λ e. not (p e)) ys) ≡ count_by (λ e. not (p e)) ys
+          → count_by (λ e. not (p e)) ys ≤ length ys
           → length (cond (not b) (y ∷ filter (λ e. not (p e)) ys) (filter (λ e. not (p e)) ys)) + 1 ≤ length (y ∷ ys)
       by true found rest same few = omega arith
       by false found rest same few = let less = rest found in omega arith
 
 -- ---- the whole
 
-module _ (files : Map Content) (names : List Named) (births serials : ℕ) (kept : IsKept files names births serials) where
+module _ (files : Map Content) (names : List Named) (births serials : ℕ)
+    (kept : IsKept files names births serials) where
   -- one more name
-  pub kept-named : (n : Named) → n.serial ≡ serials → length names < 4096 → serials < 2 ^ 62 → IsKept files (names ++ n ∷ []) births (serials + 1)
+  pub kept-named : (n : Named) → n.serial ≡ serials → length names < 4096 → serials < 2 ^ 62
+      → IsKept files (names ++ n ∷ []) births (serials + 1)
   kept-named n is few fits =
       record {
         born = kept.born;
@@ -115,7 +128,8 @@ module _ (files : Map Content) (names : List Named) (births serials : ℕ) (kept
   pub kept-born : (c : Content) → births < 2 ^ 62 → IsKept (put files births c) names (births + 1) serials
   kept-born c fits =
       record {
-        born = AreBelow-put (births + 1) births c files (omega arith) (AreBelow-more births (births + 1) files (omega arith) kept.born);
+        born = AreBelow-put (births + 1) births c files (omega arith)
+            (AreBelow-more births (births + 1) files (omega arith) kept.born);
         rising = kept.rising;
         few = kept.few;
         births_fit = omega arith;
@@ -134,10 +148,12 @@ module _ (files : Map Content) (names : List Named) (births serials : ℕ) (kept
       }
 
   -- other bytes in a regular file
-  pub kept-written : (file : ℕ) (c : Content) → kind_of (get files file) ≡ Regular → IsKept (put files file c) names births serials
+  pub kept-written : (file : ℕ) (c : Content) → kind_of (get files file) ≡ Regular
+      → IsKept (put files file c) names births serials
   kept-written file c regular =
       record {
-        born = AreBelow-put births file c files (key_below births file files kept.born (there-content (get files file) regular)) kept.born;
+        born = AreBelow-put births file c files (key_below births file files kept.born
+            (there-content (get files file) regular)) kept.born;
         rising = kept.rising;
         few = kept.few;
         births_fit = kept.births_fit;
@@ -145,13 +161,15 @@ module _ (files : Map Content) (names : List Named) (births serials : ℕ) (kept
       }
 
 -- a name that leads to a file is one less
-fewer-found : (p : Named → Bool) (names : List Named) (file : ℕ) (o : Option Named) → find p names ≡ o → option_map (λ n. n.file) o ≡ Some file → length (filter (λ m. not (p m)) names) + 1 ≤ length names
+fewer-found : (p : Named → Bool) (names : List Named) (file : ℕ) (o : Option Named) → find p names ≡ o
+    → option_map (λ n. n.file) o ≡ Some file → length (filter (λ m. not (p m)) names) + 1 ≤ length names
 fewer-found p names file None found at = cc
 fewer-found p names file (Some n) found at = length-without p names n found
 
 -- a file moved from one name to another
 pub kept-moved : (files : Map Content) (names : List Named) (births serials : ℕ) → IsKept files names births serials
-    → (p q : Named → Bool) (n : Named) (file : ℕ) → n.serial ≡ serials → option_map (λ m. m.file) (find p names) ≡ Some file → serials < 2 ^ 62
+    → (p q : Named → Bool) (n : Named) (file : ℕ) → n.serial ≡ serials
+    → option_map (λ m. m.file) (find p names) ≡ Some file → serials < 2 ^ 62
     → IsKept files (filter (λ m. not (q m)) (filter (λ m. not (p m)) names) ++ n ∷ []) births (serials + 1)
 kept-moved files names births serials kept p q n file is at fits =
     let fewer = fewer-found p names file (find p names) refl at in
@@ -159,7 +177,8 @@ kept-moved files names births serials kept p q n file is at fits =
     let less = length-where (λ m. not (q m)) (filter (λ m. not (p m)) names) in
     let one = kept-where files names births serials kept (λ m. not (p m)) in
     let both = kept-where files (filter (λ m. not (p m)) names) births serials one (λ m. not (q m)) in
-    kept-named files (filter (λ m. not (q m)) (filter (λ m. not (p m)) names)) births serials both n is (omega arith) fits
+    kept-named files (filter (λ m. not (q m)) (filter (λ m. not (p m)) names)) births serials both n is
+    (omega arith) fits
 
 -- a file that is tested to be regular is
 pub regular_kind : (k : Kind) → IsTrue (is_kind_regular k) → k ≡ Regular

@@ -18,7 +18,8 @@ use Rattle.fs_tree.proofs.Shaping.{has_name, still_named}
 
 -- The file is named, or it was there before, and is named as it was.
 abbrev pub KeepsName : (old new : Tree) → ℕ → Type 0
-KeepsName old new x = (is_nameless new x ≡ false) ⊎ (IsSome (get old.files x) × (is_nameless old x ≡ false → is_nameless new x ≡ false))
+KeepsName old new x = (is_nameless new x ≡ false)
+    ⊎ (IsSome (get old.files x) × (is_nameless old x ≡ false → is_nameless new x ≡ false))
 
 -- ---- one more name
 
@@ -27,15 +28,22 @@ module _ (tree : Tree) (d : ℕ) (name : Name) (file : ℕ) where
   row = record { directory = d; name = name; file = file; serial = tree.next_serial }
 
   named_more : (x : ℕ) → is_nameless tree x ≡ false → is_nameless (with_name tree d name file) x ≡ false
-  named_more x named = let counted = count_by-push (λ n. nat_eq n.file x) tree.names row in still_named tree (with_name tree d name file) x (omega (arith, counted)) named
+  named_more x named = let counted = count_by-push (λ n. nat_eq n.file x) tree.names row in
+      still_named tree (with_name tree d name file) x (omega (arith, counted)) named
 
   now_named : is_nameless (with_name tree d name file) file ≡ false
-  now_named = let counted = count_by-push (λ n. nat_eq n.file file) tree.names row in has_name (with_name tree d name file) file (rw (counted, eq-eqb file file refl) (omega arith))
+  now_named = let counted = count_by-push (λ n. nat_eq n.file file) tree.names row in
+      has_name (with_name tree d name file) file (rw (counted, eq-eqb file file refl) (omega arith))
 
-born : (tree : Tree) (d : ℕ) (name : Name) (content : Content) (x : ℕ) → IsSome (get (with_birth tree d name content).files x) → KeepsName tree (with_birth tree d name content) x
+born : (tree : Tree) (d : ℕ) (name : Name) (content : Content) (x : ℕ)
+    → IsSome (get (with_birth tree d name content).files x) → KeepsName tree (with_birth tree d name content) x
 born tree d name content x there = elim (cases_eq x tree.next_birth) [
-  | inl e ↦ inl (subst (λ (y : ℕ). is_nameless (with_birth tree d name content) y ≡ false) (sym e) (now_named grown d name tree.next_birth))
-  | inr ne ↦ inr (sym (ap is_some (get_put_there tree.files tree.next_birth content x ne)) ∙ there, named_more grown d name tree.next_birth x)
+  | inl e ↦ inl (subst (λ (y : ℕ). is_nameless (with_birth tree d name content) y ≡ false) (sym e)
+      (now_named grown d name tree.next_birth))
+  | inr ne ↦ inr (
+    sym (ap is_some (get_put_there tree.files tree.next_birth content x ne)) ∙ there,
+    named_more grown d name tree.next_birth x,
+  )
 ]
   where
     grown : Tree
@@ -43,7 +51,8 @@ born tree d name content x there = elim (cases_eq x tree.next_birth) [
 
 -- ---- a name less
 
-module _ (tree : Tree) (shaped : IsShaped tree) (d : ℕ) (name : Name) (x : ℕ) (other : file_at tree d name ≡ Some x → ⊥) where
+module _ (tree : Tree) (shaped : IsShaped tree) (d : ℕ) (name : Name) (x : ℕ)
+    (other : file_at tree d name ≡ Some x → ⊥) where
   is_apart : Apart tree shaped d name x
   is_apart = by (find (is_at d name) tree.names) refl
     where
@@ -54,11 +63,13 @@ module _ (tree : Tree) (shaped : IsShaped tree) (d : ℕ) (name : Name) (x : ℕ
           apart_from tree shaped d name n.file x at (λ same. other (at ∙ ap Some (sym same)))
 
   named_less : is_nameless tree x ≡ false → is_nameless (without_name tree d name) x ≡ false
-  named_less named = let kept = count_kept (λ n. nat_eq n.file x) (is_at d name) tree.names is_apart in still_named tree (without_name tree d name) x (omega (arith, kept)) named
+  named_less named = let kept = count_kept (λ n. nat_eq n.file x) (is_at d name) tree.names is_apart in
+      still_named tree (without_name tree d name) x (omega (arith, kept)) named
 
 -- ---- a name that moves
 
-module _ (tree : Tree) (shaped : IsShaped tree) (d : ℕ) (old : Name) (e : ℕ) (new : Name) (file x : ℕ) (at : file_at tree d old ≡ Some file) (other : file_at tree e new ≡ Some x → ⊥) where
+module _ (tree : Tree) (shaped : IsShaped tree) (d : ℕ) (old : Name) (e : ℕ) (new : Name) (file x : ℕ)
+    (at : file_at tree d old ≡ Some file) (other : file_at tree e new ≡ Some x → ⊥) where
   abbrev once : Tree
   once = without_name tree d old
 
@@ -67,10 +78,12 @@ module _ (tree : Tree) (shaped : IsShaped tree) (d : ℕ) (old : Name) (e : ℕ)
 
   named_moved : is_nameless tree x ≡ false → is_nameless (with_name gone e new file) x ≡ false
   named_moved named = elim (cases_eq x file) [
-    | inl same ↦ subst (λ (y : ℕ). is_nameless (with_name gone e new file) y ≡ false) (sym same) (now_named gone e new file)
+    | inl same ↦ subst (λ (y : ℕ). is_nameless (with_name gone e new file) y ≡ false) (sym same)
+        (now_named gone e new file)
     | inr ne ↦
         let first = named_less tree shaped d old x (λ is. ne (some_file (sym is ∙ at))) named in
-        let left = All-filter (λ n. not (is_at d old n)) (λ n. is_at e new n ≡ true → nat_eq n.file x ≡ false) tree.names (is_apart tree shaped e new x other) in
+        let left = All-filter (λ n. not (is_at d old n))
+        (λ n. is_at e new n ≡ true → nat_eq n.file x ≡ false) tree.names (is_apart tree shaped e new x other) in
         let kept = count_kept (λ n. nat_eq n.file x) (is_at e new) once.names left in
         named_more gone e new file x (still_named once gone x (omega (arith, kept)) first)
   ]
@@ -84,7 +97,9 @@ module _ (tree : Tree) (shaped : IsShaped tree) (x : ℕ) where
   as_before : IsSome (get tree.files x) → KeepsName tree tree x
   as_before there = inr (there, λ named. named)
 
-  pub keeps_name : (operation : FileOperation) → WritesRegular tree operation → (unnamed_by tree operation ≡ Some x → ⊥) → IsSome (get (tree_unrefused tree operation).files x) → KeepsName tree (tree_unrefused tree operation) x
+  pub keeps_name : (operation : FileOperation) → WritesRegular tree operation
+      → (unnamed_by tree operation ≡ Some x → ⊥) → IsSome (get (tree_unrefused tree operation).files x)
+      → KeepsName tree (tree_unrefused tree operation) x
   keeps_name (lookup d name) regular other there = as_before there
   keeps_name (getattr file) regular other there = as_before there
   keeps_name (mkdir d name) regular other there = born tree d name a_directory x there
@@ -92,9 +107,12 @@ module _ (tree : Tree) (shaped : IsShaped tree) (x : ℕ) where
   keeps_name (unlink d name) regular other there = inr (there, named_less tree shaped d name x other)
   keeps_name (rmdir d name) regular other there = inr (there, named_less tree shaped d name x other)
   keeps_name (link file d name) regular other there = inr (there, named_more tree d name file x)
-  keeps_name (rename d old e new) regular other there = by (is_same (file_at tree d old) (file_at tree e new)) (file_at tree d old) refl there
+  keeps_name (rename d old e new) regular other there =
+      by (is_same (file_at tree d old) (file_at tree e new)) (file_at tree d old) refl there
     where
-      by : (b : Bool) (moved : Option ℕ) → file_at tree d old ≡ moved → IsSome (get (cond b tree (renamed tree d old e new moved)).files x) → KeepsName tree (cond b tree (renamed tree d old e new moved)) x
+      by : (b : Bool) (moved : Option ℕ) → file_at tree d old ≡ moved
+          → IsSome (get (cond b tree (renamed tree d old e new moved)).files x)
+          → KeepsName tree (cond b tree (renamed tree d old e new moved)) x
       by true moved at there = as_before there
       by false None at there = as_before there
       by false (Some file) at there = inr (there, named_moved tree shaped d old e new file x at other)
@@ -108,5 +126,6 @@ module _ (tree : Tree) (shaped : IsShaped tree) (x : ℕ) where
       was : IsSome (get tree.files x)
       was = elim (cases_eq x file) [
         | inl e ↦ subst (λ (y : ℕ). IsSome (get tree.files y)) (sym e) (there-content (get tree.files file) regular)
-        | inr ne ↦ sym (ap is_some (get_put_there tree.files file (a_file (overwritten (bytes_of (get tree.files file)) offset (b ∷ bytes))) x ne)) ∙ there
+        | inr ne ↦ sym (ap is_some (get_put_there tree.files file
+            (a_file (overwritten (bytes_of (get tree.files file)) offset (b ∷ bytes))) x ne)) ∙ there
       ]

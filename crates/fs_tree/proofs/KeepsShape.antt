@@ -38,19 +38,25 @@ none_at None e = refl
 none_at (Some n) e = absurd (cc)
 
 -- the name that leads to a file
-name_at : (o : Option Named) (file : ℕ) → option_map (λ n. n.file) o ≡ Some file → (n : Named) × (o ≡ Some n) × (n.file ≡ file)
+name_at : (o : Option Named) (file : ℕ) → option_map (λ n. n.file) o ≡ Some file
+    → (n : Named) × (o ≡ Some n) × (n.file ≡ file)
 name_at None file at = absurd (cc)
 name_at (Some n) file at = (n, refl, cc)
 
 -- ---- names that come
 
-module _ (tree : Tree) (shaped : IsShaped tree) (d : ℕ) (name : Name) (is_dir : is_directory tree d ≡ true) (named : is_nameless tree d ≡ false) (absent : is_some (file_at tree d name) ≡ false) where
+module _ (tree : Tree) (shaped : IsShaped tree) (d : ℕ) (name : Name) (is_dir : is_directory tree d ≡ true)
+    (named : is_nameless tree d ≡ false) (absent : is_some (file_at tree d name) ≡ false) where
   no_name : count_by (is_at d name) tree.names ≡ 0
-  no_name = none_counted (is_at d name) tree.names (none_passes (is_at d name) tree.names (none_at (find (is_at d name) tree.names) absent))
+  no_name = none_counted (is_at d name) tree.names
+      (none_passes (is_at d name) tree.names (none_at (find (is_at d name) tree.names) absent))
 
   -- a name more
-  named_once : (file : ℕ) → IsSome (get tree.files file) → file ≢ 0 → (is_directory tree file ≡ true → names_of tree file ≡ 0) → IsShaped (with_name tree d name file)
-  named_once file there other free = whole after (one_more tree (sound tree shaped) d name file is_dir there other free no_name) (All-push (IsInNamed after) tree.names new olds (still d named))
+  named_once : (file : ℕ) → IsSome (get tree.files file) → file ≢ 0
+      → (is_directory tree file ≡ true → names_of tree file ≡ 0) → IsShaped (with_name tree d name file)
+  named_once file there other free = whole after (one_more tree
+      (sound tree shaped) d name file is_dir there other free no_name)
+      (All-push (IsInNamed after) tree.names new olds (still d named))
     where
       after : Tree
       after = with_name tree d name file
@@ -59,16 +65,21 @@ module _ (tree : Tree) (shaped : IsShaped tree) (d : ℕ) (name : Name) (is_dir 
       new = record { directory = d; name = name; file = file; serial = tree.next_serial }
 
       still : (x : ℕ) → is_nameless tree x ≡ false → is_nameless after x ≡ false
-      still x h = let counted = count_by-push (λ n. nat_eq n.file x) tree.names new in still_named tree after x (omega (arith, counted)) h
+      still x h = let counted = count_by-push (λ n. nat_eq n.file x) tree.names new in
+          still_named tree after x (omega (arith, counted)) h
 
       olds : All (IsInNamed after) tree.names
       olds i e lt = still _ (shaped.names i e lt).named
 
 -- a file more
-made : (tree : Tree) → IsShaped tree → (d : ℕ) (name : Name) (content : Content) → is_directory tree d ≡ true → is_nameless tree d ≡ false → is_some (file_at tree d name) ≡ false → IsShaped (with_birth tree d name content)
+made : (tree : Tree) → IsShaped tree → (d : ℕ) (name : Name) (content : Content) → is_directory tree d ≡ true
+    → is_nameless tree d ≡ false → is_some (file_at tree d name) ≡ false → IsShaped (with_birth tree d name content)
 made tree shaped d name content is_dir named absent =
-    named_once grown kept d name is_dir_still named absent tree.next_birth (rw (get_put_here tree.files tree.next_birth content) refl)
-    (λ e. true≢false (sym (is_some_root (get tree.files 0) (directory_there (get tree.files 0) shaped.root)) ∙ ap is_some (shaped.unborn 0 (omega (arith, e))))) (λ is. coming_nameless tree shaped)
+    named_once grown kept d name is_dir_still named absent tree.next_birth
+    (rw (get_put_here tree.files tree.next_birth content) refl)
+    (λ e. true≢false (sym (is_some_root (get tree.files 0)
+    (directory_there (get tree.files 0) shaped.root)) ∙ ap is_some (shaped.unborn 0 (omega (arith, e)))))
+    (λ is. coming_nameless tree shaped)
   where
     grown : Tree
     grown = record tree { files = put tree.files tree.next_birth content; next_birth = tree.next_birth + 1 }
@@ -100,8 +111,10 @@ module _ (tree : Tree) (shaped : IsShaped tree) (d : ℕ) (name : Name) where
   apart_where x none = λ i e lt here. absurd (true≢false (sym here ∙ none_passes (is_at d name) tree.names none i e lt))
 
   -- the name of a file goes in which there is none
-  unnamed : (file : ℕ) → file_at tree d name ≡ Some file → All (λ n. n.directory ≢ file) tree.names → IsShaped (without_name tree d name)
-  unnamed file at empty = whole after (fewer tree (λ n. not (is_at d name n)) (sound tree shaped)) (All-filter (λ n. not (is_at d name n)) (IsInNamed after) tree.names still)
+  unnamed : (file : ℕ) → file_at tree d name ≡ Some file → All (λ n. n.directory ≢ file) tree.names
+      → IsShaped (without_name tree d name)
+  unnamed file at empty = whole after (fewer tree (λ n. not (is_at d name n)) (sound tree shaped))
+      (All-filter (λ n. not (is_at d name n)) (IsInNamed after) tree.names still)
     where
       after : Tree
       after = without_name tree d name
@@ -120,14 +133,19 @@ none_in : (tree : Tree) (dir : ℕ) → is_empty tree dir ≡ true → All (λ n
 none_in tree dir empty =
     let none : length (filter (λ n. nat_eq n.directory dir) tree.names) ≡ 0 = same_number _ _ empty in
     let counted = length-filter (λ n. nat_eq n.directory dir) tree.names in
-    λ i e lt same. true≢false (sym (eq-eqb _ dir same) ∙ each_fails (λ n. nat_eq n.directory dir) tree.names (sym counted ∙ none) i e lt)
+    λ i e lt same. true≢false (sym (eq-eqb _ dir same) ∙ each_fails (λ n. nat_eq n.directory dir) tree.names
+    (sym counted ∙ none) i e lt)
 
-none_in_file : (tree : Tree) → IsShaped tree → (file : ℕ) → is_directory tree file ≡ false → All (λ n. n.directory ≢ file) tree.names
-none_in_file tree shaped file is i e lt same = true≢false (sym (shaped.names i e lt).directory ∙ ap (is_directory tree) same ∙ is)
+none_in_file : (tree : Tree) → IsShaped tree → (file : ℕ) → is_directory tree file ≡ false
+    → All (λ n. n.directory ≢ file) tree.names
+none_in_file tree shaped file is i e lt same = true≢false
+    (sym (shaped.names i e lt).directory ∙ ap (is_directory tree) same ∙ is)
 
 -- ---- names that move
 
-module _ (tree : Tree) (shaped : IsShaped tree) (d : ℕ) (old : Name) (e : ℕ) (new : Name) (file : ℕ) (at : file_at tree d old ≡ Some file) (is_dir : is_directory tree e ≡ true) (named : is_nameless tree e ≡ false) where
+module _ (tree : Tree) (shaped : IsShaped tree) (d : ℕ) (old : Name) (e : ℕ) (new : Name) (file : ℕ)
+    (at : file_at tree d old ≡ Some file) (is_dir : is_directory tree e ≡ true)
+    (named : is_nameless tree e ≡ false) where
   abbrev once : Tree
   once = without_name tree d old
 
@@ -144,19 +162,23 @@ module _ (tree : Tree) (shaped : IsShaped tree) (d : ℕ) (old : Name) (e : ℕ)
   moved_name = name_at (find (is_at d old) tree.names) file at
 
   moved_lies : Lies tree moved_name.0
-  moved_lies = let n = All-contains (Stands tree) tree.names moved_name.0 shaped.names (found_there (is_at d old) tree.names moved_name.0 moved_name.1) in (n.directory, n.file, n.not_root)
+  moved_lies = let n = All-contains (Stands tree) tree.names moved_name.0 shaped.names
+      (found_there (is_at d old) tree.names moved_name.0 moved_name.1) in (n.directory, n.file, n.not_root)
 
   -- a directory that moves has no other name
   nameless_between : is_directory tree file ≡ true → names_of gone file ≡ 0
   nameless_between is =
       let one = shaped.one_name file is in
-      let less = count_fewer (λ n. nat_eq n.file file) (is_at d old) tree.names moved_name.0 moved_name.1 (eq-eqb _ file moved_name.2) in
+      let less = count_fewer (λ n. nat_eq n.file file) (is_at d old) tree.names moved_name.0 moved_name.1
+      (eq-eqb _ file moved_name.2) in
       let few = count_where (λ n. nat_eq n.file file) (λ n. not (is_at e new n)) once.names in
       omega (arith, one, less, few)
 
   moved_sound : Sound after
   moved_sound =
-      one_more gone (fewer once (λ n. not (is_at e new n)) (fewer tree (λ n. not (is_at d old n)) (sound tree shaped))) e new file is_dir (subst (λ x. IsSome (get tree.files x)) moved_name.2 moved_lies.1)
+      one_more gone (fewer once (λ n. not (is_at e new n))
+      (fewer tree (λ n. not (is_at d old n)) (sound tree shaped))) e new file is_dir
+      (subst (λ x. IsSome (get tree.files x)) moved_name.2 moved_lies.1)
       (λ z. moved_lies.2 (moved_name.2 ∙ z)) nameless_between (all_gone (is_at e new) once.names)
 
   -- a file keeps a name, if it is not the one that is replaced
@@ -169,16 +191,24 @@ module _ (tree : Tree) (shaped : IsShaped tree) (d : ℕ) (old : Name) (e : ℕ)
       by : (b : Bool) → nat_eq file x ≡ b → is_nameless after x ≡ false
       by true is = has_name after x (rw (counted, is) (omega arith))
       by false is =
-          let first = count_kept (λ n. nat_eq n.file x) (is_at d old) tree.names (apart_from tree shaped d old file x at (λ same. true≢false (sym (eq-eqb file x (sym same)) ∙ is))) in
-          let then = count_kept (λ n. nat_eq n.file x) (is_at e new) once.names (All-filter (λ n. not (is_at d old n)) (λ n. is_at e new n ≡ true → nat_eq n.file x ≡ false) tree.names apart) in
+          let first = count_kept (λ n. nat_eq n.file x) (is_at d old) tree.names
+          (apart_from tree shaped d old file x at (λ same. true≢false (sym (eq-eqb file x (sym same)) ∙ is))) in
+          let then = count_kept (λ n. nat_eq n.file x) (is_at e new) once.names
+          (All-filter (λ n. not (is_at d old n)) (λ n. is_at e new n ≡ true
+          → nat_eq n.file x ≡ false) tree.names apart) in
           still_named tree after x (omega (arith, counted, first, then)) h
 
   -- a move, where no name is in what is replaced
-  move : ((x : ℕ) → is_nameless tree x ≡ false → (x ≡ e) ⊎ ((n : Named) × Contains tree.names n × (n.directory ≡ x)) → Apart tree shaped e new x) → IsShaped after
-  move apart = whole after moved_sound (All-push (IsInNamed after) gone.names row (All-filter (λ n. not (is_at e new n)) (IsInNamed after) once.names (All-filter (λ n. not (is_at d old n)) (IsInNamed after) tree.names olds)) (keeps_name e (apart e named (inl refl)) named))
+  move : ((x : ℕ) → is_nameless tree x ≡ false → (x ≡ e) ⊎ ((n : Named) × Contains tree.names n × (n.directory ≡ x))
+      → Apart tree shaped e new x) → IsShaped after
+  move apart = whole after moved_sound (All-push (IsInNamed after) gone.names row
+      (All-filter (λ n. not (is_at e new n)) (IsInNamed after) once.names
+      (All-filter (λ n. not (is_at d old n)) (IsInNamed after) tree.names olds))
+      (keeps_name e (apart e named (inl refl)) named))
     where
       olds : All (IsInNamed after) tree.names
-      olds i a lt = keeps_name _ (apart _ (shaped.names i a lt).named (inr (_, All-contains_itself tree.names i a lt, refl))) (shaped.names i a lt).named
+      olds i a lt = keeps_name _ (apart _ (shaped.names i a lt).named
+          (inr (_, All-contains_itself tree.names i a lt, refl))) (shaped.names i a lt).named
 
   -- nothing is replaced
   move_freely : find (is_at e new) tree.names ≡ None → IsShaped after
@@ -192,24 +222,31 @@ module _ (tree : Tree) (shaped : IsShaped tree) (d : ℕ) (old : Name) (e : ℕ)
       other x (inl same) z =
           let found = name_at (find (is_at e new) tree.names) there is in
           let place = both_true _ _ (found_passes (is_at e new) tree.names found.0 found.1) in
-          All-contains (λ n. n.directory ≢ there) tree.names found.0 (none_in tree there empty) (found_there (is_at e new) tree.names found.0 found.1) (same_number _ e place.0 ∙ sym same ∙ z)
-      other x (inr named) z = All-contains (λ n. n.directory ≢ there) tree.names named.0 (none_in tree there empty) named.1 (named.2 ∙ z)
+          All-contains (λ n. n.directory ≢ there) tree.names found.0 (none_in tree there empty)
+          (found_there (is_at e new) tree.names found.0 found.1) (same_number _ e place.0 ∙ sym same ∙ z)
+      other x (inr named) z = All-contains (λ n. n.directory ≢ there) tree.names named.0
+          (none_in tree there empty) named.1 (named.2 ∙ z)
 
 -- ---- each operation
 
 module _ (tree : Tree) (shaped : IsShaped tree) where
   -- a file more, by mkdir or create
-  pub make : (d : ℕ) (name : Name) (content : Content) → first_refusal ((not (is_directory tree d), enotdir) ∷ (is_nameless tree d, enoent) ∷ making tree d name) ≡ None → IsShaped (with_birth tree d name content)
+  pub make : (d : ℕ) (name : Name) (content : Content)
+      → first_refusal ((not (is_directory tree d), enotdir) ∷ (is_nameless tree d, enoent) ∷ making tree d name) ≡ None
+      → IsShaped (with_birth tree d name content)
   make d name content free =
-      let first = passes (not (is_directory tree d), enotdir) ((is_nameless tree d, enoent) ∷ making tree d name) free in
+      let first = passes (not (is_directory tree d), enotdir)
+      ((is_nameless tree d, enoent) ∷ making tree d name) free in
       let second = passes (is_nameless tree d, enoent) (making tree d name) first.1 in
-      let third = passes (is_some (file_at tree d name), eexist) ((nat_le max_names (length tree.names), enospc) ∷ []) second.1 in
+      let third = passes (is_some (file_at tree d name), eexist)
+      ((nat_le max_names (length tree.names), enospc) ∷ []) second.1 in
       made tree shaped d name content (is_true _ first.0) second.0 third.0
 
   pub unlinked : (d : ℕ) (name : Name) → refusal tree (unlink d name) ≡ None → IsShaped (without_name tree d name)
   unlinked d name free =
       let rest = (is_dir tree (file_at tree d name), eisdir) ∷ [] in
-      let first = passes (not (is_directory tree d), enotdir) ((not (is_some (file_at tree d name)), enoent) ∷ rest) free in
+      let first = passes (not (is_directory tree d), enotdir)
+      ((not (is_some (file_at tree d name)), enoent) ∷ rest) free in
       let second = passes (not (is_some (file_at tree d name)), enoent) rest first.1 in
       let third = passes (is_dir tree (file_at tree d name), eisdir) [] second.1 in
       let found = found_at (file_at tree d name) second.0 in
@@ -219,25 +256,31 @@ module _ (tree : Tree) (shaped : IsShaped tree) where
   removed d name free =
       let last = (is_filled tree (file_at tree d name), enotempty) ∷ [] in
       let rest = (is_file tree (file_at tree d name), enotdir) ∷ last in
-      let first = passes (not (is_directory tree d), enotdir) ((not (is_some (file_at tree d name)), enoent) ∷ rest) free in
+      let first = passes (not (is_directory tree d), enotdir)
+      ((not (is_some (file_at tree d name)), enoent) ∷ rest) free in
       let second = passes (not (is_some (file_at tree d name)), enoent) rest first.1 in
       let third = passes (is_file tree (file_at tree d name), enotdir) last second.1 in
       let fourth = passes (is_filled tree (file_at tree d name), enotempty) [] third.1 in
       let found = found_at (file_at tree d name) second.0 in
       unnamed tree shaped d name found.0 found.1 (none_in tree found.0 (is_true _ (rw found.1 at fourth.0)))
 
-  pub linked : (file d : ℕ) (name : Name) → refusal tree (link file d name) ≡ None → IsShaped (with_name tree d name file)
+  pub linked : (file d : ℕ) (name : Name) → refusal tree (link file d name) ≡ None
+      → IsShaped (with_name tree d name file)
   linked file d name free =
       let rest = (is_nameless tree file, enoent) ∷ making tree d name in
-      let first = passes (not (is_directory tree d), enotdir) ((is_nameless tree d, enoent) ∷ (is_directory tree file, eperm) ∷ rest) free in
+      let first = passes (not (is_directory tree d), enotdir)
+      ((is_nameless tree d, enoent) ∷ (is_directory tree file, eperm) ∷ rest) free in
       let second = passes (is_nameless tree d, enoent) ((is_directory tree file, eperm) ∷ rest) first.1 in
       let third = passes (is_directory tree file, eperm) rest second.1 in
       let fourth = passes (is_nameless tree file, enoent) (making tree d name) third.1 in
-      let fifth = passes (is_some (file_at tree d name), eexist) ((nat_le max_names (length tree.names), enospc) ∷ []) fourth.1 in
+      let fifth = passes (is_some (file_at tree d name), eexist)
+      ((nat_le max_names (length tree.names), enospc) ∷ []) fourth.1 in
       named_once tree shaped d name (is_true _ first.0) second.0 fifth.0 file (named_there tree shaped file fourth.0)
-      (λ z. true≢false (sym (ap (is_directory tree) z ∙ shaped.root) ∙ third.0)) (λ is. absurd (true≢false (sym is ∙ third.0)))
+      (λ z. true≢false (sym (ap (is_directory tree) z ∙ shaped.root) ∙ third.0))
+      (λ is. absurd (true≢false (sym is ∙ third.0)))
 
-  renames : (d : ℕ) (old : Name) (e : ℕ) (new : Name) → refusal tree (rename d old e new) ≡ None → IsShaped (tree_unrefused tree (rename d old e new))
+  renames : (d : ℕ) (old : Name) (e : ℕ) (new : Name) → refusal tree (rename d old e new) ≡ None
+      → IsShaped (tree_unrefused tree (rename d old e new))
   renames d old e new free =
       let moved = file_at tree d old in
       let there = file_at tree e new in
@@ -246,29 +289,42 @@ module _ (tree : Tree) (shaped : IsShaped tree) where
       let rest_three = (replaces moved there && (is_dir tree moved && is_file tree there), enotdir) ∷ rest_two in
       let rest_four = (is_moved_below tree moved e, einval) ∷ rest_three in
       let rest_five = (is_nameless tree e, enoent) ∷ rest_four in
-      let first = passes (not (is_directory tree d && is_directory tree e), enotdir) ((not (is_some moved), enoent) ∷ rest_five) free in
+      let first = passes (not (is_directory tree d && is_directory tree e), enotdir)
+      ((not (is_some moved), enoent) ∷ rest_five) free in
       let second = passes (not (is_some moved), enoent) rest_five first.1 in
       let third = passes (is_nameless tree e, enoent) rest_four second.1 in
       let fourth = passes (is_moved_below tree moved e, einval) rest_three third.1 in
-      let fifth = passes (replaces moved there && (is_dir tree moved && is_file tree there), enotdir) rest_two fourth.1 in
+      let fifth = passes (
+        replaces moved there && (is_dir tree moved && is_file tree there),
+        enotdir,
+      ) rest_two fourth.1 in
       let sixth = passes (replaces moved there && (is_file tree moved && is_dir tree there), eisdir) last fifth.1 in
       let seventh = passes (replaces moved there && is_filled tree there, enotempty) [] sixth.1 in
       let found = found_at moved second.0 in
       let directories = both_true _ _ (is_true _ first.0) in
-      let filled : (replaces (Some found.0) there && is_filled tree there) ≡ false = ap (λ o. replaces o there && is_filled tree there) (sym found.1) ∙ seventh.0 in
+      let filled : (replaces (Some found.0) there && is_filled tree there) ≡ false =
+      ap (λ o. replaces o there && is_filled tree there) (sym found.1) ∙ seventh.0 in
       rw found.1 (by found.0 found.1 directories.1 third.0 there refl (is_same (Some found.0) there) refl filled)
     where
-      by : (file : ℕ) → file_at tree d old ≡ Some file → is_directory tree e ≡ true → is_nameless tree e ≡ false → (o : Option ℕ) → file_at tree e new ≡ o → (same : Bool) → is_same (Some file) o ≡ same → (replaces (Some file) o && is_filled tree o) ≡ false
+      by : (file : ℕ) → file_at tree d old ≡ Some file → is_directory tree e ≡ true → is_nameless tree e ≡ false
+          → (o : Option ℕ) → file_at tree e new ≡ o → (same : Bool) → is_same (Some file) o ≡ same
+          → (replaces (Some file) o && is_filled tree o) ≡ false
           → IsShaped (cond same tree (renamed tree d old e new (Some file)))
       by file at is named o there true q free_there = shaped
-      by file at is named None there false q free_there = move_freely tree shaped d old e new file at is named (none_at (find (is_at e new) tree.names) (ap is_some there))
-      by file at is named (Some t) there false q free_there = replace tree shaped d old e new file at is named t there (is_true _ (rw q at free_there))
+      by file at is named None there false q free_there =
+          move_freely tree shaped d old e new file at is named
+          (none_at (find (is_at e new) tree.names) (ap is_some there))
+      by file at is named (Some t) there false q free_there =
+          replace tree shaped d old e new file at is named t there (is_true _ (rw q at free_there))
 
   -- a rename onto another file or none
-  pub moves : (d : ℕ) (old : Name) (e : ℕ) (new : Name) (file : ℕ) → file_at tree d old ≡ Some file → is_same (file_at tree d old) (file_at tree e new) ≡ false → refusal tree (rename d old e new) ≡ None → IsShaped (renamed tree d old e new (Some file))
+  pub moves : (d : ℕ) (old : Name) (e : ℕ) (new : Name) (file : ℕ) → file_at tree d old ≡ Some file
+      → is_same (file_at tree d old) (file_at tree e new) ≡ false → refusal tree (rename d old e new) ≡ None
+      → IsShaped (renamed tree d old e new (Some file))
   moves d old e new file at apart free = rw (apart, at) at (renames d old e new free)
 
-  unrefused : (operation : FileOperation) → refusal tree operation ≡ None → WritesRegular tree operation → IsShaped (tree_unrefused tree operation)
+  unrefused : (operation : FileOperation) → refusal tree operation ≡ None → WritesRegular tree operation
+      → IsShaped (tree_unrefused tree operation)
   unrefused (lookup d name) free regular = shaped
   unrefused (getattr file) free regular = shaped
   unrefused (mkdir d name) free regular = make d name a_directory free
@@ -282,7 +338,8 @@ module _ (tree : Tree) (shaped : IsShaped tree) where
   unrefused (readdirplus d offset size) free regular = shaped
   unrefused (read file offset size) free regular = shaped
   unrefused (write file offset []) free regular = shaped
-  unrefused (write file offset (b ∷ bytes)) free regular = with_bytes tree shaped file (overwritten (bytes_of (get tree.files file)) offset (b ∷ bytes)) regular
+  unrefused (write file offset (b ∷ bytes)) free regular =
+      with_bytes tree shaped file (overwritten (bytes_of (get tree.files file)) offset (b ∷ bytes)) regular
 
   pub keeps : (operation : FileOperation) → WritesRegular tree operation → IsShaped (tree_after tree operation)
   keeps operation regular = by (refusal tree operation) refl
@@ -292,6 +349,9 @@ module _ (tree : Tree) (shaped : IsShaped tree) where
       by (Some errno) free = shaped
 
 -- the tree after a rename onto another file or none
-pub renamed_is : (tree : Tree) (d : ℕ) (old : Name) (e : ℕ) (new : Name) (file : ℕ) (names : List Named) → file_at tree d old ≡ Some file → is_same (file_at tree d old) (file_at tree e new) ≡ false → names ≡ (renamed tree d old e new (Some file)).names
-    → record { files = tree.files; names = names; next_birth = tree.next_birth; next_serial = tree.next_serial + 1 } ≡ tree_unrefused tree (rename d old e new)
+pub renamed_is : (tree : Tree) (d : ℕ) (old : Name) (e : ℕ) (new : Name) (file : ℕ) (names : List Named)
+    → file_at tree d old ≡ Some file → is_same (file_at tree d old) (file_at tree e new) ≡ false
+    → names ≡ (renamed tree d old e new (Some file)).names
+    → record { files = tree.files; names = names; next_birth = tree.next_birth; next_serial = tree.next_serial + 1 }
+    ≡ tree_unrefused tree (rename d old e new)
 renamed_is tree d old e new file names at apart are = rw (apart, at, are) refl

@@ -37,13 +37,15 @@ other_back a b lower = grind (arith, common_steps)
 
 -- ---- what is read
 
-pub file-of : (o : Option Link) (f : Option Entry) → option_map link_of o ≡ option_map entry_link f → option_map (λ l. l.file) o ≡ option_map (λ e. e.file) f
+pub file-of : (o : Option Link) (f : Option Entry) → option_map link_of o ≡ option_map entry_link f
+    → option_map (λ l. l.file) o ≡ option_map (λ e. e.file) f
 file-of None None same = refl
 file-of None (Some e) same = cc
 file-of (Some l) None same = cc
 file-of (Some l) (Some e) same = ap (λ o. option_map (λ p. p.0) o) same
 
-pub serial-of : (o : Option Link) (f : Option Entry) → option_map link_of o ≡ option_map entry_link f → option_map (λ l. l.serial) o ≡ option_map (λ e. e.serial) f
+pub serial-of : (o : Option Link) (f : Option Entry) → option_map link_of o ≡ option_map entry_link f
+    → option_map (λ l. l.serial) o ≡ option_map (λ e. e.serial) f
 serial-of None None same = refl
 serial-of None (Some e) same = cc
 serial-of (Some l) None same = cc
@@ -57,7 +59,9 @@ module _ {E : Type 0} (p q : E → Bool) where
   find-kept apart [] = refl
   find-kept apart (x ∷ xs) = by (p x) refl (q x) refl (find-kept apart xs)
     where
-      by : (b : Bool) → p x ≡ b → (c : Bool) → q x ≡ c → find p (filter (λ x. not (q x)) xs) ≡ find p xs → find p (cond (not c) (x ∷ filter (λ x. not (q x)) xs) (filter (λ x. not (q x)) xs)) ≡ cond b (Some x) (find p xs)
+      by : (b : Bool) → p x ≡ b → (c : Bool) → q x ≡ c → find p (filter (λ x. not (q x)) xs) ≡ find p xs
+          → find p (cond (not c) (x ∷ filter (λ x. not (q x)) xs) (filter (λ x. not (q x)) xs))
+          ≡ cond b (Some x) (find p xs)
       by true e true f rest = absurd (true_false (sym f ∙ apart x e))
         where
           true_false : true ≡ false → ⊥
@@ -75,7 +79,9 @@ module _ {E : Type 0} (p : E → Bool) where
   find-append-last [] x none passes = rw passes refl
   find-append-last (y ∷ ys) x none passes = by (p y) none (find-append-last ys x)
     where
-      by : (b : Bool) → cond b (Some y) (find p ys) ≡ None → (find p ys ≡ None → p x ≡ true → find p (ys ++ x ∷ []) ≡ Some x) → cond b (Some y) (find p (ys ++ x ∷ [])) ≡ Some x
+      by : (b : Bool) → cond b (Some y) (find p ys) ≡ None
+          → (find p ys ≡ None → p x ≡ true → find p (ys ++ x ∷ []) ≡ Some x)
+          → cond b (Some y) (find p (ys ++ x ∷ [])) ≡ Some x
       by true none rest = cc
       by false none rest = rest none passes
 
@@ -89,64 +95,89 @@ AreNamedOnce-where p (e ∷ es) once = by (p e) (AreNamedOnce-where p es once.1)
     by true rest = (find-where-none (λ d. same_name d.name e.name) p es once.0, rest)
     by false rest = rest
 
-pub AreNamedOnce-push : (es : List Entry) (x : Entry) → AreNamedOnce es → find (λ d. same_name d.name x.name) es ≡ None → AreNamedOnce (es ++ x ∷ [])
+pub AreNamedOnce-push : (es : List Entry) (x : Entry) → AreNamedOnce es → find (λ d. same_name d.name x.name) es ≡ None
+    → AreNamedOnce (es ++ x ∷ [])
 AreNamedOnce-push [] x once absent = (refl, tt)
 AreNamedOnce-push (e ∷ es) x once absent = by (same_name e.name x.name) refl absent (AreNamedOnce-push es x once.1)
   where
     by : (b : Bool) → same_name e.name x.name ≡ b → cond b (Some e) (find (λ d. same_name d.name x.name) es) ≡ None
-        → (find (λ d. same_name d.name x.name) es ≡ None → AreNamedOnce (es ++ x ∷ [])) → AreNamedOnce (e ∷ es ++ x ∷ [])
+        → (find (λ d. same_name d.name x.name) es ≡ None → AreNamedOnce (es ++ x ∷ []))
+        → AreNamedOnce (e ∷ es ++ x ∷ [])
     by true s absent rest = cc
-    by false s absent rest = (find-append-none (λ d. same_name d.name e.name) es x once.0 (same_name-swap x.name e.name ∙ s), rest absent)
+    by false s absent rest = (
+      find-append-none (λ d. same_name d.name e.name) es x once.0
+          (same_name-swap x.name e.name ∙ s),
+      rest absent,
+    )
 
-pub AreNamedOnce-put : (es : List Entry) (x : Entry) → AreNamedOnce es → AreNamedOnce (filter (λ e. not (same_name e.name x.name)) es ++ x ∷ [])
+pub AreNamedOnce-put : (es : List Entry) (x : Entry) → AreNamedOnce es
+    → AreNamedOnce (filter (λ e. not (same_name e.name x.name)) es ++ x ∷ [])
 AreNamedOnce-put es x once =
-    AreNamedOnce-push (filter (λ e. not (same_name e.name x.name)) es) x (AreNamedOnce-where (λ e. not (same_name e.name x.name)) es once) (find-gone (λ e. same_name e.name x.name) es)
+    AreNamedOnce-push (filter (λ e. not (same_name e.name x.name)) es) x
+    (AreNamedOnce-where (λ e. not (same_name e.name x.name)) es once) (find-gone (λ e. same_name e.name x.name) es)
 
 -- ---- serials
 
 module _ {A : Type 0} where
-  kept-above : (serial : ℕ) (es : List (ℕ × Leaf A)) → AllByRecursion (λ y. nat_cmp serial y ≡ Less) (keys_of es) → filter (λ e. not (nat_eq e.serial serial)) (map entry_of es) ≡ map entry_of es
+  kept-above : (serial : ℕ) (es : List (ℕ × Leaf A)) → AllByRecursion (λ y. nat_cmp serial y ≡ Less) (keys_of es)
+      → filter (λ e. not (nat_eq e.serial serial)) (map entry_of es) ≡ map entry_of es
   kept-above serial [] above = refl
   kept-above serial (e ∷ es) above =
       let lower : serial < e.0 = ranked serial e.0 Less (sym above.0) in
       rw (other_back serial e.0 lower) (ap (λ l. entry_of e ∷ l) (kept-above serial es above.1))
 
-  above-found : (p : Entry → Bool) (serial : ℕ) (es : List (ℕ × Leaf A)) (x : Entry) → AllByRecursion (λ y. nat_cmp serial y ≡ Less) (keys_of es) → find p (map entry_of es) ≡ Some x → serial < x.serial
+  above-found : (p : Entry → Bool) (serial : ℕ) (es : List (ℕ × Leaf A)) (x : Entry)
+      → AllByRecursion (λ y. nat_cmp serial y ≡ Less) (keys_of es) → find p (map entry_of es) ≡ Some x
+      → serial < x.serial
   above-found p serial [] x above found = cc
   above-found p serial (e ∷ es) x above found = by (p (entry_of e)) found (above-found p serial es x above.1)
     where
-      by : (b : Bool) → cond b (Some (entry_of e)) (find p (map entry_of es)) ≡ Some x → (find p (map entry_of es) ≡ Some x → serial < x.serial) → serial < x.serial
-      by true found rest = let one : entry_of e ≡ x = some_entry (entry_of e) x found in subst (λ d. serial < d.serial) one (ranked serial e.0 Less (sym above.0))
+      by : (b : Bool) → cond b (Some (entry_of e)) (find p (map entry_of es)) ≡ Some x
+          → (find p (map entry_of es) ≡ Some x → serial < x.serial) → serial < x.serial
+      by true found rest = let one : entry_of e ≡ x = some_entry (entry_of e) x found in
+          subst (λ d. serial < d.serial) one (ranked serial e.0 Less (sym above.0))
       by false found rest = rest found
 
   -- a name is left out by its serial
-  pub name-serial : (name : List ℕ) (es : List (ℕ × Leaf A)) (x : Entry) → IsStrictlySortedBy nat_cmp (keys_of es) → AreNamedOnce (map entry_of es) → find (λ e. same_name e.name name) (map entry_of es) ≡ Some x
-      → filter (λ e. not (nat_eq e.serial x.serial)) (map entry_of es) ≡ filter (λ e. not (same_name e.name name)) (map entry_of es)
+  pub name-serial : (name : List ℕ) (es : List (ℕ × Leaf A)) (x : Entry) → IsStrictlySortedBy nat_cmp (keys_of es)
+      → AreNamedOnce (map entry_of es) → find (λ e. same_name e.name name) (map entry_of es) ≡ Some x
+      → filter (λ e. not (nat_eq e.serial x.serial)) (map entry_of es)
+      ≡ filter (λ e. not (same_name e.name name)) (map entry_of es)
   unfolding IsStrictlySortedBy
   name-serial name [] x sorted once found = cc
-  name-serial name (e ∷ es) x sorted once found = by (same_name e.1.name.items name) refl found (name-serial name es x sorted.1 once.1)
+  name-serial name (e ∷ es) x sorted once found = by (same_name e.1.name.items name) refl found
+      (name-serial name es x sorted.1 once.1)
     where
-      by : (b : Bool) → same_name e.1.name.items name ≡ b → cond b (Some (entry_of e)) (find (λ e. same_name e.name name) (map entry_of es)) ≡ Some x
-          → (find (λ e. same_name e.name name) (map entry_of es) ≡ Some x → filter (λ e. not (nat_eq e.serial x.serial)) (map entry_of es) ≡ filter (λ e. not (same_name e.name name)) (map entry_of es))
+      by : (b : Bool) → same_name e.1.name.items name ≡ b
+          → cond b (Some (entry_of e)) (find (λ e. same_name e.name name) (map entry_of es)) ≡ Some x
+          → (find (λ e. same_name e.name name) (map entry_of es) ≡ Some x
+          → filter (λ e. not (nat_eq e.serial x.serial)) (map entry_of es)
+          ≡ filter (λ e. not (same_name e.name name)) (map entry_of es))
           → filter (λ e. not (nat_eq e.serial x.serial)) (map entry_of (e ∷ es))
-          ≡ cond (not b) (entry_of e ∷ filter (λ e. not (same_name e.name name)) (map entry_of es)) (filter (λ e. not (same_name e.name name)) (map entry_of es))
+          ≡ cond (not b) (entry_of e ∷ filter (λ e. not (same_name e.name name)) (map entry_of es))
+          (filter (λ e. not (same_name e.name name)) (map entry_of es))
       by true s found rest =
           let one : entry_of e ≡ x = some_entry (entry_of e) x found in
           let at_name : e.1.name.items ≡ name = same_name-equal e.1.name.items name s in
-          let none : find (λ d. same_name d.name name) (map entry_of es) ≡ None = subst (λ n. find (λ d. same_name d.name n) (map entry_of es) ≡ None) at_name once.0 in
+          let none : find (λ d. same_name d.name name) (map entry_of es) ≡ None =
+          subst (λ n. find (λ d. same_name d.name n) (map entry_of es) ≡ None) at_name once.0 in
           let itself : nat_eq e.0 e.0 ≡ true = grind (arith, common_steps) in
-          let gone : filter (λ d. not (nat_eq d.serial e.0)) (map entry_of (e ∷ es)) ≡ map entry_of es = rw itself (kept-above e.0 es sorted.0) in
-          subst (λ y. filter (λ d. not (nat_eq d.serial y.serial)) (map entry_of (e ∷ es)) ≡ filter (λ d. not (same_name d.name name)) (map entry_of es)) one
+          let gone : filter (λ d. not (nat_eq d.serial e.0)) (map entry_of (e ∷ es)) ≡ map entry_of es =
+          rw itself (kept-above e.0 es sorted.0) in
+          subst (λ y. filter (λ d. not (nat_eq d.serial y.serial)) (map entry_of (e ∷ es))
+          ≡ filter (λ d. not (same_name d.name name)) (map entry_of es)) one
           (gone ∙ sym (filter-none (λ d. same_name d.name name) (map entry_of es) none))
       by false s found rest =
-          let other : nat_eq e.0 x.serial ≡ false = other_serial e.0 x.serial (above-found (λ d. same_name d.name name) e.0 es x sorted.0 found) in
+          let other : nat_eq e.0 x.serial ≡ false = other_serial e.0 x.serial
+          (above-found (λ d. same_name d.name name) e.0 es x sorted.0 found) in
           rw other (ap (λ l. entry_of e ∷ l) (rest found))
 
   pub below-entries : (next : ℕ) (es : List (ℕ × Leaf A)) → AreBefore next (map entry_of es) → AreBelow next es
   below-entries next [] before = tt
   below-entries next (e ∷ es) before = (before.0, below-entries next es before.1)
 
-before-found : (p : Entry → Bool) (next : ℕ) (es : List Entry) (x : Entry) → AreBefore next es → find p es ≡ Some x → x.serial < next
+before-found : (p : Entry → Bool) (next : ℕ) (es : List Entry) (x : Entry) → AreBefore next es → find p es ≡ Some x
+    → x.serial < next
 before-found p next [] x before found = cc
 before-found p next (e ∷ es) x before found = by (p e) found (before-found p next es x before.1)
   where
@@ -155,16 +186,22 @@ before-found p next (e ∷ es) x before found = by (p e) found (before-found p n
     by false found rest = rest found
 
 -- in a directory the serials are below the next
-pub before-rising : (dir low next : ℕ) (es : List Entry) → IsRising low (map (in_directory dir) es) next → AreBefore next es
+pub before-rising : (dir low next : ℕ) (es : List Entry) → IsRising low (map (in_directory dir) es) next
+    → AreBefore next es
 before-rising dir low next [] rising = tt
-before-rising dir low next (e ∷ es) rising = (first e.serial es rising.1, before-rising dir (e.serial + 1) next es rising.1)
+before-rising dir low next (e ∷ es) rising = (
+  first e.serial es rising.1,
+  before-rising dir (e.serial + 1) next es rising.1,
+)
   where
     first : (s : ℕ) (es : List Entry) → IsRising (s + 1) (map (in_directory dir) es) next → s < next
     first s [] rising = omega (arith, rising)
     first s (d ∷ es) rising = let rest = first d.serial es rising.1 in omega (arith, rising.0)
 
-apart_names : (name other : List ℕ) → same_name name other ≡ false → (e : Entry) → same_name e.name other ≡ true → same_name e.name name ≡ false
-apart_names name other apart e at = ap (λ n. same_name n name) (same_name-equal e.name other at) ∙ same_name-swap other name ∙ apart
+apart_names : (name other : List ℕ) → same_name name other ≡ false → (e : Entry) → same_name e.name other ≡ true
+    → same_name e.name name ≡ false
+apart_names name other apart e at = ap (λ n. same_name n name)
+    (same_name-equal e.name other at) ∙ same_name-swap other name ∙ apart
 
 -- ---- links
 
@@ -176,64 +213,90 @@ module _ {A : Type 0} where
   sought name k = pointwise nat_eq name k.items
 
   -- another name leads where it led
-  others-kept : (name other : List ℕ) (old new : List (Vec ℕ A × Link)) → KeepsOthers key_eq (sought name) old new → same_name name other ≡ false → lookup (sought other) new ≡ lookup (sought other) old
+  others-kept : (name other : List ℕ) (old new : List (Vec ℕ A × Link)) → KeepsOthers key_eq (sought name) old new
+      → same_name name other ≡ false → lookup (sought other) new ≡ lookup (sought other) old
   unfolding KeepsOthers
   others-kept name other old new kept apart =
       kept (sought other) (λ x y at. ap (λ n. pointwise nat_eq n y.items) (same_name-equal other x.items at))
       (λ k at. ap (λ n. same_name other n) (sym (same_name-equal name k.items at)) ∙ same_name-swap other name ∙ apart)
 
-  pub AreLinked-removed : (name : List ℕ) (old new : List (Vec ℕ A × Link)) (es : List Entry) → KeepsOthers key_eq (sought name) old new → lookup (sought name) new ≡ None
+  pub AreLinked-removed : (name : List ℕ) (old new : List (Vec ℕ A × Link)) (es : List Entry)
+      → KeepsOthers key_eq (sought name) old new → lookup (sought name) new ≡ None
       → AreLinked old es → AreLinked new (filter (λ e. not (same_name e.name name)) es)
   AreLinked-removed name old new es kept none linked = λ n. by n (same_name name n) refl
     where
-      by : (n : List ℕ) (b : Bool) → same_name name n ≡ b → link_in new n ≡ option_map entry_link (find (λ e. same_name e.name n) (filter (λ e. not (same_name e.name name)) es))
+      by : (n : List ℕ) (b : Bool) → same_name name n ≡ b
+          → link_in new n ≡ option_map entry_link (find (λ e. same_name e.name n)
+          (filter (λ e. not (same_name e.name name)) es))
       by n true at =
           let one : name ≡ n = same_name-equal name n at in
-          subst (λ m. link_in new m ≡ option_map entry_link (find (λ e. same_name e.name m) (filter (λ e. not (same_name e.name name)) es))) one
+          subst (λ m. link_in new m ≡ option_map entry_link
+          (find (λ e. same_name e.name m) (filter (λ e. not (same_name e.name name)) es))) one
           (ap (option_map link_of) none ∙ sym (ap (option_map entry_link) (find-gone (λ e. same_name e.name name) es)))
       by n false apart =
           ap (option_map link_of) (others-kept name n old new kept apart) ∙ linked n
-          ∙ sym (ap (option_map entry_link) (find-kept (λ e. same_name e.name n) (λ e. same_name e.name name) (apart_names name n apart) es))
+          ∙ sym (ap (option_map entry_link) (find-kept (λ e. same_name e.name n) (λ e. same_name e.name name)
+          (apart_names name n apart) es))
 
-  pub AreLinked-put : (x : Entry) (l : Link) (old new : List (Vec ℕ A × Link)) (es : List Entry) → l.file ≡ x.file → l.serial ≡ x.serial → KeepsOthers key_eq (sought x.name) old new → lookup (sought x.name) new ≡ Some l
+  pub AreLinked-put : (x : Entry) (l : Link) (old new : List (Vec ℕ A × Link)) (es : List Entry) → l.file ≡ x.file
+      → l.serial ≡ x.serial → KeepsOthers key_eq (sought x.name) old new → lookup (sought x.name) new ≡ Some l
       → AreLinked old es → AreLinked new (filter (λ e. not (same_name e.name x.name)) es ++ x ∷ [])
   AreLinked-put x l old new es same_file same_serial kept here linked = λ n. by n (same_name x.name n) refl
     where
-      by : (n : List ℕ) (b : Bool) → same_name x.name n ≡ b → link_in new n ≡ option_map entry_link (find (λ e. same_name e.name n) (filter (λ e. not (same_name e.name x.name)) es ++ x ∷ []))
+      by : (n : List ℕ) (b : Bool) → same_name x.name n ≡ b
+          → link_in new n ≡ option_map entry_link (find (λ e. same_name e.name n)
+          (filter (λ e. not (same_name e.name x.name)) es ++ x ∷ []))
       by n true at =
           let one : x.name ≡ n = same_name-equal x.name n at in
-          let last = find-append-last (λ e. same_name e.name x.name) (filter (λ e. not (same_name e.name x.name)) es) x (find-gone (λ e. same_name e.name x.name) es) (same_itself x.name) in
-          subst (λ m. link_in new m ≡ option_map entry_link (find (λ e. same_name e.name m) (filter (λ e. not (same_name e.name x.name)) es ++ x ∷ []))) one
+          let last = find-append-last (λ e. same_name e.name x.name) (filter (λ e. not (same_name e.name x.name)) es) x
+          (find-gone (λ e. same_name e.name x.name) es) (same_itself x.name) in
+          subst (λ m. link_in new m ≡ option_map entry_link
+          (find (λ e. same_name e.name m) (filter (λ e. not (same_name e.name x.name)) es ++ x ∷ []))) one
           (ap (option_map link_of) here ∙ rw (same_file, same_serial) refl ∙ sym (ap (option_map entry_link) last))
       by n false apart =
           ap (option_map link_of) (others-kept x.name n old new kept apart) ∙ linked n
-          ∙ sym (ap (option_map entry_link) (find-append-other (λ e. same_name e.name n) (filter (λ e. not (same_name e.name x.name)) es) x apart
+          ∙ sym (ap (option_map entry_link) (find-append-other (λ e. same_name e.name n)
+          (filter (λ e. not (same_name e.name x.name)) es) x apart
           ∙ find-kept (λ e. same_name e.name n) (λ e. same_name e.name x.name) (apart_names x.name n apart) es))
 
-module _ {A : Type 0} (name : List ℕ) (es : List (ℕ × Leaf A)) (once : AreNamedOnce (map entry_of es)) (sorted : IsStrictlySortedBy nat_cmp (keys_of es)) where
-  gone-by : (o : Option Entry) → find (λ e. same_name e.name name) (map entry_of es) ≡ o → map entry_of (without_key (option_map (λ e. e.serial) o) es) ≡ filter (λ e. not (same_name e.name name)) (map entry_of es)
+module _ {A : Type 0} (name : List ℕ) (es : List (ℕ × Leaf A)) (once : AreNamedOnce (map entry_of es))
+    (sorted : IsStrictlySortedBy nat_cmp (keys_of es)) where
+  gone-by : (o : Option Entry) → find (λ e. same_name e.name name) (map entry_of es) ≡ o
+      → map entry_of (without_key (option_map (λ e. e.serial) o) es)
+      ≡ filter (λ e. not (same_name e.name name)) (map entry_of es)
   gone-by None found = sym (filter-none (λ e. same_name e.name name) (map entry_of es) found)
-  gone-by (Some x) found = filter-map entry_of (λ e. not (nat_eq e.0 x.serial)) (λ e. not (nat_eq e.serial x.serial)) (λ e. refl) es ∙ name-serial name es x sorted once found
+  gone-by (Some x) found = filter-map entry_of (λ e. not (nat_eq e.0 x.serial)) (λ e. not (nat_eq e.serial x.serial))
+      (λ e. refl) es ∙ name-serial name es x sorted once found
 
   -- a name goes by its serial
-  pub removed-entries : map entry_of (without_key (option_map (λ e. e.serial) (find (λ e. same_name e.name name) (map entry_of es))) es) ≡ filter (λ e. not (same_name e.name name)) (map entry_of es)
+  pub removed-entries : map entry_of (without_key (option_map (λ e. e.serial)
+      (find (λ e. same_name e.name name) (map entry_of es))) es)
+      ≡ filter (λ e. not (same_name e.name name)) (map entry_of es)
   removed-entries = gone-by (find (λ e. same_name e.name name) (map entry_of es)) refl
 
-  put-by : (serial : ℕ) (leaf : Leaf A) → AreBefore serial (map entry_of es) → (o : Option Entry) → find (λ e. same_name e.name name) (map entry_of es) ≡ o
-      → without_key (option_map (λ e. e.serial) o) (es ++ (serial, leaf) ∷ []) ≡ without_key (option_map (λ e. e.serial) o) es ++ (serial, leaf) ∷ []
+  put-by : (serial : ℕ) (leaf : Leaf A) → AreBefore serial (map entry_of es) → (o : Option Entry)
+      → find (λ e. same_name e.name name) (map entry_of es) ≡ o
+      → without_key (option_map (λ e. e.serial) o) (es ++ (serial, leaf) ∷ [])
+      ≡ without_key (option_map (λ e. e.serial) o) es ++ (serial, leaf) ∷ []
   put-by serial leaf before None found = refl
   put-by serial leaf before (Some x) found =
-      let lower : x.serial < serial = before-found (λ e. same_name e.name name) serial (map entry_of es) x before found in
+      let lower : x.serial < serial = before-found (λ e. same_name e.name name) serial
+      (map entry_of es) x before found in
       let other : nat_eq serial x.serial ≡ false = other_back x.serial serial lower in
       filter-append (λ e. not (nat_eq e.0 x.serial)) es ((serial, leaf) ∷ []) ∙ rw other refl
 
   -- a name put last, and the one before it taken away
   pub put-entries : (serial : ℕ) (leaf : Leaf A) → AreBefore serial (map entry_of es)
-      → map entry_of (without_key (option_map (λ e. e.serial) (find (λ e. same_name e.name name) (map entry_of es))) (insert_entry nat_cmp es serial leaf)) ≡ filter (λ e. not (same_name e.name name)) (map entry_of es) ++ entry_of (serial, leaf) ∷ []
+      → map entry_of (without_key (option_map (λ e. e.serial) (find (λ e. same_name e.name name) (map entry_of es)))
+      (insert_entry nat_cmp es serial leaf)) ≡ filter (λ e. not (same_name e.name name)) (map entry_of es)
+      ++ entry_of (serial, leaf) ∷ []
   put-entries serial leaf before =
-      ap (λ l. map entry_of (without_key (option_map (λ e. e.serial) (find (λ e. same_name e.name name) (map entry_of es))) l)) (put-last es serial leaf (below-entries serial es before))
+      ap (λ l. map entry_of (without_key (option_map (λ e. e.serial)
+      (find (λ e. same_name e.name name) (map entry_of es))) l))
+      (put-last es serial leaf (below-entries serial es before))
       ∙ ap (map entry_of) (put-by serial leaf before (find (λ e. same_name e.name name) (map entry_of es)) refl)
-      ∙ map-append entry_of (without_key (option_map (λ e. e.serial) (find (λ e. same_name e.name name) (map entry_of es))) es) ((serial, leaf) ∷ [])
+      ∙ map-append entry_of (without_key (option_map (λ e. e.serial)
+      (find (λ e. same_name e.name name) (map entry_of es))) es) ((serial, leaf) ∷ [])
       ∙ ap (λ l. l ++ entry_of (serial, leaf) ∷ []) removed-entries
 
 -- ---- listing
@@ -252,30 +315,43 @@ and_true false = refl
 
 module _ {A : Type 0} where
   -- the names over a serial
-  pub names-after : (after : ℕ) (es : List (ℕ × Leaf A)) → map (in_directory 0) (map entry_of (filter (λ e. is_lt (nat_cmp after e.0) && true) es)) ≡ filter (λ n. nat_lt after n.serial) (map (in_directory 0) (map entry_of es))
+  pub names-after : (after : ℕ) (es : List (ℕ × Leaf A))
+      → map (in_directory 0) (map entry_of (filter (λ e. is_lt (nat_cmp after e.0) && true) es))
+      ≡ filter (λ n. nat_lt after n.serial) (map (in_directory 0) (map entry_of es))
   names-after after [] = refl
-  names-after after (e ∷ es) = rw (and_true (is_lt (nat_cmp after e.0)), is_lt-nat_cmp after e.0) (by (nat_lt after e.0) (names-after after es))
+  names-after after (e ∷ es) = rw (and_true (is_lt (nat_cmp after e.0)), is_lt-nat_cmp after e.0)
+      (by (nat_lt after e.0) (names-after after es))
     where
-      by : (b : Bool) → map (in_directory 0) (map entry_of (filter (λ e. is_lt (nat_cmp after e.0) && true) es)) ≡ filter (λ n. nat_lt after n.serial) (map (in_directory 0) (map entry_of es))
-          → map (in_directory 0) (map entry_of (cond b (e ∷ filter (λ e. is_lt (nat_cmp after e.0) && true) es) (filter (λ e. is_lt (nat_cmp after e.0) && true) es)))
-          ≡ cond b (in_directory 0 (entry_of e) ∷ filter (λ n. nat_lt after n.serial) (map (in_directory 0) (map entry_of es))) (filter (λ n. nat_lt after n.serial) (map (in_directory 0) (map entry_of es)))
+      by : (b : Bool) → map (in_directory 0) (map entry_of (filter (λ e. is_lt (nat_cmp after e.0) && true) es))
+          ≡ filter (λ n. nat_lt after n.serial) (map (in_directory 0) (map entry_of es))
+          → map (in_directory 0) (map entry_of (cond b (e ∷ filter (λ e. is_lt (nat_cmp after e.0) && true) es)
+          (filter (λ e. is_lt (nat_cmp after e.0) && true) es)))
+          ≡ cond b (in_directory 0 (entry_of e) ∷ filter (λ n. nat_lt after n.serial)
+          (map (in_directory 0) (map entry_of es))) (filter (λ n. nat_lt after n.serial)
+          (map (in_directory 0) (map entry_of es)))
       by true rest = ap (λ l. in_directory 0 (entry_of e) ∷ l) rest
       by false rest = rest
 
-module _ (more : ℕ) (rest : List (ℕ × Dirent)) (r : ℕ × Dirent) (room len : ℕ) (is : more + record_length r.1 ≡ len) where
+module _ (more : ℕ) (rest : List (ℕ × Dirent)) (r : ℕ × Dirent) (room len : ℕ)
+    (is : more + record_length r.1 ≡ len) where
   -- one record more that fits
-  pub fitting-more : (done : List (ℕ × Dirent)) → nat_le len room ≡ true → done ++ fitting_with more room (r ∷ rest) ≡ (done ++ r ∷ []) ++ fitting_with more (room - len) rest
+  pub fitting-more : (done : List (ℕ × Dirent)) → nat_le len room ≡ true
+      → done ++ fitting_with more room (r ∷ rest) ≡ (done ++ r ∷ []) ++ fitting_with more (room - len) rest
   fitting-more done fits = rw (is, fits) (sym (append_assoc done (r ∷ []) (fitting_with more (room - len) rest)))
 
   -- none more
-  pub fitting-end : (done : List (ℕ × Dirent)) → nat_le len room ≡ false → done ++ fitting_with more room (r ∷ rest) ≡ done
+  pub fitting-end : (done : List (ℕ × Dirent)) → nat_le len room ≡ false
+      → done ++ fitting_with more room (r ∷ rest) ≡ done
   fitting-end done fails = rw (is, fails) (append-nil done)
 
   -- the same of the files that they tell
-  pub files-more : (done : List ℕ) → nat_le len room ≡ true → done ++ files_led (fitting_with more room (r ∷ rest)) ≡ done ++ first_told (told_by (lead_pair 0 r)) (files_led (fitting_with more (room - len) rest))
+  pub files-more : (done : List ℕ) → nat_le len room ≡ true
+      → done ++ files_led (fitting_with more room (r ∷ rest)) ≡ done
+      ++ first_told (told_by (lead_pair 0 r)) (files_led (fitting_with more (room - len) rest))
   files-more done fits = rw (is, fits) refl
 
-  pub files-end : (done : List ℕ) → nat_le len room ≡ false → done ++ files_led (fitting_with more room (r ∷ rest)) ≡ done
+  pub files-end : (done : List ℕ) → nat_le len room ≡ false
+      → done ++ files_led (fitting_with more room (r ∷ rest)) ≡ done
   files-end done fails = rw (is, fails) (append-nil done)
 
 pub over : (len room : ℕ) → room < len → nat_le len room ≡ false

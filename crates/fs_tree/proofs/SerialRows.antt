@@ -22,34 +22,41 @@ swapped a b false e = grind (arith, common_steps, e)
 
 module _ {V : Type 0} where
   -- a key above all others is put last
-  pub put-last : (es : List (ℕ × V)) (key : ℕ) (v : V) → AreBelow key es → insert_entry nat_cmp es key v ≡ es ++ (key, v) ∷ []
+  pub put-last : (es : List (ℕ × V)) (key : ℕ) (v : V) → AreBelow key es
+      → insert_entry nat_cmp es key v ≡ es ++ (key, v) ∷ []
   put-last [] key v below = refl
   put-last (e ∷ es) key v below =
       let higher : e.0 < key = below.0 in
       rw (← nat_cmp_is key e.0 Greater (omega arith)) (ap (λ l. e ∷ l) (put-last es key v below.1))
 
   -- where all keys are above one, it is not among them
-  kept-above : (key : ℕ) (es : List (ℕ × V)) → AllByRecursion (λ y. nat_cmp key y ≡ Less) (keys_of es) → filter (λ e. not (nat_eq e.0 key)) es ≡ es
+  kept-above : (key : ℕ) (es : List (ℕ × V)) → AllByRecursion (λ y. nat_cmp key y ≡ Less) (keys_of es)
+      → filter (λ e. not (nat_eq e.0 key)) es ≡ es
   kept-above key [] above = refl
   kept-above key (e ∷ es) above =
       let lower : key < e.0 = ranked key e.0 Less (sym above.0) in
       rw (other_key key e.0 lower) (ap (λ l. e ∷ l) (kept-above key es above.1))
 
-  pub removed-key : (key : ℕ) (es : List (ℕ × V)) → IsStrictlySortedBy nat_cmp (keys_of es) → remove_entry (λ k. is_eq (nat_cmp key k)) es ≡ filter (λ e. not (nat_eq e.0 key)) es
+  pub removed-key : (key : ℕ) (es : List (ℕ × V)) → IsStrictlySortedBy nat_cmp (keys_of es)
+      → remove_entry (λ k. is_eq (nat_cmp key k)) es ≡ filter (λ e. not (nat_eq e.0 key)) es
   unfolding IsStrictlySortedBy
   removed-key key [] sorted = refl
-  removed-key key (e ∷ es) sorted = rw (is_eq-nat_cmp key e.0) (by (nat_eq key e.0) refl (removed-key key es sorted.1) sorted.0)
+  removed-key key (e ∷ es) sorted = rw (is_eq-nat_cmp key e.0)
+      (by (nat_eq key e.0) refl (removed-key key es sorted.1) sorted.0)
     where
-      by : (b : Bool) → nat_eq key e.0 ≡ b → remove_entry (λ k. is_eq (nat_cmp key k)) es ≡ filter (λ e. not (nat_eq e.0 key)) es
+      by : (b : Bool) → nat_eq key e.0 ≡ b → remove_entry (λ k. is_eq (nat_cmp key k)) es
+          ≡ filter (λ e. not (nat_eq e.0 key)) es
           → AllByRecursion (λ y. nat_cmp e.0 y ≡ Less) (keys_of es)
           → cond b es (e ∷ remove_entry (λ k. is_eq (nat_cmp key k)) es) ≡ filter (λ e. not (nat_eq e.0 key)) (e ∷ es)
       by true same rest above =
           let one : e.0 ≡ key = sym (same_key key e.0 same) in
-          rw (swapped key e.0 true same) (sym (ap (λ k. filter (λ e. not (nat_eq e.0 k)) es) (sym one) ∙ kept-above e.0 es above))
+          rw (swapped key e.0 true same) (sym (ap (λ k. filter (λ e. not (nat_eq e.0 k)) es)
+          (sym one) ∙ kept-above e.0 es above))
       by false other rest above = rw (swapped key e.0 false other) (ap (λ l. e ∷ l) rest)
 
   -- a key put last that goes again
-  pub put-undone : (es : List (ℕ × V)) (key : ℕ) (v : V) → AreBelow key es → filter (λ e. not (nat_eq e.0 key)) (es ++ (key, v) ∷ []) ≡ es
+  pub put-undone : (es : List (ℕ × V)) (key : ℕ) (v : V) → AreBelow key es
+      → filter (λ e. not (nat_eq e.0 key)) (es ++ (key, v) ∷ []) ≡ es
   put-undone [] key v below = let one : nat_eq key key ≡ true = grind (arith, common_steps) in rw one refl
   put-undone (e ∷ es) key v below =
       let other : nat_eq e.0 key ≡ false = swapped key e.0 false (other_key e.0 key below.0) in

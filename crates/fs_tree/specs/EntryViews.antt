@@ -25,4 +25,5 @@ module _ {A : Type 0} where
 
   -- The links by name are those of the entries.
   abbrev pub AreLinked : List (Vec ℕ A × Link) → List Entry → Type 0
-  AreLinked links entries = (name : List ℕ) → link_in links name ≡ option_map entry_link (find (λ e. same_name e.name name) entries)
+  AreLinked links entries = (name : List ℕ) → link_in links name
+      ≡ option_map entry_link (find (λ e. same_name e.name name) entries)

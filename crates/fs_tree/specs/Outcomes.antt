@@ -51,7 +51,8 @@ IsRefusedBy tree operation error = refusal tree operation ≡ Some (errno_of err
 
 -- Nothing refuses the operation, and this is its reply.
 abbrev pub IsReply : Tree → FileOperation → Reply ℕ ℕ → Type 0
-IsReply tree operation reply = (refusal tree operation ≡ None) × ((valid : Validity) → reply_unrefused valid tree operation ≡ reply)
+IsReply tree operation reply = (refusal tree operation ≡ None)
+    × ((valid : Validity) → reply_unrefused valid tree operation ≡ reply)
 
 -- The tree with the root alone.
 abbrev pub only_root : Tree
@@ -77,7 +78,8 @@ without_nameless tree = record tree { files = filter (λ e. not (is_nameless tre
 abbrev pub without_unheld : (ℕ → Bool) → Tree → Tree
 without_unheld holds tree = record tree { files = filter (λ e. not (is_nameless tree e.0) || holds e.0) tree.files }
 
--- The file from which an operation takes a name for good: that of the name by UNLINK and RMDIR, and one that is replaced by RENAME.
+-- The file from which an operation takes a name for good: that of the name by UNLINK and RMDIR, and one that is
+-- replaced by RENAME.
 abbrev pub unnamed_by : Tree → FileOperation → Option ℕ
 unnamed_by tree (unlink d name) = file_at tree d name
 unnamed_by tree (rmdir d name) = file_at tree d name
@@ -87,4 +89,5 @@ unnamed_by tree operation = None
 -- What refuses to replace a file by another one.
 abbrev pub replacing : Tree → Option ℕ → Option ℕ → List Check
 replacing tree moved there =
-    (is_dir tree moved && is_file tree there, enotdir) ∷ (is_file tree moved && is_dir tree there, eisdir) ∷ (is_filled tree there, enotempty) ∷ []
+    (is_dir tree moved && is_file tree there, enotdir) ∷ (is_file tree moved && is_dir tree there, eisdir) ∷
+    (is_filled tree there, enotempty) ∷ []

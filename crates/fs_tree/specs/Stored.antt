@@ -16,12 +16,14 @@ lead_in files n = (n.file, dirent_in files n)
 
 -- The same of the names in a directory whose serial is over `after`.
 abbrev pub listed : Map Content → ℕ → ℕ → List Named → List (ℕ × Dirent)
-listed files dir after names = map (lead_in files) (filter (λ n. nat_lt after n.serial) (filter (λ n. nat_eq n.directory dir) names))
+listed files dir after names = map (lead_in files)
+    (filter (λ n. nat_lt after n.serial) (filter (λ n. nat_eq n.directory dir) names))
 
 -- As many of these as fit so many bytes, from the first on, where each takes its record and so many bytes more.
 abbrev pub fitting_with : (more room : ℕ) → List (ℕ × Dirent) → List (ℕ × Dirent)
 fitting_with more room [] = []
-fitting_with more room (r ∷ records) = cond (nat_le (more + record_length r.1) room) (r ∷ fitting_with more (room - (more + record_length r.1)) records) []
+fitting_with more room (r ∷ records) = cond (nat_le (more + record_length r.1) room)
+    (r ∷ fitting_with more (room - (more + record_length r.1)) records) []
 
 -- A name as READDIRPLUS lists it, valid for so many milliseconds.
 abbrev pub lead_pair : (valid : ℕ) → ℕ × Dirent → DirentPlus ℕ
@@ -106,4 +108,5 @@ in_directory dir e = record { directory = dir; name = e.name; file = e.file; ser
 
 -- The names in each directory are these, in rising serial.
 abbrev pub AreByDirectory : (ℕ → List Entry) → List Named → Type 0
-AreByDirectory entries names = (dir : ℕ) → map (in_directory dir) (entries dir) ≡ filter (λ n. nat_eq n.directory dir) names
+AreByDirectory entries names = (dir : ℕ) → map (in_directory dir) (entries dir)
+    ≡ filter (λ n. nat_eq n.directory dir) names

@@ -55,7 +55,8 @@ impl<A: Allocator + Copy> Tree<A> {
     /// Writes bytes into a regular file. A gap between its end and the offset becomes zeros. EFBIG past 65,536 bytes.
     pub fn write(&mut self, file: u64, offset: u64, bytes: &[u8]) -> Result<(), TreeError>
         requires { IsTrue (is_regular self.old file) }
-        ensures ok { OnOk result ((refusal self.old (write file offset bytes.now) ≡ None) × (self.new ≡ tree_unrefused self.old (write file offset bytes.now))) }
+        ensures ok { OnOk result ((refusal self.old (write file offset bytes.now) ≡ None)
+            × (self.new ≡ tree_unrefused self.old (write file offset bytes.now))) }
         ensures refused { IfErr result (IsRefused self.old (write file offset bytes.now)) }
         ensures unchanged { OnErr result (self.new ≡ self.old) }
     {

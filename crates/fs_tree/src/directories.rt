@@ -37,8 +37,15 @@ pub(crate) fn put_last_in<A: Allocator + Copy>(
 ) -> Result<(), AllocError>
     requires there { IsSome (lookup (nat_eq directory) directories.old.entries) }
     requires last { AreBefore link.serial (entries_in directories.old.entries directory) }
-    ensures ok { OnOk result ((k : ℕ) → entries_in directories.new.entries k ≡ cond (nat_eq directory k) (filter (λ e. not (same_name e.name name.items)) (entries_in directories.old.entries k) ++ record { name = name.items; file = link.file; serial = link.serial } ∷ []) (entries_in directories.old.entries k)) }
-    ensures unchanged { OnErr result ((k : ℕ) → entries_in directories.new.entries k ≡ entries_in directories.old.entries k) }
+    ensures ok { OnOk result ((k : ℕ) → entries_in directories.new.entries k
+        ≡ cond (nat_eq directory k) (filter (λ e. not (same_name e.name name.items))
+        (entries_in directories.old.entries k) ++ record {
+          name = name.items;
+          file = link.file;
+          serial = link.serial;
+        } ∷ []) (entries_in directories.old.entries k)) }
+    ensures unchanged { OnErr result ((k : ℕ) → entries_in directories.new.entries k
+        ≡ entries_in directories.old.entries k) }
 {
     match directories.get_mut(&directory) {
         Some(entries) => entries.put_last(name, link),
@@ -52,7 +59,9 @@ pub(crate) fn remove_from<A: Allocator + Copy>(
     directory: u64,
     name: &[u8],
 )
-    ensures { (k : ℕ) → entries_in directories.new.entries k ≡ cond (nat_eq directory k) (filter (λ e. not (same_name e.name name.now)) (entries_in directories.old.entries k)) (entries_in directories.old.entries k) }
+    ensures { (k : ℕ) → entries_in directories.new.entries k
+        ≡ cond (nat_eq directory k) (filter (λ e. not (same_name e.name name.now))
+        (entries_in directories.old.entries k)) (entries_in directories.old.entries k) }
 {
     if let Some(entries) = directories.get_mut(&directory) {
         entries.remove(name);

@@ -53,7 +53,8 @@ impl<A: Allocator> Model for Entries<A> {
 
     ghost view = { λ e. map entry_of e.names.entries };
 
-    ghost invariant = { λ e. AreLinked e.links.entries (map entry_of e.names.entries) × AreNamedOnce (map entry_of e.names.entries) };
+    ghost invariant = { λ e. AreLinked e.links.entries (map entry_of e.names.entries)
+        × AreNamedOnce (map entry_of e.names.entries) };
 }
 
 impl<A: Allocator + Copy> Entries<A> {
@@ -102,10 +103,12 @@ impl<A: Allocator + Copy> Entries<A> {
         take_away(&mut self.names, serial);
     }
 
-    /// Takes a name away and puts it anew, last, under a serial over all others. Where memory is refused nothing changes.
+    /// Takes a name away and puts it anew, last, under a serial over all others. Where memory is refused nothing
+    /// changes.
     pub(crate) fn put_last(&mut self, name: Vec<u8, A>, link: Link) -> Result<(), AllocError>
         requires { AreBefore link.serial self.old }
-        ensures ok { OnOk result (self.new ≡ filter (λ e. not (same_name e.name name.items)) self.old ++ record { name = name.items; file = link.file; serial = link.serial } ∷ []) }
+        ensures ok { OnOk result (self.new ≡ filter (λ e. not (same_name e.name name.items)) self.old
+            ++ record { name = name.items; file = link.file; serial = link.serial } ∷ []) }
         ensures unchanged { OnErr result (self.new ≡ self.old) }
     {
         let replaced = self.serial_at(&name);
@@ -130,7 +133,9 @@ impl<A: Allocator + Copy> Entries<A> {
         more: usize,
     ) -> Result<Vec<Record<'_>, A>, AllocError>
         requires { more ≤ 128 }
-        ensures { IfOk result (λ records. map lead_of records.items ≡ fitting_with more size (map (lead_in files.now) (filter (λ n. nat_lt after n.serial) (map (in_directory 0) self.now)))) }
+        ensures { IfOk result (λ records. map lead_of records.items
+            ≡ fitting_with more size (map (lead_in files.now)
+            (filter (λ n. nat_lt after n.serial) (map (in_directory 0) self.now)))) }
     {
         let mut records = Vec::new(*self.links.allocator());
         let mut room = size;
@@ -153,7 +158,9 @@ impl<A: Allocator + Copy> Entries<A> {
     /// The files that the names with a serial over `after` tell, as many names as fit so many bytes with their entries.
     pub(crate) fn files_listed(&self, after: u64, size: usize) -> ArrayVec<u64, MOST_LISTED>
         requires { size ≤ 4096 }
-        ensures { (files : Map Content) → result.items ≡ files_led (fitting_with 128 size (map (lead_in files) (filter (λ n. nat_lt after n.serial) (map (in_directory 0) self.now)))) }
+        ensures { (files : Map Content) → result.items ≡ files_led
+            (fitting_with 128 size (map (lead_in files) (filter (λ n. nat_lt after n.serial)
+            (map (in_directory 0) self.now)))) }
     {
         let mut listed = ArrayVec::new();
         let mut room = size;

@@ -116,7 +116,8 @@ impl<A: Allocator + Copy> Files<A> {
 
     /// Takes away each file that no name leads to, but for the root.
     pub(crate) fn retain_named(&mut self, names: &Names<A>)
-        ensures { self.new ≡ filter (λ e. not (nat_eq (cond (nat_eq e.0 0) 1 (count_by (λ n. nat_eq n.file e.0) names.now)) 0)) self.old }
+        ensures { self.new ≡ filter (λ e. not (nat_eq (cond (nat_eq e.0 0) 1
+            (count_by (λ n. nat_eq n.file e.0) names.now)) 0)) self.old }
     {
         self.contents
             .retain(|file, _| *file == ROOT || names.count_of(*file) != 0);

@@ -32,15 +32,16 @@ pub struct Record<'a> {
 }
 
 impl<A: Allocator + Copy> Tree<A> {
-    /// The names in a directory with a serial over the offset, in rising serial: as many whole records as fit `size` and 4,096
-    /// bytes. The first that does not fit ends the list (`struct fuse_dirent`).
+    /// The names in a directory with a serial over the offset, in rising serial: as many whole records as fit `size`
+    /// and 4,096 bytes. The first that does not fit ends the list (`struct fuse_dirent`).
     pub fn readdir(
         &self,
         directory: u64,
         offset: u64,
         size: u32,
     ) -> Result<Vec<Record<'_>, A>, TreeError>
-        ensures ok { IfOk result (λ records. IsReply self.now (readdir directory offset size) (listed (map dirent_of records.items))) }
+        ensures ok { IfOk result (λ records. IsReply self.now (readdir directory offset size)
+            (listed (map dirent_of records.items))) }
         ensures refused { IfErr result (IsRefused self.now (readdir directory offset size)) }
     {
         if !self.is_directory(directory) {
@@ -58,7 +59,9 @@ impl<A: Allocator + Copy> Tree<A> {
         offset: u64,
         size: u32,
     ) -> Result<Vec<Record<'_>, A>, TreeError>
-        ensures ok { IfOk result (λ records. (refusal self.now (readdirplus directory offset size) ≡ None) × ((valid : Validity) → reply_unrefused valid self.now (readdirplus directory offset size) ≡ listed_plus (map (pair_of valid.found_ms) records.items))) }
+        ensures ok { IfOk result (λ records. (refusal self.now (readdirplus directory offset size) ≡ None)
+            × ((valid : Validity) → reply_unrefused valid self.now (readdirplus directory offset size)
+            ≡ listed_plus (map (pair_of valid.found_ms) records.items))) }
         ensures refused { IfErr result (IsRefused self.now (readdirplus directory offset size)) }
     {
         if !self.is_directory(directory) {
@@ -71,9 +74,11 @@ impl<A: Allocator + Copy> Tree<A> {
         Ok(records)
     }
 
-    /// The files that those names tell, in order: `.` and `..` tell none. In a file that is no directory there are none.
+    /// The files that those names tell, in order: `.` and `..` tell none. In a file that is no directory there are
+    /// none.
     pub fn files_listed(&self, directory: u64, offset: u64, size: u32) -> ArrayVec<u64, MOST_LISTED>
-        ensures { (valid : Validity) → result.items ≡ files_in_reply (reply_unrefused valid self.now (readdirplus directory offset size)) }
+        ensures { (valid : Validity) → result.items ≡ files_in_reply
+            (reply_unrefused valid self.now (readdirplus directory offset size)) }
     {
         let room = size.min(MAX_TRANSFER) as usize;
         self.names.files_listed(directory, offset, room)

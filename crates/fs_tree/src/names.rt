@@ -109,7 +109,12 @@ impl<A: Allocator + Copy> Names<A> {
     ) -> Result<(), AllocError>
         requires absent { find (is_at directory name.now) self.old ≡ None }
         requires last { IsRising 1 self.old serial }
-        ensures ok { OnOk result (self.new ≡ self.old ++ record { directory = directory; name = name.now; file = file; serial = serial } ∷ []) }
+        ensures ok { OnOk result (self.new ≡ self.old ++ record {
+          directory = directory;
+          name = name.now;
+          file = file;
+          serial = serial;
+        } ∷ []) }
         ensures unchanged { OnErr result (self.new ≡ self.old) }
     {
         let key = copy_of(name, self.alloc)?;
@@ -162,7 +167,9 @@ impl<A: Allocator + Copy> Names<A> {
     ) -> Result<(), AllocError>
         requires other { (nat_eq new_directory directory && same_name new.now old.now) ≡ false }
         requires last { IsRising 1 self.old serial }
-        ensures ok { OnOk result (self.new ≡ filter (λ n. not (is_at new_directory new.now n)) (filter (λ n. not (is_at directory old.now n)) self.old) ++ record { directory = new_directory; name = new.now; file = file; serial = serial } ∷ []) }
+        ensures ok { OnOk result (self.new ≡ filter (λ n. not (is_at new_directory new.now n))
+            (filter (λ n. not (is_at directory old.now n)) self.old)
+            ++ record { directory = new_directory; name = new.now; file = file; serial = serial } ∷ []) }
         ensures unchanged { OnErr result (self.new ≡ self.old) }
     {
         let moved = self.serial_at(directory, old);
@@ -199,7 +206,8 @@ impl<A: Allocator + Copy> Names<A> {
         at == top
     }
 
-    /// The records of the names in a directory with a serial over `after`, as many as fit so many bytes with so many bytes more each.
+    /// The records of the names in a directory with a serial over `after`, as many as fit so many bytes with so many
+    /// bytes more each.
     pub(crate) fn list(
         &self,
         files: &Files<A>,
@@ -209,7 +217,8 @@ impl<A: Allocator + Copy> Names<A> {
         more: usize,
     ) -> Result<Vec<Record<'_>, A>, AllocError>
         requires { more ≤ 128 }
-        ensures { IfOk result (λ records. map lead_of records.items ≡ fitting_with more size (listed files.now directory after self.now)) }
+        ensures { IfOk result (λ records. map lead_of records.items
+            ≡ fitting_with more size (listed files.now directory after self.now)) }
     {
         match self.directories.get(&directory) {
             Some(entries) => entries.list(files, after, size, more),
@@ -217,7 +226,8 @@ impl<A: Allocator + Copy> Names<A> {
         }
     }
 
-    /// The files that the names in a directory with a serial over `after` tell, as many names as fit so many bytes with their entries.
+    /// The files that the names in a directory with a serial over `after` tell, as many names as fit so many bytes with
+    /// their entries.
     pub(crate) fn files_listed(
         &self,
         directory: u64,
@@ -225,7 +235,8 @@ impl<A: Allocator + Copy> Names<A> {
         size: usize,
     ) -> ArrayVec<u64, MOST_LISTED>
         requires { size ≤ 4096 }
-        ensures { (files : Map Content) → result.items ≡ files_led (fitting_with 128 size (listed files directory after self.now)) }
+        ensures { (files : Map Content) → result.items ≡ files_led
+            (fitting_with 128 size (listed files directory after self.now)) }
     {
         match self.directories.get(&directory) {
             Some(entries) => entries.files_listed(after, size),

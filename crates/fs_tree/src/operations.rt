@@ -17,7 +17,8 @@ impl<A: Allocator + Copy> Tree<A> {
     pub fn mkdir(&mut self, directory: u64, name: &[u8]) -> Result<u64, TreeError>
         requires births { self.old.next_birth < 2 ^ 62 }
         requires serials { self.old.next_serial < 2 ^ 62 }
-        ensures ok { IfOk result (λ file. (refusal self.old (mkdir directory name.now) ≡ None) × ((file ≡ self.old.next_birth) × (self.new ≡ tree_unrefused self.old (mkdir directory name.now)))) }
+        ensures ok { IfOk result (λ file. (refusal self.old (mkdir directory name.now) ≡ None)
+            × ((file ≡ self.old.next_birth) × (self.new ≡ tree_unrefused self.old (mkdir directory name.now)))) }
         ensures refused { IfErr result (IsRefused self.old (mkdir directory name.now)) }
         ensures unchanged { OnErr result (self.new ≡ self.old) }
     {
@@ -28,7 +29,8 @@ impl<A: Allocator + Copy> Tree<A> {
     pub fn create(&mut self, directory: u64, name: &[u8]) -> Result<u64, TreeError>
         requires births { self.old.next_birth < 2 ^ 62 }
         requires serials { self.old.next_serial < 2 ^ 62 }
-        ensures ok { IfOk result (λ file. (refusal self.old (create directory name.now) ≡ None) × ((file ≡ self.old.next_birth) × (self.new ≡ tree_unrefused self.old (create directory name.now)))) }
+        ensures ok { IfOk result (λ file. (refusal self.old (create directory name.now) ≡ None)
+            × ((file ≡ self.old.next_birth) × (self.new ≡ tree_unrefused self.old (create directory name.now)))) }
         ensures refused { IfErr result (IsRefused self.old (create directory name.now)) }
         ensures unchanged { OnErr result (self.new ≡ self.old) }
     {
@@ -39,7 +41,9 @@ impl<A: Allocator + Copy> Tree<A> {
     fn make(&mut self, directory: u64, name: &[u8], content: Content<A>) -> Result<u64, TreeError>
         requires births { self.old.next_birth < 2 ^ 62 }
         requires serials { self.old.next_serial < 2 ^ 62 }
-        ensures ok { IfOk result (λ file. (refusal self.old (mkdir directory name.now) ≡ None) × ((file ≡ self.old.next_birth) × (self.new ≡ with_birth self.old directory name.now (content_in content)))) }
+        ensures ok { IfOk result (λ file. (refusal self.old (mkdir directory name.now) ≡ None)
+            × ((file ≡ self.old.next_birth) × (self.new ≡ with_birth self.old directory name.now
+            (content_in content)))) }
         ensures refused { IfErr result (IsRefused self.old (mkdir directory name.now)) }
         ensures unchanged { OnErr result (self.new ≡ self.old) }
     {
@@ -60,7 +64,8 @@ impl<A: Allocator + Copy> Tree<A> {
 
     /// Takes the name of a file away. ENOTDIR, ENOENT, EISDIR for a directory. The file stays, nameless or not.
     pub fn unlink(&mut self, directory: u64, name: &[u8]) -> Result<(), TreeError>
-        ensures ok { OnOk result ((refusal self.old (unlink directory name.now) ≡ None) × (self.new ≡ tree_unrefused self.old (unlink directory name.now))) }
+        ensures ok { OnOk result ((refusal self.old (unlink directory name.now) ≡ None)
+            × (self.new ≡ tree_unrefused self.old (unlink directory name.now))) }
         ensures refused { IfErr result (IsRefusedBy self.old (unlink directory name.now)) }
         ensures unchanged { OnErr result (self.new ≡ self.old) }
     {
@@ -72,10 +77,11 @@ impl<A: Allocator + Copy> Tree<A> {
         Ok(())
     }
 
-    /// Takes the name of an empty directory away. ENOTDIR, ENOENT, ENOTDIR for another file, ENOTEMPTY. The directory stays,
-    /// nameless.
+    /// Takes the name of an empty directory away. ENOTDIR, ENOENT, ENOTDIR for another file, ENOTEMPTY. The directory
+    /// stays, nameless.
     pub fn rmdir(&mut self, directory: u64, name: &[u8]) -> Result<(), TreeError>
-        ensures ok { OnOk result ((refusal self.old (rmdir directory name.now) ≡ None) × (self.new ≡ tree_unrefused self.old (rmdir directory name.now))) }
+        ensures ok { OnOk result ((refusal self.old (rmdir directory name.now) ≡ None)
+            × (self.new ≡ tree_unrefused self.old (rmdir directory name.now))) }
         ensures refused { IfErr result (IsRefusedBy self.old (rmdir directory name.now)) }
         ensures unchanged { OnErr result (self.new ≡ self.old) }
     {
@@ -86,11 +92,12 @@ impl<A: Allocator + Copy> Tree<A> {
         Ok(())
     }
 
-    /// Makes one more name of a file. ENOTDIR, ENOENT in a nameless directory, EPERM for a directory, ENOENT for a nameless
-    /// file, EEXIST, ENOSPC at 4,096 names.
+    /// Makes one more name of a file. ENOTDIR, ENOENT in a nameless directory, EPERM for a directory, ENOENT for a
+    /// nameless file, EEXIST, ENOSPC at 4,096 names.
     pub fn link(&mut self, file: u64, directory: u64, name: &[u8]) -> Result<(), TreeError>
         requires serials { self.old.next_serial < 2 ^ 62 }
-        ensures ok { OnOk result ((refusal self.old (link file directory name.now) ≡ None) × (self.new ≡ tree_unrefused self.old (link file directory name.now))) }
+        ensures ok { OnOk result ((refusal self.old (link file directory name.now) ≡ None)
+            × (self.new ≡ tree_unrefused self.old (link file directory name.now))) }
         ensures refused { IfErr result (IsRefused self.old (link file directory name.now)) }
         ensures unchanged { OnErr result (self.new ≡ self.old) }
     {
@@ -103,8 +110,9 @@ impl<A: Allocator + Copy> Tree<A> {
         Ok(())
     }
 
-    /// Moves a file from one name to another, under a fresh serial, and replaces what stands there. ENOTDIR, ENOENT, EINVAL
-    /// for a directory into itself or below; then nothing changes if the same file stands there; ENOTDIR, EISDIR, ENOTEMPTY.
+    /// Moves a file from one name to another, under a fresh serial, and replaces what stands there. ENOTDIR, ENOENT,
+    /// EINVAL for a directory into itself or below; then nothing changes if the same file stands there; ENOTDIR,
+    /// EISDIR, ENOTEMPTY.
     pub fn rename(
         &mut self,
         directory: u64,
@@ -113,7 +121,8 @@ impl<A: Allocator + Copy> Tree<A> {
         new: &[u8],
     ) -> Result<(), TreeError>
         requires serials { self.old.next_serial < 2 ^ 62 }
-        ensures ok { OnOk result ((refusal self.old (rename directory old.now new_directory new.now) ≡ None) × (self.new ≡ tree_unrefused self.old (rename directory old.now new_directory new.now))) }
+        ensures ok { OnOk result ((refusal self.old (rename directory old.now new_directory new.now) ≡ None)
+            × (self.new ≡ tree_unrefused self.old (rename directory old.now new_directory new.now))) }
         ensures refused { IfErr result (IsRefused self.old (rename directory old.now new_directory new.now)) }
         ensures unchanged { OnErr result (self.new ≡ self.old) }
     {

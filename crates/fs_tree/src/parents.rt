@@ -96,7 +96,9 @@ pub(crate) fn put_last_in<A: Allocator + Copy>(
 ) -> Result<(), AllocError>
     requires there { IsSome (lookup (nat_eq file) parents.old.entries) }
     requires last { AreBelow serial (parents_in parents.old.entries file) }
-    ensures ok { OnOk result ((k : ℕ) → parents_in parents.new.entries k ≡ cond (nat_eq file k) (parents_in parents.old.entries k ++ (serial, directory) ∷ []) (parents_in parents.old.entries k)) }
+    ensures ok { OnOk result ((k : ℕ) → parents_in parents.new.entries k
+        ≡ cond (nat_eq file k) (parents_in parents.old.entries k ++ (serial, directory) ∷ [])
+        (parents_in parents.old.entries k)) }
     ensures unchanged { OnErr result ((k : ℕ) → parents_in parents.new.entries k ≡ parents_in parents.old.entries k) }
 {
     match parents.get_mut(&file) {
@@ -111,7 +113,9 @@ pub(crate) fn remove_from<A: Allocator + Copy>(
     file: u64,
     serial: u64,
 )
-    ensures { (k : ℕ) → parents_in parents.new.entries k ≡ cond (nat_eq file k) (filter (λ e. not (nat_eq e.0 serial)) (parents_in parents.old.entries k)) (parents_in parents.old.entries k) }
+    ensures { (k : ℕ) → parents_in parents.new.entries k
+        ≡ cond (nat_eq file k) (filter (λ e. not (nat_eq e.0 serial)) (parents_in parents.old.entries k))
+        (parents_in parents.old.entries k) }
 {
     if let Some(of_file) = parents.get_mut(&file) {
         of_file.remove(serial);

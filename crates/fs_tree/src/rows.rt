@@ -86,7 +86,12 @@ impl<A: Allocator + Copy> Rows<A> {
         serial: u64,
     ) -> Result<(), AllocError>
         requires { IsRising 1 self.old serial }
-        ensures ok { OnOk result (self.new ≡ self.old ++ record { directory = directory; name = name.items; file = file; serial = serial } ∷ []) }
+        ensures ok { OnOk result (self.new ≡ self.old ++ record {
+          directory = directory;
+          name = name.items;
+          file = file;
+          serial = serial;
+        } ∷ []) }
         ensures unchanged { OnErr result (self.new ≡ self.old) }
     {
         open(&mut self.parents, file, self.alloc)?;

@@ -11,14 +11,18 @@ ghost use Rattle.fs_tree.specs.Outcomes.{discarded, only_root, without_nameless}
 
 /// A directory is found to be below another one exactly where its parents lead there.
 pub fn below_by_parents()
-    ensures { (tree : Tree) → IsShaped tree → (top directory : ℕ) → is_directory tree directory ≡ true → (is_below tree top directory ≡ true) ↔ IsBelow tree top directory }
+    ensures { (tree : Tree) → IsShaped tree → (top directory : ℕ) → is_directory tree directory ≡ true
+        → (is_below tree top directory ≡ true) ↔ IsBelow tree top directory }
 {}
 
-/// Where no check before refuses it, a rename is EINVAL exactly where a directory would move into itself or below itself.
+/// Where no check before refuses it, a rename is EINVAL exactly where a directory would move into itself or below
+/// itself.
 pub fn rename_below_itself()
-    ensures { (tree : Tree) → IsShaped tree → (from to moved : ℕ) (old new : Name) → is_directory tree from ≡ true → is_directory tree to ≡ true →
+    ensures { (tree : Tree) → IsShaped tree → (from to moved : ℕ) (old new : Name) → is_directory tree from ≡ true
+        → is_directory tree to ≡ true →
         file_at tree from old ≡ Some moved → is_nameless tree to ≡ false →
-        (refusal tree (rename from old to new) ≡ Some einval) ↔ ((is_directory tree moved ≡ true) × IsBelow tree moved to) }
+        (refusal tree (rename from old to new) ≡ Some einval) ↔
+        ((is_directory tree moved ≡ true) × IsBelow tree moved to) }
 {}
 
 /// No name is in a nameless directory.
@@ -28,7 +32,8 @@ pub fn nameless_is_empty()
 
 /// What is true of every tree stays true, whatever the operation, if no file but a regular one is written.
 pub fn operations_keep_shape()
-    ensures { (tree : Tree) → IsShaped tree → (operation : FileOperation) → WritesRegular tree operation → IsShaped (tree_after tree operation) }
+    ensures { (tree : Tree) → IsShaped tree → (operation : FileOperation) → WritesRegular tree operation
+        → IsShaped (tree_after tree operation) }
 {}
 
 /// It stays true as nameless files are discarded.

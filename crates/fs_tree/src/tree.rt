@@ -37,9 +37,20 @@ impl<A: Allocator> Model for Tree<A> {
     ghost use Rattle.fuse_spec.specs.Files.TreeShape.{IsShaped};
     ghost use Rattle.fs_tree.specs.Stored.{IsKept};
 
-    ghost view = { λ t. record { files = t.files; names = t.names; next_birth = t.next_birth; next_serial = t.next_serial } };
+    ghost view = { λ t. record {
+      files = t.files;
+      names = t.names;
+      next_birth = t.next_birth;
+      next_serial = t.next_serial;
+    } };
 
-    ghost invariant = { λ t. IsKept t.files t.names t.next_birth t.next_serial × IsShaped (record { files = t.files; names = t.names; next_birth = t.next_birth; next_serial = t.next_serial }) };
+    ghost invariant = { λ t. IsKept t.files t.names t.next_birth t.next_serial
+        × IsShaped (record {
+          files = t.files;
+          names = t.names;
+          next_birth = t.next_birth;
+          next_serial = t.next_serial;
+        }) };
 }
 
 impl<A: Allocator + Copy> Tree<A> {
@@ -115,7 +126,8 @@ impl<A: Allocator + Copy> Tree<A> {
 
     /// The file to which a name in a directory leads, if one does.
     pub fn lookup(&self, directory: u64, name: &[u8]) -> Result<Option<u64>, TreeError>
-        ensures ok { IfOk result (λ file. (refusal self.now (lookup directory name.now) ≡ None) × (file ≡ file_at self.now directory name.now)) }
+        ensures ok { IfOk result (λ file. (refusal self.now (lookup directory name.now) ≡ None)
+            × (file ≡ file_at self.now directory name.now)) }
         ensures refused { IfErr result (IsRefusedBy self.now (lookup directory name.now)) }
     {
         if !self.is_directory(directory) {

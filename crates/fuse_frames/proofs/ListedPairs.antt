@@ -29,36 +29,66 @@ use Rattle.fuse_frames.proofs.ReplyLemmas.{reads_as_itself}
 
 -- the pair of an entry and a record
 abbrev pub listed : (valid : ℕ) → Entry → DirentContent → DirentPlusContent
-listed valid e d = record { entry_out = entry_of e.nodeid e.generation (valid / 1000) (valid % 1000 * 1000000) (attr_of e.attributes); dirent = d }
+listed valid e d = record {
+  entry_out = entry_of e.nodeid e.generation (valid / 1000) (valid % 1000 * 1000000)
+      (attr_of e.attributes);
+  dirent = d;
+}
 
 -- a first pair, and the others
-pub listed_and : (p : DirentPlusContent) (ps : List DirentPlusContent) (old new : List ℕ) {all : List ℕ} → new ≡ old ++ spellings (entry_fields p.entry_out (dirent_fields p.dirent []))
+pub listed_and : (p : DirentPlusContent) (ps : List DirentPlusContent) (old new : List ℕ) {all : List ℕ}
+    → new ≡ old ++ spellings (entry_fields p.entry_out (dirent_fields p.dirent []))
     → old ++ spellings (direntpluses (p ∷ ps)) ≡ all → new ++ spellings (direntpluses ps) ≡ all
 listed_and p ps old new e whole =
     let mid = old ++ spellings (entry_fields p.entry_out []) in
     let parts : new ≡ mid ++ spellings (dirent_fields p.dirent []) =
-    e ∙ ap (λ (x : List ℕ). old ++ x) (entry_and p.entry_out (dirent_fields p.dirent [])) ∙ sym (append_assoc old (spellings (entry_fields p.entry_out [])) (spellings (dirent_fields p.dirent []))) in
+    e ∙ ap (λ (x : List ℕ). old ++ x) (entry_and p.entry_out (dirent_fields p.dirent [])) ∙ sym
+    (append_assoc old (spellings (entry_fields p.entry_out [])) (spellings (dirent_fields p.dirent []))) in
     pair_and p ps old mid new refl parts whole
 
-listed_fits : (e : EntryContent) (d : DirentContent) (after : List Field) → InRange (entry_fields e (dirent_fields d [])) → InRange after → InRange (entry_fields e (dirent_fields d after))
+listed_fits : (e : EntryContent) (d : DirentContent) (after : List Field)
+    → InRange (entry_fields e (dirent_fields d [])) → InRange after → InRange (entry_fields e (dirent_fields d after))
 listed_fits (missing valid nsec) d after h k = (h.0, (h.1.0, (h.1.1.0, dirent_in_range d after h.1.1.1 k)))
-listed_fits (found nodeid generation valid nsec a) d after h k = (h.0, (h.1.0, (h.1.1.0, (h.1.1.1.0, (h.1.1.1.1.0, (h.1.1.1.1.1.0, (h.1.1.1.1.1.1.0, (h.1.1.1.1.1.1.1.0, dirent_in_range d after h.1.1.1.1.1.1.1.1 k))))))))
+listed_fits (found nodeid generation valid nsec a) d after h k = (
+  h.0,
+  (
+    h.1.0,
+    (
+      h.1.1.0,
+      (
+        h.1.1.1.0,
+        (
+          h.1.1.1.1.0,
+          (h.1.1.1.1.1.0, (h.1.1.1.1.1.1.0, (h.1.1.1.1.1.1.1.0, dirent_in_range d after h.1.1.1.1.1.1.1.1 k))),
+        ),
+      ),
+    ),
+  ),
+)
 
-pub listed_in_range : (p : DirentPlusContent) (ps : List DirentPlusContent) → InRange (entry_fields p.entry_out (dirent_fields p.dirent [])) → InRange (direntpluses ps) → InRange (direntpluses (p ∷ ps))
+pub listed_in_range : (p : DirentPlusContent) (ps : List DirentPlusContent)
+    → InRange (entry_fields p.entry_out (dirent_fields p.dirent [])) → InRange (direntpluses ps)
+    → InRange (direntpluses (p ∷ ps))
 listed_in_range p ps h k = listed_fits p.entry_out p.dirent (direntpluses ps) h k
 
 pub listed_entries : (valid : ℕ) (es : List Entry) (ds : List DirentContent) → HaveEntries (pairs_listed valid es ds)
-listed_entries valid (e ∷ es) (d ∷ ds) = (is_entry e.nodeid e.generation (valid / 1000) (valid % 1000 * 1000000) (attr_of e.attributes) (omega arith), listed_entries valid es ds)
+listed_entries valid (e ∷ es) (d ∷ ds) = (
+  is_entry e.nodeid e.generation (valid / 1000) (valid % 1000 * 1000000)
+      (attr_of e.attributes) (omega arith),
+  listed_entries valid es ds,
+)
 listed_entries valid [] ds = tt
 listed_entries valid (e ∷ es) [] = tt
 
-pub listed_names : (valid : ℕ) (es : List Entry) (ds : List DirentContent) → HaveRecordNames ds → HavePlusNames (pairs_listed valid es ds)
+pub listed_names : (valid : ℕ) (es : List Entry) (ds : List DirentContent) → HaveRecordNames ds
+    → HavePlusNames (pairs_listed valid es ds)
 listed_names valid (e ∷ es) (d ∷ ds) h = (h.0, listed_names valid es ds h.1)
 listed_names valid [] ds h = tt
 listed_names valid (e ∷ es) [] h = tt
 
 -- a pair has 128 bytes more than its record
-pub listed_sizes : (valid : ℕ) (es : List Entry) (ds : List DirentContent) → length es ≡ length ds → sizes (direntpluses (pairs_listed valid es ds)) ≡ 128 * length es + sizes (dirents ds)
+pub listed_sizes : (valid : ℕ) (es : List Entry) (ds : List DirentContent) → length es ≡ length ds
+    → sizes (direntpluses (pairs_listed valid es ds)) ≡ 128 * length es + sizes (dirents ds)
 listed_sizes valid (e ∷ es) (d ∷ ds) same =
     let p = listed valid e d in
     let rest = listed_sizes valid es ds (omega (arith, same)) in
@@ -75,18 +105,23 @@ kind_back Regular = refl
 kind_back Other = refl
 
 attributes_back : (a : Attributes) → attributes_in (attr_of a) ≡ a
-attributes_back a = ap (λ (k : Kind). record { kind = k; ino = a.ino; size = a.size; nlink = a.nlink }) (kind_back a.kind)
+attributes_back a = ap (λ (k : Kind). record { kind = k; ino = a.ino; size = a.size; nlink = a.nlink })
+    (kind_back a.kind)
 
 -- the entry where the test of its node has this outcome
 by : Bool → (nodeid generation seconds nanoseconds : ℕ) → Attr → EntryContent
-by test nodeid generation seconds nanoseconds attr = if test then missing seconds nanoseconds else found nodeid generation seconds nanoseconds attr
+by test nodeid generation seconds nanoseconds attr =
+    if test then missing seconds nanoseconds else found nodeid generation seconds nanoseconds attr
 
-file_by : (test : Bool) (e : Entry) (seconds nanoseconds : ℕ) → file_in (by test e.nodeid e.generation seconds nanoseconds (attr_of e.attributes)) ≡ cond test None (Some e)
+file_by : (test : Bool) (e : Entry) (seconds nanoseconds : ℕ)
+    → file_in (by test e.nodeid e.generation seconds nanoseconds (attr_of e.attributes)) ≡ cond test None (Some e)
 unfolding by
 file_by true e seconds nanoseconds = refl
-file_by false e seconds nanoseconds = ap (λ (a : Attributes). Some (record { nodeid = e.nodeid; generation = e.generation; attributes = a })) (attributes_back e.attributes)
+file_by false e seconds nanoseconds = ap (λ (a : Attributes). Some
+    (record { nodeid = e.nodeid; generation = e.generation; attributes = a })) (attributes_back e.attributes)
 
-valid_by : (test : Bool) (nodeid generation seconds nanoseconds : ℕ) (attr : Attr) → valid_in (by test nodeid generation seconds nanoseconds attr) ≡ milliseconds seconds nanoseconds
+valid_by : (test : Bool) (nodeid generation seconds nanoseconds : ℕ) (attr : Attr)
+    → valid_in (by test nodeid generation seconds nanoseconds attr) ≡ milliseconds seconds nanoseconds
 unfolding by
 valid_by true nodeid generation seconds nanoseconds attr = refl
 valid_by false nodeid generation seconds nanoseconds attr = refl
@@ -95,30 +130,40 @@ file_listed : (valid : ℕ) (e : Entry) (d : DirentContent) → file_in (listed 
 unfolding by
 file_listed valid e d = file_by (eqb e.nodeid 0) e (valid / 1000) (valid % 1000 * 1000000)
 
-valid_listed : (valid : ℕ) (e : Entry) (d : DirentContent) → valid ≤ max_validity → valid_in (listed valid e d).entry_out ≡ valid
+valid_listed : (valid : ℕ) (e : Entry) (d : DirentContent) → valid ≤ max_validity
+    → valid_in (listed valid e d).entry_out ≡ valid
 unfolding by
-valid_listed valid e d most = valid_by (eqb e.nodeid 0) e.nodeid e.generation (valid / 1000) (valid % 1000 * 1000000) (attr_of e.attributes) ∙ reads_as_itself valid most
+valid_listed valid e d most = valid_by (eqb e.nodeid 0) e.nodeid e.generation (valid / 1000) (valid % 1000 * 1000000)
+    (attr_of e.attributes) ∙ reads_as_itself valid most
 
-pub pairs_say : (valid : ℕ) (es : List Entry) (ds : List DirentContent) → valid ≤ max_validity → map pair_in (pairs_listed valid es ds) ≡ pairs_told valid es (map dirent_in ds)
+pub pairs_say : (valid : ℕ) (es : List Entry) (ds : List DirentContent) → valid ≤ max_validity
+    → map pair_in (pairs_listed valid es ds) ≡ pairs_told valid es (map dirent_in ds)
 pairs_say valid (e ∷ es) (d ∷ ds) most =
-    λ i. record { file = file_listed valid e d i; valid = valid_listed valid e d most i; dirent = dirent_in d } ∷ pairs_say valid es ds most i
+    λ i. record {
+      file = file_listed valid e d i;
+      valid = valid_listed valid e d most i;
+      dirent = dirent_in d;
+    } ∷ pairs_say valid es ds most i
 pairs_say valid [] ds most = refl
 pairs_say valid (e ∷ es) [] most = refl
 
-for_by : (test : Bool) (valid : ℕ) (e : Entry) → entry_for valid (cond test None (Some e)) ≡ by test e.nodeid e.generation (valid / 1000) (valid % 1000 * 1000000) (attr_of e.attributes)
+for_by : (test : Bool) (valid : ℕ) (e : Entry) → entry_for valid (cond test None (Some e))
+    ≡ by test e.nodeid e.generation (valid / 1000) (valid % 1000 * 1000000) (attr_of e.attributes)
 unfolding by
 for_by true valid e = refl
 for_by false valid e = refl
 
 -- an entry that is read is written as it stood
-entry_back : (valid : ℕ) (e : Entry) → entry_for valid (entry_told e) ≡ entry_of e.nodeid e.generation (valid / 1000) (valid % 1000 * 1000000) (attr_of e.attributes)
+entry_back : (valid : ℕ) (e : Entry) → entry_for valid (entry_told e)
+    ≡ entry_of e.nodeid e.generation (valid / 1000) (valid % 1000 * 1000000) (attr_of e.attributes)
 unfolding by
 entry_back valid e = for_by (eqb e.nodeid 0) valid e
 
 first_same : {X : Type 0} {x y : X} {xs ys : List X} → x ∷ xs ≡ y ∷ ys → (x ≡ y) × (xs ≡ ys)
 first_same e = (cc, cc)
 
-pairs_back : (valid : ℕ) (es : List Entry) (ds : List DirentContent) → map dirent_of (map dirent_in ds) ≡ ds → map pair_of (pairs_told valid es (map dirent_in ds)) ≡ pairs_listed valid es ds
+pairs_back : (valid : ℕ) (es : List Entry) (ds : List DirentContent) → map dirent_of (map dirent_in ds) ≡ ds
+    → map pair_of (pairs_told valid es (map dirent_in ds)) ≡ pairs_listed valid es ds
 pairs_back valid (e ∷ es) (d ∷ ds) types =
     let same = first_same types in
     λ i. record { entry_out = entry_back valid e i; dirent = same.0 i } ∷ pairs_back valid es ds same.1 i
@@ -133,17 +178,24 @@ listing unique ps = record { unique = unique; error = pos 0; content = plus_repl
 pub listing_goes : (unique : ℕ) (ps : List DirentPlusContent) → GoesWith served op.Readdirplus (listing unique ps)
 listing_goes unique ps = (kind_of_content (plus_reply []), refl, refl)
 
-pub listing_exact : (unique valid : ℕ) (es : List Entry) (ds : List DirentContent) → valid ≤ max_validity → map dirent_of (map dirent_in ds) ≡ ds
+pub listing_exact : (unique valid : ℕ) (es : List Entry) (ds : List DirentContent) → valid ≤ max_validity
+    → map dirent_of (map dirent_in ds) ≡ ds
     → listing unique (pairs_listed valid es ds) ≡ message_of (framed_by (listing unique (pairs_listed valid es ds)))
 listing_exact unique valid es ds most types =
-    let back = ap (λ (ps : List (DirentPlus Entry)). map pair_of ps) (pairs_say valid es ds most) ∙ pairs_back valid es ds types in
+    let back = ap (λ (ps : List (DirentPlus Entry)). map pair_of ps)
+    (pairs_say valid es ds most) ∙ pairs_back valid es ds types in
     ap (listing unique) (sym back)
 
-pub listing_written : (unique size : ℕ) (ps : List DirentPlusContent) (head new : List ℕ) → sizes (direntpluses ps) ≡ size → 16 + size ≤ max_frame → unique < 2 ^ 64 → HaveEntries ps → HavePlusNames ps → InRange (direntpluses ps)
-    → head ≡ spellings (u32 (16 + size) ∷ u32 0 ∷ u64 unique ∷ []) → new ≡ head ++ spellings (direntpluses ps) → WrittenReply (listing unique ps) new
+pub listing_written : (unique size : ℕ) (ps : List DirentPlusContent) (head new : List ℕ)
+    → sizes (direntpluses ps) ≡ size → 16 + size ≤ max_frame → unique < 2 ^ 64 → HaveEntries ps → HavePlusNames ps
+    → InRange (direntpluses ps)
+    → head ≡ spellings (u32 (16 + size) ∷ u32 0 ∷ u64 unique ∷ []) → new ≡ head ++ spellings (direntpluses ps)
+    → WrittenReply (listing unique ps) new
 listing_written unique size ps head new total small fits entries names range first whole =
     let body = spellings (direntpluses ps) in
     let none : IsErrorNumber (pos 0) = search (arith, ints) in
     let parts = ap (λ (x : List ℕ). x ++ body) first in
-    let frame = reply_frame served (listing unique ps) [] new (16 + size) (omega (arith, total)) small none refl (λ some. absurd (some refl)) entries names (omega arith) fits range (whole ∙ parts ∙ simp (append_assoc, append-nil)) in
+    let frame = reply_frame served (listing unique ps) [] new (16 + size) (omega (arith, total)) small none refl
+    (λ some. absurd (some refl)) entries names (omega arith) fits range
+    (whole ∙ parts ∙ simp (append_assoc, append-nil)) in
     subst (λ (x : List ℕ). WrittenReply (listing unique ps) x) (sym frame.2) frame.1

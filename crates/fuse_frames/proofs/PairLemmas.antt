@@ -7,11 +7,14 @@ use Rattle.fk_wire.specs.declared.pairs.Pairs.{Pairs}
 use Rattle.fk_wire.proofs.Frames.{reads_back, forgets_are_named}
 use Rattle.fk_wire.proofs.PairLists.{list_ends, one_list}
 
-pub pairs_read : (ps : List (ℕ × ℕ)) (bytes : List ℕ) → InRange (forget_ones ps) → bytes ≡ spellings (forget_ones ps) → ReadsAs 0 (forget_ones ps) bytes
-pairs_read ps bytes fits is = subst (λ (b : List ℕ). ReadsAs 0 (forget_ones ps) b) (sym is) (reads_back (forget_ones ps) [] fits (forgets_are_named ps))
+pub pairs_read : (ps : List (ℕ × ℕ)) (bytes : List ℕ) → InRange (forget_ones ps) → bytes ≡ spellings (forget_ones ps)
+    → ReadsAs 0 (forget_ones ps) bytes
+pairs_read ps bytes fits is = subst (λ (b : List ℕ). ReadsAs 0 (forget_ones ps) b) (sym is)
+    (reads_back (forget_ones ps) [] fits (forgets_are_named ps))
 
 -- bytes have one list of pairs
-pub same_pairs : (ps qs : List (ℕ × ℕ)) (bytes : List ℕ) → ReadsAs 0 (forget_ones ps) bytes → ReadsAs 0 (forget_ones qs) bytes → qs ≡ ps
+pub same_pairs : (ps qs : List (ℕ × ℕ)) (bytes : List ℕ) → ReadsAs 0 (forget_ones ps) bytes
+    → ReadsAs 0 (forget_ones qs) bytes → qs ≡ ps
 same_pairs ps qs bytes h k =
     let ends = list_ends ps 0 bytes h in
     let ends_too = list_ends qs 0 bytes k in
@@ -20,11 +23,14 @@ same_pairs ps qs bytes h k =
 
 -- What was read over the bytes of pairs.
 abbrev IsOver : List ℕ → Option Pairs → Type 0
-IsOver bytes r = MatchOption r ((qs : List (ℕ × ℕ)) → ReadsAs 0 (forget_ones qs) bytes → ⊥) (λ p. ReadsAs 0 (forget_ones (pairs_in p)) bytes)
+IsOver bytes r = MatchOption r ((qs : List (ℕ × ℕ)) → ReadsAs 0 (forget_ones qs) bytes → ⊥)
+    (λ p. ReadsAs 0 (forget_ones (pairs_in p)) bytes)
 
-pub is_over : (ps : List (ℕ × ℕ)) (bytes : List ℕ) (r : Option Pairs) → ReadsAs 0 (forget_ones ps) bytes → IsOver bytes r → IsSome r
+pub is_over : (ps : List (ℕ × ℕ)) (bytes : List ℕ) (r : Option Pairs) → ReadsAs 0 (forget_ones ps) bytes
+    → IsOver bytes r → IsSome r
 is_over ps bytes None h over = absurd (over ps h)
 is_over ps bytes (Some p) h over = search rules
 
-pub pairs_over : (ps : List (ℕ × ℕ)) (bytes : List ℕ) (r : Option Pairs) (p : Pairs) → ReadsAs 0 (forget_ones ps) bytes → IsOver bytes r → r ≡ Some p → pairs_in p ≡ ps
+pub pairs_over : (ps : List (ℕ × ℕ)) (bytes : List ℕ) (r : Option Pairs) (p : Pairs) → ReadsAs 0 (forget_ones ps) bytes
+    → IsOver bytes r → r ≡ Some p → pairs_in p ≡ ps
 pairs_over ps bytes r p h over is = same_pairs ps (pairs_in p) bytes h (rw is at over)

@@ -24,12 +24,14 @@ use Rattle.fuse_frames.specs.ReplyTies.{SaysReply, IsReplyFrame, Framed, framed_
 use Rattle.fuse_frames.specs.RequestTies.{asked_opcode}
 
 -- the bytes spell one reply to an opcode
-pub one_framed : (o : Opcode) (bytes : List ℕ) (m : ReplyMessage) → GoesWith served o m → WrittenReply m bytes → framed_in o bytes ≡ framed_by m
+pub one_framed : (o : Opcode) (bytes : List ℕ) (m : ReplyMessage) → GoesWith served o m → WrittenReply m bytes
+    → framed_in o bytes ≡ framed_by m
 unfolding framed_in
 one_framed o bytes m goes w = ap framed_by (decoded_reply_is o bytes m (spells_reply served o m bytes goes w))
 
 -- What is written as a message that is a reply's is that reply's frame.
-frame_of : (o : Opcode) (bytes : List ℕ) (m : ReplyMessage) → GoesWith served o m → WrittenReply m bytes → m ≡ message_of (framed_by m) → IsReplyFrame o bytes (framed_by m)
+frame_of : (o : Opcode) (bytes : List ℕ) (m : ReplyMessage) → GoesWith served o m → WrittenReply m bytes
+    → m ≡ message_of (framed_by m) → IsReplyFrame o bytes (framed_by m)
 frame_of o bytes m goes w exact =
     record {
       written = subst (λ (n : ReplyMessage). WrittenReply n bytes) exact w;
@@ -37,8 +39,10 @@ frame_of o bytes m goes w exact =
       says = ap (λ (n : ReplyMessage). wire_said n.error n.content) (sym exact);
     }
 
-pub is_framed : (o : Opcode) (bytes : List ℕ) (m : ReplyMessage) → GoesWith served o m → WrittenReply m bytes → m ≡ message_of (framed_by m) → IsReplyFrame o bytes (framed_in o bytes)
-is_framed o bytes m goes w exact = subst (λ (f : Framed). IsReplyFrame o bytes f) (sym (one_framed o bytes m goes w)) (frame_of o bytes m goes w exact)
+pub is_framed : (o : Opcode) (bytes : List ℕ) (m : ReplyMessage) → GoesWith served o m → WrittenReply m bytes
+    → m ≡ message_of (framed_by m) → IsReplyFrame o bytes (framed_in o bytes)
+is_framed o bytes m goes w exact = subst (λ (f : Framed). IsReplyFrame o bytes f) (sym (one_framed o bytes m goes w))
+    (frame_of o bytes m goes w exact)
 
 -- a validity in milliseconds, in whole seconds and the rest as nanoseconds, reads as itself
 pub reads_as_itself : (ms : ℕ) → ms ≤ max_validity → milliseconds (ms / 1000) (ms % 1000 * 1000000) ≡ ms
@@ -66,7 +70,8 @@ is_failure (reply.failed errno) = true
 is_failure wire = false
 
 -- Of the bodies that are served each says what its kind says.
-said_kind : (c : ReplyContent) → IsTrue (knows_kind served (kind_of_content c)) → kind_of_content c ≡ kind_of_content (body_saying (wire_body c))
+said_kind : (c : ReplyContent) → IsTrue (knows_kind served (kind_of_content c))
+    → kind_of_content c ≡ kind_of_content (body_saying (wire_body c))
 said_kind (entry_reply (missing seconds nanoseconds)) known = refl
 said_kind (entry_reply (found nodeid generation seconds nanoseconds a)) known = refl
 said_kind (create_reply (missing seconds nanoseconds) fh) known = refl
@@ -81,7 +86,9 @@ no_failure (create_reply (found nodeid generation seconds nanoseconds a) fh) = r
 no_failure c = refl
 
 -- The replies to an operation have the kind of body that says what goes with it.
-kind_going : (operation : Operation ℕ Opened) (wire : WireReply) → goes_with operation wire ≡ true → is_failure wire ≡ false → reply_kind served (asked_opcode (asks operation)) ≡ Some (kind_of_content (body_saying wire))
+kind_going : (operation : Operation ℕ Opened) (wire : WireReply) → goes_with operation wire ≡ true
+    → is_failure wire ≡ false → reply_kind served (asked_opcode (asks operation))
+    ≡ Some (kind_of_content (body_saying wire))
 kind_going (reply.lookup d name) (reply.found entry valid) e good = refl
 kind_going (reply.lookup d name) (reply.missing valid) e good = refl
 kind_going (reply.mkdir d name) (reply.found entry valid) e good = refl
@@ -102,7 +109,8 @@ kind_going operation (reply.failed errno) e good = absurd (true≢false good)
 kind_going operation wire e good = absurd (true≢false (sym e))
 
 -- Each operation has a reply.
-replied_by : (operation : Operation ℕ Opened) → (d : ReplyContent) × (reply_kind served (asked_opcode (asks operation)) ≡ Some (kind_of_content d))
+replied_by : (operation : Operation ℕ Opened) → (d : ReplyContent)
+    × (reply_kind served (asked_opcode (asks operation)) ≡ Some (kind_of_content d))
 replied_by (reply.lookup d name) = (entry_reply (missing 0 0), refl)
 replied_by (reply.getattr x) = (attr_reply (record { ino = 0; size = 0; mode = 0; nlink = 0 }), refl)
 replied_by (reply.mkdir d name) = (entry_reply (missing 0 0), refl)
@@ -120,29 +128,51 @@ replied_by (reply.write o offset bytes) = (write_reply 0, refl)
 -- An error is no 0 in its field.
 error_shows : (n : ℕ) → IsErrorNumber (negsuc n) → cast_unsigned w32 (negsuc n) ≢ 0
 error_shows n ok e =
-    let same : negsuc n ≡ cast_signed w32 0 = sym (to_z-of_z w32 (negsuc n) (error_fits (negsuc n) ok)) ∙ ap (cast_signed w32) e in
+    let same : negsuc n ≡ cast_signed w32 0 = sym (to_z-of_z w32 (negsuc n) (error_fits (negsuc n) ok)) ∙ ap
+    (cast_signed w32) e in
     absurd (cc same)
 
 -- With an error the body is empty.
-is_alone : (o : Opcode) (m : ReplyMessage) → GoesWith served o m → cast_unsigned w32 m.error ≢ 0 → kind_of_content m.content ≡ kind_of_content empty_reply
-is_alone o m goes shows = elim (eqb_tells (cast_unsigned w32 m.error) 0) [ inl h ↦ absurd (shows h.1) | inr h ↦ goes.2 ∙ ap (λ (b : Bool). if b then goes.0 else kind_of_content empty_reply) h.0 ]
+is_alone : (o : Opcode) (m : ReplyMessage) → GoesWith served o m → cast_unsigned w32 m.error ≢ 0
+    → kind_of_content m.content ≡ kind_of_content empty_reply
+is_alone o m goes shows = elim (eqb_tells (cast_unsigned w32 m.error) 0) [
+  | inl h ↦ absurd
+      (shows h.1)
+  | inr h ↦ goes.2 ∙ ap (λ (b : Bool). if b then goes.0 else kind_of_content empty_reply) h.0
+]
 
--- What is said without error goes with the opcodes whose replies have that kind of body, and an error with all that have replies.
-goes_saying : (o p : Opcode) (d : ReplyContent) (unique : ℕ) (z : ℤ) (c : ReplyContent) → GoesWith served o (record { unique = unique; error = z; content = c }) → IsErrorNumber z → IsTrue (knows_kind served (kind_of_content c))
-    → reply_kind served p ≡ Some (kind_of_content d) → (is_failure (wire_said z c) ≡ false → kind_of_content (body_saying (wire_said z c)) ≡ kind_of_content d) → GoesWith served p (record { unique = unique; error = z; content = c })
-goes_saying o p d unique (pos zero) c goes ok known has same = (kind_of_content d, has, said_kind c known ∙ same (no_failure c))
+-- What is said without error goes with the opcodes whose replies have that kind of body, and an error with all that
+-- have replies.
+goes_saying : (o p : Opcode) (d : ReplyContent) (unique : ℕ) (z : ℤ) (c : ReplyContent)
+    → GoesWith served o (record { unique = unique; error = z; content = c }) → IsErrorNumber z
+    → IsTrue (knows_kind served (kind_of_content c))
+    → reply_kind served p ≡ Some (kind_of_content d)
+    → (is_failure (wire_said z c) ≡ false → kind_of_content (body_saying (wire_said z c)) ≡ kind_of_content d)
+    → GoesWith served p (record { unique = unique; error = z; content = c })
+goes_saying o p d unique (pos zero) c goes ok known has same =
+    (kind_of_content d, has, said_kind c known ∙ same (no_failure c))
 goes_saying o p d unique (pos (suc n)) c goes ok known has same = absurd (omega (arith, ints, ok.0))
 goes_saying o p d unique (negsuc n) c goes ok known has same =
     let shows = error_shows n ok in
-    let alone = is_alone o (record { unique = unique; error = negsuc n; content = c }) goes shows in
-    (kind_of_content d, has, alone ∙ elim (eqb_tells (cast_unsigned w32 (negsuc n)) 0) [ inl h ↦ absurd (shows h.1) | inr h ↦ sym (ap (λ (b : Bool). if b then kind_of_content d else kind_of_content empty_reply) h.0) ])
+    let alone = is_alone o (record { unique = unique; error = negsuc n; content = c }) goes shows in (
+      kind_of_content d,
+      has,
+      alone ∙ elim (eqb_tells (cast_unsigned w32 (negsuc n)) 0) [
+        | inl h ↦ absurd
+            (shows h.1)
+        | inr h ↦ sym
+            (ap (λ (b : Bool). if b then kind_of_content d else kind_of_content empty_reply) h.0)
+      ],
+    )
 
-init_kind : (wire : WireReply) → is_init_reply wire ≡ true → is_failure wire ≡ false → kind_of_content (body_saying wire) ≡ kind_of_content (init_reply 0 0 0)
+init_kind : (wire : WireReply) → is_init_reply wire ≡ true → is_failure wire ≡ false
+    → kind_of_content (body_saying wire) ≡ kind_of_content (init_reply 0 0 0)
 init_kind (reply.agreed major minor flags) e good = refl
 init_kind (reply.failed errno) e good = absurd (true≢false good)
 init_kind wire e good = absurd (true≢false (sym e))
 
-empty_kind : (wire : WireReply) → is_empty_reply wire ≡ true → is_failure wire ≡ false → kind_of_content (body_saying wire) ≡ kind_of_content empty_reply
+empty_kind : (wire : WireReply) → is_empty_reply wire ≡ true → is_failure wire ≡ false
+    → kind_of_content (body_saying wire) ≡ kind_of_content empty_reply
 empty_kind reply.done e good = refl
 empty_kind (reply.failed errno) e good = refl
 empty_kind wire e good = absurd (true≢false (sym e))
@@ -153,41 +183,56 @@ one_some e = cc
 module _ (o : Opcode) (bytes : List ℕ) (f : Framed) (frame : IsReplyFrame o bytes f) where
   -- The frame says what it says to every opcode that it goes with.
   says_to : (p : Opcode) → GoesWith served p (message_of f) → SaysReply p bytes f.unique f.wire
-  says_to p goes = record { message = message_of f; spells = spells_reply served p (message_of f) bytes goes frame.written; unique_is = refl; says = frame.says }
+  says_to p goes = record {
+    message = message_of f;
+    spells = spells_reply served p (message_of f) bytes goes frame.written;
+    unique_is = refl;
+    says = frame.says;
+  }
 
   pub says : SaysReply o bytes f.unique f.wire
   says = says_to o frame.goes
 
   -- The frame says what it says to each opcode whose replies have the kind of body that says it.
-  says_as : (p : Opcode) (d : ReplyContent) → reply_kind served p ≡ Some (kind_of_content d) → (is_failure f.wire ≡ false → kind_of_content (body_saying f.wire) ≡ kind_of_content d) → SaysReply p bytes f.unique f.wire
+  says_as : (p : Opcode) (d : ReplyContent) → reply_kind served p ≡ Some (kind_of_content d)
+      → (is_failure f.wire ≡ false → kind_of_content (body_saying f.wire) ≡ kind_of_content d)
+      → SaysReply p bytes f.unique f.wire
   says_as p d has same =
       let m = message_of f in
-      let said = subst (λ (w : WireReply). is_failure w ≡ false → kind_of_content (body_saying w) ≡ kind_of_content d) (sym frame.says) same in
+      let said = subst (λ (w : WireReply). is_failure w ≡ false → kind_of_content (body_saying w) ≡ kind_of_content d)
+      (sym frame.says) same in
       says_to p (goes_saying o p d m.unique m.error m.content frame.goes frame.written.1 frame.written.2 has said)
 
-  pub fits : (operation : Operation ℕ Opened) → goes_with operation f.wire ≡ true → SaysReply (asked_opcode (asks operation)) bytes f.unique f.wire
+  pub fits : (operation : Operation ℕ Opened) → goes_with operation f.wire ≡ true
+      → SaysReply (asked_opcode (asks operation)) bytes f.unique f.wire
   fits operation goes =
       let by = replied_by operation in
-      says_as (asked_opcode (asks operation)) by.0 by.1 (λ good. one_some (sym (kind_going operation f.wire goes good) ∙ by.1))
+      says_as (asked_opcode (asks operation)) by.0 by.1
+      (λ good. one_some (sym (kind_going operation f.wire goes good) ∙ by.1))
 
   pub init : is_init_reply f.wire ≡ true → SaysReply op.Init bytes f.unique f.wire
   init is = says_as op.Init (init_reply 0 0 0) refl (init_kind f.wire is)
 
-  pub empty : is_empty_reply f.wire ≡ true → SaysReply op.Release bytes f.unique f.wire × SaysReply op.Interrupt bytes f.unique f.wire
+  pub empty : is_empty_reply f.wire ≡ true → SaysReply op.Release bytes f.unique f.wire
+      × SaysReply op.Interrupt bytes f.unique f.wire
   empty is =
       let kind = empty_kind f.wire is in
       (says_as op.Release empty_reply refl kind, says_as op.Interrupt empty_reply refl kind)
 
   -- The head that is read is the frame's.
   pub unique_read : (read : List ℕ) → read ≡ bytes → (unique : ℕ) → unique ≡ number_at 8 8 read → unique ≡ f.unique
-  unique_read read same unique is = is ∙ ap (number_at 8 8) same ∙ (spells_reply served o (message_of f) bytes frame.goes frame.written).5.1.1.0
+  unique_read read same unique is = is ∙ ap (number_at 8 8) same ∙
+      (spells_reply served o (message_of f) bytes frame.goes frame.written).5.1.1.0
 
   pub no_fault : (read : List ℕ) → read ≡ bytes → (fault : WireFault) → ReplyFaultIsAt served o read fault → ⊥
-  no_fault read same fault is = no_reply_fault served o bytes (message_of f) fault (spells_reply served o (message_of f) bytes frame.goes frame.written) (subst (λ (x : List ℕ). ReplyFaultIsAt served o x fault) same is)
+  no_fault read same fault is = no_reply_fault served o bytes (message_of f) fault
+      (spells_reply served o (message_of f) bytes frame.goes frame.written)
+      (subst (λ (x : List ℕ). ReplyFaultIsAt served o x fault) same is)
 
 -- ---- an error of a reply
 
-pub error_said : (errno : ℕ) (z : ℤ) (content : ReplyContent) → 1 ≤ errno → z ≡ negsuc (errno - 1) → wire_said z content ≡ reply.failed errno
+pub error_said : (errno : ℕ) (z : ℤ) (content : ReplyContent) → 1 ≤ errno → z ≡ negsuc (errno - 1)
+    → wire_said z content ≡ reply.failed errno
 error_said errno z content some is =
     let same : errno - 1 + 1 ≡ errno = omega arith in
     ap (λ (y : ℤ). wire_said y content) is ∙ ap reply.failed same
@@ -215,14 +260,25 @@ has_kind op.Create h = (create_reply (missing 0 0) 0, refl)
 has_kind op.Interrupt h = (empty_reply, refl)
 has_kind o h = absurd (true≢false (sym h))
 
-pub error_goes : (o : Opcode) (unique errno : ℕ) (z : ℤ) → IsTrue (has_reply o) → 1 ≤ errno → errno ≤ 511 → z ≡ negsuc (errno - 1) → GoesWith served o (record { unique = unique; error = z; content = empty_reply })
+pub error_goes : (o : Opcode) (unique errno : ℕ) (z : ℤ) → IsTrue (has_reply o) → 1 ≤ errno → errno ≤ 511
+    → z ≡ negsuc (errno - 1) → GoesWith served o (record { unique = unique; error = z; content = empty_reply })
 error_goes o unique errno z has some most is =
-    let shows : cast_unsigned w32 z ≢ 0 = λ e. error_shows (errno - 1) (subst IsErrorNumber is (error_in_range errno z some most is)) (ap (cast_unsigned w32) (sym is) ∙ e) in
-    let by = has_kind o has in
-    (kind_of_content by.0, by.1, elim (eqb_tells (cast_unsigned w32 z) 0) [ inl h ↦ absurd (shows h.1) | inr h ↦ sym (ap (λ (b : Bool). if b then kind_of_content by.0 else kind_of_content empty_reply) h.0) ])
+    let shows : cast_unsigned w32 z ≢ 0 = λ e. error_shows (errno - 1)
+    (subst IsErrorNumber is (error_in_range errno z some most is)) (ap (cast_unsigned w32) (sym is) ∙ e) in
+    let by = has_kind o has in (
+      kind_of_content by.0,
+      by.1,
+      elim (eqb_tells (cast_unsigned w32 z) 0) [
+        | inl h ↦ absurd (shows h.1)
+        | inr h ↦ sym
+            (ap (λ (b : Bool). if b then kind_of_content by.0 else kind_of_content empty_reply) h.0)
+      ],
+    )
 
 -- An error alone is the message of what it says.
-pub error_exact : (unique errno : ℕ) (z : ℤ) → 1 ≤ errno → z ≡ negsuc (errno - 1) → ◌≡◌ {A = ReplyMessage} (record { unique = unique; error = z; content = empty_reply }) (message_of (framed_by (record { unique = unique; error = z; content = empty_reply })))
+pub error_exact : (unique errno : ℕ) (z : ℤ) → 1 ≤ errno → z ≡ negsuc (errno - 1)
+    → ◌≡◌ {A = ReplyMessage} (record { unique = unique; error = z; content = empty_reply })
+    (message_of (framed_by (record { unique = unique; error = z; content = empty_reply })))
 error_exact unique errno z some is =
     let said = error_said errno z empty_reply some is in
     λ i. record { unique = unique; error = (is ∙ ap error_of (sym said)) i; content = (ap content_of (sym said)) i }

@@ -15,7 +15,12 @@ use Rattle.fuse_spec.specs.declared.Minor.TheVariants.{M15, M31}
 use Rattle.fuse_frames.specs.RequestTies.{SaysRequest, SaysRequestAt, codec_minor, IsRequestFrame, request_in, body_in, body_or, asked_opcode, content_of}
 
 pub frame_says : (bytes : List ℕ) (request : Request) → IsRequestFrame bytes request → SaysRequest bytes request
-frame_says bytes request h = record { message = h.message; spells = spells served h.message bytes h.written; unique = h.unique; says = h.says }
+frame_says bytes request h = record {
+  message = h.message;
+  spells = spells served h.message bytes h.written;
+  unique = h.unique;
+  says = h.says;
+}
 
 -- the bytes spell one request alone
 pub one_request : (bytes : List ℕ) (request : Request) → SaysRequest bytes request → request_in bytes ≡ request
@@ -28,33 +33,45 @@ one_request bytes request h =
     }
 
 -- what is written is seen as the request that was to be written
-pub framed_is : (message : RequestMessage) (bytes : List ℕ) (body : RequestBody) → Written message bytes → body_in message.nodeid message.content ≡ Some body → request_in bytes ≡ record { unique = message.unique; body = body }
+pub framed_is : (message : RequestMessage) (bytes : List ℕ) (body : RequestBody) → Written message bytes
+    → body_in message.nodeid message.content ≡ Some body
+    → request_in bytes ≡ record { unique = message.unique; body = body }
 framed_is message bytes body w e =
-    one_request bytes (record { unique = message.unique; body = body }) (record { message = message; spells = spells served message bytes w; unique = refl; says = e })
+    one_request bytes (record { unique = message.unique; body = body })
+    (record { message = message; spells = spells served message bytes w; unique = refl; says = e })
 
-pub is_framed : (message : RequestMessage) (bytes : List ℕ) (body : RequestBody) → Written message bytes → body_in message.nodeid message.content ≡ Some body → message.content ≡ content_of body → IsRequestFrame bytes (request_in bytes)
+pub is_framed : (message : RequestMessage) (bytes : List ℕ) (body : RequestBody) → Written message bytes
+    → body_in message.nodeid message.content ≡ Some body → message.content ≡ content_of body
+    → IsRequestFrame bytes (request_in bytes)
 is_framed message bytes body w e is =
-    subst (λ (r : Request). IsRequestFrame bytes r) (sym (framed_is message bytes body w e)) (record { message = message; written = w; unique = refl; says = e; content = is })
+    subst (λ (r : Request). IsRequestFrame bytes r) (sym (framed_is message bytes body w e))
+    (record { message = message; written = w; unique = refl; says = e; content = is })
 
 -- what was appended to an empty vector is all that it has
-pub all_written : {P : List ℕ → Type 0} (old items : List ℕ) → old ≡ [] → (frame : List ℕ) × P frame × (items ≡ old ++ frame) → P items
+pub all_written : {P : List ℕ → Type 0} (old items : List ℕ) → old ≡ []
+    → (frame : List ℕ) × P frame × (items ≡ old ++ frame) → P items
 all_written {P} old items none w = subst P (sym (w.2 ∙ ap (λ (xs : List ℕ). xs ++ w.0) none)) w.1
 
 -- ---- the head of a frame
 
 -- What was read of a frame is what it was written for.
-module _ (bytes read : List ℕ) (request : Request) (r : Result View WireFault) (frame : IsRequestFrame bytes (request_in bytes)) (is_view : request ≡ request_in bytes) (same : read ≡ bytes) (only : (m : RequestMessage) → Spells read m → IsOkAnd r (λ v. request_message v ≡ m)) where
+module _ (bytes read : List ℕ) (request : Request) (r : Result View WireFault)
+    (frame : IsRequestFrame bytes (request_in bytes)) (is_view : request ≡ request_in bytes) (same : read ≡ bytes)
+    (only : (m : RequestMessage) → Spells read m → IsOkAnd r (λ v. request_message v ≡ m)) where
   reads : IsOkAnd r (λ v. request_message v ≡ frame.message)
-  reads = only frame.message (subst (λ (x : List ℕ). Spells x frame.message) (sym same) (spells served frame.message bytes frame.written))
+  reads = only frame.message (subst (λ (x : List ℕ). Spells x frame.message) (sym same)
+      (spells served frame.message bytes frame.written))
 
   pub is_read : (v : View) → r ≡ Ok v → request_message v ≡ frame.message
   is_read v e = rw e at reads
 
   pub unique_read : (v : View) → r ≡ Ok v → v.unique ≡ request.unique
-  unique_read v e = ap (λ (m : RequestMessage). m.unique) (is_read v e) ∙ frame.unique ∙ sym (ap (λ (q : Request). q.unique) is_view)
+  unique_read v e = ap (λ (m : RequestMessage). m.unique) (is_read v e) ∙ frame.unique ∙ sym
+      (ap (λ (q : Request). q.unique) is_view)
 
   pub opcode_read : (v : View) → r ≡ Ok v → opcode_of (request_content v.body) ≡ asked_opcode request.body
-  opcode_read v e = ap (λ (m : RequestMessage). opcode_of m.content) (is_read v e) ∙ ap opcode_of frame.content ∙ sym (ap (λ (q : Request). asked_opcode q.body) is_view)
+  opcode_read v e = ap (λ (m : RequestMessage). opcode_of m.content) (is_read v e) ∙ ap opcode_of frame.content ∙ sym
+      (ap (λ (q : Request). asked_opcode q.body) is_view)
 
   pub no_fault : (f : WireFault) → r ≡ Err f → ⊥
   no_fault f e = rw e at reads
@@ -62,7 +79,8 @@ module _ (bytes read : List ℕ) (request : Request) (r : Result View WireFault)
 -- ---- a minor
 
 -- A minor knows what is asked where it knows the opcode.
-knows_same : (minor : Minor) (n : ℕ) (content : RequestContent) (body : RequestBody) → body_in n content ≡ Some body → knows minor body ≡ knows_opcode (codec_minor minor) (opcode_of content)
+knows_same : (minor : Minor) (n : ℕ) (content : RequestContent) (body : RequestBody) → body_in n content ≡ Some body
+    → knows minor body ≡ knows_opcode (codec_minor minor) (opcode_of content)
 knows_same M31 n content body e = refl
 knows_same M15 n (wire.lookup name) body e = sym (ap (λ (b : Option RequestBody). knows M15 (body_or b)) e)
 knows_same M15 n (wire.forget nlookup) body e = sym (ap (λ (b : Option RequestBody). knows M15 (body_or b)) e)
@@ -83,13 +101,22 @@ knows_same M15 n (wire.create name) body e = sym (ap (λ (b : Option RequestBody
 knows_same M15 n (wire.interrupt unique) body e = sym (ap (λ (b : Option RequestBody). knows M15 (body_or b)) e)
 knows_same M15 n (wire.batch_forget forgets) body e = sym (ap (λ (b : Option RequestBody). knows M15 (body_or b)) e)
 
-pub said_and_known : (minor : Minor) (bytes : List ℕ) (request : Request) → SaysRequestAt minor bytes request → SaysRequest bytes request × (knows minor request.body ≡ true)
+pub said_and_known : (minor : Minor) (bytes : List ℕ) (request : Request) → SaysRequestAt minor bytes request
+    → SaysRequest bytes request × (knows minor request.body ≡ true)
 said_and_known minor bytes request h =
-    let m = h.message in
-    (record { message = m; spells = (h.spells.0, refl, h.spells.2, h.spells.3); unique = h.unique; says = h.says }, knows_same minor m.nodeid m.content request.body h.says ∙ h.spells.1)
+    let m = h.message in (
+      record { message = m; spells = (h.spells.0, refl, h.spells.2, h.spells.3); unique = h.unique; says = h.says },
+      knows_same minor m.nodeid m.content request.body h.says ∙ h.spells.1,
+    )
 
-pub said_at : (minor : Minor) (bytes : List ℕ) (request : Request) → SaysRequest bytes request × (knows minor request.body ≡ true) → SaysRequestAt minor bytes request
+pub said_at : (minor : Minor) (bytes : List ℕ) (request : Request)
+    → SaysRequest bytes request × (knows minor request.body ≡ true) → SaysRequestAt minor bytes request
 said_at minor bytes request h =
     let m = h.0.message in
     let known = sym (knows_same minor m.nodeid m.content request.body h.0.says) ∙ h.1 in
-    record { message = m; spells = (h.0.spells.0, known, h.0.spells.2, h.0.spells.3); unique = h.0.unique; says = h.0.says }
+    record {
+      message = m;
+      spells = (h.0.spells.0, known, h.0.spells.2, h.0.spells.3);
+      unique = h.0.unique;
+      says = h.0.says;
+    }

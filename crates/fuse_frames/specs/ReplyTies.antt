@@ -25,7 +25,8 @@ milliseconds seconds nanoseconds = min (seconds * 1000 + nanoseconds / 1000000) 
 
 -- The kind of a file, by the type bits of its mode (octal 0170000): 0040000 is a directory, 0100000 a regular file.
 abbrev pub kind_of_mode : ℕ → Kind
-kind_of_mode mode = cond (nat_eq (bit_and mode 61440) 16384) Directory (cond (nat_eq (bit_and mode 61440) 32768) Regular Other)
+kind_of_mode mode = cond (nat_eq (bit_and mode 61440) 16384) Directory
+    (cond (nat_eq (bit_and mode 61440) 32768) Regular Other)
 
 abbrev pub attributes_in : Attr → Attributes
 attributes_in a = record { kind = kind_of_mode a.mode; ino = a.ino; size = a.size; nlink = a.nlink }
@@ -61,14 +62,16 @@ pair_in p = record { file = file_in p.entry_out; valid = valid_in p.entry_out; d
 abbrev pub wire_body : ReplyContent → WireReply
 wire_body empty_reply = reply.done
 wire_body (entry_reply (missing seconds nanoseconds)) = reply.missing (milliseconds seconds nanoseconds)
-wire_body (entry_reply (found nodeid generation seconds nanoseconds a)) = reply.found (entry_in nodeid generation a) (milliseconds seconds nanoseconds)
+wire_body (entry_reply (found nodeid generation seconds nanoseconds a)) =
+    reply.found (entry_in nodeid generation a) (milliseconds seconds nanoseconds)
 wire_body (attr_reply a) = reply.attributes (attributes_in a)
 wire_body (open_reply fh) = reply.opened fh
 wire_body (bytes_reply bytes) = reply.content bytes
 wire_body (write_reply size) = reply.written size
 wire_body (init_reply major minor flags) = reply.agreed major minor flags
 wire_body (create_reply (missing seconds nanoseconds) fh) = reply.created no_entry (milliseconds seconds nanoseconds) fh
-wire_body (create_reply (found nodeid generation seconds nanoseconds a) fh) = reply.created (entry_in nodeid generation a) (milliseconds seconds nanoseconds) fh
+wire_body (create_reply (found nodeid generation seconds nanoseconds a) fh) =
+    reply.created (entry_in nodeid generation a) (milliseconds seconds nanoseconds) fh
 wire_body (records_reply ds) = reply.listed (map dirent_in ds)
 wire_body (plus_reply ps) = reply.listed_plus (map pair_in ps)
 
@@ -132,12 +135,21 @@ abbrev pub entry_told : Entry → Option Entry
 entry_told e = cond (nat_eq e.nodeid 0) None (Some e)
 
 abbrev pub pairs_told : (valid : ℕ) → List Entry → List Dirent → List (DirentPlus Entry)
-pairs_told valid (e ∷ entries) (d ∷ dirents) = record { file = entry_told e; valid = valid; dirent = d } ∷ pairs_told valid entries dirents
+pairs_told valid (e ∷ entries) (d ∷ dirents) = record {
+  file = entry_told e;
+  valid = valid;
+  dirent = d;
+} ∷ pairs_told valid entries dirents
 pairs_told valid [] dirents = []
 pairs_told valid (e ∷ entries) [] = []
 
 abbrev pub pairs_listed : (valid : ℕ) → List Entry → List DirentContent → List DirentPlusContent
-pairs_listed valid (e ∷ entries) (d ∷ ds) = record { entry_out = entry_of e.nodeid e.generation (valid / 1000) (valid % 1000 * 1000000) (attr_of e.attributes); dirent = d } ∷ pairs_listed valid entries ds
+pairs_listed valid (e ∷ entries) (d ∷ ds) = record {
+  entry_out =
+      entry_of e.nodeid e.generation (valid / 1000) (valid % 1000 * 1000000) (attr_of e.attributes);
+  dirent =
+      d;
+} ∷ pairs_listed valid entries ds
 pairs_listed valid [] ds = []
 pairs_listed valid (e ∷ entries) [] = []
 

@@ -25,8 +25,10 @@ body_in nodeid (wire.rmdir name) = Some (asks (operation.rmdir nodeid name))
 body_in nodeid (wire.rename newdir old new) = Some (asks (operation.rename nodeid old newdir new))
 body_in nodeid (wire.link oldnodeid name) = Some (asks (operation.link oldnodeid nodeid name))
 body_in nodeid wire.opening = Some (asks (operation.opening nodeid))
-body_in nodeid (wire.read fh offset size) = Some (asks (operation.read (record { nodeid = nodeid; fh = fh }) offset size))
-body_in nodeid (wire.write fh offset bytes) = Some (asks (operation.write (record { nodeid = nodeid; fh = fh }) offset bytes))
+body_in nodeid (wire.read fh offset size) = Some
+    (asks (operation.read (record { nodeid = nodeid; fh = fh }) offset size))
+body_in nodeid (wire.write fh offset bytes) = Some
+    (asks (operation.write (record { nodeid = nodeid; fh = fh }) offset bytes))
 body_in nodeid (wire.release fh) = Some (release (record { nodeid = nodeid; fh = fh }))
 body_in nodeid (wire.init major minor flags) = Some (init flags)
 body_in nodeid (wire.readdir offset size) = Some (asks (operation.readdir nodeid offset size))
@@ -110,4 +112,7 @@ body_or (Some body) = body
 
 -- What the bytes say, where they say anything.
 unfoldable pub request_in : List ℕ → Request
-request_in bytes = record { unique = (decoded bytes).unique; body = body_or (body_in (decoded bytes).nodeid (decoded bytes).content) }
+request_in bytes = record {
+  unique = (decoded bytes).unique;
+  body = body_or (body_in (decoded bytes).nodeid (decoded bytes).content);
+}

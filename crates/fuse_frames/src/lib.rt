@@ -1,4 +1,5 @@
-//! The machine's messages as frames: the one place where the grammar of frames and the machine of kernel and server meet.
+//! The machine's messages as frames: the one place where the grammar of frames and the machine of kernel and server
+//! meet.
 #![tactic(auto)]
 
 mod listing;

@@ -19,8 +19,10 @@ pub(crate) fn put_listing<A: Allocator>(
     found_ms: u64,
 )
     requires together { length entries.now ≡ length (records_in records) }
-    requires room { vec_len out.old + (128 * length entries.now + sizes (dirents (records_in records))) ≤ vec_capacity out.old }
-    ensures items { out.new.items ≡ out.old.items ++ spellings (direntpluses (pairs_listed found_ms entries.now (records_in records.entry))) }
+    requires room { vec_len out.old + (128 * length entries.now + sizes
+        (dirents (records_in records))) ≤ vec_capacity out.old }
+    ensures items { out.new.items ≡ out.old.items ++ spellings
+        (direntpluses (pairs_listed found_ms entries.now (records_in records.entry))) }
     ensures fits { InRange (direntpluses (pairs_listed found_ms entries.now (records_in records.entry))) }
 {
     let mut left = entries;

@@ -18,7 +18,9 @@ pub fn codec_minor(minor: Minor) -> fk_wire::Minor
     }
 }
 
-/// What bytes say at a minor is what they say at 7.31, where the minor knows what is asked (linux/fuse.h, enum fuse_opcode).
+/// What bytes say at a minor is what they say at 7.31, where the minor knows what is asked (linux/fuse.h, enum
+/// fuse_opcode).
 pub fn said_where_known()
-    ensures { (minor : Minor) (bytes : List ℕ) (request : Request) → SaysRequestAt minor bytes request ↔ (SaysRequest bytes request × (knows minor request.body ≡ true)) }
+    ensures { (minor : Minor) (bytes : List ℕ) (request : Request)
+        → SaysRequestAt minor bytes request ↔ (SaysRequest bytes request × (knows minor request.body ≡ true)) }
 {}

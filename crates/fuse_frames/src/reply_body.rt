@@ -86,8 +86,8 @@ fn is_dots(name: &[u8]) -> bool
     matches!(name, [] | [b'.'] | [b'.', b'.'])
 }
 
-/// The file that a name in a list tells, and for how many milliseconds the name leads there. `.` and `..` tell none, nor does an
-/// entry of node id 0 (linux/fuse.h, struct fuse_direntplus).
+/// The file that a name in a list tells, and for how many milliseconds the name leads there. `.` and `..` tell none,
+/// nor does an entry of node id 0 (linux/fuse.h, struct fuse_direntplus).
 pub fn told_by(pair: &DirentPlus<'_>) -> (Option<Entry>, u64)
     ensures file { result.0 ≡ file_told (pair_in (direntplus_content pair.now)) }
     ensures valid { result.1 ≡ (pair_in (direntplus_content pair.now)).valid }

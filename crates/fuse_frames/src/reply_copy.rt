@@ -53,13 +53,19 @@ impl<A: Allocator> ReplyCopy<A> {
         self.frame.unique()
     }
 
-    /// The frame's bytes: the one frame in which the reply is written. They say what the copy says, to the requests that it may reply to.
+    /// The frame's bytes: the one frame in which the reply is written. They say what the copy says, to the requests
+    /// that it may reply to.
     pub fn bytes(&self) -> &[u8]
-        ensures written { (opcode : Opcode) × IsReplyFrame opcode result.now (record { unique = self.now.unique; wire = self.now.wire }) }
+        ensures written { (opcode : Opcode) × IsReplyFrame opcode result.now
+            (record { unique = self.now.unique; wire = self.now.wire }) }
         ensures frame { (opcode : Opcode) × SaysReply opcode result.now self.now.unique self.now.wire }
-        ensures fits { (operation : Operation ℕ Opened) → goes_with operation self.now.wire ≡ true → SaysReply (asked_opcode (asks operation)) result.now self.now.unique self.now.wire }
-        ensures init { is_init_reply self.now.wire ≡ true → SaysReply Opcode.Init result.now self.now.unique self.now.wire }
-        ensures empty { is_empty_reply self.now.wire ≡ true → SaysReply Opcode.Release result.now self.now.unique self.now.wire × SaysReply Opcode.Interrupt result.now self.now.unique self.now.wire }
+        ensures fits { (operation : Operation ℕ Opened) → goes_with operation self.now.wire ≡ true
+            → SaysReply (asked_opcode (asks operation)) result.now self.now.unique self.now.wire }
+        ensures init { is_init_reply self.now.wire ≡ true
+            → SaysReply Opcode.Init result.now self.now.unique self.now.wire }
+        ensures empty { is_empty_reply self.now.wire ≡ true
+            → SaysReply Opcode.Release result.now self.now.unique self.now.wire
+            × SaysReply Opcode.Interrupt result.now self.now.unique self.now.wire }
     {
         self.frame.bytes()
     }

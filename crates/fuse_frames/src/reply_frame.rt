@@ -47,19 +47,24 @@ impl<A: Allocator> ReplyFrame<A> {
         }
     }
 
-    /// The frame's bytes: the one frame in which the reply is written. They say it to the requests that it may reply to.
+    /// The frame's bytes: the one frame in which the reply is written. They say it to the requests that it may reply
+    /// to.
     pub fn bytes(&self) -> &[u8]
         ensures written { (opcode : Opcode) × IsReplyFrame opcode result.now self.now }
         ensures frame { (opcode : Opcode) × SaysReply opcode result.now self.now.unique self.now.wire }
-        ensures fits { (operation : Operation ℕ Opened) → goes_with operation self.now.wire ≡ true → SaysReply (asked_opcode (asks operation)) result.now self.now.unique self.now.wire }
-        ensures init { is_init_reply self.now.wire ≡ true → SaysReply Opcode.Init result.now self.now.unique self.now.wire }
-        ensures empty { is_empty_reply self.now.wire ≡ true → SaysReply Opcode.Release result.now self.now.unique self.now.wire × SaysReply Opcode.Interrupt result.now self.now.unique self.now.wire }
+        ensures fits { (operation : Operation ℕ Opened) → goes_with operation self.now.wire ≡ true
+            → SaysReply (asked_opcode (asks operation)) result.now self.now.unique self.now.wire }
+        ensures init { is_init_reply self.now.wire ≡ true
+            → SaysReply Opcode.Init result.now self.now.unique self.now.wire }
+        ensures empty { is_empty_reply self.now.wire ≡ true
+            → SaysReply Opcode.Release result.now self.now.unique self.now.wire
+            × SaysReply Opcode.Interrupt result.now self.now.unique self.now.wire }
     {
         &self.bytes
     }
 
-    /// The frame of a reply to a request of this opcode, written into an empty vector that has room for it. It is written as `message_of`
-    /// has it.
+    /// The frame of a reply to a request of this opcode, written into an empty vector that has room for it. It is
+    /// written as `message_of` has it.
     pub(crate) fn written(opcode: Opcode, bytes: Vec<u8, A>, reply: &Reply<'_>) -> ReplyFrame<A>
         requires empty { bytes.items ≡ [] }
         requires room { 16 + sizes (reply_body (reply_content reply.now.body)) ≤ vec_capacity bytes }
@@ -75,8 +80,10 @@ impl<A: Allocator> ReplyFrame<A> {
 
     /// The frame of a reply of READDIRPLUS, whose bytes are written. They are written as `message_of` has it.
     pub(crate) fn listing(bytes: Vec<u8, A>) -> ReplyFrame<A>
-        requires { (message : ReplyMessage) × GoesWith served Opcode.Readdirplus message × WrittenReply message bytes.items × (message ≡ message_of (framed_by message)) }
-        ensures { (message : ReplyMessage) → GoesWith served Opcode.Readdirplus message → WrittenReply message bytes.items → result ≡ framed_by message }
+        requires { (message : ReplyMessage) × GoesWith served Opcode.Readdirplus message
+            × WrittenReply message bytes.items × (message ≡ message_of (framed_by message)) }
+        ensures { (message : ReplyMessage) → GoesWith served Opcode.Readdirplus message
+            → WrittenReply message bytes.items → result ≡ framed_by message }
     {
         ReplyFrame {
             opcode: Opcode::Readdirplus,

@@ -25,8 +25,8 @@ use std::marker::Model;
 /// How many bytes the longest reply of a fixed length has, which is CREATE's.
 const ROOM: usize = 160;
 
-/// Room for one reply, seen as how many bytes it holds: a server takes it first, then changes its state, and then writes the reply,
-/// which cannot fail. Any reply of a fixed length has room.
+/// Room for one reply, seen as how many bytes it holds: a server takes it first, then changes its state, and then
+/// writes the reply, which cannot fail. Any reply of a fixed length has room.
 #[derive(Drop)]
 pub struct ReplyRoom<A: Allocator = Global> {
     bytes: Vec<u8, A>,
@@ -132,8 +132,9 @@ impl<A: Allocator> ReplyRoom<A> {
         self.said(unique, Opcode::Readdir, ReplyBody::Records { records })
     }
 
-    /// The answer to READDIRPLUS: the records, for which there is room, each with the entry of its name's file, or with one of node 0.
-    /// Each name leads to its file for so many milliseconds, at most a day. The types are those of kinds (`type_of`).
+    /// The answer to READDIRPLUS: the records, for which there is room, each with the entry of its name's file, or with
+    /// one of node 0. Each name leads to its file for so many milliseconds, at most a day. The types are those of kinds
+    /// (`type_of`).
     pub fn listed_plus(
         self,
         unique: u64,
@@ -146,7 +147,11 @@ impl<A: Allocator> ReplyRoom<A> {
         requires valid { found_ms ≤ max_validity }
         requires room { 16 + (128 * length entries.now + sizes (dirents (records_in records))) ≤ self }
         requires most { 128 * length entries.now + sizes (dirents (records_in records)) ≤ max_transfer }
-        ensures { result ≡ record { unique = unique; wire = reply.listed_plus (pairs_told found_ms entries.now (map dirent_in (records_in records.entry))) } }
+        ensures { result ≡ record {
+          unique = unique;
+          wire = reply.listed_plus
+              (pairs_told found_ms entries.now (map dirent_in (records_in records.entry)));
+        } }
     {
         let mut bytes = self.bytes;
         let size = 128 * entries.len() + records.byte_len();
@@ -195,7 +200,8 @@ impl<A: Allocator> ReplyRoom<A> {
 /// What is agreed on at INIT: the minor that is spoken, and those of the offered flags that it knows.
 #[tactic(auto, using(crate::proofs::Agreements::known_again, crate::proofs::Agreements::read_alone))]
 fn agreement(minor: Minor, offered: InitFlags) -> ReplyBody<'static>
-    ensures { reply_content result ≡ init_content 7 (minor_number minor) (bit_and (bit_and offered.0 known_flags) (flags_known minor)) }
+    ensures { reply_content result ≡ init_content 7 (minor_number minor)
+        (bit_and (bit_and offered.0 known_flags) (flags_known minor)) }
 {
     match minor {
         Minor::M15 => ReplyBody::Init {
@@ -213,7 +219,13 @@ fn agreement(minor: Minor, offered: InitFlags) -> ReplyBody<'static>
 
 /// The entry of a name that leads to a node: its validity in whole seconds, and the rest in nanoseconds.
 pub(crate) fn entry_of(entry: &Entry, found_ms: u64) -> fk_wire::Entry
-    ensures { result ≡ record { nodeid = entry.now.nodeid; generation = entry.now.generation; entry_valid = found_ms / 1000; entry_valid_nsec = found_ms % 1000 * 1000000; attr = attr_written entry.now.attributes } }
+    ensures { result ≡ record {
+      nodeid = entry.now.nodeid;
+      generation = entry.now.generation;
+      entry_valid = found_ms / 1000;
+      entry_valid_nsec = found_ms % 1000 * 1000000;
+      attr = attr_written entry.now.attributes;
+    } }
 {
     fk_wire::Entry {
         nodeid: entry.nodeid,
@@ -226,7 +238,13 @@ pub(crate) fn entry_of(entry: &Entry, found_ms: u64) -> fk_wire::Entry
 
 /// The entry of a name that leads nowhere.
 fn no_entry(missing_ms: u64) -> fk_wire::Entry
-    ensures { result ≡ record { nodeid = 0; generation = 0; entry_valid = missing_ms / 1000; entry_valid_nsec = missing_ms % 1000 * 1000000; attr = record { ino = 0; size = 0; mode = 0; nlink = 0 } } }
+    ensures { result ≡ record {
+      nodeid = 0;
+      generation = 0;
+      entry_valid = missing_ms / 1000;
+      entry_valid_nsec = missing_ms % 1000 * 1000000;
+      attr = record { ino = 0; size = 0; mode = 0; nlink = 0 };
+    } }
 {
     let attr = Attr {
         ino: 0,

@@ -40,8 +40,10 @@ fn framed<A: Allocator>(
     alloc: A,
     request: &fk_wire::Request<'_>,
 ) -> Result<RequestFrame<A>, AllocError>
-    requires { (body : Asked) × (body_in request.now.nodeid (request_content request.now.body) ≡ Some body) × (request_content request.now.body ≡ content_of body) }
-    ensures { (body : Asked) → body_in request.now.nodeid (request_content request.now.body) ≡ Some body → IfOk result (λ frame. frame ≡ record { unique = request.now.unique; body = body }) }
+    requires { (body : Asked) × (body_in request.now.nodeid (request_content request.now.body) ≡ Some body)
+        × (request_content request.now.body ≡ content_of body) }
+    ensures { (body : Asked) → body_in request.now.nodeid (request_content request.now.body) ≡ Some body
+        → IfOk result (λ frame. frame ≡ record { unique = request.now.unique; body = body }) }
 {
     let mut bytes = Vec::new(alloc);
     match write_request(&mut bytes, request) {
@@ -71,7 +73,8 @@ impl<A: Allocator> RequestFrame<A> {
     }
 
     /// INIT of the version that the kernel speaks, 7.31, with the flags that it offers, FUSE_ASYNC_READ,
-    /// FUSE_DO_READDIRPLUS and FUSE_PARALLEL_DIROPS (uapi fuse.h). That its frame says so is in the invariant: `content_of` has what is written.
+    /// FUSE_DO_READDIRPLUS and FUSE_PARALLEL_DIROPS (uapi fuse.h). That its frame says so is in the invariant:
+    /// `content_of` has what is written.
     pub fn init(alloc: A, unique: u64) -> Result<RequestFrame<A>, AllocError>
         ensures { IfOk result (λ frame. frame ≡ record { unique = unique; body = init init_flags }) }
     {
@@ -144,7 +147,8 @@ impl<A: Allocator> RequestFrame<A> {
 }
 
 impl<A: Allocator + Copy> RequestFrame<A> {
-    /// The frame that forgets these lookups, each pair a node and how many of it: FORGET for one pair, else BATCH_FORGET.
+    /// The frame that forgets these lookups, each pair a node and how many of it: FORGET for one pair, else
+    /// BATCH_FORGET.
     pub fn forgets(
         alloc: A,
         unique: u64,

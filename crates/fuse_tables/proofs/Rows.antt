@@ -50,12 +50,14 @@ is_found None = ⊥
 is_found (Some x) = Unit {0}
 
 module _ {V : Type 0} where
-  below_at : (x : ℕ) (es : List (ℕ × V)) → T (below_all nat_cmp x es) → (j : ℕ) (d : ℕ × V) → j < length es → x < (slice_index_or es j d).0
+  below_at : (x : ℕ) (es : List (ℕ × V)) → T (below_all nat_cmp x es) → (j : ℕ) (d : ℕ × V) → j < length es
+      → x < (slice_index_or es j d).0
   below_at x [] h j d b = absurd (omega arith)
   below_at x (e ∷ es) h zero d b = less_lower x e.0 (both_first _ _ h)
   below_at x (e ∷ es) h (suc j) d b = below_at x es (both_second _ _ h) j d (omega arith)
 
-  pub is_partitioned : (es : List (ℕ × V)) (key : ℕ) → T (is_sorted nat_cmp es) → IsPartitionedBy (λ e. nat_lt e.0 key) es
+  pub is_partitioned : (es : List (ℕ × V)) (key : ℕ) → T (is_sorted nat_cmp es)
+      → IsPartitionedBy (λ e. nat_lt e.0 key) es
   is_partitioned [] key h i j d le b t = absurd (omega arith)
   is_partitioned (e ∷ es) key h zero zero d le b t = t
   is_partitioned (e ∷ es) key h zero (suc j) d le b t =
@@ -63,13 +65,18 @@ module _ {V : Type 0} where
       let high = ltb-true (slice_index_or es j d).0 key t in
       lt-ltb e.0 key (omega arith)
   is_partitioned (e ∷ es) key h (suc i) zero d le b t = absurd (omega arith)
-  is_partitioned (e ∷ es) key h (suc i) (suc j) d le b t = is_partitioned es key (both_second _ _ h) i j d (omega arith) (omega arith) t
+  is_partitioned (e ∷ es) key h (suc i) (suc j) d le b t =
+      is_partitioned es key (both_second _ _ h) i j d (omega arith) (omega arith) t
 
-  pub place_is : (es : List (ℕ × V)) (key i : ℕ) → i ≤ length es → IsPartitionPoint (λ e. nat_lt e.0 key ≡ true) (λ e. nat_lt e.0 key ≡ false) es i → i ≡ place_of key es
+  pub place_is : (es : List (ℕ × V)) (key i : ℕ) → i ≤ length es
+      → IsPartitionPoint (λ e. nat_lt e.0 key ≡ true) (λ e. nat_lt e.0 key ≡ false) es i → i ≡ place_of key es
   place_is [] key i b h = omega arith
   place_is (e ∷ es) key zero b h = rw (h.1 0 e (omega arith) (omega arith)) refl
   place_is (e ∷ es) key (suc i) b h =
-      let rest = place_is es key i (omega arith) (λ k d low high. h.0 (suc k) d (omega arith) (omega arith), λ k d low high. h.1 (suc k) d (omega arith) (omega arith)) in
+      let rest = place_is es key i (omega arith) (
+        λ k d low high. h.0 (suc k) d (omega arith) (omega arith),
+        λ k d low high. h.1 (suc k) d (omega arith) (omega arith),
+      ) in
       rw (h.0 0 e (omega arith) (omega arith)) (omega arith)
 
   -- ---- at a place, by how the key stands to the first row's
@@ -80,13 +87,16 @@ module _ {V : Type 0} where
   put_first : (key : ℕ) (v : V) (e : ℕ × V) (es : List (ℕ × V)) → nat_cmp key e.0 ≡ Less → Put key v (e ∷ es)
   put_first key v e es q = let lower = ranked key e.0 Less (sym q) in rw (q, ge_not_less e.0 key (omega arith)) refl
 
-  put_later : (key : ℕ) (v : V) (e : ℕ × V) (es : List (ℕ × V)) → nat_cmp key e.0 ≡ Greater → Put key v es → Put key v (e ∷ es)
-  put_later key v e es q h = let higher = ranked key e.0 Greater (sym q) in rw (q, lt-ltb e.0 key higher) (ap (λ xs. e ∷ xs) h)
+  put_later : (key : ℕ) (v : V) (e : ℕ × V) (es : List (ℕ × V)) → nat_cmp key e.0 ≡ Greater → Put key v es
+      → Put key v (e ∷ es)
+  put_later key v e es q h = let higher = ranked key e.0 Greater (sym q) in
+      rw (q, lt-ltb e.0 key higher) (ap (λ xs. e ∷ xs) h)
 
   pub put_is : (es : List (ℕ × V)) (key : ℕ) (v : V) → get es key ≡ None → Put key v es
   put_is [] key v none = refl
   put_is (e ∷ es) key v none =
-      elim (nat_cmp key e.0) as (λ r. nat_cmp key e.0 ≡ r → cond (is_eq r) (Some e.1) (get es key) ≡ None → Put key v (e ∷ es)) [
+      elim (nat_cmp key e.0) as (λ r. nat_cmp key e.0 ≡ r → cond (is_eq r) (Some e.1) (get es key) ≡ None
+      → Put key v (e ∷ es)) [
         | Less ↦ λ q n. put_first key v e es q
         | Equal ↦ λ q n. absurd (subst is_found n tt)
         | Greater ↦ λ q n. put_later key v e es q (put_is es key v n)
@@ -104,13 +114,19 @@ module _ {V : Type 0} where
       let lower = less_lower low e.0 (both_first _ _ h) in
       rw (← nat_cmp_is key e.0 Less (omega arith)) (none_below key es low le (both_second _ _ h))
 
-  pub found_is : (es : List (ℕ × V)) (key : ℕ) → T (is_sorted nat_cmp es) → get es key ≡ found key (slice_get es (place_of key es))
+  pub found_is : (es : List (ℕ × V)) (key : ℕ) → T (is_sorted nat_cmp es)
+      → get es key ≡ found key (slice_get es (place_of key es))
   found_is [] key h = refl
   found_is (e ∷ es) key h =
-      elim (nat_cmp key e.0) as (λ r. nat_cmp key e.0 ≡ r → cond (is_eq r) (Some e.1) (get es key) ≡ found key (slice_get (e ∷ es) (place_of key (e ∷ es)))) [
-        | Less ↦ λ q. let low = ranked key e.0 Less (sym q) in rw (ge_not_less e.0 key (omega arith), apart e.0 key (omega arith)) (none_below key es e.0 (omega arith) (both_first _ _ h))
-        | Equal ↦ λ q. let same = ranked key e.0 Equal (sym q) in rw (ge_not_less e.0 key (omega arith), tied e.0 key (sym same)) refl
-        | Greater ↦ λ q. let high = ranked key e.0 Greater (sym q) in rw (lt-ltb e.0 key high) (found_is es key (both_second _ _ h))
+      elim (nat_cmp key e.0) as (λ r. nat_cmp key e.0 ≡ r
+      → cond (is_eq r) (Some e.1) (get es key) ≡ found key (slice_get (e ∷ es) (place_of key (e ∷ es)))) [
+        | Less ↦ λ q. let low = ranked key e.0 Less (sym q) in
+            rw (ge_not_less e.0 key (omega arith), apart e.0 key (omega arith))
+            (none_below key es e.0 (omega arith) (both_first _ _ h))
+        | Equal ↦ λ q. let same = ranked key e.0 Equal (sym q) in
+            rw (ge_not_less e.0 key (omega arith), tied e.0 key (sym same)) refl
+        | Greater ↦ λ q. let high = ranked key e.0 Greater (sym q) in
+            rw (lt-ltb e.0 key high) (found_is es key (both_second _ _ h))
       ] refl
 
   -- ---- removing
@@ -122,58 +138,90 @@ module _ {V : Type 0} where
       rw (apart e.0 key (omega arith)) (ap (λ xs. e ∷ xs) (kept_above key es low le (both_second _ _ h)))
 
   first_is : (e f : ℕ × V) (key : ℕ) → Some e ≡ Some f → f.0 ≡ key → key < e.0 → ⊥
-  first_is e f key at same low = let equal : e.0 ≡ key = ap (λ (x : ℕ × V). x.0) (same_Some e f at) ∙ same in absurd (omega arith)
+  first_is e f key at same low = let equal : e.0 ≡ key =
+      ap (λ (x : ℕ × V). x.0) (same_Some e f at) ∙ same in absurd (omega arith)
 
-  pub removed_is : (es : List (ℕ × V)) (key : ℕ) (e : ℕ × V) → T (is_sorted nat_cmp es) → slice_get es (place_of key es) ≡ Some e → e.0 ≡ key → take (place_of key es) es ++ drop (suc (place_of key es)) es ≡ remove es key
+  pub removed_is : (es : List (ℕ × V)) (key : ℕ) (e : ℕ × V) → T (is_sorted nat_cmp es)
+      → slice_get es (place_of key es) ≡ Some e → e.0 ≡ key
+      → take (place_of key es) es ++ drop (suc (place_of key es)) es ≡ remove es key
   removed_is [] key f h at same = absurd (subst is_found (sym at) tt)
   removed_is (e ∷ es) key f h at same =
-      elim (nat_cmp key e.0) as (λ r. nat_cmp key e.0 ≡ r → take (place_of key (e ∷ es)) (e ∷ es) ++ drop (suc (place_of key (e ∷ es))) (e ∷ es) ≡ remove (e ∷ es) key) [
-        | Less ↦ λ q. let low = ranked key e.0 Less (sym q) in absurd (first_is e f key (subst (λ (b : Bool). slice_get (e ∷ es) (if b then suc (place_of key es) else 0) ≡ Some f) (ge_not_less e.0 key (omega arith)) at) same low)
-        | Equal ↦ λ q. let equal = ranked key e.0 Equal (sym q) in rw (ge_not_less e.0 key (omega arith), tied e.0 key (sym equal)) (sym (kept_above key es e.0 (omega arith) (both_first _ _ h)))
+      elim (nat_cmp key e.0) as (λ r. nat_cmp key e.0 ≡ r
+      → take (place_of key (e ∷ es)) (e ∷ es) ++ drop (suc (place_of key (e ∷ es))) (e ∷ es) ≡ remove (e ∷ es) key) [
+        | Less ↦ λ q. let low = ranked key e.0 Less (sym q) in
+            absurd (first_is e f key (subst (λ (b : Bool). slice_get (e ∷ es) (if b then suc (place_of key es) else 0)
+            ≡ Some f) (ge_not_less e.0 key (omega arith)) at) same low)
+        | Equal ↦ λ q. let equal = ranked key e.0 Equal (sym q) in
+            rw (ge_not_less e.0 key (omega arith), tied e.0 key (sym equal))
+            (sym (kept_above key es e.0 (omega arith) (both_first _ _ h)))
         | Greater ↦ λ q.
             let high = ranked key e.0 Greater (sym q) in
-            let rest = removed_is es key f (both_second _ _ h) (subst (λ (b : Bool). slice_get (e ∷ es) (if b then suc (place_of key es) else 0) ≡ Some f) (lt-ltb e.0 key high) at) same in
+            let rest = removed_is es key f (both_second _ _ h)
+            (subst (λ (b : Bool). slice_get (e ∷ es) (if b then suc (place_of key es) else 0) ≡ Some f)
+            (lt-ltb e.0 key high) at) same in
             rw (lt-ltb e.0 key high, apart e.0 key (omega arith)) (ap (λ xs. e ∷ xs) rest)
       ] refl
 
   pub absent_is : (es : List (ℕ × V)) (key : ℕ) → get es key ≡ None → remove es key ≡ es
   absent_is [] key none = refl
   absent_is (e ∷ es) key none =
-      elim (nat_cmp key e.0) as (λ r. nat_cmp key e.0 ≡ r → cond (is_eq r) (Some e.1) (get es key) ≡ None → remove (e ∷ es) key ≡ e ∷ es) [
-        | Less ↦ λ q n. let low = ranked key e.0 Less (sym q) in rw (apart e.0 key (omega arith)) (ap (λ xs. e ∷ xs) (absent_is es key n))
+      elim (nat_cmp key e.0) as (λ r. nat_cmp key e.0 ≡ r → cond (is_eq r) (Some e.1) (get es key) ≡ None
+      → remove (e ∷ es) key ≡ e ∷ es) [
+        | Less ↦ λ q n. let low = ranked key e.0 Less (sym q) in
+            rw (apart e.0 key (omega arith)) (ap (λ xs. e ∷ xs) (absent_is es key n))
         | Equal ↦ λ q n. absurd (subst is_found n tt)
-        | Greater ↦ λ q n. let high = ranked key e.0 Greater (sym q) in rw (apart e.0 key (omega arith)) (ap (λ xs. e ∷ xs) (absent_is es key n))
+        | Greater ↦ λ q n. let high = ranked key e.0 Greater (sym q) in
+            rw (apart e.0 key (omega arith)) (ap (λ xs. e ∷ xs) (absent_is es key n))
       ] refl none
 
   -- ---- what the code reads at a place
 
-  pub row_there : (rows : List (ℕ × V)) (key place : ℕ) (row : ℕ × V) → place ≡ place_of key rows → place ≤ length rows → place ≢ length rows → row ≡ slice_index_or rows place row → row.0 ≡ key → IsRowOf rows key place
-  row_there rows key place row at le ne is same = record { at = at; bound = omega arith; row = row; there = slice_get_read rows (length rows) place row refl (omega arith) is; same = same }
+  pub row_there : (rows : List (ℕ × V)) (key place : ℕ) (row : ℕ × V) → place ≡ place_of key rows → place ≤ length rows
+      → place ≢ length rows → row ≡ slice_index_or rows place row → row.0 ≡ key → IsRowOf rows key place
+  row_there rows key place row at le ne is same = record {
+    at = at;
+    bound = omega arith;
+    row = row;
+    there = slice_get_read rows (length rows) place row refl (omega arith) is;
+    same = same;
+  }
 
-  pub none_past : (rows : List (ℕ × V)) (key place : ℕ) → T (is_sorted nat_cmp rows) → place ≡ place_of key rows → place ≡ length rows → get rows key ≡ None
-  none_past rows key place h at end = let there : slice_get rows (place_of key rows) ≡ None = rw (← at) (slice_get_past rows place (omega arith)) in found_is rows key h ∙ ap (found key) there
+  pub none_past : (rows : List (ℕ × V)) (key place : ℕ) → T (is_sorted nat_cmp rows) → place ≡ place_of key rows
+      → place ≡ length rows → get rows key ≡ None
+  none_past rows key place h at end = let there : slice_get rows (place_of key rows) ≡ None =
+      rw (← at) (slice_get_past rows place (omega arith)) in found_is rows key h ∙ ap (found key) there
 
-  pub none_other : (rows : List (ℕ × V)) (key place : ℕ) (row : ℕ × V) → T (is_sorted nat_cmp rows) → place ≡ place_of key rows → place ≤ length rows → place ≢ length rows → row ≡ slice_index_or rows place row → row.0 ≢ key → get rows key ≡ None
+  pub none_other : (rows : List (ℕ × V)) (key place : ℕ) (row : ℕ × V) → T (is_sorted nat_cmp rows)
+      → place ≡ place_of key rows → place ≤ length rows → place ≢ length rows → row ≡ slice_index_or rows place row
+      → row.0 ≢ key → get rows key ≡ None
   none_other rows key place row h at le ne is other =
-      let there : slice_get rows (place_of key rows) ≡ Some row = rw (← at) (slice_get_read rows (length rows) place row refl (omega arith) is) in
+      let there : slice_get rows (place_of key rows) ≡ Some row =
+      rw (← at) (slice_get_read rows (length rows) place row refl (omega arith) is) in
       found_is rows key h ∙ ap (found key) there ∙ ap (λ (b : Bool). cond b (Some row.1) None) (apart row.0 key other)
 
-  pub value_there : (rows : List (ℕ × V)) (key place : ℕ) → T (is_sorted nat_cmp rows) → (r : IsRowOf rows key place) → get rows key ≡ Some r.row.1
+  pub value_there : (rows : List (ℕ × V)) (key place : ℕ) → T (is_sorted nat_cmp rows) → (r : IsRowOf rows key place)
+      → get rows key ≡ Some r.row.1
   value_there rows key place h r =
       let there : slice_get rows (place_of key rows) ≡ Some r.row = rw (← r.at) r.there in
-      found_is rows key h ∙ ap (found key) there ∙ ap (λ (b : Bool). cond b (Some r.row.1) None) (tied r.row.0 key r.same)
+      found_is rows key h ∙ ap (found key) there ∙ ap (λ (b : Bool). cond b (Some r.row.1) None)
+      (tied r.row.0 key r.same)
 
-  pub without_there : (rows : List (ℕ × V)) (key place : ℕ) → T (is_sorted nat_cmp rows) → IsRowOf rows key place → removed rows place ≡ remove rows key
+  pub without_there : (rows : List (ℕ × V)) (key place : ℕ) → T (is_sorted nat_cmp rows) → IsRowOf rows key place
+      → removed rows place ≡ remove rows key
   without_there rows key place h r = rw r.at (removed_is rows key r.row h (rw (← r.at) r.there) r.same)
 
-  pub sorted_without : (rows : List (ℕ × V)) (key : ℕ) → T (is_sorted nat_cmp rows) → T (is_sorted nat_cmp (remove rows key))
+  pub sorted_without : (rows : List (ℕ × V)) (key : ℕ) → T (is_sorted nat_cmp rows)
+      → T (is_sorted nat_cmp (remove rows key))
   sorted_without rows key h = is_sorted-where_key nat_cmp (λ k. not (nat_eq k key)) rows h
 
-  pub sorted_with : (rows : List (ℕ × V)) (key : ℕ) (v : V) → T (is_sorted nat_cmp rows) → T (is_sorted nat_cmp (with_value rows key v))
+  pub sorted_with : (rows : List (ℕ × V)) (key : ℕ) (v : V) → T (is_sorted nat_cmp rows)
+      → T (is_sorted nat_cmp (with_value rows key v))
   sorted_with rows key v h = is_sorted-put nat_cmp nat_cmp_total key v rows h
 
   -- what is read at the place of a key's row is its value
-  pub read_there : (rows seen : List (ℕ × V)) (key place : ℕ) (row : ℕ × V) → T (is_sorted nat_cmp rows) → seen ≡ rows → IsRowOf seen key place → row ≡ slice_index_or rows place row → Some row.1 ≡ get rows key
+  pub read_there : (rows seen : List (ℕ × V)) (key place : ℕ) (row : ℕ × V) → T (is_sorted nat_cmp rows) → seen ≡ rows
+      → IsRowOf seen key place → row ≡ slice_index_or rows place row → Some row.1 ≡ get rows key
   read_there rows seen key place row h same r is =
       let there = subst (λ es. IsRowOf es key place) same r in
-      sym (value_there rows key place h there ∙ ap (λ (x : ℕ × V). Some x.1) (sym (is ∙ get_or_from_slice_get rows place there.row row there.there)))
+      sym (value_there rows key place h there ∙ ap (λ (x : ℕ × V). Some x.1)
+      (sym (is ∙ get_or_from_slice_get rows place there.row row there.there)))

@@ -22,11 +22,16 @@ module _ {R W : Type 0} (remaining : R → Option (List ℕ)) (contents : W → 
         server_read = Consumes-nil (remaining link.server_reader);
       }
 
-  pub streamed_in_turn : (first mid last : StreamLink R W) (h k : Traffic) → Streamed first mid h → Streamed mid last k → Streamed first last (in_turn h k)
+  pub streamed_in_turn : (first mid last : StreamLink R W) (h k : Traffic) → Streamed first mid h → Streamed mid last k
+      → Streamed first last (in_turn h k)
   streamed_in_turn first mid last h k one two =
       record {
-        kernel_wrote = Appends-trans (contents first.kernel_writer) (contents mid.kernel_writer) (contents last.kernel_writer) h.kernel_put k.kernel_put one.kernel_wrote two.kernel_wrote;
-        server_wrote = Appends-trans (contents first.server_writer) (contents mid.server_writer) (contents last.server_writer) h.server_put k.server_put one.server_wrote two.server_wrote;
-        kernel_read = Consumes-trans (remaining first.kernel_reader) (remaining mid.kernel_reader) (remaining last.kernel_reader) h.kernel_got k.kernel_got one.kernel_read two.kernel_read;
-        server_read = Consumes-trans (remaining first.server_reader) (remaining mid.server_reader) (remaining last.server_reader) h.server_got k.server_got one.server_read two.server_read;
+        kernel_wrote = Appends-trans (contents first.kernel_writer) (contents mid.kernel_writer)
+            (contents last.kernel_writer) h.kernel_put k.kernel_put one.kernel_wrote two.kernel_wrote;
+        server_wrote = Appends-trans (contents first.server_writer) (contents mid.server_writer)
+            (contents last.server_writer) h.server_put k.server_put one.server_wrote two.server_wrote;
+        kernel_read = Consumes-trans (remaining first.kernel_reader) (remaining mid.kernel_reader)
+            (remaining last.kernel_reader) h.kernel_got k.kernel_got one.kernel_read two.kernel_read;
+        server_read = Consumes-trans (remaining first.server_reader) (remaining mid.server_reader)
+            (remaining last.server_reader) h.server_got k.server_got one.server_read two.server_read;
       }

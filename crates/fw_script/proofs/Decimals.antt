@@ -18,10 +18,12 @@ IsDigitAtEach word = (i : ℕ) → i < length word → IsInRange 48 57 (get_or w
 by_index : IsNumeralModel IsDigitAtEach (digits_value 10)
 by_index = numerals_by_value IsDigitAtEach tells_by_index
 
-pub digit_at_each : (word : List ℕ) → AllDigits 10 word → (i : ℕ) → i < length word → (48 ≤ get_or word i 0) × (get_or word i 0 ≤ 57)
+pub digit_at_each : (word : List ℕ) → AllDigits 10 word → (i : ℕ) → i < length word
+    → (48 ≤ get_or word i 0) × (get_or word i 0 ≤ 57)
 digit_at_each word all = by_index.from word all
 
-pub digits_from_each : (word : List ℕ) → ((i : ℕ) → i < length word → (48 ≤ get_or word i 0) × (get_or word i 0 ≤ 57)) → AllDigits 10 word
+pub digits_from_each : (word : List ℕ) → ((i : ℕ) → i < length word → (48 ≤ get_or word i 0) × (get_or word i 0 ≤ 57))
+    → AllDigits 10 word
 digits_from_each word each = by_index.to word each
 
 -- one digit more
@@ -52,7 +54,8 @@ pub digits_are_decimal : (word : List ℕ) → AllDigits 10 word → digits_valu
     → ¬ ((get_or word 0 0 ≡ 48) × (1 < length word)) → word ≡ decimal (digits_value 10 word)
 digits_are_decimal word digits small some leading =
     let one : 0 < length word = omega (arith, some) in
-    sym (decimal-digits_value own word digits one (λ z. let one_at_most : length word ≤ 1 = at_most_one (length word) (λ h. leading (z, h)) in omega arith) small)
+    sym (decimal-digits_value own word digits one (λ z. let one_at_most : length word ≤ 1 =
+    at_most_one (length word) (λ h. leading (z, h)) in omega arith) small)
 
 -- no number is written with a needless start
 pub decimal_starts_well : (n : ℕ) (word : List ℕ) → n < 2 ^ 64 → word ≡ decimal n
@@ -66,17 +69,22 @@ decimal_starts_well (suc m) word small e =
     rw e (some, λ h. absurd (omega (arith, high)))
 
 -- a number is written by digits, of which it is the value
-pub decimal_is_digits : (n : ℕ) (word : List ℕ) → n < 2 ^ 64 → word ≡ decimal n → AllDigits 10 word × (digits_value 10 word ≡ n)
+pub decimal_is_digits : (n : ℕ) (word : List ℕ) → n < 2 ^ 64 → word ≡ decimal n
+    → AllDigits 10 word × (digits_value 10 word ≡ n)
 decimal_is_digits n word small e = rw e (digits_decimal own n small, digits_value-decimal own n small)
 
 -- so it is what such digits are read as
 pub read_as : (n : ℕ) (word : List ℕ) (o : Option ℕ) → n < 2 ^ 64 → word ≡ decimal n
-    → IfNone o (AllDigits 10 word → 2 ^ 64 ≤ digits_value 10 word) → IfSome o (λ m. AllDigits 10 word × (m ≡ digits_value 10 word)) → o ≡ Some n
-read_as n word None small e none some = let known = decimal_is_digits n word small e in let past = none known.0 in absurd (omega (arith, known.1, past))
+    → IfNone o (AllDigits 10 word → 2 ^ 64 ≤ digits_value 10 word)
+    → IfSome o (λ m. AllDigits 10 word × (m ≡ digits_value 10 word)) → o ≡ Some n
+read_as n word None small e none some = let known = decimal_is_digits n word small e in let past =
+    none known.0 in absurd (omega (arith, known.1, past))
 read_as n word (Some m) small e none some = let known = decimal_is_digits n word small e in ap Some (some.1 ∙ known.1)
 
 -- and what they are read as is written so
-pub read_is_decimal : (word : List ℕ) (o : Option ℕ) → IfSome o (λ n. n < 2 ^ 64) → IfSome o (λ n. AllDigits 10 word × (n ≡ digits_value 10 word))
+pub read_is_decimal : (word : List ℕ) (o : Option ℕ) → IfSome o (λ n. n < 2 ^ 64)
+    → IfSome o (λ n. AllDigits 10 word × (n ≡ digits_value 10 word))
     → length word ≢ 0 → ¬ ((get_or word 0 0 ≡ 48) × (1 < length word)) → IfSome o (λ n. word ≡ decimal n)
 read_is_decimal word None fits h some leading = tt
-read_is_decimal word (Some n) fits h some leading = rw h.1 (digits_are_decimal word h.0 (omega (arith, fits, h.1)) some leading)
+read_is_decimal word (Some n) fits h some leading =
+    rw h.1 (digits_are_decimal word h.0 (omega (arith, fits, h.1)) some leading)

@@ -15,8 +15,10 @@ one_more_tested P text i before byte below so_far here = (
       let parts = and_parts before byte both in
       All-more P text i 0 below (so_far.0 parts.0) (here.0 parts.1),
   λ all.
-      let first : All P (take i text) = subst (All P) (take-take i (i + 1) text (omega arith)) (All-take P i (take (i + 1) text) all) in
+      let first : All P (take i text) = subst (All P) (take-take i (i + 1) text (omega arith))
+      (All-take P i (take (i + 1) text) all) in
       let last : P (get_or text i 0) =
-      subst P (get_or-take (i + 1) text i 0 (omega arith)) (All-get_or P (take (i + 1) text) i 0 (grind (arith, common_steps)) all) in
+      subst P (get_or-take (i + 1) text i 0 (omega arith))
+      (All-get_or P (take (i + 1) text) i 0 (grind (arith, common_steps)) all) in
       and_from before byte (so_far.1 first) (here.1 last),
 )

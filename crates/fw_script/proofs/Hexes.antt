@@ -66,7 +66,8 @@ digit_of_value v h =
     ]
 
 -- a lower-case digit reads as a value, whose digit it is
-reads_as : (c : ℕ) → IsLowerDigit c → (v : ℕ) × (v < 16) × (slice_index lower_digits v ≡ c) × (hex_digit_value c ≡ Some v)
+reads_as : (c : ℕ) → IsLowerDigit c → (v : ℕ) × (v < 16) × (slice_index lower_digits v ≡ c)
+    × (hex_digit_value c ≡ Some v)
 reads_as c h =
     let v = value_of_digit c h in
     (v.0, v.1, v.2, rw v.2 at (IsDigits-lower_digits v.0 v.1))
@@ -82,7 +83,8 @@ decoded_lower i (c ∷ []) h even = absurd (omega arith)
 decoded_lower i (c ∷ e ∷ rest) h even =
     let high = reads_as c (h 0 0 (omega arith)) in
     let low = reads_as e (h 1 0 (omega arith)) in
-    let more = decoded_lower (i + 2) rest (All-tail IsLowerDigit e rest (All-tail IsLowerDigit c (e ∷ rest) h)) (omega arith) in
+    let more = decoded_lower (i + 2) rest (All-tail IsLowerDigit e rest (All-tail IsLowerDigit c (e ∷ rest) h))
+    (omega arith) in
     let first : value_at c i ≡ Ok high.0 = ap (digit_or_error c i) high.3 in
     let second : value_at e (i + 1) ≡ Ok low.0 = ap (digit_or_error e (i + 1)) low.3 in
     let pair : pair_value c e i ≡ Ok (high.0 * 16 + low.0) = rw (first, second) refl in
@@ -119,8 +121,10 @@ unfolding encode_with
 lower-encode_lower [] h = All-nil IsLowerDigit
 lower-encode_lower (b ∷ rest) h =
     let fits : b < 256 = h 0 in
-    All-cons IsLowerDigit (slice_index lower_digits (b / 16)) (slice_index lower_digits (b % 16) ∷ encode_lower rest) (digit_of_value (b / 16) (omega arith))
-    (All-cons IsLowerDigit (slice_index lower_digits (b % 16)) (encode_lower rest) (digit_of_value (b % 16) (omega arith)) (lower-encode_lower rest (λ k. h (suc k))))
+    All-cons IsLowerDigit (slice_index lower_digits (b / 16)) (slice_index lower_digits (b % 16) ∷ encode_lower rest)
+    (digit_of_value (b / 16) (omega arith))
+    (All-cons IsLowerDigit (slice_index lower_digits (b % 16)) (encode_lower rest)
+    (digit_of_value (b % 16) (omega arith)) (lower-encode_lower rest (λ k. h (suc k))))
 
 -- what spells bytes is lower-case hex
 pub spelled_is_hex : (text bytes : List ℕ) → IsBytes bytes → SpellsHex text bytes → IsHex text
@@ -134,16 +138,19 @@ encode_lower-append [] ys = refl
 encode_lower-append (x ∷ xs) ys = rw (encode_lower-append xs ys) refl
 
 -- a part more
-pub encode_lower-part : (bytes : List ℕ) (i j : ℕ) → i ≤ j → encode_lower (take j bytes) ≡ encode_lower (take i bytes) ++ encode_lower (take (j - i) (drop i bytes))
+pub encode_lower-part : (bytes : List ℕ) (i j : ℕ) → i ≤ j
+    → encode_lower (take j bytes) ≡ encode_lower (take i bytes) ++ encode_lower (take (j - i) (drop i bytes))
 encode_lower-part bytes i j h =
     let whole : i + (j - i) ≡ j = omega arith in
-    let parts : take j bytes ≡ take i bytes ++ take (j - i) (drop i bytes) = ap (λ n. take n bytes) (sym whole) ∙ take-add i (j - i) bytes in
+    let parts : take j bytes ≡ take i bytes ++ take (j - i) (drop i bytes) =
+    ap (λ n. take n bytes) (sym whole) ∙ take-add i (j - i) bytes in
     ap encode_lower parts ∙ encode_lower-append (take i bytes) (take (j - i) (drop i bytes))
 
 -- and all that is left
 pub encode_lower-rest : (bytes : List ℕ) (i : ℕ) → i ≤ length bytes
     → encode_lower bytes ≡ encode_lower (take i bytes) ++ encode_lower (take (length bytes - i) (drop i bytes))
-encode_lower-rest bytes i h = ap encode_lower (sym (take_all (length bytes) bytes (omega arith))) ∙ encode_lower-part bytes i (length bytes) h
+encode_lower-rest bytes i h = ap encode_lower (sym
+    (take_all (length bytes) bytes (omega arith))) ∙ encode_lower-part bytes i (length bytes) h
 
 pub encode_lower-nil : encode_lower [] ≡ []
 unfolding encode_with
@@ -151,14 +158,16 @@ encode_lower-nil = refl
 
 -- ---- reading, byte by byte
 
-pair_spelled : (v w : ℕ) → v < 16 → w < 16 → encode_lower ((16 * v + w) ∷ []) ≡ slice_index lower_digits v ∷ slice_index lower_digits w ∷ []
+pair_spelled : (v w : ℕ) → v < 16 → w < 16 → encode_lower ((16 * v + w) ∷ [])
+    ≡ slice_index lower_digits v ∷ slice_index lower_digits w ∷ []
 unfolding encode_with
 pair_spelled v w high low =
     let above : (16 * v + w) / 16 ≡ v = omega (arith, low) in
     let below : (16 * v + w) % 16 ≡ w = omega (arith, low) in
     rw (above, below) refl
 
-first_two : (text : List ℕ) (i : ℕ) → i + 1 < length text → take 2 (drop i text) ≡ slice_index text i ∷ slice_index text (i + 1) ∷ []
+first_two : (text : List ℕ) (i : ℕ) → i + 1 < length text
+    → take 2 (drop i text) ≡ slice_index text i ∷ slice_index text (i + 1) ∷ []
 first_two [] i h = absurd (omega arith)
 first_two (c ∷ []) i h = absurd (omega arith)
 first_two (c ∷ e ∷ rest) zero h = refl
@@ -167,7 +176,8 @@ first_two (c ∷ e ∷ rest) (suc i) h =
     rw next (first_two (e ∷ rest) i (omega arith))
 
 -- one byte more is read
-pub one_more_read : (text bytes : List ℕ) (i v w : ℕ) → i < length bytes → length text ≡ 2 * length bytes → v < 16 → w < 16
+pub one_more_read : (text bytes : List ℕ) (i v w : ℕ) → i < length bytes → length text ≡ 2 * length bytes → v < 16
+    → w < 16
     → slice_index lower_digits v ≡ slice_index text (2 * i) → slice_index lower_digits w ≡ slice_index text (2 * i + 1)
     → encode_lower (take i bytes) ≡ take (2 * i) text
     → encode_lower (take (i + 1) (set bytes i (16 * v + w))) ≡ take (2 * (i + 1)) text
@@ -175,9 +185,11 @@ one_more_read text bytes i v w below size high low first second before =
     let byte = 16 * v + w in
     let next : i + 1 ≡ suc i = omega arith in
     let put : take (suc i) (set bytes i byte) ≡ take i bytes ++ (byte ∷ []) = take-suc-set bytes i byte below in
-    let joined : encode_lower (take i bytes ++ (byte ∷ [])) ≡ encode_lower (take i bytes) ++ encode_lower (byte ∷ []) = encode_lower-append (take i bytes) (byte ∷ []) in
+    let joined : encode_lower (take i bytes ++ (byte ∷ [])) ≡ encode_lower (take i bytes) ++ encode_lower (byte ∷ []) =
+    encode_lower-append (take i bytes) (byte ∷ []) in
     let pair = pair_spelled v w high low in
     let two : 2 * suc i ≡ 2 * i + 2 = omega arith in
     let taken : take (2 * i + 2) text ≡ take (2 * i) text ++ take 2 (drop (2 * i) text) = take-add (2 * i) 2 text in
-    let both : take 2 (drop (2 * i) text) ≡ slice_index text (2 * i) ∷ slice_index text (2 * i + 1) ∷ [] = first_two text (2 * i) (omega (arith, size)) in
+    let both : take 2 (drop (2 * i) text) ≡ slice_index text (2 * i) ∷ slice_index text (2 * i + 1) ∷ [] =
+    first_two text (2 * i) (omega (arith, size)) in
     rw (next, put, joined, before, pair, first, second, two, taken, both) refl

@@ -33,12 +33,14 @@ split_by_test separator text false h =
 pub split_at_position : (separator : ℕ) (text : List ℕ) (o : Option ℕ) → o ≡ position (λ byte. byte == separator) text
     → MatchOption o (slice_split (λ byte. byte == separator) text ≡ text ∷ [])
     (λ end. (end < length text)
-    × (slice_split (λ byte. byte == separator) text ≡ take end text ∷ slice_split (λ byte. byte == separator) (drop (end + 1) text)))
+    × (slice_split (λ byte. byte == separator) text ≡ take end text ∷ slice_split (λ byte. byte == separator)
+    (drop (end + 1) text)))
 split_at_position separator text o e =
     rw e (split_by_test separator text (nat_lt (position_or_len (is_byte separator) text) (length text)) refl)
 
 -- the first byte that a search gives is at that place
-pub first_byte_is_position : (separator : ℕ) (text : List ℕ) (o : Option ℕ) → IsFirstByte (λ byte. byte == separator) text o
+pub first_byte_is_position : (separator : ℕ) (text : List ℕ) (o : Option ℕ)
+    → IsFirstByte (λ byte. byte == separator) text o
     → o ≡ position (λ byte. byte == separator) text
 first_byte_is_position separator text None nowhere =
     let none : position_or_len (is_byte separator) text ≡ length text =

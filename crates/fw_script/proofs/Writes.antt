@@ -9,14 +9,16 @@ Appends-nil None = tt
 Appends-nil (Some xs) = sym (append-nil xs)
 
 -- a write after another
-pub Appends-append : (old mid new : Option (List ℕ)) (xs ys : List ℕ) → Appends old mid xs → Appends mid new ys → Appends old new (xs ++ ys)
+pub Appends-append : (old mid new : Option (List ℕ)) (xs ys : List ℕ) → Appends old mid xs → Appends mid new ys
+    → Appends old new (xs ++ ys)
 Appends-append None mid new xs ys h k = tt
 Appends-append (Some a) None new xs ys h k = absurd h
 Appends-append (Some a) (Some b) None xs ys h k = absurd k
 Appends-append (Some a) (Some b) (Some c) xs ys h k = k ∙ rw h (append_assoc a xs ys)
 
 -- a flush after a write
-pub Appends-Keeps : (old mid new : Option (List ℕ)) (xs : List ℕ) → Appends old mid xs → Keeps mid new → Appends old new xs
+pub Appends-Keeps : (old mid new : Option (List ℕ)) (xs : List ℕ) → Appends old mid xs → Keeps mid new
+    → Appends old new xs
 Appends-Keeps None mid new xs h k = tt
 Appends-Keeps (Some a) None new xs h k = absurd h
 Appends-Keeps (Some a) (Some b) None xs h k = absurd k

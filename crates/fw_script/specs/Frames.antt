@@ -10,7 +10,8 @@ use Rattle.fw_script.specs.Records.{wire_name, wire_number}
 -- of a request, and the length of its frame
 abbrev pub request_text : RequestMessage → ℕ → List ℕ
 request_text m len =
-    name_of (opcode_of m.content) ++ codes " " ++ decimal m.unique ++ codes " " ++ decimal m.nodeid ++ codes " " ++ decimal len ++ codes "\n"
+    name_of (opcode_of m.content) ++ codes " " ++ decimal m.unique ++ codes " " ++ decimal m.nodeid ++ codes " "
+    ++ decimal len ++ codes "\n"
 
 -- of a fault
 abbrev pub fault_text : WireFault → List ℕ

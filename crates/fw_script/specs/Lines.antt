@@ -77,7 +77,8 @@ spelled_call (call.Rmdir path) = codes "rmdir" ∷ path.now ∷ []
 spelled_call (call.Rename old new) = codes "rename" ∷ old.now ∷ new.now ∷ []
 spelled_call (call.Link old new) = codes "link" ∷ old.now ∷ new.now ∷ []
 spelled_call (call.Read handle offset size) = codes "read" ∷ decimal handle ∷ decimal offset ∷ decimal size ∷ []
-spelled_call (call.Write handle offset content) = codes "write" ∷ decimal handle ∷ decimal offset ∷ hex_or_none content.now ∷ []
+spelled_call (call.Write handle offset content) =
+    codes "write" ∷ decimal handle ∷ decimal offset ∷ hex_or_none content.now ∷ []
 spelled_call (call.Close handle) = codes "close" ∷ decimal handle ∷ []
 
 -- the words after `read`
@@ -137,7 +138,8 @@ EndsAt M31 words = (words ≡ []) ⊎ (words ≡ minor_word M31 ∷ [])
 
 -- these are the words of the line
 abbrev pub Names : Line → List (List ℕ) → Type 0
-Names (line.Event (event.Mount found missing m)) words = (last : List (List ℕ)) × (words ≡ codes "mount" ∷ decimal found ∷ decimal missing ∷ last) × EndsAt m last
+Names (line.Event (event.Mount found missing m)) words =
+    (last : List (List ℕ)) × (words ≡ codes "mount" ∷ decimal found ∷ decimal missing ∷ last) × EndsAt m last
 Names l words = (words ≡ spelled l) × IsWritten l
 
 -- what is wrong with the words that follow a form's, the first fault in order: their count, an empty

@@ -104,7 +104,8 @@ outcome_line (outcome.Read unique opcode len) =
 outcome_line (outcome.Taken unique word) = codes "taken " ++ decimal unique ++ codes " " ++ taken_word word
 outcome_line (outcome.Done unique errno len) =
     codes "done " ++ decimal unique ++ codes " " ++ decimal errno ++ codes " " ++ decimal len
-outcome_line (outcome.Lost unique errno) = codes "done " ++ decimal unique ++ codes " " ++ decimal errno ++ codes " lost"
+outcome_line (outcome.Lost unique errno) = codes "done " ++ decimal unique ++ codes " " ++ decimal errno
+    ++ codes " lost"
 outcome_line (outcome.SentAgain unique len) = codes "again " ++ decimal unique ++ codes " " ++ decimal len
 outcome_line (outcome.Written unique result) = codes "written " ++ decimal unique ++ codes " " ++ result_number result
 outcome_line (outcome.Settled unique result) = codes "settled " ++ decimal unique ++ codes " " ++ result_number result
@@ -121,11 +122,13 @@ shown_byte byte = if nat_le 33 byte && nat_le byte 126 then byte else 63
 -- a listed name: the name, the offset from which to read on, the kind
 abbrev pub listed_words : {A : Type 0} → ListedName A → List ℕ
 listed_words listed =
-    codes " " ++ map shown_byte listed.name.items ++ codes ":" ++ decimal listed.offset ++ codes ":" ++ kind_word listed.kind
+    codes " " ++ map shown_byte listed.name.items ++ codes ":" ++ decimal listed.offset ++ codes ":"
+    ++ kind_word listed.kind
 
 abbrev pub attributes_words : Attributes → List ℕ
 attributes_words a =
-    codes "0 " ++ kind_word a.kind ++ codes " " ++ decimal a.ino ++ codes " " ++ decimal a.size ++ codes " " ++ decimal a.nlink
+    codes "0 " ++ kind_word a.kind ++ codes " " ++ decimal a.ino ++ codes " " ++ decimal a.size ++ codes " "
+    ++ decimal a.nlink
 
 -- the rest of an answer's line, after the call's number
 abbrev pub answer_words : {A : Type 0} → Answer A → List ℕ
@@ -151,7 +154,8 @@ nodes_text side nodes = side ++ flat_map node_words nodes ++ codes "\n"
 -- a record's line
 abbrev pub record_text : {A : Type 0} → Record A → List ℕ
 record_text (records.Outcome o) = outcome_line o ++ codes "\n"
-record_text (records.Refused r) = codes "refused " ++ decimal (refusal_number r) ++ codes " " ++ refusal_name r ++ codes "\n"
+record_text (records.Refused r) = codes "refused " ++ decimal (refusal_number r) ++ codes " " ++ refusal_name r
+    ++ codes "\n"
 record_text records.LinkLost = codes "link lost\n"
 record_text (records.Answered call a) = answer_text call a
 

@@ -71,7 +71,8 @@ fn event_of_write<'a, A: Allocator>(
     hex: &[u8],
 ) -> Result<Event<'a>, Stop<'static>>
     requires { IsHexOrNone hex.now }
-    ensures names { IfOk result (λ event. spelled (Line.Event event) ≡ spelled (Line.CallWrite handle offset hex.entry)) }
+    ensures names { IfOk result (λ event. spelled (Line.Event event)
+        ≡ spelled (Line.CallWrite handle offset hex.entry)) }
     ensures err { IfErr result (λ stop. status_of stop ≢ 1) }
 {
     if read_hex_or_none(bytes, hex).is_err() {
@@ -291,9 +292,9 @@ impl<A: Allocator + Copy> Script<A> {
         }
     }
 
-    /// Runs the script on a new session over a link on which nothing was put, and prints the lines of its records, under
-    /// `hex` also the frames that were put. Gives the exit status: 0; 4 where the link was lost; 3 after `no memory` on
-    /// `faults`; or 5 where `out` refuses.
+    /// Runs the script on a new session over a link on which nothing was put, and prints the lines of its records,
+    /// under `hex` also the frames that were put. Gives the exit status: 0; 4 where the link was lost; 3 after `no
+    /// memory` on `faults`; or 5 where `out` refuses.
     pub fn run_over<L: Link + Drop, W: Write, F: Write>(
         &self,
         alloc: A,

@@ -52,15 +52,23 @@ first_gone e m sorted =
 -- ---- collecting
 
 -- So many of the answers are recorded, and the others wait.
-pub record Collects {A : Type 0} (old : World) (had : List (Record A)) (new : World) (has : List (Record A)) : Type 0 where
+pub record Collects {A : Type 0} (old : World) (had : List (Record A)) (new : World)
+    (has : List (Record A)) : Type 0 where
   pub added : List (Record A)
   pub items : has ≡ had ++ added
   pub recorded : map record_of added ++ answers_of new.kernel.vfs.answers ≡ answers_of old.kernel.vfs.answers
   pub others : collected new ≡ collected old
   pub sorted : T (is_sorted nat_cmp new.kernel.vfs.answers)
 
-pub none_yet : {A : Type 0} → (w : World) (had : List (Record A)) → T (is_sorted nat_cmp w.kernel.vfs.answers) → Collects w had w had
-none_yet w had sorted = record { added = []; items = sym (append-nil had); recorded = refl; others = refl; sorted = sorted }
+pub none_yet : {A : Type 0} → (w : World) (had : List (Record A)) → T (is_sorted nat_cmp w.kernel.vfs.answers)
+    → Collects w had w had
+none_yet w had sorted = record {
+  added = [];
+  items = sym (append-nil had);
+  recorded = refl;
+  others = refl;
+  sorted = sorted;
+}
 
 -- The world without the answer of a call.
 abbrev pub handed : World → ℕ → World
@@ -70,44 +78,60 @@ abbrev given : {A : Type 0} → ℕ → GivenAnswer A → Option (ℕ × Answer)
 given call answer = Some (call, answer_of answer)
 
 -- One answer more is recorded, and one fewer waits.
-pub record OneMore {A : Type 0} (old : World) (had : List (Record A)) (was new : World) (has : List (Record A)) : Type 0 where
+pub record OneMore {A : Type 0} (old : World) (had : List (Record A)) (was new : World)
+    (has : List (Record A)) : Type 0 where
   pub collects : Collects old had new has
   pub fewer : length new.kernel.vfs.answers + 1 ≡ length was.kernel.vfs.answers
 
-module _ {A : Type 0} (old : World) (had : List (Record A)) (was : World) (has : List (Record A)) (so_far : Collects old had was has) where
-  by_answers : (call : ℕ) (answer : GivenAnswer A) (m : Map Answer) → was.kernel.vfs.answers ≡ m → given call answer ≡ slice_get m 0 → OneMore old had was (handed was call) (has ++ Answered call answer ∷ [])
+module _ {A : Type 0} (old : World) (had : List (Record A)) (was : World) (has : List (Record A))
+    (so_far : Collects old had was has) where
+  by_answers : (call : ℕ) (answer : GivenAnswer A) (m : Map Answer) → was.kernel.vfs.answers ≡ m
+      → given call answer ≡ slice_get m 0 → OneMore old had was (handed was call) (has ++ Answered call answer ∷ [])
   by_answers call answer [] is first = absurd (cc)
   by_answers call answer (e ∷ m) is first =
-      let sorted : T (is_sorted nat_cmp (e ∷ m)) = subst (λ (x : Map Answer). T (is_sorted nat_cmp x)) is so_far.sorted in
+      let sorted : T (is_sorted nat_cmp (e ∷ m)) = subst
+      (λ (x : Map Answer). T (is_sorted nat_cmp x)) is so_far.sorted in
       let here : (call, answer_of answer) ≡ e = cc in
       let left : remove was.kernel.vfs.answers call ≡ m = (λ i. remove (is i) ((here i).0)) ∙ first_gone e m sorted in
-      let pair : records.answered call (answer_of answer) ≡ records.answered e.0 e.1 = (λ i. records.answered (here i).0 (here i).1) in
+      let pair : records.answered call (answer_of answer) ≡ records.answered e.0 e.1 =
+      (λ i. records.answered (here i).0 (here i).1) in
       record {
         collects = record {
           added = so_far.added ++ Answered call answer ∷ [];
-          items = ap (λ (xs : List (Record A)). xs ++ Answered call answer ∷ []) so_far.items ∙ append_assoc had so_far.added (Answered call answer ∷ []);
+          items = ap (λ (xs : List (Record A)). xs
+              ++ Answered call answer ∷ []) so_far.items ∙ append_assoc had so_far.added (Answered call answer ∷ []);
           recorded =
-              ap (λ (xs : List records.Record). xs ++ answers_of (remove was.kernel.vfs.answers call)) (map-append record_of so_far.added (Answered call answer ∷ []))
-              ∙ append_assoc (map record_of so_far.added) (records.answered call (answer_of answer) ∷ []) (answers_of (remove was.kernel.vfs.answers call))
-              ∙ (λ i. map record_of so_far.added ++ (pair i ∷ answers_of (left i))) ∙ ap (λ (x : Map Answer). map record_of so_far.added ++ answers_of x) (sym is) ∙ so_far.recorded;
+              ap (λ (xs : List records.Record). xs ++ answers_of (remove was.kernel.vfs.answers call))
+              (map-append record_of so_far.added (Answered call answer ∷ []))
+              ∙ append_assoc (map record_of so_far.added) (records.answered call (answer_of answer) ∷ [])
+              (answers_of (remove was.kernel.vfs.answers call))
+              ∙ (λ i. map record_of so_far.added ++ (pair i ∷ answers_of (left i))) ∙ ap
+              (λ (x : Map Answer). map record_of so_far.added ++ answers_of x) (sym is) ∙ so_far.recorded;
           others = so_far.others;
-          sorted = subst (λ (x : Map Answer). T (is_sorted nat_cmp x)) (sym left) (second_of_both (below_all nat_cmp e.0 m) (is_sorted nat_cmp m) sorted);
+          sorted = subst (λ (x : Map Answer). T (is_sorted nat_cmp x)) (sym left)
+              (second_of_both (below_all nat_cmp e.0 m) (is_sorted nat_cmp m) sorted);
         };
         fewer = ap (λ (x : Map Answer). length x + 1) left ∙ omega arith ∙ ap (λ (x : Map Answer). length x) (sym is);
       }
 
-  pub collects_one : (call : ℕ) (answer : GivenAnswer A) → given call answer ≡ slice_get was.kernel.vfs.answers 0 → (new : World) (has' : List (Record A)) → new ≡ handed was call → has' ≡ has ++ Answered call answer ∷ [] → OneMore old had was new has'
+  pub collects_one : (call : ℕ) (answer : GivenAnswer A) → given call answer ≡ slice_get was.kernel.vfs.answers 0
+      → (new : World) (has' : List (Record A)) → new ≡ handed was call → has' ≡ has ++ Answered call answer ∷ []
+      → OneMore old had was new has'
   collects_one call answer first new has' new_is has_is =
-      subst (λ (x : World × List (Record A)). OneMore old had was x.0 x.1) (λ i. (sym new_is i, sym has_is i)) (by_answers call answer was.kernel.vfs.answers refl first)
+      subst (λ (x : World × List (Record A)). OneMore old had was x.0 x.1) (λ i. (sym new_is i, sym has_is i))
+      (by_answers call answer was.kernel.vfs.answers refl first)
 
   -- Where no answer waits, all are recorded.
-  pub collects_all : None ≡ slice_get was.kernel.vfs.answers 0 → (was ≡ collected old) × (added : List (Record A)) × (has ≡ had ++ added) × (map record_of added ≡ answers_of old.kernel.vfs.answers)
+  pub collects_all : None ≡ slice_get was.kernel.vfs.answers 0
+      → (was ≡ collected old) × (added : List (Record A)) × (has ≡ had ++ added)
+      × (map record_of added ≡ answers_of old.kernel.vfs.answers)
   collects_all none =
       let is = empty was.kernel.vfs.answers none in (
         (λ i. with_answers was (is i)) ∙ so_far.others,
         so_far.added,
         so_far.items,
-        sym (append-nil (map record_of so_far.added)) ∙ ap (λ (x : Map Answer). map record_of so_far.added ++ answers_of x) (sym is) ∙ so_far.recorded,
+        sym (append-nil (map record_of so_far.added)) ∙ ap
+            (λ (x : Map Answer). map record_of so_far.added ++ answers_of x) (sym is) ∙ so_far.recorded,
       )
     where
       empty : (m : Map Answer) → None ≡ slice_get m 0 → m ≡ []

@@ -1,4 +1,5 @@
--- No counter of a world is past its end where none of its kernel's and of its server's is, and no node's count has come to it.
+-- No counter of a world is past its end where none of its kernel's and of its server's is, and no node's count has come
+-- to it.
 use Rattle.std.proofs.Common.{◌≡◌, Bool, true, false, ◌||◌, nat_lt, refl, ap, sym, ◌∙◌}
 use Rattle.fuse_spec.specs.Values.Numbers.{counter_end}
 use Rattle.fuse_spec.specs.Kernel.Kernel.{Kernel}
@@ -10,7 +11,8 @@ use Rattle.fk_kernel.specs.Refused as kernel
 use Rattle.fs_server.specs.Effects as server
 
 -- The counters of a world, by those of its kernel, of its server and of the nodes that the kernel counts.
-in_order : (a b c d e f g h : Bool) → (a || (b || (c || (d || (e || (f || (g || h))))))) ≡ ((a || b) || ((c || d || e || f || g) || h))
+in_order : (a b c d e f g h : Bool) → (a || (b || (c || (d || (e || (f || (g || h)))))))
+    ≡ ((a || b) || ((c || d || e || f || g) || h))
 in_order true b c d e f g h = refl
 in_order false true c d e f g h = refl
 in_order false false true d e f g h = refl
@@ -25,7 +27,9 @@ parts_past k s = is_past_end k || (server.is_past_end s || is_counted_out k)
 
 pub by_parts : (w : World) → is_past w ≡ parts_past w.kernel w.server
 by_parts w =
-    in_order (nat_lt counter_end w.kernel.queues.next) (nat_lt counter_end w.kernel.vfs.next_call) (nat_lt counter_end w.server.tree.next_birth) (nat_lt counter_end w.server.tree.next_serial) (nat_lt counter_end w.server.nodes.next_generation)
+    in_order (nat_lt counter_end w.kernel.queues.next) (nat_lt counter_end w.kernel.vfs.next_call)
+    (nat_lt counter_end w.server.tree.next_birth) (nat_lt counter_end w.server.tree.next_serial)
+    (nat_lt counter_end w.server.nodes.next_generation)
     (nat_lt counter_end w.server.handles.next_fh) (nat_lt counter_end w.server.next_copy) (is_counted_out w.kernel)
 
 none_past : (a b c : Bool) → a ≡ false → b ≡ false → c ≡ false → (a || (b || c)) ≡ false
@@ -62,29 +66,37 @@ third_low false true c e = absurd (cc e)
 third_low false false c e = e
 
 -- With this kernel and this server.
-pub world_within : (k : Kernel) (s : Server) → is_past_end k ≡ false → is_counted_out k ≡ false → server.is_past_end s ≡ false → (w : World) → w.kernel ≡ k → w.server ≡ s → is_past w ≡ false
+pub world_within : (k : Kernel) (s : Server) → is_past_end k ≡ false → is_counted_out k ≡ false
+    → server.is_past_end s ≡ false → (w : World) → w.kernel ≡ k → w.server ≡ s → is_past w ≡ false
 world_within k s kernel_within none_out server_within w same_kernel same_server =
-    by_parts w ∙ (λ i. parts_past (same_kernel i) (same_server i)) ∙ none_past (is_past_end k) (server.is_past_end s) (is_counted_out k) kernel_within server_within none_out
+    by_parts w ∙ (λ i. parts_past (same_kernel i) (same_server i)) ∙ none_past (is_past_end k) (server.is_past_end s)
+    (is_counted_out k) kernel_within server_within none_out
 
 -- One of these is past its end, and so a counter of the world is.
 pub past_by_kernel : (w : World) → is_past_end w.kernel ≡ true → is_past w ≡ true
-past_by_kernel w past = by_parts w ∙ first_past (is_past_end w.kernel) (server.is_past_end w.server) (is_counted_out w.kernel) past
+past_by_kernel w past = by_parts w ∙ first_past (is_past_end w.kernel) (server.is_past_end w.server)
+    (is_counted_out w.kernel) past
 
 pub past_by_server : (w : World) → server.is_past_end w.server ≡ true → is_past w ≡ true
-past_by_server w past = by_parts w ∙ second_past (is_past_end w.kernel) (server.is_past_end w.server) (is_counted_out w.kernel) past
+past_by_server w past = by_parts w ∙ second_past (is_past_end w.kernel) (server.is_past_end w.server)
+    (is_counted_out w.kernel) past
 
 pub past_by_count : (w : World) → is_counted_out w.kernel ≡ true → is_past w ≡ true
-past_by_count w past = by_parts w ∙ third_past (is_past_end w.kernel) (server.is_past_end w.server) (is_counted_out w.kernel) past
+past_by_count w past = by_parts w ∙ third_past (is_past_end w.kernel) (server.is_past_end w.server)
+    (is_counted_out w.kernel) past
 
 -- No counter of a world is past its end, and so none of these is.
 pub kernel_low : (w : World) → is_past w ≡ false → is_past_end w.kernel ≡ false
-kernel_low w within = first_low (is_past_end w.kernel) (server.is_past_end w.server) (is_counted_out w.kernel) (sym (by_parts w) ∙ within)
+kernel_low w within = first_low (is_past_end w.kernel) (server.is_past_end w.server) (is_counted_out w.kernel)
+    (sym (by_parts w) ∙ within)
 
 pub server_low : (w : World) → is_past w ≡ false → server.is_past_end w.server ≡ false
-server_low w within = second_low (is_past_end w.kernel) (server.is_past_end w.server) (is_counted_out w.kernel) (sym (by_parts w) ∙ within)
+server_low w within = second_low (is_past_end w.kernel) (server.is_past_end w.server) (is_counted_out w.kernel)
+    (sym (by_parts w) ∙ within)
 
 pub count_low : (w : World) → is_past w ≡ false → is_counted_out w.kernel ≡ false
-count_low w within = third_low (is_past_end w.kernel) (server.is_past_end w.server) (is_counted_out w.kernel) (sym (by_parts w) ∙ within)
+count_low w within = third_low (is_past_end w.kernel) (server.is_past_end w.server) (is_counted_out w.kernel)
+    (sym (by_parts w) ∙ within)
 
 -- The kernel's counters and the counts of its nodes together.
 both_low : (a b c : Bool) → (a || (b || c)) ≡ false → (a || c) ≡ false
@@ -103,10 +115,13 @@ not_second false true c e low = absurd (cc low)
 not_second false false c e low = e
 
 pub kernel_all_low : (w : World) → is_past w ≡ false → kernel.is_past w.kernel ≡ false
-kernel_all_low w within = both_low (is_past_end w.kernel) (server.is_past_end w.server) (is_counted_out w.kernel) (sym (by_parts w) ∙ within)
+kernel_all_low w within = both_low (is_past_end w.kernel) (server.is_past_end w.server) (is_counted_out w.kernel)
+    (sym (by_parts w) ∙ within)
 
 pub past_by_all : (w : World) → kernel.is_past w.kernel ≡ true → is_past w ≡ true
-past_by_all w past = by_parts w ∙ either_past (is_past_end w.kernel) (server.is_past_end w.server) (is_counted_out w.kernel) past
+past_by_all w past = by_parts w ∙ either_past (is_past_end w.kernel) (server.is_past_end w.server)
+    (is_counted_out w.kernel) past
 
 pub kernel_past : (w : World) → is_past w ≡ true → server.is_past_end w.server ≡ false → kernel.is_past w.kernel ≡ true
-kernel_past w past low = not_second (is_past_end w.kernel) (server.is_past_end w.server) (is_counted_out w.kernel) (sym (by_parts w) ∙ past) low
+kernel_past w past low = not_second (is_past_end w.kernel) (server.is_past_end w.server) (is_counted_out w.kernel)
+    (sym (by_parts w) ∙ past) low

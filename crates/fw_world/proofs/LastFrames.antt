@@ -14,14 +14,19 @@ use Rattle.fuse_frames.specs.RequestTies.{IsRequestFrame, asked_opcode}
 use Rattle.fuse_frames.specs.ReplyTies.{IsReplyFrame}
 use Rattle.fw_world.specs.Frames.{IsCopyFrame, IsLastFrame, of_request, of_reply, ShowsRequest, ShowsReply}
 
-pub last_request : (w : World) (requests : List Request) (request : Request) (bytes : List ℕ) → requests ≡ w.requests → slice_get requests (length requests - 1) ≡ Some request → IsRequestFrame bytes request → IsLastFrame w bytes
-last_request w requests request bytes same is_last frame = of_request request (subst (λ (rs : List Request). slice_get rs (length rs - 1) ≡ Some request) same is_last) frame
+pub last_request : (w : World) (requests : List Request) (request : Request) (bytes : List ℕ) → requests ≡ w.requests
+    → slice_get requests (length requests - 1) ≡ Some request → IsRequestFrame bytes request → IsLastFrame w bytes
+last_request w requests request bytes same is_last frame =
+    of_request request (subst (λ (rs : List Request). slice_get rs (length rs - 1) ≡ Some request) same is_last) frame
 
-pub last_copy : (w : World) (copies : List Sent) (sent : Sent) (bytes : List ℕ) → copies ≡ w.replies → slice_get copies (length copies - 1) ≡ Some sent → IsCopyFrame bytes sent → IsLastFrame w bytes
-last_copy w copies sent bytes same is_last frame = of_reply sent (subst (λ (ss : List Sent). slice_get ss (length ss - 1) ≡ Some sent) same is_last) frame
+pub last_copy : (w : World) (copies : List Sent) (sent : Sent) (bytes : List ℕ) → copies ≡ w.replies
+    → slice_get copies (length copies - 1) ≡ Some sent → IsCopyFrame bytes sent → IsLastFrame w bytes
+last_copy w copies sent bytes same is_last frame =
+    of_reply sent (subst (λ (ss : List Sent). slice_get ss (length ss - 1) ≡ Some sent) same is_last) frame
 
 -- What a copy's bytes are, as they are read off it.
-pub copy_frame : (bytes : List ℕ) (sent : Sent) → (opcode : Opcode) × IsReplyFrame opcode bytes (record { unique = sent.unique; wire = sent.wire }) → IsCopyFrame bytes sent
+pub copy_frame : (bytes : List ℕ) (sent : Sent) → (opcode : Opcode)
+    × IsReplyFrame opcode bytes (record { unique = sent.unique; wire = sent.wire }) → IsCopyFrame bytes sent
 copy_frame bytes sent written = record { opcode = written.0; written = written.1 }
 
 -- What was appended stands last.
@@ -30,10 +35,12 @@ appended_last {X} xs x =
     let ys : List X = xs ++ x ∷ [] in
     let long : length ys ≡ length xs + 1 = length-append xs (x ∷ []) in
     let at : length ys - 1 ≡ length xs = omega (arith, long) in
-    slice_get-get_or ys (length ys - 1) x (omega (arith, long)) ∙ ap Some (ap (λ (i : ℕ). get_or ys i x) at ∙ get_or-append_seam xs x [] x)
+    slice_get-get_or ys (length ys - 1) x (omega (arith, long)) ∙ ap Some
+    (ap (λ (i : ℕ). get_or ys i x) at ∙ get_or-append_seam xs x [] x)
 
 -- What is told of a request that was put.
-pub shows_request : (w : World) (before : List Request) (request : Request) (unique : ℕ) (opcode : Opcode) (len : ℕ) → w.requests ≡ before ++ request ∷ [] → unique ≡ request.unique → opcode ≡ asked_opcode request.body
+pub shows_request : (w : World) (before : List Request) (request : Request) (unique : ℕ) (opcode : Opcode) (len : ℕ)
+    → w.requests ≡ before ++ request ∷ [] → unique ≡ request.unique → opcode ≡ asked_opcode request.body
     → (bytes : List ℕ) × IsRequestFrame bytes request × (len ≡ length bytes) → ShowsRequest w unique opcode len
 shows_request w before request unique opcode len put under asks told = record {
   request = request;
@@ -46,7 +53,8 @@ shows_request w before request unique opcode len put under asks told = record {
 }
 
 -- What is told of a copy that was put.
-pub shows_reply : (w : World) (before : List Sent) (sent : Sent) (unique len : ℕ) → w.replies ≡ before ++ sent ∷ [] → unique ≡ sent.unique → (bytes : List ℕ) × IsCopyFrame bytes sent × (len ≡ length bytes) → ShowsReply w unique len
+pub shows_reply : (w : World) (before : List Sent) (sent : Sent) (unique len : ℕ) → w.replies ≡ before ++ sent ∷ []
+    → unique ≡ sent.unique → (bytes : List ℕ) × IsCopyFrame bytes sent × (len ≡ length bytes) → ShowsReply w unique len
 shows_reply w before sent unique len put under told = record {
   sent = sent;
   last = ap (λ (cs : List Sent). slice_get cs (length cs - 1)) put ∙ appended_last before sent;
@@ -56,12 +64,17 @@ shows_reply w before sent unique len put under told = record {
   long = told.2;
 }
 
-pub again_under : (s : Server) (unique : ℕ) (copy : Sent) (new : Server) → SendsAgain s unique copy new → unique ≡ copy.unique
+pub again_under : (s : Server) (unique : ℕ) (copy : Sent) (new : Server) → SendsAgain s unique copy new
+    → unique ≡ copy.unique
 again_under s unique copy new sends = sym (ap (λ (c : Sent). c.unique) sends.copy_is)
 
-first_under : (aborted : Bool) (number unique : ℕ) (wire : WireReply) (copy : Sent) → Some copy ≡ first_copy aborted number unique wire → unique ≡ copy.unique
+first_under : (aborted : Bool) (number unique : ℕ) (wire : WireReply) (copy : Sent)
+    → Some copy ≡ first_copy aborted number unique wire → unique ≡ copy.unique
 first_under true number unique wire copy is = absurd (cc is)
-first_under false number unique wire copy is = let same : ◌≡◌ {A = Sent} copy (record { number = number; unique = unique; wire = wire }) = cc is in sym (ap (λ (c : Sent). c.unique) same)
+first_under false number unique wire copy is = let same : ◌≡◌ {A = Sent} copy
+    (record { number = number; unique = unique; wire = wire }) = cc is in sym (ap (λ (c : Sent). c.unique) same)
 
-pub performed_under : (s : Server) (unique errno : ℕ) (copy : Sent) (new : Server) → PerformsHeld s unique errno (Some copy) new → unique ≡ copy.unique
-performed_under s unique errno copy new does = first_under s.aborted s.next_copy unique (served does.choice s unique does.held).wire copy does.copy_is
+pub performed_under : (s : Server) (unique errno : ℕ) (copy : Sent) (new : Server)
+    → PerformsHeld s unique errno (Some copy) new → unique ≡ copy.unique
+performed_under s unique errno copy new does = first_under s.aborted s.next_copy unique
+    (served does.choice s unique does.held).wire copy does.copy_is

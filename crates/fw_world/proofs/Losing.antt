@@ -23,12 +23,18 @@ no_last : {E : Type 0} (list : List E) (x : E) → list ≡ [] → last_of list 
 no_last [] x none is = absurd (cc is)
 no_last (y ∷ list) x none is = absurd (cc none)
 
-pub lost_was_out : (w : World) (o : Outcome) (carries : Traffic → Type 0) (before after : ℕ) → IsLostOn w o carries before after → (w.requests ≡ []) × (w.replies ≡ []) × (w.results ≡ []) → ⊥
-lost_was_out w (is_read unique) carries before after lost none = no_last w.requests lost.sends.request none.0 lost.sends.is_last
-lost_was_out w (taken unique Again) carries before after lost none = no_last w.replies lost.sends.reply none.1 lost.sends.is_last
-lost_was_out w (performed unique errno false) carries before after lost none = no_last w.replies lost.sends.reply none.1 lost.sends.is_last
-lost_was_out w (sent_again unique) carries before after lost none = no_last w.replies lost.sends.reply none.1 lost.sends.is_last
-lost_was_out w (written unique result) carries before after lost none = no_last w.results lost.sends.result none.2 lost.sends.is_last
+pub lost_was_out : (w : World) (o : Outcome) (carries : Traffic → Type 0) (before after : ℕ)
+    → IsLostOn w o carries before after → (w.requests ≡ []) × (w.replies ≡ []) × (w.results ≡ []) → ⊥
+lost_was_out w (is_read unique) carries before after lost none =
+    no_last w.requests lost.sends.request none.0 lost.sends.is_last
+lost_was_out w (taken unique Again) carries before after lost none =
+    no_last w.replies lost.sends.reply none.1 lost.sends.is_last
+lost_was_out w (performed unique errno false) carries before after lost none =
+    no_last w.replies lost.sends.reply none.1 lost.sends.is_last
+lost_was_out w (sent_again unique) carries before after lost none =
+    no_last w.replies lost.sends.reply none.1 lost.sends.is_last
+lost_was_out w (written unique result) carries before after lost none =
+    no_last w.results lost.sends.result none.2 lost.sends.is_last
 lost_was_out w o carries before after lost none = absurd lost
 
 -- Whatever an abort comes to, it comes to an abort.
@@ -44,7 +50,8 @@ without_memory w r (inl refused) = refused
 without_memory w r (inr wants) = absurd (true≢false (sym wants.takes))
 
 -- An abort that is not refused where it has to be accepted happens.
-pub gives_up : (w new : World) (r : Result OutcomeValue Refusal) → IsReached w → ((w.requests ≡ []) × (w.replies ≡ []) × (w.results ≡ []) → ⊥) → IfErr r (RefusedWith w abort)
+pub gives_up : (w new : World) (r : Result OutcomeValue Refusal) → IsReached w
+    → ((w.requests ≡ []) × (w.replies ≡ []) × (w.results ≡ []) → ⊥) → IfErr r (RefusedWith w abort)
     → IfOk r (λ o. Happens w abort (outcome_of o) new) → Happens w abort aborted new
 gives_up w new (Ok o) reached some refused happens = aborted_only w new (outcome_of o) happens
 gives_up w new (Err r) reached some refused happens =

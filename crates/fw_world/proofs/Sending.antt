@@ -38,34 +38,57 @@ pub request_whole : (bytes : List ℕ) (request : Request) → IsRequestFrame by
 request_whole bytes request frame =
     let said = spells served_minor frame.message bytes frame.written in
     let long = within 16 (drop 3 (request_fields (length bytes) frame.message)) bytes said.3.1.1.1 in
-    record { kind_known = omega arith; copy_fits = omega arith; no_shorter = omega arith; no_longer = said.0; len_stated = stated bytes said.3.0 }
+    record {
+      kind_known = omega arith;
+      copy_fits = omega arith;
+      no_shorter = omega arith;
+      no_longer = said.0;
+      len_stated = stated bytes said.3.0;
+    }
 
-pub reply_whole : (bytes : List ℕ) (sent : Sent) (number : ℕ) → number < 2 ^ 64 → IsCopyFrame bytes sent → IsEnvelope 1 number bytes
+pub reply_whole : (bytes : List ℕ) (sent : Sent) (number : ℕ) → number < 2 ^ 64 → IsCopyFrame bytes sent
+    → IsEnvelope 1 number bytes
 reply_whole bytes sent number small frame =
     let told = says frame.opcode bytes (record { unique = sent.unique; wire = sent.wire }) frame.written in
     let said = told.spells in
     let long = within 16 (reply_body told.message.content) bytes said.5.1.1.1 in
-    record { kind_known = omega arith; copy_fits = small; no_shorter = omega arith; no_longer = said.0; len_stated = stated bytes said.5.0 }
+    record {
+      kind_known = omega arith;
+      copy_fits = small;
+      no_shorter = omega arith;
+      no_longer = said.0;
+      len_stated = stated bytes said.5.0;
+    }
 
-pub result_whole : (bytes : List ℕ) (result : WriteResult) (unique number : ℕ) → number < 2 ^ 64 → SpellsResult bytes (error_of result) unique → IsEnvelope 2 number bytes
+pub result_whole : (bytes : List ℕ) (result : WriteResult) (unique number : ℕ) → number < 2 ^ 64
+    → SpellsResult bytes (error_of result) unique → IsEnvelope 2 number bytes
 result_whole bytes result unique number small says =
     let len : length bytes ≡ 16 = says.1.1.1.1 in
-    record { kind_known = omega arith; copy_fits = small; no_shorter = omega (arith, len); no_longer = omega (arith, len); len_stated = stated bytes (says.1.0 ∙ sym len) }
+    record {
+      kind_known = omega arith;
+      copy_fits = small;
+      no_shorter = omega (arith, len);
+      no_longer = omega (arith, len);
+      len_stated = stated bytes (says.1.0 ∙ sym len);
+    }
 
 put_last : {E : Type 0} (list : List E) (x : E) → list ++ x ∷ [] ≢ []
 put_last [] x is = absurd (cc (is))
 put_last (y ∷ list) x is = absurd (cc (is))
 
 -- A copy of the reply goes out, unless the mount is aborted.
-performed_out : (w : World) (unique : ℕ) (did : PerformResult) → IsOut (after_perform w unique did) (performed unique (errno_of did.wire) w.server.aborted)
+performed_out : (w : World) (unique : ℕ) (did : PerformResult)
+    → IsOut (after_perform w unique did) (performed unique (errno_of did.wire) w.server.aborted)
 performed_out w unique did = by w.server.aborted
   where
-    by : (gone : Bool) → IsOut (replying (record w { server = did.server }) w.server.next_copy unique (cond gone None (Some did.wire))) (performed unique (errno_of did.wire) gone)
+    by : (gone : Bool) → IsOut (replying (record w { server = did.server }) w.server.next_copy unique
+        (cond gone None (Some did.wire))) (performed unique (errno_of did.wire) gone)
     by true = tt
     by false = put_last w.replies _
 
 -- An INTERRUPT that is answered EAGAIN has a copy of that reply go out.
-taken_out : (w : World) (k unique : ℕ) (body : RequestBody) → IsOut (after_take w k unique (taking w.server unique body)) (taken unique (taking w.server unique body).word)
+taken_out : (w : World) (k unique : ℕ) (body : RequestBody)
+    → IsOut (after_take w k unique (taking w.server unique body)) (taken unique (taking w.server unique body).word)
 taken_out w k unique (init flags) = tt
 taken_out w k unique (asks operation) = tt
 taken_out w k unique (release o) = tt
@@ -73,20 +96,24 @@ taken_out w k unique (forget f) = tt
 taken_out w k unique (batch_forget fs) = tt
 taken_out w k unique (interrupt original) = by (get w.server.held original) (get w.server.kept original)
   where
-    by : (held : Option HeldRequest) (kept : Option Kept) → IsOut (after_take w k unique (interrupting w.server unique original held kept)) (taken unique (interrupting w.server unique original held kept).word)
+    by : (held : Option HeldRequest) (kept : Option Kept)
+        → IsOut (after_take w k unique (interrupting w.server unique original held kept))
+        (taken unique (interrupting w.server unique original held kept).word)
     by (Some t) kept = tt
     by None (Some kept) = tt
     by None None = put_last w.replies _
 
 -- An event that sends puts what it sends on a link.
-pub led_out : (choice : ℕ → ℕ) (w : World) (e : Event) (o : Outcome) (after : World) → Leads choice w e o after → IsOut after o
+pub led_out : (choice : ℕ → ℕ) (w : World) (e : Event) (o : Outcome) (after : World) → Leads choice w e o after
+    → IsOut after o
 led_out choice w e o after (mounts f m minor le free) = tt
 led_out choice w e o after (calls call ready less) = tt
 led_out choice w e o after (reads_interrupt original rest live is) = put_last w.requests _
 led_out choice w e o after (reads_forgets n unique forgets may is) = put_last w.requests _
 led_out choice w e o after (reads_pending k unique purpose body may at says) = put_last w.requests _
 led_out choice w e o after (takes k request at) = taken_out w k request.unique request.body
-led_out choice w e o after (performs unique held at counts) = performed_out w unique (served choice w.server unique held)
+led_out choice w e o after (performs unique held at counts) =
+    performed_out w unique (served choice w.server unique held)
 led_out choice w e o after (sends_again unique kept at current counts) = put_last w.replies _
 led_out choice w e o after (writes k sent at) = put_last w.results _
 led_out choice w e o after (settles k result at) = tt
@@ -110,14 +137,20 @@ number_fits Accepted = omega arith
 number_fits NoEntry = omega arith
 number_fits Invalid = omega arith
 
-spelled : (r : WriteResult) (unique : ℕ) (bytes : List ℕ) → unique < 2 ^ 64 → bytes ≡ spellings (result_fields (error_of r) unique) → SpellsResult bytes (error_of r) unique
+spelled : (r : WriteResult) (unique : ℕ) (bytes : List ℕ) → unique < 2 ^ 64
+    → bytes ≡ spellings (result_fields (error_of r) unique) → SpellsResult bytes (error_of r) unique
 spelled r unique bytes small is =
-    let fits : 16 < 256 ^ 4 = omega arith in
-    (is_number r, subst (λ (x : List ℕ). ReadsAs 0 (result_fields (error_of r) unique) x) (sym is) (reads_back (result_fields (error_of r) unique) [] (fits, (number_fits r, (small, tt))) tt))
+    let fits : 16 < 256 ^ 4 = omega arith in (
+      is_number r,
+      subst (λ (x : List ℕ). ReadsAs 0 (result_fields (error_of r) unique) x) (sym is)
+          (reads_back (result_fields (error_of r) unique) [] (fits, (number_fits r, (small, tt))) tt),
+    )
 
 -- A result's frame that has room is written.
-pub result_written : (written : Result (Unit {0}) WireFault) (r : WriteResult) (unique : ℕ) (new : List ℕ) → unique < 2 ^ 64
-    → OnOk written (IsErrorNumber (error_of r) × (new ≡ spellings (result_fields (error_of r) unique))) → IfErr written (ResultRefusalIs (error_of r)) → written ≢ Err fault.Memory
+pub result_written : (written : Result (Unit {0}) WireFault) (r : WriteResult) (unique : ℕ) (new : List ℕ)
+    → unique < 2 ^ 64
+    → OnOk written (IsErrorNumber (error_of r) × (new ≡ spellings (result_fields (error_of r) unique)))
+    → IfErr written (ResultRefusalIs (error_of r)) → written ≢ Err fault.Memory
     → SpellsResult new (error_of r) unique
 result_written (Ok _) r unique new small ok refused room = spelled r unique new small ok.1
 result_written (Err fault.Short) r unique new small ok refused room = absurd refused

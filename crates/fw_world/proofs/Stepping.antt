@@ -20,24 +20,39 @@ use Rattle.fw_world.specs.Runs.{StepsAs}
 use Rattle.fw_world.specs.Values.{event_of, outcome_of}
 
 -- What happens in a world that events led to carries the headline.
-pub happens_as : (old new : World) (e : EventValue) (o : OutcomeValue) → IsReached old → Happens old e o new → StepsAs old e o new
+pub happens_as : (old new : World) (e : EventValue) (o : OutcomeValue) → IsReached old → Happens old e o new
+    → StepsAs old e o new
 happens_as old new e o here happens = record {
   plain_step = λ p refines. event_refines old here e o new happens p refines;
   keeps = kept new (reached_next old here e o new happens);
   over = λ call over. over_stays old here e o new happens call over;
 }
 
-pub steps_as : (old new : World) (e : Event) → IsReached old → (r : Result Outcome Refusal) → IfOk r (λ o. Happens old (event_of e) (outcome_of o) new) → IfOk r (λ o. StepsAs old (event_of e) (outcome_of o) new)
+pub steps_as : (old new : World) (e : Event) → IsReached old → (r : Result Outcome Refusal)
+    → IfOk r (λ o. Happens old (event_of e) (outcome_of o) new)
+    → IfOk r (λ o. StepsAs old (event_of e) (outcome_of o) new)
 steps_as old new e here (Err refusal) happens = tt
 steps_as old new e here (Ok o) happens = happens_as old new (event_of e) (outcome_of o) here happens
 
 -- An event in a session whose link was not lost: it is as in a world, or an abort follows.
-pub steps_over : (old mid new : World) (e : EventValue) (o : OutcomeValue) (is_lost : Bool) → IsReached old → Happens old e o mid → (is_lost ≡ false → new ≡ mid) → (is_lost ≡ true → Happens mid abort aborted new) → StepsOver old e o (session_of new is_lost)
-steps_over old mid new e o false here happens same aborts = subst (λ (w : World). StepsOver old e o (linked w)) (sym (same refl)) (goes_on mid (happens_as old mid e o here happens))
-steps_over old mid new e o true here happens same aborts = gives_up mid new (happens_as old mid e o here happens) (happens_as mid new abort aborted (reached_next old here e o mid happens) (aborts refl))
+pub steps_over : (old mid new : World) (e : EventValue) (o : OutcomeValue) (is_lost : Bool) → IsReached old
+    → Happens old e o mid → (is_lost ≡ false → new ≡ mid) → (is_lost ≡ true → Happens mid abort aborted new)
+    → StepsOver old e o (session_of new is_lost)
+steps_over old mid new e o false here happens same aborts =
+    subst (λ (w : World). StepsOver old e o (linked w)) (sym (same refl))
+    (goes_on mid (happens_as old mid e o here happens))
+steps_over old mid new e o true here happens same aborts =
+    gives_up mid new (happens_as old mid e o here happens)
+    (happens_as mid new abort aborted (reached_next old here e o mid happens) (aborts refl))
 
 -- A plain world that the world refines is refined still, as the answer of one call is handed out in both.
-pub collect_refines : {X : Type 0} (old : World) (kernel : Kernel) → IsReached old → (o : Option (ℕ × X)) → IfSome o (λ r. kernel ≡ record old.kernel { vfs = record old.kernel.vfs { answers = remove old.kernel.vfs.answers r.0 } })
+pub collect_refines : {X : Type 0} (old : World) (kernel : Kernel) → IsReached old → (o : Option (ℕ × X))
+    → IfSome o (λ r. kernel ≡ record old.kernel {
+      vfs =
+          record old.kernel.vfs { answers = remove old.kernel.vfs.answers r.0 };
+    })
     → IfSome o (λ r. (p : Plain) → Refines old p → Refines (record old { kernel = kernel }) (plain_handed_out p r.0))
 collect_refines old kernel here None after = tt
-collect_refines old kernel here (Some r) after = λ p refines. subst (λ (k : Kernel). Refines (record old { kernel = k }) (plain_handed_out p r.0)) (sym after) (handing_out old here r.0 p refines)
+collect_refines old kernel here (Some r) after =
+    λ p refines. subst (λ (k : Kernel). Refines (record old { kernel = k }) (plain_handed_out p r.0)) (sym after)
+    (handing_out old here r.0 p refines)

@@ -57,21 +57,30 @@ use Rattle.fw_world.proofs.Happening.{mounts, calls, reads, reads_forgets, takes
 use Rattle.fw_world.proofs.Interrupts.{reads_interrupt}
 
 -- What an event that can happen is refused for is want of memory.
-pub wanting : (w : World) (e : Event) (o : Outcome) (after : World) → takes_memory e ≡ true → Happens w e o after → (given : Refusal) → given ≡ refusal.NoMemory → RefusedWith w e given
-wanting w e o after takes happens given is = inr (record { wanting = is; takes = takes; last = λ other refused. not_both w e other refused o after happens })
+pub wanting : (w : World) (e : Event) (o : Outcome) (after : World) → takes_memory e ≡ true → Happens w e o after
+    → (given : Refusal) → given ≡ refusal.NoMemory → RefusedWith w e given
+wanting w e o after takes happens given is = inr
+    (record { wanting = is; takes = takes; last = λ other refused. not_both w e other refused o after happens })
 
 -- A refusal that kernel or server gave, or else want of memory, where nothing is judged to refuse the event.
-pub judged : (w : World) (e : Event) (judged : Option Refusal) (given : Refusal) → ((r : Refusal) → judged ≡ Some r → IsRefused w e r) → (judged ≡ None → given ≡ refusal.NoMemory → RefusedWith w e given) → given ≡ kernel.or_no_memory judged → RefusedWith w e given
+pub judged : (w : World) (e : Event) (judged : Option Refusal) (given : Refusal)
+    → ((r : Refusal) → judged ≡ Some r → IsRefused w e r)
+    → (judged ≡ None → given ≡ refusal.NoMemory → RefusedWith w e given) → given ≡ kernel.or_no_memory judged
+    → RefusedWith w e given
 judged w e None given refuses else is = else refl is
 judged w e (Some r) given refuses else is = inl (subst (IsRefused w e) (sym is) (refuses r refl))
 
 -- What the server judges, or else want of memory.
-module _ (w : World) (e : Event) (Refuses : Refusal → Type 0) (Can : Type 0) (refused : (r : Refusal) → Refuses r → IsRefused w e r) (can_happen : Can → (given : Refusal) → given ≡ refusal.NoMemory → RefusedWith w e given) where
-  pub looked : (judged : Option Refusal) (given : Refusal) → IfSome judged Refuses → IfNone judged Can → given ≡ unwrap_or judged refusal.NoMemory → RefusedWith w e given
+module _ (w : World) (e : Event) (Refuses : Refusal → Type 0) (Can : Type 0)
+    (refused : (r : Refusal) → Refuses r → IsRefused w e r)
+    (can_happen : Can → (given : Refusal) → given ≡ refusal.NoMemory → RefusedWith w e given) where
+  pub looked : (judged : Option Refusal) (given : Refusal) → IfSome judged Refuses → IfNone judged Can
+      → given ≡ unwrap_or judged refusal.NoMemory → RefusedWith w e given
   looked None given refuses can is = can_happen can given is
   looked (Some r) given refuses can is = inl (subst (IsRefused w e) (sym is) (refused r refuses))
 
-  pub given_so : (given : Refusal) → Refuses given ⊎ (given ≡ refusal.NoMemory) → (given ≡ refusal.NoMemory → Can) → RefusedWith w e given
+  pub given_so : (given : Refusal) → Refuses given ⊎ (given ≡ refusal.NoMemory) → (given ≡ refusal.NoMemory → Can)
+      → RefusedWith w e given
   given_so given (inl refuses) can = inl (refused given refuses)
   given_so given (inr is) can = can_happen (can is) given is
 
@@ -87,7 +96,8 @@ begun_counts k call = ends (cond (is_aborted k.phase) None (closed_by k.vfs.open
     next : Kernel
     next = advanced k k.vfs.next_call begins
 
-    asks : (o : Option (Operation ℕ Opened)) → is_counted_out (asking_for (record k { vfs = begins.vfs }) k.vfs.next_call o) ≡ is_counted_out k
+    asks : (o : Option (Operation ℕ Opened)) → is_counted_out
+        (asking_for (record k { vfs = begins.vfs }) k.vfs.next_call o) ≡ is_counted_out k
     asks None = refl
     asks (Some operation) = refl
 
@@ -111,12 +121,15 @@ module _ (w : World) (within : is_past w ≡ false) where
   pub server_within : server.is_past_end w.server ≡ false
   server_within = server_low w within
 
-  past_by : (k : Kernel) → is_past_end k ≡ false → is_counted_out k ≡ false → (v : World) → v.kernel ≡ k → v.server ≡ w.server → is_past v ≡ false
+  past_by : (k : Kernel) → is_past_end k ≡ false → is_counted_out k ≡ false → (v : World) → v.kernel ≡ k
+      → v.server ≡ w.server → is_past v ≡ false
   past_by k low none v kernel_is server_is = world_within k w.server low none server_within v kernel_is server_is
 
   -- ---- a call
 
-  third : (a b c : Bool) → ◌≡◌ {A = Option Refusal} (cond a (Some refusal.NotReady) (cond b (Some refusal.Full) (cond c (Some refusal.Exhausted) None))) None → c ≡ false
+  third : (a b c : Bool) → ◌≡◌ {A = Option Refusal}
+      (cond a (Some refusal.NotReady) (cond b (Some refusal.Full) (cond c (Some refusal.Exhausted) None))) None
+      → c ≡ false
   third true b c e = absurd (cc e)
   third false true c e = absurd (cc e)
   third false false true e = absurd (cc e)
@@ -125,24 +138,33 @@ module _ (w : World) (within : is_past w ≡ false) where
   same_counts : (call : Call) → is_counted_out (call_put w.kernel call) ≡ false
   same_counts call = begun_counts w.kernel (spoken w.kernel.lists_files call) ∙ none_out
 
-  pub call_wanting : (call : Call) → begin_refusal w.kernel call ≡ None → (given : Refusal) → given ≡ refusal.NoMemory → RefusedWith w (event.call call) given
+  pub call_wanting : (call : Call) → begin_refusal w.kernel call ≡ None → (given : Refusal) → given ≡ refusal.NoMemory
+      → RefusedWith w (event.call call) given
   call_wanting call none given is =
-      let begun = third (not (is_ready w.kernel.phase)) (nat_le max_calls (length w.kernel.vfs.calls)) (is_past_end (call_put w.kernel call)) none in
-      wanting w (event.call call) (event.begun w.kernel.vfs.next_call) (after_call w call) refl (calls w call none (past_by (call_put w.kernel call) begun (same_counts call) (after_call w call) refl refl)) given is
+      let begun = third (not (is_ready w.kernel.phase)) (nat_le max_calls (length w.kernel.vfs.calls))
+      (is_past_end (call_put w.kernel call)) none in
+      wanting w (event.call call) (event.begun w.kernel.vfs.next_call) (after_call w call) refl
+      (calls w call none (past_by (call_put w.kernel call) begun (same_counts call)
+      (after_call w call) refl refl)) given is
 
   -- ---- reads
 
-  last_cond : (a b : Bool) (o : Option Refusal) → cond a (Some refusal.NotReady) (cond b (Some refusal.InterruptFirst) o) ≡ None → o ≡ None
+  last_cond : (a b : Bool) (o : Option Refusal) → cond a (Some refusal.NotReady)
+      (cond b (Some refusal.InterruptFirst) o) ≡ None → o ≡ None
   last_cond true b o e = absurd (cc e)
   last_cond false true o e = absurd (cc e)
   last_cond false false o e = e
 
-  pub read_wanting : (place : ℕ) → read_refusal w.kernel place ≡ None → (given : Refusal) → given ≡ refusal.NoMemory → RefusedWith w (event.read_pending place) given
+  pub read_wanting : (place : ℕ) → read_refusal w.kernel place ≡ None → (given : Refusal) → given ≡ refusal.NoMemory
+      → RefusedWith w (event.read_pending place) given
   read_wanting place none given is =
       by (pending_at w.kernel.queues place) refl
-      (last_cond (not (is_live w.kernel.phase)) (not (nat_eq (length w.kernel.queues.interrupts) 0)) (place_refusal w.kernel (pending_at w.kernel.queues place)) none)
+      (last_cond (not (is_live w.kernel.phase)) (not (nat_eq (length w.kernel.queues.interrupts) 0))
+      (place_refusal w.kernel (pending_at w.kernel.queues place)) none)
     where
-      next_read : (o : Option (ℕ × QueuedRequest Purpose)) → (option_map_or (λ e. after_reading w.kernel.queues e.0 e.1.mark) o w.kernel.queues).next ≡ w.kernel.queues.next
+      next_read : (o : Option (ℕ × QueuedRequest Purpose))
+          → (option_map_or (λ e. after_reading w.kernel.queues e.0 e.1.mark) o w.kernel.queues).next
+          ≡ w.kernel.queues.next
       next_read None = refl
       next_read (Some e) = by_mark e.1.mark
         where
@@ -152,64 +174,92 @@ module _ (w : World) (within : is_past w ≡ false) where
           by_mark mark.Read = refl
           by_mark mark.Interrupted = refl
 
-      at_body : (unique : ℕ) (purpose : Purpose) → pending_at w.kernel.queues place ≡ Some (unique, purpose) → (body : Option RequestBody) → body_of w.kernel purpose ≡ body → body_refusal body ≡ None → RefusedWith w (event.read_pending place) given
+      at_body : (unique : ℕ) (purpose : Purpose) → pending_at w.kernel.queues place ≡ Some (unique, purpose)
+          → (body : Option RequestBody) → body_of w.kernel purpose ≡ body → body_refusal body ≡ None
+          → RefusedWith w (event.read_pending place) given
       at_body unique purpose at None there e = absurd (cc e)
       at_body unique purpose at (Some body) there e =
           let request : Request = record { unique = unique; body = body } in
           let after = worlds.after_read_pending w place unique body in
-          let low : is_past_end after.kernel ≡ false = ap (λ (n : ℕ). nat_lt counter_end n || nat_lt counter_end w.kernel.vfs.next_call) (next_read (slice_get (pending w.kernel.queues) place)) ∙ kernel_within in
-          wanting w (event.read_pending place) (event.is_read unique) after refl (reads w place request none (record { purpose = purpose; pending = at; body = there }) (past_by after.kernel low none_out after refl refl)) given is
+          let low : is_past_end after.kernel ≡ false = ap (λ (n : ℕ). nat_lt counter_end n
+          || nat_lt counter_end w.kernel.vfs.next_call) (next_read
+          (slice_get (pending w.kernel.queues) place)) ∙ kernel_within in
+          wanting w (event.read_pending place) (event.is_read unique) after refl
+          (reads w place request none (record { purpose = purpose; pending = at; body = there })
+          (past_by after.kernel low none_out after refl refl)) given is
 
-      by : (o : Option (ℕ × Purpose)) → pending_at w.kernel.queues place ≡ o → place_refusal w.kernel o ≡ None → RefusedWith w (event.read_pending place) given
+      by : (o : Option (ℕ × Purpose)) → pending_at w.kernel.queues place ≡ o → place_refusal w.kernel o ≡ None
+          → RefusedWith w (event.read_pending place) given
       by None at e = absurd (cc e)
       by (Some request) at e = at_body request.0 request.1 at (body_of w.kernel request.1) refl e
 
-  pub forgets_wanting : (n : ℕ) → read_forgets_refusal w.kernel n ≡ None → (given : Refusal) → given ≡ refusal.NoMemory → RefusedWith w (event.read_forgets n) given
+  pub forgets_wanting : (n : ℕ) → read_forgets_refusal w.kernel n ≡ None → (given : Refusal) → given ≡ refusal.NoMemory
+      → RefusedWith w (event.read_forgets n) given
   forgets_wanting n none given is =
-      by (forgets_read w.kernel n) refl (last_cond (not (is_live w.kernel.phase)) (not (nat_eq (length w.kernel.queues.interrupts) 0)) (forgets_refusal w.kernel n (forgets_read w.kernel n)) none)
+      by (forgets_read w.kernel n) refl (last_cond (not (is_live w.kernel.phase))
+      (not (nat_eq (length w.kernel.queues.interrupts) 0)) (forgets_refusal w.kernel n (forgets_read w.kernel n)) none)
     where
       low : (past : Bool) → ◌≡◌ {A = Option Refusal} (cond past (Some refusal.Exhausted) None) None → past ≡ false
       low true e = absurd (cc e)
       low false e = refl
 
-      next_of : (single c : Bool) (read : ℕ × List Forget) → cond single None (cond c (Some (w.kernel.queues.next, take n w.kernel.queues.forgets)) None) ≡ Some read → read ≡ (w.kernel.queues.next, read.1)
+      next_of : (single c : Bool) (read : ℕ × List Forget)
+          → cond single None (cond c (Some (w.kernel.queues.next, take n w.kernel.queues.forgets)) None) ≡ Some read
+          → read ≡ (w.kernel.queues.next, read.1)
       next_of true c read e = absurd (cc e)
-      next_of false true read e = let is : ◌≡◌ {A = ℕ × List Forget} read (w.kernel.queues.next, take n w.kernel.queues.forgets) = sym (cc e) in ap (λ (u : ℕ). (u, read.1)) (ap (λ (x : ℕ × List Forget). x.0) is)
+      next_of false true read e = let is : ◌≡◌ {A = ℕ × List Forget} read
+          (w.kernel.queues.next, take n w.kernel.queues.forgets) =
+          sym (cc e) in ap (λ (u : ℕ). (u, read.1)) (ap (λ (x : ℕ × List Forget). x.0) is)
       next_of false false read e = absurd (cc e)
 
-      by : (o : Option (ℕ × List Forget)) → forgets_read w.kernel n ≡ o → forgets_refusal w.kernel n o ≡ None → RefusedWith w (event.read_forgets n) given
+      by : (o : Option (ℕ × List Forget)) → forgets_read w.kernel n ≡ o → forgets_refusal w.kernel n o ≡ None
+          → RefusedWith w (event.read_forgets n) given
       by None at e = absurd (cc e)
       by (Some read) at e =
-          let number : read ≡ (w.kernel.queues.next, read.1) = next_of (forgets_singly w.kernel.minor && nat_lt 1 n) (can_read_forgets w.kernel.queues n) read at in
+          let number : read ≡ (w.kernel.queues.next, read.1) =
+          next_of (forgets_singly w.kernel.minor && nat_lt 1 n) (can_read_forgets w.kernel.queues n) read at in
           let after = worlds.after_read_forgets w n read.1 in
           wanting w (event.read_forgets n) (event.is_read w.kernel.queues.next) after refl
-          (reads_forgets w n read.1 none (at ∙ ap Some number) (past_by (record w.kernel { queues = after_read_forgets w.kernel.queues n }) (low (is_past_end (record w.kernel { queues = after_read_forgets w.kernel.queues n })) e) none_out after refl refl)) given is
+          (reads_forgets w n read.1 none (at ∙ ap Some number)
+          (past_by (record w.kernel { queues = after_read_forgets w.kernel.queues n })
+          (low (is_past_end (record w.kernel {
+            queues =
+                after_read_forgets w.kernel.queues n;
+          })) e) none_out after refl refl)) given is
 
-  pub interrupt_wanting : read_interrupt_refusal w.kernel ≡ None → (given : Refusal) → given ≡ refusal.NoMemory → RefusedWith w event.read_interrupt given
-  interrupt_wanting none given is = by w.kernel.queues.interrupts refl (rest (not (is_live w.kernel.phase)) (oldest_refusal w.kernel.queues.interrupts) none)
+  pub interrupt_wanting : read_interrupt_refusal w.kernel ≡ None → (given : Refusal) → given ≡ refusal.NoMemory
+      → RefusedWith w event.read_interrupt given
+  interrupt_wanting none given is = by w.kernel.queues.interrupts refl
+      (rest (not (is_live w.kernel.phase)) (oldest_refusal w.kernel.queues.interrupts) none)
     where
       rest : (a : Bool) (o : Option Refusal) → cond a (Some refusal.NotReady) o ≡ None → o ≡ None
       rest true o e = absurd (cc e)
       rest false o e = e
 
-      by : (interrupts : List ℕ) → w.kernel.queues.interrupts ≡ interrupts → oldest_refusal interrupts ≡ None → RefusedWith w event.read_interrupt given
+      by : (interrupts : List ℕ) → w.kernel.queues.interrupts ≡ interrupts → oldest_refusal interrupts ≡ None
+          → RefusedWith w event.read_interrupt given
       by [] at e = absurd (cc e)
-      by (original ∷ others) at e = wanting w event.read_interrupt _ (worlds.after_read_interrupt w original) refl (reads_interrupt w original others none at within) given is
+      by (original ∷ others) at e = wanting w event.read_interrupt _ (worlds.after_read_interrupt w original) refl
+          (reads_interrupt w original others none at within) given is
 
   -- ---- a request performed, and one more copy
 
-  past_of : (s : Server) → server.is_past_end s ≡ false → (v : World) → v.kernel ≡ w.kernel → v.server ≡ s → is_past v ≡ false
+  past_of : (s : Server) → server.is_past_end s ≡ false → (v : World) → v.kernel ≡ w.kernel → v.server ≡ s
+      → is_past v ≡ false
   past_of s low v kernel_is server_is = world_within w.kernel s kernel_within none_out low v kernel_is server_is
 
-  same_kernel : (v : World) (number unique : ℕ) (wire : Option WireReply) → (worlds.replying v number unique wire).kernel ≡ v.kernel
+  same_kernel : (v : World) (number unique : ℕ) (wire : Option WireReply)
+      → (worlds.replying v number unique wire).kernel ≡ v.kernel
   same_kernel v number unique None = refl
   same_kernel v number unique (Some wire) = refl
 
-  same_server : (v : World) (number unique : ℕ) (wire : Option WireReply) → (worlds.replying v number unique wire).server ≡ v.server
+  same_server : (v : World) (number unique : ℕ) (wire : Option WireReply)
+      → (worlds.replying v number unique wire).server ≡ v.server
   same_server v number unique None = refl
   same_server v number unique (Some wire) = refl
 
-  pub perform_wanting : (unique : ℕ) → CanPerform w.server unique → (given : Refusal) → given ≡ refusal.NoMemory → RefusedWith w (event.perform unique) given
+  pub perform_wanting : (unique : ℕ) → CanPerform w.server unique → (given : Refusal) → given ≡ refusal.NoMemory
+      → RefusedWith w (event.perform unique) given
   perform_wanting unique can given is =
       let some = some_choice w (event.perform unique) in
       let may = subst (MayChooseFor some.0 w) can.there some.1 in
@@ -219,62 +269,96 @@ module _ (w : World) (within : is_past w ≡ false) where
       let low = performs_within w.server unique can.held can.there can server_within some.0 may in
       wanting w (event.perform unique) (event.performed unique (errno_of did.wire) w.server.aborted) after refl
       (performs some.0 w unique can.held can.there can.counts some.1 did refl
-      (past_of did.server low after (same_kernel (record w { server = did.server }) w.server.next_copy unique reply) (same_server (record w { server = did.server }) w.server.next_copy unique reply))) given is
+      (past_of did.server low after (same_kernel (record w { server = did.server }) w.server.next_copy unique reply)
+      (same_server (record w { server = did.server }) w.server.next_copy unique reply))) given is
 
-  pub again_wanting : (unique : ℕ) → CanSendAgain w.server unique → (given : Refusal) → given ≡ refusal.NoMemory → RefusedWith w (event.again unique) given
+  pub again_wanting : (unique : ℕ) → CanSendAgain w.server unique → (given : Refusal) → given ≡ refusal.NoMemory
+      → RefusedWith w (event.again unique) given
   again_wanting unique can given is =
       let after = after_again w unique can.kept in
       wanting w (event.again unique) (event.sent_again unique) after refl
-      (sends_again w unique can.kept can.there can.current can.counts (past_of (sent_again w.server unique can.kept) (copies_within w.server unique can.kept can.number server_within) after refl refl)) given is
+      (sends_again w unique can.kept can.there can.current can.counts
+      (past_of (sent_again w.server unique can.kept)
+      (copies_within w.server unique can.kept can.number server_within) after refl refl)) given is
 
 -- ---- a mount
 
-pub mount_wanting : (w : World) (found_ms missing_ms : ℕ) (minor : Minor) → nat_lt max_validity (max found_ms missing_ms) ≡ false → mount_refusal w.kernel ≡ None → (given : Refusal) → given ≡ refusal.NoMemory → RefusedWith w (event.mount found_ms missing_ms minor) given
-mount_wanting w found_ms missing_ms minor day none given is = wanting w (event.mount found_ms missing_ms minor) event.mounted (worlds.after_mount w found_ms missing_ms minor) refl (mounts w found_ms missing_ms minor day none) given is
+pub mount_wanting : (w : World) (found_ms missing_ms : ℕ) (minor : Minor)
+    → nat_lt max_validity (max found_ms missing_ms) ≡ false → mount_refusal w.kernel ≡ None → (given : Refusal)
+    → given ≡ refusal.NoMemory → RefusedWith w (event.mount found_ms missing_ms minor) given
+mount_wanting w found_ms missing_ms minor day none given is =
+    wanting w (event.mount found_ms missing_ms minor) event.mounted
+    (worlds.after_mount w found_ms missing_ms minor) refl (mounts w found_ms missing_ms minor day none) given is
 
 -- ---- a request taken
 
-taken_kernel : (w : World) (place : ℕ) (request : Request) → (after_take w place request.unique (taking w.server request.unique request.body)).kernel ≡ w.kernel
+taken_kernel : (w : World) (place : ℕ) (request : Request)
+    → (after_take w place request.unique (taking w.server request.unique request.body)).kernel ≡ w.kernel
 taken_kernel w place request = by (taking w.server request.unique request.body).reply
   where
-    by : (o : Option WireReply) → (worlds.replying (record w { requests = without w.requests place; server = (taking w.server request.unique request.body).server }) w.server.next_copy request.unique o).kernel ≡ w.kernel
+    by : (o : Option WireReply) → (worlds.replying (record w {
+      requests = without w.requests place;
+      server = (taking w.server request.unique request.body).server;
+    }) w.server.next_copy request.unique o).kernel
+        ≡ w.kernel
     by None = refl
     by (Some wire) = refl
 
-taken_server : (w : World) (place : ℕ) (request : Request) → (after_take w place request.unique (taking w.server request.unique request.body)).server ≡ (taking w.server request.unique request.body).server
+taken_server : (w : World) (place : ℕ) (request : Request)
+    → (after_take w place request.unique (taking w.server request.unique request.body)).server
+    ≡ (taking w.server request.unique request.body).server
 taken_server w place request = by (taking w.server request.unique request.body).reply
   where
-    by : (o : Option WireReply) → (worlds.replying (record w { requests = without w.requests place; server = (taking w.server request.unique request.body).server }) w.server.next_copy request.unique o).server ≡ (taking w.server request.unique request.body).server
+    by : (o : Option WireReply) → (worlds.replying (record w {
+      requests = without w.requests place;
+      server = (taking w.server request.unique request.body).server;
+    }) w.server.next_copy request.unique o).server
+        ≡ (taking w.server request.unique request.body).server
     by None = refl
     by (Some wire) = refl
 
 -- Where nothing but want of memory can refuse the frame of the request at this place.
-pub take_wanting : (w : World) → is_past w ≡ false → (place : ℕ) (request : Request) (bytes : List ℕ) → slice_get w.requests place ≡ Some request → IsRequestFrame bytes request → CanTake w.server bytes → (given : Refusal) → given ≡ refusal.NoMemory
+pub take_wanting : (w : World) → is_past w ≡ false → (place : ℕ) (request : Request) (bytes : List ℕ)
+    → slice_get w.requests place ≡ Some request → IsRequestFrame bytes request → CanTake w.server bytes
+    → (given : Refusal) → given ≡ refusal.NoMemory
     → RefusedWith w (event.take place) given
 take_wanting w within place request bytes there frame can given is =
-    let same : can.request ≡ request = sym (one_request bytes can.request can.says) ∙ one_request bytes request (frame_says bytes request frame) in
-    let low = subst (λ (r : Request). server.is_past_end (taking w.server r.unique r.body).server ≡ false) same can.within in
+    let same : can.request ≡ request = sym (one_request bytes can.request can.says) ∙ one_request bytes request
+    (frame_says bytes request frame) in
+    let low = subst (λ (r : Request). server.is_past_end (taking w.server r.unique r.body).server
+    ≡ false) same can.within in
     let took = taking w.server request.unique request.body in
     let after = after_take w place request.unique took in
     wanting w (event.take place) (event.taken request.unique took.word) after refl
-    (takes w place request there (past_of w within took.server low after (taken_kernel w place request) (taken_server w place request))) given is
+    (takes w place request there (past_of w within took.server low after (taken_kernel w place request)
+    (taken_server w place request))) given is
 
--- A request on the link has no fault; so it is refused for want of a number, or of memory where nothing else refuses it.
-pub take_refused : (w : World) → is_past w ≡ false → IsReached w → (place : ℕ) (request : Request) (bytes : List ℕ) (fault : ServerFault) → slice_get w.requests place ≡ Some request → IsRequestFrame bytes request → RefusesFrame w.server bytes fault
+-- A request on the link has no fault; so it is refused for want of a number, or of memory where nothing else refuses
+-- it.
+pub take_refused : (w : World) → is_past w ≡ false → IsReached w
+    → (place : ℕ) (request : Request) (bytes : List ℕ) (fault : ServerFault)
+    → slice_get w.requests place ≡ Some request → IsRequestFrame bytes request → RefusesFrame w.server bytes fault
     → (fault ≡ Memory → CanTake w.server bytes) → RefusedWith w (event.take place) (refusal_for fault)
 take_refused w within here place request bytes fault there frame refuses can =
     let all = here.sound in
-    let none : fault_of w.server request ≡ None = All-at (λ (r : Request). fault_of w.server r ≡ None) w.requests place request (no_fault w here.plain all.both all.releases all.faultless) there in
+    let none : fault_of w.server request ≡ None = All-at
+    (λ (r : Request). fault_of w.server r ≡ None) w.requests place request
+    (no_fault w here.plain all.both all.releases all.faultless) there in
     let did = taking w.server request.unique request.body in
     let is : fault ≡ past_or_memory (server.is_past_end did.server) =
-    refuses.of_request request (frame_says bytes request frame) ∙ ap (λ (o : Option RequestFault). fault_or (server.as_fault o) (past_or_memory (server.is_past_end did.server))) none in
-    subst (λ (f : ServerFault). RefusedWith w (event.take place) (refusal_for f)) (sym is) (by (server.is_past_end did.server) refl is)
+    refuses.of_request request (frame_says bytes request frame) ∙ ap
+    (λ (o : Option RequestFault). fault_or (server.as_fault o)
+    (past_or_memory (server.is_past_end did.server))) none in
+    subst (λ (f : ServerFault). RefusedWith w (event.take place) (refusal_for f)) (sym is)
+    (by (server.is_past_end did.server) refl is)
   where
-    by : (past : Bool) → server.is_past_end (taking w.server request.unique request.body).server ≡ past → fault ≡ past_or_memory past → RefusedWith w (event.take place) (refusal_for (past_or_memory past))
+    by : (past : Bool) → server.is_past_end (taking w.server request.unique request.body).server ≡ past
+        → fault ≡ past_or_memory past → RefusedWith w (event.take place) (refusal_for (past_or_memory past))
     by true past is =
         let did = taking w.server request.unique request.body in
         let after = after_take w place request.unique did in
-        let over : server.is_past_end after.server ≡ true = ap server.is_past_end (taken_server w place request) ∙ past in
+        let over : server.is_past_end after.server ≡ true =
+        ap server.is_past_end (taken_server w place request) ∙ past in
         inl
         (λ choice may.
         ap (taking_request w place) there
@@ -282,15 +366,25 @@ take_refused w within here place request bytes fault there frame refuses can =
     by false past is = take_wanting w within place request bytes there frame (can is) refusal.NoMemory refl
 
 -- The copy with which a frame is taken, if it is answered at once, has the room that was made for it.
-pub answer_has_room : {A P : Type 0} (s : Server) (bytes : List ℕ) (took : Took A) (new : Server) → TakesFrame s bytes took new → server.is_past_end new ≡ false → (AnswersFrame s bytes → P) → IfSome took.copy (λ copy. P)
-answer_has_room {A} {P} s bytes took new takes_it low room = by (taking s takes_it.request.unique takes_it.request.body).reply refl takes_it.copy
+pub answer_has_room : {A P : Type 0} (s : Server) (bytes : List ℕ) (took : Took A) (new : Server)
+    → TakesFrame s bytes took new → server.is_past_end new ≡ false → (AnswersFrame s bytes → P)
+    → IfSome took.copy (λ copy. P)
+answer_has_room {A} {P} s bytes took new takes_it low room =
+    by (taking s takes_it.request.unique takes_it.request.body).reply refl takes_it.copy
   where
-    by : (o : Option WireReply) → (taking s takes_it.request.unique takes_it.request.body).reply ≡ o → took.copy ≡ copy_of s.next_copy takes_it.request.unique (taking s takes_it.request.unique takes_it.request.body).reply → IfSome took.copy (λ copy. P)
+    by : (o : Option WireReply) → (taking s takes_it.request.unique takes_it.request.body).reply ≡ o
+        → took.copy ≡ copy_of s.next_copy takes_it.request.unique
+        (taking s takes_it.request.unique takes_it.request.body).reply → IfSome took.copy (λ copy. P)
     by None e is = no_copy_wants P took.copy (is ∙ ap (copy_of s.next_copy takes_it.request.unique) e)
     by (Some wire) e is =
         some_copy_wants P took.copy
         (room (record {
-          can = record { request = takes_it.request; says = takes_it.says; faultless = takes_it.faultless; within = ap server.is_past_end (sym takes_it.after) ∙ low };
+          can = record {
+            request = takes_it.request;
+            says = takes_it.says;
+            faultless = takes_it.faultless;
+            within = ap server.is_past_end (sym takes_it.after) ∙ low;
+          };
           reply = wire;
           replies = e;
         }))

@@ -16,8 +16,10 @@ pub record IsCopyFrame (bytes : List ℕ) (sent : Sent) : Type 0 where
 
 -- The bytes are the frame of the last request on the request link, or of the last copy on the reply link.
 pub data IsLastFrame (w : World) (bytes : List ℕ) : Type 0 where
-  of_request : (request : Request) → slice_get w.requests (length w.requests - 1) ≡ Some request → IsRequestFrame bytes request → IsLastFrame w bytes
-  of_reply : (sent : Sent) → slice_get w.replies (length w.replies - 1) ≡ Some sent → IsCopyFrame bytes sent → IsLastFrame w bytes
+  of_request : (request : Request) → slice_get w.requests (length w.requests - 1) ≡ Some request
+      → IsRequestFrame bytes request → IsLastFrame w bytes
+  of_reply : (sent : Sent) → slice_get w.replies (length w.replies - 1) ≡ Some sent → IsCopyFrame bytes sent
+      → IsLastFrame w bytes
 
 -- The last request on its link has this unique and this opcode, and its frame is so many bytes long.
 pub record ShowsRequest (w : World) (unique : ℕ) (opcode : Opcode) (len : ℕ) : Type 0 where
@@ -45,14 +47,19 @@ IsShown w (outcome.Done unique errno len) = ShowsReply w unique len
 IsShown w (outcome.SentAgain unique len) = ShowsReply w unique len
 IsShown w other = Unit {0}
 
--- The frame that an event with this outcome put, while it is the last on its link: the request that was read, or the copy that was sent. Other events put none.
+-- The frame that an event with this outcome put, while it is the last on its link: the request that was read, or the
+-- copy that was sent. Other events put none.
 abbrev pub IsFrameOf : World → Outcome → Option (List ℕ) → Type 0
-IsFrameOf w (outcome.Read unique opcode len) (Some bytes) = (request : Request) × (slice_get w.requests (length w.requests - 1) ≡ Some request) × IsRequestFrame bytes request
+IsFrameOf w (outcome.Read unique opcode len) (Some bytes) =
+    (request : Request) × (slice_get w.requests (length w.requests - 1) ≡ Some request) × IsRequestFrame bytes request
 IsFrameOf w (outcome.Read unique opcode len) None = w.requests ≡ []
-IsFrameOf w (outcome.Taken unique Again) (Some bytes) = (sent : Sent) × (slice_get w.replies (length w.replies - 1) ≡ Some sent) × IsCopyFrame bytes sent
+IsFrameOf w (outcome.Taken unique Again) (Some bytes) =
+    (sent : Sent) × (slice_get w.replies (length w.replies - 1) ≡ Some sent) × IsCopyFrame bytes sent
 IsFrameOf w (outcome.Taken unique Again) None = w.replies ≡ []
-IsFrameOf w (outcome.Done unique errno len) (Some bytes) = (sent : Sent) × (slice_get w.replies (length w.replies - 1) ≡ Some sent) × IsCopyFrame bytes sent
+IsFrameOf w (outcome.Done unique errno len) (Some bytes) =
+    (sent : Sent) × (slice_get w.replies (length w.replies - 1) ≡ Some sent) × IsCopyFrame bytes sent
 IsFrameOf w (outcome.Done unique errno len) None = w.replies ≡ []
-IsFrameOf w (outcome.SentAgain unique len) (Some bytes) = (sent : Sent) × (slice_get w.replies (length w.replies - 1) ≡ Some sent) × IsCopyFrame bytes sent
+IsFrameOf w (outcome.SentAgain unique len) (Some bytes) =
+    (sent : Sent) × (slice_get w.replies (length w.replies - 1) ≡ Some sent) × IsCopyFrame bytes sent
 IsFrameOf w (outcome.SentAgain unique len) None = w.replies ≡ []
 IsFrameOf w other frame = frame ≡ None

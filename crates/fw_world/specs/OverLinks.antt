@@ -18,34 +18,51 @@ use Rattle.fw_world.specs.Sends.{IsSent, IsLostOn}
 abbrev pub session_of : World → Bool → Session
 session_of w is_lost = record { world = w; is_lost = is_lost }
 
--- The records of a list of events over a link, and what each event did to the link. Until the link is lost each accepted event sends its envelope, and nothing else, and the link does not
--- fail; where an envelope is lost an abort follows; and then nothing is sent. What links carry between two of their states, and how often one has failed, is given.
-pub data RecordedOver {L : Type 0} (carries : L → L → Traffic → Type 0) (failed : L → ℕ) : Session → L → List Event → List Record → Session → L → Type 0 where
+-- The records of a list of events over a link, and what each event did to the link. Until the link is lost each
+-- accepted event sends its envelope, and nothing else, and the link does not fail; where an envelope is lost an abort
+-- follows; and then nothing is sent. What links carry between two of their states, and how often one has failed, is
+-- given.
+pub data RecordedOver {L : Type 0} (carries : L → L → Traffic → Type 0) (failed : L → ℕ) : Session → L → List Event
+    → List Record → Session → L → Type 0 where
   none_left : (s : Session) (link : L) → RecordedOver carries failed s link [] [] s link
-  one_refused : (w : World) (link : L) (event : Event) (refusal : Refusal) (events : List Event) (records : List Record) (after : Session) (last : L)
+  one_refused : (w : World) (link : L) (event : Event) (refusal : Refusal) (events : List Event)
+      (records : List Record) (after : Session) (last : L)
       → RefusedWith w event refusal → RecordedOver carries failed (linked w) link events records after last
       → RecordedOver carries failed (linked w) link (event ∷ events) (refused refusal ∷ records) after last
-  one_accepted : (w : World) (link : L) (event : Event) (o : Outcome) (mid : World) (next : L) (events : List Event) (records : List Record) (after : Session) (last : L)
-      → Happens w event o mid → IsSent mid o (carries link next) → failed next ≡ failed link → RecordedOver carries failed (linked (collected mid)) next events records after last
-      → RecordedOver carries failed (linked w) link (event ∷ events) (outcome o ∷ answers_of mid.kernel.vfs.answers ++ records) after last
-  one_lost : (w : World) (link : L) (event : Event) (o : Outcome) (mid gone : World) (next : L) (events : List Event) (records : List Record) (after : Session) (last : L)
-      → Happens w event o mid → IsLostOn mid o (carries link next) (failed link) (failed next) → Happens mid abort aborted gone
+  one_accepted : (w : World) (link : L) (event : Event) (o : Outcome) (mid : World) (next : L) (events : List Event)
+      (records : List Record) (after : Session) (last : L)
+      → Happens w event o mid → IsSent mid o (carries link next) → failed next ≡ failed link
+      → RecordedOver carries failed (linked (collected mid)) next events records after last
+      → RecordedOver carries failed (linked w) link (event ∷ events)
+      (outcome o ∷ answers_of mid.kernel.vfs.answers ++ records) after last
+  one_lost : (w : World) (link : L) (event : Event) (o : Outcome) (mid gone : World) (next : L) (events : List Event)
+      (records : List Record) (after : Session) (last : L)
+      → Happens w event o mid → IsLostOn mid o (carries link next) (failed link) (failed next)
+      → Happens mid abort aborted gone
       → RecordedOver carries failed (lost (collected gone)) next events records after last
-      → RecordedOver carries failed (linked w) link (event ∷ events) (outcome o ∷ link_lost ∷ answers_of gone.kernel.vfs.answers ++ records) after last
-  one_too_late : (w : World) (link : L) (event : Event) (events : List Event) (records : List Record) (after : Session) (last : L)
-      → RecordedOver carries failed (lost w) link events records after last → RecordedOver carries failed (lost w) link (event ∷ events) (refused LinkLost ∷ records) after last
+      → RecordedOver carries failed (linked w) link (event ∷ events)
+      (outcome o ∷ link_lost ∷ answers_of gone.kernel.vfs.answers ++ records) after last
+  one_too_late : (w : World) (link : L) (event : Event) (events : List Event) (records : List Record) (after : Session)
+      (last : L)
+      → RecordedOver carries failed (lost w) link events records after last
+      → RecordedOver carries failed (lost w) link (event ∷ events) (refused LinkLost ∷ records) after last
 
--- The events ran over the link with these records: from every plain world that the world before refines there is one plain run over the events with the same records, in which the link
--- is lost where it was, and at whose end the world after refines it again and keeps the reference protocol. Each call is answered at most once, and over with its
+-- The events ran over the link with these records: from every plain world that the world before refines there is one
+-- plain run over the events with the same records, in which the link is lost where it was, and at whose end the world
+-- after refines it again and keeps the reference protocol. Each call is answered at most once, and over with its
 -- answer, so that no later list answers it.
-pub record RunsOver {L : Type 0} (carries : L → L → Traffic → Type 0) (failed : L → ℕ) (old : Session) (link : L) (events : List Event) (added : List Record) (new : Session) (last : L) : Type 0 where
+pub record RunsOver {L : Type 0} (carries : L → L → Traffic → Type 0) (failed : L → ℕ) (old : Session) (link : L)
+    (events : List Event) (added : List Record) (new : Session) (last : L) : Type 0 where
   pub recorded : RecordedOver carries failed old link events added new last
-  pub plain_run : (p : Plain) → Refines old.world p → (q : Plain) × SessionRun old p events added new q × Refines new.world q
+  pub plain_run : (p : Plain) → Refines old.world p
+      → (q : Plain) × SessionRun old p events added new q × Refines new.world q
   pub keeps : Keeps new.world
   pub once : AnswersOnce added
   pub ended : CallsEnd old.world added new.world
 
--- The event happened in a session whose link was not lost, with this outcome: as in a world; or the link was lost in it, and an abort happened too.
+-- The event happened in a session whose link was not lost, with this outcome: as in a world; or the link was lost in
+-- it, and an abort happened too.
 pub data StepsOver (old : World) (event : Event) (o : Outcome) : Session → Type 0 where
   goes_on : (new : World) → StepsAs old event o new → StepsOver old event o (linked new)
-  gives_up : (mid new : World) → StepsAs old event o mid → StepsAs mid abort aborted new → StepsOver old event o (lost new)
+  gives_up : (mid new : World) → StepsAs old event o mid → StepsAs mid abort aborted new
+      → StepsOver old event o (lost new)

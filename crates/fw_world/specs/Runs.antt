@@ -13,15 +13,16 @@ abbrev pub events_run : {X E : Type 0} → Result X ℕ → List E → List E
 events_run (Ok x) events = events
 events_run (Err k) events = take k events
 
--- The event happened with this outcome: every plain world that the world before refines takes its step, in words of its own, and the world after refines it
--- again and keeps the reference protocol. A call that was over stays so.
+-- The event happened with this outcome: every plain world that the world before refines takes its step, in words of its
+-- own, and the world after refines it again and keeps the reference protocol. A call that was over stays so.
 pub record StepsAs (old : World) (event : Event) (outcome : Outcome) (new : World) : Type 0 where
   pub plain_step : (p : Plain) → Refines old p → (q : Plain) × Steps p event outcome q × Refines new q
   pub keeps : Keeps new
   pub over : (call : ℕ) → IsOver old call → IsOver new call
 
--- The events ran with these records: from every plain world that the world before refines there is one plain run over the events with the same records, at
--- whose end the world after refines it again. Each call is answered at most once, and over with its answer, so that no later list answers it.
+-- The events ran with these records: from every plain world that the world before refines there is one plain run over
+-- the events with the same records, at whose end the world after refines it again. Each call is answered at most once,
+-- and over with its answer, so that no later list answers it.
 pub record RunsAs (old : World) (events : List Event) (added : List Record) (new : World) : Type 0 where
   pub plain_run : (p : Plain) → Refines old p → (q : Plain) × Run old p events added new q × Refines new q
   pub keeps : Keeps new

@@ -106,7 +106,8 @@ IsOut w (written unique result) = w.results ≢ []
 IsOut w outcome = Unit {0}
 
 -- The event was accepted, its envelope was lost on the link, and the mount was aborted in the same step.
-pub record LosesIn (w : World) (event : Event) (outcome : Outcome) (after : World) (carries : Traffic → Type 0) (failed_before failed_after : ℕ) : Type 0 where
+pub record LosesIn (w : World) (event : Event) (outcome : Outcome) (after : World) (carries : Traffic → Type 0)
+    (failed_before failed_after : ℕ) : Type 0 where
   pub mid : World
   pub happens : Happens w event outcome mid
   pub is_lost : IsLostOn mid outcome carries failed_before failed_after

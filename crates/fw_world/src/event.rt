@@ -18,7 +18,8 @@ pub enum Pick {
 /// One event: an atomic step of the world. Paths are lent.
 #[derive(Clone, Copy, Debug)]
 pub enum Event<'a> {
-    /// The kernel mounts, and the server, which speaks this minor, with these validities of found and of missing names, in milliseconds.
+    /// The kernel mounts, and the server, which speaks this minor, with these validities of found and of missing names,
+    /// in milliseconds.
     Mount {
         found_ms: u64,
         missing_ms: u64,

@@ -9,8 +9,8 @@ ghost use Rattle.fw_world.specs.OverLinks.{RecordedOver};
 
 use fw_link::LinkInOrder;
 
-/// The law of sessions over a link in order, from a state in which nothing is outstanding: the link is lost in a list of
-/// events exactly where it has failed, and while it is not lost its count of failures stays. It does nothing.
+/// The law of sessions over a link in order, from a state in which nothing is outstanding: the link is lost in a list
+/// of events exactly where it has failed, and while it is not lost its count of failures stays. It does nothing.
 pub fn lost_where_failed<L: LinkInOrder>()
     ensures lost { (s after : Session) (first last : L) (events : List Event) (records : List Record) →
         RecordedOver L.carries L.failed s first events records after last → L.is_idle first →

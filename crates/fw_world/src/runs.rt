@@ -15,22 +15,26 @@ use crate::world::WorldOf;
 use std::alloc::Allocator;
 
 /// Runs the events one after another. The records of each are its outcome or refusal, and then the answers that it
-/// gave, in rising call number. This carries the headline: whatever the events, there is a run of a plain world with these records.
+/// gave, in rising call number. This carries the headline: whatever the events, there is a run of a plain world with
+/// these records.
 ///
 /// # Errors
 ///
-/// `Err(k)` where the list of records could not grow, after exactly k events; the events from the k-th on have not run. With room for
-/// the answers that wait, those of the unanswered calls, and two records an event it does not come to that; so neither with room for 66
-/// records an event, where no answer waits.
+/// `Err(k)` where the list of records could not grow, after exactly k events; the events from the k-th on have not run.
+/// With room for the answers that wait, those of the unanswered calls, and two records an event it does not come to
+/// that; so neither with room for 66 records an event, where no answer waits.
 pub fn run<T: Tables>(
     world: &mut WorldOf<T>,
     events: &[Event<'_>],
     records: &mut Vec<Record<T::Heap>, T::Heap>,
 ) -> Result<(), usize>
-    ensures ran { (added : List (RecordValue T.Heap)) × (records.new.items ≡ records.old.items ++ added) × RunsAs world.old (map event_of (events_run result events.now)) (map record_of added) world.new }
+    ensures ran { (added : List (RecordValue T.Heap)) × (records.new.items ≡ records.old.items ++ added)
+        × RunsAs world.old (map event_of (events_run result events.now)) (map record_of added) world.new }
     ensures err { IfErr result (λ k. k < length events.now) }
-    ensures full { OnErr result (vec_capacity records.old < vec_len records.old + (length world.old.kernel.vfs.answers + length world.old.kernel.vfs.calls) + 2 * length events.now) }
-    ensures room { OnErr result (world.old.kernel.vfs.answers ≡ [] → vec_capacity records.old < vec_len records.old + 66 * length events.now) }
+    ensures full { OnErr result (vec_capacity records.old < vec_len records.old +
+        (length world.old.kernel.vfs.answers + length world.old.kernel.vfs.calls) + 2 * length events.now) }
+    ensures room { OnErr result (world.old.kernel.vfs.answers ≡ []
+        → vec_capacity records.old < vec_len records.old + 66 * length events.now) }
 {
     world.keeps_protocol();
     for (k, event) in events.iter().enumerate() {
@@ -41,11 +45,13 @@ pub fn run<T: Tables>(
     Ok(())
 }
 
-/// At most so many records the next event comes to: one of its own, one of a call that begins and is answered in it or of a link that is
-/// lost in it, and the answers of calls that wait.
+/// At most so many records the next event comes to: one of its own, one of a call that begins and is answered in it or
+/// of a link that is lost in it, and the answers of calls that wait.
 pub(crate) fn most_records<T: Tables>(world: &WorldOf<T>) -> Option<usize>
-    ensures some { IfSome result (λ room. room ≡ length world.now.kernel.vfs.answers + length world.now.kernel.vfs.calls + 2) }
-    ensures none { IfNone result (2 ^ 64 ≤ length world.now.kernel.vfs.answers + length world.now.kernel.vfs.calls + 2) }
+    ensures some { IfSome result
+        (λ room. room ≡ length world.now.kernel.vfs.answers + length world.now.kernel.vfs.calls + 2) }
+    ensures none { IfNone result
+        (2 ^ 64 ≤ length world.now.kernel.vfs.answers + length world.now.kernel.vfs.calls + 2) }
 {
     let waiting = world.answered().checked_add(world.unanswered())?;
     waiting.checked_add(2)
@@ -58,9 +64,13 @@ fn run_one<T: Tables>(
     records: &mut Vec<Record<T::Heap>, T::Heap>,
 ) -> bool
     ensures not_run { result ≡ false → (world.new ≡ world.old) × (records.new.items ≡ records.old.items) }
-    ensures full { result ≡ false → vec_capacity records.old < vec_len records.old + (length world.old.kernel.vfs.answers + length world.old.kernel.vfs.calls) + 2 }
-    ensures ran { IsTrue result → (added : List (RecordValue T.Heap)) × (records.new.items ≡ records.old.items ++ added) × Recorded world.old (event_of event.now ∷ []) (map record_of added) world.new }
-    ensures room { IsTrue result → vec_len records.new + (length world.new.kernel.vfs.answers + length world.new.kernel.vfs.calls) + vec_capacity records.old ≤ vec_len records.old + (length world.old.kernel.vfs.answers + length world.old.kernel.vfs.calls) + 2 + vec_capacity records.new }
+    ensures full { result ≡ false → vec_capacity records.old < vec_len records.old +
+        (length world.old.kernel.vfs.answers + length world.old.kernel.vfs.calls) + 2 }
+    ensures ran { IsTrue result → (added : List (RecordValue T.Heap))
+        × (records.new.items ≡ records.old.items ++ added)
+        × Recorded world.old (event_of event.now ∷ []) (map record_of added) world.new }
+    ensures room { IsTrue result → vec_len records.new +
+        (length world.new.kernel.vfs.answers + length world.new.kernel.vfs.calls) + vec_capacity records.old ≤ vec_len records.old + (length world.old.kernel.vfs.answers + length world.old.kernel.vfs.calls) + 2 + vec_capacity records.new }
 {
     world.keeps_protocol();
     let Some(room) = most_records(world) else {
@@ -86,7 +96,8 @@ pub(crate) fn collect_all<T: Tables>(
 )
     requires { vec_len records.old + length world.old.kernel.vfs.answers ≤ vec_capacity records.old }
     ensures world { world.new ≡ collected world.old }
-    ensures records { (added : List (RecordValue T.Heap)) × (records.new.items ≡ records.old.items ++ added) × (map record_of added ≡ answers_of world.old.kernel.vfs.answers) }
+    ensures records { (added : List (RecordValue T.Heap)) × (records.new.items ≡ records.old.items ++ added)
+        × (map record_of added ≡ answers_of world.old.kernel.vfs.answers) }
     ensures len { vec_len records.new ≡ vec_len records.old + length world.old.kernel.vfs.answers }
     ensures capacity { vec_capacity records.old ≤ vec_capacity records.new }
 {

@@ -42,7 +42,8 @@ enum LastPut {
     Reply,
 }
 
-/// One kernel, one server, and the links of requests, of replies and of the results of replies between them, over any tables.
+/// One kernel, one server, and the links of requests, of replies and of the results of replies between them, over any
+/// tables.
 #[derive(Drop)]
 pub struct WorldOf<T: Tables> {
     kernel: KernelOf<T::Queues, T::Counts>,
@@ -74,9 +75,21 @@ impl<T: Tables> Model for WorldOf<T> {
 
     ghost coded = { Prim.hlevel (codes) };
 
-    ghost view = { λ w. record { kernel = w.kernel; server = w.server; requests = w.requests.items; replies = w.replies.items; results = w.results.items } };
+    ghost view = { λ w. record {
+      kernel = w.kernel;
+      server = w.server;
+      requests = w.requests.items;
+      replies = w.replies.items;
+      results = w.results.items;
+    } };
 
-    ghost invariant = { λ w. IsReached (record { kernel = w.kernel; server = w.server; requests = w.requests.items; replies = w.replies.items; results = w.results.items }) };
+    ghost invariant = { λ w. IsReached (record {
+      kernel = w.kernel;
+      server = w.server;
+      requests = w.requests.items;
+      replies = w.replies.items;
+      results = w.results.items;
+    }) };
 }
 
 impl<T: Tables> WorldOf<T> {
@@ -107,8 +120,9 @@ impl<T: Tables> WorldOf<T> {
     ///
     /// # Errors
     ///
-    /// Each event has its refusals in the order in which `Steps.antt` of the definitions judges them. `NoMemory` is the last of them:
-    /// nothing else refuses the event, and `Settle`, `Interrupt`, `Tick`, `DropName`, `Evict` and `Abort` never get it.
+    /// Each event has its refusals in the order in which `Steps.antt` of the definitions judges them. `NoMemory` is the
+    /// last of them: nothing else refuses the event, and `Settle`, `Interrupt`, `Tick`, `DropName`, `Evict` and `Abort`
+    /// never get it.
     pub fn step(&mut self, event: &Event<'_>) -> Result<Outcome, Refusal>
         ensures err { OnErr result (self.new ≡ self.old) }
         ensures refusal { IfErr result (RefusedWith self.old (event_of event.now)) }
@@ -152,8 +166,10 @@ impl<T: Tables> WorldOf<T> {
     pub fn collect(&mut self) -> Option<(u64, Answer<T::Heap>)>
         ensures answer { option_map (λ r. (r.0, answer_of r.1)) result ≡ slice_get self.old.kernel.vfs.answers 0 }
         ensures none { IfNone result (self.new ≡ self.old) }
-        ensures taken { IfSome result (λ r. self.new ≡ record self.old { kernel = record self.old.kernel { vfs = record self.old.kernel.vfs { answers = remove self.old.kernel.vfs.answers r.0 } } }) }
-        ensures refines { IfSome result (λ r. (p : Plain) → Refines self.old p → Refines self.new (plain_handed_out p r.0)) }
+        ensures taken { IfSome result
+            (λ r. self.new ≡ record self.old { kernel = record self.old.kernel { vfs = record self.old.kernel.vfs { answers = remove self.old.kernel.vfs.answers r.0 } } }) }
+        ensures refines { IfSome result (λ r. (p : Plain) → Refines self.old p
+            → Refines self.new (plain_handed_out p r.0)) }
     {
         self.keeps_protocol();
         self.kernel.collect()
@@ -173,8 +189,8 @@ impl<T: Tables> WorldOf<T> {
         self.kernel.unanswered()
     }
 
-    /// A call without effect, for a caller's proof: the world refines some plain world, and the reference protocol holds of it. No state
-    /// that events lead to is left out: it is reached from the first world.
+    /// A call without effect, for a caller's proof: the world refines some plain world, and the reference protocol
+    /// holds of it. No state that events lead to is left out: it is reached from the first world.
     pub fn keeps_protocol(&self)
         ensures reached { IsReached self.now }
         ensures refines { (p : Plain) × Refines self.now p }
@@ -201,8 +217,8 @@ impl<T: Tables> WorldOf<T> {
         }
     }
 
-    /// The frame that an event with this outcome put, while nothing else was put on its link: of `Read` the request's, of `Done`, of
-    /// `SentAgain` and of `Taken` with the word `Again` the reply's. Other events put none.
+    /// The frame that an event with this outcome put, while nothing else was put on its link: of `Read` the request's,
+    /// of `Done`, of `SentAgain` and of `Taken` with the word `Again` the reply's. Other events put none.
     pub fn frame_of(&self, outcome: &Outcome) -> Option<&[u8]>
         ensures { IsFrameOf self.now outcome.now (option_map (λ bytes. bytes.now) result) }
     {
@@ -254,7 +270,8 @@ impl<T: Tables> WorldOf<T> {
     fn mount(&mut self, found_ms: u64, missing_ms: u64, minor: Minor) -> Result<Outcome, Refusal>
         ensures err { OnErr result (self.new ≡ self.old) }
         ensures refusal { IfErr result (RefusedWith self.old (event.mount found_ms missing_ms minor)) }
-        ensures happens { IfOk result (λ outcome. Happens self.old (event.mount found_ms missing_ms minor) (outcome_of outcome) self.new) }
+        ensures happens { IfOk result (λ outcome. Happens self.old (event.mount found_ms missing_ms minor)
+            (outcome_of outcome) self.new) }
         ensures shows { IfOk result (IsShown self.new) }
     {
         if found_ms > MAX_VALIDITY || missing_ms > MAX_VALIDITY {
@@ -271,7 +288,8 @@ impl<T: Tables> WorldOf<T> {
     fn call(&mut self, call: &Call<'_>) -> Result<Outcome, Refusal>
         ensures err { OnErr result (self.new ≡ self.old) }
         ensures refusal { IfErr result (RefusedWith self.old (event.call (call_of call.now))) }
-        ensures happens { IfOk result (λ outcome. Happens self.old (event.call (call_of call.now)) (outcome_of outcome) self.new) }
+        ensures happens { IfOk result (λ outcome. Happens self.old (event.call (call_of call.now))
+            (outcome_of outcome) self.new) }
         ensures shows { IfOk result (IsShown self.new) }
     {
         let call = match self.kernel.begin(call) {
@@ -332,7 +350,8 @@ impl<T: Tables> WorldOf<T> {
     fn read_pending(&mut self, place: u64) -> Result<Outcome, Refusal>
         ensures err { OnErr result (self.new ≡ self.old) }
         ensures refusal { IfErr result (RefusedWith self.old (event.read_pending place)) }
-        ensures happens { IfOk result (λ outcome. Happens self.old (event.read_pending place) (outcome_of outcome) self.new) }
+        ensures happens { IfOk result (λ outcome. Happens self.old (event.read_pending place)
+            (outcome_of outcome) self.new) }
         ensures shows { IfOk result (IsShown self.new) }
     {
         if self.requests.reserve(1).is_err() {
@@ -359,7 +378,8 @@ impl<T: Tables> WorldOf<T> {
     fn read_forgets(&mut self, count: u64) -> Result<Outcome, Refusal>
         ensures err { OnErr result (self.new ≡ self.old) }
         ensures refusal { IfErr result (RefusedWith self.old (event.read_forgets count)) }
-        ensures happens { IfOk result (λ outcome. Happens self.old (event.read_forgets count) (outcome_of outcome) self.new) }
+        ensures happens { IfOk result (λ outcome. Happens self.old (event.read_forgets count)
+            (outcome_of outcome) self.new) }
         ensures shows { IfOk result (IsShown self.new) }
     {
         if self.requests.reserve(1).is_err() {
@@ -390,7 +410,8 @@ impl<T: Tables> WorldOf<T> {
     fn interrupt(&mut self, call: u64, fatal: bool) -> Result<Outcome, Refusal>
         ensures err { OnErr result (self.new ≡ self.old) }
         ensures refusal { IfErr result (IsRefused self.old (event.intr call fatal)) }
-        ensures happens { IfOk result (λ outcome. Happens self.old (event.intr call fatal) (outcome_of outcome) self.new) }
+        ensures happens { IfOk result (λ outcome. Happens self.old (event.intr call fatal)
+            (outcome_of outcome) self.new) }
         ensures shows { IfOk result (IsShown self.new) }
     {
         let effect = match self.kernel.interrupt(call, fatal) {
@@ -431,7 +452,8 @@ impl<T: Tables> WorldOf<T> {
     fn drop_name(&mut self, directory: u64, name: &[u8]) -> Result<Outcome, Refusal>
         ensures err { OnErr result (self.new ≡ self.old) }
         ensures refusal { IfErr result (IsRefused self.old (event.drop_name directory name.now)) }
-        ensures happens { IfOk result (λ outcome. Happens self.old (event.drop_name directory name.now) (outcome_of outcome) self.new) }
+        ensures happens { IfOk result (λ outcome. Happens self.old (event.drop_name directory name.now)
+            (outcome_of outcome) self.new) }
         ensures shows { IfOk result (IsShown self.new) }
     {
         if let Err(refusal) = self.kernel.drop_name(directory, name) {
@@ -488,7 +510,8 @@ impl<T: Tables> WorldOf<T> {
     fn perform(&mut self, unique: u64) -> Result<Outcome, Refusal>
         ensures err { OnErr result (self.new ≡ self.old) }
         ensures refusal { IfErr result (RefusedWith self.old (event.perform unique)) }
-        ensures happens { IfOk result (λ outcome. Happens self.old (event.perform unique) (outcome_of outcome) self.new) }
+        ensures happens { IfOk result (λ outcome. Happens self.old (event.perform unique)
+            (outcome_of outcome) self.new) }
         ensures shows { IfOk result (IsShown self.new) }
     {
         if self.replies.reserve(1).is_err() {
@@ -632,7 +655,8 @@ fn append<T: Drop, A: Allocator>(list: &mut Vec<T, A>, value: T)
     let _ = list.push(value);
 }
 
-/// Makes room for the answer that a request frame gets at once, as only an INTERRUPT may, and tells whether there is room.
+/// Makes room for the answer that a request frame gets at once, as only an INTERRUPT may, and tells whether there is
+/// room.
 fn reserve_answer<S: NodeStore>(
     replies: &mut Vec<ReplyCopy<S::Heap>, S::Heap>,
     server: &ServerOf<S>,
@@ -648,7 +672,8 @@ fn reserve_answer<S: NodeStore>(
     replies.reserve(1).is_ok()
 }
 
-/// Puts the frame of a request that was read onto its link, which has room, and tells its unique, its opcode and its length.
+/// Puts the frame of a request that was read onto its link, which has room, and tells its unique, its opcode and its
+/// length.
 fn put_request<A: Allocator>(
     requests: &mut Vec<RequestFrame<A>, A>,
     frame: RequestFrame<A>,

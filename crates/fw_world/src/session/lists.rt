@@ -30,7 +30,9 @@ impl<L: Link + Drop, A: Allocator + Copy> Session<L, A> {
         records: &mut Vec<Record<A>, A>,
     ) -> Result<(), usize>
         ensures ran { (added : List (RecordValue A)) × (records.new.items ≡ records.old.items ++ added)
-            × RunsOver L.carries L.failed (session_of self.old.world self.old.is_lost) self.old.link (map event_of (events_run result events.now)) (map record_of added) (session_of self.new.world self.new.is_lost) self.new.link }
+            × RunsOver L.carries L.failed (session_of self.old.world self.old.is_lost) self.old.link
+            (map event_of (events_run result events.now)) (map record_of added)
+            (session_of self.new.world self.new.is_lost) self.new.link }
         ensures err { IfErr result (λ k. k < length events.now) }
         ensures full { OnErr result (vec_capacity records.old < vec_len records.old
             + (length self.old.world.kernel.vfs.answers + length self.old.world.kernel.vfs.calls) + 2 * length events.now) }
@@ -53,7 +55,8 @@ impl<L: Link + Drop, A: Allocator + Copy> Session<L, A> {
         ensures full { result ≡ false → vec_capacity records.old < vec_len records.old
             + (length self.old.world.kernel.vfs.answers + length self.old.world.kernel.vfs.calls) + 2 }
         ensures ran { IsTrue result → (added : List (RecordValue A)) × (records.new.items ≡ records.old.items ++ added)
-            × RecordedOver L.carries L.failed (session_of self.old.world self.old.is_lost) self.old.link (event_of event.now ∷ []) (map record_of added) (session_of self.new.world self.new.is_lost) self.new.link }
+            × RecordedOver L.carries L.failed (session_of self.old.world self.old.is_lost) self.old.link
+            (event_of event.now ∷ []) (map record_of added) (session_of self.new.world self.new.is_lost) self.new.link }
         ensures room { IsTrue result → vec_len records.new
             + (length self.new.world.kernel.vfs.answers + length self.new.world.kernel.vfs.calls) + vec_capacity records.old
             ≤ vec_len records.old + (length self.old.world.kernel.vfs.answers + length self.old.world.kernel.vfs.calls) + 2

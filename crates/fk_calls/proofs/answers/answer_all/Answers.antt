@@ -13,4 +13,5 @@ loop-left-preserved g c =
     let left = c.loop-left.left.now in
     let last = get_or left (length left - 1) c.index-left-left.result in
     answered_last c.args.calls.now left c.args.answers.now c.loop-left.answers c.put.new.self c.loop-left.invariant c.in-len1-up.len_at_least c.index-left-left.result
-    (c.put.ensures.entries ∙ ap (λ (a : Answer). put c.loop-left.answers.entries last.0 a) c.new.ensures) c.put.ensures.room
+    (c.put.ensures.entries ∙ ap
+    (λ (a : Answer). put c.loop-left.answers.entries last.0 a) c.new.ensures) c.put.ensures.room

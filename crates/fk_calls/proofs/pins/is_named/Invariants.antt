@@ -7,4 +7,5 @@ use Rattle.fk_calls.proofs.pins.is_named.Given as goal
 
 abbrev pub invariant-loop-call : goal.invariant-loop-call
 invariant-loop-call g l =
-    list_any (λ state. list_any (nat_eq l.node) (nodes_of_state state)) (values l.calls) ≡ list_any (λ state. list_any (nat_eq l.node) (nodes_of_state state)) (values (drop l.call-index l.calls))
+    list_any (λ state. list_any (nat_eq l.node) (nodes_of_state state)) (values l.calls)
+    ≡ list_any (λ state. list_any (nat_eq l.node) (nodes_of_state state)) (values (drop l.call-index l.calls))

@@ -6,4 +6,5 @@ use Rattle.fuse_spec.specs.declared.Opened.{Opened}
 use Rattle.fk_calls.proofs.pins.is_open.Given as goal
 
 abbrev pub invariant-loop-file : goal.invariant-loop-file
-invariant-loop-file l = list_any (λ (opened : Opened). nat_eq opened.nodeid l.node) (values l.opens) ≡ list_any (λ (opened : Opened). nat_eq opened.nodeid l.node) (values (drop l.file-index l.opens))
+invariant-loop-file l = list_any (λ (opened : Opened). nat_eq opened.nodeid l.node) (values l.opens)
+    ≡ list_any (λ (opened : Opened). nat_eq opened.nodeid l.node) (values (drop l.file-index l.opens))

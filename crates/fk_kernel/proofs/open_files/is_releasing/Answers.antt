@@ -13,7 +13,9 @@ returns-then-releases g c =
     let at = at_place es c.loop-place.place (c.in-Some.request.0, c.in-Some.request.1.now) c.in-Some.ensures in
     let test : ℕ × QueuedRequest Purpose → Bool = λ e. is_released_by c.args.node e.1.kept in
     let rest = list_any test (drop (c.loop-place.place + 1) es) in
-    sym (c.loop-place.invariant ∙ ap (list_any test) at.2 ∙ ap (λ (p : Purpose). is_released_by c.args.node p || rest) at.1 ∙ ap (λ (b : Bool). b || rest) (sym c.releases.ensures ∙ c.if-releases.true))
+    sym (c.loop-place.invariant ∙ ap (list_any test) at.2 ∙ ap
+    (λ (p : Purpose). is_released_by c.args.node p || rest) at.1 ∙ ap (λ (b : Bool). b || rest)
+    (sym c.releases.ensures ∙ c.if-releases.true))
 
 pub loop-place-preserved : goal.loop-place-preserved
 loop-place-preserved g c =
@@ -21,4 +23,6 @@ loop-place-preserved g c =
     let at = at_place es c.loop-place.place (c.in-Some.request.0, c.in-Some.request.1.now) c.in-Some.ensures in
     let test : ℕ × QueuedRequest Purpose → Bool = λ e. is_released_by c.args.node e.1.kept in
     let rest = list_any test (drop (c.loop-place.place + 1) es) in
-    c.loop-place.invariant ∙ ap (list_any test) at.2 ∙ ap (λ (p : Purpose). is_released_by c.args.node p || rest) at.1 ∙ ap (λ (b : Bool). b || rest) (sym c.releases.ensures ∙ c.if-releases.false)
+    c.loop-place.invariant ∙ ap (list_any test) at.2 ∙ ap
+    (λ (p : Purpose). is_released_by c.args.node p || rest) at.1 ∙ ap (λ (b : Bool). b || rest)
+    (sym c.releases.ensures ∙ c.if-releases.false)

@@ -6,7 +6,8 @@ use Rattle.fk_nodes.proofs.learning.count_all.Given as goal
 
 abbrev pub invariant-loop-pair : goal.invariant-loop-pair
 invariant-loop-pair g l = record {
-  counted : learnt_from (g.C.CountTable.counted l.table) (pairs_in l.pair-iterator) ≡ learnt_from (g.C.CountTable.counted l.fn.table) (pairs_in l.fn.pairs);
+  counted : learnt_from (g.C.CountTable.counted l.table) (pairs_in l.pair-iterator)
+      ≡ learnt_from (g.C.CountTable.counted l.fn.table) (pairs_in l.fn.pairs);
   room : HaveNodeRoom (g.C.CountTable.has_room l.table) (pairs_in l.pair-iterator);
   within : length (g.C.CountTable.counted l.table) ≤ l.most;
   low : l.most + length (pairs_in l.pair-iterator) ≤ l.fn.most + length (pairs_in l.fn.pairs);

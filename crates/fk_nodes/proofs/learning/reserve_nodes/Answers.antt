@@ -10,5 +10,7 @@ loop-pair-preserved g c =
     let left = ap (map pair_in) c.in-Some.ensures.steps in
     record {
       counted = c.reserve_node.ensures.counted ∙ c.loop-pair.invariant.counted;
-      room = room_made (g.C.CountTable.has_room c.loop-pair.table) (g.C.CountTable.has_room c.reserve_node.new.table) (pairs_in c.args.pairs) (pairs_in c.loop-pair.pair-iterator) (pairs_in c.next.new.self) (pair_in (direntplus_content c.in-Some.pair)) c.loop-pair.invariant.room left c.reserve_node.ensures.kept c.in_ok-reserve_node.ensures.room;
+      room = room_made (g.C.CountTable.has_room c.loop-pair.table) (g.C.CountTable.has_room c.reserve_node.new.table)
+          (pairs_in c.args.pairs) (pairs_in c.loop-pair.pair-iterator) (pairs_in c.next.new.self)
+          (pair_in (direntplus_content c.in-Some.pair)) c.loop-pair.invariant.room left c.reserve_node.ensures.kept c.in_ok-reserve_node.ensures.room;
     }

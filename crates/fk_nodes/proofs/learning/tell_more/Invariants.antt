@@ -4,4 +4,5 @@ use Rattle.fk_nodes.specs.Told.{pairs_in}
 use Rattle.fk_nodes.proofs.learning.tell_more.Given as goal
 
 abbrev pub invariant-loop-pair : goal.invariant-loop-pair
-invariant-loop-pair l = nat_lt l.left (times_told l.id l.generation (pairs_in l.pair-iterator)) ≡ nat_lt l.limit (times_told l.id l.generation (pairs_in l.fn.pairs))
+invariant-loop-pair l = nat_lt l.left (times_told l.id l.generation (pairs_in l.pair-iterator))
+    ≡ nat_lt l.limit (times_told l.id l.generation (pairs_in l.fn.pairs))

@@ -4,6 +4,7 @@ use Rattle.fk_nodes.proofs.listed.bind_listed.Given as goal
 
 abbrev pub invariant-loop-pair : goal.invariant-loop-pair
 invariant-loop-pair g l = record {
-  bound : names_judged l.clock l.directory l.nodes l.names.names (pairs_in l.pair-iterator) ≡ names_judged l.clock l.directory l.nodes l.fn.names.names (pairs_in l.fn.pairs);
+  bound : names_judged l.clock l.directory l.nodes l.names.names (pairs_in l.pair-iterator)
+      ≡ names_judged l.clock l.directory l.nodes l.fn.names.names (pairs_in l.fn.pairs);
   room : HaveToldRoom l.names l.directory (pairs_in l.pair-iterator);
 }

@@ -7,4 +7,5 @@ use Rattle.fk_nodes.proofs.listed.names_listed.Given as goal
 
 abbrev pub invariant-loop-pair : goal.invariant-loop-pair
 invariant-loop-pair g l =
-    map dirent_of l.names.items ++ map (λ (pair : DirentPlus Entry). pair.dirent) (pairs_in l.pair-iterator) ≡ map (λ (pair : DirentPlus Entry). pair.dirent) (pairs_in l.fn.pairs)
+    map dirent_of l.names.items ++ map (λ (pair : DirentPlus Entry). pair.dirent) (pairs_in l.pair-iterator)
+    ≡ map (λ (pair : DirentPlus Entry). pair.dirent) (pairs_in l.fn.pairs)

@@ -10,5 +10,7 @@ loop-pair-preserved g c =
     let left = ap (map pair_in) c.in-Some.ensures.steps in
     record {
       names = c.reserve_name.ensures.names ∙ c.loop-pair.invariant.names;
-      room = room_made c.loop-pair.names c.reserve_name.new.names c.args.directory (pairs_in c.args.pairs) (pairs_in c.loop-pair.pair-iterator) (pairs_in c.next.new.self) (pair_in (direntplus_content c.in-Some.pair)) c.loop-pair.invariant.room left c.reserve_name.ensures.kept c.in_ok-reserve_name.ensures.room;
+      room = room_made c.loop-pair.names c.reserve_name.new.names c.args.directory (pairs_in c.args.pairs)
+          (pairs_in c.loop-pair.pair-iterator) (pairs_in c.next.new.self)
+          (pair_in (direntplus_content c.in-Some.pair)) c.loop-pair.invariant.room left c.reserve_name.ensures.kept c.in_ok-reserve_name.ensures.room;
     }

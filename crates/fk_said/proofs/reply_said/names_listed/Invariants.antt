@@ -5,4 +5,5 @@ use Rattle.fk_syscalls.specs.Values.{dirent_of}
 use Rattle.fk_said.proofs.reply_said.names_listed.Given as goal
 
 abbrev pub invariant-loop-record : goal.invariant-loop-record
-invariant-loop-record g l = map dirent_of l.names.items ++ map dirent_in (records_in l.record-iterator) ≡ map dirent_in (records_in l.fn.records)
+invariant-loop-record g l = map dirent_of l.names.items ++ map dirent_in (records_in l.record-iterator)
+    ≡ map dirent_in (records_in l.fn.records)

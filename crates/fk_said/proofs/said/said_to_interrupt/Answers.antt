@@ -9,7 +9,8 @@ pub returns-in-Some : goal.returns-in-Some
 returns-in-Some c =
     let r = c.in-Ok.reply in
     let same = same_error r.error c.in-Ok.ensures.ok.1 in
-    says_read op.Interrupt c.args.bytes.now r _ c.in-Ok.ensures.ok (ap (λ z. wire_said z (reply_content r.body)) (sym same) ∙ c.in-Some.ensures (reply_content r.body))
+    says_read op.Interrupt c.args.bytes.now r _ c.in-Ok.ensures.ok
+    (ap (λ z. wire_said z (reply_content r.body)) (sym same) ∙ c.in-Some.ensures (reply_content r.body))
 
 pub returns : goal.returns
 returns c =

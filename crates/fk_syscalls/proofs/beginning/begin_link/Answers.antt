@@ -4,4 +4,8 @@ use Rattle.fk_syscalls.specs.Words.{words_from}
 use Rattle.fk_syscalls.proofs.beginning.begin_link.Goals as goal
 
 pub returns-clause-wanting : goal.returns-clause-wanting
-returns-clause-wanting g c = rw (c.in-Ok.ensures.words, c.in-Ok-parent_of.ensures.parts (λ more name. sets_out (words_from c.args.old.now c.in-Ok.at) (link more name))) c.set_out.ensures.wanting
+returns-clause-wanting g c = rw (
+  c.in-Ok.ensures.words,
+  c.in-Ok-parent_of.ensures.parts (λ more name. sets_out (words_from c.args.old.now c.in-Ok.at)
+      (link more name)),
+) c.set_out.ensures.wanting

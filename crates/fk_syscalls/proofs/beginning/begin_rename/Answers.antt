@@ -6,4 +6,9 @@ use Rattle.fk_syscalls.proofs.beginning.begin_rename.Goals as goal
 pub returns-clause-wanting : goal.returns-clause-wanting
 returns-clause-wanting g c =
     let from = c.in-Ok.from in
-    rw (c.in-Ok.ensures.parts (λ words from. parent_path c.args.new.now (λ more to. sets_out words (rename from more to))), c.in-Ok-parent_of.ensures.parts (λ more to. sets_out (words_from from.words.now from.at) (rename from.name.now more to))) c.set_out.ensures.wanting
+    rw (
+      c.in-Ok.ensures.parts (λ words from. parent_path c.args.new.now
+          (λ more to. sets_out words (rename from more to))),
+      c.in-Ok-parent_of.ensures.parts (λ more to. sets_out (words_from from.words.now from.at)
+          (rename from.name.now more to)),
+    ) c.set_out.ensures.wanting

@@ -5,4 +5,5 @@ use Rattle.fs_files.proofs.operating.read_bytes.Goals as goal
 pub returns : goal.returns
 returns g c v =
     let same : c.in_ok-bytes.bytes.items ≡ c.read.result.now = search rules in
-    reads_bytes v c.args.tree.now c.args.file c.args.offset c.args.size c.in_ok-bytes.bytes c.read.result.now same (c.read.ensures.1 v)
+    reads_bytes v c.args.tree.now c.args.file c.args.offset c.args.size c.in_ok-bytes.bytes c.read.result.now same
+    (c.read.ensures.1 v)

@@ -2,7 +2,19 @@ use Rattle.fs_files.proofs.plan.unrefused_plan.Goals as goal
 
 pub plan_of_rename-requires : goal.plan_of_rename-requires
 plan_of_rename-requires g c =
-    record { unrefused = rw (c.file_of-from.ensures, c.file_of-in-Rename.ensures, c.deref-in-Rename.ensures.value, c.deref-in-Rename-2.ensures.value) (rw c.in-Rename.is at c.requires.unrefused) }
+    record {
+      unrefused = rw (
+        c.file_of-from.ensures,
+        c.file_of-in-Rename.ensures,
+        c.deref-in-Rename.ensures.value,
+        c.deref-in-Rename-2.ensures.value,
+      ) (rw c.in-Rename.is at c.requires.unrefused);
+    }
 
 pub returns-in-Rename : goal.returns-in-Rename
-returns-in-Rename g c = rw c.in-Rename.is (rw (c.file_of-from.ensures, c.file_of-in-Rename.ensures, c.deref-in-Rename.ensures.value, c.deref-in-Rename-2.ensures.value) at c.plan_of_rename.ensures)
+returns-in-Rename g c = rw c.in-Rename.is (rw (
+  c.file_of-from.ensures,
+  c.file_of-in-Rename.ensures,
+  c.deref-in-Rename.ensures.value,
+  c.deref-in-Rename-2.ensures.value,
+) at c.plan_of_rename.ensures)

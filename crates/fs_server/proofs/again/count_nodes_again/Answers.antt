@@ -6,11 +6,13 @@ use Rattle.fs_server.proofs.Entries.{counted_on, within_on}
 use Rattle.fs_server.proofs.again.count_nodes_again.Goals as goal
 
 pub loop-entry-init : goal.loop-entry-init
-loop-entry-init g c = let t = c.args.files.now.nodes in (refl, within_first t (files_of t c.args.told.now) c.requires, refl, refl)
+loop-entry-init g c = let t = c.args.files.now.nodes in
+    (refl, within_first t (files_of t c.args.told.now) c.requires, refl, refl)
 
 pub count_again-requires : goal.count_again-requires
 count_again-requires g c =
-    let t = c.loop-entry.files.nodes in within_counted t (files_of t (drop c.loop-entry.entry-index c.args.told.now)) c.loop-entry.invariant.1
+    let t = c.loop-entry.files.nodes in within_counted t
+    (files_of t (drop c.loop-entry.entry-index c.args.told.now)) c.loop-entry.invariant.1
 
 pub loop-entry-preserved : goal.loop-entry-preserved
 loop-entry-preserved g c =
@@ -27,4 +29,5 @@ loop-entry-preserved g c =
     )
 
 pub returns-clause-below : goal.returns-clause-below
-returns-clause-below g c = let t = c.loop-entry.files.nodes in within_below t (files_of t (drop c.loop-entry.entry-index c.args.told.now)) c.loop-entry.invariant.1
+returns-clause-below g c = let t = c.loop-entry.files.nodes in
+    within_below t (files_of t (drop c.loop-entry.entry-index c.args.told.now)) c.loop-entry.invariant.1

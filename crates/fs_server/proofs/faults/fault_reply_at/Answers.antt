@@ -10,4 +10,5 @@ returns-in_default-clause-none g c none =
     ((λ (a : IsAnswerable c.args.bytes.now c.args.fault). no_header c.args.bytes.now c.in_default.field-0 fault.0 fault.1 a.header), refl)
 
 pub returns-clause-len : goal.returns-clause-len
-returns-clause-len g c replied = longer_by_header _ _ c.args.out.now.items c.write_reply.new.out.items (rw c.unwrap.ensures at c.write_reply.ensures.ok)
+returns-clause-len g c replied = longer_by_header _ _ c.args.out.now.items c.write_reply.new.out.items
+    (rw c.unwrap.ensures at c.write_reply.ensures.ok)

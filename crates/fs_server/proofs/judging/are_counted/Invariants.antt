@@ -8,4 +8,5 @@ abbrev pub invariant-pairs : goal.invariant-pairs
 invariant-pairs g l =
     (goal.iterator-pairs g).can_next l.nodeid-iterator
     × (goal.iterator-pairs g).is_finite l.nodeid-iterator
-    × (list_all (is_forgettable l.nodes.table) (pairs_in l.nodeid-iterator) ≡ list_all (is_forgettable l.nodes.table) (pairs_in l.fn.pairs))
+    × (list_all (is_forgettable l.nodes.table) (pairs_in l.nodeid-iterator)
+    ≡ list_all (is_forgettable l.nodes.table) (pairs_in l.fn.pairs))

@@ -7,4 +7,5 @@ abbrev pub invariant-pairs : goal.invariant-pairs
 invariant-pairs l =
     goal.iterator-pairs.can_next l.nodeid-iterator
     × goal.iterator-pairs.is_finite l.nodeid-iterator
-    × (nat_lt l.left (forgotten l.node (pairs_in l.nodeid-iterator)) ≡ nat_lt l.count (forgotten l.node (pairs_in l.fn.pairs)))
+    × (nat_lt l.left (forgotten l.node (pairs_in l.nodeid-iterator))
+    ≡ nat_lt l.count (forgotten l.node (pairs_in l.fn.pairs)))

@@ -9,5 +9,7 @@ abbrev pub invariant-pairs : goal.invariant-pairs
 invariant-pairs g l =
     (goal.iterator-pairs g).can_next l.nodeid-iterator
     × (goal.iterator-pairs g).is_finite l.nodeid-iterator
-    × (list_any (λ f. nat_lt (count_in (get l.nodes.table.rows f.0)) (forgotten f.0 (pairs_in l.fn.pairs))) (pairs_in l.nodeid-iterator)
-    ≡ list_any (λ f. nat_lt (count_in (get l.nodes.table.rows f.0)) (forgotten f.0 (pairs_in l.fn.pairs))) (pairs_in l.fn.pairs))
+    × (list_any (λ f. nat_lt (count_in (get l.nodes.table.rows f.0)) (forgotten f.0 (pairs_in l.fn.pairs)))
+    (pairs_in l.nodeid-iterator)
+    ≡ list_any (λ f. nat_lt (count_in (get l.nodes.table.rows f.0)) (forgotten f.0 (pairs_in l.fn.pairs)))
+    (pairs_in l.fn.pairs))

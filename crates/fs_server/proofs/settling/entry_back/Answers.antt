@@ -10,4 +10,5 @@ pub returns : goal.returns
 returns g c =
     let old = c.args.files.now in
     let swept = c.discard_unheld.ensures in
-    sweeps_from old c.give_back.new.self c.discard_unheld.new.self (row_back old.nodes c.args.entry.now) old.handles c.give_back.ensures.tree c.give_back.ensures.nodes c.give_back.ensures.handles swept.tree swept.nodes swept.handles swept.named
+    sweeps_from old c.give_back.new.self c.discard_unheld.new.self
+    (row_back old.nodes c.args.entry.now) old.handles c.give_back.ensures.tree c.give_back.ensures.nodes c.give_back.ensures.handles swept.tree swept.nodes swept.handles swept.named

@@ -14,5 +14,6 @@ returns g c =
     let old = c.args.files.now in
     let swept = c.discard_unheld.ensures in
     rw c.in-Some.is
-    (sweeps_from old c.give_number_back.new.self c.discard_unheld.new.self old.nodes (handle_back old.handles c.in-Some.fh) c.give_number_back.ensures.tree c.give_number_back.ensures.nodes c.give_number_back.ensures.handles swept.tree swept.nodes
+    (sweeps_from old c.give_number_back.new.self c.discard_unheld.new.self old.nodes
+    (handle_back old.handles c.in-Some.fh) c.give_number_back.ensures.tree c.give_number_back.ensures.nodes c.give_number_back.ensures.handles swept.tree swept.nodes
     swept.handles swept.named)

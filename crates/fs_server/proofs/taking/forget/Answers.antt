@@ -10,5 +10,6 @@ use Rattle.fs_server.proofs.taking.forget.Goals as goal
 pub returns-in_default : goal.returns-in_default
 returns-in_default g c =
     let files = c.args.files.now in
-    let none : all_taken_back files.nodes (forgets_in c.args.nodeid (request_content c.args.body.now)) ≡ files.nodes = search rules in
+    let none : all_taken_back files.nodes (forgets_in c.args.nodeid (request_content c.args.body.now)) ≡ files.nodes =
+    search rules in
     subst (λ (n : NodeTable). Sweeps files n files.handles files) (sym none) (sweeps_none files c.requires.named)

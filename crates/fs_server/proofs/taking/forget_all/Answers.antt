@@ -5,7 +5,13 @@ use Rattle.fs_server.proofs.Sweeps.{sweeps_none, sweeps_on}
 use Rattle.fs_server.proofs.taking.forget_all.Goals as goal
 
 pub pairs-init : goal.pairs-init
-pairs-init g c = rw c.into_iter-nodeid-iterator.ensures.into_iter_gives (tt, tt, refl, enough c.args.files.now.nodes (pairs_in c.args.pairs) c.requires.enough, sweeps_none c.args.files.now c.requires.named)
+pairs-init g c = rw c.into_iter-nodeid-iterator.ensures.into_iter_gives (
+  tt,
+  tt,
+  refl,
+  enough c.args.files.now.nodes (pairs_in c.args.pairs) c.requires.enough,
+  sweeps_none c.args.files.now c.requires.named,
+)
 
 pub pairs-preserved : goal.pairs-preserved
 pairs-preserved g c =

@@ -9,6 +9,7 @@ abbrev pub invariant-pairs : goal.invariant-pairs
 invariant-pairs g l =
     (goal.iterator-pairs g).can_next l.nodeid-iterator
     × (goal.iterator-pairs g).is_finite l.nodeid-iterator
-    × (all_taken_back l.files.nodes (pairs_in l.nodeid-iterator) ≡ all_taken_back l.fn.files.nodes (pairs_in l.fn.pairs))
+    × (all_taken_back l.files.nodes (pairs_in l.nodeid-iterator)
+    ≡ all_taken_back l.fn.files.nodes (pairs_in l.fn.pairs))
     × ((id : ℕ) → forgotten id (pairs_in l.nodeid-iterator) ≤ count_in (get l.files.nodes.rows id))
     × Sweeps l.fn.files l.files.nodes l.fn.files.handles l.files

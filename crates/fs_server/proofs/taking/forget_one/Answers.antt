@@ -11,5 +11,6 @@ pub returns : goal.returns
 returns g c =
     let old = c.args.files.now in
     let swept = c.discard_unheld.ensures in
-    sweeps_from old c.take_back.new.self c.discard_unheld.new.self (taken_back old.nodes c.args.nodeid c.args.nlookup) old.handles c.take_back.ensures.tree c.take_back.ensures.nodes c.take_back.ensures.handles swept.tree swept.nodes swept.handles
+    sweeps_from old c.take_back.new.self c.discard_unheld.new.self
+    (taken_back old.nodes c.args.nodeid c.args.nlookup) old.handles c.take_back.ensures.tree c.take_back.ensures.nodes c.take_back.ensures.handles swept.tree swept.nodes swept.handles
     swept.named

@@ -5,11 +5,13 @@ use Rattle.fuse_frames.proofs.request_frame.framed.Goals as goal
 pub invariant_of-result : goal.invariant_of-result
 invariant_of-result g c =
     let w : Written (request_message c.args.request.now) c.write_request.new.out.items =
-    all_written {P = Written (request_message c.args.request.now)} c.new-bytes.result.items c.write_request.new.out.items c.new-bytes.ensures.items c.in-Ok.ensures.ok in
+    all_written {P = Written
+    (request_message c.args.request.now)} c.new-bytes.result.items c.write_request.new.out.items c.new-bytes.ensures.items c.in-Ok.ensures.ok in
     is_framed (request_message c.args.request.now) c.write_request.new.out.items c.requires.0 w c.requires.1 c.requires.2
 
 pub returns-in-Ok : goal.returns-in-Ok
 returns-in-Ok g c body e =
     let w : Written (request_message c.args.request.now) c.write_request.new.out.items =
-    all_written {P = Written (request_message c.args.request.now)} c.new-bytes.result.items c.write_request.new.out.items c.new-bytes.ensures.items c.in-Ok.ensures.ok in
+    all_written {P = Written
+    (request_message c.args.request.now)} c.new-bytes.result.items c.write_request.new.out.items c.new-bytes.ensures.items c.in-Ok.ensures.ok in
     framed_is (request_message c.args.request.now) c.write_request.new.out.items body w e

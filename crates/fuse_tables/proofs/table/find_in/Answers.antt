@@ -2,7 +2,8 @@ use Rattle.fuse_tables.proofs.Rows.{row_there, none_past, none_other}
 use Rattle.fuse_tables.proofs.table.find_in.Goals as goal
 
 pub returns-then-place-rows : goal.returns-then-place-rows
-returns-then-place-rows g c = none_past c.args.rows.now c.args.key c.place_in-place.result c.requires c.place_in-place.ensures.place c.if-place-rows.true
+returns-then-place-rows g c =
+    none_past c.args.rows.now c.args.key c.place_in-place.result c.requires c.place_in-place.ensures.place c.if-place-rows.true
 
 pub returns-then-row-key : goal.returns-then-row-key
 returns-then-row-key g c =

@@ -7,4 +7,6 @@ use Rattle.fuse_tables.proofs.table.place_in.Goals as goal
 pub returns-clause-place : goal.returns-clause-place
 returns-clause-place g c =
     place_is c.args.rows.now c.args.key c.partition_point.result c.partition_point.ensures.bound
-    (c.partition_point.ensures.partitioned (λ e. nat_lt e.0 c.args.key) (always_returns_same _ _ _ (λ a r f k. search (rules, of_calls))) (is_partitioned c.args.rows.now c.args.key c.requires))
+    (c.partition_point.ensures.partitioned (λ e. nat_lt e.0 c.args.key)
+    (always_returns_same _ _ _ (λ a r f k. search (rules, of_calls)))
+    (is_partitioned c.args.rows.now c.args.key c.requires))

@@ -5,4 +5,5 @@ use Rattle.fw_script.proofs.frame.write_frame.Goals as goal
 
 pub returns-in-Ok : goal.returns-in-Ok
 returns-in-Ok g c =
-    OnOk-map _ _ c.write_request_line.result (λ wrote. inl (request_message c.in-Ok.request, c.in-Ok.ensures.ok, wrote)) c.write_request_line.ensures
+    OnOk-map _ _ c.write_request_line.result (λ wrote. inl
+    (request_message c.in-Ok.request, c.in-Ok.ensures.ok, wrote)) c.write_request_line.ensures

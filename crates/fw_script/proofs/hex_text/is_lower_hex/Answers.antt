@@ -11,5 +11,6 @@ loop-byte-preserved c =
 
 pub returns : goal.returns
 returns c =
-    subst (λ tested. IsTrue c.loop-byte.is_hex ↔ All IsLowerDigit tested) (take_all c.loop-byte.byte-index c.args.text.now c.loop-byte-test.false)
+    subst (λ tested. IsTrue c.loop-byte.is_hex ↔ All IsLowerDigit tested)
+    (take_all c.loop-byte.byte-index c.args.text.now c.loop-byte-test.false)
     c.loop-byte.invariant

@@ -11,7 +11,8 @@ text_of line = line.now
 
 pub overflow_add-number : goal.overflow_add-number
 overflow_add-number c =
-    let fits = line_number_fits c.args.script.now (map text_of c.loop-line.yielded) (lines_left (option_copied c.loop-line.line-iterator.rest))
+    let fits = line_number_fits c.args.script.now (map text_of c.loop-line.yielded)
+    (lines_left (option_copied c.loop-line.line-iterator.rest))
     c.loop-line.invariant.split (omega (arith, c.well_formed.0.1)) in
     let same = length-map c.loop-line.yielded text_of in
     omega (arith, fits, same, c.loop-line.invariant.counted)

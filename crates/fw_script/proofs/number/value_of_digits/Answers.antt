@@ -18,21 +18,36 @@ pub returns-in_err-checked_mul-clause-none : goal.returns-in_err-checked_mul-cla
 returns-in_err-checked_mul-clause-none c =
     IfNone-always _ c.from_residual.result
     (λ all. let digit = digit_at_each c.args.word.now all c.loop-byte.byte-index c.loop-byte-test.true in
-    past_at_last c.args.word.now c.loop-byte.byte-index c.loop-byte-test.true digit (omega (arith, digit, c.loop-byte.invariant.value, c.in_err-checked_mul.ensures)))
+    past_at_last c.args.word.now c.loop-byte.byte-index c.loop-byte-test.true digit
+    (omega (arith, digit, c.loop-byte.invariant.value, c.in_err-checked_mul.ensures)))
 
 pub returns-in_err-number-clause-none : goal.returns-in_err-number-clause-none
 returns-in_err-number-clause-none c =
     IfNone-always _ c.from_residual-in_err-number.result
     (λ all. let digit = digit_at_each c.args.word.now all c.loop-byte.byte-index c.loop-byte-test.true in
     past_at_last c.args.word.now c.loop-byte.byte-index c.loop-byte-test.true digit
-    (omega (arith, digit, c.loop-byte.invariant.value, c.in_ok-checked_mul.ensures, c.in_err-number.ensures, c.from-digit.ensures)))
+    (omega (
+      arith,
+      digit,
+      c.loop-byte.invariant.value,
+      c.in_ok-checked_mul.ensures,
+      c.in_err-number.ensures,
+      c.from-digit.ensures,
+    )))
 
 pub loop-byte-preserved : goal.loop-byte-preserved
 loop-byte-preserved c =
     let more = one_more_digit c.args.word.now c.loop-byte.byte-index c.loop-byte-test.true (omega arith, omega arith) in
     record {
       fits = omega (arith, c.in_ok-number.ensures);
-      value = omega (arith, more, c.loop-byte.invariant.value, c.in_ok-checked_mul.ensures, c.in_ok-number.ensures, c.from-digit.ensures);
+      value = omega (
+        arith,
+        more,
+        c.loop-byte.invariant.value,
+        c.in_ok-checked_mul.ensures,
+        c.in_ok-number.ensures,
+        c.from-digit.ensures,
+      );
       digits = below_more _ _ c.loop-byte.invariant.digits (omega arith, omega arith);
     }
 

@@ -6,4 +6,5 @@ use Rattle.fw_script.proofs.records.write_answers.Given as goal
 
 abbrev pub invariant-loop-answer : goal.invariant-loop-answer
 invariant-loop-answer g l =
-    Appends (g.W.Write.contents l.initial.out) (g.W.Write.contents l.out) (flat_map record_text (take l.answer-index l.answers))
+    Appends (g.W.Write.contents l.initial.out) (g.W.Write.contents l.out)
+    (flat_map record_text (take l.answer-index l.answers))

@@ -6,4 +6,5 @@ use Rattle.fw_script.proofs.script.write_list.Given as goal
 
 abbrev pub invariant-loop-node : goal.invariant-loop-node
 invariant-loop-node g l =
-    Appends (g.W.Write.contents l.initial.out) (g.W.Write.contents l.out) (flat_map node_words (take l.node-index l.nodes))
+    Appends (g.W.Write.contents l.initial.out) (g.W.Write.contents l.out)
+    (flat_map node_words (take l.node-index l.nodes))

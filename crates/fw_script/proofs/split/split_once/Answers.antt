@@ -5,7 +5,8 @@ use Rattle.fw_script.proofs.split.split_once.Goals as goal
 
 pub returns-in-Some : goal.returns-in-Some
 returns-in-Some c =
-    let h = rw c.in-Some.is at (split_at_position c.args.separator c.args.text.now c.first_place.result c.first_place.ensures) in
+    let h = rw c.in-Some.is at
+    (split_at_position c.args.separator c.args.text.now c.first_place.result c.first_place.ensures) in
     grind (arith, common_steps, h.1)
 
 pub returns-in-None : goal.returns-in-None

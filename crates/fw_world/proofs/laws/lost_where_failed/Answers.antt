@@ -6,4 +6,5 @@ returns-clause-lost g c = λ s after first last events records recorded idle bef
     has_failed g.L.Link.carries g.L.Link.failed g.L.LinkInOrder.is_idle g.met.L.LinkInOrder.in_order g.met.L.LinkInOrder.stays_idle s after first last events records recorded idle before gone
 
 pub returns-clause-kept : goal.returns-clause-kept
-returns-clause-kept g c = λ s after first last events records recorded kept. not_failed g.L.Link.carries g.L.Link.failed s after first last events records recorded kept
+returns-clause-kept g c =
+    λ s after first last events records recorded kept. not_failed g.L.Link.carries g.L.Link.failed s after first last events records recorded kept

@@ -13,8 +13,12 @@ loop-call-smaller g c =
 
 pub loop-call-preserved : goal.loop-call-preserved
 loop-call-preserved g c =
-    let one = collects_one c.args.world.now c.args.records.now.items c.loop-call.world c.loop-call.records.items c.loop-call.invariant.0 c.in-Some.call c.in-Some.answer c.in-Some.ensures.answer c.collect.new.self c.add.new.records.items c.in-Some.ensures.taken c.add.ensures.items in
-    (one.collects, omega (arith, one.fewer, c.loop-call.invariant.1, c.add.ensures.len, c.add.ensures.capacity), omega (arith, one.fewer, c.loop-call.invariant.2, c.add.ensures.len), omega (arith, c.loop-call.invariant.3, c.add.ensures.capacity))
+    let one = collects_one c.args.world.now c.args.records.now.items c.loop-call.world c.loop-call.records.items c.loop-call.invariant.0 c.in-Some.call c.in-Some.answer c.in-Some.ensures.answer c.collect.new.self c.add.new.records.items c.in-Some.ensures.taken c.add.ensures.items in (
+      one.collects,
+      omega (arith, one.fewer, c.loop-call.invariant.1, c.add.ensures.len, c.add.ensures.capacity),
+      omega (arith, one.fewer, c.loop-call.invariant.2, c.add.ensures.len),
+      omega (arith, c.loop-call.invariant.3, c.add.ensures.capacity),
+    )
 
 pub returns-clause-world : goal.returns-clause-world
 returns-clause-world g c =

@@ -11,14 +11,17 @@ loop-k-init g c = (none_ran c.args.world.now c.args.events.now c.args.records.no
 
 pub loop-k-preserved : goal.loop-k-preserved
 loop-k-preserved g c = (
-  one_more c.args.world.now c.args.events.now c.args.records.now.items c.loop-k.world c.loop-k.records.items c.loop-k.k (Mount 0 0 M15) c.run_one.new.world c.run_one.new.records.items c.loop-k-test.true c.loop-k.invariant.0 (c.run_one.ensures.ran c.if-not-run_one.false),
+  one_more c.args.world.now c.args.events.now c.args.records.now.items c.loop-k.world c.loop-k.records.items c.loop-k.k
+      (Mount 0 0 M15) c.run_one.new.world c.run_one.new.records.items c.loop-k-test.true c.loop-k.invariant.0
+      (c.run_one.ensures.ran c.if-not-run_one.false),
   omega (arith, c.loop-k.invariant.1, c.run_one.ensures.room c.if-not-run_one.false),
 )
 
 pub returns-then-not-run_one-clause-ran : goal.returns-then-not-run_one-clause-ran
 returns-then-not-run_one-clause-ran g c =
     let same = c.run_one.ensures.not_run c.if-not-run_one.true in
-    comes_as_before c.args.world.now c.keeps_protocol.ensures.reached (take c.loop-k.k c.args.events.now) c.args.records.now.items c.loop-k.world c.run_one.new.world c.loop-k.records.items c.run_one.new.records.items c.loop-k.invariant.0 same.0 same.1
+    comes_as_before c.args.world.now c.keeps_protocol.ensures.reached
+    (take c.loop-k.k c.args.events.now) c.args.records.now.items c.loop-k.world c.run_one.new.world c.loop-k.records.items c.run_one.new.records.items c.loop-k.invariant.0 same.0 same.1
 
 pub returns-clause-ran : goal.returns-clause-ran
 returns-clause-ran g c =
@@ -26,10 +29,13 @@ returns-clause-ran g c =
     (all_ran c.args.world.now c.args.events.now c.loop-k.k c.loop-k-test.false c.args.records.now.items c.loop-k.world c.loop-k.records.items c.loop-k.invariant.0)
 
 pub returns-then-not-run_one-clause-full : goal.returns-then-not-run_one-clause-full
-returns-then-not-run_one-clause-full g c = omega (arith, c.loop-k.invariant.1, c.loop-k-test.true, c.run_one.ensures.full c.if-not-run_one.true)
+returns-then-not-run_one-clause-full g c = omega
+    (arith, c.loop-k.invariant.1, c.loop-k-test.true, c.run_one.ensures.full c.if-not-run_one.true)
 
 pub returns-then-not-run_one-clause-room : goal.returns-then-not-run_one-clause-room
 returns-then-not-run_one-clause-room g c =
-    let full : vec_capacity c.args.records.now < vec_len c.args.records.now + (length c.args.world.now.kernel.vfs.answers + length c.args.world.now.kernel.vfs.calls) + 2 * length c.args.events.now =
+    let full : vec_capacity c.args.records.now < vec_len c.args.records.now +
+    (length c.args.world.now.kernel.vfs.answers + length c.args.world.now.kernel.vfs.calls) + 2 * length c.args.events.now =
     omega (arith, c.loop-k.invariant.1, c.loop-k-test.true, c.run_one.ensures.full c.if-not-run_one.true) in
-    room_for_all c.args.world.now c.keeps_protocol.ensures.reached (vec_len c.args.records.now) (vec_capacity c.args.records.now) c.loop-k.k (length c.args.events.now) c.loop-k-test.true full
+    room_for_all c.args.world.now c.keeps_protocol.ensures.reached (vec_len c.args.records.now)
+    (vec_capacity c.args.records.now) c.loop-k.k (length c.args.events.now) c.loop-k-test.true full

@@ -6,7 +6,8 @@ use Rattle.fk_kernel.proofs.Numbered.{exhausted_refused}
 use Rattle.fk_kernel.proofs.kernel.KernelOf.begin.Goals as goal
 
 pub returns-then-not-is_ready-clause-refusal : goal.returns-then-not-is_ready-clause-refusal
-returns-then-not-is_ready-clause-refusal g c = unready_refused c.args.self.now c.args.call.now (sym c.is_ready.ensures ∙ c.if-not-is_ready.true)
+returns-then-not-is_ready-clause-refusal g c = unready_refused c.args.self.now c.args.call.now
+    (sym c.is_ready.ensures ∙ c.if-not-is_ready.true)
 
 pub returns-then-is_full-clause-refusal : goal.returns-then-is_full-clause-refusal
 returns-then-is_full-clause-refusal g c =

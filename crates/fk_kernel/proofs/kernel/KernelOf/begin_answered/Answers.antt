@@ -19,4 +19,10 @@ pub returns-clause-vfs : goal.returns-clause-vfs
 returns-clause-vfs g c =
     let k = c.self.inside in
     let absent = c.self.invariant.numbers.calls_below k.next_call (omega arith) in
-    rw (← c.self.view_is, c.put.ensures.entries, c.in-Ok.ensures.entries, c.new.ensures, gone_absent k.calls.entries k.next_call absent) refl
+    rw (
+      ← c.self.view_is,
+      c.put.ensures.entries,
+      c.in-Ok.ensures.entries,
+      c.new.ensures,
+      gone_absent k.calls.entries k.next_call absent,
+    ) refl

@@ -26,4 +26,22 @@ invariant_of-self-in_default-reserve-2 g c =
     let k = c.self.inside in
     let old = c.self.invariant in
     rw (c.reserve-3.ensures.state, c.reserve-2.ensures.entries, c.reserve.ensures.entries)
-    (record { numbers = record { calls_below = old.numbers.calls_below; answers_below = old.numbers.answers_below; apart = old.numbers.apart; room = omega (arith, old.numbers.room, c.reserve.ensures.kept); next = old.numbers.next }; idle = old.idle; sorted = old.sorted; files = old.files; releases = omega (arith, old.releases, c.reserve-3.ensures.kept.requests); nodes = still_counted k.nodes (g.Q.QueueTable.room k.queues).forgets (g.Q.QueueTable.room c.reserve-3.new.self).forgets old.nodes c.reserve-3.ensures.kept.forgets; clock_low = old.clock_low })
+    (record {
+      numbers = record {
+        calls_below = old.numbers.calls_below;
+        answers_below = old.numbers.answers_below;
+        apart = old.numbers.apart;
+        room = omega (arith, old.numbers.room, c.reserve.ensures.kept);
+        next =
+            old.numbers.next;
+      };
+      idle = old.idle;
+      sorted = old.sorted;
+      files = old.files;
+      releases = omega (arith, old.releases, c.reserve-3.ensures.kept.requests);
+      nodes =
+          still_counted k.nodes (g.Q.QueueTable.room k.queues).forgets
+          (g.Q.QueueTable.room c.reserve-3.new.self).forgets old.nodes c.reserve-3.ensures.kept.forgets;
+      clock_low =
+          old.clock_low;
+    })

@@ -13,7 +13,9 @@ set_out-requires-clause-closes_none g c = no_close c.args.call.now c.in_default.
 pub returns-in-Waits-clause-refusal : goal.returns-in-Waits-clause-refusal
 returns-in-Waits-clause-refusal g c =
     let asks = rw c.in-Waits.is at c.in_ok-errno.ensures.begun in
-    refused_alike c.begin_asking.result (asks_refusal c.args.self.now c.args.call.now (plain_begun c.args.self.now c.args.call.now (no_close c.args.call.now c.in_default.not-Close)) c.in-Waits.state c.requires.ready c.requires.few c.requires.number asks) c.begin_asking.ensures.refusal
+    refused_alike c.begin_asking.result (asks_refusal c.args.self.now c.args.call.now
+    (plain_begun c.args.self.now c.args.call.now
+    (no_close c.args.call.now c.in_default.not-Close)) c.in-Waits.state c.requires.ready c.requires.few c.requires.number asks) c.begin_asking.ensures.refusal
 
 pub returns-then-is_aborted-clause-refusal : goal.returns-then-is_aborted-clause-refusal
 returns-then-is_aborted-clause-refusal g c =
@@ -21,7 +23,9 @@ returns-then-is_aborted-clause-refusal g c =
     let high : k.queues.next ≤ 2 ^ 62 = rw (← c.self.view_is) c.keeps_sound.ensures.next.high in
     let aborted : is_aborted k.phase ≡ true = sym c.is_aborted.ensures ∙ c.if-is_aborted.true in
     let ends = ap (λ (b : Bool). begun b k.vfs (call_of c.args.call.now)) aborted in
-    refused_alike c.begin_answered.result (ap or_no_memory (answered_unrefused k c.args.call.now (aborted_begun k c.args.call.now aborted) (failed 107) c.requires.ready c.requires.few c.requires.number high ends)) c.begin_answered.ensures.refusal
+    refused_alike c.begin_answered.result (ap or_no_memory
+    (answered_unrefused k c.args.call.now (aborted_begun k c.args.call.now aborted)
+    (failed 107) c.requires.ready c.requires.few c.requires.number high ends)) c.begin_answered.ensures.refusal
 
 pub returns-then-is_aborted-clause-judged : goal.returns-then-is_aborted-clause-judged
 returns-then-is_aborted-clause-judged g c =
@@ -29,21 +33,27 @@ returns-then-is_aborted-clause-judged g c =
     let high : k.queues.next ≤ 2 ^ 62 = rw (← c.self.view_is) c.keeps_sound.ensures.next.high in
     let aborted : is_aborted k.phase ≡ true = sym c.is_aborted.ensures ∙ c.if-is_aborted.true in
     let ends = ap (λ (b : Bool). begun b k.vfs (call_of c.args.call.now)) aborted in
-    if_ok c.begin_answered.result (answered_unrefused k c.args.call.now (aborted_begun k c.args.call.now aborted) (failed 107) c.requires.ready c.requires.few c.requires.number high ends)
+    if_ok c.begin_answered.result (answered_unrefused k c.args.call.now (aborted_begun k c.args.call.now aborted)
+    (failed 107) c.requires.ready c.requires.few c.requires.number high ends)
 
 pub returns-in-Answered-clause-refusal : goal.returns-in-Answered-clause-refusal
 returns-in-Answered-clause-refusal g c =
     let k = c.args.self.now in
     let high : k.queues.next ≤ 2 ^ 62 = rw (← c.self.view_is) c.keeps_sound.ensures.next.high in
     let ends = rw c.in-Answered.is at c.in_ok-errno.ensures.begun in
-    refused_alike c.begin_answered-in-Answered.result (ap or_no_memory (answered_unrefused k c.args.call.now (plain_begun k c.args.call.now (no_close c.args.call.now c.in_default.not-Close)) (failed c.in-Answered.errno) c.requires.ready c.requires.few c.requires.number high ends)) c.begin_answered-in-Answered.ensures.refusal
+    refused_alike c.begin_answered-in-Answered.result
+    (ap or_no_memory (answered_unrefused k c.args.call.now
+    (plain_begun k c.args.call.now (no_close c.args.call.now c.in_default.not-Close))
+    (failed c.in-Answered.errno) c.requires.ready c.requires.few c.requires.number high ends)) c.begin_answered-in-Answered.ensures.refusal
 
 pub returns-in-Answered-clause-judged : goal.returns-in-Answered-clause-judged
 returns-in-Answered-clause-judged g c =
     let k = c.args.self.now in
     let high : k.queues.next ≤ 2 ^ 62 = rw (← c.self.view_is) c.keeps_sound.ensures.next.high in
     let ends = rw c.in-Answered.is at c.in_ok-errno.ensures.begun in
-    if_ok c.begin_answered-in-Answered.result (answered_unrefused k c.args.call.now (plain_begun k c.args.call.now (no_close c.args.call.now c.in_default.not-Close)) (failed c.in-Answered.errno) c.requires.ready c.requires.few c.requires.number high ends)
+    if_ok c.begin_answered-in-Answered.result (answered_unrefused k c.args.call.now
+    (plain_begun k c.args.call.now (no_close c.args.call.now c.in_default.not-Close))
+    (failed c.in-Answered.errno) c.requires.ready c.requires.few c.requires.number high ends)
 
 pub returns-in-Answered-clause-begun : goal.returns-in-Answered-clause-begun
 returns-in-Answered-clause-begun g c = search rules

@@ -14,10 +14,14 @@ returns-then-numbers_left-eq0-clause-refusal g c =
     let k = c.self.inside in
     let old = c.self.invariant in
     let here : get k.opens.entries c.args.handle ≡ Some c.args.opened = rw (← c.self.view_is) at c.requires.open in
-    let there : get k.opens.entries c.args.handle ≢ None = some_not_none (get k.opens.entries c.args.handle) c.args.opened here in
-    let none : get now.closing c.args.handle ≡ None = rw (← c.self.view_is) (old.files.closed_once c.args.handle there) in
-    let fresh : get now.vfs.calls now.vfs.next_call ≡ None = rw (← c.self.view_is) (old.numbers.calls_below k.next_call (omega arith)) in
-    let left : nat_eq (numbers_left_from now.queues.next) 0 ≡ true = rw (← c.self.view_is, ← c.numbers_left.ensures, c.if-numbers_left-eq0.true) refl in
+    let there : get k.opens.entries c.args.handle ≢ None =
+    some_not_none (get k.opens.entries c.args.handle) c.args.opened here in
+    let none : get now.closing c.args.handle ≡ None =
+    rw (← c.self.view_is) (old.files.closed_once c.args.handle there) in
+    let fresh : get now.vfs.calls now.vfs.next_call ≡ None =
+    rw (← c.self.view_is) (old.numbers.calls_below k.next_call (omega arith)) in
+    let left : nat_eq (numbers_left_from now.queues.next) 0 ≡ true =
+    rw (← c.self.view_is, ← c.numbers_left.ensures, c.if-numbers_left-eq0.true) refl in
     sym (idle_refusal now c.args.handle c.args.opened c.requires.not_aborted c.requires.open none fresh c.requires.ready c.requires.few c.requires.number c.requires.idle ∙ ap (λ (b : Bool). cond b Exhausted NoMemory) left)
 
 pub invariant_of-self-2 : goal.invariant_of-self-2
@@ -31,14 +35,29 @@ invariant_of-self-2 g c =
     let left = c.put.ensures.room in
     let room : length k.calls.entries ≤ c.put.new.self.room = omega (arith, few, reserved, left) in
     let numbers = sound_begun_answered k.calls.entries k.answers.entries k.answers.room k.next_call old.numbers c.new.result c.put.new.self.room low room in
-    rw (c.put.ensures.entries, c.in-Ok.ensures.entries, c.remove-file.ensures.entries, c.enqueue-unique.ensures.state, c.reserve-2.ensures.state)
+    rw (
+      c.put.ensures.entries,
+      c.in-Ok.ensures.entries,
+      c.remove-file.ensures.entries,
+      c.enqueue-unique.ensures.state,
+      c.reserve-2.ensures.state,
+    )
     (record {
       numbers = numbers;
       idle = old.idle;
       sorted = old.sorted;
-      files = numbered_files k.calls.entries _ k.closing.entries k.next_call (shut_files k.calls.entries k.opens.entries k.closing.entries k.next_call old.files c.args.handle);
-      releases = omega (arith, c.in-Ok-reserve.ensures.requests, c.enqueue-unique.ensures.requests_room, c.in-Some.ensures, c.len.ensures);
-      nodes = still_counted k.nodes (g.Q.QueueTable.room k.queues).forgets (g.Q.QueueTable.room c.enqueue-unique.new.self).forgets old.nodes (omega (arith, c.reserve-2.ensures.kept.forgets, c.enqueue-unique.ensures.forgets_room));
+      files = numbered_files k.calls.entries _ k.closing.entries k.next_call
+          (shut_files k.calls.entries k.opens.entries k.closing.entries k.next_call old.files c.args.handle);
+      releases = omega (
+        arith,
+        c.in-Ok-reserve.ensures.requests,
+        c.enqueue-unique.ensures.requests_room,
+        c.in-Some.ensures,
+        c.len.ensures,
+      );
+      nodes = still_counted k.nodes (g.Q.QueueTable.room k.queues).forgets
+          (g.Q.QueueTable.room c.enqueue-unique.new.self).forgets old.nodes
+          (omega (arith, c.reserve-2.ensures.kept.forgets, c.enqueue-unique.ensures.forgets_room));
       clock_low = old.clock_low;
     })
 
@@ -48,8 +67,21 @@ returns-clause-begun g c =
     let k = c.self.inside in
     let old = c.self.invariant in
     let here : get k.opens.entries c.args.handle ≡ Some c.args.opened = rw (← c.self.view_is) at c.requires.open in
-    let there : get k.opens.entries c.args.handle ≢ None = some_not_none (get k.opens.entries c.args.handle) c.args.opened here in
-    let none : get now.closing c.args.handle ≡ None = rw (← c.self.view_is) (old.files.closed_once c.args.handle there) in
-    let fresh : get now.vfs.calls now.vfs.next_call ≡ None = rw (← c.self.view_is) (old.numbers.calls_below k.next_call (omega arith)) in
+    let there : get k.opens.entries c.args.handle ≢ None =
+    some_not_none (get k.opens.entries c.args.handle) c.args.opened here in
+    let none : get now.closing c.args.handle ≡ None =
+    rw (← c.self.view_is) (old.files.closed_once c.args.handle there) in
+    let fresh : get now.vfs.calls now.vfs.next_call ≡ None =
+    rw (← c.self.view_is) (old.numbers.calls_below k.next_call (omega arith)) in
     let fresh_inside : get k.calls.entries k.next_call ≡ None = old.numbers.calls_below k.next_call (omega arith) in
-    rw (closes_idle now c.args.handle c.args.opened c.requires.not_aborted c.requires.open none fresh c.requires.idle, ← c.self.view_is, c.put.ensures.entries, c.in-Ok.ensures.entries, c.remove-file.ensures.entries, c.enqueue-unique.ensures.state, c.reserve-2.ensures.state, c.new.ensures, gone_absent k.calls.entries k.next_call fresh_inside) refl
+    rw (
+      closes_idle now c.args.handle c.args.opened c.requires.not_aborted c.requires.open none fresh c.requires.idle,
+      ← c.self.view_is,
+      c.put.ensures.entries,
+      c.in-Ok.ensures.entries,
+      c.remove-file.ensures.entries,
+      c.enqueue-unique.ensures.state,
+      c.reserve-2.ensures.state,
+      c.new.ensures,
+      gone_absent k.calls.entries k.next_call fresh_inside,
+    ) refl

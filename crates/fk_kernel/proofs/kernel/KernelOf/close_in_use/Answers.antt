@@ -13,9 +13,12 @@ returns-in_default-clause-refusal g c =
     let k = c.self.inside in
     let old = c.self.invariant in
     let here : get k.opens.entries c.args.handle ≡ Some c.args.opened = rw (← c.self.view_is) at c.requires.open in
-    let there : get k.opens.entries c.args.handle ≢ None = some_not_none (get k.opens.entries c.args.handle) c.args.opened here in
-    let none : get now.closing c.args.handle ≡ None = rw (← c.self.view_is) (old.files.closed_once c.args.handle there) in
-    let fresh : get now.vfs.calls now.vfs.next_call ≡ None = rw (← c.self.view_is) (old.numbers.calls_below k.next_call (omega arith)) in
+    let there : get k.opens.entries c.args.handle ≢ None =
+    some_not_none (get k.opens.entries c.args.handle) c.args.opened here in
+    let none : get now.closing c.args.handle ≡ None =
+    rw (← c.self.view_is) (old.files.closed_once c.args.handle there) in
+    let fresh : get now.vfs.calls now.vfs.next_call ≡ None =
+    rw (← c.self.view_is) (old.numbers.calls_below k.next_call (omega arith)) in
     let high : now.queues.next ≤ 2 ^ 62 = rw (← c.self.view_is) c.keeps_sound.ensures.next.high in
     let judged = used_unrefused now c.args.handle c.args.opened c.requires.not_aborted c.requires.open none fresh c.requires.ready c.requires.few c.requires.number c.requires.used high in
     sym (ap or_no_memory judged)
@@ -26,9 +29,12 @@ returns-in_default-reserve-clause-refusal g c =
     let k = c.self.inside in
     let old = c.self.invariant in
     let here : get k.opens.entries c.args.handle ≡ Some c.args.opened = rw (← c.self.view_is) at c.requires.open in
-    let there : get k.opens.entries c.args.handle ≢ None = some_not_none (get k.opens.entries c.args.handle) c.args.opened here in
-    let none : get now.closing c.args.handle ≡ None = rw (← c.self.view_is) (old.files.closed_once c.args.handle there) in
-    let fresh : get now.vfs.calls now.vfs.next_call ≡ None = rw (← c.self.view_is) (old.numbers.calls_below k.next_call (omega arith)) in
+    let there : get k.opens.entries c.args.handle ≢ None =
+    some_not_none (get k.opens.entries c.args.handle) c.args.opened here in
+    let none : get now.closing c.args.handle ≡ None =
+    rw (← c.self.view_is) (old.files.closed_once c.args.handle there) in
+    let fresh : get now.vfs.calls now.vfs.next_call ≡ None =
+    rw (← c.self.view_is) (old.numbers.calls_below k.next_call (omega arith)) in
     let high : now.queues.next ≤ 2 ^ 62 = rw (← c.self.view_is) c.keeps_sound.ensures.next.high in
     let judged = used_unrefused now c.args.handle c.args.opened c.requires.not_aborted c.requires.open none fresh c.requires.ready c.requires.few c.requires.number c.requires.used high in
     sym (ap or_no_memory judged)
@@ -39,9 +45,12 @@ returns-in_default-checked_add-clause-refusal g c =
     let k = c.self.inside in
     let old = c.self.invariant in
     let here : get k.opens.entries c.args.handle ≡ Some c.args.opened = rw (← c.self.view_is) at c.requires.open in
-    let there : get k.opens.entries c.args.handle ≢ None = some_not_none (get k.opens.entries c.args.handle) c.args.opened here in
-    let none : get now.closing c.args.handle ≡ None = rw (← c.self.view_is) (old.files.closed_once c.args.handle there) in
-    let fresh : get now.vfs.calls now.vfs.next_call ≡ None = rw (← c.self.view_is) (old.numbers.calls_below k.next_call (omega arith)) in
+    let there : get k.opens.entries c.args.handle ≢ None =
+    some_not_none (get k.opens.entries c.args.handle) c.args.opened here in
+    let none : get now.closing c.args.handle ≡ None =
+    rw (← c.self.view_is) (old.files.closed_once c.args.handle there) in
+    let fresh : get now.vfs.calls now.vfs.next_call ≡ None =
+    rw (← c.self.view_is) (old.numbers.calls_below k.next_call (omega arith)) in
     let high : now.queues.next ≤ 2 ^ 62 = rw (← c.self.view_is) c.keeps_sound.ensures.next.high in
     let judged = used_unrefused now c.args.handle c.args.opened c.requires.not_aborted c.requires.open none fresh c.requires.ready c.requires.few c.requires.number c.requires.used high in
     sym (ap or_no_memory judged)
@@ -52,9 +61,12 @@ returns-in_default-reserve-2-clause-refusal g c =
     let k = c.self.inside in
     let old = c.self.invariant in
     let here : get k.opens.entries c.args.handle ≡ Some c.args.opened = rw (← c.self.view_is) at c.requires.open in
-    let there : get k.opens.entries c.args.handle ≢ None = some_not_none (get k.opens.entries c.args.handle) c.args.opened here in
-    let none : get now.closing c.args.handle ≡ None = rw (← c.self.view_is) (old.files.closed_once c.args.handle there) in
-    let fresh : get now.vfs.calls now.vfs.next_call ≡ None = rw (← c.self.view_is) (old.numbers.calls_below k.next_call (omega arith)) in
+    let there : get k.opens.entries c.args.handle ≢ None =
+    some_not_none (get k.opens.entries c.args.handle) c.args.opened here in
+    let none : get now.closing c.args.handle ≡ None =
+    rw (← c.self.view_is) (old.files.closed_once c.args.handle there) in
+    let fresh : get now.vfs.calls now.vfs.next_call ≡ None =
+    rw (← c.self.view_is) (old.numbers.calls_below k.next_call (omega arith)) in
     let high : now.queues.next ≤ 2 ^ 62 = rw (← c.self.view_is) c.keeps_sound.ensures.next.high in
     let judged = used_unrefused now c.args.handle c.args.opened c.requires.not_aborted c.requires.open none fresh c.requires.ready c.requires.few c.requires.number c.requires.used high in
     sym (ap or_no_memory judged)
@@ -74,14 +86,23 @@ invariant_of-self-2 g c =
     let there = some_not_none (get k.opens.entries c.args.handle) c.args.opened here in
     let long = length_put k.closing.entries c.args.handle c.args.opened in
     let closed = rw c.in-Ok-reserve.ensures.entries at c.len.ensures in
-    rw (c.put-2.ensures.entries, c.in-Ok.ensures.entries, c.remove-file.ensures.entries, c.put.ensures.entries, c.in-Ok-reserve.ensures.entries, c.reserve-3.ensures.state)
+    rw (
+      c.put-2.ensures.entries,
+      c.in-Ok.ensures.entries,
+      c.remove-file.ensures.entries,
+      c.put.ensures.entries,
+      c.in-Ok-reserve.ensures.entries,
+      c.reserve-3.ensures.state,
+    )
     (record {
       numbers = numbers;
       idle = old.idle;
       sorted = old.sorted;
-      files = numbered_files k.calls.entries _ _ k.next_call (closed_files k.calls.entries k.opens.entries k.closing.entries k.next_call old.files c.args.handle c.args.opened there);
+      files = numbered_files k.calls.entries _ _ k.next_call
+          (closed_files k.calls.entries k.opens.entries k.closing.entries k.next_call old.files c.args.handle c.args.opened there);
       releases = omega (arith, long, c.in-Ok-reserve-2.ensures.requests, c.in-Some.ensures, closed);
-      nodes = still_counted k.nodes (g.Q.QueueTable.room k.queues).forgets (g.Q.QueueTable.room c.reserve-3.new.self).forgets old.nodes c.reserve-3.ensures.kept.forgets;
+      nodes = still_counted k.nodes (g.Q.QueueTable.room k.queues).forgets
+          (g.Q.QueueTable.room c.reserve-3.new.self).forgets old.nodes c.reserve-3.ensures.kept.forgets;
       clock_low = old.clock_low;
     })
 
@@ -91,9 +112,12 @@ returns-clause-judged g c =
     let k = c.self.inside in
     let old = c.self.invariant in
     let here : get k.opens.entries c.args.handle ≡ Some c.args.opened = rw (← c.self.view_is) at c.requires.open in
-    let there : get k.opens.entries c.args.handle ≢ None = some_not_none (get k.opens.entries c.args.handle) c.args.opened here in
-    let none : get now.closing c.args.handle ≡ None = rw (← c.self.view_is) (old.files.closed_once c.args.handle there) in
-    let fresh : get now.vfs.calls now.vfs.next_call ≡ None = rw (← c.self.view_is) (old.numbers.calls_below k.next_call (omega arith)) in
+    let there : get k.opens.entries c.args.handle ≢ None =
+    some_not_none (get k.opens.entries c.args.handle) c.args.opened here in
+    let none : get now.closing c.args.handle ≡ None =
+    rw (← c.self.view_is) (old.files.closed_once c.args.handle there) in
+    let fresh : get now.vfs.calls now.vfs.next_call ≡ None =
+    rw (← c.self.view_is) (old.numbers.calls_below k.next_call (omega arith)) in
     let high : now.queues.next ≤ 2 ^ 62 = rw (← c.self.view_is) c.keeps_sound.ensures.next.high in
     let judged = used_unrefused now c.args.handle c.args.opened c.requires.not_aborted c.requires.open none fresh c.requires.ready c.requires.few c.requires.number c.requires.used high in
     judged
@@ -104,8 +128,11 @@ returns-clause-begun g c =
     let k = c.self.inside in
     let old = c.self.invariant in
     let here : get k.opens.entries c.args.handle ≡ Some c.args.opened = rw (← c.self.view_is) at c.requires.open in
-    let there : get k.opens.entries c.args.handle ≢ None = some_not_none (get k.opens.entries c.args.handle) c.args.opened here in
-    let none : get now.closing c.args.handle ≡ None = rw (← c.self.view_is) (old.files.closed_once c.args.handle there) in
-    let fresh : get now.vfs.calls now.vfs.next_call ≡ None = rw (← c.self.view_is) (old.numbers.calls_below k.next_call (omega arith)) in
+    let there : get k.opens.entries c.args.handle ≢ None =
+    some_not_none (get k.opens.entries c.args.handle) c.args.opened here in
+    let none : get now.closing c.args.handle ≡ None =
+    rw (← c.self.view_is) (old.files.closed_once c.args.handle there) in
+    let fresh : get now.vfs.calls now.vfs.next_call ≡ None =
+    rw (← c.self.view_is) (old.numbers.calls_below k.next_call (omega arith)) in
     let fresh_inside : get k.calls.entries k.next_call ≡ None = old.numbers.calls_below k.next_call (omega arith) in
     rw (closes_in_use now c.args.handle c.args.opened c.requires.not_aborted c.requires.open none fresh c.requires.used, ← c.self.view_is, c.put-2.ensures.entries, c.in-Ok.ensures.entries, c.remove-file.ensures.entries, c.put.ensures.entries, c.in-Ok-reserve.ensures.entries, c.reserve-3.ensures.state, c.new.ensures, gone_absent k.calls.entries k.next_call fresh_inside) refl

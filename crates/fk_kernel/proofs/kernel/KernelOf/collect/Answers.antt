@@ -23,7 +23,8 @@ pub returns-in_default-remove-clause-answer : goal.returns-in_default-remove-cla
 returns-in_default-remove-clause-answer g c =
     let entries = c.self.inside.answers.entries in
     let first = sym c.first_key.ensures ∙ c.in-Some.is in
-    rw (← c.self.view_is) (first_found entries c.in-Some.call None first (sym c.in_default-remove.is ∙ c.remove.ensures.value))
+    rw (← c.self.view_is) (first_found entries c.in-Some.call None first
+    (sym c.in_default-remove.is ∙ c.remove.ensures.value))
 
 pub returns-in_default-remove-clause-none : goal.returns-in_default-remove-clause-none
 returns-in_default-remove-clause-none g c =
@@ -35,4 +36,5 @@ pub returns-clause-answer : goal.returns-clause-answer
 returns-clause-answer g c =
     let entries = c.self.inside.answers.entries in
     let first = sym c.first_key.ensures ∙ c.in-Some.is in
-    rw (← c.self.view_is, c.into_answer.ensures) (first_found entries c.in-Some.call (Some c.in-Some-remove.answer) first (sym c.in-Some-remove.is ∙ c.remove.ensures.value))
+    rw (← c.self.view_is, c.into_answer.ensures) (first_found entries c.in-Some.call
+    (Some c.in-Some-remove.answer) first (sym c.in-Some-remove.is ∙ c.remove.ensures.value))

@@ -10,5 +10,6 @@ use Rattle.fk_kernel.proofs.kernel.KernelOf.counts_past.Goals as goal
 pub returns-in-ListedPlus : goal.returns-in-ListedPlus
 returns-in-ListedPlus g c =
     let nodes = c.args.self.now.nodes in
-    pairs_out nodes (pairs_in c.in-ListedPlus.pairs) c.counts_within.ensures.sorted c.listed_count_out.result (rw (← c.self.view_is) c.listed_count_out.ensures.out) (rw (← c.self.view_is) c.listed_count_out.ensures.within)
+    pairs_out nodes (pairs_in c.in-ListedPlus.pairs) c.counts_within.ensures.sorted c.listed_count_out.result
+    (rw (← c.self.view_is) c.listed_count_out.ensures.out) (rw (← c.self.view_is) c.listed_count_out.ensures.within)
     ∙ ap (λ (said : ReplySaid). is_out (nodes_heard nodes (wire_of said))) (sym c.in-ListedPlus.is)

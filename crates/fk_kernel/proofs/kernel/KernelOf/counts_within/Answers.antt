@@ -8,4 +8,5 @@ pub returns-clause-below : goal.returns-clause-below
 returns-clause-below g c = rw (← c.self.view_is) c.self.invariant.nodes.below
 
 pub returns-clause-none_out : goal.returns-clause-none_out
-returns-clause-none_out g c = rw (← c.self.view_is) (none_out c.self.inside.nodes c.are_sorted.ensures c.self.invariant.nodes.below)
+returns-clause-none_out g c = rw (← c.self.view_is)
+    (none_out c.self.inside.nodes c.are_sorted.ensures c.self.invariant.nodes.below)

@@ -12,17 +12,22 @@ returns-in-Usable g c =
     let nodes = c.args.self.now.nodes in
     let entry = c.args.entry.now in
     let within = c.counts_within.ensures in
-    let told = one_out nodes entry within.sorted (sorted_put nodes entry.nodeid (counted_more entry (get nodes entry.nodeid)) within.sorted) within.below c.counts_out.result (rw (← c.self.view_is) (sym c.counts_out.ensures)) in
-    sym (ap (λ (u : Use). is_out (learnt_by_all nodes (entry ∷ []) (first_use u usable))) (sym c.in-Usable.ensures) ∙ told)
+    let told = one_out nodes entry within.sorted (sorted_put nodes entry.nodeid
+    (counted_more entry (get nodes entry.nodeid)) within.sorted) within.below c.counts_out.result
+    (rw (← c.self.view_is) (sym c.counts_out.ensures)) in
+    sym (ap (λ (u : Use). is_out (learnt_by_all nodes (entry ∷ []) (first_use u usable)))
+    (sym c.in-Usable.ensures) ∙ told)
 
 pub returns-in-Useless : goal.returns-in-Useless
 returns-in-Useless g c =
     let nodes = c.args.self.now.nodes in
     let entry = c.args.entry.now in
-    sym (ap (λ (u : Use). is_out (learnt_by_all nodes (entry ∷ []) (first_use u usable))) (sym c.in-Useless.ensures) ∙ c.counts_within.ensures.none_out)
+    sym (ap (λ (u : Use). is_out (learnt_by_all nodes (entry ∷ []) (first_use u usable)))
+    (sym c.in-Useless.ensures) ∙ c.counts_within.ensures.none_out)
 
 pub returns-in-Stale : goal.returns-in-Stale
 returns-in-Stale g c =
     let nodes = c.args.self.now.nodes in
     let entry = c.args.entry.now in
-    sym (ap (λ (u : Use). is_out (learnt_by_all nodes (entry ∷ []) (first_use u usable))) (sym c.in-Stale.ensures) ∙ c.counts_within.ensures.none_out)
+    sym (ap (λ (u : Use). is_out (learnt_by_all nodes (entry ∷ []) (first_use u usable)))
+    (sym c.in-Stale.ensures) ∙ c.counts_within.ensures.none_out)

@@ -7,4 +7,15 @@ invariant_of-self g c =
     let old = c.self.invariant in
     let there = is_there c.self.inside.nodes c.args.node c.in-Some-evict.count c.in-Some-evict.ensures.count in
     rw (c.forget.ensures.state, c.evict.ensures.nodes)
-    (record { numbers = old.numbers; idle = old.idle; sorted = old.sorted; files = old.files; releases = omega (arith, old.releases, c.forget.ensures.requests_room); nodes = evicted_counted c.self.inside.nodes c.args.node (g.Q.QueueTable.room c.self.inside.queues).forgets (g.Q.QueueTable.room c.forget.new.self).forgets old.nodes there c.forget.ensures.forgets_room; clock_low = old.clock_low })
+    (record {
+      numbers = old.numbers;
+      idle = old.idle;
+      sorted = old.sorted;
+      files = old.files;
+      releases = omega (arith, old.releases, c.forget.ensures.requests_room);
+      nodes =
+          evicted_counted c.self.inside.nodes c.args.node (g.Q.QueueTable.room c.self.inside.queues).forgets
+          (g.Q.QueueTable.room c.forget.new.self).forgets old.nodes there c.forget.ensures.forgets_room;
+      clock_low =
+          old.clock_low;
+    })

@@ -21,22 +21,33 @@ invariant_of-self-2 g c =
     let s = g.Q.QueueTable.state k.queues in
     let old = c.self.invariant in
     let made = c.requires.creates in
-    let here : get k.calls.entries c.args.call ≡ Some (doing (create made.directory made.name)) = rw (← c.self.view_is) at made.is in
+    let here : get k.calls.entries c.args.call ≡ Some (doing (create made.directory made.name)) =
+    rw (← c.self.view_is) at made.is in
     let waits : is_some (waiting s c.args.unique) ≡ true = rw (← c.self.view_is) at (ap is_some c.requires.waits) in
     let there = some_not_none (get k.calls.entries c.args.call) (doing (create made.directory made.name)) here in
     let kept = c.answer-kept.ensures.room.forgets in
     let reserved = c.in-Ok.ensures.forgets in
     let most = c.most.ensures in
-    let room : length k.nodes + 1 ≤ (g.Q.QueueTable.room c.answer-kept.new.self).forgets = omega (arith, c.in-Some.ensures) in
+    let room : length k.nodes + 1 ≤ (g.Q.QueueTable.room c.answer-kept.new.self).forgets =
+    omega (arith, c.in-Some.ensures) in
     let fits = rw (← c.self.view_is) at c.requires.fits in
-    rw (c.answer-kept.ensures.state, c.reserve.ensures.state, c.in-Ok-bind_entry.ensures.nodes, c.remove-state.ensures.entries, c.put.ensures.entries, c.in-Ok-reserve.ensures.entries, c.put-2.ensures.entries)
+    rw (
+      c.answer-kept.ensures.state,
+      c.reserve.ensures.state,
+      c.in-Ok-bind_entry.ensures.nodes,
+      c.remove-state.ensures.entries,
+      c.put.ensures.entries,
+      c.in-Ok-reserve.ensures.entries,
+      c.put-2.ensures.entries,
+    )
     (record {
       numbers = sound_answered k.calls.entries k.answers.entries k.answers.room k.next_call old.numbers c.args.call c.new.result c.put-2.new.self.room there c.put-2.ensures.room;
       idle = λ down. rw (old.idle down) refl;
       sorted = sorted_gone k.calls.entries c.args.call old.sorted;
       files = opened_files k.calls.entries k.opens.entries k.closing.entries k.next_call old.files old.numbers.calls_below c.args.call (record { nodeid = c.args.entry.now.nodeid; fh = c.args.fh }) there;
       releases = omega (arith, old.releases, c.reserve.ensures.kept.requests, c.answer-kept.ensures.room.requests);
-      nodes = learnt_counted k.nodes (g.Q.QueueTable.room k.queues).forgets (g.Q.QueueTable.room c.answer-kept.new.self).forgets old.nodes room c.args.entry.now fits;
+      nodes = learnt_counted k.nodes (g.Q.QueueTable.room k.queues).forgets
+          (g.Q.QueueTable.room c.answer-kept.new.self).forgets old.nodes room c.args.entry.now fits;
       clock_low = old.clock_low;
     })
 
@@ -46,14 +57,31 @@ returns-clause-ok g c =
     let s = g.Q.QueueTable.state k.queues in
     let old = c.self.invariant in
     let made = c.requires.creates in
-    let here : get k.calls.entries c.args.call ≡ Some (doing (create made.directory made.name)) = rw (← c.self.view_is) at made.is in
+    let here : get k.calls.entries c.args.call ≡ Some (doing (create made.directory made.name)) =
+    rw (← c.self.view_is) at made.is in
     let waits : is_some (waiting s c.args.unique) ≡ true = rw (← c.self.view_is) at (ap is_some c.requires.waits) in
     let low = c.self.invariant.clock_low in
     let day = c.requires.day in
-    let until : c.saturating_add-until.result ≡ k.clock + c.args.valid_ms = omega (arith, c.saturating_add-until.ensures) in
-    let names = c.in-Ok-bind_entry.ensures.names (doing (create made.directory made.name)) (made.directory, made.name) here refl in
-    rw (c.answer-kept.ensures.state, c.reserve.ensures.state, answered_is s c.args.unique waits, names, until, c.in-Ok-bind_entry.ensures.nodes, c.remove-state.ensures.entries, c.put.ensures.entries, c.in-Ok-reserve.ensures.entries, c.put-2.ensures.entries, c.new.ensures, ← c.self.view_is)
-    (rw (← c.self.view_is) at (create_made c.args.self.now c.args.unique c.args.call c.requires.even c.requires.waits made.directory made.name made.is c.args.entry.now c.args.valid_ms c.args.fh c.requires.usable))
+    let until : c.saturating_add-until.result ≡ k.clock + c.args.valid_ms =
+    omega (arith, c.saturating_add-until.ensures) in
+    let names = c.in-Ok-bind_entry.ensures.names (doing (create made.directory made.name))
+    (made.directory, made.name) here refl in
+    rw (
+      c.answer-kept.ensures.state,
+      c.reserve.ensures.state,
+      answered_is s c.args.unique waits,
+      names,
+      until,
+      c.in-Ok-bind_entry.ensures.nodes,
+      c.remove-state.ensures.entries,
+      c.put.ensures.entries,
+      c.in-Ok-reserve.ensures.entries,
+      c.put-2.ensures.entries,
+      c.new.ensures,
+      ← c.self.view_is,
+    )
+    (rw (← c.self.view_is) at
+    (create_made c.args.self.now c.args.unique c.args.call c.requires.even c.requires.waits made.directory made.name made.is c.args.entry.now c.args.valid_ms c.args.fh c.requires.usable))
 
 pub bind_entry-requires-clause-fits : goal.bind_entry-requires-clause-fits
 bind_entry-requires-clause-fits g c = λ x at.

@@ -15,16 +15,24 @@ invariant_of-self-2 g c =
     let k = c.self.inside in
     let s = g.Q.QueueTable.state k.queues in
     let old = c.self.invariant in
-    let here : get k.calls.entries c.args.call ≡ Some (doing (opening c.requires.opens.node)) = rw (← c.self.view_is) at c.requires.opens.is in
+    let here : get k.calls.entries c.args.call ≡ Some (doing (opening c.requires.opens.node)) =
+    rw (← c.self.view_is) at c.requires.opens.is in
     let there = some_not_none (get k.calls.entries c.args.call) (doing (opening c.requires.opens.node)) here in
-    rw (c.answer-kept.ensures.state, c.remove-state.ensures.entries, c.put.ensures.entries, c.in-Ok.ensures.entries, c.put-2.ensures.entries)
+    rw (
+      c.answer-kept.ensures.state,
+      c.remove-state.ensures.entries,
+      c.put.ensures.entries,
+      c.in-Ok.ensures.entries,
+      c.put-2.ensures.entries,
+    )
     (record {
       numbers = sound_answered k.calls.entries k.answers.entries k.answers.room k.next_call old.numbers c.args.call c.new.result c.put-2.new.self.room there c.put-2.ensures.room;
       idle = λ down. rw (old.idle down) refl;
       sorted = sorted_gone k.calls.entries c.args.call old.sorted;
       files = opened_files k.calls.entries k.opens.entries k.closing.entries k.next_call old.files old.numbers.calls_below c.args.call (record { nodeid = c.node_opened-nodeid.result; fh = c.args.fh }) there;
       releases = omega (arith, old.releases, c.answer-kept.ensures.room.requests);
-      nodes = still_counted k.nodes (g.Q.QueueTable.room k.queues).forgets (g.Q.QueueTable.room c.answer-kept.new.self).forgets old.nodes c.answer-kept.ensures.room.forgets;
+      nodes = still_counted k.nodes (g.Q.QueueTable.room k.queues).forgets
+          (g.Q.QueueTable.room c.answer-kept.new.self).forgets old.nodes c.answer-kept.ensures.room.forgets;
       clock_low = old.clock_low;
     })
 
@@ -35,5 +43,16 @@ returns-clause-ok g c =
     let o = c.requires.opens in
     let waits : is_some (waiting s c.args.unique) ≡ true = rw (← c.self.view_is) at (ap is_some c.requires.waits) in
     let node = c.node_opened-nodeid.ensures o.node o.is in
-    rw (c.answer-kept.ensures.state, answered_is s c.args.unique waits, c.remove-state.ensures.entries, c.put.ensures.entries, c.in-Ok.ensures.entries, c.put-2.ensures.entries, c.new.ensures, node, ← c.self.view_is)
-    (rw (← c.self.view_is) at (open_done c.args.self.now c.args.unique c.args.call c.requires.even c.requires.waits o.node o.is c.args.fh))
+    rw (
+      c.answer-kept.ensures.state,
+      answered_is s c.args.unique waits,
+      c.remove-state.ensures.entries,
+      c.put.ensures.entries,
+      c.in-Ok.ensures.entries,
+      c.put-2.ensures.entries,
+      c.new.ensures,
+      node,
+      ← c.self.view_is,
+    )
+    (rw (← c.self.view_is) at
+    (open_done c.args.self.now c.args.unique c.args.call c.requires.even c.requires.waits o.node o.is c.args.fh))

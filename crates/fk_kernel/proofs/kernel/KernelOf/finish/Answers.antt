@@ -9,7 +9,8 @@ use Rattle.fk_kernel.proofs.kernel.KernelOf.finish.Goals as goal
 pub answer-requires-clause-absent : goal.answer-requires-clause-absent
 answer-requires-clause-absent g c =
     let k = c.self.inside in
-    c.self.invariant.numbers.apart c.args.call (there_is (get k.calls.entries c.args.call) (rw (← c.self.view_is) at c.requires.unanswered))
+    c.self.invariant.numbers.apart c.args.call (there_is (get k.calls.entries c.args.call)
+    (rw (← c.self.view_is) at c.requires.unanswered))
 
 pub answer-requires-clause-room : goal.answer-requires-clause-room
 answer-requires-clause-room g c =
@@ -24,7 +25,8 @@ invariant_of-self g c =
     let old = c.self.invariant in
     rw (c.answer.ensures.calls, c.answer.ensures.answers)
     (record {
-      numbers = sound_answered k.calls.entries k.answers.entries k.answers.room k.next_call old.numbers c.args.call (answer_of c.args.answer) c.answer.new.answers.room there c.answer.ensures.room;
+      numbers = sound_answered k.calls.entries k.answers.entries k.answers.room k.next_call old.numbers c.args.call
+          (answer_of c.args.answer) c.answer.new.answers.room there c.answer.ensures.room;
       idle = λ down. rw (old.idle down) refl;
       sorted = sorted_gone k.calls.entries c.args.call old.sorted;
       files = answered_files k.calls.entries k.opens.entries k.closing.entries k.next_call old.files c.args.call;

@@ -17,7 +17,8 @@ returns-in-Some g c = λ state at.
     let k = c.args.self.now in
     let done : Kernel = record k { vfs = answered k.vfs c.args.call (answer_of c.args.answer) } in
     let u = using_of state c.in-Some.handle (sym (c.used_by-handle.ensures.used state at) ∙ c.in-Some.is) in
-    c.release_if_idle.ensures ∙ ap (λ (n : Kernel). released_if_idle n c.in-Some.handle) c.finish.ensures ∙ ap (after_use done) (sym u.1)
+    c.release_if_idle.ensures ∙ ap (λ (n : Kernel). released_if_idle n c.in-Some.handle) c.finish.ensures ∙ ap
+    (after_use done) (sym u.1)
 
 pub returns-in_default : goal.returns-in_default
 returns-in_default g c = λ state at.

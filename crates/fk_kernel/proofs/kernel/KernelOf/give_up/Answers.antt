@@ -10,5 +10,13 @@ answer_all-requires-clause-absent g c = rw c.rows.ensures c.self.invariant.numbe
 pub invariant_of-self : goal.invariant_of-self
 invariant_of-self g c =
     let k = c.self.inside in
-    rw (c.clear.ensures.entries, c.answer_all.ensures, c.rows.ensures, c.abort.ensures, c.clear-2.ensures.entries, c.clear-3.ensures.entries, c.clear-5.ensures)
+    rw (
+      c.clear.ensures.entries,
+      c.answer_all.ensures,
+      c.rows.ensures,
+      c.abort.ensures,
+      c.clear-2.ensures.entries,
+      c.clear-3.ensures.entries,
+      c.clear-5.ensures,
+    )
     (sound_aborted k.phase k.calls.entries k.answers.entries k.answers.room c.answer_all.new.answers.room k.next_call k.opens.entries k.closing.entries (g.Q.QueueTable.state k.queues) (g.Q.QueueTable.room k.queues) (g.Q.QueueTable.room c.abort.new.self) k.nodes k.clock c.self.invariant)

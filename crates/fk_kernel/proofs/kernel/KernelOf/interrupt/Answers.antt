@@ -10,20 +10,23 @@ pub returns-clause-signalled : goal.returns-clause-signalled
 returns-clause-signalled g c =
     let k = c.args.self.now in
     let there : is_some (get k.vfs.calls c.args.call) ≡ true = search rules in
-    signalled_there k c.args.call c.args.fatal c.signal-effect.result c.signal-effect.new.self (get k.vfs.calls c.args.call) refl there c.signal-effect.ensures
+    signalled_there k c.args.call c.args.fatal c.signal-effect.result c.signal-effect.new.self
+    (get k.vfs.calls c.args.call) refl there c.signal-effect.ensures
 
 pub returns-in_default-clause-signalled : goal.returns-in_default-clause-signalled
 returns-in_default-clause-signalled g c =
     let k = c.args.self.now in
     let there : is_some (get k.vfs.calls c.args.call) ≡ true = search rules in
     let none : request_of k c.args.call ≡ None = rw (← c.self.view_is) (sym c.request_for.ensures ∙ c.in_default.is) in
-    signalled_there k c.args.call c.args.fatal NoEffect k (get k.vfs.calls c.args.call) refl there (λ state at. unrequested k c.args.call state c.args.fatal none)
+    signalled_there k c.args.call c.args.fatal NoEffect k (get k.vfs.calls c.args.call) refl there
+    (λ state at. unrequested k c.args.call state c.args.fatal none)
 
 pub returns-then-signal_ends_past-clause-refusal : goal.returns-then-signal_ends_past-clause-refusal
 returns-then-signal_ends_past-clause-refusal g c =
     let k = c.args.self.now in
     let live : is_live k.phase ≡ true = search rules in
-    let current : request_of k c.args.call ≡ Some c.in-Some.unique = rw (← c.self.view_is) (sym c.request_for.ensures ∙ c.in-Some.is) in
+    let current : request_of k c.args.call ≡ Some c.in-Some.unique =
+    rw (← c.self.view_is) (sym c.request_for.ensures ∙ c.in-Some.is) in
     let past = c.signal_ends_past.ensures.past c.if-signal_ends_past.true in
     exhausted k c.args.call c.in-Some.unique c.args.fatal current past.0 past.1 live
 

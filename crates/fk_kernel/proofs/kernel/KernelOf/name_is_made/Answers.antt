@@ -10,8 +10,12 @@ use Rattle.fk_kernel.proofs.kernel.KernelOf.name_is_made.Goals as goal
 
 pub bind_entry-requires-clause-names_one : goal.bind_entry-requires-clause-names_one
 bind_entry-requires-clause-names_one g c =
-    let makes = c.requires.makes in
-    (doing makes.operation, makes.place, rw (← c.self.view_is) at makes.is, makes_place makes.operation makes.place makes.makes)
+    let makes = c.requires.makes in (
+      doing makes.operation,
+      makes.place,
+      rw (← c.self.view_is) at makes.is,
+      makes_place makes.operation makes.place makes.makes,
+    )
 
 pub invariant_of-self-2 : goal.invariant_of-self-2
 invariant_of-self-2 g c =
@@ -22,7 +26,8 @@ invariant_of-self-2 g c =
     let kept = c.answer-kept.ensures.room.forgets in
     let reserved = c.in-Ok.ensures.forgets in
     let most = c.most.ensures in
-    let room : length k.nodes + 1 ≤ (g.Q.QueueTable.room c.answer-kept.new.self).forgets = omega (arith, c.in-Some.ensures) in
+    let room : length k.nodes + 1 ≤ (g.Q.QueueTable.room c.answer-kept.new.self).forgets =
+    omega (arith, c.in-Some.ensures) in
     let fits = rw (← c.self.view_is) at c.requires.fits in
     rw (c.answer-kept.ensures.state, c.reserve.ensures.state, c.in-Ok-bind_entry.ensures.nodes)
     (record {
@@ -31,7 +36,8 @@ invariant_of-self-2 g c =
       sorted = old.sorted;
       files = old.files;
       releases = omega (arith, old.releases, c.reserve.ensures.kept.requests, c.answer-kept.ensures.room.requests);
-      nodes = learnt_counted k.nodes (g.Q.QueueTable.room k.queues).forgets (g.Q.QueueTable.room c.answer-kept.new.self).forgets old.nodes room c.args.entry.now fits;
+      nodes = learnt_counted k.nodes (g.Q.QueueTable.room k.queues).forgets
+          (g.Q.QueueTable.room c.answer-kept.new.self).forgets old.nodes room c.args.entry.now fits;
       clock_low = old.clock_low;
     })
 
@@ -44,10 +50,22 @@ returns-clause-ok g c =
     let here : get k.calls.entries c.args.call ≡ Some (doing makes.operation) = rw (← c.self.view_is) at makes.is in
     let low = c.self.invariant.clock_low in
     let day = c.requires.day in
-    let until : c.saturating_add-until.result ≡ k.clock + c.args.valid_ms = omega (arith, c.saturating_add-until.ensures) in
-    let names = c.in-Ok-bind_entry.ensures.names (doing makes.operation) makes.place here (makes_place makes.operation makes.place makes.makes) in
-    rw (c.finish.ensures, c.answer-kept.ensures.state, c.reserve.ensures.state, answered_is s c.args.unique waits, names, until, c.in-Ok-bind_entry.ensures.nodes, ← c.self.view_is)
-    (rw (← c.self.view_is) at (made_found c.args.self.now c.args.unique c.args.call c.requires.even c.requires.waits makes.operation makes.place makes.makes makes.is c.args.entry.now c.args.valid_ms c.requires.usable))
+    let until : c.saturating_add-until.result ≡ k.clock + c.args.valid_ms =
+    omega (arith, c.saturating_add-until.ensures) in
+    let names = c.in-Ok-bind_entry.ensures.names (doing makes.operation) makes.place here
+    (makes_place makes.operation makes.place makes.makes) in
+    rw (
+      c.finish.ensures,
+      c.answer-kept.ensures.state,
+      c.reserve.ensures.state,
+      answered_is s c.args.unique waits,
+      names,
+      until,
+      c.in-Ok-bind_entry.ensures.nodes,
+      ← c.self.view_is,
+    )
+    (rw (← c.self.view_is) at
+    (made_found c.args.self.now c.args.unique c.args.call c.requires.even c.requires.waits makes.operation makes.place makes.makes makes.is c.args.entry.now c.args.valid_ms c.requires.usable))
 
 pub bind_entry-requires-clause-fits : goal.bind_entry-requires-clause-fits
 bind_entry-requires-clause-fits g c = λ x at.

@@ -16,7 +16,8 @@ use Rattle.fk_kernel.proofs.CallStates.{asked_is, lists_from}
 use Rattle.fk_kernel.proofs.kernel.KernelOf.pairs_listed.Goals as goal
 
 pub learn_and_bind-requires-clause-below : goal.learn_and_bind-requires-clause-below
-learn_and_bind-requires-clause-below g c = rw (← c.self.view_is) at (pairs_below c.args.self.now.nodes (pairs_in c.args.pairs) c.requires.counts)
+learn_and_bind-requires-clause-below g c = rw (← c.self.view_is) at
+    (pairs_below c.args.self.now.nodes (pairs_in c.args.pairs) c.requires.counts)
 
 pub invariant_of-self-2 : goal.invariant_of-self-2
 invariant_of-self-2 g c =
@@ -28,14 +29,21 @@ invariant_of-self-2 g c =
     let given = c.forget_stale.ensures.forgets in
     let reserved = c.in-Ok-reserve.ensures.forgets in
     let most = c.most.ensures in
-    let room : length k.nodes + length pairs ≤ (g.Q.QueueTable.room c.answer-kept.new.self).forgets = omega (arith, c.in-Some.ensures, c.pair_count.ensures) in
+    let room : length k.nodes + length pairs ≤ (g.Q.QueueTable.room c.answer-kept.new.self).forgets =
+    omega (arith, c.in-Some.ensures, c.pair_count.ensures) in
     rw c.in-Ok-learn_and_bind.ensures.nodes
     (record {
       numbers = old.numbers;
       idle = old.idle;
       sorted = old.sorted;
       files = old.files;
-      releases = omega (arith, old.releases, c.reserve.ensures.kept.requests, c.forget_stale.ensures.requests, c.answer-kept.ensures.room.requests);
+      releases = omega (
+        arith,
+        old.releases,
+        c.reserve.ensures.kept.requests,
+        c.forget_stale.ensures.requests,
+        c.answer-kept.ensures.room.requests,
+      );
       nodes = listed_counted k.nodes (g.Q.QueueTable.room c.answer-kept.new.self).forgets pairs below room;
       clock_low = old.clock_low;
     })
@@ -52,9 +60,23 @@ returns-clause-ok g c =
     let at : get now.vfs.calls c.args.call ≡ Some (doing asks) = aw.at ∙ lists.is in
     let state : aw.state ≡ doing asks = cc (lists.is) in
     let same : aw.operation ≡ asks = sym (asked_is aw.operation aw.state aw.stands) ∙ ap asked state in
-    let goes : goes_with asks (reply.listed_plus pairs) ≡ true = subst (λ (o : Operation ℕ Opened). goes_with o (reply.listed_plus pairs) ≡ true) same aw.goes in
-    let directory : c.directory_listed-directory.result ≡ lists.directory = c.directory_listed-directory.ensures lists.directory lists.after lists.size at in
+    let goes : goes_with asks (reply.listed_plus pairs) ≡ true =
+    subst (λ (o : Operation ℕ Opened). goes_with o (reply.listed_plus pairs) ≡ true) same aw.goes in
+    let directory : c.directory_listed-directory.result ≡ lists.directory =
+    c.directory_listed-directory.ensures lists.directory lists.after lists.size at in
     let waits : is_some (waiting s c.args.unique) ≡ true = rw (← c.self.view_is) at (ap is_some c.requires.waits) in
     let stale = stale_by (learnt_from k.nodes pairs) pairs in
-    rw (c.finish.ensures, c.answer-kept.ensures.state, c.forget_stale.ensures.state, c.reserve.ensures.state, c.in-Ok-learn_and_bind.ensures.names, c.in-Ok-learn_and_bind.ensures.nodes, answered_is (each_forgotten s stale) c.args.unique waits, directory, c.in-Ok.ensures, ← c.self.view_is)
-    (rw (← c.self.view_is) at (list_done now c.args.unique c.args.call c.requires.even c.requires.waits lists.directory pairs lists.after lists.size at goes))
+    rw (
+      c.finish.ensures,
+      c.answer-kept.ensures.state,
+      c.forget_stale.ensures.state,
+      c.reserve.ensures.state,
+      c.in-Ok-learn_and_bind.ensures.names,
+      c.in-Ok-learn_and_bind.ensures.nodes,
+      answered_is (each_forgotten s stale) c.args.unique waits,
+      directory,
+      c.in-Ok.ensures,
+      ← c.self.view_is,
+    )
+    (rw (← c.self.view_is) at
+    (list_done now c.args.unique c.args.call c.requires.even c.requires.waits lists.directory pairs lists.after lists.size at goes))

@@ -11,5 +11,8 @@ returns-clause-frame g c =
       original = original;
       rest = drop 1 interrupts;
       first = rw (← c.self.view_is) (oldest_is interrupts original (sym c.in-Some.is ∙ c.first_interrupt.ensures));
-      is = c.in-Ok.ensures ∙ ap (λ (n : ℕ). record { unique = n; body = interrupt original }) c.interrupt_of.ensures.number;
+      is = c.in-Ok.ensures ∙ ap (λ (n : ℕ). record {
+        unique = n;
+        body = interrupt original;
+      }) c.interrupt_of.ensures.number;
     }

@@ -5,4 +5,13 @@ use Rattle.fk_kernel.proofs.kernel.KernelOf.read_pending.Goals as goal
 pub invariant_of-self : goal.invariant_of-self
 invariant_of-self g c =
     let old = c.self.invariant in
-    rw c.read_pending-unique.ensures.state (record { numbers = old.numbers; idle = old.idle; sorted = old.sorted; nodes = still_counted c.self.inside.nodes (g.Q.QueueTable.room c.self.inside.queues).forgets (g.Q.QueueTable.room c.read_pending-unique.new.self).forgets old.nodes c.read_pending-unique.ensures.room.forgets; files = old.files; releases = omega (arith, old.releases, c.read_pending-unique.ensures.room.requests); clock_low = old.clock_low })
+    rw c.read_pending-unique.ensures.state (record {
+      numbers = old.numbers;
+      idle = old.idle;
+      sorted = old.sorted;
+      nodes = still_counted c.self.inside.nodes (g.Q.QueueTable.room c.self.inside.queues).forgets
+          (g.Q.QueueTable.room c.read_pending-unique.new.self).forgets old.nodes c.read_pending-unique.ensures.room.forgets;
+      files = old.files;
+      releases = omega (arith, old.releases, c.read_pending-unique.ensures.room.requests);
+      clock_low = old.clock_low;
+    })

@@ -3,4 +3,5 @@ use Rattle.fk_kernel.proofs.kernel.KernelOf.set_out.Goals as goal
 
 pub returns-in-Err-clause-asks : goal.returns-in-Err-clause-asks
 returns-in-Err-clause-asks g c =
-    rw c.requires.not_aborted (rw (← c.self.view_is) (c.in-Err.ensures.wanting _ (record { names = refl; clock = refl; root = refl }) refl))
+    rw c.requires.not_aborted (rw (← c.self.view_is)
+    (c.in-Err.ensures.wanting _ (record { names = refl; clock = refl; root = refl }) refl))

@@ -20,7 +20,8 @@ invariant_of-self-else-is_interrupted g c =
 pub finish_use-requires-clause-within : goal.finish_use-requires-clause-within
 finish_use-requires-clause-within g c = λ handle operation at closed idle.
     let s = g.Q.QueueTable.state c.self.inside.queues in
-    let effect : interrupt_effect s c.args.unique c.args.fatal ≡ Dequeued = sym c.interrupt-effect.ensures.effect ∙ c.is_interrupted.ensures.0 c.if-is_interrupted.true in
+    let effect : interrupt_effect s c.args.unique c.args.fatal ≡ Dequeued =
+    sym c.interrupt-effect.ensures.effect ∙ c.is_interrupted.ensures.0 c.if-is_interrupted.true in
     let next = ap (λ (e : IntrEffect). (after_effect s c.args.unique e).next) effect in
     let within = rw (← c.self.view_is) at c.requires.within in
     rw (c.interrupt-effect.ensures.state, next) (within effect handle operation at closed idle)

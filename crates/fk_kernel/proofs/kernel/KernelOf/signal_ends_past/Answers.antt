@@ -10,8 +10,10 @@ returns-clause-past g c = λ past.
     let k = c.args.self.now in
     let there = current_there k c.args.call c.args.unique c.requires.current in
     let none : is_some (waiting k.queues c.args.unique) ≡ false = search rules in
-    let fatal : c.args.fatal ≡ true = search rules in
-    (ap (interrupt_effect k.queues c.args.unique) fatal ∙ unread_dequeued k.queues c.args.unique there none, c.ends_past.ensures.past past)
+    let fatal : c.args.fatal ≡ true = search rules in (
+      ap (interrupt_effect k.queues c.args.unique) fatal ∙ unread_dequeued k.queues c.args.unique there none,
+      c.ends_past.ensures.past past,
+    )
 
 pub returns-then-is_some-clause-within : goal.returns-then-is_some-clause-within
 returns-then-is_some-clause-within g c = λ past effect.

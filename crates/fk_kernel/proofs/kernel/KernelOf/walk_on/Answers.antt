@@ -22,15 +22,21 @@ use Rattle.fk_kernel.proofs.kernel.KernelOf.walk_on.Goals as goal
 
 pub bind_entry-requires-clause-names_one : goal.bind_entry-requires-clause-names_one
 bind_entry-requires-clause-names_one g c =
-    let stands = c.requires.looks_up in
-    (walking stands.directory stands.word stands.words stands.plan, (stands.directory, stands.word), rw (← c.self.view_is) at stands.is, refl)
+    let stands = c.requires.looks_up in (
+      walking stands.directory stands.word stands.words stands.plan,
+      (stands.directory, stands.word),
+      rw (← c.self.view_is) at stands.is,
+      refl,
+    )
 
 pub found-requires : goal.found-requires
 found-requires g c =
     let k = c.self.inside in
     let stands = c.requires.looks_up in
-    let here : get k.calls.entries c.args.call ≡ Some (walking stands.directory stands.word stands.words stands.plan) = rw (← c.self.view_is) at stands.is in
-    let state : c.in-Some-remove.state ≡ walking stands.directory stands.word stands.words stands.plan = cc (here, c.remove.ensures.value, c.in-Some-remove.is) in
+    let here : get k.calls.entries c.args.call ≡ Some (walking stands.directory stands.word stands.words stands.plan) =
+    rw (← c.self.view_is) at stands.is in
+    let state : c.in-Some-remove.state ≡ walking stands.directory stands.word stands.words stands.plan =
+    cc (here, c.remove.ensures.value, c.in-Some-remove.is) in
     subst IsWalking (sym state) tt
 
 pub enqueue-unique-requires-clause-number : goal.enqueue-unique-requires-clause-number
@@ -38,24 +44,37 @@ enqueue-unique-requires-clause-number g c =
     let k = c.self.inside in
     let s = g.Q.QueueTable.state k.queues in
     let stands = c.requires.looks_up in
-    let here : get k.calls.entries c.args.call ≡ Some (walking stands.directory stands.word stands.words stands.plan) = rw (← c.self.view_is) at stands.is in
+    let here : get k.calls.entries c.args.call ≡ Some (walking stands.directory stands.word stands.words stands.plan) =
+    rw (← c.self.view_is) at stands.is in
     let waits : is_some (waiting s c.args.unique) ≡ true = rw (← c.self.view_is) at (ap is_some c.requires.waits) in
-    let state : c.in-Some-remove.state ≡ walking stands.directory stands.word stands.words stands.plan = cc (here, c.remove.ensures.value, c.in-Some-remove.is) in
+    let state : c.in-Some-remove.state ≡ walking stands.directory stands.word stands.words stands.plan =
+    cc (here, c.remove.ensures.value, c.in-Some-remove.is) in
     let now = c.args.self.now in
     let low = c.self.invariant.clock_low in
     let day = c.requires.day in
-    let until : c.saturating_add-until.result ≡ k.clock + c.args.valid_ms = omega (arith, c.saturating_add-until.ensures) in
-    let names = c.in-Ok-bind_entry.ensures.names (walking stands.directory stands.word stands.words stands.plan) (stands.directory, stands.word) here refl in
+    let until : c.saturating_add-until.result ≡ k.clock + c.args.valid_ms =
+    omega (arith, c.saturating_add-until.ensures) in
+    let names = c.in-Ok-bind_entry.ensures.names (walking stands.directory stands.word stands.words stands.plan)
+    (stands.directory, stands.word) here refl in
     let vfs : Vfs Opened = bound now.vfs stands.directory stands.word (Some c.args.entry.now.nodeid) c.args.valid_ms in
-    let has : HasNames vfs c.bind_entry.new.names.names k.clock = rw (← c.self.view_is, names, until) (record { names = refl; clock = refl; root = refl }) in
-    let comes : walks_on vfs c.args.call c.args.entry.now.nodeid stands.words stands.plan ≡ asking vfs c.args.call c.in-Waits.state = c.found.ensures vfs c.args.call stands.directory stands.word stands.words stands.plan has state ∙ ap (comes_to vfs c.args.call) c.in-Waits.is in
-    let knows : Kernel = record now { queues = without now.queues c.args.unique; nodes = learnt now.nodes (c.args.entry.now ∷ []) } in
+    let has : HasNames vfs c.bind_entry.new.names.names k.clock =
+    rw (← c.self.view_is, names, until) (record { names = refl; clock = refl; root = refl }) in
+    let comes : walks_on vfs c.args.call c.args.entry.now.nodeid stands.words stands.plan
+    ≡ asking vfs c.args.call c.in-Waits.state =
+    c.found.ensures vfs c.args.call stands.directory stands.word stands.words stands.plan has state ∙ ap
+    (comes_to vfs c.args.call) c.in-Waits.is in
+    let knows : Kernel = record now {
+      queues = without now.queues c.args.unique;
+      nodes = learnt now.nodes (c.args.entry.now ∷ []);
+    } in
     let asks : is_past_end (advanced knows c.args.call (asking vfs c.args.call c.in-Waits.state)) ≡ false =
     sym (ap (λ (a : Advance Opened). is_past_end (advanced knows c.args.call a)) comes)
-    ∙ sym (ap (λ (r : WriteResult × Kernel). is_past_end r.1) (lookup_found now c.args.unique c.args.call c.requires.even c.requires.waits stands.directory stands.word stands.words stands.plan stands.is c.args.entry.now c.args.valid_ms c.requires.usable))
+    ∙ sym (ap (λ (r : WriteResult × Kernel). is_past_end r.1)
+    (lookup_found now c.args.unique c.args.call c.requires.even c.requires.waits stands.directory stands.word stands.words stands.plan stands.is c.args.entry.now c.args.valid_ms c.requires.usable))
     ∙ c.requires.within in
     let left = asked_left now.queues.next now.vfs.next_call asks in
-    rw (c.answer-kept.ensures.state, c.reserve.ensures.state, answered_is s c.args.unique waits) (rw (← c.self.view_is) at left)
+    rw (c.answer-kept.ensures.state, c.reserve.ensures.state, answered_is s c.args.unique waits)
+    (rw (← c.self.view_is) at left)
 
 pub put-requires-clause-absent : goal.put-requires-clause-absent
 put-requires-clause-absent g c = rw c.remove.ensures.entries (get_gone_here c.self.inside.calls.entries c.args.call)
@@ -65,17 +84,25 @@ invariant_of-self-in-Waits g c =
     let k = c.self.inside in
     let s = g.Q.QueueTable.state k.queues in
     let stands = c.requires.looks_up in
-    let here : get k.calls.entries c.args.call ≡ Some (walking stands.directory stands.word stands.words stands.plan) = rw (← c.self.view_is) at stands.is in
+    let here : get k.calls.entries c.args.call ≡ Some (walking stands.directory stands.word stands.words stands.plan) =
+    rw (← c.self.view_is) at stands.is in
     let waits : is_some (waiting s c.args.unique) ≡ true = rw (← c.self.view_is) at (ap is_some c.requires.waits) in
-    let state : c.in-Some-remove.state ≡ walking stands.directory stands.word stands.words stands.plan = cc (here, c.remove.ensures.value, c.in-Some-remove.is) in
+    let state : c.in-Some-remove.state ≡ walking stands.directory stands.word stands.words stands.plan =
+    cc (here, c.remove.ensures.value, c.in-Some-remove.is) in
     let now = c.args.self.now in
     let low = c.self.invariant.clock_low in
     let day = c.requires.day in
-    let until : c.saturating_add-until.result ≡ k.clock + c.args.valid_ms = omega (arith, c.saturating_add-until.ensures) in
-    let names = c.in-Ok-bind_entry.ensures.names (walking stands.directory stands.word stands.words stands.plan) (stands.directory, stands.word) here refl in
+    let until : c.saturating_add-until.result ≡ k.clock + c.args.valid_ms =
+    omega (arith, c.saturating_add-until.ensures) in
+    let names = c.in-Ok-bind_entry.ensures.names (walking stands.directory stands.word stands.words stands.plan)
+    (stands.directory, stands.word) here refl in
     let vfs : Vfs Opened = bound now.vfs stands.directory stands.word (Some c.args.entry.now.nodeid) c.args.valid_ms in
-    let has : HasNames vfs c.bind_entry.new.names.names k.clock = rw (← c.self.view_is, names, until) (record { names = refl; clock = refl; root = refl }) in
-    let comes : walks_on vfs c.args.call c.args.entry.now.nodeid stands.words stands.plan ≡ asking vfs c.args.call c.in-Waits.state = c.found.ensures vfs c.args.call stands.directory stands.word stands.words stands.plan has state ∙ ap (comes_to vfs c.args.call) c.in-Waits.is in
+    let has : HasNames vfs c.bind_entry.new.names.names k.clock =
+    rw (← c.self.view_is, names, until) (record { names = refl; clock = refl; root = refl }) in
+    let comes : walks_on vfs c.args.call c.args.entry.now.nodeid stands.words stands.plan
+    ≡ asking vfs c.args.call c.in-Waits.state =
+    c.found.ensures vfs c.args.call stands.directory stands.word stands.words stands.plan has state ∙ ap
+    (comes_to vfs c.args.call) c.in-Waits.is in
     let old = c.self.invariant in
     let some : is_some (get k.calls.entries c.args.call) ≡ true = ap is_some here in
     let there = there_is (get k.calls.entries c.args.call) some in
@@ -83,17 +110,35 @@ invariant_of-self-in-Waits g c =
     let reserved = c.in-Ok.ensures.forgets in
     let queued = c.enqueue-unique.ensures.forgets_room in
     let most = c.most.ensures in
-    let room : length k.nodes + 1 ≤ (g.Q.QueueTable.room c.answer-kept.new.self).forgets = omega (arith, c.in-Some.ensures) in
+    let room : length k.nodes + 1 ≤ (g.Q.QueueTable.room c.answer-kept.new.self).forgets =
+    omega (arith, c.in-Some.ensures) in
     let fits = rw (← c.self.view_is) at c.requires.fits in
-    let counted = learnt_counted k.nodes (g.Q.QueueTable.room k.queues).forgets (g.Q.QueueTable.room c.answer-kept.new.self).forgets old.nodes room c.args.entry.now fits in
-    rw (c.enqueue-unique.ensures.state, c.answer-kept.ensures.state, c.reserve.ensures.state, c.in-Ok-bind_entry.ensures.nodes, c.put.ensures.entries, c.remove.ensures.entries, put_gone k.calls.entries c.args.call c.in-Waits.state old.sorted)
+    let counted = learnt_counted k.nodes (g.Q.QueueTable.room k.queues).forgets
+    (g.Q.QueueTable.room c.answer-kept.new.self).forgets old.nodes room c.args.entry.now fits in
+    rw (
+      c.enqueue-unique.ensures.state,
+      c.answer-kept.ensures.state,
+      c.reserve.ensures.state,
+      c.in-Ok-bind_entry.ensures.nodes,
+      c.put.ensures.entries,
+      c.remove.ensures.entries,
+      put_gone k.calls.entries c.args.call c.in-Waits.state old.sorted,
+    )
     (record {
       numbers = sound_walks k.calls.entries k.answers.entries k.answers.room k.next_call old.numbers c.args.call c.in-Waits.state there (length_again k.calls.entries c.args.call c.in-Waits.state old.sorted some);
       idle = λ down. absurd (there (ap (λ m. get m c.args.call) (old.idle down)));
       sorted = sorted_put k.calls.entries c.args.call c.in-Waits.state old.sorted;
       files = walking_files k.calls.entries k.opens.entries k.closing.entries k.next_call old.files c.args.call c.in-Waits.state there;
-      releases = omega (arith, c.in-Ok.ensures.requests, c.answer-kept.ensures.room.requests, c.enqueue-unique.ensures.requests_room, c.in-Some-checked_add.ensures, c.len.ensures);
-      nodes = still_counted _ (g.Q.QueueTable.room c.answer-kept.new.self).forgets (g.Q.QueueTable.room c.enqueue-unique.new.self).forgets counted queued;
+      releases = omega (
+        arith,
+        c.in-Ok.ensures.requests,
+        c.answer-kept.ensures.room.requests,
+        c.enqueue-unique.ensures.requests_room,
+        c.in-Some-checked_add.ensures,
+        c.len.ensures,
+      );
+      nodes = still_counted _ (g.Q.QueueTable.room c.answer-kept.new.self).forgets
+          (g.Q.QueueTable.room c.enqueue-unique.new.self).forgets counted queued;
       clock_low = old.clock_low;
     })
 
@@ -102,23 +147,32 @@ invariant_of-self-in-Answered g c =
     let k = c.self.inside in
     let s = g.Q.QueueTable.state k.queues in
     let stands = c.requires.looks_up in
-    let here : get k.calls.entries c.args.call ≡ Some (walking stands.directory stands.word stands.words stands.plan) = rw (← c.self.view_is) at stands.is in
+    let here : get k.calls.entries c.args.call ≡ Some (walking stands.directory stands.word stands.words stands.plan) =
+    rw (← c.self.view_is) at stands.is in
     let waits : is_some (waiting s c.args.unique) ≡ true = rw (← c.self.view_is) at (ap is_some c.requires.waits) in
     let old = c.self.invariant in
     let there = there_is (get k.calls.entries c.args.call) (ap is_some here) in
     let kept = c.answer-kept.ensures.room.forgets in
     let reserved = c.in-Ok.ensures.forgets in
     let most = c.most.ensures in
-    let room : length k.nodes + 1 ≤ (g.Q.QueueTable.room c.answer-kept.new.self).forgets = omega (arith, c.in-Some.ensures) in
+    let room : length k.nodes + 1 ≤ (g.Q.QueueTable.room c.answer-kept.new.self).forgets =
+    omega (arith, c.in-Some.ensures) in
     let fits = rw (← c.self.view_is) at c.requires.fits in
-    rw (c.answer-kept.ensures.state, c.reserve.ensures.state, c.in-Ok-bind_entry.ensures.nodes, c.put-in-Answered.ensures.entries, c.remove.ensures.entries)
+    rw (
+      c.answer-kept.ensures.state,
+      c.reserve.ensures.state,
+      c.in-Ok-bind_entry.ensures.nodes,
+      c.put-in-Answered.ensures.entries,
+      c.remove.ensures.entries,
+    )
     (record {
       numbers = sound_answered k.calls.entries k.answers.entries k.answers.room k.next_call old.numbers c.args.call _ c.put-in-Answered.new.self.room there c.put-in-Answered.ensures.room;
       idle = λ down. absurd (there (ap (λ m. get m c.args.call) (old.idle down)));
       sorted = sorted_gone k.calls.entries c.args.call old.sorted;
       files = answered_files k.calls.entries k.opens.entries k.closing.entries k.next_call old.files c.args.call;
       releases = omega (arith, old.releases, c.reserve.ensures.kept.requests, c.answer-kept.ensures.room.requests);
-      nodes = learnt_counted k.nodes (g.Q.QueueTable.room k.queues).forgets (g.Q.QueueTable.room c.answer-kept.new.self).forgets old.nodes room c.args.entry.now fits;
+      nodes = learnt_counted k.nodes (g.Q.QueueTable.room k.queues).forgets
+          (g.Q.QueueTable.room c.answer-kept.new.self).forgets old.nodes room c.args.entry.now fits;
       clock_low = old.clock_low;
     })
 
@@ -127,40 +181,93 @@ returns-in-Waits-clause-ok g c =
     let k = c.self.inside in
     let s = g.Q.QueueTable.state k.queues in
     let stands = c.requires.looks_up in
-    let here : get k.calls.entries c.args.call ≡ Some (walking stands.directory stands.word stands.words stands.plan) = rw (← c.self.view_is) at stands.is in
+    let here : get k.calls.entries c.args.call ≡ Some (walking stands.directory stands.word stands.words stands.plan) =
+    rw (← c.self.view_is) at stands.is in
     let waits : is_some (waiting s c.args.unique) ≡ true = rw (← c.self.view_is) at (ap is_some c.requires.waits) in
-    let state : c.in-Some-remove.state ≡ walking stands.directory stands.word stands.words stands.plan = cc (here, c.remove.ensures.value, c.in-Some-remove.is) in
+    let state : c.in-Some-remove.state ≡ walking stands.directory stands.word stands.words stands.plan =
+    cc (here, c.remove.ensures.value, c.in-Some-remove.is) in
     let now = c.args.self.now in
     let low = c.self.invariant.clock_low in
     let day = c.requires.day in
-    let until : c.saturating_add-until.result ≡ k.clock + c.args.valid_ms = omega (arith, c.saturating_add-until.ensures) in
-    let names = c.in-Ok-bind_entry.ensures.names (walking stands.directory stands.word stands.words stands.plan) (stands.directory, stands.word) here refl in
+    let until : c.saturating_add-until.result ≡ k.clock + c.args.valid_ms =
+    omega (arith, c.saturating_add-until.ensures) in
+    let names = c.in-Ok-bind_entry.ensures.names (walking stands.directory stands.word stands.words stands.plan)
+    (stands.directory, stands.word) here refl in
     let vfs : Vfs Opened = bound now.vfs stands.directory stands.word (Some c.args.entry.now.nodeid) c.args.valid_ms in
-    let has : HasNames vfs c.bind_entry.new.names.names k.clock = rw (← c.self.view_is, names, until) (record { names = refl; clock = refl; root = refl }) in
-    let comes : walks_on vfs c.args.call c.args.entry.now.nodeid stands.words stands.plan ≡ asking vfs c.args.call c.in-Waits.state = c.found.ensures vfs c.args.call stands.directory stands.word stands.words stands.plan has state ∙ ap (comes_to vfs c.args.call) c.in-Waits.is in
+    let has : HasNames vfs c.bind_entry.new.names.names k.clock =
+    rw (← c.self.view_is, names, until) (record { names = refl; clock = refl; root = refl }) in
+    let comes : walks_on vfs c.args.call c.args.entry.now.nodeid stands.words stands.plan
+    ≡ asking vfs c.args.call c.in-Waits.state =
+    c.found.ensures vfs c.args.call stands.directory stands.word stands.words stands.plan has state ∙ ap
+    (comes_to vfs c.args.call) c.in-Waits.is in
     lookup_found now c.args.unique c.args.call c.requires.even c.requires.waits stands.directory stands.word stands.words stands.plan stands.is c.args.entry.now c.args.valid_ms c.requires.usable
-    ∙ ap (λ (a : Advance Opened). (Accepted, advanced (record now { queues = without now.queues c.args.unique; nodes = learnt now.nodes (c.args.entry.now ∷ []) }) c.args.call a)) comes
-    ∙ rw (← c.self.view_is, c.enqueue-unique.ensures.state, c.answer-kept.ensures.state, c.reserve.ensures.state, answered_is s c.args.unique waits, names, until, c.in-Ok-bind_entry.ensures.nodes, c.put.ensures.entries, c.remove.ensures.entries, put_gone k.calls.entries c.args.call c.in-Waits.state c.self.invariant.sorted) refl
+    ∙ ap (λ (a : Advance Opened). (
+      Accepted,
+      advanced
+          (record now {
+            queues = without now.queues c.args.unique;
+            nodes = learnt now.nodes (c.args.entry.now ∷ []);
+          }) c.args.call a,
+    )) comes
+    ∙ rw (
+      ← c.self.view_is,
+      c.enqueue-unique.ensures.state,
+      c.answer-kept.ensures.state,
+      c.reserve.ensures.state,
+      answered_is s c.args.unique waits,
+      names,
+      until,
+      c.in-Ok-bind_entry.ensures.nodes,
+      c.put.ensures.entries,
+      c.remove.ensures.entries,
+      put_gone k.calls.entries c.args.call c.in-Waits.state c.self.invariant.sorted,
+    ) refl
 
 pub returns-in-Answered-clause-ok : goal.returns-in-Answered-clause-ok
 returns-in-Answered-clause-ok g c =
     let k = c.self.inside in
     let s = g.Q.QueueTable.state k.queues in
     let stands = c.requires.looks_up in
-    let here : get k.calls.entries c.args.call ≡ Some (walking stands.directory stands.word stands.words stands.plan) = rw (← c.self.view_is) at stands.is in
+    let here : get k.calls.entries c.args.call ≡ Some (walking stands.directory stands.word stands.words stands.plan) =
+    rw (← c.self.view_is) at stands.is in
     let waits : is_some (waiting s c.args.unique) ≡ true = rw (← c.self.view_is) at (ap is_some c.requires.waits) in
-    let state : c.in-Some-remove.state ≡ walking stands.directory stands.word stands.words stands.plan = cc (here, c.remove.ensures.value, c.in-Some-remove.is) in
+    let state : c.in-Some-remove.state ≡ walking stands.directory stands.word stands.words stands.plan =
+    cc (here, c.remove.ensures.value, c.in-Some-remove.is) in
     let now = c.args.self.now in
     let low = c.self.invariant.clock_low in
     let day = c.requires.day in
-    let until : c.saturating_add-until.result ≡ k.clock + c.args.valid_ms = omega (arith, c.saturating_add-until.ensures) in
-    let names = c.in-Ok-bind_entry.ensures.names (walking stands.directory stands.word stands.words stands.plan) (stands.directory, stands.word) here refl in
+    let until : c.saturating_add-until.result ≡ k.clock + c.args.valid_ms =
+    omega (arith, c.saturating_add-until.ensures) in
+    let names = c.in-Ok-bind_entry.ensures.names (walking stands.directory stands.word stands.words stands.plan)
+    (stands.directory, stands.word) here refl in
     let vfs : Vfs Opened = bound now.vfs stands.directory stands.word (Some c.args.entry.now.nodeid) c.args.valid_ms in
-    let has : HasNames vfs c.bind_entry.new.names.names k.clock = rw (← c.self.view_is, names, until) (record { names = refl; clock = refl; root = refl }) in
-    let comes : walks_on vfs c.args.call c.args.entry.now.nodeid stands.words stands.plan ≡ no_more (answered vfs c.args.call (failed c.in-Answered.errno)) = c.found.ensures vfs c.args.call stands.directory stands.word stands.words stands.plan has state ∙ ap (comes_to vfs c.args.call) c.in-Answered.is in
+    let has : HasNames vfs c.bind_entry.new.names.names k.clock =
+    rw (← c.self.view_is, names, until) (record { names = refl; clock = refl; root = refl }) in
+    let comes : walks_on vfs c.args.call c.args.entry.now.nodeid stands.words stands.plan
+    ≡ no_more (answered vfs c.args.call (failed c.in-Answered.errno)) =
+    c.found.ensures vfs c.args.call stands.directory stands.word stands.words stands.plan has state ∙ ap
+    (comes_to vfs c.args.call) c.in-Answered.is in
     lookup_found now c.args.unique c.args.call c.requires.even c.requires.waits stands.directory stands.word stands.words stands.plan stands.is c.args.entry.now c.args.valid_ms c.requires.usable
-    ∙ ap (λ (a : Advance Opened). (Accepted, advanced (record now { queues = without now.queues c.args.unique; nodes = learnt now.nodes (c.args.entry.now ∷ []) }) c.args.call a)) comes
-    ∙ rw (← c.self.view_is, c.answer-kept.ensures.state, c.reserve.ensures.state, answered_is s c.args.unique waits, names, until, c.in-Ok-bind_entry.ensures.nodes, c.put-in-Answered.ensures.entries, c.new.ensures, c.remove.ensures.entries) refl
+    ∙ ap (λ (a : Advance Opened). (
+      Accepted,
+      advanced
+          (record now {
+            queues = without now.queues c.args.unique;
+            nodes = learnt now.nodes (c.args.entry.now ∷ []);
+          }) c.args.call a,
+    )) comes
+    ∙ rw (
+      ← c.self.view_is,
+      c.answer-kept.ensures.state,
+      c.reserve.ensures.state,
+      answered_is s c.args.unique waits,
+      names,
+      until,
+      c.in-Ok-bind_entry.ensures.nodes,
+      c.put-in-Answered.ensures.entries,
+      c.new.ensures,
+      c.remove.ensures.entries,
+    ) refl
 
 pub bind_entry-requires-clause-fits : goal.bind_entry-requires-clause-fits
 bind_entry-requires-clause-fits g c = λ x at.

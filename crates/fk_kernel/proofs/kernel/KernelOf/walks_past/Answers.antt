@@ -5,4 +5,5 @@ use Rattle.fk_kernel.proofs.kernel.KernelOf.walks_past.Goals as goal
 pub returns-in_default-clause-within : goal.returns-in_default-clause-within
 returns-in_default-clause-within g c = λ stays.
     let now = c.args.self.now in
-    stays_within now c.args.unique c.args.call c.requires.even c.requires.waits c.within.ensures c.requires.ends (wire_of c.args.said.now) c.requires.awaits (no_entry_said c.args.said.now c.in_default.not-Found)
+    stays_within now c.args.unique c.args.call c.requires.even c.requires.waits c.within.ensures c.requires.ends
+    (wire_of c.args.said.now) c.requires.awaits (no_entry_said c.args.said.now c.in_default.not-Found)

@@ -25,7 +25,8 @@ returns-then-unique-eq1-clause-taken g c = λ head.
     let unique = head_unique c.args.bytes.now in
     let same = c.in-Ok.ensures.ok.3 in
     let say = c.write_to_interrupt.ensures in
-    taken_odd c.args.self.now unique c.args.bytes.now _ _ (odd_test c.in-Ok.unique unique same c.if-unique-eq1.true) (c.in-Ok.unique - 1) (ap (λ (n : ℕ). n - 1) same) say.said say.unsaid
+    taken_odd c.args.self.now unique c.args.bytes.now _ _ (odd_test c.in-Ok.unique unique same c.if-unique-eq1.true)
+    (c.in-Ok.unique - 1) (ap (λ (n : ℕ). n - 1) same) say.said say.unsaid
 
 pub returns-in_default-waiting-clause-taken : goal.returns-in_default-waiting-clause-taken
 returns-in_default-waiting-clause-taken g c = λ head.
@@ -33,8 +34,10 @@ returns-in_default-waiting-clause-taken g c = λ head.
     let unique = head_unique c.args.bytes.now in
     let same = c.in-Ok.ensures.ok.3 in
     let at : waiting queues c.in-Ok.unique ≡ None = search rules in
-    let waits : waiting c.args.self.now.queues unique ≡ None = rw (← c.self.view_is) (ap (waiting queues) (sym same) ∙ at) in
-    taken_even _ unique _ _ _ (even_test c.in-Ok.unique unique same c.if-unique-eq1.false) None waits (taken_none _ unique _ _ _)
+    let waits : waiting c.args.self.now.queues unique ≡ None =
+    rw (← c.self.view_is) (ap (waiting queues) (sym same) ∙ at) in
+    taken_even _ unique _ _ _ (even_test c.in-Ok.unique unique same c.if-unique-eq1.false) None waits
+    (taken_none _ unique _ _ _)
 
 pub returns-in-Init-clause-taken : goal.returns-in-Init-clause-taken
 returns-in-Init-clause-taken g c = λ head.
@@ -42,10 +45,13 @@ returns-in-Init-clause-taken g c = λ head.
     let unique = head_unique c.args.bytes.now in
     let same = c.in-Ok.ensures.ok.3 in
     let at : waiting queues c.in-Ok.unique ≡ Some c.in-Some.purpose.now = search rules in
-    let waits : waiting c.args.self.now.queues unique ≡ Some Init = rw (← c.self.view_is) (ap (waiting queues) (sym same) ∙ at ∙ ap Some c.in-Init.is) in
+    let waits : waiting c.args.self.now.queues unique ≡ Some Init =
+    rw (← c.self.view_is) (ap (waiting queues) (sym same) ∙ at ∙ ap Some c.in-Init.is) in
     let say = c.write_to_init.ensures in
-    taken_even c.args.self.now unique c.args.bytes.now _ _ (even_test c.in-Ok.unique unique same c.if-unique-eq1.false) (Some Init) waits
-    (taken_judged c.args.self.now unique c.args.bytes.now _ _ op.Init tt (rw (← same) say.said) (rw (← same) say.unsaid))
+    taken_even c.args.self.now unique c.args.bytes.now _ _ (even_test c.in-Ok.unique unique same c.if-unique-eq1.false)
+    (Some Init) waits
+    (taken_judged c.args.self.now unique c.args.bytes.now _ _ op.Init tt (rw (← same) say.said)
+    (rw (← same) say.unsaid))
 
 pub write_to_release-requires-clause-waits : goal.write_to_release-requires-clause-waits
 write_to_release-requires-clause-waits g c =
@@ -59,10 +65,13 @@ returns-in-Release-clause-taken g c = λ head.
     let unique = head_unique c.args.bytes.now in
     let same = c.in-Ok.ensures.ok.3 in
     let at : waiting queues c.in-Ok.unique ≡ Some c.in-Some.purpose.now = search rules in
-    let waits : waiting c.args.self.now.queues unique ≡ Some (Release c.in-Release.field-0) = rw (← c.self.view_is) (ap (waiting queues) (sym same) ∙ at ∙ ap Some c.in-Release.is) in
+    let waits : waiting c.args.self.now.queues unique ≡ Some (Release c.in-Release.field-0) =
+    rw (← c.self.view_is) (ap (waiting queues) (sym same) ∙ at ∙ ap Some c.in-Release.is) in
     let say = c.write_to_release.ensures in
-    taken_even c.args.self.now unique c.args.bytes.now _ _ (even_test c.in-Ok.unique unique same c.if-unique-eq1.false) (Some (Release c.in-Release.field-0)) waits
-    (taken_judged c.args.self.now unique c.args.bytes.now _ _ op.Release tt (rw (← same) say.said) (rw (← same) say.unsaid))
+    taken_even c.args.self.now unique c.args.bytes.now _ _ (even_test c.in-Ok.unique unique same c.if-unique-eq1.false)
+    (Some (Release c.in-Release.field-0)) waits
+    (taken_judged c.args.self.now unique c.args.bytes.now _ _ op.Release tt (rw (← same) say.said)
+    (rw (← same) say.unsaid))
 
 pub returns-in-Call-clause-refusal : goal.returns-in-Call-clause-refusal
 returns-in-Call-clause-refusal g c = λ head.
@@ -70,8 +79,10 @@ returns-in-Call-clause-refusal g c = λ head.
     let unique = head_unique c.args.bytes.now in
     let same = c.in-Ok.ensures.ok.3 in
     let at : waiting queues c.in-Ok.unique ≡ Some c.in-Some.purpose.now = search rules in
-    let waits : waiting c.args.self.now.queues unique ≡ Some (Call c.in-Call.call) = rw (← c.self.view_is) (ap (waiting queues) (sym same) ∙ at ∙ ap Some c.in-Call.is) in
-    let awaits = awaited_even c.args.self.now unique (even_test c.in-Ok.unique unique same c.if-unique-eq1.false) (Some (Call c.in-Call.call)) waits in
+    let waits : waiting c.args.self.now.queues unique ≡ Some (Call c.in-Call.call) =
+    rw (← c.self.view_is) (ap (waiting queues) (sym same) ∙ at ∙ ap Some c.in-Call.is) in
+    let awaits = awaited_even c.args.self.now unique (even_test c.in-Ok.unique unique same c.if-unique-eq1.false)
+    (Some (Call c.in-Call.call)) waits in
     rw (awaits, ← same) c.write_to_call.ensures.refusal
 
 pub returns-in-Call-clause-taken : goal.returns-in-Call-clause-taken
@@ -80,8 +91,10 @@ returns-in-Call-clause-taken g c = λ head.
     let unique = head_unique c.args.bytes.now in
     let same = c.in-Ok.ensures.ok.3 in
     let at : waiting queues c.in-Ok.unique ≡ Some c.in-Some.purpose.now = search rules in
-    let waits : waiting c.args.self.now.queues unique ≡ Some (Call c.in-Call.call) = rw (← c.self.view_is) (ap (waiting queues) (sym same) ∙ at ∙ ap Some c.in-Call.is) in
-    let awaits = awaited_even c.args.self.now unique (even_test c.in-Ok.unique unique same c.if-unique-eq1.false) (Some (Call c.in-Call.call)) waits in
+    let waits : waiting c.args.self.now.queues unique ≡ Some (Call c.in-Call.call) =
+    rw (← c.self.view_is) (ap (waiting queues) (sym same) ∙ at ∙ ap Some c.in-Call.is) in
+    let awaits = awaited_even c.args.self.now unique (even_test c.in-Ok.unique unique same c.if-unique-eq1.false)
+    (Some (Call c.in-Call.call)) waits in
     rw (awaits, ← same) c.write_to_call.ensures.taken
 
 pub returns-in-Call-clause-memory : goal.returns-in-Call-clause-memory
@@ -91,6 +104,10 @@ returns-in-Call-clause-memory g c =
     let unique = head_unique c.args.bytes.now in
     let same = c.in-Ok.ensures.ok.3 in
     let at : waiting queues c.in-Ok.unique ≡ Some c.in-Some.purpose.now = search rules in
-    let waits : waiting now.queues unique ≡ Some (Call c.in-Call.call) = rw (← c.self.view_is) (ap (waiting queues) (sym same) ∙ at ∙ ap Some c.in-Call.is) in
-    let awaits = awaited_even now unique (even_test c.in-Ok.unique unique same c.if-unique-eq1.false) (Some (Call c.in-Call.call)) waits in
-    memory_last now c.in-Ok.unique c.args.bytes.now (awaited_by_call (get now.vfs.calls c.in-Call.call)) c.write_to_call.result (λ p. rw (awaits, ← same) at p.1) c.write_to_call.ensures.memory
+    let waits : waiting now.queues unique ≡ Some (Call c.in-Call.call) =
+    rw (← c.self.view_is) (ap (waiting queues) (sym same) ∙ at ∙ ap Some c.in-Call.is) in
+    let awaits = awaited_even now unique (even_test c.in-Ok.unique unique same c.if-unique-eq1.false)
+    (Some (Call c.in-Call.call)) waits in
+    memory_last now c.in-Ok.unique c.args.bytes.now (awaited_by_call
+    (get now.vfs.calls c.in-Call.call)) c.write_to_call.result
+    (λ p. rw (awaits, ← same) at p.1) c.write_to_call.ensures.memory

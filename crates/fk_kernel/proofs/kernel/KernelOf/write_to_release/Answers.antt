@@ -20,7 +20,8 @@ invariant_of-self g c =
       sorted = old.sorted;
       files = old.files;
       releases = omega (arith, old.releases, c.answer-kept.ensures.room.requests);
-      nodes = still_counted k.nodes (g.Q.QueueTable.room k.queues).forgets (g.Q.QueueTable.room c.answer-kept.new.self).forgets old.nodes c.answer-kept.ensures.room.forgets;
+      nodes = still_counted k.nodes (g.Q.QueueTable.room k.queues).forgets
+          (g.Q.QueueTable.room c.answer-kept.new.self).forgets old.nodes c.answer-kept.ensures.room.forgets;
       clock_low = old.clock_low;
     })
 
@@ -35,19 +36,22 @@ invariant_of-self-2 g c =
       sorted = old.sorted;
       files = old.files;
       releases = omega (arith, old.releases, c.answer-kept.ensures.room.requests);
-      nodes = still_counted k.nodes (g.Q.QueueTable.room k.queues).forgets (g.Q.QueueTable.room c.answer-kept.new.self).forgets old.nodes c.answer-kept.ensures.room.forgets;
+      nodes = still_counted k.nodes (g.Q.QueueTable.room k.queues).forgets
+          (g.Q.QueueTable.room c.answer-kept.new.self).forgets old.nodes c.answer-kept.ensures.room.forgets;
       clock_low = old.clock_low;
     })
 
 pub returns-in_default-clause-said : goal.returns-in_default-clause-said
-returns-in_default-clause-said g c = λ wire says. absurd (says_nothing op.Release c.args.bytes.now c.read_reply.result c.in_default.field-0 c.in_default.is c.read_reply.ensures.only wire says)
+returns-in_default-clause-said g c = λ wire says. absurd
+    (says_nothing op.Release c.args.bytes.now c.read_reply.result c.in_default.field-0 c.in_default.is c.read_reply.ensures.only wire says)
 
 pub returns-in_default-clause-unsaid : goal.returns-in_default-clause-unsaid
 returns-in_default-clause-unsaid g c = λ none.
     let s = g.Q.QueueTable.state c.self.inside.queues in
     let opened = c.requires.waits.0 in
     let waits : is_some (waiting s c.args.unique) ≡ true = rw (← c.self.view_is) at (ap is_some c.requires.waits.1) in
-    release_is c.args.self.now c.args.unique opened c.requires.even c.requires.waits.1 wrong_body ∙ rw (← c.self.view_is, c.answer-kept.ensures.state, answered_is s c.args.unique waits) refl
+    release_is c.args.self.now c.args.unique opened c.requires.even c.requires.waits.1 wrong_body ∙ rw
+    (← c.self.view_is, c.answer-kept.ensures.state, answered_is s c.args.unique waits) refl
 
 pub returns-clause-said : goal.returns-clause-said
 returns-clause-said g c = λ wire says.
@@ -55,7 +59,13 @@ returns-clause-said g c = λ wire says.
     let opened = c.requires.waits.0 in
     let waits : is_some (waiting s c.args.unique) ≡ true = rw (← c.self.view_is) at (ap is_some c.requires.waits.1) in
     release_is c.args.self.now c.args.unique opened c.requires.even c.requires.waits.1 wire
-    ∙ rw (says_to_release c.args.bytes.now wire says, ← c.self.view_is, c.answer-kept.ensures.state, answered_is s c.args.unique waits) refl
+    ∙ rw (
+      says_to_release c.args.bytes.now wire says,
+      ← c.self.view_is,
+      c.answer-kept.ensures.state,
+      answered_is s c.args.unique waits,
+    ) refl
 
 pub returns-clause-unsaid : goal.returns-clause-unsaid
-returns-clause-unsaid g c = λ none. absurd (none _ (says_read op.Release c.args.bytes.now c.in-Ok.field-0 _ c.in-Ok.ensures.ok refl))
+returns-clause-unsaid g c = λ none. absurd (none _
+    (says_read op.Release c.args.bytes.now c.in-Ok.field-0 _ c.in-Ok.ensures.ok refl))

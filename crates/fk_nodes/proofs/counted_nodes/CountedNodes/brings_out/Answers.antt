@@ -24,6 +24,9 @@ returns-clause-out g c = λ more.
     let at : get nodes entry.nodeid ≡ Some counted = sym c.in-Some-counted.ensures in
     let low : counted.count < counter_end = c.requires.below entry.nodeid counted at in
     let same : counted.generation ≡ entry.generation = c.if-counted-entry.false in
-    let over : counter_end - 1 - counted.count < times_told entry.nodeid entry.generation pairs = ltb-true _ _ (sym c.tell_more.ensures ∙ more) in
-    let out : counter_end ≤ counted.count + times_told entry.nodeid entry.generation pairs = past counted.count (times_told entry.nodeid entry.generation pairs) low over in
-    one_out nodes pairs entry.nodeid counted (high entry.nodeid (omega (arith, c.if-entry-lt2.false))) at (subst (λ (n : ℕ). counter_end ≤ counted.count + times_told entry.nodeid n pairs) (sym same) out)
+    let over : counter_end - 1 - counted.count < times_told entry.nodeid entry.generation pairs =
+    ltb-true _ _ (sym c.tell_more.ensures ∙ more) in
+    let out : counter_end ≤ counted.count + times_told entry.nodeid entry.generation pairs =
+    past counted.count (times_told entry.nodeid entry.generation pairs) low over in
+    one_out nodes pairs entry.nodeid counted (high entry.nodeid (omega (arith, c.if-entry-lt2.false))) at
+    (subst (λ (n : ℕ). counter_end ≤ counted.count + times_told entry.nodeid n pairs) (sym same) out)

@@ -15,20 +15,24 @@ invariant_of-self g c =
 pub returns-in_err-forget-clause-count : goal.returns-in_err-forget-clause-count
 returns-in_err-forget-clause-count g c =
     let m = g.C.CountTable.counted c.self.inside.table in
-    c.from_residual.ensures ∙ rw (← c.self.view_is) (ap (option_map (λ (f : Forget). f.nlookup)) (sym c.in_err-forget.was ∙ c.evict.ensures.forget) ∙ count_of_forget c.args.id (get m c.args.id))
+    c.from_residual.ensures ∙ rw (← c.self.view_is) (ap (option_map (λ (f : Forget). f.nlookup))
+    (sym c.in_err-forget.was ∙ c.evict.ensures.forget) ∙ count_of_forget c.args.id (get m c.args.id))
 
 pub returns-in_err-forget-clause-nodes : goal.returns-in_err-forget-clause-nodes
-returns-in_err-forget-clause-nodes g c = c.evict.ensures.counted ∙ ap (λ (n : Map Counted). remove n c.args.id) c.self.view_is
+returns-in_err-forget-clause-nodes g c = c.evict.ensures.counted ∙ ap
+    (λ (n : Map Counted). remove n c.args.id) c.self.view_is
 
 pub invariant_of-self-2 : goal.invariant_of-self-2
 invariant_of-self-2 g c =
     let m = g.C.CountTable.counted c.self.inside.table in
-    rw c.evict.ensures.counted (fewer m c.self.inside.most c.args.id c.in_ok-forget.forget c.self.invariant (sym c.in_ok-forget.was ∙ c.evict.ensures.forget))
+    rw c.evict.ensures.counted (fewer m c.self.inside.most c.args.id c.in_ok-forget.forget c.self.invariant
+    (sym c.in_ok-forget.was ∙ c.evict.ensures.forget))
 
 pub returns-clause-count : goal.returns-clause-count
 returns-clause-count g c =
     let m = g.C.CountTable.counted c.self.inside.table in
-    rw (← c.self.view_is) (ap (option_map (λ (f : Forget). f.nlookup)) (sym c.in_ok-forget.was ∙ c.evict.ensures.forget) ∙ count_of_forget c.args.id (get m c.args.id))
+    rw (← c.self.view_is) (ap (option_map (λ (f : Forget). f.nlookup))
+    (sym c.in_ok-forget.was ∙ c.evict.ensures.forget) ∙ count_of_forget c.args.id (get m c.args.id))
 
 pub returns-clause-nodes : goal.returns-clause-nodes
 returns-clause-nodes g c = c.evict.ensures.counted ∙ ap (λ (n : Map Counted). remove n c.args.id) c.self.view_is

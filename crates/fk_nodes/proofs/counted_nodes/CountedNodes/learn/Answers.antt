@@ -16,30 +16,39 @@ pub invariant_of-self-then-is_new : goal.invariant_of-self-then-is_new
 invariant_of-self-then-is_new g c =
     let m = g.C.CountTable.counted c.self.inside.table in
     let more : c.in-Some.more ≡ c.self.inside.most + 1 = search rules in
-    rw (more, c.in-Ok.ensures.ok, c.reserve.ensures.counted, learnt_is m c.args.entry.now) (one_more m c.args.entry.now c.self.inside.most c.self.invariant)
+    rw (more, c.in-Ok.ensures.ok, c.reserve.ensures.counted, learnt_is m c.args.entry.now)
+    (one_more m c.args.entry.now c.self.inside.most c.self.invariant)
 
 pub invariant_of-self-else-is_new : goal.invariant_of-self-else-is_new
 invariant_of-self-else-is_new g c =
     let m = g.C.CountTable.counted c.self.inside.table in
     let entry = c.args.entry.now in
-    let known : is_some (generation_at (get m entry.nodeid)) ≡ true = ap (λ (n : Map Counted). is_some (generation_at (get n entry.nodeid))) (sym c.reserve.ensures.counted) ∙ ap is_some (sym c.generation_of.ensures) ∙ c.if-is_new.ensures in
-    rw (c.in-Ok.ensures.ok, c.reserve.ensures.counted, learnt_is m entry) (as_many m entry c.self.inside.most c.self.invariant known c.are_sorted.ensures)
+    let known : is_some (generation_at (get m entry.nodeid)) ≡ true =
+    ap (λ (n : Map Counted). is_some (generation_at (get n entry.nodeid)))
+    (sym c.reserve.ensures.counted) ∙ ap is_some (sym c.generation_of.ensures) ∙ c.if-is_new.ensures in
+    rw (c.in-Ok.ensures.ok, c.reserve.ensures.counted, learnt_is m entry)
+    (as_many m entry c.self.inside.most c.self.invariant known c.are_sorted.ensures)
 
 pub returns-then-is_new-clause-ok : goal.returns-then-is_new-clause-ok
 returns-then-is_new-clause-ok g c =
     let m = g.C.CountTable.counted c.self.inside.table in
     let entry = c.args.entry.now in
-    c.in-Ok.ensures.ok ∙ ap (λ (n : Map Counted). learnt n entry.nodeid entry.generation (get n entry.nodeid)) c.reserve.ensures.counted ∙ learnt_is m entry ∙ ap (λ (n : Map Counted). replies.learnt n (entry ∷ [])) c.self.view_is
+    c.in-Ok.ensures.ok ∙ ap (λ (n : Map Counted). learnt n entry.nodeid entry.generation
+    (get n entry.nodeid)) c.reserve.ensures.counted ∙ learnt_is m entry ∙ ap
+    (λ (n : Map Counted). replies.learnt n (entry ∷ [])) c.self.view_is
 
 pub returns-else-is_new-clause-ok : goal.returns-else-is_new-clause-ok
 returns-else-is_new-clause-ok g c =
     let m = g.C.CountTable.counted c.self.inside.table in
     let entry = c.args.entry.now in
-    c.in-Ok.ensures.ok ∙ ap (λ (n : Map Counted). learnt n entry.nodeid entry.generation (get n entry.nodeid)) c.reserve.ensures.counted ∙ learnt_is m entry ∙ ap (λ (n : Map Counted). replies.learnt n (entry ∷ [])) c.self.view_is
+    c.in-Ok.ensures.ok ∙ ap (λ (n : Map Counted). learnt n entry.nodeid entry.generation
+    (get n entry.nodeid)) c.reserve.ensures.counted ∙ learnt_is m entry ∙ ap
+    (λ (n : Map Counted). replies.learnt n (entry ∷ [])) c.self.view_is
 
 pub returns-in-Err-clause-ok : goal.returns-in-Err-clause-ok
 returns-in-Err-clause-ok g c =
     let m = g.C.CountTable.counted c.self.inside.table in
     let entry = c.args.entry.now in
     let unlike = c.in-Err.ensures.unlike.0 refl in
-    absurd (not_unlike m entry (λ counted at. c.requires.alike counted (rw (← c.self.view_is) at)) (rw c.reserve.ensures.counted at unlike))
+    absurd (not_unlike m entry (λ counted at. c.requires.alike counted (rw (← c.self.view_is) at))
+    (rw c.reserve.ensures.counted at unlike))

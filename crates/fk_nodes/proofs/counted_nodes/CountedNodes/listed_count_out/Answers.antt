@@ -13,5 +13,6 @@ returns-clause-within g c = λ none.
     let nodes = c.args.self.now in
     let pairs = pairs_in c.args.pairs in
     let left = ap (map pair_in) c.in-None.ensures.steps.0 in
-    let rest = subst (λ ps. All (λ (pair : DirentPlus Entry). LeavesBelow nodes pairs (told_by pair)) ps) (sym left) (All-nil (λ (pair : DirentPlus Entry). LeavesBelow nodes pairs (told_by pair))) in
+    let rest = subst (λ ps. All (λ (pair : DirentPlus Entry). LeavesBelow nodes pairs (told_by pair)) ps) (sym left)
+    (All-nil (λ (pair : DirentPlus Entry). LeavesBelow nodes pairs (told_by pair))) in
     stay_below nodes pairs c.requires.below c.requires.few (c.loop-pair.invariant rest)

@@ -7,5 +7,6 @@ use Rattle.fk_nodes.proofs.counted_nodes.CountedNodes.listed_count_out.Given as 
 
 abbrev pub invariant-loop-pair : goal.invariant-loop-pair
 invariant-loop-pair g l =
-    All (λ (pair : DirentPlus Entry). LeavesBelow l.self (pairs_in l.fn.pairs) (told_by pair)) (pairs_in l.pair-iterator)
+    All (λ (pair : DirentPlus Entry). LeavesBelow l.self (pairs_in l.fn.pairs) (told_by pair))
+    (pairs_in l.pair-iterator)
     → All (λ (pair : DirentPlus Entry). LeavesBelow l.self (pairs_in l.fn.pairs) (told_by pair)) (pairs_in l.fn.pairs)

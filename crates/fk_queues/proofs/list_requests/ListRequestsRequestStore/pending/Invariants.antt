@@ -4,4 +4,5 @@ use Rattle.fk_queues.proofs.list_requests.ListRequestsRequestStore.pending.Given
 
 -- the entry sought is at `left` among the unread ones that are left
 abbrev pub invariant-loop-unique : goal.invariant-loop-unique
-invariant-loop-unique g l = slice_get (filter (λ e. is_unread e.1.mark) l.self.requests.items) l.place ≡ slice_get (filter (λ e. is_unread e.1.mark) (drop l.unique-index l.self.requests.items)) l.left
+invariant-loop-unique g l = slice_get (filter (λ e. is_unread e.1.mark) l.self.requests.items) l.place
+    ≡ slice_get (filter (λ e. is_unread e.1.mark) (drop l.unique-index l.self.requests.items)) l.left

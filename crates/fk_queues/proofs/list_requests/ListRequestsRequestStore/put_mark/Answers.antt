@@ -10,7 +10,8 @@ returns-in-Some-clause-entries g c =
     let d = c.index_mut.result.now in
     let at : position (λ e. nat_eq c.args.unique e.0) es ≡ Some c.in-Some.place = search rules in
     let there : get_or es c.in-Some.place d ≡ d = search rules in
-    let set = set_mark-first c.args.unique d es c.in-Some.place c.args.mark (is_first-position c.args.unique d es c.in-Some.place at) in
+    let set = set_mark-first c.args.unique d es c.in-Some.place c.args.mark
+    (is_first-position c.args.unique d es c.in-Some.place at) in
     sym (rw there at set)
 
 pub returns-in_default-clause-entries : goal.returns-in_default-clause-entries

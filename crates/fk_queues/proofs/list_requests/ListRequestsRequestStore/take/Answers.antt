@@ -32,4 +32,5 @@ returns-clause-entries g c =
     let d = c.remove-unique.result in
     let place = c.in_ok-place.place in
     let at : position (λ e. nat_eq c.args.unique e.0) es ≡ Some place = search rules in
-    c.remove-unique.ensures.items ∙ sym (remove_entry-first c.args.unique d es place (is_first-position c.args.unique d es place at))
+    c.remove-unique.ensures.items ∙ sym (remove_entry-first c.args.unique d es place
+    (is_first-position c.args.unique d es place at))

@@ -4,4 +4,5 @@ use Rattle.fk_queues.proofs.map_requests.MapRequestsRequestStore.pending.Given a
 
 -- the entry sought is at `left` among the unread ones that are left
 abbrev pub invariant-loop-unique : goal.invariant-loop-unique
-invariant-loop-unique g l = slice_get (filter (λ e. is_unread e.1.mark) l.self.requests.entries) l.place ≡ slice_get (filter (λ e. is_unread e.1.mark) l.unique-iterator) l.left
+invariant-loop-unique g l = slice_get (filter (λ e. is_unread e.1.mark) l.self.requests.entries) l.place
+    ≡ slice_get (filter (λ e. is_unread e.1.mark) l.unique-iterator) l.left

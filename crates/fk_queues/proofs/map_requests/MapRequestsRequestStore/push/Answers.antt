@@ -5,5 +5,6 @@ use Rattle.fk_queues.proofs.map_requests.MapRequestsRequestStore.push.Goals as g
 
 pub returns-clause-entries : goal.returns-clause-entries
 returns-clause-entries g c =
-    let appended = insert_entry-new nat_eq c.args.self.now.requests c.args.unique (record { mark = Unread; kept = c.args.kept }) c.requires.absent in
+    let appended = insert_entry-new nat_eq c.args.self.now.requests c.args.unique
+    (record { mark = Unread; kept = c.args.kept }) c.requires.absent in
     search (rules, appended)

@@ -8,8 +8,15 @@ returns-in-Some g c =
     let es = c.args.self.now.requests.entries in
     let found : lookup (nat_eq c.args.unique) es ≡ Some c.in-Some.request.now = search rules in
     let set = set_value-set_mark c.args.unique es c.in-Some.request.now c.args.mark found in
-    let entries = (c.get_mut.follows.holds (record { mark = c.args.mark; kept = c.in-Some.request.now.kept })).0 ∙ set in
-    record { entries = entries; len = ap length entries ∙ length-set_mark c.args.unique es c.args.mark; room = search rules }
+    let entries = (c.get_mut.follows.holds (record {
+      mark = c.args.mark;
+      kept = c.in-Some.request.now.kept;
+    })).0 ∙ set in
+    record {
+      entries = entries;
+      len = ap length entries ∙ length-set_mark c.args.unique es c.args.mark;
+      room = search rules;
+    }
 
 pub returns-in_default : goal.returns-in_default
 returns-in_default g c =

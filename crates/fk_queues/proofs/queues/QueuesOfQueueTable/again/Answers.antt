@@ -20,7 +20,8 @@ push-requires g c =
     let IsMarked : QueueState _ → Type 0 = λ v. mark_under v c.args.unique ≡ Some Interrupted in
     let marked : IsMarked s = subst IsMarked (sym view) (search rules) in
     let absent : list_any (nat_eq c.args.unique) s.interrupts ≡ false = search rules in
-    let fewer = interrupts-lt-requests s c.args.unique Interrupted c.self.invariant.sound marked (count_by-absent c.args.unique s.interrupts absent) in
+    let fewer = interrupts-lt-requests s c.args.unique Interrupted c.self.invariant.sound marked
+    (count_by-absent c.args.unique s.interrupts absent) in
     let fits : length s.requests ≤ _ = c.self.invariant.fits in
     omega arith
 
@@ -40,6 +41,8 @@ invariant_of-self g c =
     let absent : list_any (nat_eq c.args.unique) s.interrupts ≡ false = search rules in
     let none = count_by-absent c.args.unique s.interrupts absent in
     record {
-      sound = rw (c.push.ensures.numbers, c.push.ensures.off) (IsSound-interrupt s c.args.unique c.self.invariant.sound (is_interrupted-marked s c.args.unique Interrupted marked) none);
+      sound = rw (c.push.ensures.numbers, c.push.ensures.off)
+          (IsSound-interrupt s c.args.unique c.self.invariant.sound
+          (is_interrupted-marked s c.args.unique Interrupted marked) none);
       fits = omega (arith, c.self.invariant.fits);
     }

@@ -14,7 +14,8 @@ invariant_of-self g c =
       interrupts_off = q.interrupts.off;
     } in
     record {
-      sound = rw (c.take.ensures.entries, c.remove.ensures.numbers, c.remove.ensures.off) (IsSound-without s c.args.unique c.self.invariant.sound);
+      sound = rw (c.take.ensures.entries, c.remove.ensures.numbers, c.remove.ensures.off)
+          (IsSound-without s c.args.unique c.self.invariant.sound);
       fits = omega (arith, c.self.invariant.fits);
     }
 
@@ -29,6 +30,7 @@ invariant_of-self-2 g c =
       interrupts_off = q.interrupts.off;
     } in
     record {
-      sound = rw (c.take.ensures.entries, c.remove.ensures.numbers, c.remove.ensures.off) (IsSound-without s c.args.unique c.self.invariant.sound);
+      sound = rw (c.take.ensures.entries, c.remove.ensures.numbers, c.remove.ensures.off)
+          (IsSound-without s c.args.unique c.self.invariant.sound);
       fits = omega (arith, c.self.invariant.fits);
     }

@@ -30,8 +30,10 @@ invariant_of-self g c =
     let rises : c.next.new.self ≡ q.uniques + 2 = search rules in
     let drawn : c.unwrap-unique.result ≡ q.uniques = search rules in
     let room = rw (← c.self.view_is) at c.requires.room in
-    let long : length (g.S.RequestStore.entries c.push.new.self) ≡ length s.requests + 1 = ap length c.push.ensures.entries ∙ length-append s.requests _ in
+    let long : length (g.S.RequestStore.entries c.push.new.self) ≡ length s.requests + 1 =
+    ap length c.push.ensures.entries ∙ length-append s.requests _ in
     record {
-      sound = rw (c.push.ensures.entries, drawn, rises) (IsSound-enqueue s c.args.kept c.self.invariant.sound (rw rises at c.next.ensures.next));
+      sound = rw (c.push.ensures.entries, drawn, rises)
+          (IsSound-enqueue s c.args.kept c.self.invariant.sound (rw rises at c.next.ensures.next));
       fits = omega (arith, long, c.self.invariant.fits, room);
     }

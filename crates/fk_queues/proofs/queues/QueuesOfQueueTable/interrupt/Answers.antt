@@ -20,7 +20,9 @@ invariant_of-self g c =
     let marked : IsMarked s = subst IsMarked (sym view) (search rules) in
     let unread : is_unread c.in-Some.mark ≡ true = search rules in
     record {
-      sound = rw c.take-gone.ensures.entries (IsSound-dequeue s c.args.unique c.in-Some.mark c.self.invariant.sound marked (has_interrupt-unread c.in-Some.mark unread));
+      sound = rw c.take-gone.ensures.entries
+          (IsSound-dequeue s c.args.unique c.in-Some.mark c.self.invariant.sound marked
+          (has_interrupt-unread c.in-Some.mark unread));
       fits = omega (arith, c.self.invariant.fits);
     }
 
@@ -38,7 +40,8 @@ invariant_of-self-in-Unread g c =
     let IsMarked : QueueState _ → Type 0 = λ v. mark_under v c.args.unique ≡ Some Unread in
     let marked : IsMarked s = subst IsMarked (sym view) (search rules) in
     record {
-      sound = rw c.put_mark.ensures.entries (IsSound-mark s c.args.unique Unread Flagged c.self.invariant.sound marked refl);
+      sound = rw c.put_mark.ensures.entries
+          (IsSound-mark s c.args.unique Unread Flagged c.self.invariant.sound marked refl);
       fits = omega (arith, c.self.invariant.fits);
     }
 
@@ -55,7 +58,8 @@ push-requires g c =
     let view : s ≡ c.args.self.now.queues = ap (λ (v : QueuesState _). v.queues) c.self.view_is in
     let IsMarked : QueueState _ → Type 0 = λ v. mark_under v c.args.unique ≡ Some Read in
     let marked : IsMarked s = subst IsMarked (sym view) (search rules) in
-    let fewer = interrupts-lt-requests s c.args.unique Read c.self.invariant.sound marked (none_queued s c.args.unique Read c.self.invariant.sound marked refl) in
+    let fewer = interrupts-lt-requests s c.args.unique Read c.self.invariant.sound marked
+    (none_queued s c.args.unique Read c.self.invariant.sound marked refl) in
     let fits : length s.requests ≤ _ = c.self.invariant.fits in
     omega arith
 
@@ -73,6 +77,7 @@ invariant_of-self-in-Read g c =
     let IsMarked : QueueState _ → Type 0 = λ v. mark_under v c.args.unique ≡ Some Read in
     let marked : IsMarked s = subst IsMarked (sym view) (search rules) in
     record {
-      sound = rw (c.put_mark-in-Read.ensures.entries, c.push.ensures.numbers, c.push.ensures.off) (IsSound-mark_interrupted s c.args.unique Read c.self.invariant.sound marked refl);
+      sound = rw (c.put_mark-in-Read.ensures.entries, c.push.ensures.numbers, c.push.ensures.off)
+          (IsSound-mark_interrupted s c.args.unique Read c.self.invariant.sound marked refl);
       fits = omega (arith, c.self.invariant.fits);
     }

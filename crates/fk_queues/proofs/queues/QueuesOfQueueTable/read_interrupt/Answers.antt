@@ -14,6 +14,7 @@ invariant_of-self g c =
       interrupts_off = q.interrupts.off;
     } in
     record {
-      sound = rw (c.drop_first.ensures.numbers, c.drop_first.ensures.off) (IsSound-read_interrupt s c.self.invariant.sound);
+      sound = rw (c.drop_first.ensures.numbers, c.drop_first.ensures.off)
+          (IsSound-read_interrupt s c.self.invariant.sound);
       fits = omega (arith, c.self.invariant.fits);
     }

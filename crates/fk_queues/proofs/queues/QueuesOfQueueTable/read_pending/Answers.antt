@@ -17,7 +17,8 @@ invariant_of-self g c =
     let unique = c.in_ok-unique.unique in
     let request = c.in_ok-unique.request.now in
     let found : slice_get (pending s) c.args.place ≡ Some (unique, request) = search rules in
-    let marked_so : mark_under s unique ≡ Some request.mark = mark_under-pending s c.args.place (unique, request) c.self.invariant.sound found in
+    let marked_so : mark_under s unique ≡ Some request.mark =
+    mark_under-pending s c.args.place (unique, request) c.self.invariant.sound found in
     let marked : mark_under s unique ≡ Some Unread = marked_so ∙ ap Some c.in-Unread.is in
     record {
       sound = rw c.put_mark.ensures.entries (IsSound-mark s unique Unread Read c.self.invariant.sound marked refl);
@@ -37,9 +38,11 @@ push-requires g c =
     let unique = c.in_ok-unique.unique in
     let request = c.in_ok-unique.request.now in
     let found : slice_get (pending s) c.args.place ≡ Some (unique, request) = search rules in
-    let marked_so : mark_under s unique ≡ Some request.mark = mark_under-pending s c.args.place (unique, request) c.self.invariant.sound found in
+    let marked_so : mark_under s unique ≡ Some request.mark =
+    mark_under-pending s c.args.place (unique, request) c.self.invariant.sound found in
     let marked : mark_under s unique ≡ Some Flagged = marked_so ∙ ap Some c.in-Flagged.is in
-    let fewer = interrupts-lt-requests s unique Flagged c.self.invariant.sound marked (none_queued s unique Flagged c.self.invariant.sound marked refl) in
+    let fewer = interrupts-lt-requests s unique Flagged c.self.invariant.sound marked
+    (none_queued s unique Flagged c.self.invariant.sound marked refl) in
     let fits : length s.requests ≤ _ = c.self.invariant.fits in
     omega arith
 
@@ -56,10 +59,12 @@ invariant_of-self-in-Flagged g c =
     let unique = c.in_ok-unique.unique in
     let request = c.in_ok-unique.request.now in
     let found : slice_get (pending s) c.args.place ≡ Some (unique, request) = search rules in
-    let marked_so : mark_under s unique ≡ Some request.mark = mark_under-pending s c.args.place (unique, request) c.self.invariant.sound found in
+    let marked_so : mark_under s unique ≡ Some request.mark =
+    mark_under-pending s c.args.place (unique, request) c.self.invariant.sound found in
     let marked : mark_under s unique ≡ Some Flagged = marked_so ∙ ap Some c.in-Flagged.is in
     record {
-      sound = rw (c.put_mark-in-Flagged.ensures.entries, c.push.ensures.numbers, c.push.ensures.off) (IsSound-mark_interrupted s unique Flagged c.self.invariant.sound marked refl);
+      sound = rw (c.put_mark-in-Flagged.ensures.entries, c.push.ensures.numbers, c.push.ensures.off)
+          (IsSound-mark_interrupted s unique Flagged c.self.invariant.sound marked refl);
       fits = omega (arith, c.self.invariant.fits);
     }
 
@@ -73,7 +78,8 @@ returns-in-Unread-clause-state g c =
       next = q.uniques;
       interrupts_off = q.interrupts.off;
     } in
-    let found : slice_get (pending s) c.args.place ≡ Some (c.in_ok-unique.unique, c.in_ok-unique.request.now) = search rules in
+    let found : slice_get (pending s) c.args.place ≡ Some (c.in_ok-unique.unique, c.in_ok-unique.request.now) =
+    search rules in
     rw (← c.self.view_is, found, c.in-Unread.is, c.put_mark.ensures.entries) refl
 
 pub returns-in-Flagged-clause-state : goal.returns-in-Flagged-clause-state
@@ -86,8 +92,16 @@ returns-in-Flagged-clause-state g c =
       next = q.uniques;
       interrupts_off = q.interrupts.off;
     } in
-    let found : slice_get (pending s) c.args.place ≡ Some (c.in_ok-unique.unique, c.in_ok-unique.request.now) = search rules in
-    rw (← c.self.view_is, found, c.in-Flagged.is, c.put_mark-in-Flagged.ensures.entries, c.push.ensures.numbers, c.push.ensures.off) refl
+    let found : slice_get (pending s) c.args.place ≡ Some (c.in_ok-unique.unique, c.in_ok-unique.request.now) =
+    search rules in
+    rw (
+      ← c.self.view_is,
+      found,
+      c.in-Flagged.is,
+      c.put_mark-in-Flagged.ensures.entries,
+      c.push.ensures.numbers,
+      c.push.ensures.off,
+    ) refl
 
 pub returns-in-Read-clause-state : goal.returns-in-Read-clause-state
 returns-in-Read-clause-state g c =
@@ -99,7 +113,8 @@ returns-in-Read-clause-state g c =
       next = q.uniques;
       interrupts_off = q.interrupts.off;
     } in
-    let found : slice_get (pending s) c.args.place ≡ Some (c.in_ok-unique.unique, c.in_ok-unique.request.now) = search rules in
+    let found : slice_get (pending s) c.args.place ≡ Some (c.in_ok-unique.unique, c.in_ok-unique.request.now) =
+    search rules in
     elim c.in-Read.is [
       | inl read ↦ rw (← c.self.view_is, found, read) refl
       | inr interrupted ↦ rw (← c.self.view_is, found, interrupted) refl

@@ -9,11 +9,21 @@ use Rattle.fk_syscalls.proofs.new_name.NewName.find.Goals as goal
 pub returns-then-is_of : goal.returns-then-is_of
 returns-then-is_of g c =
     let new = c.args.self.now in
-    let tie : eq_by_cmp place_cmp (c.args.directory, c.args.name.now) (place_of new) ≡ true = sym c.is_of.ensures ∙ c.if-is_of.true in
-    rw (name_put c.args.names.now.names (place_of new) (record { target = Some new.node; until = new.until }) (c.args.directory, c.args.name.now), tie) c.at.ensures
+    let tie : eq_by_cmp place_cmp (c.args.directory, c.args.name.now) (place_of new) ≡ true =
+    sym c.is_of.ensures ∙ c.if-is_of.true in
+    rw (
+      name_put c.args.names.now.names (place_of new) (record { target = Some new.node; until = new.until })
+          (c.args.directory, c.args.name.now),
+      tie,
+    ) c.at.ensures
 
 pub returns : goal.returns
 returns g c =
     let new = c.args.self.now in
-    let tie : eq_by_cmp place_cmp (c.args.directory, c.args.name.now) (place_of new) ≡ false = sym c.is_of.ensures ∙ c.if-is_of.false in
-    rw (name_put c.args.names.now.names (place_of new) (record { target = Some new.node; until = new.until }) (c.args.directory, c.args.name.now), tie) c.find.ensures
+    let tie : eq_by_cmp place_cmp (c.args.directory, c.args.name.now) (place_of new) ≡ false =
+    sym c.is_of.ensures ∙ c.if-is_of.false in
+    rw (
+      name_put c.args.names.now.names (place_of new) (record { target = Some new.node; until = new.until })
+          (c.args.directory, c.args.name.now),
+      tie,
+    ) c.find.ensures

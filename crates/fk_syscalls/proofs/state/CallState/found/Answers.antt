@@ -36,7 +36,8 @@ returns-then-is_some g c = λ vfs call directory word words plan has walks.
     let on = looks_on vfs call from self.node left plan_now directory word words plan next (view ∙ walks) behind in
     let stop = rw c.deref-2.ensures.value at c.in-Some.ensures.stop in
     let there = sym c.is_some.ensures ∙ c.if-is_some.true in
-    on ∙ waits vfs names c.args.clock has call next plan_now from c.in-Some.stop.node (words_from bytes c.in-Some.stop.at) (λ none. some_left bytes c.in-Some.stop.at there none) stop
+    on ∙ waits vfs names c.args.clock has call next plan_now from c.in-Some.stop.node
+    (words_from bytes c.in-Some.stop.at) (λ none. some_left bytes c.in-Some.stop.at there none) stop
 
 pub returns : goal.returns
 returns g c = λ vfs call directory word words plan has walks.
@@ -52,5 +53,6 @@ returns g c = λ vfs call directory word words plan has walks.
     let on = looks_on vfs call from self.node left plan_now directory word words plan next (view ∙ walks) behind in
     let stop = rw c.deref-2.ensures.value at c.in-Some.ensures.stop in
     let none = none_left bytes c.in-Some.stop.at (sym c.is_some.ensures ∙ c.if-is_some.false) in
-    let arrives : go (known names c.args.clock) from next ≡ arrived c.in-Some.stop.node = stop ∙ ap (stop_at c.in-Some.stop.node) none in
+    let arrives : go (known names c.args.clock) from next ≡ arrived c.in-Some.stop.node =
+    stop ∙ ap (stop_at c.in-Some.stop.node) none in
     on ∙ c.arrived_at.ensures vfs call from next has arrives

@@ -7,4 +7,7 @@ pub invariant_of-result : goal.invariant_of-result
 invariant_of-result g c =
     let left = subst (λ at. AreWords c.args.words.now at) c.in-Some.is c.requires.left in
     let copied = c.in_ok-to_vec-in-Some.ensures.items_if_clones_equal (λ x y e. e) in
-    record { left = rw copied (copied_are_words c.args.words.now c.in-Some.place left); sound = (c.in_ok-plan.ensures.sound, λ none. cc) }
+    record {
+      left = rw copied (copied_are_words c.args.words.now c.in-Some.place left);
+      sound = (c.in_ok-plan.ensures.sound, λ none. cc);
+    }

@@ -25,7 +25,8 @@ returns-in_default-walk_past g c = λ vfs call directory word words plan has wal
     let behind = rw c.deref.ensures.value at c.next_place-next.ensures.words in
     let on = looks_on vfs call from self.node left plan_now directory word words plan next (view ∙ walks) behind in
     let stop = rw c.deref-2.ensures.value at c.in_default-walk_past.ensures.stop in
-    ap (λ (a : Advance Opened). is_some a.operation) (on ∙ finds_none vfs names c.args.clock has call next plan_now from stop)
+    ap (λ (a : Advance Opened). is_some a.operation)
+    (on ∙ finds_none vfs names c.args.clock has call next plan_now from stop)
 
 pub returns-then-is_some : goal.returns-then-is_some
 returns-then-is_some g c = λ vfs call directory word words plan has walks.
@@ -41,7 +42,9 @@ returns-then-is_some g c = λ vfs call directory word words plan has walks.
     let on = looks_on vfs call from self.node left plan_now directory word words plan next (view ∙ walks) behind in
     let stop = rw c.deref-2.ensures.value at c.in-Some.ensures.stop in
     let there = sym c.is_some.ensures ∙ c.if-is_some.true in
-    ap (λ (a : Advance Opened). is_some a.operation) (on ∙ waits vfs names c.args.clock has call next plan_now from c.in-Some.stop.node (words_from bytes c.in-Some.stop.at) (λ none. some_left bytes c.in-Some.stop.at there none) stop)
+    ap (λ (a : Advance Opened). is_some a.operation)
+    (on ∙ waits vfs names c.args.clock has call next plan_now from c.in-Some.stop.node
+    (words_from bytes c.in-Some.stop.at) (λ none. some_left bytes c.in-Some.stop.at there none) stop)
 
 pub walk_past-requires-in-Rename : goal.walk_past-requires-in-Rename
 walk_past-requires-in-Rename g c =
@@ -69,7 +72,9 @@ returns-in-Last g c = λ vfs call directory word words plan has walks.
     let on = looks_on vfs call from self.node left plan_now directory word words plan next (view ∙ walks) behind in
     let stop = rw c.deref-2.ensures.value at c.in-Some.ensures.stop in
     let ends : IsLast plan_now = rw c.in-Last.is tt in
-    ap (λ (a : Advance Opened). is_some a.operation) (on ∙ waits vfs names c.args.clock has call next plan_now from c.in-Some.stop.node (words_from bytes c.in-Some.stop.at) (λ none. ends) stop)
+    ap (λ (a : Advance Opened). is_some a.operation)
+    (on ∙ waits vfs names c.args.clock has call next plan_now from c.in-Some.stop.node
+    (words_from bytes c.in-Some.stop.at) (λ none. ends) stop)
 
 pub returns-in-Rename : goal.returns-in-Rename
 returns-in-Rename g c = λ vfs call directory word words plan has walks.
@@ -85,12 +90,16 @@ returns-in-Rename g c = λ vfs call directory word words plan has walks.
     let on = looks_on vfs call from self.node left plan_now directory word words plan next (view ∙ walks) behind in
     let stop = rw c.deref-2.ensures.value at c.in-Some.ensures.stop in
     let none = none_left bytes c.in-Some.stop.at (sym c.is_some.ensures ∙ c.if-is_some.false) in
-    let arrives : go (known names c.args.clock) from next ≡ arrived c.in-Some.stop.node = stop ∙ ap (stop_at c.in-Some.stop.node) none in
+    let arrives : go (known names c.args.clock) from next ≡ arrived c.in-Some.stop.node =
+    stop ∙ ap (stop_at c.in-Some.stop.node) none in
     let r = c.in-Rename in
     let more = words_from r.words.items r.at in
     let stop-2 = rw c.deref-in-Rename.ensures.value at c.walk_past-in-Rename.ensures.stop in
-    ap (λ (a : Advance Opened). is_some a.operation) (on ∙ ap (λ p. walks_on vfs call from next (plan_of (λ s. s.items) p)) r.is ∙ renames vfs names c.args.clock has call from next r.old.items more r.new.items c.in-Some.stop.node arrives)
-    ∙ root_asks vfs names c.args.clock has call more (rename_from c.in-Some.stop.node r.old.items r.new.items) r.words.items c.walk_past-in-Rename.result stop-2 ∙ sym c.is_some-in-Rename.ensures
+    ap (λ (a : Advance Opened). is_some a.operation)
+    (on ∙ ap (λ p. walks_on vfs call from next (plan_of
+    (λ s. s.items) p)) r.is ∙ renames vfs names c.args.clock has call from next r.old.items more r.new.items c.in-Some.stop.node arrives)
+    ∙ root_asks vfs names c.args.clock has call more
+    (rename_from c.in-Some.stop.node r.old.items r.new.items) r.words.items c.walk_past-in-Rename.result stop-2 ∙ sym c.is_some-in-Rename.ensures
 
 pub returns-in-Link : goal.returns-in-Link
 returns-in-Link g c = λ vfs call directory word words plan has walks.
@@ -106,9 +115,13 @@ returns-in-Link g c = λ vfs call directory word words plan has walks.
     let on = looks_on vfs call from self.node left plan_now directory word words plan next (view ∙ walks) behind in
     let stop = rw c.deref-2.ensures.value at c.in-Some.ensures.stop in
     let none = none_left bytes c.in-Some.stop.at (sym c.is_some.ensures ∙ c.if-is_some.false) in
-    let arrives : go (known names c.args.clock) from next ≡ arrived c.in-Some.stop.node = stop ∙ ap (stop_at c.in-Some.stop.node) none in
+    let arrives : go (known names c.args.clock) from next ≡ arrived c.in-Some.stop.node =
+    stop ∙ ap (stop_at c.in-Some.stop.node) none in
     let r = c.in-Link in
     let more = words_from r.words.items r.at in
     let stop-2 = rw c.deref-in-Link.ensures.value at c.walk_past-in-Link.ensures.stop in
-    ap (λ (a : Advance Opened). is_some a.operation) (on ∙ ap (λ p. walks_on vfs call from next (plan_of (λ s. s.items) p)) r.is ∙ links vfs names c.args.clock has call from next more r.name.items c.in-Some.stop.node arrives)
-    ∙ root_asks vfs names c.args.clock has call more (link_to c.in-Some.stop.node r.name.items) r.words.items c.walk_past-in-Link.result stop-2 ∙ sym c.is_some-in-Link.ensures
+    ap (λ (a : Advance Opened). is_some a.operation)
+    (on ∙ ap (λ p. walks_on vfs call from next (plan_of
+    (λ s. s.items) p)) r.is ∙ links vfs names c.args.clock has call from next more r.name.items c.in-Some.stop.node arrives)
+    ∙ root_asks vfs names c.args.clock has call more
+    (link_to c.in-Some.stop.node r.name.items) r.words.items c.walk_past-in-Link.result stop-2 ∙ sym c.is_some-in-Link.ensures

@@ -14,33 +14,68 @@ returns-in_default-clause-tree g c v = swept_if_none c.args.self.now v c.args.lo
 pub returns-then-holds-clause-tree : goal.returns-then-holds-clause-tree
 returns-then-holds-clause-tree g c v =
     let s = c.self.inside in
-    let files : FilesState = record { tree = s.tree; nodes = s.known.nodes; handles = s.known.handles; node_room = s.known.node_room; open_room = s.known.open_room } in
+    let files : FilesState = record {
+      tree = s.tree;
+      nodes = s.known.nodes;
+      handles = s.known.handles;
+      node_room = s.known.node_room;
+      open_room = s.known.open_room;
+    } in
     let named = rw (← c.self.view_is) at c.requires in
-    rw (← c.self.view_is) (swept_held files v c.args.loose c.in-Some.file c.in-Some.is named (sym c.holds.ensures ∙ c.if-holds.true))
+    rw (← c.self.view_is) (swept_held files v c.args.loose c.in-Some.file c.in-Some.is named
+    (sym c.holds.ensures ∙ c.if-holds.true))
 
 pub returns-then-holds-clause-named : goal.returns-then-holds-clause-named
 returns-then-holds-clause-named g c =
     let s = c.self.inside in
-    let files : FilesState = record { tree = s.tree; nodes = s.known.nodes; handles = s.known.handles; node_room = s.known.node_room; open_room = s.known.open_room } in
+    let files : FilesState = record {
+      tree = s.tree;
+      nodes = s.known.nodes;
+      handles = s.known.handles;
+      node_room = s.known.node_room;
+      open_room = s.known.open_room;
+    } in
     let named = rw (← c.self.view_is) at c.requires in
-    rw (← c.self.view_is) (named_held files any_validity c.args.loose c.in-Some.file c.in-Some.is named (sym c.holds.ensures ∙ c.if-holds.true))
+    rw (← c.self.view_is) (named_held files any_validity c.args.loose c.in-Some.file c.in-Some.is named
+    (sym c.holds.ensures ∙ c.if-holds.true))
 
 pub invariant_of-self : goal.invariant_of-self
 invariant_of-self g c =
     let s = c.self.inside in
-    let files : FilesState = record { tree = s.tree; nodes = s.known.nodes; handles = s.known.handles; node_room = s.known.node_room; open_room = s.known.open_room } in
-    rw c.discard.ensures (known_discarded files any_validity c.self.invariant c.in-Some.file (sym c.holds.ensures ∙ c.if-holds.false))
+    let files : FilesState = record {
+      tree = s.tree;
+      nodes = s.known.nodes;
+      handles = s.known.handles;
+      node_room = s.known.node_room;
+      open_room = s.known.open_room;
+    } in
+    rw c.discard.ensures (known_discarded files any_validity c.self.invariant c.in-Some.file
+    (sym c.holds.ensures ∙ c.if-holds.false))
 
 pub returns-clause-tree : goal.returns-clause-tree
 returns-clause-tree g c v =
     let s = c.self.inside in
-    let files : FilesState = record { tree = s.tree; nodes = s.known.nodes; handles = s.known.handles; node_room = s.known.node_room; open_room = s.known.open_room } in
+    let files : FilesState = record {
+      tree = s.tree;
+      nodes = s.known.nodes;
+      handles = s.known.handles;
+      node_room = s.known.node_room;
+      open_room = s.known.open_room;
+    } in
     let named = rw (← c.self.view_is) at c.requires in
-    rw (← c.self.view_is, c.discard.ensures) (swept_gone files v c.args.loose c.in-Some.file c.in-Some.is named (sym c.holds.ensures ∙ c.if-holds.false))
+    rw (← c.self.view_is, c.discard.ensures) (swept_gone files v c.args.loose c.in-Some.file c.in-Some.is named
+    (sym c.holds.ensures ∙ c.if-holds.false))
 
 pub returns-clause-named : goal.returns-clause-named
 returns-clause-named g c =
     let s = c.self.inside in
-    let files : FilesState = record { tree = s.tree; nodes = s.known.nodes; handles = s.known.handles; node_room = s.known.node_room; open_room = s.known.open_room } in
+    let files : FilesState = record {
+      tree = s.tree;
+      nodes = s.known.nodes;
+      handles = s.known.handles;
+      node_room = s.known.node_room;
+      open_room = s.known.open_room;
+    } in
     let named = rw (← c.self.view_is) at c.requires in
-    rw c.discard.ensures (named_gone files any_validity c.args.loose c.in-Some.file c.in-Some.is named (sym c.holds.ensures ∙ c.if-holds.false))
+    rw c.discard.ensures (named_gone files any_validity c.args.loose c.in-Some.file c.in-Some.is named
+    (sym c.holds.ensures ∙ c.if-holds.false))

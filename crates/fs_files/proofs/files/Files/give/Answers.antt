@@ -5,4 +5,5 @@ pub give-nodeid-requires-clause-generation : goal.give-nodeid-requires-clause-ge
 give-nodeid-requires-clause-generation g c = rw (← c.self.view_is, ← c.self-inside.view_is) at c.requires.generation
 
 pub invariant_of-self : goal.invariant_of-self
-invariant_of-self g c = rw c.give-nodeid.ensures.table (known_given _ _ _ (rw (← c.self-inside.view_is) at c.self.invariant) c.args.file c.give-nodeid.result.0 c.requires.file (rw (← c.self.view_is, ← c.self-inside.view_is) at c.requires.there))
+invariant_of-self g c = rw c.give-nodeid.ensures.table
+    (known_given _ _ _ (rw (← c.self-inside.view_is) at c.self.invariant) c.args.file c.give-nodeid.result.0 c.requires.file (rw (← c.self.view_is, ← c.self-inside.view_is) at c.requires.there))

@@ -12,7 +12,8 @@ use Rattle.fs_files.proofs.files.Files.give_listed.Goals as goal
 pub give_records-requires-clause-listable : goal.give_records-requires-clause-listable
 give_records-requires-clause-listable g c =
     let same = over_are c.args.records.now c.over.result c.unwrap.result c.over.ensures c.unwrap.ensures in
-    subst (λ (ds : List DirentContent). All (IsListable c.args.self.now.tree) (map dirent_in ds)) (sym same.0) c.requires.listable
+    subst (λ (ds : List DirentContent). All (IsListable c.args.self.now.tree) (map dirent_in ds))
+    (sym same.0) c.requires.listable
 
 pub give_records-requires-clause-few : goal.give_records-requires-clause-few
 give_records-requires-clause-few g c =
@@ -22,14 +23,18 @@ give_records-requires-clause-few g c =
 pub give_records-requires-clause-room : goal.give_records-requires-clause-room
 give_records-requires-clause-room g c =
     let same = over_are c.args.records.now c.over.result c.unwrap.result c.over.ensures c.unwrap.ensures in
-    subst (λ (ds : List DirentContent). length (map dirent_in ds) ≤ c.args.self.now.node_room) (sym same.0) c.requires.room
+    subst (λ (ds : List DirentContent). length (map dirent_in ds) ≤ c.args.self.now.node_room)
+    (sym same.0) c.requires.room
 
 pub give_records-requires-clause-generations : goal.give_records-requires-clause-generations
 give_records-requires-clause-generations g c =
     let same = over_are c.args.records.now c.over.result c.unwrap.result c.over.ensures c.unwrap.ensures in
-    subst (λ (ds : List DirentContent). generations_after c.args.self.now.nodes (files_told (map (pair_listed 0) (map dirent_in ds))) ≤ 2 ^ 62) (sym same.0) c.requires.generations
+    subst (λ (ds : List DirentContent). generations_after c.args.self.now.nodes
+    (files_told (map (pair_listed 0) (map dirent_in ds))) ≤ 2 ^ 62) (sym same.0) c.requires.generations
 
 pub returns-clause-given : goal.returns-clause-given
 returns-clause-given g c =
     let same = over_are c.args.records.now c.over.result c.unwrap.result c.over.ensures c.unwrap.ensures in
-    subst (λ (ds : List DirentContent). GivenEach c.args.self.now.nodes (files_told (map (pair_listed 0) (map dirent_in ds))) c.give_records.new.self.nodes) same.0 c.give_records.ensures.given
+    subst (λ (ds : List DirentContent). GivenEach c.args.self.now.nodes
+    (files_told (map (pair_listed 0)
+    (map dirent_in ds))) c.give_records.new.self.nodes) same.0 c.give_records.ensures.given

@@ -12,8 +12,14 @@ use Rattle.fs_files.proofs.files.Files.give_records.Goals as goal
 pub records-init : goal.records-init
 records-init g c =
     let s = c.args.self.now in
-    rw c.into_iter-record-iterator.ensures.into_iter_gives
-    (tt, tt, told_first s.tree s.nodes s.node_room (listed_in c.args.records) c.requires.listable c.requires.few c.requires.room c.requires.generations c.requires.counted, refl, refl)
+    rw c.into_iter-record-iterator.ensures.into_iter_gives (
+      tt,
+      tt,
+      told_first s.tree s.nodes s.node_room
+          (listed_in c.args.records) c.requires.listable c.requires.few c.requires.room c.requires.generations c.requires.counted,
+      refl,
+      refl,
+    )
 
 pub overflow_sub-record : goal.overflow_sub-record
 overflow_sub-record g c =
@@ -23,7 +29,8 @@ overflow_sub-record g c =
     let d : Dirent = dirent_in (dirent_content c.in-Some.record) in
     let ds : List Dirent = listed_in c.next.new.self in
     let still : StillTold old.tree old.nodes all now.nodes now.node_room (d ∷ ds) =
-    subst (λ (xs : List DirentContent). StillTold old.tree old.nodes all now.nodes now.node_room (map dirent_in xs)) c.in-Some.ensures.steps c.records.invariant.2 in
+    subst (λ (xs : List DirentContent). StillTold old.tree old.nodes all now.nodes now.node_room
+    (map dirent_in xs)) c.in-Some.ensures.steps c.records.invariant.2 in
     (told_listable old.tree old.nodes all now.nodes now.node_room d ds still).0
 
 pub give_named-requires-clause-file : goal.give_named-requires-clause-file
@@ -34,7 +41,8 @@ give_named-requires-clause-file g c =
     let d : Dirent = dirent_in (dirent_content c.in-Some.record) in
     let ds : List Dirent = listed_in c.next.new.self in
     let still : StillTold old.tree old.nodes all now.nodes now.node_room (d ∷ ds) =
-    subst (λ (xs : List DirentContent). StillTold old.tree old.nodes all now.nodes now.node_room (map dirent_in xs)) c.in-Some.ensures.steps c.records.invariant.2 in
+    subst (λ (xs : List DirentContent). StillTold old.tree old.nodes all now.nodes now.node_room
+    (map dirent_in xs)) c.in-Some.ensures.steps c.records.invariant.2 in
     (told_listable old.tree old.nodes all now.nodes now.node_room d ds still).1
 
 pub give_named-requires-clause-there : goal.give_named-requires-clause-there
@@ -45,8 +53,10 @@ give_named-requires-clause-there g c =
     let d : Dirent = dirent_in (dirent_content c.in-Some.record) in
     let ds : List Dirent = listed_in c.next.new.self in
     let still : StillTold old.tree old.nodes all now.nodes now.node_room (d ∷ ds) =
-    subst (λ (xs : List DirentContent). StillTold old.tree old.nodes all now.nodes now.node_room (map dirent_in xs)) c.in-Some.ensures.steps c.records.invariant.2 in
-    subst (λ (t : Tree). IsThere t (d.ino - 1)) (sym c.records.invariant.3) (told_listable old.tree old.nodes all now.nodes now.node_room d ds still).2
+    subst (λ (xs : List DirentContent). StillTold old.tree old.nodes all now.nodes now.node_room
+    (map dirent_in xs)) c.in-Some.ensures.steps c.records.invariant.2 in
+    subst (λ (t : Tree). IsThere t (d.ino - 1)) (sym c.records.invariant.3)
+    (told_listable old.tree old.nodes all now.nodes now.node_room d ds still).2
 
 pub give_named-requires-clause-room : goal.give_named-requires-clause-room
 give_named-requires-clause-room g c =
@@ -56,7 +66,8 @@ give_named-requires-clause-room g c =
     let d : Dirent = dirent_in (dirent_content c.in-Some.record) in
     let ds : List Dirent = listed_in c.next.new.self in
     let still : StillTold old.tree old.nodes all now.nodes now.node_room (d ∷ ds) =
-    subst (λ (xs : List DirentContent). StillTold old.tree old.nodes all now.nodes now.node_room (map dirent_in xs)) c.in-Some.ensures.steps c.records.invariant.2 in
+    subst (λ (xs : List DirentContent). StillTold old.tree old.nodes all now.nodes now.node_room
+    (map dirent_in xs)) c.in-Some.ensures.steps c.records.invariant.2 in
     told_room old.tree old.nodes all now.nodes now.node_room d ds still
 
 pub give_named-requires-clause-generations : goal.give_named-requires-clause-generations
@@ -67,7 +78,8 @@ give_named-requires-clause-generations g c =
     let d : Dirent = dirent_in (dirent_content c.in-Some.record) in
     let ds : List Dirent = listed_in c.next.new.self in
     let still : StillTold old.tree old.nodes all now.nodes now.node_room (d ∷ ds) =
-    subst (λ (xs : List DirentContent). StillTold old.tree old.nodes all now.nodes now.node_room (map dirent_in xs)) c.in-Some.ensures.steps c.records.invariant.2 in
+    subst (λ (xs : List DirentContent). StillTold old.tree old.nodes all now.nodes now.node_room
+    (map dirent_in xs)) c.in-Some.ensures.steps c.records.invariant.2 in
     told_generations old.tree old.nodes all now.nodes now.node_room d ds still
 
 pub give_named-requires-clause-counted : goal.give_named-requires-clause-counted
@@ -78,7 +90,8 @@ give_named-requires-clause-counted g c =
     let d : Dirent = dirent_in (dirent_content c.in-Some.record) in
     let ds : List Dirent = listed_in c.next.new.self in
     let still : StillTold old.tree old.nodes all now.nodes now.node_room (d ∷ ds) =
-    subst (λ (xs : List DirentContent). StillTold old.tree old.nodes all now.nodes now.node_room (map dirent_in xs)) c.in-Some.ensures.steps c.records.invariant.2 in
+    subst (λ (xs : List DirentContent). StillTold old.tree old.nodes all now.nodes now.node_room
+    (map dirent_in xs)) c.in-Some.ensures.steps c.records.invariant.2 in
     told_counted old.tree old.nodes all now.nodes now.node_room d ds still
 
 pub records-preserved : goal.records-preserved
@@ -89,7 +102,8 @@ records-preserved g c =
     let d : Dirent = dirent_in (dirent_content c.in-Some.record) in
     let ds : List Dirent = listed_in c.next.new.self in
     let still : StillTold old.tree old.nodes all now.nodes now.node_room (d ∷ ds) =
-    subst (λ (xs : List DirentContent). StillTold old.tree old.nodes all now.nodes now.node_room (map dirent_in xs)) c.in-Some.ensures.steps c.records.invariant.2 in
+    subst (λ (xs : List DirentContent). StillTold old.tree old.nodes all now.nodes now.node_room
+    (map dirent_in xs)) c.in-Some.ensures.steps c.records.invariant.2 in
     let next = c.give_named.new.self in
     let does = c.give_named.ensures in (
       tt,
@@ -105,7 +119,8 @@ returns-clause-given g c =
     let now = c.records.self in
     let all = files_told (map (pair_listed 0) (listed_in c.args.records)) in
     let still : StillTold old.tree old.nodes all now.nodes now.node_room [] =
-    subst (λ (xs : List DirentContent). StillTold old.tree old.nodes all now.nodes now.node_room (map dirent_in xs)) c.in-None.ensures.steps.0 c.records.invariant.2 in
+    subst (λ (xs : List DirentContent). StillTold old.tree old.nodes all now.nodes now.node_room
+    (map dirent_in xs)) c.in-None.ensures.steps.0 c.records.invariant.2 in
     still.goes now.nodes refl
 
 pub returns-clause-tree : goal.returns-clause-tree

@@ -8,6 +8,7 @@ abbrev pub invariant-records : goal.invariant-records
 invariant-records g l =
     (goal.iterator-records g).can_next l.record-iterator
     × (goal.iterator-records g).is_finite l.record-iterator
-    × StillTold l.fn.self.tree l.fn.self.nodes (files_told (map (pair_listed 0) (listed_in l.fn.records))) l.self.nodes l.self.node_room (listed_in l.record-iterator)
+    × StillTold l.fn.self.tree l.fn.self.nodes (files_told
+    (map (pair_listed 0) (listed_in l.fn.records))) l.self.nodes l.self.node_room (listed_in l.record-iterator)
     × (l.self.tree ≡ l.fn.self.tree)
     × (l.self.handles ≡ l.fn.self.handles)

@@ -12,4 +12,6 @@ returns-clause-others g c v m named =
     let held = c.args.held.now in
     let known = subst (λ (f : FilesState). AreKnown f.tree f.nodes f.handles) c.self.view_is c.self.invariant in
     let shaped = subst (λ (f : FilesState). IsShaped f.tree) c.self.view_is c.keeps_shape.ensures in
-    subst (λ (o : Option ℕ). AreNamedBut o (tree_said (server_at m files v) held) files.nodes (handles_said (server_at m files v) held)) (sym (c.loosened.ensures v m ∙ ap (loosened (server_at m files v)) c.body.ensures)) (named_said files v m known shaped named held)
+    subst (λ (o : Option ℕ). AreNamedBut o (tree_said (server_at m files v) held) files.nodes
+    (handles_said (server_at m files v) held)) (sym (c.loosened.ensures v m ∙ ap
+    (loosened (server_at m files v)) c.body.ensures)) (named_said files v m known shaped named held)

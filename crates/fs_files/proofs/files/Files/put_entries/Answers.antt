@@ -19,8 +19,10 @@ records-init g c =
     let tree = c.args.self.now.tree in
     let nodes = c.args.self.now.nodes in
     let same = (over_are c.args.records.now c.over.result c.unwrap-record-items.result c.over.ensures c.unwrap-record-items.ensures).0 in
-    let names : map dirent_in (records_in c.unwrap-record-items.result) ≡ names_in c.args.records.now = ap (λ (ds : List DirentContent). map dirent_in ds) same in
-    let many : length (map dirent_in (records_in c.unwrap-record-items.result)) ≡ length (names_in c.args.records.now) = ap (λ (ds : List Dirent). length ds) names in
+    let names : map dirent_in (records_in c.unwrap-record-items.result) ≡ names_in c.args.records.now =
+    ap (λ (ds : List DirentContent). map dirent_in ds) same in
+    let many : length (map dirent_in (records_in c.unwrap-record-items.result))
+    ≡ length (names_in c.args.records.now) = ap (λ (ds : List Dirent). length ds) names in
     let none : length c.args.entries.now.items ≡ 0 = ap (λ (es : List Entry). length es) c.requires.none in
     let none_told : length c.args.told.now.items ≡ 0 = ap (λ (es : List Entry). length es) c.requires.none_told in
     let room = c.requires.room in
@@ -37,13 +39,17 @@ records-init g c =
 
 pub overflow_sub-record : goal.overflow_sub-record
 overflow_sub-record g c =
-    let listable = subst (λ (ds : List DirentContent). All (IsListable c.args.self.now.tree) (map dirent_in ds)) c.in-Some.ensures.steps c.records.invariant.2 in
-    (All-head (IsListable c.args.self.now.tree) (dirent_in (dirent_content c.in-Some.record)) (map dirent_in (records_in c.next.new.self)) listable).0
+    let listable = subst (λ (ds : List DirentContent). All (IsListable c.args.self.now.tree)
+    (map dirent_in ds)) c.in-Some.ensures.steps c.records.invariant.2 in
+    (All-head (IsListable c.args.self.now.tree) (dirent_in (dirent_content c.in-Some.record))
+    (map dirent_in (records_in c.next.new.self)) listable).0
 
 pub entry_of-entry-requires : goal.entry_of-entry-requires
 entry_of-entry-requires g c =
-    let listable = subst (λ (ds : List DirentContent). All (IsListable c.args.self.now.tree) (map dirent_in ds)) c.in-Some.ensures.steps c.records.invariant.2 in
-    (All-head (IsListable c.args.self.now.tree) (dirent_in (dirent_content c.in-Some.record)) (map dirent_in (records_in c.next.new.self)) listable).1
+    let listable = subst (λ (ds : List DirentContent). All (IsListable c.args.self.now.tree)
+    (map dirent_in ds)) c.in-Some.ensures.steps c.records.invariant.2 in
+    (All-head (IsListable c.args.self.now.tree) (dirent_in (dirent_content c.in-Some.record))
+    (map dirent_in (records_in c.next.new.self)) listable).1
 
 pub records-preserved : goal.records-preserved
 records-preserved g c =
@@ -51,8 +57,10 @@ records-preserved g c =
     let nodes = c.args.self.now.nodes in
     let d : Dirent = dirent_in (dirent_content c.in-Some.record) in
     let ds : List Dirent = map dirent_in (records_in c.next.new.self) in
-    let first : map dirent_in (records_in c.records.record-iterator) ≡ d ∷ ds = ap (λ (xs : List DirentContent). map dirent_in xs) c.in-Some.ensures.steps in
-    let many : length (map dirent_in (records_in c.records.record-iterator)) ≡ length (d ∷ ds) = ap (λ (xs : List Dirent). length xs) first in
+    let first : map dirent_in (records_in c.records.record-iterator) ≡ d ∷ ds =
+    ap (λ (xs : List DirentContent). map dirent_in xs) c.in-Some.ensures.steps in
+    let many : length (map dirent_in (records_in c.records.record-iterator)) ≡ length (d ∷ ds) =
+    ap (λ (xs : List Dirent). length xs) first in
     let es : List Entry = c.records.entries.items in
     let ts : List Entry = c.records.told.items in
     let e : Entry = c.entry_of-entry.result in
@@ -61,12 +69,17 @@ records-preserved g c =
     let rest : List Entry = files_told (entries_named tree nodes ds) in
     let whole : List Entry = map (entry_named tree nodes) (names_in c.args.records.now) in
     let all_told : List Entry = files_told (entries_named tree nodes (names_in c.args.records.now)) in
-    let items : es ++ map (entry_named tree nodes) (d ∷ ds) ≡ whole = subst (λ (xs : List Dirent). es ++ map (entry_named tree nodes) xs ≡ whole) first c.records.invariant.3 in
-    let told : ts ++ files_told (entries_named tree nodes (d ∷ ds)) ≡ all_told = subst (λ (xs : List Dirent). ts ++ files_told (entries_named tree nodes xs) ≡ all_told) first c.records.invariant.4 in
+    let items : es ++ map (entry_named tree nodes) (d ∷ ds) ≡ whole =
+    subst (λ (xs : List Dirent). es ++ map (entry_named tree nodes) xs ≡ whole) first c.records.invariant.3 in
+    let told : ts ++ files_told (entries_named tree nodes (d ∷ ds)) ≡ all_told =
+    subst (λ (xs : List Dirent). ts ++ files_told (entries_named tree nodes xs)
+    ≡ all_told) first c.records.invariant.4 in
     let put : c.push_reserved.new.self.items ≡ es ++ e ∷ [] = c.push_reserved.ensures.items in
     let put_told : c.put_told.new.told.items ≡ ts ++ first_told o [] = c.put_told.ensures.items in
-    let put_len : length c.push_reserved.new.self.items ≡ length (es ++ e ∷ []) = ap (λ (xs : List Entry). length xs) put in
-    let told_len : length c.put_told.new.told.items ≡ length (ts ++ first_told o []) = ap (λ (xs : List Entry). length xs) put_told in
+    let put_len : length c.push_reserved.new.self.items ≡ length (es ++ e ∷ []) =
+    ap (λ (xs : List Entry). length xs) put in
+    let told_len : length c.put_told.new.told.items ≡ length (ts ++ first_told o []) =
+    ap (λ (xs : List Entry). length xs) put_told in
     let longer = one_longer es e in
     let longer_told = told_longer ts o in
     let room = c.records.invariant.5 in
@@ -75,9 +88,12 @@ records-preserved g c =
     let capacity_told = c.put_told.ensures.capacity in (
       tt,
       tt,
-      All-tail (IsListable tree) d ds (subst (λ (xs : List Dirent). All (IsListable tree) xs) first c.records.invariant.2),
-      ap (λ (xs : List Entry). xs ++ map (entry_named tree nodes) ds) put ∙ one_on es e (map (entry_named tree nodes) ds) ∙ ap (λ (x : Entry). es ++ x ∷ map (entry_named tree nodes) ds) is ∙ items,
-      ap (λ (xs : List Entry). xs ++ rest) put_told ∙ told_on ts o rest ∙ ap (λ (x : Entry). ts ++ first_told (cond (is_dots d.name) None (Some x)) rest) is ∙ told,
+      All-tail (IsListable tree) d ds (subst (λ (xs : List Dirent). All
+          (IsListable tree) xs) first c.records.invariant.2),
+      ap (λ (xs : List Entry). xs ++ map (entry_named tree nodes) ds) put ∙ one_on es e
+          (map (entry_named tree nodes) ds) ∙ ap (λ (x : Entry). es ++ x ∷ map (entry_named tree nodes) ds) is ∙ items,
+      ap (λ (xs : List Entry). xs ++ rest) put_told ∙ told_on ts o rest ∙ ap
+          (λ (x : Entry). ts ++ first_told (cond (is_dots d.name) None (Some x)) rest) is ∙ told,
       omega (arith, many, put_len, longer, room, capacity),
       omega (arith, many, told_len, longer_told, room_told, capacity_told),
     )

@@ -12,7 +12,11 @@ invariant-records g l =
     (goal.iterator-records g).can_next l.record-iterator
     × (goal.iterator-records g).is_finite l.record-iterator
     × All (IsListable l.fn.self.tree) (map dirent_in (records_in l.record-iterator))
-    × (l.entries.items ++ map (entry_named l.fn.self.tree l.fn.self.nodes) (map dirent_in (records_in l.record-iterator)) ≡ map (entry_named l.fn.self.tree l.fn.self.nodes) (names_in l.fn.records))
-    × (l.told.items ++ files_told (entries_named l.fn.self.tree l.fn.self.nodes (map dirent_in (records_in l.record-iterator))) ≡ files_told (entries_named l.fn.self.tree l.fn.self.nodes (names_in l.fn.records)))
+    × (l.entries.items ++ map (entry_named l.fn.self.tree l.fn.self.nodes)
+    (map dirent_in (records_in l.record-iterator)) ≡ map (entry_named l.fn.self.tree l.fn.self.nodes)
+    (names_in l.fn.records))
+    × (l.told.items ++ files_told (entries_named l.fn.self.tree l.fn.self.nodes
+    (map dirent_in (records_in l.record-iterator))) ≡ files_told
+    (entries_named l.fn.self.tree l.fn.self.nodes (names_in l.fn.records)))
     × (length l.entries.items + length (map dirent_in (records_in l.record-iterator)) ≤ vec_capacity l.entries)
     × (length l.told.items + length (map dirent_in (records_in l.record-iterator)) ≤ vec_capacity l.told)

@@ -7,7 +7,8 @@ use Rattle.fs_files.proofs.ToldList.{same_files, tells_listed}
 use Rattle.fs_files.proofs.files.Files.tell.Goals as goal
 
 pub returns-in-Found-clause-tells : goal.returns-in-Found-clause-tells
-returns-in-Found-clause-tells g c = rw c.in-Found.is (tells_found c.args.self.now c.give.new.self c.in-Found.file c.args.found_ms c.give.result c.give.ensures.gives c.give.ensures.tree c.give.ensures.handles)
+returns-in-Found-clause-tells g c = rw c.in-Found.is
+    (tells_found c.args.self.now c.give.new.self c.in-Found.file c.args.found_ms c.give.result c.give.ensures.gives c.give.ensures.tree c.give.ensures.handles)
 
 pub returns-in-Created-clause-tells : goal.returns-in-Created-clause-tells
 returns-in-Created-clause-tells g c =
@@ -16,7 +17,8 @@ returns-in-Created-clause-tells g c =
     c.open.ensures.tree c.open.ensures.nodes c.open.ensures.handles)
 
 pub returns-in-Opened-clause-tells : goal.returns-in-Opened-clause-tells
-returns-in-Opened-clause-tells g c = rw c.in-Opened.is (tells_opened c.args.self.now c.open-in-Opened.new.self c.in-Opened.file c.open-in-Opened.result c.open-in-Opened.ensures.fh c.open-in-Opened.ensures.tree c.open-in-Opened.ensures.nodes c.open-in-Opened.ensures.handles)
+returns-in-Opened-clause-tells g c = rw c.in-Opened.is
+    (tells_opened c.args.self.now c.open-in-Opened.new.self c.in-Opened.file c.open-in-Opened.result c.open-in-Opened.ensures.fh c.open-in-Opened.ensures.tree c.open-in-Opened.ensures.nodes c.open-in-Opened.ensures.handles)
 
 pub returns-in-Plain-clause-tells : goal.returns-in-Plain-clause-tells
 returns-in-Plain-clause-tells g c = rw c.in-Plain.is (tells_plain c.args.self.now c.in-Plain.reply)
@@ -28,11 +30,15 @@ returns-in-ListedPlus-clause-tells g c =
     c.list.ensures.handles)
 
 pub give-requires-clause-generation : goal.give-requires-clause-generation
-give-requires-clause-generation g c = generation_left c.args.self.now.nodes c.in-Found.file [] (holds_sorted c.args.self.now.nodes c.keeps_sound.ensures) (rw c.in-Found.is at c.requires.generations)
+give-requires-clause-generation g c = generation_left c.args.self.now.nodes c.in-Found.file []
+    (holds_sorted c.args.self.now.nodes c.keeps_sound.ensures) (rw c.in-Found.is at c.requires.generations)
 
 pub give-entry-requires-clause-generation : goal.give-entry-requires-clause-generation
-give-entry-requires-clause-generation g c = generation_left c.args.self.now.nodes c.in-Created.file [] (holds_sorted c.args.self.now.nodes c.keeps_sound.ensures) (rw c.in-Created.is at c.requires.generations)
+give-entry-requires-clause-generation g c = generation_left c.args.self.now.nodes c.in-Created.file []
+    (holds_sorted c.args.self.now.nodes c.keeps_sound.ensures) (rw c.in-Created.is at c.requires.generations)
 
 pub list-requires-clause-generations : goal.list-requires-clause-generations
 list-requires-clause-generations g c =
-    subst (λ (files : List ℕ). generations_after c.args.self.now.nodes files ≤ 2 ^ 62) (same_files c.args.found_ms (names_in c.in-ListedPlus.records.items)) (rw c.in-ListedPlus.is at c.requires.generations)
+    subst (λ (files : List ℕ). generations_after c.args.self.now.nodes files ≤ 2 ^ 62)
+    (same_files c.args.found_ms (names_in c.in-ListedPlus.records.items))
+    (rw c.in-ListedPlus.is at c.requires.generations)

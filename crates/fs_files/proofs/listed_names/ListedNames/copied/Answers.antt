@@ -9,8 +9,11 @@ pub unwrap-requires-3 : goal.unwrap-requires-3
 unwrap-requires-3 g c =
     let self = c.args.self.now in
     let few = told_few self.found_ms self.entries.items (names_in self.records.items) in
-    let told : length self.told.items ≡ length (files_told (listed_pairs self.found_ms self.entries.items self.records.items)) = ap (λ (es : List Entry). length es) self.are_told in
-    let value : length c.deref-3.result.now ≡ length self.told.items = ap (λ (es : List Entry). length es) c.deref-3.ensures.value in
+    let told : length self.told.items ≡ length (files_told
+    (listed_pairs self.found_ms self.entries.items self.records.items)) =
+    ap (λ (es : List Entry). length es) self.are_told in
+    let value : length c.deref-3.result.now ≡ length self.told.items =
+    ap (λ (es : List Entry). length es) c.deref-3.ensures.value in
     let none : length c.args.spare.told.items ≡ 0 = ap (λ (es : List Entry). length es) c.requires.none_told in
     let room = c.requires.told in
     c.extend_from_slice-3.ensures.succeeds (omega (arith, few, told, value, none, room))

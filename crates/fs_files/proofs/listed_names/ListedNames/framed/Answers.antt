@@ -7,31 +7,39 @@ use Rattle.fs_files.proofs.listed_names.ListedNames.framed.Goals as goal
 
 pub listed_plus-requires-clause-together : goal.listed_plus-requires-clause-together
 listed_plus-requires-clause-together g c =
-    let same = over_are c.args.self.now.records.items c.over.result c.unwrap-records.result (rw c.deref.ensures.value at c.over.ensures) c.unwrap-records.ensures in
+    let same = over_are c.args.self.now.records.items c.over.result c.unwrap-records.result
+    (rw c.deref.ensures.value at c.over.ensures) c.unwrap-records.ensures in
     rw (c.deref-2.ensures.value, same.0) c.args.self.now.together
 
 pub listed_plus-requires-clause-types : goal.listed_plus-requires-clause-types
 listed_plus-requires-clause-types g c =
-    let same = over_are c.args.self.now.records.items c.over.result c.unwrap-records.result (rw c.deref.ensures.value at c.over.ensures) c.unwrap-records.ensures in
-    subst (λ (ds : List DirentContent). map dirent_of (map dirent_in ds) ≡ ds) (sym same.0) c.args.self.now.are_records.1
+    let same = over_are c.args.self.now.records.items c.over.result c.unwrap-records.result
+    (rw c.deref.ensures.value at c.over.ensures) c.unwrap-records.ensures in
+    subst (λ (ds : List DirentContent). map dirent_of (map dirent_in ds) ≡ ds)
+    (sym same.0) c.args.self.now.are_records.1
 
 pub listed_plus-requires-clause-room : goal.listed_plus-requires-clause-room
 listed_plus-requires-clause-room g c =
-    let same = over_are c.args.self.now.records.items c.over.result c.unwrap-records.result (rw c.deref.ensures.value at c.over.ensures) c.unwrap-records.ensures in
+    let same = over_are c.args.self.now.records.items c.over.result c.unwrap-records.result
+    (rw c.deref.ensures.value at c.over.ensures) c.unwrap-records.ensures in
     let size = same.1 in
     let room = c.requires in
-    let count : length c.deref-2.result.now ≡ length c.args.self.now.entries.items = ap (λ (es : List Entry). length es) c.deref-2.ensures.value in
+    let count : length c.deref-2.result.now ≡ length c.args.self.now.entries.items =
+    ap (λ (es : List Entry). length es) c.deref-2.ensures.value in
     omega (arith, size, room, count)
 
 pub listed_plus-requires-clause-most : goal.listed_plus-requires-clause-most
 listed_plus-requires-clause-most g c =
-    let same = over_are c.args.self.now.records.items c.over.result c.unwrap-records.result (rw c.deref.ensures.value at c.over.ensures) c.unwrap-records.ensures in
+    let same = over_are c.args.self.now.records.items c.over.result c.unwrap-records.result
+    (rw c.deref.ensures.value at c.over.ensures) c.unwrap-records.ensures in
     let size = same.1 in
     let most = c.args.self.now.most in
-    let count : length c.deref-2.result.now ≡ length c.args.self.now.entries.items = ap (λ (es : List Entry). length es) c.deref-2.ensures.value in
+    let count : length c.deref-2.result.now ≡ length c.args.self.now.entries.items =
+    ap (λ (es : List Entry). length es) c.deref-2.ensures.value in
     omega (arith, size, most, count)
 
 pub returns : goal.returns
 returns g c =
-    let same = over_are c.args.self.now.records.items c.over.result c.unwrap-records.result (rw c.deref.ensures.value at c.over.ensures) c.unwrap-records.ensures in
+    let same = over_are c.args.self.now.records.items c.over.result c.unwrap-records.result
+    (rw c.deref.ensures.value at c.over.ensures) c.unwrap-records.ensures in
     rw (← same.0, ← c.deref-2.ensures.value) c.listed_plus.ensures

@@ -3,4 +3,5 @@ use Rattle.fs_files.specs.Giving.{AreCountable}
 use Rattle.fs_files.proofs.nodes.Nodes.counts_out.Given as goal
 
 abbrev pub invariant-loop : goal.invariant-loop
-invariant-loop g l = (AreCountable l.self.table l.files l.left → AreCountable l.self.table l.files l.files) × (l.counter + length l.left ≡ l.end)
+invariant-loop g l = (AreCountable l.self.table l.files l.left → AreCountable l.self.table l.files l.files)
+    × (l.counter + length l.left ≡ l.end)

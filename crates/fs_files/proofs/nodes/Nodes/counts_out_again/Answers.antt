@@ -12,12 +12,17 @@ loop-preserved g c =
     let at = subst (IsCountable t files) c.file_of-file.ensures here in
     let first = c.in-Some.ensures.cases.0 in
     let shorter = c.in-Some.ensures.cases.1 in
-    let most = c.loop.invariant.1 in
-    ((λ rest. c.loop.invariant.0 (subst (λ (gs : List Entry). AreCountable t files (files_of t gs)) (sym first) (at, rest))), omega (arith, shorter, most))
+    let most = c.loop.invariant.1 in (
+      (λ rest. c.loop.invariant.0 (subst (λ (gs : List Entry). AreCountable t files (files_of t gs)) (sym first)
+          (at, rest))),
+      omega (arith, shorter, most),
+    )
 
 pub returns : goal.returns
 returns g c =
     let t = g.S.NodeStore.table c.self.inside.store in
     rw (← c.self.view_is)
-    (sym (none_out t (files_of t c.args.told.now) (holds_sorted t c.keeps_sound.ensures) (rw (← c.self.view_is) at c.requires)
-    ((rw (← c.self.view_is) at c.loop.invariant.0) (none_told t (files_of t c.args.told.now) c.loop.left.now c.loop.counter _ c.loop.invariant.1 c.loop-test.false))))
+    (sym (none_out t (files_of t c.args.told.now) (holds_sorted t c.keeps_sound.ensures)
+    (rw (← c.self.view_is) at c.requires)
+    ((rw (← c.self.view_is) at c.loop.invariant.0) (none_told t
+    (files_of t c.args.told.now) c.loop.left.now c.loop.counter _ c.loop.invariant.1 c.loop-test.false))))

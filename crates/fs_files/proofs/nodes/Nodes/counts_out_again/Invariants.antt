@@ -4,4 +4,6 @@ use Rattle.fs_files.proofs.nodes.Nodes.counts_out_again.Given as goal
 
 abbrev pub invariant-loop : goal.invariant-loop
 invariant-loop g l =
-    (AreCountable l.self.table (files_of l.self.table l.told) (files_of l.self.table l.left) → AreCountable l.self.table (files_of l.self.table l.told) (files_of l.self.table l.told)) × (l.counter + length l.left ≡ l.end)
+    (AreCountable l.self.table (files_of l.self.table l.told) (files_of l.self.table l.left)
+    → AreCountable l.self.table (files_of l.self.table l.told) (files_of l.self.table l.told))
+    × (l.counter + length l.left ≡ l.end)

@@ -5,10 +5,12 @@ use Rattle.fs_files.proofs.NodeLemmas.{two_of, generation_is}
 use Rattle.fs_files.proofs.nodes.Nodes.give.Goals as goal
 
 pub returns-clause-two : goal.returns-clause-two
-returns-clause-two g c = two_of (g.S.NodeStore.table c.self.inside.store) c.args.file c.give.result.0 c.keeps_sound.ensures c.give.ensures.id
+returns-clause-two g c =
+    two_of (g.S.NodeStore.table c.self.inside.store) c.args.file c.give.result.0 c.keeps_sound.ensures c.give.ensures.id
 
 pub returns-clause-generation : goal.returns-clause-generation
 returns-clause-generation g c =
     let t = g.S.NodeStore.table c.self.inside.store in
     let two = two_of t c.args.file c.give.result.0 c.keeps_sound.ensures c.give.ensures.id in
-    c.give.ensures.generation ∙ sym (generation_is t c.args.file c.give.result.0 two) ∙ ap (λ x. generation_in (row_of x c.give.result.0)) (sym c.give.ensures.table)
+    c.give.ensures.generation ∙ sym (generation_is t c.args.file c.give.result.0 two) ∙ ap
+    (λ x. generation_in (row_of x c.give.result.0)) (sym c.give.ensures.table)

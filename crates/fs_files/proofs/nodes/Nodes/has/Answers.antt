@@ -6,7 +6,11 @@ use Rattle.fs_files.proofs.NodeLemmas.{has_some}
 use Rattle.fs_files.proofs.nodes.Nodes.has.Goals as goal
 
 pub returns-clause-none : goal.returns-clause-none
-returns-clause-none g c = λ none. rw (← c.self.view_is) (λ id row is. has_no (g.S.NodeStore.table c.self.inside.store).rows c.args.file id row (sym c.has.ensures ∙ none) is)
+returns-clause-none g c = λ none. rw (← c.self.view_is)
+    (λ id row is. has_no (g.S.NodeStore.table c.self.inside.store).rows c.args.file id row
+    (sym c.has.ensures ∙ none) is)
 
 pub returns-clause-some : goal.returns-clause-some
-returns-clause-some g c = λ some unheld. has_some (g.S.NodeStore.table c.self.inside.store) c.args.file c.keeps_sound.ensures.sorted (sym some ∙ c.has.ensures) (subst (λ (v : NodesState). IsUnheld v.table c.args.file) (sym c.self.view_is) unheld)
+returns-clause-some g c = λ some unheld. has_some
+    (g.S.NodeStore.table c.self.inside.store) c.args.file c.keeps_sound.ensures.sorted (sym some ∙ c.has.ensures)
+    (subst (λ (v : NodesState). IsUnheld v.table c.args.file) (sym c.self.view_is) unheld)

@@ -41,7 +41,8 @@ tell-reply-requires-clause-spare g c =
     let o = c.in_ok-outcome.outcome in
     let fit : outcome_names o ≤ names_for h.body =
     names_fit (server_at s.minor c.reserve-3.new.self s.validity) h c.answer.new.self.tree s.validity.found_ms c.in_ok-outcome.outcome c.in_ok-outcome.ensures.says c.in_ok-outcome.ensures.tellable in
-    less_spare c.in_ok-spare.spare 0 c.reply_names-names.result 0 (outcome_names o) c.in_ok-spare.ensures (omega arith) (omega (arith, fit, c.reply_names-names.ensures))
+    less_spare c.in_ok-spare.spare 0 c.reply_names-names.result 0 (outcome_names o) c.in_ok-spare.ensures (omega arith)
+    (omega (arith, fit, c.reply_names-names.ensures))
 
 pub tell-reply-requires-clause-generations : goal.tell-reply-requires-clause-generations
 tell-reply-requires-clause-generations g c =
@@ -64,7 +65,8 @@ tell-reply-requires-clause-numbers g c =
     live_numbers s.files s.held.entries s.kept.entries s.copies.entries s.next_copy s.validity s.minor c.args.unique h there c.reserve-3.new.self c.answer.new.self (outcome_reply s.validity.found_ms c.in_ok-outcome.outcome) c.reserve-3.ensures.tree c.reserve-3.ensures.nodes c.reserve-3.ensures.handles c.answer.ensures.nodes c.in_ok-outcome.ensures.says has c.in_ok-outcome.ensures.handles
 
 pub tell-reply-requires-clause-counted : goal.tell-reply-requires-clause-counted
-tell-reply-requires-clause-counted g c = subst AreHeldBelow (sym (c.answer.ensures.nodes ∙ c.reserve-3.ensures.nodes)) c.self.invariant.below
+tell-reply-requires-clause-counted g c = subst AreHeldBelow
+    (sym (c.answer.ensures.nodes ∙ c.reserve-3.ensures.nodes)) c.self.invariant.below
 
 pub copied-requires : goal.copied-requires
 copied-requires g c =
@@ -75,8 +77,10 @@ copied-requires g c =
     let fit : outcome_names o ≤ names_for h.body =
     names_fit (server_at s.minor c.reserve-3.new.self s.validity) h c.answer.new.self.tree s.validity.found_ms c.in_ok-outcome.outcome c.in_ok-outcome.ensures.says c.in_ok-outcome.ensures.tellable in
     let names : sent_names sent ≡ outcome_names o = c.tell-reply.ensures.names in
-    less_spare c.in_ok-spare_copy.spare_copy c.reply_len-len.result c.reply_names-names.result (sent_len sent) (sent_names sent) c.in_ok-spare_copy.ensures
-    (omega (arith, c.tell-reply.ensures.len, c.in_ok-outcome.ensures.short, c.reply_len-len.ensures)) (omega (arith, names, fit, c.reply_names-names.ensures))
+    less_spare c.in_ok-spare_copy.spare_copy c.reply_len-len.result c.reply_names-names.result (sent_len sent)
+    (sent_names sent) c.in_ok-spare_copy.ensures
+    (omega (arith, c.tell-reply.ensures.len, c.in_ok-outcome.ensures.short, c.reply_len-len.ensures))
+    (omega (arith, names, fit, c.reply_names-names.ensures))
 
 pub invariant_of-self-2 : goal.invariant_of-self-2
 invariant_of-self-2 g c =
@@ -90,9 +94,16 @@ invariant_of-self-2 g c =
     let reply = outcome_reply s.validity.found_ms c.in_ok-outcome.outcome in
     let none = live_counts s.files s.held.entries s.kept.entries s.copies.entries s.next_copy s.validity s.minor c.args.unique h there c.reserve-3.new.self c.answer.new.self (outcome_reply s.validity.found_ms c.in_ok-outcome.outcome) c.reserve-3.ensures.tree c.reserve-3.ensures.nodes c.reserve-3.ensures.handles c.answer.ensures.nodes c.in_ok-outcome.ensures.says has in
     let few = few_told c.answer.new.self.tree s.validity.found_ms c.in_ok-outcome.outcome c.in_ok-outcome.ensures.tellable in
-    rw (c.remove-held.ensures.entries, c.put.ensures.entries, c.put-2.ensures.entries, c.in_ok-reserve.ensures.entries, c.in_ok-reserve-2.ensures.entries)
+    rw (
+      c.remove-held.ensures.entries,
+      c.put.ensures.entries,
+      c.put-2.ensures.entries,
+      c.in_ok-reserve.ensures.entries,
+      c.in_ok-reserve-2.ensures.entries,
+    )
     (performed s.files s.held.entries s.kept.entries s.copies.entries s.next_copy s.validity c.self.invariant h c.args.unique c.answer.new.self c.tell-reply.new.self c.discard_unheld.new.self reply
-    c.tell-reply.result _ _ (c.in_ok-outcome.ensures.handles ∙ ap (λ b. handles_said b h) same) (c.answer.ensures.nodes ∙ c.reserve-3.ensures.nodes) c.tell-reply.ensures.tells few none c.discard_unheld.ensures.nodes c.discard_unheld.ensures.handles (can.copy refl) c.discard_unheld.ensures.named)
+    c.tell-reply.result _ _ (c.in_ok-outcome.ensures.handles ∙ ap (λ b. handles_said b h) same)
+    (c.answer.ensures.nodes ∙ c.reserve-3.ensures.nodes) c.tell-reply.ensures.tells few none c.discard_unheld.ensures.nodes c.discard_unheld.ensures.handles (can.copy refl) c.discard_unheld.ensures.named)
 
 pub returns-clause-performed : goal.returns-clause-performed
 returns-clause-performed g c =
@@ -102,10 +113,23 @@ returns-clause-performed g c =
     let up : s.is_aborted ≡ false = rw (← c.self.view_is) at c.requires.serving in
     let can = rw (← c.self.view_is, up) at c.requires.can in
     let none = counts_of s.files s.held.entries s.kept.entries s.copies.entries s.next_copy s.validity s.minor c.args.unique h there false can in
-    rw (← c.self.view_is, c.remove-held.ensures.entries, c.put.ensures.entries, c.put-2.ensures.entries, c.in_ok-reserve.ensures.entries, c.in_ok-reserve-2.ensures.entries, c.new-4.ensures, c.new-sent.ensures, c.copied.ensures.wire, up)
+    rw (
+      ← c.self.view_is,
+      c.remove-held.ensures.entries,
+      c.put.ensures.entries,
+      c.put-2.ensures.entries,
+      c.in_ok-reserve.ensures.entries,
+      c.in_ok-reserve-2.ensures.entries,
+      c.new-4.ensures,
+      c.new-sent.ensures,
+      c.copied.ensures.wire,
+      up,
+    )
     (performs_from s.files s.held.entries s.kept.entries s.copies.entries s.next_copy s.validity s.minor c.args.unique h there c.reserve-3.new.self c.answer.new.self c.tell-reply.new.self c.discard_unheld.new.self
     (outcome_reply s.validity.found_ms c.in_ok-outcome.outcome) c.tell-reply.result c.new-copy.result c.errno-errno.result c.reserve-3.ensures.tree c.reserve-3.ensures.nodes c.reserve-3.ensures.handles none c.in_ok-outcome.ensures.tree
-    c.in_ok-outcome.ensures.handles c.answer.ensures.nodes c.in_ok-outcome.ensures.says c.tell-reply.ensures.tells (c.discard_unheld.ensures.tree s.validity) c.discard_unheld.ensures.nodes c.discard_unheld.ensures.handles (rw c.framed.ensures at c.new-copy.ensures)
+    c.in_ok-outcome.ensures.handles c.answer.ensures.nodes c.in_ok-outcome.ensures.says c.tell-reply.ensures.tells
+    (c.discard_unheld.ensures.tree s.validity) c.discard_unheld.ensures.nodes c.discard_unheld.ensures.handles
+    (rw c.framed.ensures at c.new-copy.ensures)
     c.errno-errno.ensures)
 
 pub discard_unheld-requires : goal.discard_unheld-requires

@@ -24,13 +24,15 @@ returns-clause-performed g c =
     let none = counts_of s.files s.held.entries s.kept.entries s.copies.entries s.next_copy s.validity s.minor c.args.unique h there true can in
     rw (← c.self.view_is, c.remove-lost.ensures.entries, gone)
     (performs_lost s.files s.held.entries s.kept.entries s.copies.entries s.next_copy s.validity s.minor c.args.unique h there c.answer.new.self c.discard_unheld.new.self (outcome_reply s.validity.found_ms c.in_ok-outcome.outcome) c.errno.result none
-    c.in_ok-outcome.ensures.tree c.in_ok-outcome.ensures.handles c.answer.ensures.nodes c.in_ok-outcome.ensures.says (c.discard_unheld.ensures.tree s.validity) c.discard_unheld.ensures.nodes c.discard_unheld.ensures.handles
+    c.in_ok-outcome.ensures.tree c.in_ok-outcome.ensures.handles c.answer.ensures.nodes c.in_ok-outcome.ensures.says
+    (c.discard_unheld.ensures.tree s.validity) c.discard_unheld.ensures.nodes c.discard_unheld.ensures.handles
     (c.errno.ensures ∙ errno_said s.validity.found_ms c.in_ok-outcome.outcome))
 
 pub discard_unheld-requires : goal.discard_unheld-requires
 discard_unheld-requires g c =
     let s = c.self.inside in
-    but_said c.loosened_by-loose.result s.files c.answer.new.self s.validity s.minor c.in-Some.held.now (c.loosened_by-loose.ensures.others s.validity s.minor c.self.invariant.named) c.in_ok-outcome.ensures.tree c.in_ok-outcome.ensures.handles c.answer.ensures.nodes
+    but_said c.loosened_by-loose.result s.files c.answer.new.self s.validity s.minor c.in-Some.held.now
+    (c.loosened_by-loose.ensures.others s.validity s.minor c.self.invariant.named) c.in_ok-outcome.ensures.tree c.in_ok-outcome.ensures.handles c.answer.ensures.nodes
 
 pub answer-requires-clause-births : goal.answer-requires-clause-births
 answer-requires-clause-births g c =

@@ -16,7 +16,8 @@ returns-then-self-ge-COUNTER_END-clause-refuses g c =
     let s = c.self.inside in
     let h = c.in-Some.held.now in
     let there : get s.held.entries c.args.unique ≡ Some h = search rules in
-    rw (← c.self.view_is, c.if-not-self.true) (no_copy s.files s.held.entries s.kept.entries s.copies.entries s.next_copy s.validity s.minor c.args.unique h there c.if-self-ge-COUNTER_END.true)
+    rw (← c.self.view_is, c.if-not-self.true)
+    (no_copy s.files s.held.entries s.kept.entries s.copies.entries s.next_copy s.validity s.minor c.args.unique h there c.if-self-ge-COUNTER_END.true)
 
 pub has_numbers-requires : goal.has_numbers-requires
 has_numbers-requires g c = c.self.invariant.below

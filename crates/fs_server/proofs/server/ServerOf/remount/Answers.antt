@@ -10,7 +10,8 @@ invariant_of-self g c =
     let s = c.self.inside in
     let v : Validity = record { found_ms = c.args.found_ms; missing_ms = c.args.missing_ms } in
     let clear = cleared s.files s.held.entries s.kept.entries s.copies.entries s.next_copy s.validity c.self.invariant c.clear.new.self c.clear.ensures.nodes c.clear.ensures.handles c.clear.ensures.named in
-    rw (c.clear-2.ensures.entries, c.clear-3.ensures.entries, c.clear-4.ensures.entries) (first_again c.clear.new.self s.next_copy s.validity v clear.below clear.used clear.named clear.numbers c.requires.found c.requires.missing)
+    rw (c.clear-2.ensures.entries, c.clear-3.ensures.entries, c.clear-4.ensures.entries)
+    (first_again c.clear.new.self s.next_copy s.validity v clear.below clear.used clear.named clear.numbers c.requires.found c.requires.missing)
 
 pub returns : goal.returns
 returns g c =

@@ -22,4 +22,5 @@ invariant_of-self-2 g c =
     (sent_again s.files s.held.entries s.kept.entries s.copies.entries s.next_copy s.validity c.self.invariant c.count_again.new.files (sent_wire c.reply-reply.result.now) c.new-sent.result one.nodes one.handles one.below can.number one.tree)
 
 pub count_again-requires-clause-used : goal.count_again-requires-clause-used
-count_again-requires-clause-used g c = used_most c.self.inside.next_copy c.self.inside.files.handles c.self.invariant.numbers c.self.invariant.used
+count_again-requires-clause-used g c =
+    used_most c.self.inside.next_copy c.self.inside.files.handles c.self.invariant.numbers c.self.invariant.used

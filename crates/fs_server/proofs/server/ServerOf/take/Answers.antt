@@ -10,20 +10,26 @@ pub returns-then-is_forget-clause-effect : goal.returns-then-is_forget-clause-ef
 returns-then-is_forget-clause-effect g c =
     let r = c.in_ok-request.request in
     let right = c.in_ok-request.ensures.takeable in
-    forgets c.args.self.now c.args.bytes.now r.unique r.nodeid c.took.result c.forget.new.self (request_content r.body) (sym c.is_forget.ensures ∙ c.if-is_forget.true) c.took.ensures c.forget.ensures right.spells
+    forgets c.args.self.now c.args.bytes.now r.unique r.nodeid c.took.result c.forget.new.self (request_content r.body)
+    (sym c.is_forget.ensures ∙ c.if-is_forget.true) c.took.ensures c.forget.ensures right.spells
     (faultless c.args.self.now c.args.bytes.now (request_message r) right)
 
 pub returns-in-Interrupt-clause-effect : goal.returns-in-Interrupt-clause-effect
 returns-in-Interrupt-clause-effect g c =
-    interrupted_so c.args.self.now c.args.bytes.now (request_message c.in_ok-request.request) c.in_ok-request.ensures.takeable c.in-Interrupt.original (ap request_content c.in-Interrupt.is) c.interrupt.new.self c.interrupt.result c.interrupt.ensures.fault
+    interrupted_so c.args.self.now c.args.bytes.now
+    (request_message c.in_ok-request.request) c.in_ok-request.ensures.takeable c.in-Interrupt.original
+    (ap request_content c.in-Interrupt.is) c.interrupt.new.self c.interrupt.result c.interrupt.ensures.fault
     c.interrupt.ensures.effect
 
 pub returns-in-Interrupt-clause-memory : goal.returns-in-Interrupt-clause-memory
 returns-in-Interrupt-clause-memory g c =
-    answer_wants c.args.self.now c.args.bytes.now (request_message c.in_ok-request.request) c.in_ok-request.ensures.takeable c.in-Interrupt.original (ap request_content c.in-Interrupt.is) c.interrupt.result c.interrupt.ensures.answered
+    answer_wants c.args.self.now c.args.bytes.now
+    (request_message c.in_ok-request.request) c.in_ok-request.ensures.takeable c.in-Interrupt.original
+    (ap request_content c.in-Interrupt.is) c.interrupt.result c.interrupt.ensures.answered
 
 pub returns-in-Interrupt-clause-can : goal.returns-in-Interrupt-clause-can
-returns-in-Interrupt-clause-can g c = memory_can c.args.self.now c.args.bytes.now (request_message c.in_ok-request.request) c.in_ok-request.ensures.takeable c.interrupt.result
+returns-in-Interrupt-clause-can g c = memory_can c.args.self.now c.args.bytes.now
+    (request_message c.in_ok-request.request) c.in_ok-request.ensures.takeable c.interrupt.result
 
 pub returns-in_default : goal.returns-in_default
 returns-in_default g c =

@@ -4,7 +4,9 @@ use Rattle.fs_tree.proofs.NameLinks.{file-of}
 use Rattle.fs_tree.proofs.entries.Entries.file_at.Goals as goal
 
 pub returns-in-Some : goal.returns-in-Some
-returns-in-Some g c = rw (← c.self.view_is) (ap (option_map (λ l. l.file)) c.in-Some.ensures.value ∙ file-of _ _ (c.self.invariant.0 c.args.name.now))
+returns-in-Some g c = rw (← c.self.view_is) (ap (option_map (λ l. l.file)) c.in-Some.ensures.value ∙ file-of _ _
+    (c.self.invariant.0 c.args.name.now))
 
 pub returns-in-None : goal.returns-in-None
-returns-in-None g c = rw (← c.self.view_is) (ap (option_map (λ l. l.file)) c.in-None.ensures.value ∙ file-of _ _ (c.self.invariant.0 c.args.name.now))
+returns-in-None g c = rw (← c.self.view_is) (ap (option_map (λ l. l.file)) c.in-None.ensures.value ∙ file-of _ _
+    (c.self.invariant.0 c.args.name.now))

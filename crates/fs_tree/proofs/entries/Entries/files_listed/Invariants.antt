@@ -8,5 +8,8 @@ use Rattle.fs_tree.proofs.entries.Entries.files_listed.Given as goal
 
 abbrev pub invariant-loop-leaf : goal.invariant-loop-leaf
 invariant-loop-leaf g l =
-    ((files : Map Content) → l.listed.items ++ files_led (fitting_with 128 l.room (map (lead_in files) (map (in_directory 0) (map entry_of l.leaf-iterator)))) ≡ files_led (fitting_with 128 l.size (map (lead_in files) (filter (λ n. nat_lt l.after n.serial) (map (in_directory 0) l.self)))))
+    ((files : Map Content) → l.listed.items ++ files_led
+    (fitting_with 128 l.room (map (lead_in files) (map (in_directory 0) (map entry_of l.leaf-iterator))))
+    ≡ files_led (fitting_with 128 l.size (map (lead_in files)
+    (filter (λ n. nat_lt l.after n.serial) (map (in_directory 0) l.self)))))
     × (152 * array_vec_len l.listed + l.room ≤ 4096)

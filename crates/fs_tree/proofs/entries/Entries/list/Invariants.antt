@@ -6,4 +6,7 @@ use Rattle.fs_tree.proofs.entries.Entries.list.Given as goal
 
 abbrev pub invariant-loop-serial : goal.invariant-loop-serial
 invariant-loop-serial g l =
-    map lead_of l.records.items ++ fitting_with l.more l.room (map (lead_in l.files) (map (in_directory 0) (map entry_of l.serial-iterator))) ≡ fitting_with l.more l.size (map (lead_in l.files) (filter (λ n. nat_lt l.after n.serial) (map (in_directory 0) l.self)))
+    map lead_of l.records.items ++ fitting_with l.more l.room
+    (map (lead_in l.files) (map (in_directory 0) (map entry_of l.serial-iterator)))
+    ≡ fitting_with l.more l.size (map (lead_in l.files)
+    (filter (λ n. nat_lt l.after n.serial) (map (in_directory 0) l.self)))

@@ -10,8 +10,16 @@ invariant_of-self-2 g c =
     let replaced = rw (← c.self.view_is, c.deref.ensures.value) at c.serial_at-replaced.ensures in
     let updates = rw (c.unwrap-old.ensures, c.reserve.ensures.entries) at c.insert-2.ensures.updates in
     let x : Entry = record { name = c.args.name.items; file = c.args.link.file; serial = c.args.link.serial } in
-    rw (c.take_away.ensures.entries, c.in_ok-_none.ensures.entries, replaced, put-entries c.args.name.items c.self.inside.names.entries c.self.invariant.1 c.in_ok-_none.ensures.was_ordered c.args.link.serial _ before, c.in_ok-copy.ensures, c.deref-2.ensures.value) (
-      AreLinked-put x c.args.link c.self.inside.links.entries _ (map entry_of c.self.inside.names.entries) refl refl updates.3 updates.1 c.self.invariant.0,
+    rw (
+      c.take_away.ensures.entries,
+      c.in_ok-_none.ensures.entries,
+      replaced,
+      put-entries c.args.name.items c.self.inside.names.entries c.self.invariant.1 c.in_ok-_none.ensures.was_ordered c.args.link.serial _ before,
+      c.in_ok-copy.ensures,
+      c.deref-2.ensures.value,
+    ) (
+      AreLinked-put x c.args.link c.self.inside.links.entries _
+          (map entry_of c.self.inside.names.entries) refl refl updates.3 updates.1 c.self.invariant.0,
       AreNamedOnce-put (map entry_of c.self.inside.names.entries) x c.self.invariant.1,
     )
 
@@ -21,4 +29,10 @@ returns-clause-ok g c =
     let replaced = rw (← c.self.view_is, c.deref.ensures.value) at c.serial_at-replaced.ensures in
     rw (← c.self.view_is)
     (ap (map entry_of) c.take_away.ensures.entries
-    ∙ rw (c.in_ok-_none.ensures.entries, replaced, put-entries c.args.name.items c.self.inside.names.entries c.self.invariant.1 c.in_ok-_none.ensures.was_ordered c.args.link.serial _ before, c.in_ok-copy.ensures, c.deref-2.ensures.value) refl)
+    ∙ rw (
+      c.in_ok-_none.ensures.entries,
+      replaced,
+      put-entries c.args.name.items c.self.inside.names.entries c.self.invariant.1 c.in_ok-_none.ensures.was_ordered c.args.link.serial _ before,
+      c.in_ok-copy.ensures,
+      c.deref-2.ensures.value,
+    ) refl)

@@ -8,9 +8,15 @@ use Rattle.fs_tree.proofs.entries.Entries.remove.Goals as goal
 pub invariant_of-self : goal.invariant_of-self
 invariant_of-self g c =
     let serial = rw (← c.self.view_is) at c.serial_at-serial.ensures in
-    rw (c.take_away.ensures.entries, serial, removed-entries c.args.name.now c.self.inside.names.entries c.self.invariant.1 c.take_away.ensures.was_ordered) (
-      AreLinked-removed c.args.name.now c.self.inside.links.entries _ (map entry_of c.self.inside.names.entries) c.swap_remove-link.ensures.updates.3 c.swap_remove-link.ensures.updates.1 c.self.invariant.0,
-      AreNamedOnce-where (λ e. not (same_name e.name c.args.name.now)) (map entry_of c.self.inside.names.entries) c.self.invariant.1,
+    rw (
+      c.take_away.ensures.entries,
+      serial,
+      removed-entries c.args.name.now c.self.inside.names.entries c.self.invariant.1 c.take_away.ensures.was_ordered,
+    ) (
+      AreLinked-removed c.args.name.now c.self.inside.links.entries _
+          (map entry_of c.self.inside.names.entries) c.swap_remove-link.ensures.updates.3 c.swap_remove-link.ensures.updates.1 c.self.invariant.0,
+      AreNamedOnce-where (λ e. not (same_name e.name c.args.name.now))
+          (map entry_of c.self.inside.names.entries) c.self.invariant.1,
     )
 
 pub returns : goal.returns

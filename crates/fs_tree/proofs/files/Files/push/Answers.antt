@@ -4,4 +4,5 @@ use Rattle.fs_tree.proofs.FileRows.{put-seen}
 use Rattle.fs_tree.proofs.files.Files.push.Goals as goal
 
 pub returns-clause-ok : goal.returns-clause-ok
-returns-clause-ok g c = rw (← c.self.view_is) (ap (map file_of) c.in_ok-_old.ensures.entries ∙ put-seen content_in c.self.inside.contents.entries c.args.birth c.args.content)
+returns-clause-ok g c = rw (← c.self.view_is) (ap
+    (map file_of) c.in_ok-_old.ensures.entries ∙ put-seen content_in c.self.inside.contents.entries c.args.birth c.args.content)

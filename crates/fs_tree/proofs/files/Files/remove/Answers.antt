@@ -7,4 +7,5 @@ use Rattle.fs_tree.proofs.files.Files.remove.Goals as goal
 pub returns : goal.returns
 returns g c =
     let rows = c.remove-content.ensures.entries ∙ removed-key c.args.file c.self.inside.contents.entries c.len-len.ensures.ordered in
-    rw (← c.self.view_is) (ap (map file_of) rows ∙ filter-map file_of _ (λ e. not (nat_eq e.0 c.args.file)) (λ e. refl) c.self.inside.contents.entries)
+    rw (← c.self.view_is) (ap (map file_of) rows ∙ filter-map file_of _ (λ e. not (nat_eq e.0 c.args.file))
+    (λ e. refl) c.self.inside.contents.entries)

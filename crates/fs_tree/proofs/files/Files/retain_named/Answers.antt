@@ -8,5 +8,9 @@ use Rattle.fs_tree.proofs.files.Files.retain_named.Goals as goal
 
 pub returns : goal.returns
 returns g c =
-    let kept = filter-RetainsPairs _ (λ e. not (nat_eq (cond (nat_eq e.0 0) 1 (count_by (λ n. nat_eq n.file e.0) c.args.names.now)) 0)) _ (λ k v b w g call. grind (arith, common_steps)) _ _ c.retain.ensures.filtered in
-    rw (← c.self.view_is) (ap (map file_of) kept ∙ filter-map file_of _ (λ e. not (nat_eq (cond (nat_eq e.0 0) 1 (count_by (λ n. nat_eq n.file e.0) c.args.names.now)) 0)) (λ e. refl) c.self.inside.contents.entries)
+    let kept = filter-RetainsPairs _ (λ e. not (nat_eq
+    (cond (nat_eq e.0 0) 1 (count_by (λ n. nat_eq n.file e.0) c.args.names.now)) 0)) _
+    (λ k v b w g call. grind (arith, common_steps)) _ _ c.retain.ensures.filtered in
+    rw (← c.self.view_is) (ap (map file_of) kept ∙ filter-map file_of _
+    (λ e. not (nat_eq (cond (nat_eq e.0 0) 1 (count_by (λ n. nat_eq n.file e.0) c.args.names.now)) 0))
+    (λ e. refl) c.self.inside.contents.entries)

@@ -6,7 +6,9 @@ use Rattle.fs_tree.proofs.FileRows.{put-seen, is_ok-stored, there-kind}
 use Rattle.fs_tree.proofs.files.Files.store.Goals as goal
 
 pub unwrap-old-requires : goal.unwrap-old-requires
-unwrap-old-requires g c = is_ok-stored (lookup (λ k. is_eq (nat_cmp c.args.file k)) c.self.inside.contents.entries) c.insert-stored.result c.insert-stored.ensures.absent (there-kind c.self.inside.contents.entries c.args.file (rw (← c.self.view_is) at c.requires))
+unwrap-old-requires g c = is_ok-stored (lookup (λ k. is_eq
+    (nat_cmp c.args.file k)) c.self.inside.contents.entries) c.insert-stored.result c.insert-stored.ensures.absent
+    (there-kind c.self.inside.contents.entries c.args.file (rw (← c.self.view_is) at c.requires))
 
 pub returns : goal.returns
 returns g c =

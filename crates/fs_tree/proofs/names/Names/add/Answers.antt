@@ -13,7 +13,12 @@ invariant_of-self-in-Ok g c =
     let opened = AreByDirectory-same _ _ _ c.open.ensures.same c.self.invariant.0 in
     rw (c.in_ok-push.ensures.ok, c.in_ok-name.ensures, ← c.in_ok-key.ensures) (
       AreByDirectory-added c.args.directory c.in_ok-key.key.items c.args.file c.args.serial _ _ _ c.in-Ok.ensures.ok opened absent,
-      AreOnce-push c.self.inside.rows (record { directory = c.args.directory; name = c.in_ok-key.key.items; file = c.args.file; serial = c.args.serial }) c.self.invariant.1 absent,
+      AreOnce-push c.self.inside.rows (record {
+        directory = c.args.directory;
+        name = c.in_ok-key.key.items;
+        file = c.args.file;
+        serial = c.args.serial;
+      }) c.self.invariant.1 absent,
     )
 
 pub remove-requires : goal.remove-requires
@@ -24,20 +29,34 @@ remove-requires g c =
 pub invariant_of-self-in-Err : goal.invariant_of-self-in-Err
 invariant_of-self-in-Err g c =
     let last = rw (← c.self.view_is) at c.requires.last in
-    let n : Named = record { directory = c.args.directory; name = c.in_ok-name.name.items; file = c.args.file; serial = c.args.serial } in
-    let undone : c.remove.new.self ≡ c.self.inside.rows = c.remove.ensures ∙ ap (without_serial (Some c.args.serial)) c.in_ok-push.ensures.ok ∙ push-undone 1 c.self.inside.rows n last in
+    let n : Named = record {
+      directory = c.args.directory;
+      name = c.in_ok-name.name.items;
+      file = c.args.file;
+      serial = c.args.serial;
+    } in
+    let undone : c.remove.new.self ≡ c.self.inside.rows =
+    c.remove.ensures ∙ ap (without_serial
+    (Some c.args.serial)) c.in_ok-push.ensures.ok ∙ push-undone 1 c.self.inside.rows n last in
     let opened = AreByDirectory-same _ _ _ c.open.ensures.same c.self.invariant.0 in
     rw undone (AreByDirectory-same _ _ _ c.in-Err.ensures.unchanged opened, c.self.invariant.1)
 
 pub returns-in-Err-clause-unchanged : goal.returns-in-Err-clause-unchanged
 returns-in-Err-clause-unchanged g c =
     let last = rw (← c.self.view_is) at c.requires.last in
-    let n : Named = record { directory = c.args.directory; name = c.in_ok-name.name.items; file = c.args.file; serial = c.args.serial } in
-    rw (← c.self.view_is) (c.remove.ensures ∙ ap (without_serial (Some c.args.serial)) c.in_ok-push.ensures.ok ∙ push-undone 1 c.self.inside.rows n last)
+    let n : Named = record {
+      directory = c.args.directory;
+      name = c.in_ok-name.name.items;
+      file = c.args.file;
+      serial = c.args.serial;
+    } in
+    rw (← c.self.view_is) (c.remove.ensures ∙ ap (without_serial
+    (Some c.args.serial)) c.in_ok-push.ensures.ok ∙ push-undone 1 c.self.inside.rows n last)
 
 pub put_last_in-requires-clause-last : goal.put_last_in-requires-clause-last
 put_last_in-requires-clause-last g c =
     let last = rw (← c.self.view_is) at c.requires.last in
     let rising = IsRising-where (λ n. nat_eq n.directory c.args.directory) 1 c.args.serial c.self.inside.rows last in
     rw (c.open.ensures.same c.args.directory)
-    (before-rising c.args.directory 1 c.args.serial (entries_in c.self.inside.directories.entries c.args.directory) (rw (← c.self.invariant.0 c.args.directory) at rising))
+    (before-rising c.args.directory 1 c.args.serial (entries_in c.self.inside.directories.entries c.args.directory)
+    (rw (← c.self.invariant.0 c.args.directory) at rising))

@@ -9,8 +9,14 @@ pub invariant_of-self : goal.invariant_of-self
 invariant_of-self g c =
     let rising = rw (← c.self.view_is) at c.requires in
     let serial = rw (← c.self.view_is) at c.serial_at-serial.ensures in
-    rw (c.remove.ensures, serial, without-found c.args.directory c.args.name.now 1 rising.0 c.self.inside.rows _ rising.1 c.self.invariant.1 refl)
-    (AreByDirectory-removed c.args.directory c.args.name.now _ _ _ c.remove_from.ensures c.self.invariant.0, AreOnce-where (λ n. not (is_at c.args.directory c.args.name.now n)) c.self.inside.rows c.self.invariant.1)
+    rw (
+      c.remove.ensures,
+      serial,
+      without-found c.args.directory c.args.name.now 1 rising.0 c.self.inside.rows _ rising.1 c.self.invariant.1 refl,
+    ) (
+      AreByDirectory-removed c.args.directory c.args.name.now _ _ _ c.remove_from.ensures c.self.invariant.0,
+      AreOnce-where (λ n. not (is_at c.args.directory c.args.name.now n)) c.self.inside.rows c.self.invariant.1,
+    )
 
 pub returns : goal.returns
 returns g c =

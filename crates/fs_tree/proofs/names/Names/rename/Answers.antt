@@ -15,16 +15,29 @@ remove-requires g c =
 pub invariant_of-self-in-Err : goal.invariant_of-self-in-Err
 invariant_of-self-in-Err g c =
     let last = rw (← c.self.view_is) at c.requires.last in
-    let n : Named = record { directory = c.args.new_directory; name = c.in_ok-name.name.items; file = c.args.file; serial = c.args.serial } in
-    let undone : c.remove.new.self ≡ c.self.inside.rows = c.remove.ensures ∙ ap (without_serial (Some c.args.serial)) c.in_ok-push.ensures.ok ∙ push-undone 1 c.self.inside.rows n last in
+    let n : Named = record {
+      directory = c.args.new_directory;
+      name = c.in_ok-name.name.items;
+      file = c.args.file;
+      serial = c.args.serial;
+    } in
+    let undone : c.remove.new.self ≡ c.self.inside.rows =
+    c.remove.ensures ∙ ap (without_serial
+    (Some c.args.serial)) c.in_ok-push.ensures.ok ∙ push-undone 1 c.self.inside.rows n last in
     let opened = AreByDirectory-same _ _ _ c.open.ensures.same c.self.invariant.0 in
     rw undone (AreByDirectory-same _ _ _ c.in-Err.ensures.unchanged opened, c.self.invariant.1)
 
 pub returns-in-Err-clause-unchanged : goal.returns-in-Err-clause-unchanged
 returns-in-Err-clause-unchanged g c =
     let last = rw (← c.self.view_is) at c.requires.last in
-    let n : Named = record { directory = c.args.new_directory; name = c.in_ok-name.name.items; file = c.args.file; serial = c.args.serial } in
-    rw (← c.self.view_is) (c.remove.ensures ∙ ap (without_serial (Some c.args.serial)) c.in_ok-push.ensures.ok ∙ push-undone 1 c.self.inside.rows n last)
+    let n : Named = record {
+      directory = c.args.new_directory;
+      name = c.in_ok-name.name.items;
+      file = c.args.file;
+      serial = c.args.serial;
+    } in
+    rw (← c.self.view_is) (c.remove.ensures ∙ ap (without_serial
+    (Some c.args.serial)) c.in_ok-push.ensures.ok ∙ push-undone 1 c.self.inside.rows n last)
 
 pub remove-requires-2 : goal.remove-requires-2
 remove-requires-2 g c =
@@ -34,8 +47,11 @@ remove-requires-2 g c =
 pub remove-requires-3 : goal.remove-requires-3
 remove-requires-3 g c =
     let last = rw (← c.self.view_is) at c.requires.last in
-    rw (c.remove-2.ensures, c.in_ok-push.ensures.ok)
-    (c.args.serial + 1, IsRising-without c.serial_at-moved.result 1 (c.args.serial + 1) _ (IsRising-push 1 c.args.serial c.self.inside.rows _ refl last))
+    rw (c.remove-2.ensures, c.in_ok-push.ensures.ok) (
+      c.args.serial + 1,
+      IsRising-without c.serial_at-moved.result 1 (c.args.serial + 1) _
+          (IsRising-push 1 c.args.serial c.self.inside.rows _ refl last),
+    )
 
 pub invariant_of-self-2 : goal.invariant_of-self-2
 invariant_of-self-2 g c =
@@ -44,8 +60,22 @@ invariant_of-self-2 g c =
     let replaced = rw (← c.self.view_is) at c.serial_at-replaced.ensures in
     let other = rw (← c.in_ok-key.ensures) at c.requires.other in
     let opened = AreByDirectory-same _ _ _ c.open.ensures.same c.self.invariant.0 in
-    let n : Named = record { directory = c.args.new_directory; name = c.in_ok-key.key.items; file = c.args.file; serial = c.args.serial } in
-    rw (c.remove-3.ensures, c.remove-2.ensures, c.in_ok-push.ensures.ok, replaced, moved, c.in_ok-name.ensures, ← c.in_ok-key.ensures, moved-serials c.args.directory c.args.old.now c.args.new_directory c.in_ok-key.key.items c.self.inside.rows n last c.self.invariant.1) (
+    let n : Named = record {
+      directory = c.args.new_directory;
+      name = c.in_ok-key.key.items;
+      file = c.args.file;
+      serial = c.args.serial;
+    } in
+    rw (
+      c.remove-3.ensures,
+      c.remove-2.ensures,
+      c.in_ok-push.ensures.ok,
+      replaced,
+      moved,
+      c.in_ok-name.ensures,
+      ← c.in_ok-key.ensures,
+      moved-serials c.args.directory c.args.old.now c.args.new_directory c.in_ok-key.key.items c.self.inside.rows n last c.self.invariant.1,
+    ) (
       AreByDirectory-moved c.args.directory c.args.old.now c.args.new_directory c.in_ok-key.key.items c.args.file c.args.serial _ _ _ _ c.in_default.ensures.ok c.remove_from.ensures opened other,
       AreOnce-moved (λ m. not (is_at c.args.directory c.args.old.now m)) c.self.inside.rows n c.self.invariant.1,
     )
@@ -55,13 +85,29 @@ returns-clause-ok g c =
     let last = rw (← c.self.view_is) at c.requires.last in
     let moved = rw (← c.self.view_is) at c.serial_at-moved.ensures in
     let replaced = rw (← c.self.view_is) at c.serial_at-replaced.ensures in
-    let n : Named = record { directory = c.args.new_directory; name = c.args.new.now; file = c.args.file; serial = c.args.serial } in
-    rw (← c.self.view_is, c.remove-3.ensures, c.remove-2.ensures, c.in_ok-push.ensures.ok, replaced, moved, c.in_ok-name.ensures)
+    let n : Named = record {
+      directory = c.args.new_directory;
+      name = c.args.new.now;
+      file = c.args.file;
+      serial = c.args.serial;
+    } in
+    rw (
+      ← c.self.view_is,
+      c.remove-3.ensures,
+      c.remove-2.ensures,
+      c.in_ok-push.ensures.ok,
+      replaced,
+      moved,
+      c.in_ok-name.ensures,
+    )
     (moved-serials c.args.directory c.args.old.now c.args.new_directory c.args.new.now c.self.inside.rows n last c.self.invariant.1)
 
 pub put_last_in-requires-clause-last : goal.put_last_in-requires-clause-last
 put_last_in-requires-clause-last g c =
     let last = rw (← c.self.view_is) at c.requires.last in
-    let rising = IsRising-where (λ n. nat_eq n.directory c.args.new_directory) 1 c.args.serial c.self.inside.rows last in
+    let rising = IsRising-where
+    (λ n. nat_eq n.directory c.args.new_directory) 1 c.args.serial c.self.inside.rows last in
     rw (c.open.ensures.same c.args.new_directory)
-    (before-rising c.args.new_directory 1 c.args.serial (entries_in c.self.inside.directories.entries c.args.new_directory) (rw (← c.self.invariant.0 c.args.new_directory) at rising))
+    (before-rising c.args.new_directory 1 c.args.serial
+    (entries_in c.self.inside.directories.entries c.args.new_directory)
+    (rw (← c.self.invariant.0 c.args.new_directory) at rising))

@@ -7,10 +7,14 @@ use Rattle.fs_tree.proofs.names.Names.serial_at.Goals as goal
 
 pub returns-in-Some : goal.returns-in-Some
 returns-in-Some g c =
-    let there = ap (λ o. option_map (λ e. e.serial) (find (λ e. same_name e.name c.args.name.now) (unwrap_or o []))) c.in-Some.ensures.value in
-    rw (← c.self.view_is) (c.serial_at.ensures ∙ there ∙ serial-in (entries_in c.self.inside.directories.entries) c.self.inside.rows c.self.invariant.0 c.args.directory c.args.name.now)
+    let there = ap (λ o. option_map (λ e. e.serial) (find (λ e. same_name e.name c.args.name.now)
+    (unwrap_or o []))) c.in-Some.ensures.value in
+    rw (← c.self.view_is) (c.serial_at.ensures ∙ there ∙ serial-in
+    (entries_in c.self.inside.directories.entries) c.self.inside.rows c.self.invariant.0 c.args.directory c.args.name.now)
 
 pub returns-in-None : goal.returns-in-None
 returns-in-None g c =
-    let there = ap (λ o. option_map (λ e. e.serial) (find (λ e. same_name e.name c.args.name.now) (unwrap_or o []))) c.in-None.ensures.value in
-    rw (← c.self.view_is) (there ∙ serial-in (entries_in c.self.inside.directories.entries) c.self.inside.rows c.self.invariant.0 c.args.directory c.args.name.now)
+    let there = ap (λ o. option_map (λ e. e.serial) (find (λ e. same_name e.name c.args.name.now)
+    (unwrap_or o []))) c.in-None.ensures.value in
+    rw (← c.self.view_is) (there ∙ serial-in
+    (entries_in c.self.inside.directories.entries) c.self.inside.rows c.self.invariant.0 c.args.directory c.args.name.now)

@@ -9,25 +9,40 @@ use Rattle.fs_tree.proofs.rows.Rows.push.Goals as goal
 pub put_last_in-requires-clause-last : goal.put_last_in-requires-clause-last
 put_last_in-requires-clause-last g c =
     let rising = rw (← c.self.view_is) at c.requires in
-    rw (c.open.ensures.same c.args.file) (below-parents 1 c.args.serial (parents_in c.self.inside.parents.entries) (map named_of c.self.inside.names.entries) c.self.invariant rising c.args.file)
+    rw (c.open.ensures.same c.args.file) (below-parents 1 c.args.serial (parents_in c.self.inside.parents.entries)
+    (map named_of c.self.inside.names.entries) c.self.invariant rising c.args.file)
 
 pub invariant_of-self-in-Ok : goal.invariant_of-self-in-Ok
 invariant_of-self-in-Ok g c =
     let rising = rw (← c.self.view_is) at c.requires in
     let opened = AreByFile-same _ _ _ c.open.ensures.same c.self.invariant in
-    rw (c.in-Ok.ensures.entries, put-last c.self.inside.names.entries c.args.serial _ (below-rows 1 c.args.serial c.self.inside.names.entries rising), map-append)
-    (AreByFile-pushed _ _ (map named_of c.self.inside.names.entries) (record { directory = c.args.directory; name = c.args.name.items; file = c.args.file; serial = c.args.serial }) c.in_ok-put_last_in.ensures.ok opened)
+    rw (
+      c.in-Ok.ensures.entries,
+      put-last c.self.inside.names.entries c.args.serial _
+          (below-rows 1 c.args.serial c.self.inside.names.entries rising),
+      map-append,
+    )
+    (AreByFile-pushed _ _ (map named_of c.self.inside.names.entries)
+    (record {
+      directory = c.args.directory;
+      name = c.args.name.items;
+      file = c.args.file;
+      serial = c.args.serial;
+    }) c.in_ok-put_last_in.ensures.ok opened)
 
 pub returns-in-Ok-clause-ok : goal.returns-in-Ok-clause-ok
 returns-in-Ok-clause-ok g c =
     let rising = rw (← c.self.view_is) at c.requires in
     rw (← c.self.view_is)
-    (ap (map named_of) (c.in-Ok.ensures.entries ∙ put-last c.self.inside.names.entries c.args.serial _ (below-rows 1 c.args.serial c.self.inside.names.entries rising)) ∙ map-append named_of c.self.inside.names.entries _)
+    (ap (map named_of) (c.in-Ok.ensures.entries ∙ put-last c.self.inside.names.entries c.args.serial _
+    (below-rows 1 c.args.serial c.self.inside.names.entries rising)) ∙ map-append named_of c.self.inside.names.entries _)
 
 pub invariant_of-self-in-Err : goal.invariant_of-self-in-Err
 invariant_of-self-in-Err g c =
     let rising = rw (← c.self.view_is) at c.requires in
     let opened = AreByFile-same _ _ _ c.open.ensures.same c.self.invariant in
     rw c.in-Err.ensures.err
-    (AreByFile-undone (parents_in c.open.new.parents.entries) _ _ (map named_of c.self.inside.names.entries) c.args.file c.args.serial c.args.directory c.in_ok-put_last_in.ensures.ok c.remove_from.ensures
-    (below-parents 1 c.args.serial (parents_in c.open.new.parents.entries) (map named_of c.self.inside.names.entries) opened rising) opened)
+    (AreByFile-undone (parents_in c.open.new.parents.entries) _ _
+    (map named_of c.self.inside.names.entries) c.args.file c.args.serial c.args.directory c.in_ok-put_last_in.ensures.ok c.remove_from.ensures
+    (below-parents 1 c.args.serial (parents_in c.open.new.parents.entries)
+    (map named_of c.self.inside.names.entries) opened rising) opened)

@@ -10,19 +10,29 @@ pub returns-in_default-remove : goal.returns-in_default-remove
 returns-in_default-remove g c =
     let gone = removed-key c.in-Some.serial c.self.inside.names.entries c.len-len.ensures.ordered in
     rw (← c.self.view_is, c.in-Some.is)
-    (ap (map named_of) (c.remove.ensures.entries ∙ gone) ∙ filter-map named_of _ (λ n. not (nat_eq n.serial c.in-Some.serial)) (λ e. refl) c.self.inside.names.entries)
+    (ap (map named_of) (c.remove.ensures.entries ∙ gone) ∙ filter-map named_of _
+    (λ n. not (nat_eq n.serial c.in-Some.serial)) (λ e. refl) c.self.inside.names.entries)
 
 pub invariant_of-self-2 : goal.invariant_of-self-2
 invariant_of-self-2 g c =
     let rising = rw (← c.self.view_is) at c.requires in
     let gone = removed-key c.in-Some.serial c.self.inside.names.entries c.len-len.ensures.ordered in
-    let found = row-found c.in-Some.serial c.self.inside.names.entries c.in-Some-remove.row (sym c.remove.ensures.value ∙ c.in-Some-remove.is) in
-    rw (c.remove.ensures.entries, gone, filter-map named_of (λ e. not (nat_eq e.0 c.in-Some.serial)) (λ n. not (nat_eq n.serial c.in-Some.serial)) (λ e. refl) c.self.inside.names.entries)
+    let found = row-found c.in-Some.serial c.self.inside.names.entries c.in-Some-remove.row
+    (sym c.remove.ensures.value ∙ c.in-Some-remove.is) in
+    rw (
+      c.remove.ensures.entries,
+      gone,
+      filter-map named_of (λ e. not (nat_eq e.0 c.in-Some.serial))
+          (λ n. not (nat_eq n.serial c.in-Some.serial)) (λ e. refl) c.self.inside.names.entries,
+    )
     (AreByFile-same _ _ _ c.close.ensures
-    (AreByFile-removed (parents_in c.self.inside.parents.entries) _ 1 rising.0 (map named_of c.self.inside.names.entries) (named_of (c.in-Some.serial, c.in-Some-remove.row)) c.in-Some.serial c.remove_from.ensures rising.1 found c.self.invariant))
+    (AreByFile-removed (parents_in c.self.inside.parents.entries) _ 1 rising.0
+    (map named_of c.self.inside.names.entries) (named_of
+    (c.in-Some.serial, c.in-Some-remove.row)) c.in-Some.serial c.remove_from.ensures rising.1 found c.self.invariant))
 
 pub returns : goal.returns
 returns g c =
     let gone = removed-key c.in-Some.serial c.self.inside.names.entries c.len-len.ensures.ordered in
     rw (← c.self.view_is, c.in-Some.is)
-    (ap (map named_of) (c.remove.ensures.entries ∙ gone) ∙ filter-map named_of _ (λ n. not (nat_eq n.serial c.in-Some.serial)) (λ e. refl) c.self.inside.names.entries)
+    (ap (map named_of) (c.remove.ensures.entries ∙ gone) ∙ filter-map named_of _
+    (λ n. not (nat_eq n.serial c.in-Some.serial)) (λ e. refl) c.self.inside.names.entries)

@@ -6,4 +6,5 @@ pub returns : goal.returns
 returns g c =
     let room = c.min-room.ensures in
     let files = c.self.inside.files in
-    λ valid. rw (← c.self.view_is) (rw room at (c.files_listed.ensures files) ∙ files-listed valid.found_ms files c.args.directory c.args.offset _ c.self.inside.names)
+    λ valid. rw (← c.self.view_is)
+    (rw room at (c.files_listed.ensures files) ∙ files-listed valid.found_ms files c.args.directory c.args.offset _ c.self.inside.names)

@@ -9,14 +9,21 @@ pub invariant_of-self-2 : goal.invariant_of-self-2
 invariant_of-self-2 g c =
     let births = rw (← c.self.view_is) at c.requires.births in
     let serials = rw (← c.self.view_is) at c.requires.serials in
-    rw (c.in_ok-push.ensures.ok, c.in_default-add.ensures.ok) (kept-born _ _ _ _ (kept-named _ _ _ _ c.self.invariant.0 _ (search rules) (rw (← c.self.view_is) at c.in_default.ensures.room) serials) _ births, make _ c.self.invariant.1 c.args.directory c.args.name.now _ (rw (← c.self.view_is) at c.in_default.ensures.refusal))
+    rw (c.in_ok-push.ensures.ok, c.in_default-add.ensures.ok) (
+      kept-born _ _ _ _ (kept-named _ _ _ _ c.self.invariant.0 _ (search rules)
+          (rw (← c.self.view_is) at c.in_default.ensures.room) serials) _ births,
+      make _ c.self.invariant.1 c.args.directory c.args.name.now _
+          (rw (← c.self.view_is) at c.in_default.ensures.refusal),
+    )
 
 pub invariant_of-self-in-Err : goal.invariant_of-self-in-Err
 invariant_of-self-in-Err g c =
-    let undone = put-undone c.self.inside.files c.self.inside.next_birth (content_in c.args.content) c.self.invariant.0.born in
+    let undone = put-undone c.self.inside.files c.self.inside.next_birth
+    (content_in c.args.content) c.self.invariant.0.born in
     rw (c.remove.ensures, c.in_ok-push.ensures.ok, undone, c.in-Err.ensures.unchanged) c.self.invariant
 
 pub returns-in-Err-clause-unchanged : goal.returns-in-Err-clause-unchanged
 returns-in-Err-clause-unchanged g c =
-    let undone = put-undone c.self.inside.files c.self.inside.next_birth (content_in c.args.content) c.self.invariant.0.born in
+    let undone = put-undone c.self.inside.files c.self.inside.next_birth
+    (content_in c.args.content) c.self.invariant.0.born in
     rw (c.remove.ensures, c.in_ok-push.ensures.ok, undone, c.in-Err.ensures.unchanged) c.self.view_is

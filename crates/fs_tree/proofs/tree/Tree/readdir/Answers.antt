@@ -6,5 +6,9 @@ use Rattle.fs_tree.proofs.tree.Tree.readdir.Goals as goal
 pub returns-clause-ok : goal.returns-clause-ok
 returns-clause-ok g c =
     let room = c.min-room.ensures in
-    let records = rw room at c.in_ok-list.ensures in
-    (rw (← c.is_directory.ensures) (search rules), λ valid. ap listed (rw (← c.self.view_is) (sym (names-listed c.self.inside.files c.args.directory c.args.offset _ c.self.inside.names _ records))))
+    let records = rw room at c.in_ok-list.ensures in (
+      rw (← c.is_directory.ensures) (search rules),
+      λ valid. ap listed
+          (rw (← c.self.view_is) (sym
+          (names-listed c.self.inside.files c.args.directory c.args.offset _ c.self.inside.names _ records))),
+    )

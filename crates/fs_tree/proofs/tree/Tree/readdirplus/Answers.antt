@@ -6,5 +6,9 @@ use Rattle.fs_tree.proofs.tree.Tree.readdirplus.Goals as goal
 pub returns-clause-ok : goal.returns-clause-ok
 returns-clause-ok g c =
     let room = c.min-room.ensures in
-    let records = rw room at c.in_ok-records.ensures in
-    (rw (← c.is_directory.ensures) (search rules), λ valid. ap listed_plus (rw (← c.self.view_is) (sym (pairs-listed valid.found_ms c.self.inside.files c.args.directory c.args.offset _ c.self.inside.names _ records))))
+    let records = rw room at c.in_ok-records.ensures in (
+      rw (← c.is_directory.ensures) (search rules),
+      λ valid. ap listed_plus
+          (rw (← c.self.view_is) (sym
+          (pairs-listed valid.found_ms c.self.inside.files c.args.directory c.args.offset _ c.self.inside.names _ records))),
+    )

@@ -9,11 +9,13 @@ use Rattle.fuse_frames.proofs.reply_room.ReplyRoom.failed.Goals as goal
 pub written-requires-clause-goes : goal.written-requires-clause-goes
 written-requires-clause-goes g c =
     let z = c.negated.result in
-    let same = to_z-of_z w32 z (error_fits z (error_in_range c.args.errno z c.requires.some c.requires.most c.negated.ensures)) in
+    let same = to_z-of_z w32 z
+    (error_fits z (error_in_range c.args.errno z c.requires.some c.requires.most c.negated.ensures)) in
     error_goes op.Release c.args.unique c.args.errno _ refl c.requires.some c.requires.most (same ∙ c.negated.ensures)
 
 pub written-requires-clause-exact : goal.written-requires-clause-exact
 written-requires-clause-exact g c =
     let z = c.negated.result in
-    let same = to_z-of_z w32 z (error_fits z (error_in_range c.args.errno z c.requires.some c.requires.most c.negated.ensures)) in
+    let same = to_z-of_z w32 z
+    (error_fits z (error_in_range c.args.errno z c.requires.some c.requires.most c.negated.ensures)) in
     error_exact c.args.unique c.args.errno _ c.requires.some (same ∙ c.negated.ensures)

@@ -18,13 +18,21 @@ listing-requires g c =
     let ds = records_in c.args.records in
     let ps = pairs_listed c.args.found_ms es ds in
     let size : ℕ = 128 * length es + c.byte_len.result in
-    let total : sizes (direntpluses ps) ≡ size = omega (arith, listed_sizes c.args.found_ms es ds c.requires.together, c.byte_len.ensures) in
+    let total : sizes (direntpluses ps) ≡ size = omega
+    (arith, listed_sizes c.args.found_ms es ds c.requires.together, c.byte_len.ensures) in
     let first : c.put_listing_head.new.out.items ≡ spellings (u32 (16 + size) ∷ u32 0 ∷ u64 unique ∷ []) =
-    c.put_listing_head.ensures.items ∙ ap (λ (x : List ℕ). x ++ spellings (u32 (16 + size) ∷ u32 0 ∷ u64 unique ∷ [])) c.self.invariant.0 in
+    c.put_listing_head.ensures.items ∙ ap (λ (x : List ℕ). x
+    ++ spellings (u32 (16 + size) ∷ u32 0 ∷ u64 unique ∷ [])) c.self.invariant.0 in
     let written : WrittenReply (listing unique ps) c.put_listing.new.out.items =
-    listing_written unique size ps c.put_listing_head.new.out.items c.put_listing.new.out.items total (omega (arith, c.byte_len.ensures, c.requires.most)) (omega (arith, c.ranges.unique.fits))
-    (listed_entries c.args.found_ms es ds) (listed_names c.args.found_ms es ds (records_are_named c.args.records)) c.put_listing.ensures.fits first c.put_listing.ensures.items in
-    (listing unique ps, listing_goes unique ps, written, listing_exact unique c.args.found_ms es ds c.requires.valid c.requires.types)
+    listing_written unique size ps c.put_listing_head.new.out.items c.put_listing.new.out.items total
+    (omega (arith, c.byte_len.ensures, c.requires.most)) (omega (arith, c.ranges.unique.fits))
+    (listed_entries c.args.found_ms es ds) (listed_names c.args.found_ms es ds
+    (records_are_named c.args.records)) c.put_listing.ensures.fits first c.put_listing.ensures.items in (
+      listing unique ps,
+      listing_goes unique ps,
+      written,
+      listing_exact unique c.args.found_ms es ds c.requires.valid c.requires.types,
+    )
 
 pub returns : goal.returns
 returns g c =
@@ -33,11 +41,16 @@ returns g c =
     let ds = records_in c.args.records in
     let ps = pairs_listed c.args.found_ms es ds in
     let size : ℕ = 128 * length es + c.byte_len.result in
-    let total : sizes (direntpluses ps) ≡ size = omega (arith, listed_sizes c.args.found_ms es ds c.requires.together, c.byte_len.ensures) in
+    let total : sizes (direntpluses ps) ≡ size = omega
+    (arith, listed_sizes c.args.found_ms es ds c.requires.together, c.byte_len.ensures) in
     let first : c.put_listing_head.new.out.items ≡ spellings (u32 (16 + size) ∷ u32 0 ∷ u64 unique ∷ []) =
-    c.put_listing_head.ensures.items ∙ ap (λ (x : List ℕ). x ++ spellings (u32 (16 + size) ∷ u32 0 ∷ u64 unique ∷ [])) c.self.invariant.0 in
+    c.put_listing_head.ensures.items ∙ ap (λ (x : List ℕ). x
+    ++ spellings (u32 (16 + size) ∷ u32 0 ∷ u64 unique ∷ [])) c.self.invariant.0 in
     let written : WrittenReply (listing unique ps) c.put_listing.new.out.items =
-    listing_written unique size ps c.put_listing_head.new.out.items c.put_listing.new.out.items total (omega (arith, c.byte_len.ensures, c.requires.most)) (omega (arith, c.ranges.unique.fits))
-    (listed_entries c.args.found_ms es ds) (listed_names c.args.found_ms es ds (records_are_named c.args.records)) c.put_listing.ensures.fits first c.put_listing.ensures.items in
+    listing_written unique size ps c.put_listing_head.new.out.items c.put_listing.new.out.items total
+    (omega (arith, c.byte_len.ensures, c.requires.most)) (omega (arith, c.ranges.unique.fits))
+    (listed_entries c.args.found_ms es ds) (listed_names c.args.found_ms es ds
+    (records_are_named c.args.records)) c.put_listing.ensures.fits first c.put_listing.ensures.items in
     c.listing.ensures (listing unique ps) (listing_goes unique ps) written
-    ∙ ap (λ (pairs : List (DirentPlus Entry)). record { unique = unique; wire = reply.listed_plus pairs }) (pairs_say c.args.found_ms es ds c.requires.valid)
+    ∙ ap (λ (pairs : List (DirentPlus Entry)). record { unique = unique; wire = reply.listed_plus pairs })
+    (pairs_say c.args.found_ms es ds c.requires.valid)

@@ -10,12 +10,14 @@ use Rattle.fuse_tables.proofs.table.Table.remove.Goals as goal
 
 pub returns-in_default-clause-entries : goal.returns-in_default-clause-entries
 returns-in_default-clause-entries g c =
-    rw (← c.self.view_is) (sym (absent_is c.self.inside.rows.items c.args.key (rw c.deref.ensures.value at c.in_default.ensures)))
+    rw (← c.self.view_is) (sym (absent_is c.self.inside.rows.items c.args.key
+    (rw c.deref.ensures.value at c.in_default.ensures)))
 
 pub invariant_of-self : goal.invariant_of-self
 invariant_of-self g c =
     let rows = c.remove.ensures.items ∙ without_there c.self.inside.rows.items c.args.key c.in-Some.place c.self.invariant (rw c.deref.ensures.value at c.in-Some.ensures) in
-    subst (λ es. T (is_sorted nat_cmp es)) (sym rows) (sorted_without c.self.inside.rows.items c.args.key c.self.invariant)
+    subst (λ es. T (is_sorted nat_cmp es)) (sym rows)
+    (sorted_without c.self.inside.rows.items c.args.key c.self.invariant)
 
 pub returns-clause-value : goal.returns-clause-value
 returns-clause-value g c =

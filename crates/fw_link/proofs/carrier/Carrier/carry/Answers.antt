@@ -17,7 +17,8 @@ returns-in_err-get_bytes-clause-err g c =
     let put : c.deref.result.now ≡ bytes = search rules in
     let len : length c.deref.result.now ≡ c.len.result = search rules in
     let (got, carried, why) = c.in_err-get_bytes.ensures.err in
-    on_err (IsLost (g.L.Link.carries c.args.link.now c.get_bytes.new.link) c.args.from bytes (g.L.Link.failed c.args.link.now) (g.L.Link.failed c.get_bytes.new.link)) _ (lost
+    on_err (IsLost (g.L.Link.carries c.args.link.now c.get_bytes.new.link) c.args.from bytes
+    (g.L.Link.failed c.args.link.now) (g.L.Link.failed c.get_bytes.new.link)) _ (lost
     g.L.Link.carries
     g.met.L.Link.goes_on
     c.args.link.now
@@ -28,10 +29,12 @@ returns-in_err-get_bytes-clause-err g c =
     got
     _
     _
-    (subst (λ (l : List ℕ). g.L.Link.carries c.args.link.now c.put.new.self (sent c.args.from l [])) put c.in_ok-put.ensures.put)
+    (subst (λ (l : List ℕ). g.L.Link.carries c.args.link.now c.put.new.self
+    (sent c.args.from l [])) put c.in_ok-put.ensures.put)
     carried
     (λ front. elim why [
-      | inl failed ↦ subst (λ (k : ℕ). HasFailed k (g.L.Link.failed c.get_bytes.new.link)) c.in_ok-put.ensures.counted failed
+      | inl failed ↦ subst (λ (k : ℕ). HasFailed k
+          (g.L.Link.failed c.get_bytes.new.link)) c.in_ok-put.ensures.counted failed
       | inr otherwise ↦ absurd (otherwise bytes (one_put _ _ _ c.requires.whole) (ap length (sym put) ∙ len) front)
     ]))
 
@@ -51,11 +54,18 @@ returns-then-not-stands-clause-err g c =
     c.get_bytes.new.cutter.bytes
     _
     _
-    (subst (λ (l : List ℕ). g.L.Link.carries c.args.link.now c.put.new.self (sent c.args.from l [])) put c.in_ok-put.ensures.put)
+    (subst (λ (l : List ℕ). g.L.Link.carries c.args.link.now c.put.new.self
+    (sent c.args.from l [])) put c.in_ok-put.ensures.put)
     c.in_ok-get_bytes.ensures.ok
     (λ front.
-    let same : c.get_bytes.new.cutter.bytes ≡ bytes = whole_front bytes c.get_bytes.new.cutter.bytes front (c.in_ok-get_bytes.ensures.len ∙ sym len ∙ ap length put) in
-    let no = c.if-not-stands.ensures.1 (record { good = c.in_ok-get_bytes.ensures.good; whole = c.requires.whole; spelled = same }) in
+    let same : c.get_bytes.new.cutter.bytes ≡ bytes =
+    whole_front bytes c.get_bytes.new.cutter.bytes front
+    (c.in_ok-get_bytes.ensures.len ∙ sym len ∙ ap length put) in
+    let no = c.if-not-stands.ensures.1 (record {
+      good = c.in_ok-get_bytes.ensures.good;
+      whole = c.requires.whole;
+      spelled = same;
+    }) in
     absurd (search rules))
 
 pub returns-clause-ok : goal.returns-clause-ok
@@ -72,5 +82,7 @@ returns-clause-ok g c =
     c.args.from
     bytes
     bytes
-    (subst (λ (l : List ℕ). g.L.Link.carries c.args.link.now c.put.new.self (sent c.args.from l [])) put c.in_ok-put.ensures.put)
-    (subst (λ (l : List ℕ). g.L.Link.carries c.put.new.self c.get_bytes.new.link (sent c.args.from [] l)) there.spelled c.in_ok-get_bytes.ensures.ok)
+    (subst (λ (l : List ℕ). g.L.Link.carries c.args.link.now c.put.new.self
+    (sent c.args.from l [])) put c.in_ok-put.ensures.put)
+    (subst (λ (l : List ℕ). g.L.Link.carries c.put.new.self c.get_bytes.new.link
+    (sent c.args.from [] l)) there.spelled c.in_ok-get_bytes.ensures.ok)

@@ -14,11 +14,18 @@ sound_stream : (g : Over) (c : goal.After-fill-rest g) → IsSound (c.self.insid
 sound_stream g c = sound _ _ (omega arith) (subst IsSound c.fill-head.ensures.held (sound_first g c))
 
 -- what is held is the stream up to the end of its first envelope
-held : (g : Over) (c : goal.After-fill-rest g) → c.fill-rest.new.held.items ≡ first_of (c.self.inside.held.items ++ c.args.piece.now)
-held g c = filled _ _ _ _ _ _ (c.self.invariant.one c.if-self.false) (sound_first g c) c.fill-head.ensures.taken c.fill-head.ensures.held (rw c.as_slice-2.ensures at c.end_of-end.ensures.end) c.fill-rest.ensures.held
+held : (g : Over) (c : goal.After-fill-rest g) → c.fill-rest.new.held.items
+    ≡ first_of (c.self.inside.held.items ++ c.args.piece.now)
+held g c = filled _ _ _ _ _ _ (c.self.invariant.one c.if-self.false)
+    (sound_first g c) c.fill-head.ensures.taken c.fill-head.ensures.held
+    (rw c.as_slice-2.ensures at c.end_of-end.ensures.end) c.fill-rest.ensures.held
 
 pub returns-then-not-is_sound-clause-damage : goal.returns-then-not-is_sound-clause-damage
-returns-then-not-is_sound-clause-damage g c = rw (← c.self.view_is) (inr (damaged _ _ (omega arith) (rw (c.as_slice.ensures, c.fill-head.ensures.held) at c.is_sound.ensures.damaged c.if-not-is_sound.true)))
+returns-then-not-is_sound-clause-damage g c = rw (← c.self.view_is)
+    (inr (damaged _ _ (omega arith) (rw (
+      c.as_slice.ensures,
+      c.fill-head.ensures.held,
+    ) at c.is_sound.ensures.damaged c.if-not-is_sound.true)))
 
 pub invariant_of-self-2 : goal.invariant_of-self-2
 invariant_of-self-2 g c = record {
@@ -28,8 +35,10 @@ invariant_of-self-2 g c = record {
 
 pub returns-clause-count : goal.returns-clause-count
 returns-clause-count g c =
-    let n : c.fill-rest.result ≤ length (take (length c.args.piece.now - c.fill-head.result) (drop c.fill-head.result c.args.piece.now)) = c.fill-rest.ensures.within in
-    rw (← c.self.view_is, c.fill-rest.ensures.taken, c.fill-head.ensures.taken) (omega (arith, length-take {A = ℕ}, length-drop {A = ℕ}), counted _ _ _ _ n)
+    let n : c.fill-rest.result ≤ length (take (length c.args.piece.now - c.fill-head.result)
+    (drop c.fill-head.result c.args.piece.now)) = c.fill-rest.ensures.within in
+    rw (← c.self.view_is, c.fill-rest.ensures.taken, c.fill-head.ensures.taken)
+    (omega (arith, length-take {A = ℕ}, length-drop {A = ℕ}), counted _ _ _ _ n)
 
 pub returns-clause-held : goal.returns-clause-held
 returns-clause-held g c = rw (← c.self.view_is) (held g c)

@@ -7,11 +7,16 @@ use Rattle.fw_world.proofs.OverLinks.{all_over, comes_over, none_ran, one_more, 
 use Rattle.fw_world.proofs.session.Session.run.Goals as goal
 
 pub loop-k-init : goal.loop-k-init
-loop-k-init g c = (none_ran g.L.Link.carries g.L.Link.failed (session_of c.args.self.now.world c.args.self.now.is_lost) c.args.self.now.link c.args.events.now c.args.records.now.items, omega (arith))
+loop-k-init g c = (
+  none_ran g.L.Link.carries g.L.Link.failed
+      (session_of c.args.self.now.world c.args.self.now.is_lost) c.args.self.now.link c.args.events.now c.args.records.now.items,
+  omega (arith),
+)
 
 pub loop-k-preserved : goal.loop-k-preserved
 loop-k-preserved g c = (
-  one_more g.L.Link.carries g.L.Link.failed (session_of c.args.self.now.world c.args.self.now.is_lost) c.args.self.now.link c.args.events.now c.args.records.now.items (session_of c.loop-k.self.world c.loop-k.self.is_lost) c.loop-k.self.link c.loop-k.records.items c.loop-k.k
+  one_more g.L.Link.carries g.L.Link.failed
+      (session_of c.args.self.now.world c.args.self.now.is_lost) c.args.self.now.link c.args.events.now c.args.records.now.items (session_of c.loop-k.self.world c.loop-k.self.is_lost) c.loop-k.self.link c.loop-k.records.items c.loop-k.k
       (Mount 0 0 M15) (session_of c.run_one.new.self.world c.run_one.new.self.is_lost) c.run_one.new.self.link c.run_one.new.records.items c.loop-k-test.true c.loop-k.invariant.0 (c.run_one.ensures.ran c.if-not-run_one.false),
   omega (arith, c.loop-k.invariant.1, c.run_one.ensures.room c.if-not-run_one.false),
 )
@@ -19,19 +24,29 @@ loop-k-preserved g c = (
 pub returns-then-not-run_one-clause-ran : goal.returns-then-not-run_one-clause-ran
 returns-then-not-run_one-clause-ran g c =
     let same = c.run_one.ensures.not_run c.if-not-run_one.true in
-    comes_over g.L.Link.carries g.L.Link.failed (session_of c.args.self.now.world c.args.self.now.is_lost) c.args.self.now.link c.keeps_protocol.ensures.reached (take c.loop-k.k c.args.events.now) c.args.records.now.items (session_of c.run_one.new.self.world c.run_one.new.self.is_lost) c.run_one.new.self.link c.run_one.new.records.items
-    (ran_as_before g.L.Link.carries g.L.Link.failed (session_of c.args.self.now.world c.args.self.now.is_lost) c.args.self.now.link (take c.loop-k.k c.args.events.now) c.args.records.now.items c.loop-k.self.world c.run_one.new.self.world c.loop-k.self.is_lost c.run_one.new.self.is_lost c.loop-k.self.link c.run_one.new.self.link c.loop-k.records.items c.run_one.new.records.items same.0 same.1 same.2 same.3 c.loop-k.invariant.0)
+    comes_over g.L.Link.carries g.L.Link.failed
+    (session_of c.args.self.now.world c.args.self.now.is_lost) c.args.self.now.link c.keeps_protocol.ensures.reached
+    (take c.loop-k.k c.args.events.now) c.args.records.now.items
+    (session_of c.run_one.new.self.world c.run_one.new.self.is_lost) c.run_one.new.self.link c.run_one.new.records.items
+    (ran_as_before g.L.Link.carries g.L.Link.failed
+    (session_of c.args.self.now.world c.args.self.now.is_lost) c.args.self.now.link
+    (take c.loop-k.k c.args.events.now) c.args.records.now.items c.loop-k.self.world c.run_one.new.self.world c.loop-k.self.is_lost c.run_one.new.self.is_lost c.loop-k.self.link c.run_one.new.self.link c.loop-k.records.items c.run_one.new.records.items same.0 same.1 same.2 same.3 c.loop-k.invariant.0)
 
 pub returns-clause-ran : goal.returns-clause-ran
 returns-clause-ran g c =
-    comes_over g.L.Link.carries g.L.Link.failed (session_of c.args.self.now.world c.args.self.now.is_lost) c.args.self.now.link c.keeps_protocol.ensures.reached c.args.events.now c.args.records.now.items (session_of c.loop-k.self.world c.loop-k.self.is_lost) c.loop-k.self.link c.loop-k.records.items
-    (all_over g.L.Link.carries g.L.Link.failed (session_of c.args.self.now.world c.args.self.now.is_lost) c.args.self.now.link c.args.events.now c.loop-k.k c.loop-k-test.false c.args.records.now.items (session_of c.loop-k.self.world c.loop-k.self.is_lost) c.loop-k.self.link c.loop-k.records.items c.loop-k.invariant.0)
+    comes_over g.L.Link.carries g.L.Link.failed
+    (session_of c.args.self.now.world c.args.self.now.is_lost) c.args.self.now.link c.keeps_protocol.ensures.reached c.args.events.now c.args.records.now.items (session_of c.loop-k.self.world c.loop-k.self.is_lost) c.loop-k.self.link c.loop-k.records.items
+    (all_over g.L.Link.carries g.L.Link.failed
+    (session_of c.args.self.now.world c.args.self.now.is_lost) c.args.self.now.link c.args.events.now c.loop-k.k c.loop-k-test.false c.args.records.now.items (session_of c.loop-k.self.world c.loop-k.self.is_lost) c.loop-k.self.link c.loop-k.records.items c.loop-k.invariant.0)
 
 pub returns-then-not-run_one-clause-full : goal.returns-then-not-run_one-clause-full
-returns-then-not-run_one-clause-full g c = omega (arith, c.loop-k.invariant.1, c.loop-k-test.true, c.run_one.ensures.full c.if-not-run_one.true)
+returns-then-not-run_one-clause-full g c = omega
+    (arith, c.loop-k.invariant.1, c.loop-k-test.true, c.run_one.ensures.full c.if-not-run_one.true)
 
 pub returns-then-not-run_one-clause-room : goal.returns-then-not-run_one-clause-room
 returns-then-not-run_one-clause-room g c =
-    let full : vec_capacity c.args.records.now < vec_len c.args.records.now + (length c.args.self.now.world.kernel.vfs.answers + length c.args.self.now.world.kernel.vfs.calls) + 2 * length c.args.events.now =
+    let full : vec_capacity c.args.records.now < vec_len c.args.records.now +
+    (length c.args.self.now.world.kernel.vfs.answers + length c.args.self.now.world.kernel.vfs.calls) + 2 * length c.args.events.now =
     omega (arith, c.loop-k.invariant.1, c.loop-k-test.true, c.run_one.ensures.full c.if-not-run_one.true) in
-    room_for_all c.args.self.now.world c.keeps_protocol.ensures.reached (vec_len c.args.records.now) (vec_capacity c.args.records.now) c.loop-k.k (length c.args.events.now) c.loop-k-test.true full
+    room_for_all c.args.self.now.world c.keeps_protocol.ensures.reached (vec_len c.args.records.now)
+    (vec_capacity c.args.records.now) c.loop-k.k (length c.args.events.now) c.loop-k-test.true full

@@ -7,6 +7,8 @@ use Rattle.fw_world.proofs.session.Session.run.Given as goal
 -- The first k events ran, and used room for two records each, beside that of the calls that waited.
 abbrev pub invariant-loop-k : goal.invariant-loop-k
 invariant-loop-k g l =
-    RanOver g.L.Link.carries g.L.Link.failed (session_of l.fn.self.world l.fn.self.is_lost) l.fn.self.link (take l.k l.events) l.fn.records.items (session_of l.self.world l.self.is_lost) l.self.link l.records.items
+    RanOver g.L.Link.carries g.L.Link.failed (session_of l.fn.self.world l.fn.self.is_lost) l.fn.self.link
+    (take l.k l.events) l.fn.records.items (session_of l.self.world l.self.is_lost) l.self.link l.records.items
     × (vec_len l.records + (length l.self.world.kernel.vfs.answers + length l.self.world.kernel.vfs.calls) + vec_capacity l.fn.records
-    ≤ vec_len l.fn.records + (length l.fn.self.world.kernel.vfs.answers + length l.fn.self.world.kernel.vfs.calls) + 2 * l.k + vec_capacity l.records)
+    ≤ vec_len l.fn.records +
+    (length l.fn.self.world.kernel.vfs.answers + length l.fn.self.world.kernel.vfs.calls) + 2 * l.k + vec_capacity l.records)

@@ -8,9 +8,19 @@ use Rattle.fw_world.proofs.session.Session.run_one.Goals as goal
 
 pub collect_all-requires : goal.collect_all-requires
 collect_all-requires g c =
-    let room : vec_len c.reserve.new.self + c.in-Some.room ≤ vec_capacity c.reserve.new.self = made_room c.reserve.result _ _ _ c.reserve.ensures.ok (sym c.is_err.ensures.value ∙ c.if-is_err.false) in
+    let room : vec_len c.reserve.new.self + c.in-Some.room ≤ vec_capacity c.reserve.new.self =
+    made_room c.reserve.result _ _ _ c.reserve.ensures.ok (sym c.is_err.ensures.value ∙ c.if-is_err.false) in
     let few = one_more_at_most c.args.self.now.world c.step.new.self.world c.keeps_protocol.ensures.reached c.step.new.self.is_lost (event_of c.args.event.now) (outcome_of c.in-Ok.outcome) (g.L.Link.carries c.args.self.now.link c.step.new.self.link) (g.L.Link.failed c.args.self.now.link) (g.L.Link.failed c.step.new.self.link) c.in-Ok.ensures.happens c.in-Ok.ensures.lost in
-    omega (arith, room, few, c.in-Some.ensures, c.add.ensures.len, c.add.ensures.capacity, c.add_loss.ensures.len, c.add_loss.ensures.capacity)
+    omega (
+      arith,
+      room,
+      few,
+      c.in-Some.ensures,
+      c.add.ensures.len,
+      c.add.ensures.capacity,
+      c.add_loss.ensures.len,
+      c.add_loss.ensures.capacity,
+    )
 
 pub returns-in-Ok-clause-ran : goal.returns-in-Ok-clause-ran
 returns-in-Ok-clause-ran g c ran =
@@ -29,14 +39,29 @@ returns-in-Ok-clause-room g c ran =
     let few = one_more_at_most c.args.self.now.world c.step.new.self.world c.keeps_protocol.ensures.reached c.step.new.self.is_lost (event_of c.args.event.now) (outcome_of c.in-Ok.outcome) (g.L.Link.carries c.args.self.now.link c.step.new.self.link) (g.L.Link.failed c.args.self.now.link) (g.L.Link.failed c.step.new.self.link) c.in-Ok.ensures.happens c.in-Ok.ensures.lost in
     let none_left = ap (λ (w : World). length w.kernel.vfs.answers) c.collect_all.ensures.world in
     let calls_left = ap (λ (w : World). length w.kernel.vfs.calls) c.collect_all.ensures.world in
-    omega (arith, few, none_left, calls_left, c.reserve.ensures.len, c.reserve.ensures.capacity, c.add.ensures.len, c.add.ensures.capacity, c.add_loss.ensures.len, c.add_loss.ensures.capacity, c.collect_all.ensures.len, c.collect_all.ensures.capacity)
+    omega (
+      arith,
+      few,
+      none_left,
+      calls_left,
+      c.reserve.ensures.len,
+      c.reserve.ensures.capacity,
+      c.add.ensures.len,
+      c.add.ensures.capacity,
+      c.add_loss.ensures.len,
+      c.add_loss.ensures.capacity,
+      c.collect_all.ensures.len,
+      c.collect_all.ensures.capacity,
+    )
 
 pub returns-then-is_err-clause-full : goal.returns-then-is_err-clause-full
 returns-then-is_err-clause-full g c not_run =
-    let full = wanted_room c.reserve.result _ _ _ c.reserve.ensures.full (sym c.is_err.ensures.value ∙ c.if-is_err.true) in
+    let full = wanted_room c.reserve.result _ _ _ c.reserve.ensures.full
+    (sym c.is_err.ensures.value ∙ c.if-is_err.true) in
     omega (arith, full, c.in-Some.ensures)
 
 pub add-requires-in-Err : goal.add-requires-in-Err
 add-requires-in-Err g c =
-    let room : vec_len c.reserve.new.self + c.in-Some.room ≤ vec_capacity c.reserve.new.self = made_room c.reserve.result _ _ _ c.reserve.ensures.ok (sym c.is_err.ensures.value ∙ c.if-is_err.false) in
+    let room : vec_len c.reserve.new.self + c.in-Some.room ≤ vec_capacity c.reserve.new.self =
+    made_room c.reserve.result _ _ _ c.reserve.ensures.ok (sym c.is_err.ensures.value ∙ c.if-is_err.false) in
     omega (arith, room, c.in-Some.ensures)

@@ -5,10 +5,14 @@ use Rattle.fw_world.proofs.Stepping.{steps_over}
 use Rattle.fw_world.proofs.session.Session.step.Goals as goal
 
 pub returns-in-Err-clause-lost_before : goal.returns-in-Err-clause-lost_before
-returns-in-Err-clause-lost_before g c = λ is. absurd (never_link_lost c.args.self.now.world (event_of c.args.event.now) c.in-Err.refusal c.in-Err.ensures.refusal is)
+returns-in-Err-clause-lost_before g c = λ is. absurd
+    (never_link_lost c.args.self.now.world (event_of c.args.event.now) c.in-Err.refusal c.in-Err.ensures.refusal is)
 
 pub carry-requires-clause-out : goal.carry-requires-clause-out
-carry-requires-clause-out g c = is_out c.args.self.now.world (event_of c.args.event.now) (outcome_of c.in-Ok.outcome) c.step.new.self c.in-Ok.ensures.happens
+carry-requires-clause-out g c = is_out c.args.self.now.world (event_of c.args.event.now)
+    (outcome_of c.in-Ok.outcome) c.step.new.self c.in-Ok.ensures.happens
 
 pub returns-clause-refines : goal.returns-clause-refines
-returns-clause-refines g c = steps_over c.args.self.now.world c.step.new.self c.carry.new.self.world (event_of c.args.event.now) (outcome_of c.in-Ok.outcome) c.carry.new.self.is_lost c.keeps_protocol.ensures.reached c.in-Ok.ensures.happens c.carry.ensures.same c.carry.ensures.aborts
+returns-clause-refines g c = steps_over c.args.self.now.world c.step.new.self c.carry.new.self.world
+    (event_of c.args.event.now)
+    (outcome_of c.in-Ok.outcome) c.carry.new.self.is_lost c.keeps_protocol.ensures.reached c.in-Ok.ensures.happens c.carry.ensures.same c.carry.ensures.aborts

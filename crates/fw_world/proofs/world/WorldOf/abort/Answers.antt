@@ -4,7 +4,8 @@ use Rattle.fw_world.proofs.Interrupts.{abort_refused}
 use Rattle.fw_world.proofs.world.WorldOf.abort.Goals as goal
 
 pub returns-in-Err-clause-refusal : goal.returns-in-Err-clause-refusal
-returns-in-Err-clause-refusal g c = rw (← c.self.view_is) (abort_refused (world_of c.self.inside.kernel c.self.inside.server c.self.inside.requests.items c.self.inside.replies.items c.self.inside.results.items) c.in-Err.refusal c.in-Err.ensures.refusal)
+returns-in-Err-clause-refusal g c = rw (← c.self.view_is)
+    (abort_refused (world_of c.self.inside.kernel c.self.inside.server c.self.inside.requests.items c.self.inside.replies.items c.self.inside.results.items) c.in-Err.refusal c.in-Err.ensures.refusal)
 
 pub invariant_of-self-2 : goal.invariant_of-self-2
 invariant_of-self-2 g c =

@@ -30,7 +30,8 @@ returns-clause-happens g c =
     (rw (← c.reserve.ensures.items) c.put_reply-len.ensures.items) refl c.within-2.ensures).0
 
 pub put_reply-len-requires : goal.put_reply-len-requires
-put_reply-len-requires g c = has_room c.reserve.result _ _ c.reserve.ensures.ok (sym c.is_err.ensures.value ∙ c.if-is_err.false)
+put_reply-len-requires g c = has_room c.reserve.result _ _ c.reserve.ensures.ok
+    (sym c.is_err.ensures.value ∙ c.if-is_err.false)
 
 pub returns-clause-shows : goal.returns-clause-shows
 returns-clause-shows g c =

@@ -12,7 +12,9 @@ pub returns-in-Err-clause-refusal : goal.returns-in-Err-clause-refusal
 returns-in-Err-clause-refusal g c =
     let w = (world_of c.self.inside.kernel c.self.inside.server c.self.inside.requests.items c.self.inside.replies.items c.self.inside.results.items) in
     let call = call_of c.args.call.now in
-    rw (← c.self.view_is) (judged w (event.call call) (begin_refusal w.kernel call) c.in-Err.refusal (call_refused w call) (λ none is. call_wanting w (c.within.ensures w (sym c.in-Err.ensures.err) refl) call none c.in-Err.refusal is) c.in-Err.ensures.refusal)
+    rw (← c.self.view_is) (judged w (event.call call) (begin_refusal w.kernel call) c.in-Err.refusal
+    (call_refused w call) (λ none is. call_wanting w
+    (c.within.ensures w (sym c.in-Err.ensures.err) refl) call none c.in-Err.refusal is) c.in-Err.ensures.refusal)
 
 pub invariant_of-self-2 : goal.invariant_of-self-2
 invariant_of-self-2 g c =

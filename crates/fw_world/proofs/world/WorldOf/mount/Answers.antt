@@ -10,7 +10,9 @@ pub returns-in-Err-clause-refusal : goal.returns-in-Err-clause-refusal
 returns-in-Err-clause-refusal g c =
     let w = (world_of c.self.inside.kernel c.self.inside.server c.self.inside.requests.items c.self.inside.replies.items c.self.inside.results.items) in
     let day = day_at_most c.args.found_ms c.args.missing_ms c.if-found_ms-gt-MAX_VALIDITY.false c.if-missing_ms-gt-MAX_VALIDITY.false in
-    rw (← c.self.view_is) (judged w (event.mount c.args.found_ms c.args.missing_ms c.args.minor) (mount_refusal w.kernel) c.in-Err.refusal (mount_refused w c.args.found_ms c.args.missing_ms c.args.minor day) (λ none is. mount_wanting w c.args.found_ms c.args.missing_ms c.args.minor day none c.in-Err.refusal is) c.in-Err.ensures.refusal)
+    rw (← c.self.view_is) (judged w (event.mount c.args.found_ms c.args.missing_ms c.args.minor)
+    (mount_refusal w.kernel) c.in-Err.refusal (mount_refused w c.args.found_ms c.args.missing_ms c.args.minor day)
+    (λ none is. mount_wanting w c.args.found_ms c.args.missing_ms c.args.minor day none c.in-Err.refusal is) c.in-Err.ensures.refusal)
 
 pub invariant_of-self-2 : goal.invariant_of-self-2
 invariant_of-self-2 g c =

@@ -22,16 +22,19 @@ returns-in-Err-clause-refusal g c =
 pub invariant_of-self-2 : goal.invariant_of-self-2
 invariant_of-self-2 g c =
     (performed (world_of c.self.inside.kernel c.self.inside.server c.self.inside.requests.items c.self.inside.replies.items c.self.inside.results.items) c.self.invariant c.self.inside.kernel c.perform.new.self c.self.inside.requests.items c.put_reply-len.new.replies.items c.self.inside.results.items c.args.unique c.in-Ok.done.errno c.in-Some.first
-    (rw c.in-Some.is at c.in-Ok.ensures.performed) refl refl (rw (← c.reserve.ensures.items) (rw c.in-Some.is at c.put_reply-len.ensures.items)) refl c.within-2.ensures).1
+    (rw c.in-Some.is at c.in-Ok.ensures.performed) refl refl
+    (rw (← c.reserve.ensures.items) (rw c.in-Some.is at c.put_reply-len.ensures.items)) refl c.within-2.ensures).1
 
 pub returns-clause-happens : goal.returns-clause-happens
 returns-clause-happens g c =
     rw (← c.self.view_is)
     (performed (world_of c.self.inside.kernel c.self.inside.server c.self.inside.requests.items c.self.inside.replies.items c.self.inside.results.items) c.self.invariant c.self.inside.kernel c.perform.new.self c.self.inside.requests.items c.put_reply-len.new.replies.items c.self.inside.results.items c.args.unique c.in-Ok.done.errno c.in-Some.first
-    (rw c.in-Some.is at c.in-Ok.ensures.performed) refl refl (rw (← c.reserve.ensures.items) (rw c.in-Some.is at c.put_reply-len.ensures.items)) refl c.within-2.ensures).0
+    (rw c.in-Some.is at c.in-Ok.ensures.performed) refl refl
+    (rw (← c.reserve.ensures.items) (rw c.in-Some.is at c.put_reply-len.ensures.items)) refl c.within-2.ensures).0
 
 pub put_reply-len-requires : goal.put_reply-len-requires
-put_reply-len-requires g c = has_room c.reserve.result _ _ c.reserve.ensures.ok (sym c.is_err.ensures.value ∙ c.if-is_err.false)
+put_reply-len-requires g c = has_room c.reserve.result _ _ c.reserve.ensures.ok
+    (sym c.is_err.ensures.value ∙ c.if-is_err.false)
 
 pub returns-in_default-clause-happens : goal.returns-in_default-clause-happens
 returns-in_default-clause-happens g c =

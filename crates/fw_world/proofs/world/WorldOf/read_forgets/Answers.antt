@@ -13,24 +13,32 @@ use Rattle.fw_world.proofs.world.WorldOf.read_forgets.Goals as goal
 pub returns-then-is_err-clause-refusal : goal.returns-then-is_err-clause-refusal
 returns-then-is_err-clause-refusal g c =
     let w = (world_of c.self.inside.kernel c.self.inside.server c.self.inside.requests.items c.self.inside.replies.items c.self.inside.results.items) in
-    let given = c.unwrap_or.ensures ∙ ap (λ o. unwrap_or o NoMemory) c.read_forgets_refusal.ensures ∙ or_default (read_forgets_refusal w.kernel c.args.count) in
-    rw (← c.self.view_is) (judged w (event.read_forgets c.args.count) (read_forgets_refusal w.kernel c.args.count) c.unwrap_or.result (forgets_refused w c.args.count) (λ none is. forgets_wanting w (c.within.ensures w refl refl) c.args.count none c.unwrap_or.result is) given)
+    let given = c.unwrap_or.ensures ∙ ap (λ o. unwrap_or o NoMemory) c.read_forgets_refusal.ensures ∙ or_default
+    (read_forgets_refusal w.kernel c.args.count) in
+    rw (← c.self.view_is) (judged w (event.read_forgets c.args.count)
+    (read_forgets_refusal w.kernel c.args.count) c.unwrap_or.result (forgets_refused w c.args.count)
+    (λ none is. forgets_wanting w (c.within.ensures w refl refl) c.args.count none c.unwrap_or.result is) given)
 
 pub returns-in-Err-clause-refusal : goal.returns-in-Err-clause-refusal
 returns-in-Err-clause-refusal g c =
     let w = (world_of c.self.inside.kernel c.self.inside.server c.self.inside.requests.items c.self.inside.replies.items c.self.inside.results.items) in
-    rw (← c.self.view_is) (judged w (event.read_forgets c.args.count) (read_forgets_refusal w.kernel c.args.count) c.in-Err.refusal (forgets_refused w c.args.count) (λ none is. forgets_wanting w (c.within-in-Err.ensures w (sym c.in-Err.ensures.err) refl) c.args.count none c.in-Err.refusal is) c.in-Err.ensures.refusal)
+    rw (← c.self.view_is) (judged w (event.read_forgets c.args.count)
+    (read_forgets_refusal w.kernel c.args.count) c.in-Err.refusal (forgets_refused w c.args.count)
+    (λ none is. forgets_wanting w (c.within-in-Err.ensures w
+    (sym c.in-Err.ensures.err) refl) c.args.count none c.in-Err.refusal is) c.in-Err.ensures.refusal)
 
 pub invariant_of-self-2 : goal.invariant_of-self-2
 invariant_of-self-2 g c =
     (forgets_read (world_of c.self.inside.kernel c.self.inside.server c.self.inside.requests.items c.self.inside.replies.items c.self.inside.results.items) c.self.invariant c.read_forgets.new.self c.self.inside.server c.put_request-unique.new.requests.items c.self.inside.replies.items c.self.inside.results.items c.args.count c.put_request-unique.result.0 c.in-Ok.frame
-    c.in-Ok.ensures.judged c.in-Ok.ensures.frame c.put_request-unique.ensures.unique c.in-Ok.ensures.read refl (rw (← c.reserve.ensures.items) c.put_request-unique.ensures.items) refl refl c.within-2.ensures).1
+    c.in-Ok.ensures.judged c.in-Ok.ensures.frame c.put_request-unique.ensures.unique c.in-Ok.ensures.read refl
+    (rw (← c.reserve.ensures.items) c.put_request-unique.ensures.items) refl refl c.within-2.ensures).1
 
 pub returns-clause-happens : goal.returns-clause-happens
 returns-clause-happens g c =
     rw (← c.self.view_is)
     (forgets_read (world_of c.self.inside.kernel c.self.inside.server c.self.inside.requests.items c.self.inside.replies.items c.self.inside.results.items) c.self.invariant c.read_forgets.new.self c.self.inside.server c.put_request-unique.new.requests.items c.self.inside.replies.items c.self.inside.results.items c.args.count c.put_request-unique.result.0 c.in-Ok.frame
-    c.in-Ok.ensures.judged c.in-Ok.ensures.frame c.put_request-unique.ensures.unique c.in-Ok.ensures.read refl (rw (← c.reserve.ensures.items) c.put_request-unique.ensures.items) refl refl c.within-2.ensures).0
+    c.in-Ok.ensures.judged c.in-Ok.ensures.frame c.put_request-unique.ensures.unique c.in-Ok.ensures.read refl
+    (rw (← c.reserve.ensures.items) c.put_request-unique.ensures.items) refl refl c.within-2.ensures).0
 
 pub returns-clause-shows : goal.returns-clause-shows
 returns-clause-shows g c =

@@ -16,24 +16,33 @@ use Rattle.fw_world.proofs.world.WorldOf.read_interrupt.Goals as goal
 pub returns-then-is_err-clause-refusal : goal.returns-then-is_err-clause-refusal
 returns-then-is_err-clause-refusal g c =
     let w = (world_of c.self.inside.kernel c.self.inside.server c.self.inside.requests.items c.self.inside.replies.items c.self.inside.results.items) in
-    let given = c.unwrap_or.ensures ∙ ap (λ o. unwrap_or o NoMemory) c.read_interrupt_refusal.ensures ∙ or_default (read_interrupt_refusal w.kernel) in
-    subst (λ (v : World). RefusedWith v event.read_interrupt c.unwrap_or.result) c.self.view_is (judged w event.read_interrupt (read_interrupt_refusal w.kernel) c.unwrap_or.result (read_interrupt_refused w) (λ none is. interrupt_wanting w (c.within.ensures w refl refl) none c.unwrap_or.result is) given)
+    let given = c.unwrap_or.ensures ∙ ap (λ o. unwrap_or o NoMemory) c.read_interrupt_refusal.ensures ∙ or_default
+    (read_interrupt_refusal w.kernel) in
+    subst (λ (v : World). RefusedWith v event.read_interrupt c.unwrap_or.result) c.self.view_is
+    (judged w event.read_interrupt (read_interrupt_refusal w.kernel) c.unwrap_or.result (read_interrupt_refused w)
+    (λ none is. interrupt_wanting w (c.within.ensures w refl refl) none c.unwrap_or.result is) given)
 
 pub returns-in-Err-clause-refusal : goal.returns-in-Err-clause-refusal
 returns-in-Err-clause-refusal g c =
     let w = (world_of c.self.inside.kernel c.self.inside.server c.self.inside.requests.items c.self.inside.replies.items c.self.inside.results.items) in
-    subst (λ (v : World). RefusedWith v event.read_interrupt c.in-Err.refusal) c.self.view_is (judged w event.read_interrupt (read_interrupt_refusal w.kernel) c.in-Err.refusal (read_interrupt_refused w) (λ none is. interrupt_wanting w (c.within-in-Err.ensures w (sym c.in-Err.ensures.err) refl) none c.in-Err.refusal is) c.in-Err.ensures.refusal)
+    subst (λ (v : World). RefusedWith v event.read_interrupt c.in-Err.refusal) c.self.view_is
+    (judged w event.read_interrupt (read_interrupt_refusal w.kernel) c.in-Err.refusal (read_interrupt_refused w)
+    (λ none is. interrupt_wanting w (c.within-in-Err.ensures w
+    (sym c.in-Err.ensures.err) refl) none c.in-Err.refusal is) c.in-Err.ensures.refusal)
 
 pub invariant_of-self-2 : goal.invariant_of-self-2
 invariant_of-self-2 g c =
     (interrupt_read (world_of c.self.inside.kernel c.self.inside.server c.self.inside.requests.items c.self.inside.replies.items c.self.inside.results.items) c.self.invariant c.read_interrupt.new.self c.self.inside.server c.put_request-unique.new.requests.items c.self.inside.replies.items c.self.inside.results.items c.put_request-unique.result.0 c.in-Ok.frame
-    c.in-Ok.ensures.judged c.in-Ok.ensures.frame c.put_request-unique.ensures.unique c.in-Ok.ensures.read refl (rw (← c.reserve.ensures.items) c.put_request-unique.ensures.items) refl refl c.within-2.ensures).1
+    c.in-Ok.ensures.judged c.in-Ok.ensures.frame c.put_request-unique.ensures.unique c.in-Ok.ensures.read refl
+    (rw (← c.reserve.ensures.items) c.put_request-unique.ensures.items) refl refl c.within-2.ensures).1
 
 pub returns-clause-happens : goal.returns-clause-happens
 returns-clause-happens g c =
-    subst (λ (v : World). Happens v event.read_interrupt (event.is_read c.put_request-unique.result.0) (world_of c.read_interrupt.new.self c.self.inside.server c.put_request-unique.new.requests.items c.self.inside.replies.items c.self.inside.results.items)) c.self.view_is
+    subst (λ (v : World). Happens v event.read_interrupt (event.is_read c.put_request-unique.result.0)
+    (world_of c.read_interrupt.new.self c.self.inside.server c.put_request-unique.new.requests.items c.self.inside.replies.items c.self.inside.results.items)) c.self.view_is
     (interrupt_read (world_of c.self.inside.kernel c.self.inside.server c.self.inside.requests.items c.self.inside.replies.items c.self.inside.results.items) c.self.invariant c.read_interrupt.new.self c.self.inside.server c.put_request-unique.new.requests.items c.self.inside.replies.items c.self.inside.results.items c.put_request-unique.result.0 c.in-Ok.frame
-    c.in-Ok.ensures.judged c.in-Ok.ensures.frame c.put_request-unique.ensures.unique c.in-Ok.ensures.read refl (rw (← c.reserve.ensures.items) c.put_request-unique.ensures.items) refl refl c.within-2.ensures).0
+    c.in-Ok.ensures.judged c.in-Ok.ensures.frame c.put_request-unique.ensures.unique c.in-Ok.ensures.read refl
+    (rw (← c.reserve.ensures.items) c.put_request-unique.ensures.items) refl refl c.within-2.ensures).0
 
 pub returns-clause-shows : goal.returns-clause-shows
 returns-clause-shows g c =

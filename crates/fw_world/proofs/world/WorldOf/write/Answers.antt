@@ -7,12 +7,14 @@ use Rattle.fw_world.proofs.Refusing.{no_copy}
 use Rattle.fw_world.proofs.world.WorldOf.write.Goals as goal
 
 pub returns-then-place-len-clause-refusal : goal.returns-then-place-len-clause-refusal
-returns-then-place-len-clause-refusal g c = rw (← c.self.view_is) (no_copy (world_of c.self.inside.kernel c.self.inside.server c.self.inside.requests.items c.self.inside.replies.items c.self.inside.results.items) c.args.place (slice_get_past c.self.inside.replies.items c.args.place (omega (arith, c.if-place-len.true, c.len.ensures))))
+returns-then-place-len-clause-refusal g c = rw (← c.self.view_is)
+    (no_copy (world_of c.self.inside.kernel c.self.inside.server c.self.inside.requests.items c.self.inside.replies.items c.self.inside.results.items) c.args.place (slice_get_past c.self.inside.replies.items c.args.place (omega (arith, c.if-place-len.true, c.len.ensures))))
 
 pub returns-then-is_err-clause-refusal : goal.returns-then-is_err-clause-refusal
 returns-then-is_err-clause-refusal g c =
     let sent = c.index-copy.result.now in
-    let there = slice_get_read c.self.inside.replies.items (length c.self.inside.replies.items) c.args.place sent refl (omega (arith, c.if-place-len.false, c.len.ensures)) c.index-copy.ensures in
+    let there = slice_get_read c.self.inside.replies.items (length c.self.inside.replies.items) c.args.place sent refl
+    (omega (arith, c.if-place-len.false, c.len.ensures)) c.index-copy.ensures in
     let w = (world_of c.self.inside.kernel c.self.inside.server c.self.inside.requests.items c.self.inside.replies.items c.self.inside.results.items) in
     rw (← c.self.view_is, c.unwrap_or.ensures)
     (look_refused w c.self.invariant c.args.place sent there c.bytes.result.now c.bytes.ensures.frame c.bytes.ensures.fits c.bytes.ensures.init c.bytes.ensures.empty (c.within.ensures w refl refl) c.write_refusal.result c.write_refusal.ensures.refused c.write_refusal.ensures.none)
@@ -20,16 +22,19 @@ returns-then-is_err-clause-refusal g c =
 pub returns-in-Err-clause-refusal : goal.returns-in-Err-clause-refusal
 returns-in-Err-clause-refusal g c =
     let sent = c.index-copy.result.now in
-    let there = slice_get_read c.self.inside.replies.items (length c.self.inside.replies.items) c.args.place sent refl (omega (arith, c.if-place-len.false, c.len.ensures)) c.index-copy.ensures in
+    let there = slice_get_read c.self.inside.replies.items (length c.self.inside.replies.items) c.args.place sent refl
+    (omega (arith, c.if-place-len.false, c.len.ensures)) c.index-copy.ensures in
     let w = (world_of c.self.inside.kernel c.self.inside.server c.self.inside.requests.items c.self.inside.replies.items c.self.inside.results.items) in
     rw (← c.self.view_is)
     (write_refused w c.self.invariant c.args.place sent there c.bytes-2.result.now c.bytes-2.ensures.frame c.bytes-2.ensures.fits c.bytes-2.ensures.init c.bytes-2.ensures.empty (c.within-in-Err.ensures w (sym c.in-Err.ensures.err) refl) c.in-Err.refusal
-    (c.in-Err.ensures.refusal (has_head w c.self.invariant c.args.place sent there c.bytes-2.result.now c.bytes-2.ensures.frame c.bytes-2.ensures.fits c.bytes-2.ensures.init c.bytes-2.ensures.empty)) c.in-Err.ensures.memory)
+    (c.in-Err.ensures.refusal
+    (has_head w c.self.invariant c.args.place sent there c.bytes-2.result.now c.bytes-2.ensures.frame c.bytes-2.ensures.fits c.bytes-2.ensures.init c.bytes-2.ensures.empty)) c.in-Err.ensures.memory)
 
 pub invariant_of-self-2 : goal.invariant_of-self-2
 invariant_of-self-2 g c =
     let sent = c.index-copy.result.now in
-    let there = slice_get_read c.self.inside.replies.items (length c.self.inside.replies.items) c.args.place sent refl (omega (arith, c.if-place-len.false, c.len.ensures)) c.index-copy.ensures in
+    let there = slice_get_read c.self.inside.replies.items (length c.self.inside.replies.items) c.args.place sent refl
+    (omega (arith, c.if-place-len.false, c.len.ensures)) c.index-copy.ensures in
     let took = written_so (world_of c.self.inside.kernel c.self.inside.server c.self.inside.requests.items c.self.inside.replies.items c.self.inside.results.items) c.self.invariant c.args.place sent there c.bytes-2.result.now c.bytes-2.ensures.frame c.bytes-2.ensures.fits c.bytes-2.ensures.init c.bytes-2.ensures.empty c.in-Ok.written c.write.new.self
     (λ head none. let h = c.in-Ok.ensures.unawaited head none in (was_written h.0, h.1)) c.in-Ok.ensures.taken in
     let results = after_result c.self.inside.results.items c.reserve.new.self.items c.append.new.list.items c.number-number.result c.unique-unique.result c.in-Ok.written sent c.reserve.ensures.items c.append.ensures c.number-number.ensures c.unique-unique.ensures in
@@ -39,7 +44,8 @@ invariant_of-self-2 g c =
 pub returns-clause-happens : goal.returns-clause-happens
 returns-clause-happens g c =
     let sent = c.index-copy.result.now in
-    let there = slice_get_read c.self.inside.replies.items (length c.self.inside.replies.items) c.args.place sent refl (omega (arith, c.if-place-len.false, c.len.ensures)) c.index-copy.ensures in
+    let there = slice_get_read c.self.inside.replies.items (length c.self.inside.replies.items) c.args.place sent refl
+    (omega (arith, c.if-place-len.false, c.len.ensures)) c.index-copy.ensures in
     let took = written_so (world_of c.self.inside.kernel c.self.inside.server c.self.inside.requests.items c.self.inside.replies.items c.self.inside.results.items) c.self.invariant c.args.place sent there c.bytes-2.result.now c.bytes-2.ensures.frame c.bytes-2.ensures.fits c.bytes-2.ensures.init c.bytes-2.ensures.empty c.in-Ok.written c.write.new.self
     (λ head none. let h = c.in-Ok.ensures.unawaited head none in (was_written h.0, h.1)) c.in-Ok.ensures.taken in
     let results = after_result c.self.inside.results.items c.reserve.new.self.items c.append.new.list.items c.number-number.result c.unique-unique.result c.in-Ok.written sent c.reserve.ensures.items c.append.ensures c.number-number.ensures c.unique-unique.ensures in
@@ -48,4 +54,5 @@ returns-clause-happens g c =
     there took refl refl c.remove-copy.ensures.items results c.within-2.ensures).0
 
 pub append-requires : goal.append-requires
-append-requires g c = has_room c.reserve.result _ _ c.reserve.ensures.ok (sym c.is_err.ensures.value ∙ c.if-is_err.false)
+append-requires g c = has_room c.reserve.result _ _ c.reserve.ensures.ok
+    (sym c.is_err.ensures.value ∙ c.if-is_err.false)
