@@ -466,12 +466,38 @@ fn check_rows<A: Allocator + Copy, W: Stepped<A> + Drop>(
     Ok(())
 }
 
+/// The same of worlds over maps and slabs.
+fn check_worlds<A: Allocator + Copy>(
+    rt: &impl Abort,
+    alloc: A,
+    of_records: A,
+    heap: &FailAt<Global>,
+    of_refused_records: &FailAt<Global>,
+    outer: Global,
+    rows: &[Row],
+) -> Result<(), AllocError> {
+    check_rows::<A, WorldIn<A>>(rt, alloc, of_records, heap, of_refused_records, outer, rows)
+}
+
+/// The same of worlds over plain lists.
+fn check_list_worlds<A: Allocator + Copy>(
+    rt: &impl Abort,
+    alloc: A,
+    of_records: A,
+    heap: &FailAt<Global>,
+    of_refused_records: &FailAt<Global>,
+    outer: Global,
+    rows: &[Row],
+) -> Result<(), AllocError> {
+    check_rows::<A, ListWorldIn<A>>(rt, alloc, of_records, heap, of_refused_records, outer, rows)
+}
+
 #[test]
 fn each_growth_of_each_row_refused(rt: HostRuntime) -> Result<(), Fail> {
     let heap = FailAt::new(rt.alloc());
     let of_records = FailAt::new(rt.alloc());
     for rows in lists() {
-        check_rows::<_, WorldIn<_>>(
+        check_worlds(
             &rt,
             &heap,
             &of_records,
@@ -489,7 +515,7 @@ fn each_growth_of_each_row_over_lists_refused(rt: HostRuntime) -> Result<(), Fai
     let heap = FailAt::new(rt.alloc());
     let of_records = FailAt::new(rt.alloc());
     for rows in lists() {
-        check_rows::<_, ListWorldIn<_>>(
+        check_list_worlds(
             &rt,
             &heap,
             &of_records,
