@@ -40,7 +40,7 @@ use Rattle.fuse_theorem.proofs.Answers.Answered.{waiting_is}
 use Rattle.fuse_theorem.proofs.Calls.Finding.{All-found}
 use Rattle.fuse_theorem.proofs.Refining.Queuing.{All-at}
 use Rattle.fuse_theorem.proofs.Replies.WriteNeeds.{write_met}
-use Rattle.fk_kernel.specs.Said.{Says, HasReplyHead, head_unique, Awaited, reply_to, awaited, awaited_by, awaited_by_call, awaited_by_interrupt, opcode_of, IsReplyWritten, IsAwaited, IsJudged, Means}
+use Rattle.fk_kernel.specs.Said.{Says, HasReplyHead, head_unique, Awaited, reply_to, awaited, awaited_by, awaited_by_call, awaited_by_interrupt, IsReplyWritten, IsAwaited, IsJudged, Means}
 use Rattle.fk_kernel.specs.Said.{said as means_said}
 use Rattle.fk_kernel.specs.Said as said
 use Rattle.std.specs.Option.{unwrap_or}
@@ -65,20 +65,9 @@ says_head o bytes unique wire h =
     (error_fits h.message.error s.1))) s.1 in
     (((long, s.5.0), error), s.5.1.1.0 ∙ h.unique_is)
 
-same_opcode : (operation : Operation ℕ Opened) → asked_opcode (asks operation) ≡ opcode_of operation
-same_opcode (lookup d name) = refl
-same_opcode (getattr x) = refl
-same_opcode (mkdir d name) = refl
-same_opcode (create d name) = refl
-same_opcode (unlink d name) = refl
-same_opcode (rmdir d name) = refl
-same_opcode (rename d old e new) = refl
-same_opcode (link x d name) = refl
-same_opcode (opening x) = refl
-same_opcode (readdir d after size) = refl
-same_opcode (readdirplus d after size) = refl
-same_opcode (read o offset size) = refl
-same_opcode (write o offset bytes) = refl
+-- The opcode of the request of a call.
+abbrev opcode_of : Operation ℕ Opened → Opcode
+opcode_of operation = asked_opcode (asks operation)
 
 -- What awaits a reply for a call is judged as the machine judges it.
 is_judged : (operation : Operation ℕ Opened) → IsAwaited (reply_to (opcode_of operation))
@@ -166,8 +155,7 @@ module _ (w : World) (here : IsReached w) (place : ℕ) (sent : Sent) (found : s
       × Says (opcode_of (asked state)) bytes sent.wire
   to_call call state even waits there goes = (
     awaits_even w.kernel sent.unique (Some (purpose.Call call)) even waits ∙ ap awaited_by_call there,
-    says (opcode_of (asked state)) sent.wire refl (subst (λ (x : Opcode). SaysReply x bytes sent.unique sent.wire)
-        (same_opcode (asked state)) (fits (asked state) goes)),
+    says (opcode_of (asked state)) sent.wire refl (fits (asked state) goes),
   )
 
   to_interrupt : (kept : Purpose) → is_live w.kernel.phase ≡ true → nat_eq (sent.unique % 2) 1 ≡ true
