@@ -42,27 +42,6 @@ all_written {P} old items none w = subst P (sym (w.2 ∙ ap (λ (xs : List ℕ).
 
 -- ---- the head of a frame
 
--- the opcode of what a request asks
-pub opcode_is : (n : ℕ) (content : RequestContent) (body : RequestBody) → body_in n content ≡ Some body → opcode_of content ≡ asked_opcode body
-opcode_is n (wire.lookup name) body e = ap (λ (b : Option RequestBody). asked_opcode (body_or b)) e
-opcode_is n (wire.forget nlookup) body e = ap (λ (b : Option RequestBody). asked_opcode (body_or b)) e
-opcode_is n wire.getattr body e = ap (λ (b : Option RequestBody). asked_opcode (body_or b)) e
-opcode_is n (wire.mkdir name) body e = ap (λ (b : Option RequestBody). asked_opcode (body_or b)) e
-opcode_is n (wire.unlink name) body e = ap (λ (b : Option RequestBody). asked_opcode (body_or b)) e
-opcode_is n (wire.rmdir name) body e = ap (λ (b : Option RequestBody). asked_opcode (body_or b)) e
-opcode_is n (wire.rename newdir old new) body e = ap (λ (b : Option RequestBody). asked_opcode (body_or b)) e
-opcode_is n (wire.link oldnodeid name) body e = ap (λ (b : Option RequestBody). asked_opcode (body_or b)) e
-opcode_is n wire.opening body e = ap (λ (b : Option RequestBody). asked_opcode (body_or b)) e
-opcode_is n (wire.read fh offset size) body e = ap (λ (b : Option RequestBody). asked_opcode (body_or b)) e
-opcode_is n (wire.write fh offset bytes) body e = ap (λ (b : Option RequestBody). asked_opcode (body_or b)) e
-opcode_is n (wire.release fh) body e = ap (λ (b : Option RequestBody). asked_opcode (body_or b)) e
-opcode_is n (wire.init major minor flags) body e = ap (λ (b : Option RequestBody). asked_opcode (body_or b)) e
-opcode_is n (wire.readdir offset size) body e = ap (λ (b : Option RequestBody). asked_opcode (body_or b)) e
-opcode_is n (wire.readdirplus offset size) body e = ap (λ (b : Option RequestBody). asked_opcode (body_or b)) e
-opcode_is n (wire.create name) body e = ap (λ (b : Option RequestBody). asked_opcode (body_or b)) e
-opcode_is n (wire.interrupt unique) body e = ap (λ (b : Option RequestBody). asked_opcode (body_or b)) e
-opcode_is n (wire.batch_forget forgets) body e = ap (λ (b : Option RequestBody). asked_opcode (body_or b)) e
-
 -- What was read of a frame is what it was written for.
 module _ (bytes read : List ℕ) (request : Request) (r : Result View WireFault) (frame : IsRequestFrame bytes (request_in bytes)) (is_view : request ≡ request_in bytes) (same : read ≡ bytes) (only : (m : RequestMessage) → Spells read m → IsOkAnd r (λ v. request_message v ≡ m)) where
   reads : IsOkAnd r (λ v. request_message v ≡ frame.message)
@@ -75,7 +54,7 @@ module _ (bytes read : List ℕ) (request : Request) (r : Result View WireFault)
   unique_read v e = ap (λ (m : RequestMessage). m.unique) (is_read v e) ∙ frame.unique ∙ sym (ap (λ (q : Request). q.unique) is_view)
 
   pub opcode_read : (v : View) → r ≡ Ok v → opcode_of (request_content v.body) ≡ asked_opcode request.body
-  opcode_read v e = ap (λ (m : RequestMessage). opcode_of m.content) (is_read v e) ∙ opcode_is frame.message.nodeid frame.message.content (request_in bytes).body frame.says ∙ sym (ap (λ (q : Request). asked_opcode q.body) is_view)
+  opcode_read v e = ap (λ (m : RequestMessage). opcode_of m.content) (is_read v e) ∙ ap opcode_of frame.content ∙ sym (ap (λ (q : Request). asked_opcode q.body) is_view)
 
   pub no_fault : (f : WireFault) → r ≡ Err f → ⊥
   no_fault f e = rw e at reads

@@ -1,15 +1,17 @@
 -- A request as its frame spells it, and as the machine of kernel and server has it.
 use Rattle.std.specs.Prelude.{◌≡◌, ℕ, List, Option, Some, None}
+use Rattle.std.specs.Borrow.{Bor}
 use Rattle.fk_wire.specs.declared.opcode.Opcode.{Opcode}
-use Rattle.fk_wire.specs.declared.opcode.Opcode.TheVariants as op
 use Rattle.fk_wire.specs.Requests as wire
 use Rattle.fk_wire.specs.declared.opcode.Minor.{Minor as CodecMinor}
 use Rattle.fk_wire.specs.declared.opcode.Minor.TheVariants as minors
-use Rattle.fk_wire.specs.Requests.{RequestContent, RequestMessage, SpellsAt, Written}
+use Rattle.fk_wire.specs.Requests.{RequestContent, RequestMessage, SpellsAt, Written, opcode_of}
 use Rattle.fk_wire.specs.Decoded.{decoded}
 use Rattle.fuse_spec.specs.declared.Minor.{Minor}
 use Rattle.fuse_spec.specs.declared.Minor.TheVariants.{M15, M31}
 use Rattle.fuse_spec.specs.Files.Operations as operation
+use Rattle.fuse_spec.specs.Files.AskedOperations.{operation_of}
+use Rattle.fuse_spec.specs.declared.asked.Operation.{Operation as Asked}
 use Rattle.fuse_spec.specs.Kernel.Messages.{RequestBody, Request, init, asks, release, forget, batch_forget, interrupt}
 
 -- what a request of a node asks, if the machine has it
@@ -33,26 +35,25 @@ body_in nodeid (wire.create name) = Some (asks (operation.create nodeid name))
 body_in nodeid (wire.interrupt unique) = Some (interrupt unique)
 body_in nodeid (wire.batch_forget forgets) = Some (batch_forget forgets)
 
--- the opcode of a request that asks this
-abbrev pub asked_opcode : RequestBody → Opcode
-asked_opcode (init flags) = op.Init
-asked_opcode (asks (operation.lookup d name)) = op.Lookup
-asked_opcode (asks (operation.getattr x)) = op.Getattr
-asked_opcode (asks (operation.mkdir d name)) = op.Mkdir
-asked_opcode (asks (operation.create d name)) = op.Create
-asked_opcode (asks (operation.unlink d name)) = op.Unlink
-asked_opcode (asks (operation.rmdir d name)) = op.Rmdir
-asked_opcode (asks (operation.rename d old e new)) = op.Rename
-asked_opcode (asks (operation.link x d name)) = op.Link
-asked_opcode (asks (operation.opening x)) = op.Open
-asked_opcode (asks (operation.readdir d after size)) = op.Readdir
-asked_opcode (asks (operation.readdirplus d after size)) = op.Readdirplus
-asked_opcode (asks (operation.read o offset size)) = op.Read
-asked_opcode (asks (operation.write o offset bytes)) = op.Write
-asked_opcode (release o) = op.Release
-asked_opcode (forget f) = op.Forget
-asked_opcode (batch_forget fs) = op.BatchForget
-asked_opcode (interrupt original) = op.Interrupt
+-- The body of the request that asks an operation, whose names and bytes are lent.
+abbrev pub body_asking : Asked (Bor (List ℕ)) → RequestBody
+body_asking operation = asks (operation_of (λ s. s.now) operation)
+
+-- What a request asks is this operation.
+abbrev pub Asks : Option RequestBody → Asked (Bor (List ℕ)) → Type 0
+Asks asked operation = asked ≡ Some (body_asking operation)
+
+-- What a request asks is no operation.
+abbrev pub AsksNothing : Option RequestBody → Type 0
+AsksNothing None = ⊥
+AsksNothing (Some (asks operation)) = ⊥
+AsksNothing (Some body) = Unit {0}
+
+-- A request asks for bytes of an open file, or puts bytes there.
+abbrev pub IsTransfer : RequestContent → Type 0
+IsTransfer (wire.read fh offset size) = Unit {0}
+IsTransfer (wire.write fh offset bytes) = Unit {0}
+IsTransfer content = ⊥
 
 -- How a request is written. INIT is of version 7.31, with the flags that it offers.
 abbrev pub content_of : RequestBody → RequestContent
@@ -74,6 +75,10 @@ content_of (release o) = wire.release o.fh
 content_of (forget f) = wire.forget f.1
 content_of (batch_forget fs) = wire.batch_forget fs
 content_of (interrupt original) = wire.interrupt original
+
+-- the opcode of a request that asks this
+abbrev pub asked_opcode : RequestBody → Opcode
+asked_opcode body = opcode_of (content_of body)
 
 -- A minor as the codec names it.
 abbrev pub codec_minor : Minor → CodecMinor

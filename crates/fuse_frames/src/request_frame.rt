@@ -6,11 +6,13 @@ ghost use Rattle.fuse_spec.specs.Kernel.Messages.{RequestBody as Asked, init, as
 ghost use Rattle.fuse_spec.specs.Values.Numbers.{init_flags};
 ghost use Rattle.fuse_spec.specs.Files.Operations.{lookup, getattr, mkdir};
 ghost use Rattle.fuse_spec.specs.World.Worlds.{forget_body};
-ghost use Rattle.fuse_frames.specs.RequestTies.{IsRequestFrame, body_in, content_of, asked_opcode};
+ghost use Rattle.fuse_frames.specs.RequestTies.{IsRequestFrame, body_asking, body_in, content_of, asked_opcode};
 
+use crate::operations::{body_of, node_of};
 use crate::pair_bytes::pair_bytes;
 use bitflags::Flags;
 use fk_wire::{InitFlags, Opcode, Pairs, RequestBody, read_request, write_request};
+use fuse_spec::Operation;
 use std::alloc::{AllocError, Allocator, Global};
 use std::marker::Model;
 
@@ -87,6 +89,26 @@ impl<A: Allocator> RequestFrame<A> {
             &fk_wire::Request {
                 unique,
                 nodeid: 0,
+                body,
+            },
+        )
+    }
+
+    /// The request that asks an operation, whose names and bytes are copied.
+    pub fn asks(
+        alloc: A,
+        unique: u64,
+        operation: &Operation<&[u8]>,
+    ) -> Result<RequestFrame<A>, AllocError>
+        ensures { IfOk result (λ frame. frame ≡ record { unique = unique; body = body_asking operation.now }) }
+    {
+        let nodeid = node_of(operation);
+        let body = body_of(operation);
+        framed(
+            alloc,
+            &fk_wire::Request {
+                unique,
+                nodeid,
                 body,
             },
         )
