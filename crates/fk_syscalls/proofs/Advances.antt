@@ -187,6 +187,6 @@ itself : (node at : ℕ) → at ≡ node → nat_eq node at ≡ true
 itself node at same = grind (arith, nat_tests)
 
 pub names_self : {A : Type 0} (node at : ℕ) (words : List Name) (aim : Aim A) → at ≡ node → list_any (nat_eq node) (nodes_of_state (state_of at words aim)) ≡ true
-names_self node at words (Walks plan) same = names_walked node at words (plan_of plan) ∙ ap (λ (b : Bool). b || list_any (nat_eq node) (files_of_plan (plan_of plan))) (itself node at same)
+names_self node at words (Walks plan) same = names_walked node at words (plan_of (λ s. s.items) plan) ∙ ap (λ (b : Bool). b || list_any (nat_eq node) (files_of_plan (plan_of (λ s. s.items) plan))) (itself node at same)
 names_self node at words (Reads handle fh offset size) same = ap (λ (b : Bool). b || false) (itself node at same)
 names_self node at words (Writes handle fh offset bytes) same = ap (λ (b : Bool). b || false) (itself node at same)

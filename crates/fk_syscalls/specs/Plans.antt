@@ -1,5 +1,5 @@
 -- What a call does at the end of its walks.
-use Rattle.std.specs.Prelude.{ℕ}
+use Rattle.std.specs.Prelude.{ℕ, List}
 use Rattle.fuse_spec.specs.Calls.Paths.{Name}
 use Rattle.fuse_spec.specs.Calls.Walks.{WalkPlan, last, rename, link}
 use Rattle.fuse_spec.specs.Calls.Walks as final
@@ -7,13 +7,9 @@ use Rattle.fk_syscalls.specs.Words.{words_from, IsWord, AreWords}
 use Rattle.fk_syscalls.specs.declared.plan.Change.{Change}
 use Rattle.fk_syscalls.specs.declared.plan.Change.TheVariants.{Mkdir, Create, Unlink, Rmdir}
 use Rattle.fk_syscalls.specs.declared.plan.FinalOperation.{FinalOperation}
-use Rattle.fk_syscalls.specs.declared.plan.FinalOperation.TheVariants.{Stat, List, ListPlus, Open, Change as Changes, RenameFrom, LinkTo}
-use Rattle.fk_syscalls.specs.declared.plan.LentOperation.{LentOperation}
-use Rattle.fk_syscalls.specs.declared.plan.LentOperation.TheVariants as lent
+use Rattle.fk_syscalls.specs.declared.plan.FinalOperation.TheVariants.{Stat, List as Lists, ListPlus, Open, Change as Changes, RenameFrom, LinkTo}
 use Rattle.fk_syscalls.specs.declared.plan.Plan.{Plan}
 use Rattle.fk_syscalls.specs.declared.plan.Plan.TheVariants.{Last, Rename, Link}
-use Rattle.fk_syscalls.specs.declared.plan.LentPlan.{LentPlan}
-use Rattle.fk_syscalls.specs.declared.plan.LentPlan.TheVariants as lent_plan
 
 abbrev pub final_change : Change → Name → final.FinalOperation ℕ
 final_change Mkdir name = final.mkdir name
@@ -21,60 +17,35 @@ final_change Create name = final.create name
 final_change Unlink name = final.unlink name
 final_change Rmdir name = final.rmdir name
 
--- What a call does at the end of its last walk.
-abbrev pub final_of : {A : Type 0} → FinalOperation A → final.FinalOperation ℕ
-final_of Stat = final.stat
-final_of (List after) = final.list after
-final_of (ListPlus after) = final.listplus after
-final_of Open = final.opening
-final_of (Changes change name) = final_change change name.items
-final_of (RenameFrom directory old new) = final.rename_from directory old.items new.items
-final_of (LinkTo file name) = final.link_to file name.items
-
--- The same of one whose names are lent.
-abbrev pub final_lent : LentOperation → final.FinalOperation ℕ
-final_lent lent.Stat = final.stat
-final_lent (lent.List after) = final.list after
-final_lent (lent.ListPlus after) = final.listplus after
-final_lent lent.Open = final.opening
-final_lent (lent.Change change name) = final_change change name.now
-final_lent (lent.RenameFrom directory old new) = final.rename_from directory old.now new.now
-final_lent (lent.LinkTo file name) = final.link_to file name.now
+-- What a call does at the end of its last walk, its names read by this.
+abbrev pub final_of : {S : Type 0} → (S → List ℕ) → FinalOperation S → final.FinalOperation ℕ
+final_of bytes_of Stat = final.stat
+final_of bytes_of (Lists after) = final.list after
+final_of bytes_of (ListPlus after) = final.listplus after
+final_of bytes_of Open = final.opening
+final_of bytes_of (Changes change name) = final_change change (bytes_of name)
+final_of bytes_of (RenameFrom directory old new) = final.rename_from directory (bytes_of old) (bytes_of new)
+final_of bytes_of (LinkTo file name) = final.link_to file (bytes_of name)
 
 -- The names that it gives or takes away are words.
-abbrev pub IsSoundFinal : {A : Type 0} → FinalOperation A → Type 0
-IsSoundFinal (Changes change name) = IsWord name.items
-IsSoundFinal (RenameFrom directory old new) = IsWord old.items × IsWord new.items
-IsSoundFinal (LinkTo file name) = IsWord name.items
-IsSoundFinal other = Unit {0}
+abbrev pub IsSoundFinal : {S : Type 0} → (S → List ℕ) → FinalOperation S → Type 0
+IsSoundFinal bytes_of (Changes change name) = IsWord (bytes_of name)
+IsSoundFinal bytes_of (RenameFrom directory old new) = IsWord (bytes_of old) × IsWord (bytes_of new)
+IsSoundFinal bytes_of (LinkTo file name) = IsWord (bytes_of name)
+IsSoundFinal bytes_of other = Unit {0}
 
-abbrev pub IsSoundLent : LentOperation → Type 0
-IsSoundLent (lent.Change change name) = IsWord name.now
-IsSoundLent (lent.RenameFrom directory old new) = IsWord old.now × IsWord new.now
-IsSoundLent (lent.LinkTo file name) = IsWord name.now
-IsSoundLent other = Unit {0}
-
--- What a walk is for.
-abbrev pub plan_of : {A : Type 0} → Plan A → WalkPlan ℕ
-plan_of (Last operation) = last (final_of operation)
-plan_of (Rename old words at new) = rename old.items (words_from words.items at) new.items
-plan_of (Link words at name) = link (words_from words.items at) name.items
-
-abbrev pub plan_lent : LentPlan → WalkPlan ℕ
-plan_lent (lent_plan.Last operation) = last (final_lent operation)
-plan_lent (lent_plan.Rename old words at new) = rename old.now (words_from words.now at) new.now
-plan_lent (lent_plan.Link words at name) = link (words_from words.now at) name.now
+-- What a walk is for, its words and names read by this.
+abbrev pub plan_of : {S : Type 0} → (S → List ℕ) → Plan S → WalkPlan ℕ
+plan_of bytes_of (Last operation) = last (final_of bytes_of operation)
+plan_of bytes_of (Rename old words at new) = rename (bytes_of old) (words_from (bytes_of words) at) (bytes_of new)
+plan_of bytes_of (Link words at name) = link (words_from (bytes_of words) at) (bytes_of name)
 
 -- Only words without a fault are asked for.
-abbrev pub IsSoundPlan : {A : Type 0} → Plan A → Type 0
-IsSoundPlan (Last operation) = IsSoundFinal operation
-IsSoundPlan (Rename old words at new) = IsWord old.items × AreWords words.items at × IsWord new.items
-IsSoundPlan (Link words at name) = AreWords words.items at × IsWord name.items
-
-abbrev pub IsSoundPlanLent : LentPlan → Type 0
-IsSoundPlanLent (lent_plan.Last operation) = IsSoundLent operation
-IsSoundPlanLent (lent_plan.Rename old words at new) = IsWord old.now × AreWords words.now at × IsWord new.now
-IsSoundPlanLent (lent_plan.Link words at name) = AreWords words.now at × IsWord name.now
+abbrev pub IsSoundPlan : {S : Type 0} → (S → List ℕ) → Plan S → Type 0
+IsSoundPlan bytes_of (Last operation) = IsSoundFinal bytes_of operation
+IsSoundPlan bytes_of (Rename old words at new) =
+    IsWord (bytes_of old) × AreWords (bytes_of words) at × IsWord (bytes_of new)
+IsSoundPlan bytes_of (Link words at name) = AreWords (bytes_of words) at × IsWord (bytes_of name)
 
 -- The plan has no second walk.
 abbrev pub IsLast : WalkPlan ℕ → Type 0

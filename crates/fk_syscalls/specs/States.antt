@@ -1,5 +1,6 @@
 -- Where an unanswered call stands, and what a step of it comes to.
 use Rattle.std.specs.Prelude.{◌≡◌, ℕ, List, [], ◌∷◌, Option, Some, None}
+use Rattle.std.specs.Borrow.{Bor}
 use Rattle.fuse_spec.specs.Calls.Begins.{Beginning}
 use Rattle.fuse_spec.specs.Values.Maps.{NameMap}
 use Rattle.fuse_spec.specs.Files.Operations as op
@@ -10,8 +11,8 @@ use Rattle.fuse_spec.specs.Calls.Walks.{WalkPlan, last, rename, link, operation_
 use Rattle.fuse_spec.specs.declared.Binding.{Binding}
 use Rattle.fuse_spec.specs.declared.Opened.{Opened}
 use Rattle.fk_syscalls.specs.Words.{AreWords}
-use Rattle.fk_syscalls.specs.Plans.{plan_of, plan_lent, IsSoundPlan, IsSoundPlanLent, IsLast}
-use Rattle.fk_syscalls.specs.declared.plan.LentPlan.{LentPlan}
+use Rattle.fk_syscalls.specs.Plans.{plan_of, IsSoundPlan, IsLast}
+use Rattle.fk_syscalls.specs.declared.plan.Plan.{Plan}
 use Rattle.fk_syscalls.specs.declared.state.Aim.{Aim}
 use Rattle.fk_syscalls.specs.declared.state.Aim.TheVariants.{Walks, Reads, Writes}
 
@@ -28,12 +29,12 @@ walking_at node (word ∷ words) plan = walking node word words plan
 
 -- A call at a node: it walks, or waits for a read or write of an open file of that node.
 abbrev pub state_of : {A : Type 0} → ℕ → List Name → Aim A → CallState Opened
-state_of node words (Walks plan) = walking_at node words (plan_of plan)
+state_of node words (Walks plan) = walking_at node words (plan_of (λ s. s.items) plan)
 state_of node words (Reads handle fh offset size) = using handle (op.read (record { nodeid = node; fh = fh }) offset size)
 state_of node words (Writes handle fh offset bytes) = using handle (op.write (record { nodeid = node; fh = fh }) offset bytes.items)
 
 abbrev pub IsSoundAim : {A : Type 0} → Option ℕ → Aim A → Type 0
-IsSoundAim at (Walks plan) = IsSoundPlan plan × (at ≡ None → IsLast (plan_of plan))
+IsSoundAim at (Walks plan) = IsSoundPlan (λ s. s.items) plan × (at ≡ None → IsLast (plan_of (λ s. s.items) plan))
 IsSoundAim at (Reads handle fh offset size) = Unit {0}
 IsSoundAim at (Writes handle fh offset bytes) = Unit {0}
 
@@ -43,10 +44,10 @@ pub record IsSoundCall {A : Type 0} (bytes : List ℕ) (at : Option ℕ) (aim : 
   pub sound : IsSoundAim at aim
 
 -- The same of a call that is to be made, whose words and names are lent.
-pub record IsSoundLentCall (bytes : List ℕ) (at : Option ℕ) (plan : LentPlan) : Type 0 where
+pub record IsSoundLentCall (bytes : List ℕ) (at : Option ℕ) (plan : Plan (Bor (List ℕ))) : Type 0 where
   pub left : AreWords bytes at
-  pub sound : IsSoundPlanLent plan
-  pub last : at ≡ None → IsLast (plan_lent plan)
+  pub sound : IsSoundPlan (λ s. s.now) plan
+  pub last : at ≡ None → IsLast (plan_of (λ s. s.now) plan)
 
 -- The call waits for a word of its path.
 abbrev pub IsWalking : CallState Opened → Type 0

@@ -1,13 +1,15 @@
 -- What contracts see of calls.
-use Rattle.std.specs.Prelude.{◌≡◌, ℕ, map}
+use Rattle.std.specs.Prelude.{◌≡◌, ℕ, List, map}
+use Rattle.std.specs.Borrow.{Bor}
 use Rattle.fuse_spec.specs.Calls.Answers.{failed}
 use Rattle.fuse_spec.specs.Calls.Answers as answer
 use Rattle.fuse_spec.specs.Calls.Begins.{Beginning}
 use Rattle.fuse_spec.specs.Calls.Calls as call
 use Rattle.fuse_spec.specs.Values.Maps.{NameMap}
-use Rattle.fuse_spec.specs.Values.Numbers.{max_transfer}
 use Rattle.fuse_spec.specs.Files.Operations as op
 use Rattle.fuse_spec.specs.Calls.Vfs.{Vfs, Advance, asking, no_more, answered, after_beginning}
+use Rattle.fuse_spec.specs.declared.asked.Operation.{Operation as Asked}
+use Rattle.fuse_spec.specs.declared.asked.Operation.TheVariants as asks
 use Rattle.fuse_spec.specs.declared.Binding.{Binding}
 use Rattle.fuse_spec.specs.declared.Opened.{Opened}
 use Rattle.fk_syscalls.specs.Words.{IsWord}
@@ -15,8 +17,6 @@ use Rattle.fk_syscalls.specs.States.{HasNames}
 use Rattle.fk_syscalls.specs.declared.call.Answer.{Answer}
 use Rattle.fk_syscalls.specs.declared.call.Answer.TheVariants.{Done, Attributes, Listing, Content, Written, Failed}
 use Rattle.fk_syscalls.specs.declared.call.ListedName.{ListedName}
-use Rattle.fk_syscalls.specs.declared.call.Asked.{Asked}
-use Rattle.fk_syscalls.specs.declared.call.Asked.TheVariants as asks
 use Rattle.fk_syscalls.specs.declared.call.Call.{Call}
 use Rattle.fk_syscalls.specs.declared.call.Call.TheVariants.{Stat, List as Lists, ListPlus, Open, Mkdir, Create, Unlink, Rmdir, Rename, Link, Read, Write, Close}
 use Rattle.fk_syscalls.specs.declared.state.Next.{Next}
@@ -56,24 +56,8 @@ answer_of (Content bytes) = answer.content bytes.items
 answer_of (Written size) = answer.written size
 answer_of (Failed errno) = answer.failed errno
 
--- The operation that is asked.
-abbrev pub operation_of : Asked → op.Operation ℕ Opened
-operation_of (asks.Lookup directory name) = op.lookup directory name.now
-operation_of (asks.Getattr node) = op.getattr node
-operation_of (asks.Readdir directory after) = op.readdir directory after max_transfer
-operation_of (asks.Readdirplus directory after) = op.readdirplus directory after max_transfer
-operation_of (asks.Open node) = op.opening node
-operation_of (asks.Mkdir directory name) = op.mkdir directory name.now
-operation_of (asks.Create directory name) = op.create directory name.now
-operation_of (asks.Unlink directory name) = op.unlink directory name.now
-operation_of (asks.Rmdir directory name) = op.rmdir directory name.now
-operation_of (asks.Rename directory old newdir new) = op.rename directory old.now newdir new.now
-operation_of (asks.Link node directory name) = op.link node directory name.now
-operation_of (asks.Read opened offset size) = op.read opened offset size
-operation_of (asks.Write opened offset bytes) = op.write opened offset bytes.now
-
 -- The names that are asked for or given, if there are some, are words of a path without a fault.
-abbrev pub AsksWord : Asked → Type 0
+abbrev pub AsksWord : Asked (Bor (List ℕ)) → Type 0
 AsksWord (asks.Lookup directory name) = IsWord name.now
 AsksWord (asks.Mkdir directory name) = IsWord name.now
 AsksWord (asks.Create directory name) = IsWord name.now

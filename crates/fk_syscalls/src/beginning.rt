@@ -8,13 +8,13 @@ ghost use Rattle.fuse_spec.specs.Calls.Vfs.{CallState as State, Vfs, numbered, b
 ghost use Rattle.fuse_spec.specs.Calls.Walks.{last, rename, link};
 ghost use Rattle.fuse_spec.specs.declared.Opened.{Opened};
 ghost use Rattle.fk_syscalls.specs.Words.{words_from, AreWords};
-ghost use Rattle.fk_syscalls.specs.Plans.{final_change, final_lent, plan_lent, IsSoundLent, IsSoundPlanLent};
+ghost use Rattle.fk_syscalls.specs.Plans.{final_change, final_of, plan_of, IsSoundFinal, IsSoundPlan};
 ghost use Rattle.fk_syscalls.specs.States.{HasNames, Asks};
 ghost use Rattle.fk_syscalls.specs.Values.{call_of, comes_to, ClosesNone, IsBegun};
 
 use crate::call::Call;
 use crate::path::{first_word, parent_of};
-use crate::plan::{Change, LentOperation, LentPlan};
+use crate::plan::{Change, FinalOperation, Plan};
 use crate::state::{CallState, Next, ROOT};
 use crate::walk::walk;
 use fk_dentry::Bindings;
@@ -45,16 +45,16 @@ pub fn begin<A: Allocator + Copy>(
     ensures wanting { OnErr result ((c : Vfs Opened) → HasNames c names.now.names clock → c.opens ≡ opens.now.entries → (state : State Opened) × (begun false c (call_of call.now) ≡ asking (numbered c) c.next_call state)) }
 {
     match call {
-        Call::Stat { path } => begin_whole(alloc, names, clock, path, LentOperation::Stat),
+        Call::Stat { path } => begin_whole(alloc, names, clock, path, FinalOperation::Stat),
         Call::List { path, after } => {
-            let operation = LentOperation::List { after: *after };
+            let operation = FinalOperation::List { after: *after };
             begin_whole(alloc, names, clock, path, operation)
         }
         Call::ListPlus { path, after } => {
-            let operation = LentOperation::ListPlus { after: *after };
+            let operation = FinalOperation::ListPlus { after: *after };
             begin_whole(alloc, names, clock, path, operation)
         }
-        Call::Open { path } => begin_whole(alloc, names, clock, path, LentOperation::Open),
+        Call::Open { path } => begin_whole(alloc, names, clock, path, FinalOperation::Open),
         Call::Mkdir { path } => begin_change(alloc, names, clock, path, Change::Mkdir),
         Call::Create { path } => begin_change(alloc, names, clock, path, Change::Create),
         Call::Unlink { path } => begin_change(alloc, names, clock, path, Change::Unlink),
@@ -82,14 +82,14 @@ fn begin_whole<A: Allocator + Copy>(
     names: &Bindings<A>,
     clock: u64,
     path: &[u8],
-    operation: LentOperation<'_>,
+    operation: FinalOperation<&[u8]>,
 ) -> Result<Next<A>, AllocError>
-    requires { IsSoundLent operation }
-    ensures begun { IfOk result (IsBegun names.now.names clock (whole_path path.now (λ words. sets_out words (last (final_lent operation.entry))))) }
-    ensures wanting { OnErr result (Asks names.now.names clock (whole_path path.now (λ words. sets_out words (last (final_lent operation.entry))))) }
+    requires { IsSoundFinal (λ s. s.now) operation }
+    ensures begun { IfOk result (IsBegun names.now.names clock (whole_path path.now (λ words. sets_out words (last (final_of (λ s. s.now) operation.entry))))) }
+    ensures wanting { OnErr result (Asks names.now.names clock (whole_path path.now (λ words. sets_out words (last (final_of (λ s. s.now) operation.entry))))) }
 {
     match first_word(path) {
-        Ok(at) => set_out(alloc, names, clock, path, at, LentPlan::Last(operation)),
+        Ok(at) => set_out(alloc, names, clock, path, at, Plan::Last(operation)),
         Err(errno) => Ok(Next::Answered { errno }),
     }
 }
@@ -108,7 +108,7 @@ fn begin_change<A: Allocator + Copy>(
     match parent_of(path) {
         Ok(parent) => {
             let name = parent.name;
-            let plan = LentPlan::Last(LentOperation::Change { change, name });
+            let plan = Plan::Last(FinalOperation::Change { change, name });
             set_out(alloc, names, clock, parent.words, parent.at, plan)
         }
         Err(errno) => Ok(Next::Answered { errno }),
@@ -134,7 +134,7 @@ fn begin_rename<A: Allocator + Copy>(
         Ok(to) => to,
         Err(errno) => return Ok(Next::Answered { errno }),
     };
-    let plan = LentPlan::Rename {
+    let plan = Plan::Rename {
         old: from.name,
         words: to.words,
         at: to.at,
@@ -162,7 +162,7 @@ fn begin_link<A: Allocator + Copy>(
         Ok(to) => to,
         Err(errno) => return Ok(Next::Answered { errno }),
     };
-    let plan = LentPlan::Link {
+    let plan = Plan::Link {
         words: to.words,
         at: to.at,
         name: to.name,
@@ -177,12 +177,12 @@ fn set_out<A: Allocator + Copy>(
     clock: u64,
     words: &[u8],
     at: Option<usize>,
-    plan: LentPlan<'_>,
+    plan: Plan<&[u8]>,
 ) -> Result<Next<A>, AllocError>
     requires words { AreWords words.now at }
-    requires plan { IsSoundPlanLent plan }
-    ensures begun { IfOk result (IsBegun names.now.names clock (sets_out (words_from words.now at) (plan_lent plan.entry))) }
-    ensures wanting { OnErr result (Asks names.now.names clock (sets_out (words_from words.now at) (plan_lent plan.entry))) }
+    requires plan { IsSoundPlan (λ s. s.now) plan }
+    ensures begun { IfOk result (IsBegun names.now.names clock (sets_out (words_from words.now at) (plan_of (λ s. s.now) plan.entry))) }
+    ensures wanting { OnErr result (Asks names.now.names clock (sets_out (words_from words.now at) (plan_of (λ s. s.now) plan.entry))) }
 {
     let Some(stop) = walk(names, clock, ROOT, words, at) else {
         return Ok(Next::Answered { errno: ENOENT });
@@ -192,25 +192,25 @@ fn set_out<A: Allocator + Copy>(
         return Ok(Next::Waits(state));
     }
     match plan {
-        LentPlan::Last(_) => {
+        Plan::Last(_) => {
             let state = CallState::new(alloc, stop.node, words, None, plan)?;
             Ok(Next::Waits(state))
         }
-        LentPlan::Rename {
+        Plan::Rename {
             old,
             words,
             at,
             new,
         } => {
-            let operation = LentOperation::RenameFrom {
+            let operation = FinalOperation::RenameFrom {
                 directory: stop.node,
                 old,
                 new,
             };
             set_out_again(alloc, names, clock, words, at, operation)
         }
-        LentPlan::Link { words, at, name } => {
-            let operation = LentOperation::LinkTo {
+        Plan::Link { words, at, name } => {
+            let operation = FinalOperation::LinkTo {
                 file: stop.node,
                 name,
             };
@@ -226,16 +226,16 @@ fn set_out_again<A: Allocator + Copy>(
     clock: u64,
     words: &[u8],
     at: Option<usize>,
-    operation: LentOperation<'_>,
+    operation: FinalOperation<&[u8]>,
 ) -> Result<Next<A>, AllocError>
     requires words { AreWords words.now at }
-    requires sound { IsSoundLent operation }
-    ensures begun { IfOk result (IsBegun names.now.names clock (sets_out (words_from words.now at) (last (final_lent operation.entry)))) }
-    ensures wanting { OnErr result (Asks names.now.names clock (sets_out (words_from words.now at) (last (final_lent operation.entry)))) }
+    requires sound { IsSoundFinal (λ s. s.now) operation }
+    ensures begun { IfOk result (IsBegun names.now.names clock (sets_out (words_from words.now at) (last (final_of (λ s. s.now) operation.entry)))) }
+    ensures wanting { OnErr result (Asks names.now.names clock (sets_out (words_from words.now at) (last (final_of (λ s. s.now) operation.entry)))) }
 {
     match walk(names, clock, ROOT, words, at) {
         Some(stop) => {
-            let plan = LentPlan::Last(operation);
+            let plan = Plan::Last(operation);
             let state = CallState::new(alloc, stop.node, words, stop.at, plan)?;
             Ok(Next::Waits(state))
         }

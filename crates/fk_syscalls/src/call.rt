@@ -4,7 +4,7 @@ ghost use Rattle.std.specs.Prelude.{◌≡◌};
 ghost use Rattle.fuse_spec.specs.Calls.Calls.{spoken};
 ghost use Rattle.fk_syscalls.specs.Values.{call_of};
 
-use fuse_spec::{Attributes, Kind, Opened};
+use fuse_spec::{Attributes, Kind};
 use std::alloc::{Allocator, Global};
 
 /// A system call. Its paths and bytes are lent. An open file is known by the number of the call that opened it.
@@ -103,66 +103,4 @@ pub enum Answer<A: Allocator = Global> {
     Content(Vec<u8, A>),
     Written { size: u32 },
     Failed { errno: u32 },
-}
-
-/// The operation that an unanswered call asks. Its names and bytes are lent.
-#[derive(Clone, Copy, Debug, PartialEq, Eq)]
-pub enum Asked<'a> {
-    Lookup {
-        directory: u64,
-        name: &'a [u8],
-    },
-    Getattr {
-        node: u64,
-    },
-    /// It lists the names behind an offset, in at most 4,096 bytes.
-    Readdir {
-        directory: u64,
-        after: u64,
-    },
-    /// The same, with each name's file.
-    Readdirplus {
-        directory: u64,
-        after: u64,
-    },
-    Open {
-        node: u64,
-    },
-    Mkdir {
-        directory: u64,
-        name: &'a [u8],
-    },
-    Create {
-        directory: u64,
-        name: &'a [u8],
-    },
-    Unlink {
-        directory: u64,
-        name: &'a [u8],
-    },
-    Rmdir {
-        directory: u64,
-        name: &'a [u8],
-    },
-    Rename {
-        directory: u64,
-        old: &'a [u8],
-        newdir: u64,
-        new: &'a [u8],
-    },
-    Link {
-        node: u64,
-        directory: u64,
-        name: &'a [u8],
-    },
-    Read {
-        opened: Opened,
-        offset: u64,
-        size: u32,
-    },
-    Write {
-        opened: Opened,
-        offset: u64,
-        bytes: &'a [u8],
-    },
 }

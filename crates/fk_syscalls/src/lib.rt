@@ -11,6 +11,6 @@ mod walk;
 mod words;
 
 pub use beginning::begin;
-pub use call::{Answer, Asked, Call, ListedName};
+pub use call::{Answer, Call, ListedName};
 pub use new_name::NewName;
 pub use state::{CallState, Next};

@@ -4,10 +4,12 @@ ghost use Rattle.std.specs.Prelude.{◌≡◌, IfOk, nat_eq};
 ghost use Rattle.std.specs.List.{list_any};
 ghost use Rattle.fuse_spec.specs.Calls.Walks.{files_of_plan, last, operation_at};
 ghost use Rattle.fk_syscalls.specs.Words.{IsWord};
-ghost use Rattle.fk_syscalls.specs.Values.{operation_of, AsksWord};
-ghost use Rattle.fk_syscalls.specs.Plans.{final_change, final_of, final_lent, plan_of, plan_lent, IsSoundFinal, IsSoundLent, IsSoundPlan, IsSoundPlanLent};
+ghost use Rattle.fuse_spec.specs.Files.AskedOperations.{operation_of};
+ghost use Rattle.fk_syscalls.specs.Values.{AsksWord};
+ghost use Rattle.fk_syscalls.specs.Plans.{final_change, final_of, plan_of, IsSoundFinal, IsSoundPlan};
 
-use crate::call::Asked;
+use fuse_spec::Operation;
+use fuse_spec::limits::MAX_TRANSFER;
 use std::alloc::{AllocError, Allocator};
 
 /// A change of a directory by one name.
@@ -19,113 +21,58 @@ pub(crate) enum Change {
     Rmdir,
 }
 
-/// What a call does at the node to which its last walk leads.
+/// What a call does at the node to which its last walk leads. `S` holds a name: lent from the call, or owned.
 #[derive(Drop)]
-pub(crate) enum FinalOperation<A: Allocator> {
+pub(crate) enum FinalOperation<S> {
     Stat,
-    List {
-        after: u64,
-    },
-    ListPlus {
-        after: u64,
-    },
+    List { after: u64 },
+    ListPlus { after: u64 },
     Open,
-    Change {
-        change: Change,
-        name: Vec<u8, A>,
-    },
+    Change { change: Change, name: S },
     /// The first walk has led to the old directory.
-    RenameFrom {
-        directory: u64,
-        old: Vec<u8, A>,
-        new: Vec<u8, A>,
-    },
+    RenameFrom { directory: u64, old: S, new: S },
     /// The first walk has led to the file.
-    LinkTo {
-        file: u64,
-        name: Vec<u8, A>,
-    },
+    LinkTo { file: u64, name: S },
 }
 
-/// The same, with its names lent.
-#[derive(Clone, Copy)]
-pub(crate) enum LentOperation<'a> {
-    Stat,
-    List {
-        after: u64,
-    },
-    ListPlus {
-        after: u64,
-    },
-    Open,
-    Change {
-        change: Change,
-        name: &'a [u8],
-    },
-    RenameFrom {
-        directory: u64,
-        old: &'a [u8],
-        new: &'a [u8],
-    },
-    LinkTo {
-        file: u64,
-        name: &'a [u8],
-    },
-}
-
-/// What a call's walk is for: an operation at its end, or a second walk, along the words from a place on.
+/// What a call's walk is for: an operation at its end, or a second walk, along the words from a place on. `S` holds
+/// words or a name: lent from the call, or owned.
 #[derive(Drop)]
-pub(crate) enum Plan<A: Allocator> {
-    Last(FinalOperation<A>),
+pub(crate) enum Plan<S> {
+    Last(FinalOperation<S>),
     Rename {
-        old: Vec<u8, A>,
-        words: Vec<u8, A>,
+        old: S,
+        words: S,
         at: Option<usize>,
-        new: Vec<u8, A>,
+        new: S,
     },
     Link {
-        words: Vec<u8, A>,
+        words: S,
         at: Option<usize>,
-        name: Vec<u8, A>,
+        name: S,
     },
 }
 
-/// The same, with its words and names lent.
-#[derive(Clone, Copy)]
-pub(crate) enum LentPlan<'a> {
-    Last(LentOperation<'a>),
-    Rename {
-        old: &'a [u8],
-        words: &'a [u8],
-        at: Option<usize>,
-        new: &'a [u8],
-    },
-    Link {
-        words: &'a [u8],
-        at: Option<usize>,
-        name: &'a [u8],
-    },
-}
-
-impl LentOperation<'_> {
-    pub(crate) fn to_owned<A: Allocator + Copy>(
+impl FinalOperation<&[u8]> {
+    /// The same, with a copy of its names.
+    fn to_owned<A: Allocator + Copy>(
         self,
         alloc: A,
-    ) -> Result<FinalOperation<A>, AllocError>
-        requires { IsSoundLent self }
-        ensures same { IfOk result (λ operation. final_of operation ≡ final_lent self.entry) }
-        ensures sound { IfOk result (λ operation. IsSoundFinal operation) }
+    ) -> Result<FinalOperation<Vec<u8, A>>, AllocError>
+        requires { IsSoundFinal (λ s. s.now) self }
+        ensures same { IfOk result (λ operation. final_of (λ s. s.items) operation ≡ final_of (λ s. s.now) self.entry) }
+        ensures sound { IfOk result (λ operation. IsSoundFinal (λ s. s.items) operation) }
     {
         Ok(match self {
-            LentOperation::Stat => FinalOperation::Stat,
-            LentOperation::List { after } => FinalOperation::List { after },
-            LentOperation::ListPlus { after } => FinalOperation::ListPlus { after },
-            LentOperation::Open => FinalOperation::Open,
-            LentOperation::Change { change, name } => FinalOperation::Change {
+            FinalOperation::Stat => FinalOperation::Stat,
+            FinalOperation::List { after } => FinalOperation::List { after },
+            FinalOperation::ListPlus { after } => FinalOperation::ListPlus { after },
+            FinalOperation::Open => FinalOperation::Open,
+            FinalOperation::Change { change, name } => FinalOperation::Change {
                 change,
                 name: name.to_vec(alloc)?,
             },
-            LentOperation::RenameFrom {
+            FinalOperation::RenameFrom {
                 directory,
                 old,
                 new,
@@ -134,7 +81,7 @@ impl LentOperation<'_> {
                 old: old.to_vec(alloc)?,
                 new: new.to_vec(alloc)?,
             },
-            LentOperation::LinkTo { file, name } => FinalOperation::LinkTo {
+            FinalOperation::LinkTo { file, name } => FinalOperation::LinkTo {
                 file,
                 name: name.to_vec(alloc)?,
             },
@@ -142,15 +89,19 @@ impl LentOperation<'_> {
     }
 }
 
-impl LentPlan<'_> {
-    pub(crate) fn to_owned<A: Allocator + Copy>(self, alloc: A) -> Result<Plan<A>, AllocError>
-        requires { IsSoundPlanLent self }
-        ensures same { IfOk result (λ plan. plan_of plan ≡ plan_lent self.entry) }
-        ensures sound { IfOk result (λ plan. IsSoundPlan plan) }
+impl Plan<&[u8]> {
+    /// The same, with a copy of its words and names.
+    pub(crate) fn to_owned<A: Allocator + Copy>(
+        self,
+        alloc: A,
+    ) -> Result<Plan<Vec<u8, A>>, AllocError>
+        requires { IsSoundPlan (λ s. s.now) self }
+        ensures same { IfOk result (λ plan. plan_of (λ s. s.items) plan ≡ plan_of (λ s. s.now) self.entry) }
+        ensures sound { IfOk result (λ plan. IsSoundPlan (λ s. s.items) plan) }
     {
         Ok(match self {
-            LentPlan::Last(operation) => Plan::Last(operation.to_owned(alloc)?),
-            LentPlan::Rename {
+            Plan::Last(operation) => Plan::Last(operation.to_owned(alloc)?),
+            Plan::Rename {
                 old,
                 words,
                 at,
@@ -161,7 +112,7 @@ impl LentPlan<'_> {
                 at,
                 new: new.to_vec(alloc)?,
             },
-            LentPlan::Link { words, at, name } => Plan::Link {
+            Plan::Link { words, at, name } => Plan::Link {
                 words: words.to_vec(alloc)?,
                 at,
                 name: name.to_vec(alloc)?,
@@ -170,10 +121,10 @@ impl LentPlan<'_> {
     }
 }
 
-impl<A: Allocator> FinalOperation<A> {
+impl<A: Allocator> FinalOperation<Vec<u8, A>> {
     /// Whether the node is one that the first walk has led to.
     fn names_node(&self, node: u64) -> bool
-        ensures { result ≡ list_any (nat_eq node) (files_of_plan (last (final_of self.now))) }
+        ensures { result ≡ list_any (nat_eq node) (files_of_plan (last (final_of (λ s. s.items) self.now))) }
     {
         match self {
             FinalOperation::RenameFrom { directory, .. } => *directory == node,
@@ -187,10 +138,10 @@ impl<A: Allocator> FinalOperation<A> {
     }
 }
 
-impl<A: Allocator> Plan<A> {
+impl<A: Allocator> Plan<Vec<u8, A>> {
     /// Whether the node is one that the first walk has led to.
     pub(crate) fn names_node(&self, node: u64) -> bool
-        ensures { result ≡ list_any (nat_eq node) (files_of_plan (plan_of self.now)) }
+        ensures { result ≡ list_any (nat_eq node) (files_of_plan (plan_of (λ s. s.items) self.now)) }
     {
         match self {
             Plan::Last(operation) => operation.names_node(node),
@@ -200,51 +151,58 @@ impl<A: Allocator> Plan<A> {
 }
 
 /// The operation that is asked at the node to which the last walk has led.
-pub(crate) fn asked_at<A: Allocator>(operation: &FinalOperation<A>, node: u64) -> Asked<'_>
-    requires { IsSoundFinal operation.now }
-    ensures operation { operation_of result ≡ operation_at (final_of operation.now) node }
+pub(crate) fn asked_at<A: Allocator>(
+    operation: &FinalOperation<Vec<u8, A>>,
+    node: u64,
+) -> Operation<&[u8]>
+    requires { IsSoundFinal (λ s. s.items) operation.now }
+    ensures operation { operation_of (λ s. s.now) result ≡ operation_at (final_of (λ s. s.items) operation.now) node }
     ensures word { AsksWord result }
 {
+    let directory = node;
+    let size = MAX_TRANSFER;
     match operation {
-        FinalOperation::Stat => Asked::Getattr { node },
-        FinalOperation::List { after } => Asked::Readdir {
-            directory: node,
+        FinalOperation::Stat => Operation::Getattr { node },
+        FinalOperation::List { after } => Operation::Readdir {
+            directory,
             after: *after,
+            size,
         },
-        FinalOperation::ListPlus { after } => Asked::Readdirplus {
-            directory: node,
+        FinalOperation::ListPlus { after } => Operation::Readdirplus {
+            directory,
             after: *after,
+            size,
         },
-        FinalOperation::Open => Asked::Open { node },
-        FinalOperation::Change { change, name } => asked_change(*change, node, name),
+        FinalOperation::Open => Operation::Open { node },
+        FinalOperation::Change { change, name } => asked_change(*change, directory, name),
         FinalOperation::RenameFrom {
             directory,
             old,
             new,
-        } => Asked::Rename {
+        } => Operation::Rename {
             directory: *directory,
             old,
             newdir: node,
             new,
         },
-        FinalOperation::LinkTo { file, name } => Asked::Link {
+        FinalOperation::LinkTo { file, name } => Operation::Link {
             node: *file,
-            directory: node,
+            directory,
             name,
         },
     }
 }
 
 /// The change of a directory that is asked.
-fn asked_change(change: Change, directory: u64, name: &[u8]) -> Asked<'_>
+fn asked_change(change: Change, directory: u64, name: &[u8]) -> Operation<&[u8]>
     requires { IsWord name.now }
-    ensures operation { operation_of result ≡ operation_at (final_change change name.now) directory }
+    ensures operation { operation_of (λ s. s.now) result ≡ operation_at (final_change change name.now) directory }
     ensures word { AsksWord result }
 {
     match change {
-        Change::Mkdir => Asked::Mkdir { directory, name },
-        Change::Create => Asked::Create { directory, name },
-        Change::Unlink => Asked::Unlink { directory, name },
-        Change::Rmdir => Asked::Rmdir { directory, name },
+        Change::Mkdir => Operation::Mkdir { directory, name },
+        Change::Create => Operation::Create { directory, name },
+        Change::Unlink => Operation::Unlink { directory, name },
+        Change::Rmdir => Operation::Rmdir { directory, name },
     }
 }

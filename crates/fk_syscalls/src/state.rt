@@ -8,20 +8,20 @@ ghost use Rattle.fuse_spec.specs.Calls.Paths.{Name};
 ghost use Rattle.fuse_spec.specs.Calls.Vfs.{Vfs, walking, using, asked, walks_on};
 ghost use Rattle.fuse_spec.specs.Calls.Walks.{WalkPlan, last, go, arrived};
 ghost use Rattle.fk_syscalls.specs.Words.{words_from, AreWords};
-ghost use Rattle.fk_syscalls.specs.Plans.{final_of, plan_lent, plan_of, IsSoundFinal, IsSoundPlan};
+ghost use Rattle.fk_syscalls.specs.Plans.{final_of, plan_of, IsSoundFinal, IsSoundPlan};
 ghost use Rattle.fk_syscalls.specs.States.{walking_at, IsSoundLentCall, IsWalking, StandsAt, used_by, HasNames};
 ghost use Rattle.fk_syscalls.specs.NewNames.{with_name};
 ghost use Rattle.fk_syscalls.specs.Walks.{known};
-ghost use Rattle.fk_syscalls.specs.Values.{operation_of, AsksWord, comes_to};
+ghost use Rattle.fk_syscalls.specs.Values.{AsksWord, comes_to};
+ghost use Rattle.fuse_spec.specs.Files.AskedOperations.{operation_of};
 
-use crate::call::Asked;
 use crate::new_name::{NewName, walk_past};
-use crate::plan::{FinalOperation, LentPlan, Plan, asked_at};
+use crate::plan::{FinalOperation, Plan, asked_at};
 use crate::walk::walk;
 use crate::words::{next_place, word_at};
 use fk_dentry::Bindings;
-use fuse_spec::Opened;
 use fuse_spec::errno::ENOENT;
+use fuse_spec::{Opened, Operation};
 use std::alloc::{AllocError, Allocator, Global};
 use std::marker::Model;
 
@@ -31,7 +31,7 @@ pub(crate) const ROOT: u64 = 1;
 /// What a call waits for: the end of its walks, or bytes of an open file.
 #[derive(Drop)]
 pub(crate) enum Aim<A: Allocator> {
-    Walks(Plan<A>),
+    Walks(Plan<Vec<u8, A>>),
     Reads {
         handle: u64,
         fh: u64,
@@ -88,11 +88,11 @@ fn second_walk<A: Allocator + Copy>(
     clock: u64,
     words: Vec<u8, A>,
     at: Option<usize>,
-    operation: FinalOperation<A>,
+    operation: FinalOperation<Vec<u8, A>>,
 ) -> Next<A>
     requires words { AreWords words.items at }
-    requires sound { IsSoundFinal operation }
-    ensures { (c : Vfs Opened) (call : ℕ) → HasNames c names.now.names clock → walks_on c call c.root (words_from words.items at) (last (final_of operation)) ≡ comes_to c call result }
+    requires sound { IsSoundFinal (λ s. s.items) operation }
+    ensures { (c : Vfs Opened) (call : ℕ) → HasNames c names.now.names clock → walks_on c call c.root (words_from words.items at) (last (final_of (λ s. s.items) operation)) ≡ comes_to c call result }
 {
     match walk(names, clock, ROOT, &words, at) {
         Some(stop) => Next::Waits(CallState {
@@ -111,10 +111,10 @@ fn arrived_at<A: Allocator + Copy>(
     clock: u64,
     node: u64,
     words: Vec<u8, A>,
-    plan: Plan<A>,
+    plan: Plan<Vec<u8, A>>,
 ) -> Next<A>
-    requires { IsSoundPlan plan }
-    ensures { (c : Vfs Opened) (call from : ℕ) (walked : List Name) → HasNames c names.now.names clock → go (known names.now.names clock) from walked ≡ arrived node → walks_on c call from walked (plan_of plan) ≡ comes_to c call result }
+    requires { IsSoundPlan (λ s. s.items) plan }
+    ensures { (c : Vfs Opened) (call from : ℕ) (walked : List Name) → HasNames c names.now.names clock → go (known names.now.names clock) from walked ≡ arrived node → walks_on c call from walked (plan_of (λ s. s.items) plan) ≡ comes_to c call result }
 {
     match plan {
         Plan::Last(operation) => Next::Waits(CallState {
@@ -157,10 +157,10 @@ impl<A: Allocator + Copy> CallState<A> {
         node: u64,
         words: &[u8],
         at: Option<usize>,
-        plan: LentPlan<'_>,
+        plan: Plan<&[u8]>,
     ) -> Result<Self, AllocError>
         requires { IsSoundLentCall words.now at plan }
-        ensures { IfOk result (λ state. state ≡ walking_at node (words_from words.now at) (plan_lent plan.entry)) }
+        ensures { IfOk result (λ state. state ≡ walking_at node (words_from words.now at) (plan_of (λ s. s.now) plan.entry)) }
     {
         let plan = plan.to_owned(alloc)?;
         match at {
@@ -280,23 +280,23 @@ impl<A: Allocator + Copy> CallState<A> {
     }
 
     /// The operation that it asks.
-    pub fn asks(&self) -> Asked<'_>
-        ensures operation { operation_of result ≡ asked self.now }
-        ensures stands { StandsAt (operation_of result) self.now }
+    pub fn asks(&self) -> Operation<&[u8]>
+        ensures operation { operation_of (λ s. s.now) result ≡ asked self.now }
+        ensures stands { StandsAt (operation_of (λ s. s.now) result) self.now }
         ensures word { AsksWord result }
     {
         match &self.aim {
             Aim::Walks(plan) => {
                 if let Some(place) = self.at {
                     let (name, _) = word_at(&self.words, place);
-                    return Asked::Lookup {
+                    return Operation::Lookup {
                         directory: self.node,
                         name,
                     };
                 }
                 let Plan::Last(operation) = plan else {
                     // Ruled out: a second walk follows the first at once.
-                    return Asked::Getattr { node: self.node };
+                    return Operation::Getattr { node: self.node };
                 };
                 asked_at(operation, self.node)
             }
@@ -305,7 +305,7 @@ impl<A: Allocator + Copy> CallState<A> {
                 offset,
                 size,
                 ..
-            } => Asked::Read {
+            } => Operation::Read {
                 opened: opened(self.node, *fh),
                 offset: *offset,
                 size: *size,
@@ -315,7 +315,7 @@ impl<A: Allocator + Copy> CallState<A> {
                 offset,
                 bytes,
                 ..
-            } => Asked::Write {
+            } => Operation::Write {
                 opened: opened(self.node, *fh),
                 offset: *offset,
                 bytes,

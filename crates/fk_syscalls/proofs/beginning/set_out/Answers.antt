@@ -3,7 +3,7 @@ use Rattle.fuse_spec.specs.Calls.Begins.{sets_out}
 use Rattle.fuse_spec.specs.Calls.Vfs.{Vfs, after_beginning}
 use Rattle.fuse_spec.specs.Calls.Walks.{go, arrived, last, rename, link, rename_from, link_to}
 use Rattle.fuse_spec.specs.declared.Opened.{Opened}
-use Rattle.fk_syscalls.specs.Plans.{plan_lent, IsLast}
+use Rattle.fk_syscalls.specs.Plans.{plan_of, IsLast}
 use Rattle.fk_syscalls.specs.States.{walking_at, HasNames}
 use Rattle.fk_syscalls.specs.Walks.{known, stop_at}
 use Rattle.fk_syscalls.specs.Words.{words_from}
@@ -15,7 +15,7 @@ returns-then-is_some-clause-begun g c = λ vfs call has.
     let words = c.args.words.now in
     let names = c.args.names.now.names in
     let from = words_from words c.args.at in
-    let plan = plan_lent c.args.plan in
+    let plan = plan_of (λ s. s.now) c.args.plan in
     let stop = c.in-Some.stop in
     let there = sym c.is_some.ensures ∙ c.if-is_some.true in
     let ends : words_from words stop.at ≡ [] → IsLast plan = λ none. some_left words stop.at there none in
@@ -26,7 +26,7 @@ returns-in_err-state-clause-wanting g c =
     let words = c.args.words.now in
     let names = c.args.names.now.names in
     let from = words_from words c.args.at in
-    let plan = plan_lent c.args.plan in
+    let plan = plan_of (λ s. s.now) c.args.plan in
     let stop = c.in-Some.stop in
     let there = sym c.is_some.ensures ∙ c.if-is_some.true in
     let ends : words_from words stop.at ≡ [] → IsLast plan = λ none. some_left words stop.at there none in
@@ -37,7 +37,7 @@ returns-in_err-state-in-Last-clause-wanting g c =
     let words = c.args.words.now in
     let names = c.args.names.now.names in
     let from = words_from words c.args.at in
-    let plan = plan_lent c.args.plan in
+    let plan = plan_of (λ s. s.now) c.args.plan in
     let stop = c.in-Some.stop in
     let ends : IsLast plan = rw c.in-Last.is tt in
     if_err c.from_residual-in_err-state-in-Last.result (λ vfs call has. (walking_at stop.node (words_from words stop.at) plan, all_root_waits vfs names c.args.clock has call from plan stop.node (words_from words stop.at) (λ e. ends) c.in-Some.ensures.stop))

@@ -7,16 +7,16 @@ use Rattle.fk_syscalls.proofs.state.arrived_at.Goals as goal
 
 pub returns-in-Last : goal.returns-in-Last
 returns-in-Last g c = λ vfs call from walked has arrives.
-    ap (λ p. walks_on vfs call from walked (plan_of p)) c.in-Last.is ∙ waits_at_end vfs c.args.names.now.names c.args.clock has call walked (final_of c.in-Last.operation) from c.args.node arrives
+    ap (λ p. walks_on vfs call from walked (plan_of (λ s. s.items) p)) c.in-Last.is ∙ waits_at_end vfs c.args.names.now.names c.args.clock has call walked (final_of (λ s. s.items) c.in-Last.operation) from c.args.node arrives
 
 pub returns-in-Rename : goal.returns-in-Rename
 returns-in-Rename g c = λ vfs call from walked has arrives.
     let r = c.in-Rename in
     let more = words_from r.words.items r.at in
-    ap (λ p. walks_on vfs call from walked (plan_of p)) r.is ∙ renames vfs c.args.names.now.names c.args.clock has call from walked r.old.items more r.new.items c.args.node arrives ∙ c.second_walk.ensures vfs call has
+    ap (λ p. walks_on vfs call from walked (plan_of (λ s. s.items) p)) r.is ∙ renames vfs c.args.names.now.names c.args.clock has call from walked r.old.items more r.new.items c.args.node arrives ∙ c.second_walk.ensures vfs call has
 
 pub returns-in-Link : goal.returns-in-Link
 returns-in-Link g c = λ vfs call from walked has arrives.
     let r = c.in-Link in
     let more = words_from r.words.items r.at in
-    ap (λ p. walks_on vfs call from walked (plan_of p)) r.is ∙ links vfs c.args.names.now.names c.args.clock has call from walked more r.name.items c.args.node arrives ∙ c.second_walk-in-Link.ensures vfs call has
+    ap (λ p. walks_on vfs call from walked (plan_of (λ s. s.items) p)) r.is ∙ links vfs c.args.names.now.names c.args.clock has call from walked more r.name.items c.args.node arrives ∙ c.second_walk-in-Link.ensures vfs call has

@@ -7,10 +7,10 @@ pub returns-in-Some : goal.returns-in-Some
 returns-in-Some g c = λ vfs call has.
     let words = c.args.words.items in
     let stop = rw c.deref.ensures.value at c.in-Some.ensures.stop in
-    root_waits vfs c.args.names.now.names c.args.clock has call (words_from words c.args.at) (final_of c.args.operation) c.in-Some.stop.node (words_from words c.in-Some.stop.at) stop
+    root_waits vfs c.args.names.now.names c.args.clock has call (words_from words c.args.at) (final_of (λ s. s.items) c.args.operation) c.in-Some.stop.node (words_from words c.in-Some.stop.at) stop
 
 pub returns-in-None : goal.returns-in-None
 returns-in-None g c = λ vfs call has.
     let words = c.args.words.items in
     let stop = rw c.deref.ensures.value at c.in-None.ensures.stop in
-    root_none vfs c.args.names.now.names c.args.clock has call (words_from words c.args.at) (final_of c.args.operation) stop
+    root_none vfs c.args.names.now.names c.args.clock has call (words_from words c.args.at) (final_of (λ s. s.items) c.args.operation) stop

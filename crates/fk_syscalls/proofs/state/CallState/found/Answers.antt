@@ -11,7 +11,7 @@ pub returns-in_default-walk : goal.returns-in_default-walk
 returns-in_default-walk g c = λ vfs call directory word words plan has walks.
     let self = c.self.inside in
     let bytes = self.words.items in
-    let plan_now = plan_of c.in-Walks.plan in
+    let plan_now = plan_of (λ s. s.items) c.in-Walks.plan in
     let from = c.args.node in
     let names = c.args.names.now.names in
     let left = words_from bytes self.at in
@@ -26,7 +26,7 @@ pub returns-then-is_some : goal.returns-then-is_some
 returns-then-is_some g c = λ vfs call directory word words plan has walks.
     let self = c.self.inside in
     let bytes = self.words.items in
-    let plan_now = plan_of c.in-Walks.plan in
+    let plan_now = plan_of (λ s. s.items) c.in-Walks.plan in
     let from = c.args.node in
     let names = c.args.names.now.names in
     let left = words_from bytes self.at in
@@ -42,7 +42,7 @@ pub returns : goal.returns
 returns g c = λ vfs call directory word words plan has walks.
     let self = c.self.inside in
     let bytes = self.words.items in
-    let plan_now = plan_of c.in-Walks.plan in
+    let plan_now = plan_of (λ s. s.items) c.in-Walks.plan in
     let from = c.args.node in
     let names = c.args.names.now.names in
     let left = words_from bytes self.at in

@@ -18,7 +18,7 @@ returns-then-self-node g c =
 pub returns-in-Walks : goal.returns-in-Walks
 returns-in-Walks g c =
     let self = c.self.inside in
-    let plan = plan_of c.in-Walks.plan in
+    let plan = plan_of (λ s. s.items) c.in-Walks.plan in
     let words = words_from self.words.items self.at in
     let apart : nat_eq c.args.node self.node ≡ false = grind (arith, nat_tests) in
     let named = list_any (nat_eq c.args.node) (files_of_plan plan) in

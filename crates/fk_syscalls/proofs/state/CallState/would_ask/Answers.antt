@@ -16,7 +16,7 @@ pub returns-in_default-walk_past : goal.returns-in_default-walk_past
 returns-in_default-walk_past g c = λ vfs call directory word words plan has walks.
     let self = c.self.inside in
     let bytes = self.words.items in
-    let plan_now = plan_of c.in-Walks.plan in
+    let plan_now = plan_of (λ s. s.items) c.in-Walks.plan in
     let from = c.args.new.now.node in
     let names = with_name c.args.names.now.names c.args.new.now in
     let left = words_from bytes self.at in
@@ -31,7 +31,7 @@ pub returns-then-is_some : goal.returns-then-is_some
 returns-then-is_some g c = λ vfs call directory word words plan has walks.
     let self = c.self.inside in
     let bytes = self.words.items in
-    let plan_now = plan_of c.in-Walks.plan in
+    let plan_now = plan_of (λ s. s.items) c.in-Walks.plan in
     let from = c.args.new.now.node in
     let names = with_name c.args.names.now.names c.args.new.now in
     let left = words_from bytes self.at in
@@ -59,7 +59,7 @@ pub returns-in-Last : goal.returns-in-Last
 returns-in-Last g c = λ vfs call directory word words plan has walks.
     let self = c.self.inside in
     let bytes = self.words.items in
-    let plan_now = plan_of c.in-Walks.plan in
+    let plan_now = plan_of (λ s. s.items) c.in-Walks.plan in
     let from = c.args.new.now.node in
     let names = with_name c.args.names.now.names c.args.new.now in
     let left = words_from bytes self.at in
@@ -75,7 +75,7 @@ pub returns-in-Rename : goal.returns-in-Rename
 returns-in-Rename g c = λ vfs call directory word words plan has walks.
     let self = c.self.inside in
     let bytes = self.words.items in
-    let plan_now = plan_of c.in-Walks.plan in
+    let plan_now = plan_of (λ s. s.items) c.in-Walks.plan in
     let from = c.args.new.now.node in
     let names = with_name c.args.names.now.names c.args.new.now in
     let left = words_from bytes self.at in
@@ -89,14 +89,14 @@ returns-in-Rename g c = λ vfs call directory word words plan has walks.
     let r = c.in-Rename in
     let more = words_from r.words.items r.at in
     let stop-2 = rw c.deref-in-Rename.ensures.value at c.walk_past-in-Rename.ensures.stop in
-    ap (λ (a : Advance Opened). is_some a.operation) (on ∙ ap (λ p. walks_on vfs call from next (plan_of p)) r.is ∙ renames vfs names c.args.clock has call from next r.old.items more r.new.items c.in-Some.stop.node arrives)
+    ap (λ (a : Advance Opened). is_some a.operation) (on ∙ ap (λ p. walks_on vfs call from next (plan_of (λ s. s.items) p)) r.is ∙ renames vfs names c.args.clock has call from next r.old.items more r.new.items c.in-Some.stop.node arrives)
     ∙ root_asks vfs names c.args.clock has call more (rename_from c.in-Some.stop.node r.old.items r.new.items) r.words.items c.walk_past-in-Rename.result stop-2 ∙ sym c.is_some-in-Rename.ensures
 
 pub returns-in-Link : goal.returns-in-Link
 returns-in-Link g c = λ vfs call directory word words plan has walks.
     let self = c.self.inside in
     let bytes = self.words.items in
-    let plan_now = plan_of c.in-Walks.plan in
+    let plan_now = plan_of (λ s. s.items) c.in-Walks.plan in
     let from = c.args.new.now.node in
     let names = with_name c.args.names.now.names c.args.new.now in
     let left = words_from bytes self.at in
@@ -110,5 +110,5 @@ returns-in-Link g c = λ vfs call directory word words plan has walks.
     let r = c.in-Link in
     let more = words_from r.words.items r.at in
     let stop-2 = rw c.deref-in-Link.ensures.value at c.walk_past-in-Link.ensures.stop in
-    ap (λ (a : Advance Opened). is_some a.operation) (on ∙ ap (λ p. walks_on vfs call from next (plan_of p)) r.is ∙ links vfs names c.args.clock has call from next more r.name.items c.in-Some.stop.node arrives)
+    ap (λ (a : Advance Opened). is_some a.operation) (on ∙ ap (λ p. walks_on vfs call from next (plan_of (λ s. s.items) p)) r.is ∙ links vfs names c.args.clock has call from next more r.name.items c.in-Some.stop.node arrives)
     ∙ root_asks vfs names c.args.clock has call more (link_to c.in-Some.stop.node r.name.items) r.words.items c.walk_past-in-Link.result stop-2 ∙ sym c.is_some-in-Link.ensures
