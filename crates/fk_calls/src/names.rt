@@ -7,7 +7,8 @@ ghost use Rattle.fuse_spec.specs.declared.Opened.{Opened};
 ghost use Rattle.fk_calls.specs.Names.{names_left};
 
 use fk_dentry::Bindings;
-use fk_syscalls::{Asked, CallState};
+use fk_syscalls::CallState;
+use fuse_spec::Operation;
 use fuse_tables::Table;
 use std::alloc::{AllocError, Allocator};
 
@@ -23,10 +24,10 @@ pub fn unbind<A: Allocator + Copy>(
         return;
     };
     match waiting.asks() {
-        Asked::Unlink { directory, name } | Asked::Rmdir { directory, name } => {
+        Operation::Unlink { directory, name } | Operation::Rmdir { directory, name } => {
             let _was = names.remove(directory, name);
         }
-        Asked::Rename {
+        Operation::Rename {
             directory,
             old,
             newdir,

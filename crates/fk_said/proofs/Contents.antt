@@ -2,7 +2,7 @@
 use Rattle.std.proofs.Common.{◌≡◌, ℕ, ◌+◌, ◌-◌, ◌*◌, ◌/◌, true, false, List, [], ◌∷◌, length, map, Option, Some, None, refl, ap, sym, subst, ◌∙◌, arith}
 use Rattle.std.specs.Prelude.{nat_le, sum_by, ℤ, pos, IfSome, IfNone}
 use Rattle.std.specs.Option.{MatchOption}
-use Rattle.fuse_spec.specs.Kernel.Messages.{WireReply}
+use Rattle.fuse_spec.specs.Kernel.Messages.{WireReply, asks}
 use Rattle.fuse_spec.specs.Files.Operations as reply
 use Rattle.fk_wire.specs.Dirents.{DirentContent, DirentPlusContent, dirent_fields, dirents, direntpluses}
 use Rattle.fk_wire.specs.RecordEnds.{padding}
@@ -16,7 +16,8 @@ use Rattle.fuse_spec.specs.Files.Operations.{Operation, lookup, getattr, mkdir, 
 use Rattle.fuse_spec.specs.Kernel.Replies.{goes_with}
 use Rattle.fuse_spec.specs.Files.Trees.{record_length, pair_length}
 use Rattle.fuse_frames.specs.ReplyTies.{wire_body, dirent_in, pair_in}
-use Rattle.fk_said.specs.Said.{opcode_of, Says}
+use Rattle.fuse_frames.specs.RequestTies.{asked_opcode}
+use Rattle.fk_said.specs.Said.{Says}
 use Rattle.fk_said.specs.ReplySaid.{is_within, IsSaidBody, wire_of, LastsADay, SaysTo}
 use Rattle.fk_said.specs.declared.reply_said.ReplySaid.{ReplySaid}
 
@@ -53,7 +54,7 @@ pairs_end (p ∷ ps) place bytes reads =
     let sum : sum_by pair_length (map pair_in (p ∷ ps)) ≡ 128 + (31 + length name) / 8 * 8 + sum_by pair_length (map pair_in ps) = sum_by-cons pair_length (pair_in p) (map pair_in ps) in
     omega (arith, rest, pad, sum)
 
-pub fits : (operation : Operation ℕ Opened) (content : ReplyContent) (bytes : List ℕ) → reply_kind served (opcode_of operation) ≡ Some (kind_of_content content) → ReadsAs 16 (reply_body content) bytes
+pub fits : (operation : Operation ℕ Opened) (content : ReplyContent) (bytes : List ℕ) → reply_kind served (asked_opcode (asks operation)) ≡ Some (kind_of_content content) → ReadsAs 16 (reply_body content) bytes
     → goes_with operation (wire_body content) ≡ is_within operation (length bytes) content
 fits (lookup d w) (entry_reply (missing s n)) bytes is reads = refl
 fits (lookup d w) (entry_reply (found x g s n a)) bytes is reads = refl
@@ -95,7 +96,7 @@ fits (write o f b) (write_reply n) bytes is reads = refl
 fits (write o f b) content bytes is reads = cc
 
 -- INIT is asked by no call
-no_init : (operation : Operation ℕ Opened) (major minor flags : ℕ) {T : Type 0} → reply_kind served (opcode_of operation) ≡ Some (kind_of_content (init_reply major minor flags)) → T
+no_init : (operation : Operation ℕ Opened) (major minor flags : ℕ) {T : Type 0} → reply_kind served (asked_opcode (asks operation)) ≡ Some (kind_of_content (init_reply major minor flags)) → T
 no_init (lookup d w) major minor flags is = cc
 no_init (getattr x) major minor flags is = cc
 no_init (mkdir d n) major minor flags is = cc
@@ -110,16 +111,16 @@ no_init (readdirplus d a z) major minor flags is = cc
 no_init (read o f z) major minor flags is = cc
 no_init (write o f b) major minor flags is = cc
 
-pub said_body : (operation : Operation ℕ Opened) (content : ReplyContent) → reply_kind served (opcode_of operation) ≡ Some (kind_of_content content) → IsSaidBody content
+pub said_body : (operation : Operation ℕ Opened) (content : ReplyContent) → reply_kind served (asked_opcode (asks operation)) ≡ Some (kind_of_content content) → IsSaidBody content
 said_body operation (init_reply major minor flags) is = no_init operation major minor flags is
 said_body operation content is = tt
 
 -- a body without an error
-pub content_fits : (operation : Operation ℕ Opened) (bytes : List ℕ) (unique : ℕ) (error : ℤ) (content : ReplyContent) → error ≡ pos 0 → SpellsReply (opcode_of operation) bytes (record { unique = unique; error = error; content = content })
+pub content_fits : (operation : Operation ℕ Opened) (bytes : List ℕ) (unique : ℕ) (error : ℤ) (content : ReplyContent) → error ≡ pos 0 → SpellsReply (asked_opcode (asks operation)) bytes (record { unique = unique; error = error; content = content })
     → (goes_with operation (wire_body content) ≡ is_within operation (length bytes) content) × IsSaidBody content
-content_fits operation bytes unique error content none spells = by (subst (λ (z : ℤ). SpellsReply (opcode_of operation) bytes (record { unique = unique; error = z; content = content })) none spells)
+content_fits operation bytes unique error content none spells = by (subst (λ (z : ℤ). SpellsReply (asked_opcode (asks operation)) bytes (record { unique = unique; error = z; content = content })) none spells)
   where
-    by : SpellsReply (opcode_of operation) bytes (record { unique = unique; error = pos 0; content = content }) → (goes_with operation (wire_body content) ≡ is_within operation (length bytes) content) × IsSaidBody content
+    by : SpellsReply (asked_opcode (asks operation)) bytes (record { unique = unique; error = pos 0; content = content }) → (goes_with operation (wire_body content) ≡ is_within operation (length bytes) content) × IsSaidBody content
     by s =
         let kind = s.2.1 ∙ ap Some (sym s.2.2) in
         (fits operation content bytes kind s.5.1.1.1, said_body operation content kind)
@@ -141,11 +142,11 @@ failed_goes (read o f z) errno = refl
 failed_goes (write o f b) errno = refl
 
 -- what was made of a body says it
-pub said_so : (operation : Operation ℕ Opened) (bytes : List ℕ) (wire : WireReply) (r : Option ReplySaid) (N : Type 0) → MatchOption r N (λ said. (wire ≡ wire_of said) × LastsADay said) → Says (opcode_of operation) bytes wire → goes_with operation wire ≡ true → IfSome r (SaysTo operation bytes)
+pub said_so : (operation : Operation ℕ Opened) (bytes : List ℕ) (wire : WireReply) (r : Option ReplySaid) (N : Type 0) → MatchOption r N (λ said. (wire ≡ wire_of said) × LastsADay said) → Says (asked_opcode (asks operation)) bytes wire → goes_with operation wire ≡ true → IfSome r (SaysTo operation bytes)
 said_so operation bytes wire None N made says goes = tt
-said_so operation bytes wire (Some said) N made says goes = record { says = subst (Says (opcode_of operation) bytes) made.0 says; goes = subst (λ (x : WireReply). goes_with operation x ≡ true) made.0 goes; day = made.1 }
+said_so operation bytes wire (Some said) N made says goes = record { says = subst (Says (asked_opcode (asks operation)) bytes) made.0 says; goes = subst (λ (x : WireReply). goes_with operation x ≡ true) made.0 goes; day = made.1 }
 
 pub none_said : (operation : Operation ℕ Opened) (bytes : List ℕ) (content : ReplyContent) (r : Option ReplySaid) (P : ReplySaid → Type 0) → MatchOption r (IsSaidBody content → ⊥) P → IsSaidBody content
-    → IfNone r ((wire : WireReply) → Says (opcode_of operation) bytes wire → goes_with operation wire ≡ false)
+    → IfNone r ((wire : WireReply) → Says (asked_opcode (asks operation)) bytes wire → goes_with operation wire ≡ false)
 none_said operation bytes content None P made is = absurd (made is)
 none_said operation bytes content (Some said) P made is = tt

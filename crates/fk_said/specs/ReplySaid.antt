@@ -5,11 +5,12 @@ use Rattle.fk_wire.specs.Replies.{ReplyContent, write_reply, init_reply}
 use Rattle.fuse_spec.specs.declared.Opened.{Opened}
 use Rattle.fuse_spec.specs.Files.Operations.{Operation, readdir, readdirplus, read, write}
 use Rattle.fuse_spec.specs.Files.Operations as reply
-use Rattle.fuse_spec.specs.Kernel.Messages.{WireReply}
+use Rattle.fuse_spec.specs.Kernel.Messages.{WireReply, asks}
 use Rattle.fuse_spec.specs.Values.Numbers.{max_validity}
 use Rattle.fuse_spec.specs.Kernel.Replies.{goes_with}
 use Rattle.fuse_frames.specs.ReplyTies.{dirent_in, pair_in}
-use Rattle.fk_said.specs.Said.{Says, opcode_of}
+use Rattle.fuse_frames.specs.RequestTies.{asked_opcode}
+use Rattle.fk_said.specs.Said.{Says}
 use Rattle.fk_said.specs.declared.reply_said.ReplySaid.{ReplySaid}
 use Rattle.fk_said.specs.declared.reply_said.ReplySaid.TheVariants as said
 
@@ -35,7 +36,7 @@ LastsADay other = Unit {0}
 
 -- The bytes say this to the operation, and it goes with it.
 pub record SaysTo (operation : Operation ℕ Opened) (bytes : List ℕ) (said : ReplySaid) : Type 0 where
-  pub says : Says (opcode_of operation) bytes (wire_of said)
+  pub says : Says (asked_opcode (asks operation)) bytes (wire_of said)
   pub goes : goes_with operation (wire_of said) ≡ true
   pub day : LastsADay said
 

@@ -6,8 +6,6 @@ use Rattle.fk_wire.specs.declared.opcode.Opcode.TheVariants as op
 use Rattle.fk_wire.specs.Fields.{number_at}
 use Rattle.fk_wire.specs.Requests.{known_flags}
 use Rattle.fk_wire.specs.ReplyFaults.{HasReplyLength, HasError}
-use Rattle.fuse_spec.specs.declared.Opened.{Opened}
-use Rattle.fuse_spec.specs.Files.Operations.{Operation, lookup, getattr, mkdir, create, unlink, rmdir, rename, link, opening, readdir, readdirplus, read, write}
 use Rattle.fuse_spec.specs.Files.Operations as reply
 use Rattle.fuse_spec.specs.Kernel.Messages.{WireReply}
 use Rattle.fuse_frames.specs.ReplyTies.{SaysReply}
@@ -45,19 +43,3 @@ SaysToInit bytes said = Says op.Init bytes (init_wire said)
 abbrev pub SaysToInterrupt : List ℕ → InterruptSaid → Type 0
 SaysToInterrupt bytes (interrupt_said.Failed errno) = Says op.Interrupt bytes (reply.failed errno)
 SaysToInterrupt bytes interrupt_said.Done = Says op.Interrupt bytes reply.done
-
--- the opcode of the request that asks an operation
-abbrev pub opcode_of : Operation ℕ Opened → Opcode
-opcode_of (lookup d name) = op.Lookup
-opcode_of (getattr x) = op.Getattr
-opcode_of (mkdir d name) = op.Mkdir
-opcode_of (create d name) = op.Create
-opcode_of (unlink d name) = op.Unlink
-opcode_of (rmdir d name) = op.Rmdir
-opcode_of (rename d old e new) = op.Rename
-opcode_of (link x d name) = op.Link
-opcode_of (opening x) = op.Open
-opcode_of (readdir d after size) = op.Readdir
-opcode_of (readdirplus d after size) = op.Readdirplus
-opcode_of (read o offset size) = op.Read
-opcode_of (write o offset bytes) = op.Write

@@ -4,20 +4,22 @@ ghost use Rattle.std.specs.Prelude.{◌≡◌, ℕ, false, length, map, pos, IfS
 ghost use Rattle.fk_wire.specs.Records.{records_in};
 ghost use Rattle.fk_wire.specs.Entries.{entry_content};
 ghost use Rattle.fk_wire.specs.Replies.{reply_content, entry_reply, create_reply};
-ghost use Rattle.fuse_spec.specs.Kernel.Messages.{WireReply};
+ghost use Rattle.fuse_spec.specs.Kernel.Messages.{WireReply, asks};
 ghost use Rattle.fuse_spec.specs.Files.Operations as reply;
 ghost use Rattle.fuse_spec.specs.Kernel.Replies.{goes_with};
 ghost use Rattle.fuse_frames.specs.ReplyTies.{wire_body, dirent_in, attributes_in, no_entry};
-ghost use Rattle.fk_syscalls.specs.Values.{operation_of, dirent_of};
-ghost use Rattle.fk_said.specs.Said.{Says, opcode_of};
+ghost use Rattle.fuse_frames.specs.RequestTies.{asked_opcode};
+ghost use Rattle.fuse_spec.specs.Files.AskedOperations.{operation_of};
+ghost use Rattle.fk_syscalls.specs.Values.{dirent_of};
+ghost use Rattle.fk_said.specs.Said.{Says};
 ghost use Rattle.fk_said.specs.ReplySaid.{wire_of, LastsADay, SaysTo, is_within};
 ghost use Rattle.fk_said.specs.ReplySaid.{IsSaidBody};
 
 use crate::said::failure;
-use fk_syscalls::{Asked, ListedName};
-use fk_wire::{Opcode, Records, RecordsPlus, ReplyBody, read_reply};
-use fuse_frames::{attributes_of, kind_of_type, milliseconds};
-use fuse_spec::{Attributes, Entry, Kind};
+use fk_syscalls::ListedName;
+use fk_wire::{Records, RecordsPlus, ReplyBody, read_reply};
+use fuse_frames::{attributes_of, kind_of_type, milliseconds, opcode_asked};
+use fuse_spec::{Attributes, Entry, Kind, Operation};
 use std::alloc::{AllocError, Allocator};
 
 /// What a reply says that goes with the operation of a call.
@@ -55,35 +57,15 @@ pub enum ReplySaid<'a> {
     Done,
 }
 
-/// The opcode of the request that asks an operation.
-fn opcode_asked(asked: &Asked<'_>) -> Opcode
-    ensures { result ≡ opcode_of (operation_of asked.now) }
-{
-    match asked {
-        Asked::Lookup { .. } => Opcode::Lookup,
-        Asked::Getattr { .. } => Opcode::Getattr,
-        Asked::Readdir { .. } => Opcode::Readdir,
-        Asked::Readdirplus { .. } => Opcode::Readdirplus,
-        Asked::Open { .. } => Opcode::Open,
-        Asked::Mkdir { .. } => Opcode::Mkdir,
-        Asked::Create { .. } => Opcode::Create,
-        Asked::Unlink { .. } => Opcode::Unlink,
-        Asked::Rmdir { .. } => Opcode::Rmdir,
-        Asked::Rename { .. } => Opcode::Rename,
-        Asked::Link { .. } => Opcode::Link,
-        Asked::Read { .. } => Opcode::Read,
-        Asked::Write { .. } => Opcode::Write,
-    }
-}
-
 /// Whether a body in a frame of so many bytes is no longer than was asked, nor tells of more written than was sent.
-fn is_within_asked(asked: &Asked<'_>, len: usize, body: &ReplyBody<'_>) -> bool
-    ensures { result ≡ is_within (operation_of asked.now) len (reply_content body.now) }
+fn is_within_asked(asked: &Operation<&[u8]>, len: usize, body: &ReplyBody<'_>) -> bool
+    ensures { result ≡ is_within (operation_of (λ s. s.now) asked.now) len (reply_content body.now) }
 {
     match asked {
-        Asked::Readdir { .. } | Asked::Readdirplus { .. } => len.saturating_sub(16) <= 4_096,
-        Asked::Read { size, .. } => len.saturating_sub(16) <= *size as usize,
-        Asked::Write { bytes, .. } => match body {
+        Operation::Readdir { size, .. }
+        | Operation::Readdirplus { size, .. }
+        | Operation::Read { size, .. } => len.saturating_sub(16) <= *size as usize,
+        Operation::Write { bytes, .. } => match body {
             ReplyBody::Write { size } => *size as usize <= bytes.len(),
             _ => true,
         },
@@ -170,9 +152,9 @@ fn said_by(body: ReplyBody<'_>) -> Option<ReplySaid<'_>>
 }
 
 /// What the bytes say to what a call asked, if they are a reply that goes with it.
-pub fn said_to<'a>(asked: &Asked<'_>, bytes: &'a [u8]) -> Option<ReplySaid<'a>>
-    ensures said { IfSome result (SaysTo (operation_of asked.now) bytes.now) }
-    ensures none { IfNone result ((wire : WireReply) → Says (opcode_of (operation_of asked.now)) bytes.now wire → goes_with (operation_of asked.now) wire ≡ false) }
+pub fn said_to<'a>(asked: &Operation<&[u8]>, bytes: &'a [u8]) -> Option<ReplySaid<'a>>
+    ensures said { IfSome result (SaysTo (operation_of (λ s. s.now) asked.now) bytes.now) }
+    ensures none { IfNone result ((wire : WireReply) → Says (asked_opcode (asks (operation_of (λ s. s.now) asked.now))) bytes.now wire → goes_with (operation_of (λ s. s.now) asked.now) wire ≡ false) }
 {
     let Ok(reply) = read_reply(opcode_asked(asked), bytes) else {
         return None;

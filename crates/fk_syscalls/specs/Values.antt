@@ -6,6 +6,7 @@ use Rattle.fuse_spec.specs.Calls.Answers as answer
 use Rattle.fuse_spec.specs.Calls.Begins.{Beginning}
 use Rattle.fuse_spec.specs.Calls.Calls as call
 use Rattle.fuse_spec.specs.Values.Maps.{NameMap}
+use Rattle.fuse_spec.specs.Values.Numbers.{max_transfer}
 use Rattle.fuse_spec.specs.Files.Operations as op
 use Rattle.fuse_spec.specs.Calls.Vfs.{Vfs, Advance, asking, no_more, answered, after_beginning}
 use Rattle.fuse_spec.specs.declared.asked.Operation.{Operation as Asked}
@@ -66,6 +67,12 @@ AsksWord (asks.Rmdir directory name) = IsWord name.now
 AsksWord (asks.Rename directory old newdir new) = IsWord old.now × IsWord new.now
 AsksWord (asks.Link node directory name) = IsWord name.now
 AsksWord asked = Unit {0}
+
+-- A list is asked for in as many bytes as one read gives.
+abbrev pub AsksWhole : {S : Type 0} → Asked S → Type 0
+AsksWhole (asks.Readdir directory after size) = size ≡ max_transfer
+AsksWhole (asks.Readdirplus directory after size) = size ≡ max_transfer
+AsksWhole asked = Unit {0}
 
 -- Where a step leaves a call.
 abbrev pub comes_to : {A : Type 0} → Vfs Opened → ℕ → Next A → Advance Opened

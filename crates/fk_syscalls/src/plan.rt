@@ -5,7 +5,7 @@ ghost use Rattle.std.specs.List.{list_any};
 ghost use Rattle.fuse_spec.specs.Calls.Walks.{files_of_plan, last, operation_at};
 ghost use Rattle.fk_syscalls.specs.Words.{IsWord};
 ghost use Rattle.fuse_spec.specs.Files.AskedOperations.{operation_of};
-ghost use Rattle.fk_syscalls.specs.Values.{AsksWord};
+ghost use Rattle.fk_syscalls.specs.Values.{AsksWord, AsksWhole};
 ghost use Rattle.fk_syscalls.specs.Plans.{final_change, final_of, plan_of, IsSoundFinal, IsSoundPlan};
 
 use fuse_spec::Operation;
@@ -158,6 +158,7 @@ pub(crate) fn asked_at<A: Allocator>(
     requires { IsSoundFinal (λ s. s.items) operation.now }
     ensures operation { operation_of (λ s. s.now) result ≡ operation_at (final_of (λ s. s.items) operation.now) node }
     ensures word { AsksWord result }
+    ensures size { AsksWhole result }
 {
     let directory = node;
     let size = MAX_TRANSFER;
@@ -198,6 +199,7 @@ fn asked_change(change: Change, directory: u64, name: &[u8]) -> Operation<&[u8]>
     requires { IsWord name.now }
     ensures operation { operation_of (λ s. s.now) result ≡ operation_at (final_change change name.now) directory }
     ensures word { AsksWord result }
+    ensures size { AsksWhole result }
 {
     match change {
         Change::Mkdir => Operation::Mkdir { directory, name },

@@ -12,7 +12,7 @@ ghost use Rattle.fk_syscalls.specs.Plans.{final_of, plan_of, IsSoundFinal, IsSou
 ghost use Rattle.fk_syscalls.specs.States.{walking_at, IsSoundLentCall, IsWalking, StandsAt, used_by, HasNames};
 ghost use Rattle.fk_syscalls.specs.NewNames.{with_name};
 ghost use Rattle.fk_syscalls.specs.Walks.{known};
-ghost use Rattle.fk_syscalls.specs.Values.{AsksWord, comes_to};
+ghost use Rattle.fk_syscalls.specs.Values.{AsksWord, AsksWhole, comes_to};
 ghost use Rattle.fuse_spec.specs.Files.AskedOperations.{operation_of};
 
 use crate::new_name::{NewName, walk_past};
@@ -284,6 +284,7 @@ impl<A: Allocator + Copy> CallState<A> {
         ensures operation { operation_of (λ s. s.now) result ≡ asked self.now }
         ensures stands { StandsAt (operation_of (λ s. s.now) result) self.now }
         ensures word { AsksWord result }
+        ensures size { AsksWhole result }
     {
         match &self.aim {
             Aim::Walks(plan) => {

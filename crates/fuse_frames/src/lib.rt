@@ -13,7 +13,7 @@ mod request_frame;
 mod request_operations;
 
 pub use minor::{codec_minor, said_where_known};
-pub use operations::operation_asked;
+pub use operations::{opcode_asked, operation_asked};
 pub use reply_body::{attributes_of, kind_of_type, milliseconds, told_by};
 pub use reply_copy::ReplyCopy;
 pub use reply_frame::ReplyFrame;

@@ -2,9 +2,9 @@
 
 ghost use Rattle.std.specs.Prelude.{◌≡◌, IfSome, IfNone};
 ghost use Rattle.fk_wire.specs.Requests.{request_content};
-ghost use Rattle.fuse_frames.specs.RequestTies.{body_asking, body_in, content_of, Asks, AsksNothing, IsTransfer};
+ghost use Rattle.fuse_frames.specs.RequestTies.{asked_opcode, body_asking, body_in, content_of, Asks, AsksNothing, IsTransfer};
 
-use fk_wire::RequestBody;
+use fk_wire::{Opcode, RequestBody};
 use fuse_spec::{Opened, Operation};
 
 /// The operation that the body of a request of a node asks, its names or bytes lent from the frame. INIT, RELEASE,
@@ -50,6 +50,13 @@ pub fn operation_asked<'a>(nodeid: u64, body: &RequestBody<'a>) -> Option<Operat
         | RequestBody::Forget { .. }
         | RequestBody::BatchForget { .. } => return None,
     })
+}
+
+/// The opcode of the request that asks an operation.
+pub fn opcode_asked(operation: &Operation<&[u8]>) -> Opcode
+    ensures { result ≡ asked_opcode (body_asking operation.now) }
+{
+    body_of(operation).opcode()
 }
 
 /// The READ or WRITE that a body asks, if it asks one.
