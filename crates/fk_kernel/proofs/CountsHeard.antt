@@ -14,7 +14,7 @@ use Rattle.fuse_spec.specs.Calls.Answers as answer
 use Rattle.fuse_spec.specs.Kernel.Kernel.{Kernel, asking_for, after_use, released}
 use Rattle.fuse_spec.specs.Values.Maps.{Map, get}
 use Rattle.fuse_spec.specs.Kernel.Messages.{WireReply}
-use Rattle.fuse_spec.specs.Values.Numbers.{counter_end}
+use Rattle.fuse_spec.specs.Values.Numbers.{counter_end, max_transfer}
 use Rattle.fuse_spec.specs.Files.Operations as reply
 use Rattle.fuse_spec.specs.Files.Operations.{Operation, DirentPlus, files_in_reply, files_told}
 use Rattle.fuse_spec.specs.Kernel.QueueCalls.{waiting, without}
@@ -22,9 +22,11 @@ use Rattle.fuse_spec.specs.Kernel.Replies.{Use, usable, useless, stale, first_us
 use Rattle.fuse_spec.specs.Files.Trees.{pair_length}
 use Rattle.fuse_spec.specs.Calls.Vfs.{CallState, walking, doing, using, asked}
 use Rattle.fuse_spec.proofs.Tables.{get_put_here}
-use Rattle.fk_syscalls.specs.Values.{operation_of}
-use Rattle.fk_syscalls.specs.declared.call.Asked.{Asked}
-use Rattle.fk_syscalls.specs.declared.call.Asked.TheVariants as asks
+use Rattle.fk_syscalls.specs.Values.{AsksWhole}
+use Rattle.std.specs.Borrow.{Bor}
+use Rattle.fuse_spec.specs.Files.AskedOperations.{operation_of}
+use Rattle.fuse_spec.specs.declared.asked.Operation.{Operation as Asked}
+use Rattle.fuse_spec.specs.declared.asked.Operation.TheVariants as asks
 use Rattle.fk_nodes.specs.Learning.{learnt_from, is_out, AreBelow, SomeOut}
 use Rattle.fk_nodes.proofs.Judged.{learnt_is}
 use Rattle.fk_nodes.proofs.Outs.{out_below, some_out, none_out, one_below, sorted_from}
@@ -111,17 +113,16 @@ few_long (pair ∷ pairs) =
     let sum = sum_by-cons pair_length pair pairs in
     omega (arith, rest, sum)
 
-few_within : (pairs : List (DirentPlus Entry)) → nat_le (sum_by pair_length pairs) 4096 ≡ true → length pairs < counter_end
-few_within pairs goes =
+few_within : (pairs : List (DirentPlus Entry)) (size : ℕ) → size ≡ max_transfer → nat_le (sum_by pair_length pairs) size ≡ true → length pairs < counter_end
+few_within pairs size is goes =
     let long = few_long pairs in
-    let most : sum_by pair_length pairs ≤ 4096 = at_most (sum_by pair_length pairs) 4096 goes in
-    omega (arith, long, most)
+    let most : sum_by pair_length pairs ≤ size = at_most (sum_by pair_length pairs) size goes in
+    omega (arith, long, most, is)
   where
     at_most : (m n : ℕ) → nat_le m n ≡ true → m ≤ n
     at_most m n is = grind (arith, nat_tests)
 
-pub said_few : (a : Asked) (wire : WireReply) → goes_with (operation_of a) wire ≡ true → IsFew wire
-said_few (asks.Readdirplus directory after) (reply.listed_plus pairs) goes = few_within pairs goes
-said_few (asks.Lookup directory name) (reply.listed_plus pairs) goes = absurd (true≢false (sym goes))
-said_few a (reply.listed_plus pairs) goes = absurd (true≢false (sym goes))
-said_few a wire goes = tt
+pub said_few : (a : Asked (Bor (List ℕ))) → AsksWhole a → (wire : WireReply) → goes_with (operation_of (λ s. s.now) a) wire ≡ true → IsFew wire
+said_few (asks.Readdirplus directory after size) whole (reply.listed_plus pairs) goes = few_within pairs size whole goes
+said_few a whole (reply.listed_plus pairs) goes = absurd (true≢false (sym goes))
+said_few a whole wire goes = tt

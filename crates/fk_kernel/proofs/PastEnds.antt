@@ -12,7 +12,8 @@ use Rattle.fuse_spec.specs.declared.Purpose.{Purpose}
 use Rattle.fuse_spec.specs.declared.Purpose.TheVariants.{Init, Release}
 use Rattle.fuse_spec.specs.declared.WriteResult.{WriteResult}
 use Rattle.fuse_spec.specs.Kernel.Kernel.{Kernel}
-use Rattle.fuse_spec.specs.Kernel.Messages.{WireReply}
+use Rattle.fuse_spec.specs.Kernel.Messages.{WireReply, asks}
+use Rattle.fuse_frames.specs.RequestTies.{asked_opcode}
 use Rattle.fuse_spec.specs.Files.Operations as reply
 use Rattle.fuse_spec.specs.Files.Operations.{Operation, lookup, getattr, mkdir, create, unlink, rmdir, rename, link, opening, readdir, readdirplus, read, write}
 use Rattle.fuse_spec.specs.Kernel.QueueCalls.{waiting, after_reply_effect}
@@ -24,7 +25,7 @@ use Rattle.fuse_spec.specs.declared.InterruptReplyEffect.{InterruptReplyEffect}
 use Rattle.fuse_spec.specs.declared.InterruptReplyEffect.TheVariants.{QueuedAgain, TurnedOff, None as NoReplyEffect}
 use Rattle.fuse_spec.specs.declared.Mark.{Mark}
 use Rattle.fk_kernel.specs.Refused.{PassesEnd, WritePasses, is_past}
-use Rattle.fk_kernel.specs.Said.{Says, SaysNothing, Means, said, unsaid, wrong_body_to, IsJudged, Awaited, nothing, reply_to, awaited, awaited_by_interrupt, opcode_of}
+use Rattle.fk_kernel.specs.Said.{Says, SaysNothing, Means, said, unsaid, wrong_body_to, IsJudged, Awaited, nothing, reply_to, awaited, awaited_by_interrupt}
 use Rattle.fk_nodes.specs.Learning.{is_out}
 use Rattle.fk_nodes.proofs.Outs.{or_none, or_first}
 use Rattle.fk_kernel.proofs.Phases.{none_past_end, within_ends}
@@ -112,7 +113,7 @@ module _ (k : Kernel) (unique : ℕ) (bytes : List ℕ) where
           within wire = ap (λ (r : WriteResult × Kernel). is_past r.1) (release_is k unique opened even waits wire) ∙ same
 
 -- A wrong body goes with no operation of a call.
-pub wrong_to_call : (operation : Operation ℕ Opened) → goes_with operation (wrong_body_to (opcode_of operation)) ≡ false
+pub wrong_to_call : (operation : Operation ℕ Opened) → goes_with operation (wrong_body_to (asked_opcode (asks operation))) ≡ false
 wrong_to_call (lookup d w) = refl
 wrong_to_call (getattr x) = refl
 wrong_to_call (mkdir d n) = refl

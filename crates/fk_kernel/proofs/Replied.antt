@@ -9,7 +9,8 @@ use Rattle.fuse_spec.specs.Calls.Answers as answer
 use Rattle.fuse_spec.specs.Calls.CallReplies.{call_replied}
 use Rattle.fuse_spec.specs.Kernel.Kernel.{Kernel, advanced, after_use, released_if_idle, kernel_aborted}
 use Rattle.fuse_spec.specs.Values.Maps.{Map, Place, get}
-use Rattle.fuse_spec.specs.Kernel.Messages.{WireReply}
+use Rattle.fuse_spec.specs.Kernel.Messages.{WireReply, asks}
+use Rattle.fuse_frames.specs.RequestTies.{asked_opcode}
 use Rattle.fuse_spec.specs.Files.Operations as reply
 use Rattle.fuse_spec.specs.Files.Operations.{Operation, lookup, getattr, mkdir, create, unlink, rmdir, rename, link, opening, readdir, readdirplus, read, write, Dirent, DirentPlus}
 use Rattle.fuse_spec.specs.Calls.Paths.{Name}
@@ -20,7 +21,7 @@ use Rattle.fuse_spec.specs.Calls.Walks.{WalkPlan}
 use Rattle.fk_syscalls.specs.States.{StandsAt}
 use Rattle.fk_calls.specs.Names.{names_left}
 use Rattle.fk_kernel.specs.Entries.{Awaits, EndsPast, MakesName, mkdirs, links}
-use Rattle.fk_kernel.specs.Said.{IsJudged, opcode_of}
+use Rattle.fk_kernel.specs.Said.{IsJudged}
 use Rattle.fk_kernel.specs.Refused.{is_past, is_past_end}
 use Rattle.fk_kernel.proofs.Closes.{released_some}
 use Rattle.fk_kernel.proofs.Walking.{asks_past}
@@ -321,7 +322,7 @@ uses_plain (readdir d a z) h s wire goes = apart h (readdir d a z) (readdir d a 
 uses_plain (readdirplus d a z) h s wire goes = apart h (readdirplus d a z) (readdirplus d a z) s
 
 -- a call's request is judged
-pub judged_op : (operation : Operation ℕ Opened) → IsJudged (opcode_of operation)
+pub judged_op : (operation : Operation ℕ Opened) → IsJudged (asked_opcode (asks operation))
 judged_op (lookup d w) = tt
 judged_op (getattr x) = tt
 judged_op (mkdir d n) = tt

@@ -6,7 +6,7 @@ use Rattle.fuse_spec.specs.declared.Opened.{Opened}
 use Rattle.fuse_spec.specs.declared.Purpose.{Purpose}
 use Rattle.fuse_spec.specs.declared.Purpose.TheVariants.{Init, Release, Call}
 use Rattle.fuse_spec.specs.Files.Operations as reply
-use Rattle.fuse_spec.specs.Kernel.Messages.{WireReply}
+use Rattle.fuse_spec.specs.Kernel.Messages.{WireReply, asks}
 use Rattle.fuse_spec.specs.Values.Maps.{get}
 use Rattle.fuse_spec.specs.Calls.Vfs.{CallState, asked}
 use Rattle.fuse_spec.specs.Kernel.QueueCalls.{waiting, without}
@@ -14,7 +14,8 @@ use Rattle.fuse_spec.specs.Kernel.Replies.{reply_written}
 use Rattle.fuse_spec.specs.declared.WriteResult.{WriteResult}
 use Rattle.fuse_spec.specs.declared.WriteResult.TheVariants.{Accepted}
 use Rattle.fuse_spec.specs.Kernel.Kernel.{Kernel}
-pub use Rattle.fk_said.specs.Said.{Says, SaysNothing, HasReplyHead, head_unique, opcode_of}
+use Rattle.fuse_frames.specs.RequestTies.{asked_opcode}
+pub use Rattle.fk_said.specs.Said.{Says, SaysNothing, HasReplyHead, head_unique}
 
 -- What awaits a reply under a unique: no request, that of a call which is not unanswered, or a request of an opcode.
 pub data Awaited : Type 0 where
@@ -23,7 +24,7 @@ pub data Awaited : Type 0 where
 
 abbrev pub awaited_by_call : Option (CallState Opened) → Awaited
 awaited_by_call None = gone
-awaited_by_call (Some state) = reply_to (opcode_of (asked state))
+awaited_by_call (Some state) = reply_to (asked_opcode (asks (asked state)))
 
 abbrev pub awaited_by : Kernel → Option Purpose → Awaited
 awaited_by k None = nothing

@@ -25,9 +25,9 @@ use fk_dentry::Bindings;
 use fk_lookup_count::CountTable;
 use fk_nodes::{CountedNodes, EntryUse};
 use fk_queues::QueueTable;
-use fk_syscalls::{Answer, Asked, CallState, Next};
+use fk_syscalls::{Answer, CallState, Next};
 use fuse_spec::errno::{EIO, ENOENT};
-use fuse_spec::{Entry, Opened, Purpose, Refusal, WriteResult};
+use fuse_spec::{Entry, Opened, Operation, Purpose, Refusal, WriteResult};
 use fuse_tables::Table;
 use std::alloc::{AllocError, Allocator};
 
@@ -51,10 +51,10 @@ fn bind_entry<A: Allocator + Copy, C: CountTable>(
     let Some(waiting) = calls.get(call) else {
         return Ok(());
     };
-    let (Asked::Lookup { directory, name }
-    | Asked::Mkdir { directory, name }
-    | Asked::Create { directory, name }
-    | Asked::Link {
+    let (Operation::Lookup { directory, name }
+    | Operation::Mkdir { directory, name }
+    | Operation::Create { directory, name }
+    | Operation::Link {
         directory,
         name,
         ..
@@ -139,7 +139,7 @@ impl<Q: QueueTable<Purpose> + Drop, C: CountTable<Heap = Q::Heap> + Drop> Kernel
         let Some(waiting) = self.calls.get(call) else {
             return false;
         };
-        matches!(waiting.asks(), Asked::Lookup { .. })
+        matches!(waiting.asks(), Operation::Lookup { .. })
     }
 
     /// Whether an entry can be used.
@@ -333,7 +333,7 @@ impl<Q: QueueTable<Purpose> + Drop, C: CountTable<Heap = Q::Heap> + Drop> Kernel
         let Some(waiting) = self.calls.get(call) else {
             return 0;
         };
-        let Asked::Open { node } = waiting.asks() else {
+        let Operation::Open { node } = waiting.asks() else {
             return 0;
         };
         node
@@ -370,7 +370,7 @@ impl<Q: QueueTable<Purpose> + Drop, C: CountTable<Heap = Q::Heap> + Drop> Kernel
         let Some(waiting) = self.calls.get(call) else {
             return Ok(());
         };
-        let Asked::Lookup { directory, name } = waiting.asks() else {
+        let Operation::Lookup { directory, name } = waiting.asks() else {
             return Ok(());
         };
         let names = &mut self.names;

@@ -15,9 +15,9 @@ use crate::kernel::KernelOf;
 use fk_lookup_count::CountTable;
 use fk_nodes::{forget_stale, learn_and_bind, names_listed, pair_count};
 use fk_queues::QueueTable;
-use fk_syscalls::{Answer, Asked};
+use fk_syscalls::Answer;
 use fk_wire::RecordsPlus;
-use fuse_spec::{Purpose, Refusal, WriteResult};
+use fuse_spec::{Operation, Purpose, Refusal, WriteResult};
 
 impl<Q: QueueTable<Purpose> + Drop, C: CountTable<Heap = Q::Heap> + Drop> KernelOf<Q, C> {
     /// The call is answered the names that a directory lists with their files. Each is counted and in force from now on, but for
@@ -65,7 +65,7 @@ impl<Q: QueueTable<Purpose> + Drop, C: CountTable<Heap = Q::Heap> + Drop> Kernel
         let Some(waiting) = self.calls.get(call) else {
             return 0;
         };
-        let Asked::Readdirplus { directory, .. } = waiting.asks() else {
+        let Operation::Readdirplus { directory, .. } = waiting.asks() else {
             return 0;
         };
         directory

@@ -1,21 +1,16 @@
 //! How requests are read.
 
 ghost use Rattle.std.specs.Prelude.{◌≡◌, ◌<◌, ◌+◌, Some, None, Ok, OnOk, OnErr, IfOk, IfErr, true, ◌≢◌, is_some};
-ghost use Rattle.fuse_spec.specs.Kernel.Messages.{asks};
 ghost use Rattle.fuse_spec.specs.Kernel.Kernel.{is_live, body_of};
 ghost use Rattle.fuse_spec.specs.Values.Maps.{get};
-ghost use Rattle.fk_syscalls.specs.Values.{operation_of};
 ghost use Rattle.fk_kernel.specs.Refused.{or_no_memory, read_refusal, IsPendingRequest};
 ghost use Rattle.fuse_spec.specs.Kernel.QueueCalls.{after_read_pending, waiting};
 
 use crate::kernel::KernelOf;
 use fk_lookup_count::CountTable;
 use fk_queues::QueueTable;
-use fk_syscalls::Asked;
 use fuse_frames::RequestFrame;
-use fuse_spec::limits::MAX_TRANSFER;
 use fuse_spec::{Purpose, Refusal};
-use std::alloc::{AllocError, Allocator};
 
 impl<Q: QueueTable<Purpose> + Drop, C: CountTable<Heap = Q::Heap> + Drop> KernelOf<Q, C> {
     /// Whether a request has something to ask: that of a call has while the call is unanswered.
@@ -88,60 +83,12 @@ impl<Q: QueueTable<Purpose> + Drop, C: CountTable<Heap = Q::Heap> + Drop> Kernel
                 let Some(waiting) = self.calls.get(call) else {
                     return Err(Refusal::NoSuch);
                 };
-                asked_frame(self.alloc, unique, &waiting.asks())
+                RequestFrame::asks(self.alloc, unique, &waiting.asks())
             }
         };
         match frame {
             Ok(frame) => Ok(frame),
             Err(_) => Err(Refusal::NoMemory),
         }
-    }
-}
-
-/// The frame of the request that asks an operation.
-fn asked_frame<A: Allocator + Copy>(
-    alloc: A,
-    unique: u64,
-    asked: &Asked<'_>,
-) -> Result<RequestFrame<A>, AllocError>
-    ensures { IfOk result (λ frame. frame ≡ record { unique = unique; body = asks (operation_of asked.now) }) }
-{
-    match asked {
-        Asked::Getattr { node } => RequestFrame::getattr(alloc, unique, *node),
-        Asked::Readdir { directory, after } => {
-            RequestFrame::readdir(alloc, unique, *directory, *after, MAX_TRANSFER)
-        }
-        Asked::Readdirplus { directory, after } => {
-            RequestFrame::readdirplus(alloc, unique, *directory, *after, MAX_TRANSFER)
-        }
-        Asked::Open { node } => RequestFrame::open(alloc, unique, *node),
-        Asked::Read {
-            opened,
-            offset,
-            size,
-        } => RequestFrame::read(alloc, unique, *opened, *offset, *size),
-        Asked::Write {
-            opened,
-            offset,
-            bytes,
-        } => RequestFrame::write(alloc, unique, *opened, *offset, bytes),
-        Asked::Lookup { directory, name } => {
-            RequestFrame::lookup(alloc, unique, *directory, name)
-        }
-        Asked::Mkdir { directory, name } => RequestFrame::mkdir(alloc, unique, *directory, name),
-        Asked::Create { directory, name } => RequestFrame::create(alloc, unique, *directory, name),
-        Asked::Unlink { directory, name } => RequestFrame::unlink(alloc, unique, *directory, name),
-        Asked::Rmdir { directory, name } => RequestFrame::rmdir(alloc, unique, *directory, name),
-        Asked::Rename {
-            directory,
-            old,
-            newdir,
-            new,
-        } => RequestFrame::rename(alloc, unique, *directory, old, *newdir, new),
-        Asked::Link {
-            node,
-            directory,
-            name,
-        } => RequestFrame::link(alloc, unique, *node, *directory, name),
     }
 }

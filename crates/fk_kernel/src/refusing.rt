@@ -17,9 +17,9 @@ use fk_lookup_count::CountTable;
 use fk_nodes::EntryUse;
 use fk_queues::QueueTable;
 use fk_said::{ReplySaid, said_to};
-use fk_syscalls::{Asked, NewName};
+use fk_syscalls::NewName;
 use fk_wire::read_reply_head;
-use fuse_spec::{Entry, Purpose, Refusal};
+use fuse_spec::{Entry, Operation, Purpose, Refusal};
 
 impl<Q: QueueTable<Purpose> + Drop, C: CountTable<Heap = Q::Heap> + Drop> KernelOf<Q, C> {
     /// Why `write` would refuse these bytes, want of memory aside: `Exhausted` where no number is left for the request that
@@ -179,7 +179,7 @@ impl<Q: QueueTable<Purpose> + Drop, C: CountTable<Heap = Q::Heap> + Drop> Kernel
         let Some(waiting) = self.calls.get(call) else {
             return false;
         };
-        let Asked::Lookup { directory, name } = waiting.asks() else {
+        let Operation::Lookup { directory, name } = waiting.asks() else {
             return false;
         };
         let new = NewName {

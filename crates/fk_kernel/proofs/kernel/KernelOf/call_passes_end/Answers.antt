@@ -2,7 +2,8 @@ use Rattle.std.proofs.Common.{rules, ◌≡◌, ℕ, false, Some, ap, sym, subst
 use Rattle.fuse_spec.specs.Values.Maps.{get}
 use Rattle.fuse_spec.specs.Files.Operations.{Operation}
 use Rattle.fuse_spec.specs.Kernel.Replies.{goes_with, reply_written}
-use Rattle.fuse_spec.specs.Kernel.Messages.{WireReply}
+use Rattle.fuse_spec.specs.Kernel.Messages.{WireReply, asks}
+use Rattle.fuse_frames.specs.RequestTies.{asked_opcode}
 use Rattle.fk_nodes.specs.Learning.{is_out}
 use Rattle.fk_nodes.proofs.Outs.{or_none}
 use Rattle.fk_kernel.specs.Refused.{is_past_end}
@@ -10,9 +11,9 @@ use Rattle.fk_kernel.proofs.CountsHeard.{said_few, wrong_nodes}
 use Rattle.fuse_spec.specs.Calls.Vfs.{using, asked}
 use Rattle.fuse_spec.specs.declared.Opened.{Opened}
 use Rattle.fk_syscalls.specs.States.{StandsAt}
-use Rattle.fk_syscalls.specs.Values.{operation_of}
+use Rattle.fuse_spec.specs.Files.AskedOperations.{operation_of}
 use Rattle.fk_said.specs.ReplySaid.{wire_of}
-use Rattle.fk_kernel.specs.Said.{reply_to, awaited_by_call, opcode_of, wrong_body_to}
+use Rattle.fk_kernel.specs.Said.{reply_to, awaited_by_call, wrong_body_to}
 use Rattle.fk_kernel.proofs.PastEnds.{passes, said_passes, none_passes, wrong_to_call}
 use Rattle.fk_kernel.proofs.Replied.{ends_over, judged_op}
 use Rattle.fk_kernel.proofs.Within.{wrong_within}
@@ -23,55 +24,55 @@ returns-then-ends_past-clause-past g c = λ ended.
     let k = c.self.inside in
     let now = c.args.self.now in
     let state = c.in-Some.waiting.now in
-    let operation = operation_of c.asks.result in
+    let operation = operation_of (λ s. s.now) c.asks.result in
     let at : get k.calls.entries c.args.call ≡ Some state = search rules in
     let here : get now.vfs.calls c.args.call ≡ Some state = rw (← c.self.view_is) at in
-    let awaits : awaited_by_call (get now.vfs.calls c.args.call) ≡ reply_to (opcode_of operation) = ap awaited_by_call here ∙ ap (λ (o : Operation ℕ Opened). reply_to (opcode_of o)) (sym c.asks.ensures.operation) in
+    let awaits : awaited_by_call (get now.vfs.calls c.args.call) ≡ reply_to (asked_opcode (asks operation)) = ap awaited_by_call here ∙ ap (λ (o : Operation ℕ Opened). reply_to (asked_opcode (asks o))) (sym c.asks.ensures.operation) in
     let p = c.ends_past.ensures.past c.if-ends_past.true in
     let same : state ≡ using p.handle p.operation = cc (here, p.is) in
     let one : operation ≡ p.operation = c.asks.ensures.operation ∙ ap asked same in
     let stands : StandsAt p.operation (using p.handle p.operation) = subst (λ (o : Operation ℕ Opened). StandsAt o (using p.handle p.operation)) one (subst (StandsAt operation) same c.asks.ensures.stands) in
-    record { opcode = opcode_of operation; judged = judged_op operation; awaits = awaits; past = λ wire means. ends_over now c.args.unique c.args.call c.requires.even c.requires.waits p stands wire }
+    record { opcode = asked_opcode (asks operation); judged = judged_op operation; awaits = awaits; past = λ wire means. ends_over now c.args.unique c.args.call c.requires.even c.requires.waits p stands wire }
 
 pub said_past-requires-clause-few : goal.said_past-requires-clause-few
-said_past-requires-clause-few g c = said_few c.asks.result (wire_of c.in-Some-said.said) c.in-Some-said.ensures.said.goes
+said_past-requires-clause-few g c = said_few c.asks.result c.asks.ensures.size (wire_of c.in-Some-said.said) c.in-Some-said.ensures.said.goes
 
 pub returns-in-Some-said-clause-past : goal.returns-in-Some-said-clause-past
 returns-in-Some-said-clause-past g c = λ past.
     let k = c.self.inside in
     let now = c.args.self.now in
     let state = c.in-Some.waiting.now in
-    let operation = operation_of c.asks.result in
+    let operation = operation_of (λ s. s.now) c.asks.result in
     let at : get k.calls.entries c.args.call ≡ Some state = search rules in
     let here : get now.vfs.calls c.args.call ≡ Some state = rw (← c.self.view_is) at in
-    let awaits : awaited_by_call (get now.vfs.calls c.args.call) ≡ reply_to (opcode_of operation) = ap awaited_by_call here ∙ ap (λ (o : Operation ℕ Opened). reply_to (opcode_of o)) (sym c.asks.ensures.operation) in
-    rw awaits (passes now c.args.unique c.args.bytes.now (opcode_of operation) (judged_op operation) (wire_of c.in-Some-said.said) c.in-Some-said.ensures.said.says (c.said_past.ensures.past past))
+    let awaits : awaited_by_call (get now.vfs.calls c.args.call) ≡ reply_to (asked_opcode (asks operation)) = ap awaited_by_call here ∙ ap (λ (o : Operation ℕ Opened). reply_to (asked_opcode (asks o))) (sym c.asks.ensures.operation) in
+    rw awaits (passes now c.args.unique c.args.bytes.now (asked_opcode (asks operation)) (judged_op operation) (wire_of c.in-Some-said.said) c.in-Some-said.ensures.said.says (c.said_past.ensures.past past))
 
 pub returns-in-Some-said-clause-within : goal.returns-in-Some-said-clause-within
 returns-in-Some-said-clause-within g c = λ within.
     let k = c.self.inside in
     let now = c.args.self.now in
     let state = c.in-Some.waiting.now in
-    let operation = operation_of c.asks.result in
+    let operation = operation_of (λ s. s.now) c.asks.result in
     let at : get k.calls.entries c.args.call ≡ Some state = search rules in
     let here : get now.vfs.calls c.args.call ≡ Some state = rw (← c.self.view_is) at in
-    let awaits : awaited_by_call (get now.vfs.calls c.args.call) ≡ reply_to (opcode_of operation) = ap awaited_by_call here ∙ ap (λ (o : Operation ℕ Opened). reply_to (opcode_of o)) (sym c.asks.ensures.operation) in
-    rw awaits (said_passes now c.args.unique c.args.bytes.now (opcode_of operation) (wire_of c.in-Some-said.said) c.in-Some-said.ensures.said.says (c.said_past.ensures.stays within))
+    let awaits : awaited_by_call (get now.vfs.calls c.args.call) ≡ reply_to (asked_opcode (asks operation)) = ap awaited_by_call here ∙ ap (λ (o : Operation ℕ Opened). reply_to (asked_opcode (asks o))) (sym c.asks.ensures.operation) in
+    rw awaits (said_passes now c.args.unique c.args.bytes.now (asked_opcode (asks operation)) (wire_of c.in-Some-said.said) c.in-Some-said.ensures.said.says (c.said_past.ensures.stays within))
 
 pub returns-in-None-clause-within : goal.returns-in-None-clause-within
 returns-in-None-clause-within g c = λ within.
     let k = c.self.inside in
     let now = c.args.self.now in
     let state = c.in-Some.waiting.now in
-    let operation = operation_of c.asks.result in
+    let operation = operation_of (λ s. s.now) c.asks.result in
     let at : get k.calls.entries c.args.call ≡ Some state = search rules in
     let here : get now.vfs.calls c.args.call ≡ Some state = rw (← c.self.view_is) at in
     let same : operation ≡ asked state = c.asks.ensures.operation in
-    let awaits : awaited_by_call (get now.vfs.calls c.args.call) ≡ reply_to (opcode_of operation) = ap awaited_by_call here ∙ ap (λ (o : Operation ℕ Opened). reply_to (opcode_of o)) (sym same) in
+    let awaits : awaited_by_call (get now.vfs.calls c.args.call) ≡ reply_to (asked_opcode (asks operation)) = ap awaited_by_call here ∙ ap (λ (o : Operation ℕ Opened). reply_to (asked_opcode (asks o))) (sym same) in
     let ends = c.ends_past.ensures.within c.if-ends_past.false in
     let stays = λ (wire : WireReply) (other : goes_with (asked state) wire ≡ false). or_none (is_past_end (reply_written now c.args.unique wire).1) (is_out (reply_written now c.args.unique wire).1.nodes)
     (wrong_within now c.args.unique c.args.call c.requires.even c.requires.waits c.within.ensures ends state here wire other)
     (ap is_out (wrong_nodes now c.args.unique c.args.call c.requires.even c.requires.waits state here wire other) ∙ c.counts_within.ensures.none_out) in
     rw awaits
-    (none_passes now c.args.unique c.args.bytes.now (opcode_of operation) (λ wire says. stays wire (subst (λ (o : Operation ℕ Opened). goes_with o wire ≡ false) same (c.in-None.ensures.none wire says)))
-    (stays (wrong_body_to (opcode_of operation)) (subst (λ (o : Operation ℕ Opened). goes_with o (wrong_body_to (opcode_of operation)) ≡ false) same (wrong_to_call operation))))
+    (none_passes now c.args.unique c.args.bytes.now (asked_opcode (asks operation)) (λ wire says. stays wire (subst (λ (o : Operation ℕ Opened). goes_with o wire ≡ false) same (c.in-None.ensures.none wire says)))
+    (stays (wrong_body_to (asked_opcode (asks operation))) (subst (λ (o : Operation ℕ Opened). goes_with o (wrong_body_to (asked_opcode (asks operation))) ≡ false) same (wrong_to_call operation))))

@@ -2,16 +2,18 @@ use Rattle.std.proofs.Common.{rules, ◌≡◌, ℕ, true, cond, None, Some, ref
 use Rattle.std.specs.Prelude.{is_some}
 use Rattle.fuse_spec.specs.Values.Maps.{get}
 use Rattle.fuse_spec.specs.Files.Operations.{Operation}
+use Rattle.fuse_spec.specs.Kernel.Messages.{asks}
 use Rattle.fuse_spec.specs.Kernel.QueueCalls.{waiting}
+use Rattle.fuse_frames.specs.RequestTies.{asked_opcode}
 use Rattle.fuse_spec.specs.Kernel.Replies.{reply_written}
 use Rattle.fuse_spec.specs.Calls.Vfs.{using, asked}
 use Rattle.fuse_spec.specs.declared.Opened.{Opened}
 use Rattle.fuse_spec.specs.declared.WriteResult.TheVariants.{Accepted, Invalid}
 use Rattle.fk_syscalls.specs.States.{StandsAt}
-use Rattle.fk_syscalls.specs.Values.{operation_of}
+use Rattle.fuse_spec.specs.Files.AskedOperations.{operation_of}
 use Rattle.fk_kernel.specs.Refused.{IsWriteRefusal, PassesEnd, no_memory, exhausted}
 use Rattle.fk_said.specs.ReplySaid.{wire_of}
-use Rattle.fk_kernel.specs.Said.{reply_to, gone, awaited_by_call, opcode_of}
+use Rattle.fk_kernel.specs.Said.{reply_to, gone, awaited_by_call}
 use Rattle.fk_kernel.proofs.PastEnds.{passes, said_passes}
 use Rattle.fk_kernel.proofs.Nodes.{still_counted, answered_is}
 use Rattle.fk_kernel.proofs.Replied.{ends_over, judged_op}
@@ -48,21 +50,21 @@ returns-then-ends_past-clause-refusal g c =
     let k = c.self.inside in
     let now = c.args.self.now in
     let state = c.in-Some.waiting.now in
-    let operation = operation_of c.asks.result in
+    let operation = operation_of (λ s. s.now) c.asks.result in
     let at : get k.calls.entries c.args.call ≡ Some state = search rules in
     let here : get now.vfs.calls c.args.call ≡ Some state = rw (← c.self.view_is) at in
-    let awaits : awaited_by_call (get now.vfs.calls c.args.call) ≡ reply_to (opcode_of operation) = ap awaited_by_call here ∙ ap (λ (o : Operation ℕ Opened). reply_to (opcode_of o)) (sym c.asks.ensures.operation) in
+    let awaits : awaited_by_call (get now.vfs.calls c.args.call) ≡ reply_to (asked_opcode (asks operation)) = ap awaited_by_call here ∙ ap (λ (o : Operation ℕ Opened). reply_to (asked_opcode (asks o))) (sym c.asks.ensures.operation) in
     let p = c.ends_past.ensures.past c.if-ends_past.true in
     let same : state ≡ using p.handle p.operation = cc (here, p.is) in
     let one : operation ≡ p.operation = c.asks.ensures.operation ∙ ap asked same in
     let stands : StandsAt p.operation (using p.handle p.operation) = subst (λ (o : Operation ℕ Opened). StandsAt o (using p.handle p.operation)) one (subst (StandsAt operation) same c.asks.ensures.stands) in
-    exhausted (record { opcode = opcode_of operation; judged = judged_op operation; awaits = awaits; past = λ wire means. ends_over now c.args.unique c.args.call c.requires.even c.requires.waits p stands wire })
+    exhausted (record { opcode = asked_opcode (asks operation); judged = judged_op operation; awaits = awaits; past = λ wire means. ends_over now c.args.unique c.args.call c.requires.even c.requires.waits p stands wire })
 
 pub said_past-requires-clause-few : goal.said_past-requires-clause-few
-said_past-requires-clause-few g c = said_few c.asks.result (wire_of c.in-Some-said.said) (rw c.in-Some-said.is at c.said_to-said.ensures.said).goes
+said_past-requires-clause-few g c = said_few c.asks.result c.asks.ensures.size (wire_of c.in-Some-said.said) (rw c.in-Some-said.is at c.said_to-said.ensures.said).goes
 
 pub replied-requires-clause-few : goal.replied-requires-clause-few
-replied-requires-clause-few g c = said_few c.asks.result (wire_of c.in-Some-said.said) (rw c.in-Some-said.is at c.said_to-said.ensures.said).goes
+replied-requires-clause-few g c = said_few c.asks.result c.asks.ensures.size (wire_of c.in-Some-said.said) (rw c.in-Some-said.is at c.said_to-said.ensures.said).goes
 
 pub replied-requires-clause-ends : goal.replied-requires-clause-ends
 replied-requires-clause-ends g c = c.ends_past.ensures.within c.if-ends_past.false
@@ -72,11 +74,11 @@ returns-in-Ok-clause-taken g c =
     let k = c.self.inside in
     let now = c.args.self.now in
     let state = c.in-Some.waiting.now in
-    let operation = operation_of c.asks.result in
+    let operation = operation_of (λ s. s.now) c.asks.result in
     let at : get k.calls.entries c.args.call ≡ Some state = search rules in
     let here : get now.vfs.calls c.args.call ≡ Some state = rw (← c.self.view_is) at in
-    let awaits : awaited_by_call (get now.vfs.calls c.args.call) ≡ reply_to (opcode_of operation) = ap awaited_by_call here ∙ ap (λ (o : Operation ℕ Opened). reply_to (opcode_of o)) (sym c.asks.ensures.operation) in
-    let o = opcode_of operation in
+    let awaits : awaited_by_call (get now.vfs.calls c.args.call) ≡ reply_to (asked_opcode (asks operation)) = ap awaited_by_call here ∙ ap (λ (o : Operation ℕ Opened). reply_to (asked_opcode (asks o))) (sym c.asks.ensures.operation) in
+    let o = asked_opcode (asks operation) in
     let bytes = c.args.bytes.now in
     let said = wire_of c.in-Some-said.said in
     let says = (rw c.in-Some-said.is at c.said_to-said.ensures.said).says in
@@ -91,24 +93,24 @@ returns-then-said_past-clause-refusal g c =
     let k = c.self.inside in
     let now = c.args.self.now in
     let state = c.in-Some.waiting.now in
-    let operation = operation_of c.asks.result in
+    let operation = operation_of (λ s. s.now) c.asks.result in
     let at : get k.calls.entries c.args.call ≡ Some state = search rules in
     let here : get now.vfs.calls c.args.call ≡ Some state = rw (← c.self.view_is) at in
-    let awaits : awaited_by_call (get now.vfs.calls c.args.call) ≡ reply_to (opcode_of operation) = ap awaited_by_call here ∙ ap (λ (o : Operation ℕ Opened). reply_to (opcode_of o)) (sym c.asks.ensures.operation) in
-    rw awaits (exhausted (passes now c.args.unique c.args.bytes.now (opcode_of operation) (judged_op operation) (wire_of c.in-Some-said.said) (rw c.in-Some-said.is at c.said_to-said.ensures.said).says (c.said_past.ensures.past c.if-said_past.true)))
+    let awaits : awaited_by_call (get now.vfs.calls c.args.call) ≡ reply_to (asked_opcode (asks operation)) = ap awaited_by_call here ∙ ap (λ (o : Operation ℕ Opened). reply_to (asked_opcode (asks o))) (sym c.asks.ensures.operation) in
+    rw awaits (exhausted (passes now c.args.unique c.args.bytes.now (asked_opcode (asks operation)) (judged_op operation) (wire_of c.in-Some-said.said) (rw c.in-Some-said.is at c.said_to-said.ensures.said).says (c.said_past.ensures.past c.if-said_past.true)))
 
 pub returns-in-Err-clause-refusal : goal.returns-in-Err-clause-refusal
 returns-in-Err-clause-refusal g c =
     let k = c.self.inside in
     let now = c.args.self.now in
     let state = c.in-Some.waiting.now in
-    let operation = operation_of c.asks.result in
+    let operation = operation_of (λ s. s.now) c.asks.result in
     let at : get k.calls.entries c.args.call ≡ Some state = search rules in
     let here : get now.vfs.calls c.args.call ≡ Some state = rw (← c.self.view_is) at in
-    let awaits : awaited_by_call (get now.vfs.calls c.args.call) ≡ reply_to (opcode_of operation) = ap awaited_by_call here ∙ ap (λ (o : Operation ℕ Opened). reply_to (opcode_of o)) (sym c.asks.ensures.operation) in
+    let awaits : awaited_by_call (get now.vfs.calls c.args.call) ≡ reply_to (asked_opcode (asks operation)) = ap awaited_by_call here ∙ ap (λ (o : Operation ℕ Opened). reply_to (asked_opcode (asks o))) (sym c.asks.ensures.operation) in
     let standing = awaited_by_call (get now.vfs.calls c.args.call) in
     let within : PassesEnd now c.args.unique c.args.bytes.now standing → ⊥ =
-    rw awaits (said_passes now c.args.unique c.args.bytes.now (opcode_of operation) (wire_of c.in-Some-said.said) (rw c.in-Some-said.is at c.said_to-said.ensures.said).says (c.said_past.ensures.stays c.if-said_past.false)) in
+    rw awaits (said_passes now c.args.unique c.args.bytes.now (asked_opcode (asks operation)) (wire_of c.in-Some-said.said) (rw c.in-Some-said.is at c.said_to-said.ensures.said).says (c.said_past.ensures.stays c.if-said_past.false)) in
     subst (IsWriteRefusal now c.args.unique c.args.bytes.now standing) (sym c.in-Err.ensures.refusal) (no_memory within)
 
 pub returns-in-Err-clause-memory : goal.returns-in-Err-clause-memory
@@ -116,8 +118,8 @@ returns-in-Err-clause-memory g c = λ is.
     let k = c.self.inside in
     let now = c.args.self.now in
     let state = c.in-Some.waiting.now in
-    let operation = operation_of c.asks.result in
+    let operation = operation_of (λ s. s.now) c.asks.result in
     let at : get k.calls.entries c.args.call ≡ Some state = search rules in
     let here : get now.vfs.calls c.args.call ≡ Some state = rw (← c.self.view_is) at in
-    let awaits : awaited_by_call (get now.vfs.calls c.args.call) ≡ reply_to (opcode_of operation) = ap awaited_by_call here ∙ ap (λ (o : Operation ℕ Opened). reply_to (opcode_of o)) (sym c.asks.ensures.operation) in
-    rw awaits (said_passes now c.args.unique c.args.bytes.now (opcode_of operation) (wire_of c.in-Some-said.said) (rw c.in-Some-said.is at c.said_to-said.ensures.said).says (c.said_past.ensures.stays c.if-said_past.false))
+    let awaits : awaited_by_call (get now.vfs.calls c.args.call) ≡ reply_to (asked_opcode (asks operation)) = ap awaited_by_call here ∙ ap (λ (o : Operation ℕ Opened). reply_to (asked_opcode (asks o))) (sym c.asks.ensures.operation) in
+    rw awaits (said_passes now c.args.unique c.args.bytes.now (asked_opcode (asks operation)) (wire_of c.in-Some-said.said) (rw c.in-Some-said.is at c.said_to-said.ensures.said).says (c.said_past.ensures.stays c.if-said_past.false))
