@@ -10,7 +10,6 @@ mod reply_copy;
 mod reply_frame;
 mod reply_room;
 mod request_frame;
-mod request_operations;
 
 pub use minor::{codec_minor, said_where_known};
 pub use operations::{opcode_asked, operation_asked};

@@ -2,9 +2,8 @@
 
 ghost use Rattle.std.specs.Prelude.{◌≡◌, ◌≤◌, IfOk, Some, length};
 ghost use Rattle.fk_wire.specs.Requests.{request_content};
-ghost use Rattle.fuse_spec.specs.Kernel.Messages.{RequestBody as Asked, init, asks, forget, batch_forget, interrupt};
+ghost use Rattle.fuse_spec.specs.Kernel.Messages.{RequestBody as Asked, init, release, forget, batch_forget, interrupt};
 ghost use Rattle.fuse_spec.specs.Values.Numbers.{init_flags};
-ghost use Rattle.fuse_spec.specs.Files.Operations.{lookup, getattr, mkdir};
 ghost use Rattle.fuse_spec.specs.World.Worlds.{forget_body};
 ghost use Rattle.fuse_frames.specs.RequestTies.{IsRequestFrame, body_asking, body_in, content_of, asked_opcode};
 
@@ -12,7 +11,7 @@ use crate::operations::{body_of, node_of};
 use crate::pair_bytes::pair_bytes;
 use bitflags::Flags;
 use fk_wire::{InitFlags, Opcode, Pairs, RequestBody, read_request, write_request};
-use fuse_spec::Operation;
+use fuse_spec::{Opened, Operation};
 use std::alloc::{AllocError, Allocator, Global};
 use std::marker::Model;
 
@@ -37,7 +36,7 @@ impl<A: Allocator> Model for RequestFrame<A> {
 }
 
 /// The frame of a request that the machine has.
-pub(crate) fn framed<A: Allocator>(
+fn framed<A: Allocator>(
     alloc: A,
     request: &fk_wire::Request<'_>,
 ) -> Result<RequestFrame<A>, AllocError>
@@ -114,61 +113,20 @@ impl<A: Allocator> RequestFrame<A> {
         )
     }
 
-    /// LOOKUP of a name in a directory.
-    pub fn lookup(
-        alloc: A,
-        unique: u64,
-        directory: u64,
-        name: &[u8],
-    ) -> Result<RequestFrame<A>, AllocError>
-        ensures { IfOk result (λ frame. frame ≡ record { unique = unique; body = asks (lookup directory name.now) }) }
+    /// RELEASE of an open file.
+    pub fn release(alloc: A, unique: u64, opened: Opened) -> Result<RequestFrame<A>, AllocError>
+        ensures { IfOk result (λ frame. frame ≡ record { unique = unique; body = release opened }) }
     {
-        let body = RequestBody::Lookup { name };
+        let body = RequestBody::Release { fh: opened.fh };
         framed(
             alloc,
             &fk_wire::Request {
                 unique,
-                nodeid: directory,
+                nodeid: opened.nodeid,
                 body,
             },
         )
     }
-
-    /// GETATTR of a node.
-    pub fn getattr(alloc: A, unique: u64, node: u64) -> Result<RequestFrame<A>, AllocError>
-        ensures { IfOk result (λ frame. frame ≡ record { unique = unique; body = asks (getattr node) }) }
-    {
-        let body = RequestBody::Getattr;
-        framed(
-            alloc,
-            &fk_wire::Request {
-                unique,
-                nodeid: node,
-                body,
-            },
-        )
-    }
-
-    /// MKDIR of a name in a directory.
-    pub fn mkdir(
-        alloc: A,
-        unique: u64,
-        directory: u64,
-        name: &[u8],
-    ) -> Result<RequestFrame<A>, AllocError>
-        ensures { IfOk result (λ frame. frame ≡ record { unique = unique; body = asks (mkdir directory name.now) }) }
-    {
-        let body = RequestBody::Mkdir { name };
-        framed(
-            alloc,
-            &fk_wire::Request {
-                unique,
-                nodeid: directory,
-                body,
-            },
-        )
-    }
-
     /// INTERRUPT of the request that has this number.
     pub fn interrupt(alloc: A, unique: u64, original: u64) -> Result<RequestFrame<A>, AllocError>
         ensures { IfOk result (λ frame. frame ≡ record { unique = unique; body = interrupt original }) }

@@ -1,7 +1,0 @@
-use Rattle.std.proofs.Common.{refl}
-use Rattle.fuse_spec.specs.Kernel.Messages.{asks}
-use Rattle.fuse_spec.specs.Files.Operations.{lookup}
-use Rattle.fuse_frames.proofs.request_frame.RequestFrame.lookup.Goals as goal
-
-pub framed-requires : goal.framed-requires
-framed-requires g c = (asks (lookup c.args.directory c.args.name.now), refl, refl)
