@@ -2,7 +2,6 @@
 #![tactic(auto)]
 
 mod arguments;
-mod digits;
 mod form;
 mod frame;
 mod hex_text;
@@ -13,6 +12,7 @@ mod number;
 mod print;
 mod records;
 mod script;
+mod short_text;
 mod split;
 mod stop;
 mod word;

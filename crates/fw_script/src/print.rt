@@ -1,19 +1,18 @@
-//! Outcomes and refusals as words.
+//! Outcomes, attributes and refusals as words.
 
-ghost use Rattle.std.specs.Prelude.{◌≡◌, ◌++◌, OnOk, codes, decimal};
-ghost use Rattle.std.specs.Io.KnownBytes.{Appends};
+ghost use Rattle.std.specs.Prelude.{◌≡◌, ◌+◌, ◌≤◌, ◌++◌, codes, decimal, length};
 ghost use Rattle.fw_world.specs.declared.event.Outcome.TheVariants as outcome;
-ghost use Rattle.fw_script.specs.Records.{effect_word, kind_word, outcome_line, refusal_name, refusal_number, result_number, taken_word};
+ghost use Rattle.fk_wire.specs.Opcodes.{name_of};
+ghost use Rattle.fw_script.specs.Records.{attributes_words, effect_word, kind_word, outcome_line, refusal_name, refusal_number, result_number, taken_word};
 
-use crate::digits::write_number_after;
+use crate::short_text::ShortText;
 use fk_wire::Opcode;
-use fw_world::{IntrEffect, Kind, Outcome, Refusal, Taken, WriteResult};
-use std::io;
-use std::io::Write;
+use fw_world::{Attributes, IntrEffect, Kind, Outcome, Refusal, Taken, WriteResult};
 
 /// What became of a taken request, in one word.
 fn word_of_taken(taken: Taken) -> &'static str
-    ensures { result.now ≡ taken_word taken }
+    ensures word { result.now ≡ taken_word taken }
+    ensures short { length result.now ≤ 14 }
 {
     match taken {
         Taken::Held => "held",
@@ -26,7 +25,8 @@ fn word_of_taken(taken: Taken) -> &'static str
 
 /// What a signal did, in one word.
 fn word_of_effect(effect: IntrEffect) -> &'static str
-    ensures { result.now ≡ effect_word effect }
+    ensures word { result.now ≡ effect_word effect }
+    ensures short { length result.now ≤ 14 }
 {
     match effect {
         IntrEffect::Dequeued => "dequeued",
@@ -38,7 +38,8 @@ fn word_of_effect(effect: IntrEffect) -> &'static str
 
 /// The result of a reply's write as its error number: 0, ENOENT or EINVAL.
 fn number_of_result(written: WriteResult) -> &'static str
-    ensures { result.now ≡ result_number written }
+    ensures word { result.now ≡ result_number written }
+    ensures short { length result.now ≤ 14 }
 {
     match written {
         WriteResult::Accepted => "0",
@@ -49,7 +50,8 @@ fn number_of_result(written: WriteResult) -> &'static str
 
 /// The kind of a file, in one word.
 pub(crate) fn word_of_kind(kind: Kind) -> &'static str
-    ensures { result.now ≡ kind_word kind }
+    ensures word { result.now ≡ kind_word kind }
+    ensures short { length result.now ≤ 14 }
 {
     match kind {
         Kind::Directory => "dir",
@@ -67,7 +69,8 @@ pub(crate) fn number_of_refusal(refusal: Refusal) -> u8
 
 /// The name of a refusal.
 pub(crate) fn name_of_refusal(refusal: Refusal) -> &'static str
-    ensures { result.now ≡ refusal_name refusal }
+    ensures word { result.now ≡ refusal_name refusal }
+    ensures short { length result.now ≤ 14 }
 {
     match refusal {
         Refusal::NoMemory => "NoMemory",
@@ -83,112 +86,127 @@ pub(crate) fn name_of_refusal(refusal: Refusal) -> &'static str
     }
 }
 
-/// Writes what follows the first word of an outcome's line: a number and a word.
-fn write_number_and_word<W: Write>(out: &mut W, number: u64, word: &str) -> io::Result<()>
-    ensures { OnOk result (Appends (W.contents out.old) (W.contents out.new)
-        (codes " " ++ decimal number ++ codes " " ++ word.now)) }
+/// The name of an opcode.
+fn word_of_opcode(opcode: Opcode) -> &'static str
+    ensures word { result.now ≡ name_of opcode }
+    ensures short { length result.now ≤ 14 }
 {
-    write_number_after(out, b' ', number)?;
-    out.write_all(b" ")?;
-    out.write_all(word.as_bytes())
+    opcode.name()
 }
 
-/// Writes what follows the first word of an outcome's line: two numbers.
-fn write_two_numbers<W: Write>(out: &mut W, first: u64, second: u64) -> io::Result<()>
-    ensures { OnOk result (Appends (W.contents out.old) (W.contents out.new)
-        (codes " " ++ decimal first ++ codes " " ++ decimal second)) }
+/// Puts a space and a number before a text.
+fn put_number(text: &mut ShortText, number: u64)
+    requires { length text.old ≤ 100 }
+    ensures text { text.new ≡ codes " " ++ decimal number ++ text.old }
+    ensures room { length text.new ≤ 21 + length text.old }
 {
-    write_number_after(out, b' ', first)?;
-    write_number_after(out, b' ', second)
+    text.put_number(number);
+    text.put_byte(b' ');
 }
 
-/// Writes the line of a read, without its line feed.
-fn write_read<W: Write>(out: &mut W, unique: u64, opcode: Opcode, len: usize) -> io::Result<()>
-    ensures { OnOk result (Appends (W.contents out.old) (W.contents out.new)
-        (outcome_line (outcome.Read unique opcode len))) }
+/// Puts a word and a number before a text.
+fn put_numbered(text: &mut ShortText, first: &[u8], number: u64)
+    requires { (length first.now ≤ 14) × (length text.old ≤ 90) }
+    ensures { text.new ≡ first.now ++ codes " " ++ decimal number ++ text.old }
 {
-    out.write_all(b"read")?;
-    write_number_and_word(out, unique, opcode.name())?;
-    write_number_after(out, b' ', len as u64)
+    put_number(text, number);
+    text.put(first);
 }
 
-/// Writes the line of a performed request, without its line feed.
-fn write_done<W: Write>(out: &mut W, unique: u64, errno: u32, len: usize) -> io::Result<()>
-    ensures { OnOk result (Appends (W.contents out.old) (W.contents out.new)
-        (outcome_line (outcome.Done unique errno len))) }
+/// Puts a word and two numbers before a text.
+fn put_counted(text: &mut ShortText, first: &[u8], number: u64, count: u64)
+    requires { (length first.now ≤ 14) × (length text.old ≤ 60) }
+    ensures { text.new ≡ first.now ++ codes " " ++ decimal number ++ codes " " ++ decimal count ++ text.old }
 {
-    out.write_all(b"done")?;
-    write_two_numbers(out, unique, u64::from(errno))?;
-    write_number_after(out, b' ', len as u64)
+    put_number(text, count);
+    put_numbered(text, first, number);
 }
 
-/// Writes the line of a request that was performed after an abort, without its line feed.
-fn write_lost<W: Write>(out: &mut W, unique: u64, errno: u32) -> io::Result<()>
-    ensures { OnOk result (Appends (W.contents out.old) (W.contents out.new)
-        (outcome_line (outcome.Lost unique errno))) }
+/// Puts a word, a number and a word before a text.
+fn put_worded(text: &mut ShortText, first: &[u8], number: u64, word: &str)
+    requires { (length first.now ≤ 14) × (length word.now ≤ 14) × (length text.old ≤ 60) }
+    ensures { text.new ≡ first.now ++ codes " " ++ decimal number ++ codes " " ++ word.now ++ text.old }
 {
-    out.write_all(b"done")?;
-    write_two_numbers(out, unique, u64::from(errno))?;
-    out.write_all(b" lost")
+    text.put(word.as_bytes());
+    text.put_byte(b' ');
+    put_numbered(text, first, number);
 }
 
-/// Writes a word, a number and a word.
-fn write_worded<W: Write>(out: &mut W, first: &[u8], number: u64, word: &str) -> io::Result<()>
-    ensures { OnOk result (Appends (W.contents out.old) (W.contents out.new)
-        (first.now ++ codes " " ++ decimal number ++ codes " " ++ word.now)) }
+/// Puts the line of a read before a text.
+fn put_read(text: &mut ShortText, unique: u64, opcode: Opcode, len: usize)
+    requires { length text.old ≤ 1 }
+    ensures { text.new ≡ outcome_line (outcome.Read unique opcode len) ++ text.old }
 {
-    out.write_all(first)?;
-    write_number_and_word(out, number, word)
+    put_number(text, len as u64);
+    put_worded(text, b"read", unique, word_of_opcode(opcode));
 }
 
-/// Writes a word and a number.
-fn write_numbered<W: Write>(out: &mut W, first: &[u8], number: u64) -> io::Result<()>
-    ensures { OnOk result (Appends (W.contents out.old) (W.contents out.new)
-        (first.now ++ codes " " ++ decimal number)) }
+/// Puts the line of a performed request before a text.
+fn put_done(text: &mut ShortText, unique: u64, errno: u32, len: usize)
+    requires { length text.old ≤ 1 }
+    ensures { text.new ≡ outcome_line (outcome.Done unique errno len) ++ text.old }
 {
-    out.write_all(first)?;
-    write_number_after(out, b' ', number)
+    put_number(text, len as u64);
+    put_counted(text, b"done", unique, u64::from(errno));
 }
 
-/// Writes a word and two numbers.
-fn write_counted<W: Write>(out: &mut W, first: &[u8], number: u64, count: u64) -> io::Result<()>
-    ensures { OnOk result (Appends (W.contents out.old) (W.contents out.new)
-        (first.now ++ codes " " ++ decimal number ++ codes " " ++ decimal count)) }
+/// Puts the line of a request that was performed after an abort before a text.
+fn put_lost(text: &mut ShortText, unique: u64, errno: u32)
+    requires { length text.old ≤ 1 }
+    ensures { text.new ≡ outcome_line (outcome.Lost unique errno) ++ text.old }
 {
-    out.write_all(first)?;
-    write_two_numbers(out, number, count)
+    text.put(b" lost");
+    put_counted(text, b"done", unique, u64::from(errno));
 }
 
-/// Writes the line of an outcome, as `read 4 LOOKUP 42`, without its line feed.
-pub(crate) fn write_outcome<W: Write>(out: &mut W, outcome: Outcome) -> io::Result<()>
-    ensures { OnOk result (Appends (W.contents out.old) (W.contents out.new) (outcome_line outcome)) }
+/// Puts the line of an outcome, as `read 4 LOOKUP 42`, before a text.
+pub(crate) fn put_outcome(text: &mut ShortText, outcome: Outcome)
+    requires { length text.old ≤ 1 }
+    ensures { text.new ≡ outcome_line outcome ++ text.old }
 {
     match outcome {
-        Outcome::Mounted => out.write_all(b"mounted"),
-        Outcome::Begun { call } => write_numbered(out, b"call", call),
+        Outcome::Mounted => text.put(b"mounted"),
+        Outcome::Begun { call } => put_numbered(text, b"call", call),
         Outcome::Read {
             unique,
             opcode,
             len,
-        } => write_read(out, unique, opcode, len),
-        Outcome::Taken { unique, word } => {
-            write_worded(out, b"taken", unique, word_of_taken(word))
-        }
-        Outcome::Done { unique, errno, len } => write_done(out, unique, errno, len),
-        Outcome::Lost { unique, errno } => write_lost(out, unique, errno),
-        Outcome::SentAgain { unique, len } => write_counted(out, b"again", unique, len as u64),
+        } => put_read(text, unique, opcode, len),
+        Outcome::Taken { unique, word } => put_worded(text, b"taken", unique, word_of_taken(word)),
+        Outcome::Done { unique, errno, len } => put_done(text, unique, errno, len),
+        Outcome::Lost { unique, errno } => put_lost(text, unique, errno),
+        Outcome::SentAgain { unique, len } => put_counted(text, b"again", unique, len as u64),
         Outcome::Written { unique, result } => {
-            write_worded(out, b"written", unique, number_of_result(result))
+            put_worded(text, b"written", unique, number_of_result(result))
         }
         Outcome::Settled { unique, result } => {
-            write_worded(out, b"settled", unique, number_of_result(result))
+            put_worded(text, b"settled", unique, number_of_result(result))
         }
         Outcome::Interrupted { call, effect } => {
-            write_worded(out, b"interrupted", call, word_of_effect(effect))
+            put_worded(text, b"interrupted", call, word_of_effect(effect))
         }
-        Outcome::Now { clock } => write_numbered(out, b"now", clock),
-        Outcome::Dropped => out.write_all(b"dropped"),
-        Outcome::Evicted { node, count } => write_counted(out, b"evicted", node, count),
-        Outcome::Aborted => out.write_all(b"aborted"),
+        Outcome::Now { clock } => put_numbered(text, b"now", clock),
+        Outcome::Dropped => text.put(b"dropped"),
+        Outcome::Evicted { node, count } => put_counted(text, b"evicted", node, count),
+        Outcome::Aborted => text.put(b"aborted"),
     }
+}
+
+/// Puts attributes, as `0 KIND INO SIZE NLINK`, before a text.
+pub(crate) fn put_attributes(text: &mut ShortText, attributes: Attributes)
+    requires { length text.old ≤ 1 }
+    ensures text { text.new ≡ attributes_words attributes ++ text.old }
+    ensures room { length text.new ≤ 80 }
+{
+    let Attributes {
+        kind,
+        ino,
+        size,
+        nlink,
+    } = attributes;
+    put_number(text, u64::from(nlink));
+    put_number(text, size);
+    put_number(text, ino);
+    text.put(word_of_kind(kind).as_bytes());
+    text.put(b"0 ");
 }

@@ -1,13 +1,13 @@
 //! Records as the lines that are printed.
 
-ghost use Rattle.std.specs.Prelude.{◌≡◌, ◌++◌, ◌↔◌, All, IsTrue, OnOk, codes, decimal, flat_map, map, option_copied};
+ghost use Rattle.std.specs.Prelude.{◌≡◌, ◌≤◌, ◌++◌, ◌↔◌, All, IsTrue, OnOk, codes, decimal, flat_map, length, map, option_copied};
 ghost use Rattle.std.specs.Io.KnownBytes.{Appends};
-ghost use Rattle.fw_script.specs.Records.{answer_text, answer_words, attributes_words, event_text, frame_text, listed_words, record_text, refusal_name, refusal_number, shown_byte};
+ghost use Rattle.fw_script.specs.Records.{answer_text, attributes_words, event_text, frame_text, kind_word, listed_words, outcome_line, record_text, refusal_name, refusal_number, shown_byte};
 
-use crate::digits::{write_number, write_number_after};
 use crate::hex_text::{write_hex, write_hex_or_none};
-use crate::print::{name_of_refusal, number_of_refusal, word_of_kind, write_outcome};
-use fw_world::{Answer, Attributes, ListedName, Record, Refusal};
+use crate::print::{name_of_refusal, number_of_refusal, put_attributes, put_outcome, word_of_kind};
+use crate::short_text::ShortText;
+use fw_world::{Answer, Attributes, Kind, ListedName, Outcome, Record, Refusal};
 use std::alloc::Allocator;
 use std::io;
 use std::io::Write;
@@ -43,15 +43,26 @@ fn write_name<W: Write>(out: &mut W, name: &[u8]) -> io::Result<()>
     Ok(())
 }
 
+/// Writes what follows a listed name, as `:OFF:KIND`.
+fn write_place<W: Write>(out: &mut W, offset: u64, kind: Kind) -> io::Result<()>
+    ensures { OnOk result (Appends (W.contents out.old) (W.contents out.new)
+        (codes ":" ++ decimal offset ++ codes ":" ++ kind_word kind)) }
+{
+    let mut text = ShortText::new();
+    text.put(word_of_kind(kind).as_bytes());
+    text.put_byte(b':');
+    text.put_number(offset);
+    text.put_byte(b':');
+    out.write_all(text.bytes())
+}
+
 /// Writes a listed name, as ` NAME:OFF:KIND`.
 fn write_listed<A: Allocator, W: Write>(out: &mut W, listed: &ListedName<A>) -> io::Result<()>
     ensures { OnOk result (Appends (W.contents out.old) (W.contents out.new) (listed_words listed.now)) }
 {
     out.write_all(b" ")?;
     write_name(out, listed.name.as_slice())?;
-    write_number_after(out, b':', listed.offset)?;
-    out.write_all(b":")?;
-    out.write_all(word_of_kind(listed.kind).as_bytes())
+    write_place(out, listed.offset, listed.kind)
 }
 
 /// Writes listed names one after another.
@@ -64,44 +75,52 @@ fn write_listing<A: Allocator, W: Write>(out: &mut W, names: &[ListedName<A>]) -
     Ok(())
 }
 
-/// Writes attributes, as `0 KIND INO SIZE NLINK`.
-fn write_attributes<W: Write>(out: &mut W, attributes: Attributes) -> io::Result<()>
-    ensures { OnOk result (Appends (W.contents out.old) (W.contents out.new) (attributes_words attributes)) }
+/// Puts what an answered call's line begins with before a text.
+fn put_call(text: &mut ShortText, call: u64)
+    requires { length text.old ≤ 81 }
+    ensures { text.new ≡ codes "answer " ++ decimal call ++ codes " " ++ text.old }
 {
-    let Attributes {
-        kind,
-        ino,
-        size,
-        nlink,
-    } = attributes;
-    out.write_all(b"0 ")?;
-    out.write_all(word_of_kind(kind).as_bytes())?;
-    write_number_after(out, b' ', ino)?;
-    write_number_after(out, b' ', size)?;
-    write_number_after(out, b' ', u64::from(nlink))
+    text.put_byte(b' ');
+    text.put_number(call);
+    text.put(b"answer ");
 }
 
-/// Writes what a call is answered, without the call's number.
-fn write_answer<A: Allocator, W: Write>(out: &mut W, answer: &Answer<A>) -> io::Result<()>
-    ensures { OnOk result (Appends (W.contents out.old) (W.contents out.new) (answer_words answer.now)) }
+/// Writes what an answered call's line begins with, and a word.
+fn write_start<W: Write>(out: &mut W, call: u64, word: &[u8]) -> io::Result<()>
+    requires { length word.now ≤ 2 }
+    ensures { OnOk result (Appends (W.contents out.old) (W.contents out.new)
+        (codes "answer " ++ decimal call ++ codes " " ++ word.now)) }
 {
-    match answer {
-        Answer::Done => out.write_all(b"0"),
-        Answer::Attributes(attributes) => write_attributes(out, *attributes),
-        Answer::Listing(names) => {
-            out.write_all(b"0")?;
-            write_listing(out, names.as_slice())
-        }
-        Answer::Content(bytes) => {
-            out.write_all(b"0 ")?;
-            write_hex_or_none(out, bytes.as_slice())
-        }
-        Answer::Written { size } => {
-            out.write_all(b"0")?;
-            write_number_after(out, b' ', u64::from(*size))
-        }
-        Answer::Failed { errno } => write_number(out, u64::from(*errno)),
-    }
+    let mut text = ShortText::new();
+    text.put(word);
+    put_call(&mut text, call);
+    out.write_all(text.bytes())
+}
+
+/// Writes the line of a call that is answered with attributes.
+fn write_attributes<W: Write>(out: &mut W, call: u64, attributes: Attributes) -> io::Result<()>
+    ensures { OnOk result (Appends (W.contents out.old) (W.contents out.new)
+        (codes "answer " ++ decimal call ++ codes " " ++ attributes_words attributes ++ codes "\n")) }
+{
+    let mut text = ShortText::new();
+    text.put_byte(b'\n');
+    put_attributes(&mut text, attributes);
+    put_call(&mut text, call);
+    out.write_all(text.bytes())
+}
+
+/// Writes the line of a call that is answered with a word and a number after it.
+fn write_counted<W: Write>(out: &mut W, call: u64, word: &[u8], number: u64) -> io::Result<()>
+    requires { length word.now ≤ 2 }
+    ensures { OnOk result (Appends (W.contents out.old) (W.contents out.new)
+        (codes "answer " ++ decimal call ++ codes " " ++ word.now ++ decimal number ++ codes "\n")) }
+{
+    let mut text = ShortText::new();
+    text.put_byte(b'\n');
+    text.put_number(number);
+    text.put(word);
+    put_call(&mut text, call);
+    out.write_all(text.bytes())
 }
 
 /// Writes the line of an answered call.
@@ -112,11 +131,22 @@ fn write_answered<A: Allocator, W: Write>(
 ) -> io::Result<()>
     ensures { OnOk result (Appends (W.contents out.old) (W.contents out.new) (answer_text call answer.now)) }
 {
-    out.write_all(b"answer")?;
-    write_number_after(out, b' ', call)?;
-    out.write_all(b" ")?;
-    write_answer(out, answer)?;
-    out.write_all(b"\n")
+    match answer {
+        Answer::Done => write_start(out, call, b"0\n"),
+        Answer::Attributes(attributes) => write_attributes(out, call, *attributes),
+        Answer::Listing(names) => {
+            write_start(out, call, b"0")?;
+            write_listing(out, names.as_slice())?;
+            out.write_all(b"\n")
+        }
+        Answer::Content(bytes) => {
+            write_start(out, call, b"0 ")?;
+            write_hex_or_none(out, bytes.as_slice())?;
+            out.write_all(b"\n")
+        }
+        Answer::Written { size } => write_counted(out, call, b"0 ", u64::from(*size)),
+        Answer::Failed { errno } => write_counted(out, call, b"", u64::from(*errno)),
+    }
 }
 
 /// Writes the line of a refused event.
@@ -124,11 +154,23 @@ fn write_refused<W: Write>(out: &mut W, refusal: Refusal) -> io::Result<()>
     ensures { OnOk result (Appends (W.contents out.old) (W.contents out.new)
         (codes "refused " ++ decimal (refusal_number refusal) ++ codes " " ++ refusal_name refusal ++ codes "\n")) }
 {
-    out.write_all(b"refused")?;
-    write_number_after(out, b' ', u64::from(number_of_refusal(refusal)))?;
-    out.write_all(b" ")?;
-    out.write_all(name_of_refusal(refusal).as_bytes())?;
-    out.write_all(b"\n")
+    let mut text = ShortText::new();
+    text.put_byte(b'\n');
+    text.put(name_of_refusal(refusal).as_bytes());
+    text.put_byte(b' ');
+    text.put_number(u64::from(number_of_refusal(refusal)));
+    text.put(b"refused ");
+    out.write_all(text.bytes())
+}
+
+/// Writes the line of an outcome.
+fn write_outcome<W: Write>(out: &mut W, outcome: Outcome) -> io::Result<()>
+    ensures { OnOk result (Appends (W.contents out.old) (W.contents out.new) (outcome_line outcome ++ codes "\n")) }
+{
+    let mut text = ShortText::new();
+    text.put_byte(b'\n');
+    put_outcome(&mut text, outcome);
+    out.write_all(text.bytes())
 }
 
 /// Writes a record's line.
@@ -136,10 +178,7 @@ pub fn write_record<A: Allocator, W: Write>(out: &mut W, record: &Record<A>) -> 
     ensures { OnOk result (Appends (W.contents out.old) (W.contents out.new) (record_text «record».now)) }
 {
     match record {
-        Record::Outcome(outcome) => {
-            write_outcome(out, *outcome)?;
-            out.write_all(b"\n")
-        }
+        Record::Outcome(outcome) => write_outcome(out, *outcome),
         Record::Refused(refusal) => write_refused(out, *refusal),
         Record::LinkLost => out.write_all(b"link lost\n"),
         Record::Answered { call, answer } => write_answered(out, *call, answer),
