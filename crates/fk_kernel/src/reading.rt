@@ -6,7 +6,7 @@ ghost use Rattle.fuse_spec.specs.Kernel.Kernel.{is_live, body_of};
 ghost use Rattle.fuse_spec.specs.Values.Maps.{get};
 ghost use Rattle.fk_syscalls.specs.Values.{operation_of};
 ghost use Rattle.fk_kernel.specs.Refused.{or_no_memory, read_refusal, IsPendingRequest};
-ghost use Rattle.fuse_spec.specs.Kernel.QueueCalls.{after_read_pending, waiting};
+ghost use Rattle.fuse_spec.specs.Kernel.QueueCalls.{after_read_pending, pending_at, waiting};
 
 use crate::kernel::KernelOf;
 use fk_lookup_count::CountTable;
@@ -28,24 +28,37 @@ impl<Q: QueueTable<Purpose> + Drop, C: CountTable<Heap = Q::Heap> + Drop> Kernel
         }
     }
 
+    /// The pending request at a place, with its number, or why it cannot be read.
+    fn request_to_read(&self, place: u64) -> Result<(u64, Purpose), Refusal>
+        ensures refusal { IfErr result (λ refusal. read_refusal self.now place ≡ Some refusal) }
+        ensures judged { OnOk result (read_refusal self.now place ≡ None) }
+        ensures pending { IfOk result (λ request. pending_at self.now.queues place ≡ Some request) }
+        ensures asks { IfOk result (λ request. is_some (body_of self.now request.1) ≡ true) }
+    {
+        if !self.is_live() {
+            return Err(Refusal::NotReady);
+        }
+        if self.queues.first_interrupt().is_some() {
+            return Err(Refusal::InterruptFirst);
+        }
+        let Some((unique, purpose)) = self.queues.pending(place as usize) else {
+            return Err(Refusal::NoSuch);
+        };
+        if self.asks(*purpose) {
+            Ok((unique, *purpose))
+        } else {
+            Err(Refusal::NoSuch)
+        }
+    }
+
     /// Why the pending request at a place cannot be read, want of memory aside: `NotReady` where the mount is not live,
     /// `InterruptFirst` while an INTERRUPT is queued, `NoSuch` where no request is pending there.
     pub fn read_refusal(&self, place: u64) -> Option<Refusal>
         ensures { result ≡ read_refusal self.now place }
     {
-        if !self.is_live() {
-            return Some(Refusal::NotReady);
-        }
-        if self.queues.first_interrupt().is_some() {
-            return Some(Refusal::InterruptFirst);
-        }
-        let Some((_, purpose)) = self.queues.pending(place as usize) else {
-            return Some(Refusal::NoSuch);
-        };
-        if self.asks(*purpose) {
-            None
-        } else {
-            Some(Refusal::NoSuch)
+        match self.request_to_read(place) {
+            Ok(_) => None,
+            Err(refusal) => Some(refusal),
         }
     }
 
@@ -62,15 +75,9 @@ impl<Q: QueueTable<Purpose> + Drop, C: CountTable<Heap = Q::Heap> + Drop> Kernel
         ensures frame { IfOk result (λ frame. IsPendingRequest self.old place frame) }
         ensures read { OnOk result (self.new ≡ record self.old { queues = after_read_pending self.old.queues place }) }
     {
-        if let Some(refusal) = self.read_refusal(place) {
-            return Err(refusal);
-        }
-        let place = place as usize;
-        let Some((unique, purpose)) = self.queues.pending(place) else {
-            return Err(Refusal::NoSuch);
-        };
-        let frame = self.request_frame(unique, *purpose)?;
-        let _unique = self.queues.read_pending(place);
+        let (unique, purpose) = self.request_to_read(place)?;
+        let frame = self.request_frame(unique, purpose)?;
+        let _unique = self.queues.read_pending(place as usize);
         Ok(frame)
     }
 
