@@ -10,11 +10,11 @@ ghost use Rattle.fk_kernel.specs.RefusedUpkeep.{evict_refusal, read_forgets_refu
 
 use crate::kernel::KernelOf;
 use crate::open_files::is_releasing;
-use fk_calls::is_node_in_use;
+use fk_calls::{fits_one_frame, is_node_in_use};
 use fk_lookup_count::CountTable;
 use fk_queues::{Forgets, QueueTable};
 use fuse_frames::RequestFrame;
-use fuse_spec::{Minor, Purpose, Refusal};
+use fuse_spec::{Purpose, Refusal};
 use std::alloc::AllocError;
 
 impl<Q: QueueTable<Purpose> + Drop, C: CountTable<Heap = Q::Heap> + Drop> KernelOf<Q, C> {
@@ -64,10 +64,10 @@ impl<Q: QueueTable<Purpose> + Drop, C: CountTable<Heap = Q::Heap> + Drop> Kernel
     fn first_forgets(&self, count: u64) -> Option<(u64, Forgets)>
         ensures { result ≡ forgets_read self.now count }
     {
-        match self.minor {
-            // It has no BATCH_FORGET (linux/fuse.h).
-            Minor::M15 if count > 1 => None,
-            Minor::M15 | Minor::M31 => self.queues.first_forgets(count as usize),
+        if fits_one_frame(self.minor, count) {
+            self.queues.first_forgets(count as usize)
+        } else {
+            None
         }
     }
 
