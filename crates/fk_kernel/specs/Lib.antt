@@ -4,3 +4,4 @@ pub mod Said
 pub mod RefusedUpkeep
 pub mod Entries
 pub mod RefusedSignals
+pub mod Heard

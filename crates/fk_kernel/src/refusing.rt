@@ -16,7 +16,7 @@ use crate::kernel::KernelOf;
 use fk_lookup_count::CountTable;
 use fk_nodes::EntryUse;
 use fk_queues::QueueTable;
-use fk_said::{ReplySaid, said_to};
+use fk_said::ReplySaid;
 use fk_syscalls::{Asked, NewName};
 use fk_wire::read_reply_head;
 use fuse_spec::{Entry, Purpose, Refusal};
@@ -60,18 +60,12 @@ impl<Q: QueueTable<Purpose> + Drop, C: CountTable<Heap = Q::Heap> + Drop> Kernel
         ensures past { result ≡ true → PassesEnd self.now unique bytes.now (awaited_by_call (get self.now.vfs.calls call)) }
         ensures within { result ≡ false → PassesEnd self.now unique bytes.now (awaited_by_call (get self.now.vfs.calls call)) → ⊥ }
     {
-        self.within();
-        self.counts_within();
         let Some(waiting) = self.calls.get(call) else {
             return false;
         };
-        let said = said_to(&waiting.asks(), bytes);
-        if self.ends_past(call) {
-            return true;
-        }
-        match said {
-            Some(said) => self.said_past(unique, call, &said),
-            None => false,
+        match self.said_to_call(unique, call, waiting, bytes) {
+            Ok(_) => false,
+            Err(_) => true,
         }
     }
 

@@ -1,12 +1,14 @@
 //! How the reply to a call's request is taken.
 
-ghost use Rattle.std.specs.Prelude.{◌≡◌, ◌≤◌, ◌%◌, ℕ, map, Some, OnOk, OnErr, IfOk, IfErr, true, false, nat_eq};
+ghost use Rattle.std.specs.Prelude.{◌≡◌, ◌≤◌, ◌%◌, ℕ, map, Some, OnOk, OnErr, IfOk, IfErr, IfSome, IfNone, true, false, nat_eq};
 ghost use Rattle.fuse_spec.specs.Values.Maps.{get};
 ghost use Rattle.fuse_spec.specs.Files.Operations as reply;
 ghost use Rattle.fuse_spec.specs.Kernel.QueueCalls.{waiting};
 ghost use Rattle.fuse_spec.specs.Kernel.Replies.{reply_written};
+ghost use Rattle.fuse_spec.specs.Calls.Vfs.{asked};
 ghost use Rattle.fuse_spec.specs.declared.Opened.{Opened as OpenedFile};
 ghost use Rattle.fk_kernel.specs.Entries.{Awaits, EndsWithin, IsFew, nodes_heard};
+ghost use Rattle.fk_kernel.specs.Heard.{IsHeard, SaysNoneTo};
 ghost use Rattle.fk_nodes.specs.Learning.{is_out};
 ghost use Rattle.fk_kernel.specs.Refused.{IsWriteRefusal, PassesEnd, is_past_end};
 ghost use Rattle.fk_said.specs.ReplySaid.{wire_of, LastsADay};
@@ -21,7 +23,7 @@ use fk_calls::{result_of, unbind};
 use fk_lookup_count::CountTable;
 use fk_queues::QueueTable;
 use fk_said::{ReplySaid, names_listed, said_to};
-use fk_syscalls::Answer;
+use fk_syscalls::{Answer, CallState};
 use fk_wire::{Opcode, Records, read_reply};
 use fuse_spec::errno::EIO;
 use fuse_spec::{Purpose, Refusal, WriteResult};
@@ -46,21 +48,51 @@ impl<Q: QueueTable<Purpose> + Drop, C: CountTable<Heap = Q::Heap> + Drop> Kernel
             let _kept = self.queues.answer(unique);
             return Ok(WriteResult::Accepted);
         };
-        let said = said_to(&waiting.asks(), bytes);
-        if self.ends_past(call) {
-            return Err(Refusal::Exhausted);
-        }
+        let said = self.said_to_call(unique, call, waiting, bytes)?;
         let told = result_of(said.is_some());
         let Some(said) = said else {
             self.end_call(unique, call, Answer::Failed { errno: EIO });
             return Ok(told);
         };
-        if self.said_past(unique, call, &said) {
-            return Err(Refusal::Exhausted);
-        }
         match self.replied(unique, call, said) {
             Ok(()) => Ok(told),
             Err(refusal) => Err(refusal),
+        }
+    }
+
+    /// What the bytes say to an unanswered call, if that goes with what it asked, or `Exhausted`: they would have a request queued
+    /// for which no number is left, or bring a node's count to the end of counters.
+    pub(crate) fn said_to_call<'a>(
+        &self,
+        unique: u64,
+        call: u64,
+        state: &CallState<Q::Heap>,
+        bytes: &'a [u8],
+    ) -> Result<Option<ReplySaid<'a>>, Refusal>
+        requires even { nat_eq (unique % 2) 1 ≡ false }
+        requires waits { waiting self.now.queues unique ≡ Some (Purpose.Call call) }
+        requires unanswered { get self.now.vfs.calls call ≡ Some state.now }
+        ensures refusal { IfErr result (λ refusal. refusal ≡ Refusal.Exhausted) }
+        ensures past { OnErr result (PassesEnd self.now unique bytes.now (awaited_by_call (get self.now.vfs.calls call))) }
+        ensures stays { OnOk result (PassesEnd self.now unique bytes.now (awaited_by_call (get self.now.vfs.calls call)) → ⊥) }
+        ensures ends { OnOk result (EndsWithin self.now call) }
+        ensures said { IfOk result (λ heard. IfSome heard (IsHeard self.now unique call (asked state.now) bytes.now)) }
+        ensures none { IfOk result (λ heard. IfNone heard (SaysNoneTo (asked state.now) bytes.now)) }
+    {
+        self.within();
+        self.counts_within();
+        let said = said_to(&state.asks(), bytes);
+        if self.ends_past(call) {
+            return Err(Refusal::Exhausted);
+        }
+        match said {
+            Some(said) => {
+                if self.said_past(unique, call, &said) {
+                    return Err(Refusal::Exhausted);
+                }
+                Ok(Some(said))
+            }
+            None => Ok(None),
         }
     }
 

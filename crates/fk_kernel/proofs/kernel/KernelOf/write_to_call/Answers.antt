@@ -43,81 +43,31 @@ returns-in_default-clause-taken g c =
     let waits : is_some (waiting s c.args.unique) ≡ true = rw (← c.self.view_is) at (ap is_some c.requires.waits) in
     rw awaits (taken_gone c.args.self.now c.args.unique c.args.bytes.now _ _ refl (rw (← c.self.view_is, c.answer-kept.ensures.state, answered_is s c.args.unique waits) refl))
 
-pub returns-then-ends_past-clause-refusal : goal.returns-then-ends_past-clause-refusal
-returns-then-ends_past-clause-refusal g c =
-    let k = c.self.inside in
+pub returns-in_err-said-clause-refusal : goal.returns-in_err-said-clause-refusal
+returns-in_err-said-clause-refusal g c =
     let now = c.args.self.now in
-    let state = c.in-Some.waiting.now in
-    let operation = operation_of c.asks.result in
-    let at : get k.calls.entries c.args.call ≡ Some state = search rules in
-    let here : get now.vfs.calls c.args.call ≡ Some state = rw (← c.self.view_is) at in
-    let awaits : awaited_by_call (get now.vfs.calls c.args.call) ≡ reply_to (opcode_of operation) = ap awaited_by_call here ∙ ap (λ (o : Operation ℕ Opened). reply_to (opcode_of o)) (sym c.asks.ensures.operation) in
-    let p = c.ends_past.ensures.past c.if-ends_past.true in
-    let same : state ≡ using p.handle p.operation = cc (here, p.is) in
-    let one : operation ≡ p.operation = c.asks.ensures.operation ∙ ap asked same in
-    let stands : StandsAt p.operation (using p.handle p.operation) = subst (λ (o : Operation ℕ Opened). StandsAt o (using p.handle p.operation)) one (subst (StandsAt operation) same c.asks.ensures.stands) in
-    exhausted (record { opcode = opcode_of operation; judged = judged_op operation; awaits = awaits; past = λ wire means. ends_over now c.args.unique c.args.call c.requires.even c.requires.waits p stands wire })
-
-pub said_past-requires-clause-few : goal.said_past-requires-clause-few
-said_past-requires-clause-few g c = said_few c.asks.result (wire_of c.in-Some-said.said) (rw c.in-Some-said.is at c.said_to-said.ensures.said).goes
-
-pub replied-requires-clause-few : goal.replied-requires-clause-few
-replied-requires-clause-few g c = said_few c.asks.result (wire_of c.in-Some-said.said) (rw c.in-Some-said.is at c.said_to-said.ensures.said).goes
-
-pub replied-requires-clause-ends : goal.replied-requires-clause-ends
-replied-requires-clause-ends g c = c.ends_past.ensures.within c.if-ends_past.false
+    let standing = awaited_by_call (get now.vfs.calls c.args.call) in
+    rw c.from_residual.ensures (subst (IsWriteRefusal now c.args.unique c.args.bytes.now standing) (sym c.in_err-said.ensures.refusal) (exhausted c.in_err-said.ensures.past))
 
 pub returns-in-Ok-clause-taken : goal.returns-in-Ok-clause-taken
 returns-in-Ok-clause-taken g c =
-    let k = c.self.inside in
     let now = c.args.self.now in
     let state = c.in-Some.waiting.now in
-    let operation = operation_of c.asks.result in
-    let at : get k.calls.entries c.args.call ≡ Some state = search rules in
+    let at : get c.self.inside.calls.entries c.args.call ≡ Some state = search rules in
     let here : get now.vfs.calls c.args.call ≡ Some state = rw (← c.self.view_is) at in
-    let awaits : awaited_by_call (get now.vfs.calls c.args.call) ≡ reply_to (opcode_of operation) = ap awaited_by_call here ∙ ap (λ (o : Operation ℕ Opened). reply_to (opcode_of o)) (sym c.asks.ensures.operation) in
-    let o = opcode_of operation in
+    let o = opcode_of (asked state) in
+    let awaits : awaited_by_call (get now.vfs.calls c.args.call) ≡ reply_to o = ap awaited_by_call here in
     let bytes = c.args.bytes.now in
     let said = wire_of c.in-Some-said.said in
-    let says = (rw c.in-Some-said.is at c.said_to-said.ensures.said).says in
+    let says = (rw c.in-Some-said.is at c.in_ok-said.ensures.said).says in
     let goes : c.is_some.result ≡ true = c.is_some.ensures ∙ ap is_some c.in-Some-said.is in
     let told : c.result_of-told.result ≡ Accepted = c.result_of-told.ensures ∙ ap (λ b. cond b Accepted Invalid) goes in
     let ok = c.in-Ok.ensures.ok in
     rw (awaits, told)
-    (taken_judged now c.args.unique bytes _ _ o (judged_op operation) (λ wire other. ap (reply_written now c.args.unique) (says_one o bytes wire said other says) ∙ ok) (λ none. absurd (none said says)))
-
-pub returns-then-said_past-clause-refusal : goal.returns-then-said_past-clause-refusal
-returns-then-said_past-clause-refusal g c =
-    let k = c.self.inside in
-    let now = c.args.self.now in
-    let state = c.in-Some.waiting.now in
-    let operation = operation_of c.asks.result in
-    let at : get k.calls.entries c.args.call ≡ Some state = search rules in
-    let here : get now.vfs.calls c.args.call ≡ Some state = rw (← c.self.view_is) at in
-    let awaits : awaited_by_call (get now.vfs.calls c.args.call) ≡ reply_to (opcode_of operation) = ap awaited_by_call here ∙ ap (λ (o : Operation ℕ Opened). reply_to (opcode_of o)) (sym c.asks.ensures.operation) in
-    rw awaits (exhausted (passes now c.args.unique c.args.bytes.now (opcode_of operation) (judged_op operation) (wire_of c.in-Some-said.said) (rw c.in-Some-said.is at c.said_to-said.ensures.said).says (c.said_past.ensures.past c.if-said_past.true)))
+    (taken_judged now c.args.unique bytes _ _ o (judged_op (asked state)) (λ wire other. ap (reply_written now c.args.unique) (says_one o bytes wire said other says) ∙ ok) (λ none. absurd (none said says)))
 
 pub returns-in-Err-clause-refusal : goal.returns-in-Err-clause-refusal
 returns-in-Err-clause-refusal g c =
-    let k = c.self.inside in
     let now = c.args.self.now in
-    let state = c.in-Some.waiting.now in
-    let operation = operation_of c.asks.result in
-    let at : get k.calls.entries c.args.call ≡ Some state = search rules in
-    let here : get now.vfs.calls c.args.call ≡ Some state = rw (← c.self.view_is) at in
-    let awaits : awaited_by_call (get now.vfs.calls c.args.call) ≡ reply_to (opcode_of operation) = ap awaited_by_call here ∙ ap (λ (o : Operation ℕ Opened). reply_to (opcode_of o)) (sym c.asks.ensures.operation) in
     let standing = awaited_by_call (get now.vfs.calls c.args.call) in
-    let within : PassesEnd now c.args.unique c.args.bytes.now standing → ⊥ =
-    rw awaits (said_passes now c.args.unique c.args.bytes.now (opcode_of operation) (wire_of c.in-Some-said.said) (rw c.in-Some-said.is at c.said_to-said.ensures.said).says (c.said_past.ensures.stays c.if-said_past.false)) in
-    subst (IsWriteRefusal now c.args.unique c.args.bytes.now standing) (sym c.in-Err.ensures.refusal) (no_memory within)
-
-pub returns-in-Err-clause-memory : goal.returns-in-Err-clause-memory
-returns-in-Err-clause-memory g c = λ is.
-    let k = c.self.inside in
-    let now = c.args.self.now in
-    let state = c.in-Some.waiting.now in
-    let operation = operation_of c.asks.result in
-    let at : get k.calls.entries c.args.call ≡ Some state = search rules in
-    let here : get now.vfs.calls c.args.call ≡ Some state = rw (← c.self.view_is) at in
-    let awaits : awaited_by_call (get now.vfs.calls c.args.call) ≡ reply_to (opcode_of operation) = ap awaited_by_call here ∙ ap (λ (o : Operation ℕ Opened). reply_to (opcode_of o)) (sym c.asks.ensures.operation) in
-    rw awaits (said_passes now c.args.unique c.args.bytes.now (opcode_of operation) (wire_of c.in-Some-said.said) (rw c.in-Some-said.is at c.said_to-said.ensures.said).says (c.said_past.ensures.stays c.if-said_past.false))
+    subst (IsWriteRefusal now c.args.unique c.args.bytes.now standing) (sym c.in-Err.ensures.refusal) (no_memory c.in_ok-said.ensures.stays)
