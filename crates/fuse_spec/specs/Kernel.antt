@@ -7,3 +7,4 @@ pub mod QueueLaws
 pub mod Messages
 pub mod Kernel
 pub mod Replies
+pub mod Refusals

@@ -4,3 +4,4 @@ pub mod Server
 pub mod Taking
 pub mod Performs
 pub mod Copies
+pub mod Refusals

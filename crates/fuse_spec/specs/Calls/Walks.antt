@@ -50,7 +50,11 @@ pub data WalkStop (F : Type 0) : Type 0 where
 abbrev pub go : {F : Type 0} → (F → Name → Option (Option F)) → F → List Name → WalkStop F
 go look at [] = arrived at
 go look at (word ∷ words) =
-    elim (look at word) [ None ↦ unknown at word words | Some found ↦ elim found [ None ↦ missing | Some file ↦ go look file words ] ]
+    elim (look at word) [
+      | None ↦ unknown at word words
+      | Some found ↦
+          elim found [ None ↦ missing | Some file ↦ go look file words ]
+    ]
 
 -- What a call that walks comes to: a name to be looked up, no such file, or its operation. (Linux VFS)
 pub data Walked (F O : Type 0) : Type 0 where

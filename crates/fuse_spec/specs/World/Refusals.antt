@@ -25,7 +25,8 @@ use Rattle.fuse_spec.specs.Server.Performs.{served, files_given}
 use Rattle.fuse_spec.specs.Server.Copies.{is_current, files_named}
 use Rattle.fuse_spec.specs.Server.Nodes.{counts_out}
 use Rattle.fuse_spec.specs.World.Worlds.{World, Sent, after_mount, after_call, after_read_interrupt, after_read_forgets, after_read_pending, after_take, after_perform, after_again, after_write, after_settle, after_tick, after_drop, after_evict, after_abort}
-use Rattle.fuse_spec.specs.World.Steps.{is_past, is_ready}
+use Rattle.fuse_spec.specs.Kernel.Refusals.{is_ready}
+use Rattle.fuse_spec.specs.World.Steps.{is_past}
 use Rattle.fuse_spec.specs.World.Events.{Event, Outcome}
 use Rattle.fuse_spec.specs.World.Events as event
 

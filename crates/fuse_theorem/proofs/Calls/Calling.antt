@@ -14,7 +14,7 @@ use Rattle.fuse_spec.specs.Calls.Begins.{closing}
 use Rattle.fuse_spec.specs.Kernel.Queues.{QueueState, IsSound, empty_queues, pending}
 use Rattle.fuse_spec.specs.Kernel.Kernel.{Kernel, is_live, is_aborted, asking_for, advanced, closing_of, closed_by}
 use Rattle.fuse_spec.specs.World.Worlds.{World, after_call}
-use Rattle.fuse_spec.specs.World.Steps.{is_ready}
+use Rattle.fuse_spec.specs.Kernel.Refusals.{is_ready}
 use Rattle.fuse_spec.specs.World.Events as event
 use Rattle.fuse_spec.specs.Reference.Plain.{Plain, Ask, going_on, call_put}
 use Rattle.fuse_spec.specs.Reference.PlainSteps.{Takes, where_so}

@@ -12,6 +12,7 @@ use Rattle.fuse_spec.specs.World.Worlds.{World, after_take, after_settle}
 use Rattle.fuse_spec.specs.World.Events.{Event, Outcome}
 use Rattle.fuse_spec.specs.World.Events as event
 use Rattle.fuse_spec.specs.Reference.Plain.{Plain}
+use Rattle.fuse_spec.specs.Kernel.Refusals.{found}
 use Rattle.fuse_spec.specs.World.Steps.{Happens, taking_request, settling, step}
 use Rattle.fuse_theorem.specs.Conditions.{OneId, HoldsAll}
 use Rattle.fuse_theorem.specs.EachEvent.{CanTake, Needs}
@@ -53,7 +54,7 @@ module _ (w : World) (p : Plain) (both : BothSound w p) (releases : ReleasesKnow
     taken_is r there =
         let took = taking w.server r.unique r.body in
         let went = going_ok (event.taken r.unique took.word) (after_take w k r.unique took) o after
-        (subst (λ (x : Option Request). taking_request w k x ≡ Ok (o, after)) there stepped) in
+        (subst (λ (x : Option Request). found x (taking_request w k) ≡ Ok (o, after)) there stepped) in
         let leads = went.leads in
         leads.after_is
 
@@ -102,7 +103,7 @@ module _ (w : World) (p : Plain) (both : BothSound w p) (releases : ReleasesKnow
       goes = (
         (λ n. n),
         tt,
-        ap (settling w k) there ∙ ap
+        ap (λ o. found o (settling w k)) there ∙ ap
             (λ (x : Option Copy). Ok (event.settled result.unique result.result, after_settle w k result x)) known,
       )
 

@@ -15,6 +15,7 @@ use Rattle.fuse_spec.specs.Server.Server.{HeldRequest, Copy}
 use Rattle.fuse_spec.specs.Reference.Plain.{Plain}
 use Rattle.fuse_spec.specs.World.Worlds.{World, after_settle}
 use Rattle.fuse_spec.specs.World.Events as event
+use Rattle.fuse_spec.specs.Kernel.Refusals.{found}
 use Rattle.fuse_spec.specs.World.Steps.{settling, Happens}
 use Rattle.fuse_theorem.specs.AskedRequests.{RequestsAsked}
 use Rattle.fuse_theorem.specs.Conditions.{HoldsOpens}
@@ -144,7 +145,7 @@ settled_held w p both releases old k result copy there known = by (is_live w.ker
 
     happens : Happens w (event.settle k) (event.settled result.unique result.result)
         (after_settle w k result (get w.server.copies result.number))
-    happens = (λ n. n, tt, ap (settling w k) there)
+    happens = (λ n. n, tt, ap (λ o. found o (settling w k)) there)
 
     settled : is_live w.kernel.phase ≡ true → HoldsOpens (after_settle w k result (get w.server.copies result.number))
         (after_settle w k result (get w.server.copies result.number)).server.handles

@@ -20,7 +20,8 @@ use Rattle.fuse_spec.specs.Server.Taking.{taking, interrupting}
 use Rattle.fuse_spec.specs.Server.Performs.{served}
 use Rattle.fuse_spec.specs.World.Worlds.{World, Sent, first_world, server_settled, after_mount, after_take, after_perform, after_write, after_drop, after_evict}
 use Rattle.fuse_spec.specs.World.Events.{Event, Outcome}
-use Rattle.fuse_spec.specs.World.Steps.{is_ready, MayStep, MayChooseFor, Happens}
+use Rattle.fuse_spec.specs.Kernel.Refusals.{is_ready}
+use Rattle.fuse_spec.specs.World.Steps.{MayStep, MayChooseFor, Happens}
 use Rattle.fuse_theorem.specs.EveryList.{BothSound}
 use Rattle.fuse_theorem.specs.Lookups.{EntriesHeld, LookupsSound}
 use Rattle.fuse_theorem.specs.Numbering.{IsNumbered}

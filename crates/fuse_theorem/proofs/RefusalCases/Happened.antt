@@ -27,7 +27,9 @@ use Rattle.fuse_spec.specs.World.Worlds.{World, Sent, after_mount, after_call, a
 use Rattle.fuse_spec.specs.World.Events.{Event, Outcome}
 use Rattle.fuse_spec.specs.World.Events as event
 use Rattle.fuse_spec.specs.Server.Nodes.{counts_out}
-use Rattle.fuse_spec.specs.World.Steps.{is_past, unless, going, is_ready, is_busy, when_not_interrupted, reading_interrupt, reading_forgets, reading_body, reading_pending, taking_request, performing_held, sending_again, writing_copy, settling, signalling, dropping, evicting, step}
+use Rattle.fuse_spec.specs.Kernel.Refusals.{first_found, found, pending_found, unused_found, when_not_interrupted, unless, is_ready, is_busy}
+use Rattle.fuse_spec.specs.Server.Refusals.{held_found, kept_found}
+use Rattle.fuse_spec.specs.World.Steps.{is_past, going, reading_interrupt, reading_forgets, reading_pending, taking_request, performing_held, sending_again, writing_copy, settling, signalling, dropping, evicting, step}
 use Rattle.fuse_theorem.proofs.Calls.Finding.{other_is}
 use Rattle.fuse_theorem.proofs.RefusalCases.Accepted.{Leads, accepted, unless_ok, going_ok, ok_is, is_not}
 
@@ -124,27 +126,27 @@ module _ (choice : ℕ → ℕ) (w : World) (o : Outcome) (last : World) where
       (λ within. by_call call (is_not (is_ready w.kernel.phase) ready.passed) room.passed within)
   happened event.read_interrupt s =
       let lives = unless_ok (not (is_live w.kernel.phase)) refusal.NotReady
-      (reading_interrupt w w.kernel.queues.interrupts) o last s in
+      (first_found w.kernel.queues.interrupts (reading_interrupt w)) o last s in
       by w.kernel.queues.interrupts refl (is_not (is_live w.kernel.phase) lives.passed) lives.rest
     where
       by : (xs : List ℕ) → w.kernel.queues.interrupts ≡ xs → is_live w.kernel.phase ≡ true
-          → reading_interrupt w xs ≡ Ok (o, last) → Happened choice w event.read_interrupt o last
+          → first_found xs (reading_interrupt w) ≡ Ok (o, last) → Happened choice w event.read_interrupt o last
       by [] there live f = absurd (cc)
       by (original ∷ rest) there live f = goes event.read_interrupt (event.is_read (interrupt_number original))
           (after_read_interrupt w original) f (λ within. by_read_interrupt original rest live there within)
   happened (event.read_forgets n) s =
       let read = forgets_read w.kernel n in
       let lives = unless_ok (not (is_live w.kernel.phase)) refusal.NotReady
-      (when_not_interrupted w (reading_forgets w n read)) o last s in
+      (when_not_interrupted w.kernel (found read (reading_forgets w n))) o last s in
       let free = unless_ok (not (nat_eq (length w.kernel.queues.interrupts) 0)) refusal.InterruptFirst
-      (reading_forgets w n read) o last lives.rest in
+      (found read (reading_forgets w n)) o last lives.rest in
       by (forgets_singly w.kernel.minor && nat_lt 1 n) (can_read_forgets w.kernel.queues n) refl refl
       (is_not (is_live w.kernel.phase) lives.passed) (none_queued w.kernel.queues.interrupts free.passed) free.rest
     where
       by : (a b : Bool) → (forgets_singly w.kernel.minor && nat_lt 1 n) ≡ a → can_read_forgets w.kernel.queues n ≡ b
           → is_live w.kernel.phase ≡ true → w.kernel.queues.interrupts ≡ []
-          → reading_forgets w n (cond a None (if b then Some
-          (w.kernel.queues.next, take n w.kernel.queues.forgets) else None)) ≡ Ok (o, last)
+          → found (cond a None (if b then Some
+          (w.kernel.queues.next, take n w.kernel.queues.forgets) else None)) (reading_forgets w n) ≡ Ok (o, last)
           → Happened choice w (event.read_forgets n) o last
       by true b few can live free f = absurd (cc)
       by false true few can live free f =
@@ -155,28 +157,28 @@ module _ (choice : ℕ → ℕ) (w : World) (o : Outcome) (last : World) where
   happened (event.read_pending k) s =
       let at = pending_at w.kernel.queues k in
       let lives = unless_ok (not (is_live w.kernel.phase)) refusal.NotReady
-      (when_not_interrupted w (reading_pending w k at)) o last s in
+      (when_not_interrupted w.kernel (pending_found w.kernel at (reading_pending w k))) o last s in
       let free = unless_ok (not (nat_eq (length w.kernel.queues.interrupts) 0)) refusal.InterruptFirst
-      (reading_pending w k at) o last lives.rest in
+      (pending_found w.kernel at (reading_pending w k)) o last lives.rest in
       by at refl (is_not (is_live w.kernel.phase) lives.passed)
       (none_queued w.kernel.queues.interrupts free.passed) free.rest
     where
       by_body : (x : ℕ × Purpose) → pending_at w.kernel.queues k ≡ Some x → is_live w.kernel.phase ≡ true
           → w.kernel.queues.interrupts ≡ [] → (body : Option RequestBody) → body_of w.kernel x.1 ≡ body
-          → reading_body w k x.0 body ≡ Ok (o, last) → Happened choice w (event.read_pending k) o last
+          → found body (reading_pending w k x.0) ≡ Ok (o, last) → Happened choice w (event.read_pending k) o last
       by_body x there live free None says f = absurd (cc)
       by_body x there live free (Some body) says f =
           goes (event.read_pending k) (event.is_read x.0) (after_read_pending w k x.0 body) f
           (λ within. by_read_pending k x.0 x.1 body live free there says within)
 
       by : (x : Option (ℕ × Purpose)) → pending_at w.kernel.queues k ≡ x → is_live w.kernel.phase ≡ true
-          → w.kernel.queues.interrupts ≡ [] → reading_pending w k x ≡ Ok (o, last)
+          → w.kernel.queues.interrupts ≡ [] → pending_found w.kernel x (reading_pending w k) ≡ Ok (o, last)
           → Happened choice w (event.read_pending k) o last
       by None there live free f = absurd (cc)
       by (Some x) there live free f = by_body x there live free (body_of w.kernel x.1) refl f
   happened (event.take k) s = by (slice_get w.requests k) refl s
     where
-      by : (x : Option Request) → slice_get w.requests k ≡ x → taking_request w k x ≡ Ok (o, last)
+      by : (x : Option Request) → slice_get w.requests k ≡ x → found x (taking_request w k) ≡ Ok (o, last)
           → Happened choice w (event.take k) o last
       by None there f = absurd (cc)
       by (Some q) there f =
@@ -185,7 +187,8 @@ module _ (choice : ℕ → ℕ) (w : World) (o : Outcome) (last : World) where
           (λ within. by_take k q there within)
   happened (event.perform unique) s = by (get w.server.held unique) refl s
     where
-      by : (x : Option HeldRequest) → get w.server.held unique ≡ x → performing_held choice w unique x ≡ Ok (o, last)
+      by : (x : Option HeldRequest) → get w.server.held unique ≡ x
+          → held_found w.server x (performing_held choice w unique) ≡ Ok (o, last)
           → Happened choice w (event.perform unique) o last
       by None there f = absurd (cc)
       by (Some t) there f =
@@ -197,7 +200,8 @@ module _ (choice : ℕ → ℕ) (w : World) (o : Outcome) (last : World) where
           (λ within. by_perform unique t there within)
   happened (event.again unique) s = by (get w.server.kept unique) refl s
     where
-      by : (x : Option Kept) → get w.server.kept unique ≡ x → sending_again w unique x ≡ Ok (o, last)
+      by : (x : Option Kept) → get w.server.kept unique ≡ x
+          → kept_found w.server x (sending_again w unique) ≡ Ok (o, last)
           → Happened choice w (event.again unique) o last
       by None there f = absurd (cc)
       by (Some kept) there f =
@@ -210,7 +214,7 @@ module _ (choice : ℕ → ℕ) (w : World) (o : Outcome) (last : World) where
           (λ within. by_again unique kept there (is_not (is_current w.server kept.wire) current.passed) within)
   happened (event.write k) s = by (slice_get w.replies k) refl s
     where
-      by : (x : Option Sent) → slice_get w.replies k ≡ x → writing_copy w k x ≡ Ok (o, last)
+      by : (x : Option Sent) → slice_get w.replies k ≡ x → found x (writing_copy w k) ≡ Ok (o, last)
           → Happened choice w (event.write k) o last
       by None there f = absurd (cc)
       by (Some sent) there f =
@@ -219,7 +223,7 @@ module _ (choice : ℕ → ℕ) (w : World) (o : Outcome) (last : World) where
           (λ within. by_write k sent there within)
   happened (event.settle k) s = by (slice_get w.results k) refl s
     where
-      by : (x : Option ReplyResult) → slice_get w.results k ≡ x → settling w k x ≡ Ok (o, last)
+      by : (x : Option ReplyResult) → slice_get w.results k ≡ x → found x (settling w k) ≡ Ok (o, last)
           → Happened choice w (event.settle k) o last
       by None there f = absurd (cc)
       by (Some result) there f =
@@ -228,11 +232,11 @@ module _ (choice : ℕ → ℕ) (w : World) (o : Outcome) (last : World) where
           leads_to (event.settle k) outcome after (ok_is outcome after o last f) (by_settle k result there)
   happened (event.intr call fatal) s =
       let lives = unless_ok (not (is_live w.kernel.phase)) refusal.NotReady
-      (signalling w call fatal (get w.kernel.vfs.calls call)) o last s in
+      (found (get w.kernel.vfs.calls call) (signalling w call fatal)) o last s in
       by (get w.kernel.vfs.calls call) refl (is_not (is_live w.kernel.phase) lives.passed) lives.rest
     where
       by : (x : Option (CallState Opened)) → get w.kernel.vfs.calls call ≡ x → is_live w.kernel.phase ≡ true
-          → signalling w call fatal x ≡ Ok (o, last) → Happened choice w (event.intr call fatal) o last
+          → found x (signalling w call fatal) ≡ Ok (o, last) → Happened choice w (event.intr call fatal) o last
       by None there live f = absurd (cc)
       by (Some state) there live f =
           let moved = call_signalled w.kernel call state fatal in
@@ -246,11 +250,11 @@ module _ (choice : ℕ → ℕ) (w : World) (o : Outcome) (last : World) where
       (by_tick ms timely.passed)
   happened (event.drop_name directory name) s =
       let lives = unless_ok (not (is_live w.kernel.phase)) refusal.NotReady
-      (dropping (after_drop w directory name) (get_name w.kernel.vfs.names (directory, name))) o last s in
+      (found (get_name w.kernel.vfs.names (directory, name)) (dropping (after_drop w directory name))) o last s in
       by (get_name w.kernel.vfs.names (directory, name)) refl (is_not (is_live w.kernel.phase) lives.passed) lives.rest
     where
       by : (x : Option Binding) → get_name w.kernel.vfs.names (directory, name) ≡ x → is_live w.kernel.phase ≡ true
-          → dropping (after_drop w directory name) x ≡ Ok (o, last)
+          → found x (dropping (after_drop w directory name)) ≡ Ok (o, last)
           → Happened choice w (event.drop_name directory name) o last
       by None there live f = absurd (cc)
       by (Some b) there live f =
@@ -258,11 +262,11 @@ module _ (choice : ℕ → ℕ) (w : World) (o : Outcome) (last : World) where
           (ok_is event.dropped (after_drop w directory name) o last f) (by_drop directory name b live there)
   happened (event.evict node) s =
       let lives = unless_ok (not (is_live w.kernel.phase)) refusal.NotReady
-      (evicting w node (get w.kernel.nodes node)) o last s in
+      (unused_found w.kernel node (get w.kernel.nodes node) (evicting w node)) o last s in
       by (get w.kernel.nodes node) refl (is_not (is_live w.kernel.phase) lives.passed) lives.rest
     where
       by : (x : Option Counted) → get w.kernel.nodes node ≡ x → is_live w.kernel.phase ≡ true
-          → evicting w node x ≡ Ok (o, last) → Happened choice w (event.evict node) o last
+          → unused_found w.kernel node x (evicting w node) ≡ Ok (o, last) → Happened choice w (event.evict node) o last
       by None there live f = absurd (cc)
       by (Some counted) there live f =
           let outcome = event.evicted node counted.count in

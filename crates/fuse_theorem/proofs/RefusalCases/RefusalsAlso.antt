@@ -13,7 +13,9 @@ use Rattle.fuse_spec.specs.World.Worlds.{World, after_mount, after_drop}
 use Rattle.fuse_spec.specs.World.Events.{Event, Outcome}
 use Rattle.fuse_spec.specs.World.Events as event
 use Rattle.fuse_spec.specs.Server.Nodes.{counts_out}
-use Rattle.fuse_spec.specs.World.Steps.{Stepped, unless, is_past, going, is_ready, is_busy, when_live, when_not_interrupted, reading_interrupt, reading_forgets, reading_body, reading_pending, taking_request, performing_held, sending_again, writing_copy, settling, signalling, dropping, evicting, step}
+use Rattle.fuse_spec.specs.Kernel.Refusals.{first_found, found, pending_found, unused_found, when_live, when_not_interrupted, unless, is_ready, is_busy}
+use Rattle.fuse_spec.specs.Server.Refusals.{held_found, kept_found}
+use Rattle.fuse_spec.specs.World.Steps.{Stepped, is_past, going, reading_interrupt, reading_forgets, reading_pending, taking_request, performing_held, sending_again, writing_copy, settling, signalling, dropping, evicting, step}
 use Rattle.fuse_spec.specs.World.Refusals.{MayRead, Leads, mounts, calls, reads_interrupt, reads_forgets, reads_pending, takes, performs, sends_again, writes, settles, signals, passes, drops, evicts, aborts, draws, needs_live, reads_other, NamesNothing, no_interrupt, no_forgets, no_pending, no_body, no_request, none_held, no_copy, no_result, no_call, no_name, no_node, Refuses, too_long, in_use, clock_ends, not_ready, too_many, not_live, interrupt_first, names_nothing, none_kept, not_current, pinned_or_bound, told_too_often, copied_too_often, past_its_end}
 use Rattle.fuse_theorem.proofs.Calls.Finding.{other_is}
 
@@ -34,13 +36,14 @@ free_is true uses (inr none) = ap (λ (n : ℕ). not (nat_eq n 0)) none
 free_is false uses (inr none) = refl
 
 module _ (w : World) where
-  not_live_refused : (s : Stepped) → is_live w.kernel.phase ≡ false → when_live w s ≡ Err NotReady
+  not_live_refused : (s : Stepped) → is_live w.kernel.phase ≡ false → when_live w.kernel s ≡ Err NotReady
   not_live_refused s f = refused_by (not (is_live w.kernel.phase)) NotReady s (ap not f)
 
-  live_passes : (s : Stepped) → is_live w.kernel.phase ≡ true → when_live w s ≡ s
+  live_passes : (s : Stepped) → is_live w.kernel.phase ≡ true → when_live w.kernel s ≡ s
   live_passes s t = passed (not (is_live w.kernel.phase)) NotReady s (ap not t)
 
-  interrupted_refused : (s : Stepped) → w.kernel.queues.interrupts ≢ [] → when_not_interrupted w s ≡ Err InterruptFirst
+  interrupted_refused : (s : Stepped) → w.kernel.queues.interrupts ≢ []
+      → when_not_interrupted w.kernel s ≡ Err InterruptFirst
   interrupted_refused s some = refused_by (not (nat_eq (length w.kernel.queues.interrupts) 0)) InterruptFirst s
       (queued w.kernel.queues.interrupts some)
     where
@@ -48,12 +51,12 @@ module _ (w : World) where
       queued [] some = absurd (some refl)
       queued (x ∷ xs) some = ap not (other_is (length (x ∷ xs)) 0 (λ q. absurd (omega (arith, q))))
 
-  none_passes : (s : Stepped) → w.kernel.queues.interrupts ≡ [] → when_not_interrupted w s ≡ s
+  none_passes : (s : Stepped) → w.kernel.queues.interrupts ≡ [] → when_not_interrupted w.kernel s ≡ s
   none_passes s none = passed (not (nat_eq (length w.kernel.queues.interrupts) 0)) InterruptFirst s
       (ap (λ (xs : List ℕ). not (nat_eq (length xs) 0)) none)
 
-  read_passes : (s : Stepped) → MayRead w → when_live w (when_not_interrupted w s) ≡ s
-  read_passes s may = live_passes (when_not_interrupted w s) may.live ∙ none_passes s may.none_first
+  read_passes : (s : Stepped) → MayRead w → when_live w.kernel (when_not_interrupted w.kernel s) ≡ s
+  read_passes s may = live_passes (when_not_interrupted w.kernel s) may.live ∙ none_passes s may.none_first
 
 module _ (choice : ℕ → ℕ) (w : World) where
   -- ---- what an event leads to, but for counters
@@ -74,31 +77,38 @@ module _ (choice : ℕ → ℕ) (w : World) where
       passed (not (is_ready w.kernel.phase)) NotReady (unless (nat_le max_calls there) Full gone)
       (ap not ready) ∙ passed (nat_le max_calls there) Full gone (lt-leb max_calls there room)
   comes_to e o after (reads_interrupt original rest live there) =
-      live_passes w (reading_interrupt w w.kernel.queues.interrupts) live ∙ ap (reading_interrupt w) there
+      live_passes w (first_found w.kernel.queues.interrupts (reading_interrupt w)) live
+      ∙ ap (λ o. first_found o (reading_interrupt w)) there
   comes_to e o after (reads_forgets n unique forgets may there) =
-      read_passes w (reading_forgets w n (forgets_read w.kernel n)) may ∙ ap (reading_forgets w n) there
+      read_passes w (found (forgets_read w.kernel n) (reading_forgets w n)) may
+      ∙ ap (λ o. found o (reading_forgets w n)) there
   comes_to e o after (reads_pending k unique purpose body may there says) =
-      read_passes w (reading_pending w k (pending_at w.kernel.queues k)) may ∙ ap (reading_pending w k) there ∙ ap
-      (reading_body w k unique) says
-  comes_to e o after (takes k request there) = ap (taking_request w k) there
+      read_passes w (pending_found w.kernel (pending_at w.kernel.queues k) (reading_pending w k)) may
+      ∙ ap (λ o. pending_found w.kernel o (reading_pending w k)) there ∙ ap
+      (λ o. found o (reading_pending w k unique)) says
+  comes_to e o after (takes k request there) = ap (λ o. found o (taking_request w k)) there
   comes_to e o after (performs unique held there few) =
-      ap (performing_held choice w unique) there ∙ passed
+      ap (λ o. held_found w.server o (performing_held choice w unique)) there ∙ passed
       (counts_out w.server.nodes (files_given w.server held)) Exhausted (going o after) few
   comes_to e o after (sends_again unique kept there current few) =
-      ap (sending_again w unique) there ∙ passed (not (is_current w.server kept.wire)) NoCopy
+      ap (λ o. kept_found w.server o (sending_again w unique)) there
+      ∙ passed (not (is_current w.server kept.wire)) NoCopy
       (unless (counts_out w.server.nodes (files_named w.server kept.wire)) Exhausted (going o after)) (ap not current)
       ∙ passed (counts_out w.server.nodes (files_named w.server kept.wire)) Exhausted (going o after) few
-  comes_to e o after (writes k sent there) = ap (writing_copy w k) there
-  comes_to e o after (settles k result there) = ap (settling w k) there
+  comes_to e o after (writes k sent there) = ap (λ o. found o (writing_copy w k)) there
+  comes_to e o after (settles k result there) = ap (λ o. found o (settling w k)) there
   comes_to e o after (signals call fatal state live there) =
-      live_passes w (signalling w call fatal (get w.kernel.vfs.calls call)) live ∙ ap (signalling w call fatal) there
+      live_passes w (found (get w.kernel.vfs.calls call) (signalling w call fatal)) live
+      ∙ ap (λ o. found o (signalling w call fatal)) there
   comes_to e o after (passes ms early) =
       let later = w.kernel.vfs.clock + ms in
       passed (nat_le clock_end later) BadTime (Ok (o, after)) (lt-leb clock_end later early)
   comes_to e o after (drops directory name bound live there) =
-      live_passes w (dropping after (get_name w.kernel.vfs.names (directory, name))) live ∙ ap (dropping after) there
+      live_passes w (found (get_name w.kernel.vfs.names (directory, name)) (dropping after)) live
+      ∙ ap (λ o. found o (dropping after)) there
   comes_to e o after (evicts node counted live there unpinned unbound) =
-      live_passes w (evicting w node (get w.kernel.nodes node)) live ∙ ap (evicting w node) there
+      live_passes w (unused_found w.kernel node (get w.kernel.nodes node) (evicting w node)) live
+      ∙ ap (λ o. unused_found w.kernel node o (evicting w node)) there
       ∙ passed (is_pinned w.kernel node || is_bound w.kernel node) Busy (Ok (o, after)) (λ i. unpinned i || unbound i)
   comes_to e o after (aborts live) = live_passes w (Ok (o, after)) live
 
@@ -137,22 +147,27 @@ module _ (choice : ℕ → ℕ) (w : World) where
 
   nothing : (e : Event) → (needs_live e ≡ true → is_live w.kernel.phase ≡ true)
       → (reads_other e ≡ true → w.kernel.queues.interrupts ≡ []) → NamesNothing w e → step choice w e ≡ Err NoSuch
-  nothing e live first (no_interrupt none) = live_passes w _ (live refl) ∙ ap (reading_interrupt w) none
+  nothing e live first (no_interrupt none) = live_passes w _ (live refl)
+      ∙ ap (λ o. first_found o (reading_interrupt w)) none
   nothing e live first (no_forgets n none) = read_passes w _
-      (record { live = live refl; none_first = first refl }) ∙ ap (reading_forgets w n) none
+      (record { live = live refl; none_first = first refl }) ∙ ap (λ o. found o (reading_forgets w n)) none
   nothing e live first (no_pending k none) = read_passes w _
-      (record { live = live refl; none_first = first refl }) ∙ ap (reading_pending w k) none
+      (record { live = live refl; none_first = first refl })
+      ∙ ap (λ o. pending_found w.kernel o (reading_pending w k)) none
   nothing e live first (no_body k unique purpose there none) =
-      read_passes w _ (record { live = live refl; none_first = first refl }) ∙ ap (reading_pending w k) there ∙ ap
-      (reading_body w k unique) none
-  nothing e live first (no_request k none) = ap (taking_request w k) none
-  nothing e live first (none_held unique none) = ap (performing_held choice w unique) none
-  nothing e live first (no_copy k none) = ap (writing_copy w k) none
-  nothing e live first (no_result k none) = ap (settling w k) none
-  nothing e live first (no_call call fatal none) = live_passes w _ (live refl) ∙ ap (signalling w call fatal) none
+      read_passes w _ (record { live = live refl; none_first = first refl })
+      ∙ ap (λ o. pending_found w.kernel o (reading_pending w k)) there ∙ ap
+      (λ o. found o (reading_pending w k unique)) none
+  nothing e live first (no_request k none) = ap (λ o. found o (taking_request w k)) none
+  nothing e live first (none_held unique none) = ap (λ o. held_found w.server o (performing_held choice w unique)) none
+  nothing e live first (no_copy k none) = ap (λ o. found o (writing_copy w k)) none
+  nothing e live first (no_result k none) = ap (λ o. found o (settling w k)) none
+  nothing e live first (no_call call fatal none) = live_passes w _ (live refl)
+      ∙ ap (λ o. found o (signalling w call fatal)) none
   nothing e live first (no_name directory name none) =
-      live_passes w _ (live refl) ∙ ap (dropping (after_drop w directory name)) none
-  nothing e live first (no_node node none) = live_passes w _ (live refl) ∙ ap (evicting w node) none
+      live_passes w _ (live refl) ∙ ap (λ o. found o (dropping (after_drop w directory name))) none
+  nothing e live first (no_node node none) = live_passes w _ (live refl)
+      ∙ ap (λ o. unused_found w.kernel node o (evicting w node)) none
 
   pub refused : (e : Event) (r : Refusal) → Refuses choice w e r → step choice w e ≡ Err r
   refused e r (too_long f m v long) = refused_by (nat_lt max_validity (max f m)) BadTime _
@@ -170,16 +185,18 @@ module _ (choice : ℕ → ℕ) (w : World) where
   refused e r (not_live same needs down) = unready e needs down
   refused e r (interrupt_first same reads live some) = interrupted e reads live some
   refused e r (names_nothing same live first none) = nothing e live first none
-  refused e r (none_kept unique none) = ap (sending_again w unique) none
+  refused e r (none_kept unique none) = ap (λ o. kept_found w.server o (sending_again w unique)) none
   refused e r (not_current unique kept there stale) =
-      ap (sending_again w unique) there ∙ refused_by (not (is_current w.server kept.wire)) NoCopy _ (ap not stale)
+      ap (λ o. kept_found w.server o (sending_again w unique)) there
+      ∙ refused_by (not (is_current w.server kept.wire)) NoCopy _ (ap not stale)
   refused e r (pinned_or_bound node counted live there used) =
-      live_passes w _ live ∙ ap (evicting w node) there ∙ refused_by
+      live_passes w _ live ∙ ap (λ o. unused_found w.kernel node o (evicting w node)) there ∙ refused_by
       (is_pinned w.kernel node || is_bound w.kernel node) Busy _ used
   refused e r (told_too_often unique held there many) =
-      ap (performing_held choice w unique) there ∙ refused_by
+      ap (λ o. held_found w.server o (performing_held choice w unique)) there ∙ refused_by
       (counts_out w.server.nodes (files_given w.server held)) Exhausted _ many
   refused e r (copied_too_often unique kept there current many) =
-      ap (sending_again w unique) there ∙ passed (not (is_current w.server kept.wire)) NoCopy _
+      ap (λ o. kept_found w.server o (sending_again w unique)) there
+      ∙ passed (not (is_current w.server kept.wire)) NoCopy _
       (ap not current) ∙ refused_by (counts_out w.server.nodes (files_named w.server kept.wire)) Exhausted _ many
   refused e r (past_its_end same o after drawn there past) = exhausted e o after drawn there past

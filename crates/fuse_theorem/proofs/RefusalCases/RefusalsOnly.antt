@@ -28,7 +28,9 @@ use Rattle.fuse_spec.specs.World.Worlds.{World, Sent, after_mount, after_call, a
 use Rattle.fuse_spec.specs.World.Events.{Event, Outcome}
 use Rattle.fuse_spec.specs.World.Events as event
 use Rattle.fuse_spec.specs.Server.Nodes.{counts_out}
-use Rattle.fuse_spec.specs.World.Steps.{Stepped, unless, is_past, going, is_ready, is_busy, when_live, when_not_interrupted, reading_interrupt, reading_forgets, reading_body, reading_pending, taking_request, performing_held, sending_again, writing_copy, settling, signalling, dropping, evicting, step}
+use Rattle.fuse_spec.specs.Kernel.Refusals.{first_found, found, pending_found, unused_found, when_live, when_not_interrupted, unless, is_ready, is_busy}
+use Rattle.fuse_spec.specs.Server.Refusals.{held_found, kept_found}
+use Rattle.fuse_spec.specs.World.Steps.{Stepped, is_past, going, reading_interrupt, reading_forgets, reading_pending, taking_request, performing_held, sending_again, writing_copy, settling, signalling, dropping, evicting, step}
 use Rattle.fuse_spec.specs.World.Refusals.{Leads, mounts, calls, reads_interrupt, reads_forgets, reads_pending, takes, performs, sends_again, writes, settles, signals, passes, drops, evicts, aborts, draws, needs_live, reads_other, NamesNothing, no_interrupt, no_forgets, no_pending, no_body, no_request, none_held, no_copy, no_result, no_call, no_name, no_node, Refuses, too_long, in_use, clock_ends, not_ready, too_many, not_live, interrupt_first, names_nothing, none_kept, not_current, pinned_or_bound, told_too_often, copied_too_often, past_its_end}
 use Rattle.fuse_theorem.proofs.Refining.Evicting.{or_false}
 use Rattle.fuse_theorem.proofs.RefusalCases.Happened.{none_queued}
@@ -65,12 +67,12 @@ module _ (choice : ℕ → ℕ) (w : World) (e : Event) where
   goes_undrawn o after undrawn there = leads o after there (λ drawn. absurd (true≢false (sym drawn ∙ undrawn)))
 
   if_live : needs_live e ≡ true → (s : Stepped) → (is_live w.kernel.phase ≡ true → ByCases choice w e s)
-      → ByCases choice w e (when_live w s)
+      → ByCases choice w e (when_live w.kernel s)
   if_live needs s behind = tested (not (is_live w.kernel.phase)) NotReady s
       (λ t. not_live e needs (not-true (is_live w.kernel.phase) t)) (λ f. behind (not-false (is_live w.kernel.phase) f))
 
   if_none_first : reads_other e ≡ true → is_live w.kernel.phase ≡ true → (s : Stepped)
-      → (w.kernel.queues.interrupts ≡ [] → ByCases choice w e s) → ByCases choice w e (when_not_interrupted w s)
+      → (w.kernel.queues.interrupts ≡ [] → ByCases choice w e s) → ByCases choice w e (when_not_interrupted w.kernel s)
   if_none_first reads live s behind =
       tested (not (nat_eq (length w.kernel.queues.interrupts) 0)) InterruptFirst s
       (λ t. interrupt_first e reads live (λ none. some_queued w.kernel.queues.interrupts t none))
@@ -80,7 +82,8 @@ module _ (choice : ℕ → ℕ) (w : World) (e : Event) where
       some_queued [] t = absurd (cc)
       some_queued (x ∷ xs) t = λ q. cc
 
-  -- ---- what the event names is not there: where the mount is live, where the event may read as well, and where neither is needed
+  -- ---- what the event names is not there: where the mount is live, where the event may read as well, and where
+  -- neither is needed
 
   nothing_live : is_live w.kernel.phase ≡ true → reads_other e ≡ false → NamesNothing w e
       → ByCases choice w e (Err NoSuch)
@@ -137,11 +140,12 @@ module _ (choice : ℕ → ℕ) (w : World) where
   -- ---- a read
 
   by_read_interrupt : Comes event.read_interrupt (step choice w event.read_interrupt)
-  by_read_interrupt = if_live choice w event.read_interrupt refl (reading_interrupt w w.kernel.queues.interrupts)
+  by_read_interrupt = if_live choice w event.read_interrupt refl
+      (first_found w.kernel.queues.interrupts (reading_interrupt w))
       (λ live. by live w.kernel.queues.interrupts refl)
     where
       by : is_live w.kernel.phase ≡ true → (xs : List ℕ) → w.kernel.queues.interrupts ≡ xs
-          → Comes event.read_interrupt (reading_interrupt w xs)
+          → Comes event.read_interrupt (first_found xs (reading_interrupt w))
       by live [] there = nothing_live choice w event.read_interrupt live refl (no_interrupt there)
       by live (original ∷ rest) there = goes choice w event.read_interrupt (event.is_read (interrupt_number original))
           (after_read_interrupt w original) refl (reads_interrupt original rest live there)
@@ -150,11 +154,11 @@ module _ (choice : ℕ → ℕ) (w : World) where
   by_read_forgets n =
       let e = event.read_forgets n in
       let read = forgets_read w.kernel n in
-      if_live choice w e refl (when_not_interrupted w (reading_forgets w n read))
-      (λ live. if_none_first choice w e refl live (reading_forgets w n read) (λ first. by live first read refl))
+      if_live choice w e refl (when_not_interrupted w.kernel (found read (reading_forgets w n)))
+      (λ live. if_none_first choice w e refl live (found read (reading_forgets w n)) (λ first. by live first read refl))
     where
       by : is_live w.kernel.phase ≡ true → w.kernel.queues.interrupts ≡ [] → (x : Option (ℕ × List Forget))
-          → forgets_read w.kernel n ≡ x → Comes (event.read_forgets n) (reading_forgets w n x)
+          → forgets_read w.kernel n ≡ x → Comes (event.read_forgets n) (found x (reading_forgets w n))
       by live first None there = nothing_read choice w (event.read_forgets n) live first (no_forgets n there)
       by live first (Some x) there =
           goes choice w (event.read_forgets n) (event.is_read x.0) (after_read_forgets w n x.1) refl
@@ -164,12 +168,13 @@ module _ (choice : ℕ → ℕ) (w : World) where
   by_read_pending k =
       let e = event.read_pending k in
       let at = pending_at w.kernel.queues k in
-      if_live choice w e refl (when_not_interrupted w (reading_pending w k at))
-      (λ live. if_none_first choice w e refl live (reading_pending w k at) (λ first. by live first at refl))
+      if_live choice w e refl (when_not_interrupted w.kernel (pending_found w.kernel at (reading_pending w k)))
+      (λ live. if_none_first choice w e refl live (pending_found w.kernel at (reading_pending w k))
+      (λ first. by live first at refl))
     where
       by_body : is_live w.kernel.phase ≡ true → w.kernel.queues.interrupts ≡ [] → (x : ℕ × Purpose)
           → pending_at w.kernel.queues k ≡ Some x → (body : Option RequestBody) → body_of w.kernel x.1 ≡ body
-          → Comes (event.read_pending k) (reading_body w k x.0 body)
+          → Comes (event.read_pending k) (found body (reading_pending w k x.0))
       by_body live first x there None says = nothing_read choice w (event.read_pending k) live first
           (no_body k x.0 x.1 there says)
       by_body live first x there (Some body) says =
@@ -177,13 +182,15 @@ module _ (choice : ℕ → ℕ) (w : World) where
           (reads_pending k x.0 x.1 body (record { live = live; none_first = first }) there says)
 
       by : is_live w.kernel.phase ≡ true → w.kernel.queues.interrupts ≡ [] → (x : Option (ℕ × Purpose))
-          → pending_at w.kernel.queues k ≡ x → Comes (event.read_pending k) (reading_pending w k x)
+          → pending_at w.kernel.queues k ≡ x
+          → Comes (event.read_pending k) (pending_found w.kernel x (reading_pending w k))
       by live first None there = nothing_read choice w (event.read_pending k) live first (no_pending k there)
       by live first (Some x) there = by_body live first x there (body_of w.kernel x.1) refl
 
   -- ---- what the links carry, and what the server holds
 
-  by_take : (k : ℕ) (x : Option Request) → slice_get w.requests k ≡ x → Comes (event.take k) (taking_request w k x)
+  by_take : (k : ℕ) (x : Option Request) → slice_get w.requests k ≡ x
+      → Comes (event.take k) (found x (taking_request w k))
   by_take k None there = nothing_there choice w (event.take k) refl refl (no_request k there)
   by_take k (Some q) there =
       let took = taking w.server q.unique q.body in
@@ -191,7 +198,7 @@ module _ (choice : ℕ → ℕ) (w : World) where
       (takes k q there)
 
   by_perform : (unique : ℕ) (x : Option HeldRequest) → get w.server.held unique ≡ x
-      → Comes (event.perform unique) (performing_held choice w unique x)
+      → Comes (event.perform unique) (held_found w.server x (performing_held choice w unique))
   by_perform unique None there = nothing_there choice w (event.perform unique) refl refl (none_held unique there)
   by_perform unique (Some held) there =
       let did = served choice w.server unique held in
@@ -203,7 +210,7 @@ module _ (choice : ℕ → ℕ) (w : World) where
       (performs unique held there f))
 
   by_again : (unique : ℕ) (x : Option Kept) → get w.server.kept unique ≡ x
-      → Comes (event.again unique) (sending_again w unique x)
+      → Comes (event.again unique) (kept_found w.server x (sending_again w unique))
   by_again unique None there = is_refused NoCopy (none_kept unique there)
   by_again unique (Some kept) there =
       let e = event.again unique in
@@ -216,14 +223,15 @@ module _ (choice : ℕ → ℕ) (w : World) where
       (λ g. goes choice w e (event.sent_again unique) (after_again w unique kept) refl
       (sends_again unique kept there (not-false current f) g)))
 
-  by_write : (k : ℕ) (x : Option Sent) → slice_get w.replies k ≡ x → Comes (event.write k) (writing_copy w k x)
+  by_write : (k : ℕ) (x : Option Sent) → slice_get w.replies k ≡ x → Comes (event.write k) (found x (writing_copy w k))
   by_write k None there = nothing_there choice w (event.write k) refl refl (no_copy k there)
   by_write k (Some sent) there =
       let took = reply_written w.kernel sent.unique sent.wire in
       goes choice w (event.write k) (event.written sent.unique took.0) (after_write w k sent took) refl
       (writes k sent there)
 
-  by_settle : (k : ℕ) (x : Option ReplyResult) → slice_get w.results k ≡ x → Comes (event.settle k) (settling w k x)
+  by_settle : (k : ℕ) (x : Option ReplyResult) → slice_get w.results k ≡ x
+      → Comes (event.settle k) (found x (settling w k))
   by_settle k None there = nothing_there choice w (event.settle k) refl refl (no_result k there)
   by_settle k (Some result) there =
       goes_undrawn choice w (event.settle k) (event.settled result.unique result.result)
@@ -232,7 +240,7 @@ module _ (choice : ℕ → ℕ) (w : World) where
   -- ---- what a live mount needs
 
   by_signal : (call : ℕ) (fatal : Bool) → is_live w.kernel.phase ≡ true → (x : Option (CallState Opened))
-      → get w.kernel.vfs.calls call ≡ x → Comes (event.intr call fatal) (signalling w call fatal x)
+      → get w.kernel.vfs.calls call ≡ x → Comes (event.intr call fatal) (found x (signalling w call fatal))
   by_signal call fatal live None there = nothing_live choice w (event.intr call fatal) live refl
       (no_call call fatal there)
   by_signal call fatal live (Some state) there =
@@ -242,7 +250,7 @@ module _ (choice : ℕ → ℕ) (w : World) where
 
   by_drop : (directory : ℕ) (name : Name) → is_live w.kernel.phase ≡ true → (x : Option Binding)
       → get_name w.kernel.vfs.names (directory, name) ≡ x
-      → Comes (event.drop_name directory name) (dropping (after_drop w directory name) x)
+      → Comes (event.drop_name directory name) (found x (dropping (after_drop w directory name)))
   by_drop directory name live None there = nothing_live choice w (event.drop_name directory name) live refl
       (no_name directory name there)
   by_drop directory name live (Some bound) there =
@@ -250,7 +258,7 @@ module _ (choice : ℕ → ℕ) (w : World) where
       (drops directory name bound live there)
 
   by_evict : (node : ℕ) → is_live w.kernel.phase ≡ true → (x : Option Counted) → get w.kernel.nodes node ≡ x
-      → Comes (event.evict node) (evicting w node x)
+      → Comes (event.evict node) (unused_found w.kernel node x (evicting w node))
   by_evict node live None there = nothing_live choice w (event.evict node) live refl (no_node node there)
   by_evict node live (Some counted) there =
       let e = event.evict node in
@@ -275,14 +283,15 @@ module _ (choice : ℕ → ℕ) (w : World) where
   by_cases (event.write k) = by_write k (slice_get w.replies k) refl
   by_cases (event.settle k) = by_settle k (slice_get w.results k) refl
   by_cases (event.intr call fatal) = if_live choice w (event.intr call fatal) refl
-      (signalling w call fatal (get w.kernel.vfs.calls call))
+      (found (get w.kernel.vfs.calls call) (signalling w call fatal))
       (λ live. by_signal call fatal live (get w.kernel.vfs.calls call) refl)
   by_cases (event.tick ms) = by_tick ms
   by_cases (event.drop_name directory name) =
       let at = get_name w.kernel.vfs.names (directory, name) in
-      if_live choice w (event.drop_name directory name) refl (dropping (after_drop w directory name) at)
+      if_live choice w (event.drop_name directory name) refl (found at (dropping (after_drop w directory name)))
       (λ live. by_drop directory name live at refl)
-  by_cases (event.evict node) = if_live choice w (event.evict node) refl (evicting w node (get w.kernel.nodes node))
+  by_cases (event.evict node) = if_live choice w (event.evict node) refl
+      (unused_found w.kernel node (get w.kernel.nodes node) (evicting w node))
       (λ live. by_evict node live (get w.kernel.nodes node) refl)
   by_cases event.abort = if_live choice w event.abort refl (Ok (event.aborted, after_abort w))
       (λ live. goes_undrawn choice w event.abort event.aborted (after_abort w) refl (aborts live))

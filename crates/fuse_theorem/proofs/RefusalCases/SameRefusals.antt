@@ -13,7 +13,10 @@ use Rattle.fuse_spec.specs.World.Worlds as worlds
 use Rattle.fuse_spec.specs.World.Events.{Event, Outcome}
 use Rattle.fuse_spec.specs.World.Events as event
 use Rattle.fuse_spec.specs.Server.Nodes.{counts_out}
-use Rattle.fuse_spec.specs.World.Steps.{Stepped, unless, is_counted_out, is_past, going, performing_held, step, MayChooseFor, MayStep, IsRefused, Happens}
+use Rattle.fuse_spec.specs.Kernel.Refusals as kernel
+use Rattle.fuse_spec.specs.Kernel.Refusals.{unless}
+use Rattle.fuse_spec.specs.Server.Refusals.{held_found}
+use Rattle.fuse_spec.specs.World.Steps.{Stepped, is_past, going, performing_held, step, MayChooseFor, MayStep, IsRefused, Happens}
 use Rattle.fuse_theorem.proofs.Refining.Choosing.{some_choice}
 use Rattle.fuse_theorem.proofs.RefusalCases.SameCounters.{SameCounters, served_counters}
 
@@ -26,11 +29,9 @@ past_after_reply w number unique (Some wire) = refl
 
 past_alike : (w : World) (s t : Server) → SameCounters s t
     → is_past (record w { server = s }) ≡ is_past (record w { server = t })
-past_alike w s t same = λ i.
-    nat_lt counter_end w.kernel.queues.next || (nat_lt counter_end w.kernel.vfs.next_call
-    || (nat_lt counter_end (same.birth i) || (nat_lt counter_end (same.serial i)
-    || (nat_lt counter_end (same.generation i)
-    || (nat_lt counter_end (same.number i) || (nat_lt counter_end (same.copy i) || is_counted_out w.kernel))))))
+past_alike w s t same = λ i. kernel.is_past w.kernel || (nat_lt counter_end (same.birth i)
+    || nat_lt counter_end (same.serial i) || nat_lt counter_end (same.generation i)
+    || nat_lt counter_end (same.number i) || nat_lt counter_end (same.copy i))
 
 performed_past : (w : World) (unique : ℕ) (a b : PerformResult) → SameCounters a.server b.server
     → is_past (after_perform w unique a) ≡ is_past (after_perform w unique b)
@@ -46,8 +47,8 @@ also_past : (o p : Outcome) (v u : World) → is_past v ≡ is_past u → (r : R
     → going p u ≡ Err r
 also_past o p v u same r = by (is_past v) (is_past u) same
   where
-    by : (a b : Bool) → a ≡ b → unless a refusal.Exhausted (Ok (o, v)) ≡ Err r
-        → unless b refusal.Exhausted (Ok (p, u)) ≡ Err r
+    by : (a b : Bool) → a ≡ b → unless {A = Outcome × World} a refusal.Exhausted (Ok (o, v)) ≡ Err r
+        → unless {A = Outcome × World} b refusal.Exhausted (Ok (p, u)) ≡ Err r
     by true true e refused = refused
     by false b e refused = absurd (cc)
     by true false e refused = absurd (cc)
@@ -59,7 +60,8 @@ also_unless false s t r also refused = also refused
 
 module _ (w : World) (c d : ℕ → ℕ) where
   performing_refused : (unique : ℕ) (held : Option HeldRequest) → MayChooseFor c w held → MayChooseFor d w held
-      → (r : Refusal) → performing_held c w unique held ≡ Err r → performing_held d w unique held ≡ Err r
+      → (r : Refusal) → held_found w.server held (performing_held c w unique) ≡ Err r
+      → held_found w.server held (performing_held d w unique) ≡ Err r
   performing_refused unique None m n r refused = refused
   performing_refused unique (Some t) m n r refused =
       let one = served c w.server unique t in

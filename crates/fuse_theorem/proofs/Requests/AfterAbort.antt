@@ -15,7 +15,7 @@ use Rattle.fuse_spec.specs.Server.Taking.{taking}
 use Rattle.fuse_spec.specs.Server.Performs.{is_still_held, served, files_by, files_given}
 use Rattle.fuse_spec.specs.World.Worlds.{World, replying, after_perform, after_abort}
 use Rattle.fuse_spec.specs.World.Events.{Event, Outcome}
-use Rattle.fuse_spec.specs.World.Steps.{is_ready}
+use Rattle.fuse_spec.specs.Kernel.Refusals.{is_ready}
 use Rattle.fuse_theorem.specs.AskedRequests.{RequestsAskedWhileLive}
 use Rattle.fuse_theorem.specs.Links.{LinksSound}
 use Rattle.fuse_theorem.specs.WorldSound.{WorldSound}

@@ -37,7 +37,8 @@ use Rattle.fuse_spec.specs.Kernel.Replies.{is_agreement, ended_by, request_reply
 use Rattle.fuse_spec.specs.World.Worlds.{World, Sent, first_world, forget_body, after_call, after_read_interrupt, after_read_forgets, after_read_pending, after_take, after_perform, after_again, after_write, after_settle, after_drop, after_evict}
 use Rattle.fuse_spec.specs.World.Worlds as worlds
 use Rattle.fuse_spec.specs.World.Events.{Event, Outcome}
-use Rattle.fuse_spec.specs.World.Steps.{is_ready, step}
+use Rattle.fuse_spec.specs.Kernel.Refusals.{is_ready}
+use Rattle.fuse_spec.specs.World.Steps.{step}
 use Rattle.fuse_spec.proofs.QueueCounts.{count_by-cons, key_count, key_count-found, lookup-no_key}
 use Rattle.fuse_theorem.specs.Numbering.{IsNumbered, IsNumberedWhileLive}
 use Rattle.fuse_theorem.proofs.Answers.Answered.{waiting_is}

@@ -34,7 +34,9 @@ use Rattle.fuse_spec.specs.World.Events.{Event, Outcome}
 use Rattle.fuse_spec.specs.World.Events as event
 use Rattle.fuse_spec.specs.Kernel.Uniques.{interrupt_number}
 use Rattle.fuse_spec.specs.Kernel.Kernel.{forgets_read as forgets_of_kernel}
-use Rattle.fuse_spec.specs.World.Steps.{unless, going, is_ready, is_busy, when_not_interrupted, reading_interrupt, reading_forgets, reading_body, reading_pending, taking_request, performing_held, sending_again, writing_copy, settling, signalling, dropping, evicting, step}
+use Rattle.fuse_spec.specs.Kernel.Refusals.{first_found, found, pending_found, unused_found, when_not_interrupted, unless, is_ready, is_busy}
+use Rattle.fuse_spec.specs.Server.Refusals.{held_found, kept_found}
+use Rattle.fuse_spec.specs.World.Steps.{going, reading_interrupt, reading_forgets, reading_pending, taking_request, performing_held, sending_again, writing_copy, settling, signalling, dropping, evicting, step}
 use Rattle.fuse_spec.specs.Reference.Plain.{Plain}
 use Rattle.fuse_spec.specs.Reference.PlainSteps.{Takes, takes}
 use Rattle.fuse_spec.specs.Claim.Alike.{Alike}
@@ -105,10 +107,10 @@ module _ (w : World) (p : Plain) (same : Alike w p) (o : Outcome) (last : World)
       → step choice w event.read_interrupt ≡ Ok (o, last) → Moves p event.read_interrupt o last
   reads_interrupt choice sound e =
       let lives = unless_ok (not (is_live w.kernel.phase)) refusal.NotReady
-      (reading_interrupt w w.kernel.queues.interrupts) o last e in
+      (first_found w.kernel.queues.interrupts (reading_interrupt w)) o last e in
       by w.kernel.queues.interrupts (is_not (is_live w.kernel.phase) lives.passed) lives.rest
     where
-      by : (xs : List ℕ) → is_live w.kernel.phase ≡ true → reading_interrupt w xs ≡ Ok (o, last)
+      by : (xs : List ℕ) → is_live w.kernel.phase ≡ true → first_found xs (reading_interrupt w) ≡ Ok (o, last)
           → Moves p event.read_interrupt o last
       by [] live f = absurd (cc)
       by (original ∷ rest) live f =
@@ -123,12 +125,12 @@ module _ (w : World) (p : Plain) (same : Alike w p) (o : Outcome) (last : World)
   reads_forgets n choice sound e =
       let read = forgets_of_kernel w.kernel n in
       let lives = unless_ok (not (is_live w.kernel.phase)) refusal.NotReady
-      (when_not_interrupted w (reading_forgets w n read)) o last e in
+      (when_not_interrupted w.kernel (found read (reading_forgets w n))) o last e in
       let free = unless_ok (not (nat_eq (length w.kernel.queues.interrupts) 0)) refusal.InterruptFirst
-      (reading_forgets w n read) o last lives.rest in
+      (found read (reading_forgets w n)) o last lives.rest in
       by read (is_not (is_live w.kernel.phase) lives.passed) free.rest
     where
-      by : (r : Option (ℕ × List Forget)) → is_live w.kernel.phase ≡ true → reading_forgets w n r ≡ Ok (o, last)
+      by : (r : Option (ℕ × List Forget)) → is_live w.kernel.phase ≡ true → found r (reading_forgets w n) ≡ Ok (o, last)
           → Moves p (event.read_forgets n) o last
       by None live f = absurd (cc)
       by (Some r) live f =
@@ -176,7 +178,7 @@ module _ (w : World) (p : Plain) (same : Alike w p) (o : Outcome) (last : World)
           subst (λ (b : RequestBody). Moves p (event.take k) (event.taken r.unique (taking w.server r.unique b).word)
           (after_take w k r.unique (taking w.server r.unique b))) is (take_interrupt_goes w p same k r original can)
 
-      by : (x : Option Request) → slice_get w.requests k ≡ x → taking_request w k x ≡ Ok (o, last)
+      by : (x : Option Request) → slice_get w.requests k ≡ x → found x (taking_request w k) ≡ Ok (o, last)
           → Moves p (event.take k) o last
       by None at f = absurd (cc)
       by (Some r) at f =
@@ -190,14 +192,14 @@ module _ (w : World) (p : Plain) (same : Alike w p) (o : Outcome) (last : World)
   reads_pending k choice sound e =
       let at = pending_at w.kernel.queues k in
       let lives = unless_ok (not (is_live w.kernel.phase)) refusal.NotReady
-      (when_not_interrupted w (reading_pending w k at)) o last e in
+      (when_not_interrupted w.kernel (pending_found w.kernel at (reading_pending w k))) o last e in
       let free = unless_ok (not (nat_eq (length w.kernel.queues.interrupts) 0)) refusal.InterruptFirst
-      (reading_pending w k at) o last lives.rest in
+      (pending_found w.kernel at (reading_pending w k)) o last lives.rest in
       by_place (slice_get (pending w.kernel.queues) k) refl free.rest
     where
       by_body : (x : ℕ × QueuedRequest Purpose) (body : Option RequestBody)
           → slice_get (pending w.kernel.queues) k ≡ Some x → body_of w.kernel x.1.kept ≡ body
-          → reading_body w k x.0 body ≡ Ok (o, last) → Moves p (event.read_pending k) o last
+          → found body (reading_pending w k x.0) ≡ Ok (o, last) → Moves p (event.read_pending k) o last
       by_body x None at what f = absurd (cc)
       by_body x (Some body) at what f =
           let went = going_ok (event.is_read x.0) (after_read_pending w k x.0 body) o last f in
@@ -206,7 +208,8 @@ module _ (w : World) (p : Plain) (same : Alike w p) (o : Outcome) (last : World)
           (read_pending_alike w p same sound k x body at what))
 
       by_place : (x : Option (ℕ × QueuedRequest Purpose)) → slice_get (pending w.kernel.queues) k ≡ x
-          → reading_pending w k (option_map (λ (e : ℕ × QueuedRequest Purpose). (e.0, e.1.kept)) x) ≡ Ok (o, last)
+          → pending_found w.kernel (option_map (λ (e : ℕ × QueuedRequest Purpose). (e.0, e.1.kept)) x)
+          (reading_pending w k) ≡ Ok (o, last)
           → Moves p (event.read_pending k) o last
       by_place None at f = absurd (cc)
       by_place (Some x) at f = by_body x (body_of w.kernel x.1.kept) at refl f
@@ -231,7 +234,8 @@ module _ (w : World) (p : Plain) (same : Alike w p) (o : Outcome) (last : World)
       serves t at (each.releases x can one holds opens) = let goes =
           release_goes w p same choice unique t one x can holds opens in (p, goes.0, goes.1)
 
-      by : (x : Option HeldRequest) → get w.server.held unique ≡ x → performing_held choice w unique x ≡ Ok (o, last)
+      by : (x : Option HeldRequest) → get w.server.held unique ≡ x
+          → held_found w.server x (performing_held choice w unique) ≡ Ok (o, last)
           → Moves p (event.perform unique) o last
       by None at f = absurd (cc)
       by (Some t) at f =
@@ -246,7 +250,8 @@ module _ (w : World) (p : Plain) (same : Alike w p) (o : Outcome) (last : World)
       → step choice w (event.again unique) ≡ Ok (o, last) → Moves p (event.again unique) o last
   sends_again unique choice needs e = by (get w.server.kept unique) refl e
     where
-      by : (x : Option Kept) → get w.server.kept unique ≡ x → sending_again w unique x ≡ Ok (o, last)
+      by : (x : Option Kept) → get w.server.kept unique ≡ x
+          → kept_found w.server x (sending_again w unique) ≡ Ok (o, last)
           → Moves p (event.again unique) o last
       by None at f = absurd (cc)
       by (Some kept) at f =
@@ -312,7 +317,7 @@ module _ (w : World) (p : Plain) (same : Alike w p) (o : Outcome) (last : World)
           (accepted_as sent call (eintr_accepts w p numbered one same live k sent call state is)
           (eintr_goes w p numbered one same live k sent call state is))
 
-      by : (x : Option Sent) → slice_get w.replies k ≡ x → writing_copy w k x ≡ Ok (o, last)
+      by : (x : Option Sent) → slice_get w.replies k ≡ x → found x (writing_copy w k) ≡ Ok (o, last)
           → Moves p (event.write k) o last
       by None at f = absurd (cc)
       by (Some sent) at f =
@@ -332,7 +337,7 @@ module _ (w : World) (p : Plain) (same : Alike w p) (o : Outcome) (last : World)
       by_copy result at (Some copy) there = let can = needs.1 result copy at there in
           settled_alike w p needs.0 same k result copy can.0 can.1
 
-      by : (x : Option ReplyResult) → slice_get w.results k ≡ x → settling w k x ≡ Ok (o, last)
+      by : (x : Option ReplyResult) → slice_get w.results k ≡ x → found x (settling w k) ≡ Ok (o, last)
           → Moves p (event.settle k) o last
       by None at f = absurd (cc)
       by (Some result) at f =
@@ -346,11 +351,11 @@ module _ (w : World) (p : Plain) (same : Alike w p) (o : Outcome) (last : World)
       → step choice w (event.intr call fatal) ≡ Ok (o, last) → Moves p (event.intr call fatal) o last
   signals call fatal choice needs e =
       let lives = unless_ok (not (is_live w.kernel.phase)) refusal.NotReady
-      (signalling w call fatal (get w.kernel.vfs.calls call)) o last e in
+      (found (get w.kernel.vfs.calls call) (signalling w call fatal)) o last e in
       by (get w.kernel.vfs.calls call) refl (is_not (is_live w.kernel.phase) lives.passed) lives.rest
     where
       by : (x : Option (CallState Opened)) → get w.kernel.vfs.calls call ≡ x → is_live w.kernel.phase ≡ true
-          → signalling w call fatal x ≡ Ok (o, last) → Moves p (event.intr call fatal) o last
+          → found x (signalling w call fatal) ≡ Ok (o, last) → Moves p (event.intr call fatal) o last
       by None at live f = absurd (cc)
       by (Some state) at live f =
           let moved = call_signalled w.kernel call state fatal in
@@ -373,11 +378,12 @@ module _ (w : World) (p : Plain) (same : Alike w p) (o : Outcome) (last : World)
       → step choice w (event.drop_name directory name) ≡ Ok (o, last) → Moves p (event.drop_name directory name) o last
   drops directory name choice one e =
       let lives = unless_ok (not (is_live w.kernel.phase)) refusal.NotReady
-      (dropping (after_drop w directory name) (get_name w.kernel.vfs.names (directory, name))) o last e in
+      (found (get_name w.kernel.vfs.names (directory, name)) (dropping (after_drop w directory name))) o last e in
       by (get_name w.kernel.vfs.names (directory, name)) refl lives.rest
     where
       by : (x : Option Binding) → get_name w.kernel.vfs.names (directory, name) ≡ x
-          → dropping (after_drop w directory name) x ≡ Ok (o, last) → Moves p (event.drop_name directory name) o last
+          → found x (dropping (after_drop w directory name)) ≡ Ok (o, last)
+          → Moves p (event.drop_name directory name) o last
       by None at f = absurd (cc)
       by (Some bound) at f = led p (event.drop_name directory name) event.dropped (after_drop w directory name) o last
           (ok_is event.dropped (after_drop w directory name) o last f) (drop_goes w p one same directory name bound at)
@@ -386,10 +392,11 @@ module _ (w : World) (p : Plain) (same : Alike w p) (o : Outcome) (last : World)
       → step choice w (event.evict node) ≡ Ok (o, last) → Moves p (event.evict node) o last
   evicts node choice needs e =
       let lives = unless_ok (not (is_live w.kernel.phase)) refusal.NotReady
-      (evicting w node (get w.kernel.nodes node)) o last e in
+      (unused_found w.kernel node (get w.kernel.nodes node) (evicting w node)) o last e in
       by (get w.kernel.nodes node) lives.rest
     where
-      by : (x : Option Counted) → evicting w node x ≡ Ok (o, last) → Moves p (event.evict node) o last
+      by : (x : Option Counted) → unused_found w.kernel node x (evicting w node) ≡ Ok (o, last)
+          → Moves p (event.evict node) o last
       by None f = absurd (cc)
       by (Some counted) f =
           let outcome = event.evicted node counted.count in

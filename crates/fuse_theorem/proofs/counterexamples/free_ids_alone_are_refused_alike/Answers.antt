@@ -33,17 +33,17 @@ is_free id may = by (get with_no_generation.server.nodes.rows id) refl may
     by (Some row) is h = let one = only 2 other id row is in let file : 5 ≡ 1 =
         ap (λ (r : HeldNode). r.file) one.1 ∙ h in absurd (omega (arith, file))
 
-fifth : (e r : Bool) → e ≡ true → (false || (false || (false || (false || (e || r))))) ≡ true
-fifth true r is = refl
-fifth false r is = absurd (cc (is))
+third : (e r t : Bool) → e ≡ true → ((e || r) || t) ≡ true
+third true r t is = refl
+third false r t is = absurd (cc (is))
 
 past : (choice : ℕ → ℕ) → MayName with_no_generation.server.nodes 1 (choice 1)
     → is_past (after_perform with_no_generation 2 (served choice with_no_generation.server 2 held)) ≡ true
 past choice may =
     let draws : generation_after with_no_generation.server.nodes (get with_no_generation.server.nodes.rows (choice 1))
     ≡ counter_end + 1 = ap (generation_after with_no_generation.server.nodes) (is_free (choice 1) may) in
-    fifth (nat_lt counter_end (generation_after with_no_generation.server.nodes
-    (get with_no_generation.server.nodes.rows (choice 1)))) _ (ap (nat_lt counter_end) draws)
+    third (nat_lt counter_end (generation_after with_no_generation.server.nodes
+    (get with_no_generation.server.nodes.rows (choice 1)))) _ _ (ap (nat_lt counter_end) draws)
 
 pub returns : goal.returns
 returns g = (
