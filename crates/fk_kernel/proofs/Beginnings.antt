@@ -3,7 +3,7 @@ use Rattle.std.proofs.Common.{◌≡◌, ℕ, ◌+◌, ◌<◌, ◌≤◌, ◌^�
 use Rattle.std.specs.Prelude.{◌||◌, nat_lt, nat_le, not, IfErr, OnOk}
 use Rattle.std.proofs.lemmas.Bool.Decides.{nat_tests}
 use Rattle.fuse_spec.specs.Kernel.Kernel.{Kernel, is_aborted, advanced, closing_of, closed_by, call_begun}
-use Rattle.fuse_spec.specs.World.Steps.{is_ready}
+use Rattle.fuse_spec.specs.Kernel.Refusals.{is_ready}
 use Rattle.fuse_spec.specs.Kernel.Uniques.{numbers_left_from}
 use Rattle.fuse_spec.specs.Calls.Vfs.{CallState, Advance, numbered, begun, asking, answered, no_more}
 use Rattle.fuse_spec.specs.Calls.Answers.{Answer}
@@ -15,7 +15,8 @@ use Rattle.fk_kernel.proofs.Phases.{none_past_end}
 use Rattle.fuse_spec.specs.declared.Opened.{Opened}
 use Rattle.fuse_spec.specs.declared.Refusal.{Refusal}
 use Rattle.fuse_spec.specs.declared.Refusal.TheVariants.{NoMemory, NotReady, Full, Exhausted}
-use Rattle.fk_kernel.specs.Refused.{is_past_end, or_no_memory, begin_refusal, begun_refusal}
+use Rattle.fuse_spec.specs.Kernel.Refusals.{unless, refusal_in, accepted, is_past_end, or_no_memory}
+use Rattle.fk_kernel.specs.Refused.{begin_refusal, begun_refusal}
 
 -- one number more is past the end where none is left
 pub past_end : (unique call : ℕ) → call < 2 ^ 62
@@ -23,13 +24,13 @@ pub past_end : (unique call : ℕ) → call < 2 ^ 62
 past_end unique call low = grind (arith, nat_tests)
 
 pub by_tests : (ready full past none : Bool) → ready ≡ true → full ≡ false → past ≡ none
-    → or_no_memory (cond (not ready) (Some NotReady) (cond full (Some Full) (cond past (Some Exhausted) None)))
+    → or_no_memory (refusal_in (unless (not ready) NotReady (unless full Full (unless past Exhausted accepted))))
     ≡ cond none Exhausted NoMemory
 by_tests ready full true none r f p = rw (r, f, sym p) refl
 by_tests ready full false none r f p = rw (r, f, sym p) refl
 
 pub unrefused : (ready full past : Bool) → ready ≡ true → full ≡ false → past ≡ false
-    → cond (not ready) (Some NotReady) (cond full (Some Full) (cond past (Some Exhausted) None)) ≡ None
+    → refusal_in (unless (not ready) NotReady (unless full Full (unless past Exhausted accepted))) ≡ None
 unrefused ready full past r f p = rw (r, f, p) refl
 
 no_file : (b : Bool) (k : Kernel) (file : Option (ℕ × Opened)) → file ≡ None → closing_of k (cond b None file) ≡ k

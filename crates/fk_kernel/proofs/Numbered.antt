@@ -7,13 +7,14 @@ use Rattle.fuse_spec.specs.Calls.Calls.{Call, spoken}
 use Rattle.fuse_spec.specs.Kernel.Kernel.{Kernel, is_aborted, asking_for, advanced, released, closing_of, closed_by, call_begun}
 use Rattle.fuse_spec.specs.Values.Maps.{get, put}
 use Rattle.fuse_spec.specs.Files.Operations.{Operation}
-use Rattle.fuse_spec.specs.World.Steps.{is_ready}
+use Rattle.fuse_spec.specs.Kernel.Refusals.{is_ready}
 use Rattle.fuse_spec.specs.Calls.Vfs.{Vfs, Advance, after_beginning, begun, numbered}
 use Rattle.fuse_spec.specs.declared.Opened.{Opened}
 use Rattle.fuse_spec.specs.declared.Refusal.TheVariants.{NotReady, Full, Exhausted}
 use Rattle.fk_syscalls.specs.Values.{call_of}
 use Rattle.fk_syscalls.specs.declared.call.Call.{Call as Made}
-use Rattle.fk_kernel.specs.Refused.{or_no_memory, begin_refusal}
+use Rattle.fuse_spec.specs.Kernel.Refusals.{unless, refusal_in, accepted, or_no_memory}
+use Rattle.fk_kernel.specs.Refused.{begin_refusal}
 use Rattle.fk_kernel.proofs.Walking.{walk_numbers}
 
 begun_numbers : (aborted : Bool) (c : Vfs Opened) (call : Call) → (begun aborted c call).vfs.next_call ≡ c.next_call + 1
@@ -52,8 +53,8 @@ past : (unique call now : ℕ) → call ≡ now + 1 → 2 ^ 62 ≤ now → (nat_
 past unique call now next last = grind (arith, nat_tests)
 
 by_tests : (ready full past : Bool) → ready ≡ true → full ≡ false → past ≡ true
-    → Exhausted ≡ or_no_memory (cond (not ready) (Some NotReady)
-    (cond full (Some Full) (cond past (Some Exhausted) None)))
+    → Exhausted ≡ or_no_memory (refusal_in (unless (not ready) NotReady
+    (unless full Full (unless past Exhausted accepted))))
 by_tests ready full past r f p = rw (r, f, p) refl
 
 -- no call begins where no number is left for it

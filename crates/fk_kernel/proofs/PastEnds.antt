@@ -24,7 +24,8 @@ use Rattle.fuse_spec.specs.declared.InterruptReply.{InterruptReply}
 use Rattle.fuse_spec.specs.declared.InterruptReplyEffect.{InterruptReplyEffect}
 use Rattle.fuse_spec.specs.declared.InterruptReplyEffect.TheVariants.{QueuedAgain, TurnedOff, None as NoReplyEffect}
 use Rattle.fuse_spec.specs.declared.Mark.{Mark}
-use Rattle.fk_kernel.specs.Refused.{PassesEnd, WritePasses, is_past}
+use Rattle.fuse_spec.specs.Kernel.Refusals.{is_past}
+use Rattle.fk_kernel.specs.Refused.{PassesEnd, WritePasses}
 use Rattle.fk_kernel.specs.Said.{Says, IsNoReply, Means, said, unsaid, wrong_body_to, IsJudged, Awaited, nothing, reply_to, awaited, awaited_by_interrupt}
 use Rattle.fk_nodes.specs.Learning.{is_out}
 use Rattle.fk_nodes.proofs.Outs.{or_none, or_first}

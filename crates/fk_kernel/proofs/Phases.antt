@@ -5,7 +5,7 @@ use Rattle.std.proofs.lemmas.Bool.Decides.{nat_tests}
 use Rattle.fuse_spec.specs.declared.Phase.{Phase}
 use Rattle.fuse_spec.specs.declared.Phase.TheVariants.{Down, Starting, Ready, Aborted}
 use Rattle.fuse_spec.specs.Kernel.Kernel.{is_live, is_aborted}
-use Rattle.fuse_spec.specs.World.Steps.{is_ready}
+use Rattle.fuse_spec.specs.Kernel.Refusals.{is_ready}
 
 pub live_if : (p : Phase) → is_ready p ≡ true → is_aborted p ≡ false → is_live p ≡ true
 live_if Down ready aborted = absurd (true≢false (sym ready))

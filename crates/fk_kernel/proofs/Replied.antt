@@ -22,7 +22,7 @@ use Rattle.fk_syscalls.specs.States.{StandsAt}
 use Rattle.fk_calls.specs.Names.{names_left}
 use Rattle.fk_kernel.specs.Entries.{Awaits, EndsPast, MakesName, mkdirs, links}
 use Rattle.fk_kernel.specs.Said.{IsJudged}
-use Rattle.fk_kernel.specs.Refused.{is_past, is_past_end}
+use Rattle.fuse_spec.specs.Kernel.Refusals.{is_past, is_past_end}
 use Rattle.fk_kernel.proofs.Closes.{released_some}
 use Rattle.fk_kernel.proofs.Walking.{asks_past}
 use Rattle.fuse_spec.specs.declared.WriteResult.{WriteResult}

@@ -25,8 +25,10 @@ use Rattle.fuse_spec.specs.Kernel.Signals.{signal_effect}
 use Rattle.fuse_spec.specs.Calls.Vfs.{CallState, using, answered}
 use Rattle.fk_queues.specs.Room.{Room, KeepsRoom}
 use Rattle.fk_kernel.specs.Entries.{EndsPast}
-use Rattle.fk_kernel.specs.Refused.{is_past_end}
-use Rattle.fk_kernel.specs.Refused.{standing_refusal, signal_refusal, IsSignalled}
+use Rattle.std.specs.Prelude.{Result}
+use Rattle.fuse_spec.specs.declared.Refusal.{Refusal}
+use Rattle.fuse_spec.specs.Kernel.Refusals.{unless, found, refusal_in, accepted, is_past_end}
+use Rattle.fk_kernel.specs.Refused.{within_counters, signal_refusal, IsSignalled}
 use Rattle.fk_kernel.specs.Soundness.{IsSoundKernel}
 use Rattle.fk_kernel.proofs.Closes.{released_some}
 use Rattle.fk_kernel.proofs.Nodes.{still_counted}
@@ -184,9 +186,12 @@ module _ (k : Kernel) (call unique : ℕ) (fatal : Bool) (current : request_of k
 
   pub exhausted : is_live k.phase ≡ true → signal_refusal k call fatal ≡ Some Exhausted
   exhausted live =
-      ap (λ (b : Bool). cond (not b) (Some NotReady) (standing_refusal k call fatal (get k.vfs.calls call))) live ∙ ap
-      (standing_refusal k call fatal) p.is
-      ∙ ap (λ (b : Bool). cond b (Some Exhausted) None) past
+      ap (λ (b : Bool). refusal_in (unless (not b) NotReady (signalled (get k.vfs.calls call)))) live
+      ∙ ap (λ (o : Option (CallState Opened)). refusal_in (signalled o)) p.is
+      ∙ ap (λ (b : Bool). refusal_in (unless b Exhausted accepted)) past
+    where
+      signalled : Option (CallState Opened) → Result (Unit {0}) Refusal
+      signalled o = found o (λ (state : CallState Opened). within_counters (call_signalled k call state fatal).1)
 
 -- The kernel stays sound after a signal to a request.
 pub sound_signalled : {W : Type 0} (phase : Phase) (calls : Map (CallState Opened)) (answers : Map W) (free coming : ℕ)

@@ -9,7 +9,7 @@ use Rattle.fuse_spec.specs.Kernel.Uniques.{numbers_left_from}
 use Rattle.fuse_spec.specs.Calls.Paths.{Name}
 use Rattle.fuse_spec.specs.Calls.Vfs.{Vfs, look, after_walk, walks_on}
 use Rattle.fuse_spec.specs.Calls.Walks.{WalkPlan, Walked, looks_up, finds_none, asks, walk}
-use Rattle.fk_kernel.specs.Refused.{is_past_end}
+use Rattle.fuse_spec.specs.Kernel.Refusals.{is_past_end}
 use Rattle.fk_kernel.proofs.Phases.{none_past_end}
 
 ends : (unique call : ℕ) → (2 ^ 62 - unique) / 2 ≡ 0 → (nat_lt (2 ^ 62) (unique + 2) || nat_lt (2 ^ 62) call) ≡ true

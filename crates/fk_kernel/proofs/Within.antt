@@ -20,7 +20,7 @@ use Rattle.fuse_spec.specs.Calls.Vfs.{CallState, walking, doing, using, asked, A
 use Rattle.fuse_spec.specs.Calls.Walks.{WalkPlan}
 use Rattle.fk_syscalls.specs.States.{StandsAt}
 use Rattle.fk_kernel.specs.Entries.{Awaits, EndsWithin, mkdirs, links}
-use Rattle.fk_kernel.specs.Refused.{is_past_end}
+use Rattle.fuse_spec.specs.Kernel.Refusals.{is_past_end}
 use Rattle.fk_said.specs.ReplySaid.{wire_of}
 use Rattle.fk_said.specs.declared.reply_said.ReplySaid.{ReplySaid}
 use Rattle.fk_said.specs.declared.reply_said.ReplySaid.TheVariants as said

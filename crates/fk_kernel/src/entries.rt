@@ -11,7 +11,7 @@ ghost use Rattle.fuse_spec.specs.Files.Operations.{opening};
 ghost use Rattle.fuse_spec.specs.Calls.Paths.{Name};
 ghost use Rattle.fuse_spec.specs.Kernel.Replies.{usable, use_of, counted_more, learnt, reply_written};
 ghost use Rattle.fuse_spec.specs.declared.Opened.{Opened as OpenedFile};
-ghost use Rattle.fk_kernel.specs.Refused.{is_past_end};
+ghost use Rattle.fuse_spec.specs.Kernel.Refusals.{is_past_end};
 ghost use Rattle.fuse_spec.specs.Kernel.QueueCalls.{after_forget, waiting, without};
 ghost use Rattle.std.specs.Option.{ForSome};
 ghost use Rattle.fuse_spec.specs.Values.Maps.{Place, put_name};

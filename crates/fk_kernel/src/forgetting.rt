@@ -5,7 +5,7 @@ ghost use Rattle.fuse_spec.specs.Kernel.Kernel.{evicted, forgets_read};
 ghost use Rattle.fuse_spec.specs.Values.Maps.{get};
 ghost use Rattle.fuse_spec.specs.Kernel.QueueCalls.{after_read_forgets};
 ghost use Rattle.fuse_spec.specs.declared.Counted.{Counted};
-ghost use Rattle.fk_kernel.specs.Refused.{or_no_memory};
+ghost use Rattle.fuse_spec.specs.Kernel.Refusals.{or_no_memory};
 ghost use Rattle.fk_kernel.specs.Refused.{evict_refusal, read_forgets_refusal, IsForgetFrame};
 
 use crate::kernel::KernelOf;

@@ -2,12 +2,13 @@
 
 ghost use Rattle.std.specs.Prelude.{◌≡◌, ◌<◌, ◌+◌, [], None, Ok, OnOk, OnErr, IfErr, T, false};
 ghost use Rattle.fuse_spec.specs.Kernel.Kernel.{is_live, is_aborted, kernel_mounted};
-ghost use Rattle.fuse_spec.specs.World.Steps.{is_ready, is_busy, is_counted_out};
+ghost use Rattle.fuse_spec.specs.Kernel.Refusals.{is_ready, is_busy, is_counted_out};
 ghost use Rattle.fk_nodes.specs.Learning.{AreBelow};
 ghost use Rattle.std.specs.FinMap.{is_sorted};
 ghost use Rattle.std.specs.Ordering.{nat_cmp};
 ghost use Rattle.fuse_spec.specs.World.Worlds.{first_kernel};
-ghost use Rattle.fk_kernel.specs.Refused.{is_past_end, or_no_memory, mount_refusal};
+ghost use Rattle.fuse_spec.specs.Kernel.Refusals.{is_past_end, or_no_memory};
+ghost use Rattle.fk_kernel.specs.Refused.{mount_refusal};
 
 use fk_calls::StoredAnswer;
 use fk_dentry::Bindings;
@@ -113,7 +114,7 @@ impl<Q: QueueTable<Purpose> + Drop, C: CountTable<Heap = Q::Heap> + Drop> Kernel
     pub fn counts_within(&self)
         ensures sorted { T (is_sorted nat_cmp self.now.nodes) }
         ensures below { AreBelow self.now.nodes }
-        ensures none_out { is_counted_out self.now ≡ false }
+        ensures none_out { is_counted_out self.now.nodes ≡ false }
     {
         self.nodes.are_sorted();
     }

@@ -3,7 +3,8 @@
 ghost use Rattle.std.specs.Prelude.{◌≡◌, ◌<◌, ◌+◌, Some, None, Ok, OnOk, OnErr, IfOk, IfErr, true, ◌≢◌, is_some};
 ghost use Rattle.fuse_spec.specs.Kernel.Kernel.{is_live, body_of};
 ghost use Rattle.fuse_spec.specs.Values.Maps.{get};
-ghost use Rattle.fk_kernel.specs.Refused.{or_no_memory, read_refusal, IsPendingRequest};
+ghost use Rattle.fuse_spec.specs.Kernel.Refusals.{or_no_memory};
+ghost use Rattle.fk_kernel.specs.Refused.{read_refusal, IsPendingRequest};
 ghost use Rattle.fuse_spec.specs.Kernel.QueueCalls.{after_read_pending, pending_at, waiting};
 
 use crate::kernel::KernelOf;

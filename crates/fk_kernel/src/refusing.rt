@@ -9,7 +9,8 @@ ghost use Rattle.fuse_spec.specs.Kernel.QueueCalls.{waiting};
 ghost use Rattle.fuse_spec.specs.Kernel.Replies.{usable, first_use, use_of, reply_written};
 ghost use Rattle.fk_kernel.specs.Entries.{Awaits, EndsWithin, LooksUp, IsFew, learnt_by_all, nodes_heard};
 ghost use Rattle.fk_nodes.specs.Learning.{is_out};
-ghost use Rattle.fk_kernel.specs.Refused.{is_past, is_past_end, PassesEnd, WritePasses};
+ghost use Rattle.fuse_spec.specs.Kernel.Refusals.{is_past, is_past_end};
+ghost use Rattle.fk_kernel.specs.Refused.{PassesEnd, WritePasses};
 ghost use Rattle.fk_said.specs.ReplySaid.{wire_of, LastsADay};
 ghost use Rattle.fk_kernel.specs.Said.{awaited_by_call};
 

@@ -7,7 +7,7 @@ ghost use Rattle.fuse_spec.specs.Kernel.QueueCalls.{after_read_interrupt, interr
 ghost use Rattle.fuse_spec.specs.Calls.Vfs.{CallState as State};
 ghost use Rattle.fuse_spec.specs.declared.Opened.{Opened};
 ghost use Rattle.fk_kernel.specs.Entries.{EndsPast, EndsWithin};
-ghost use Rattle.fk_kernel.specs.Refused.{or_no_memory};
+ghost use Rattle.fuse_spec.specs.Kernel.Refusals.{or_no_memory};
 ghost use Rattle.fk_kernel.specs.Refused.{signal_refusal, IsSignalled, read_interrupt_refusal, IsInterruptFrame};
 
 use crate::kernel::KernelOf;

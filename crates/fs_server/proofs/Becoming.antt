@@ -17,7 +17,8 @@ use Rattle.fs_server.specs.declared.server.ServerFault.{ServerFault}
 use Rattle.fs_server.specs.declared.server.ServerFault.TheVariants.{Memory}
 use Rattle.fs_server.specs.declared.server.ServerFault.TheVariants as fault
 use Rattle.fs_server.specs.declared.server.Took.{Took}
-use Rattle.fs_server.specs.Effects.{CanTake, TakesFrame, RefusesFrame, is_past_end, past_or_memory, request_fault}
+use Rattle.fuse_spec.specs.Server.Refusals.{is_past_end}
+use Rattle.fs_server.specs.Effects.{CanTake, TakesFrame, RefusesFrame, past_or_memory, request_fault}
 use Rattle.fs_server.specs.Interrupts.{Interrupts}
 use Rattle.fs_server.specs.Taking.{IsFaultless, IsTakeable, answers, body_of, is_held}
 use Rattle.fs_server.proofs.Served.{past}

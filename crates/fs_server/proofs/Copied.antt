@@ -20,7 +20,8 @@ use Rattle.fuse_spec.specs.World.Worlds.{Sent}
 use Rattle.fs_files.specs.Giving.{files_of}
 use Rattle.fs_files.specs.Values.{FilesState}
 use Rattle.fs_server.specs.Values.{server_with}
-use Rattle.fs_server.specs.Effects.{RefusesAgain, copied_too_often, not_current, no_number, CanSendAgain, SendsAgain, Settles, GivesBack, SettlesFiles, is_of_copy}
+use Rattle.fs_server.proofs.Refused.{copied_too_often, not_current}
+use Rattle.fs_server.specs.Effects.{RefusesAgain, no_number, CanSendAgain, SendsAgain, Settles, GivesBack, SettlesFiles, is_of_copy}
 use Rattle.fs_server.proofs.Served.{past, whole}
 
 -- whether counts come to their end, as it is asked of the nodes and of the entries
@@ -43,7 +44,7 @@ module _ (files : FilesState) (held : Map HeldRequest) (kept : Map Kept) (copies
     current_of b e = ap (is_current s) is ∙ sym e
 
     pub names_gone : false ≡ names_held wire → RefusesAgain s unique NoCopy
-    names_gone e = not_current k there (current_of false e)
+    names_gone e = not_current s unique k there (current_of false e)
 
     -- the lookups of the nodes that it names come to their end, or they don't
     counts_are : (b : Bool) → b ≡ counts_out files.nodes (files_of files.nodes (files_in_reply wire))
@@ -52,7 +53,7 @@ module _ (files : FilesState) (held : Map HeldRequest) (kept : Map Kept) (copies
 
     pub counted_out : true ≡ names_held wire → true ≡ counts_out files.nodes
         (files_of files.nodes (files_in_reply wire)) → RefusesAgain s unique Exhausted
-    counted_out e out = copied_too_often k there (current_of true e) (counts_are true out)
+    counted_out e out = copied_too_often s unique k there (current_of true e) (counts_are true out)
 
     pub counts_so : CanSendAgain s unique → counts_out files.nodes (files_of files.nodes (files_in_reply wire)) ≡ false
     counts_so can =

@@ -14,7 +14,8 @@ use Rattle.fuse_frames.specs.RequestTies.{SaysRequest, body_in}
 use Rattle.fs_server.specs.declared.server.ServerFault.{ServerFault}
 use Rattle.fs_server.specs.declared.server.ServerFault.TheVariants.{Wire, UnknownNode, TooManyForgets, RepeatedUnique}
 use Rattle.fs_server.specs.declared.server.Took.{Took}
-use Rattle.fs_server.specs.Effects.{TakesFrame, RefusesFrame, request_fault, as_fault, copy_of, fault_or, is_past_end, past_or_memory, refused_for}
+use Rattle.fuse_spec.specs.Server.Refusals.{is_past_end}
+use Rattle.fs_server.specs.Effects.{TakesFrame, RefusesFrame, request_fault, as_fault, copy_of, fault_or, past_or_memory, refused_for}
 use Rattle.fs_server.specs.Interrupts.{Interrupts}
 use Rattle.fs_server.specs.Taking.{body_of, forgets_in, is_forgetting, is_held, is_spoken, knows, forgets_too_many}
 use Rattle.fs_server.proofs.Forgets.{forgotten_here}

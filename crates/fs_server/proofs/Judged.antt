@@ -14,7 +14,8 @@ use Rattle.fk_wire.specs.Requests.{RequestContent, RequestMessage}
 use Rattle.fuse_frames.specs.RequestTies.{body_in}
 use Rattle.fs_server.specs.declared.server.ServerFault.{ServerFault}
 use Rattle.fs_server.specs.declared.server.ServerFault.TheVariants.{Memory}
-use Rattle.fs_server.specs.Effects.{AnswersFrame, CanTake, RefusesFrame, fault_or, is_past_end, past_or_memory}
+use Rattle.fuse_spec.specs.Server.Refusals.{is_past_end}
+use Rattle.fs_server.specs.Effects.{AnswersFrame, CanTake, RefusesFrame, fault_or, past_or_memory}
 use Rattle.fs_server.specs.Taking.{IsTakeable, answers, body_of}
 use Rattle.fs_server.proofs.Becoming.{asks, can_take}
 

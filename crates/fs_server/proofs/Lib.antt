@@ -1,6 +1,7 @@
 pub mod Forgets
 pub mod Frames
 pub mod Sound
+pub mod Refused
 pub mod Served
 pub mod Copied
 pub mod Marked

@@ -14,7 +14,8 @@ use Rattle.fuse_spec.specs.Server.Taking.{TakeResult, interrupting, taking}
 use Rattle.fuse_spec.specs.declared.Taken.TheVariants.{Marked, Ignored, Again}
 use Rattle.fuse_spec.proofs.Tables.{get_put_here, get_put_there, get_gone_there}
 use Rattle.fs_server.specs.declared.server.Took.{Took}
-use Rattle.fs_server.specs.Effects.{copy_of, is_past_end}
+use Rattle.fuse_spec.specs.Server.Refusals.{is_past_end}
+use Rattle.fs_server.specs.Effects.{copy_of}
 use Rattle.fs_server.specs.Interrupts.{Interrupts, AsksAgain}
 
 module _ {V : Type 0} where

@@ -17,7 +17,7 @@ use Rattle.fs_files.specs.Plans.{HasNumbers}
 use Rattle.fs_files.specs.Values.{FilesState}
 use Rattle.fs_server.specs.Values.{server_with}
 use Rattle.fs_server.specs.Steps.{CanPerform}
-use Rattle.fs_server.specs.Effects.{is_past_end}
+use Rattle.fuse_spec.specs.Server.Refusals.{is_past_end}
 use Rattle.fs_server.proofs.Served.{all_generations, bare, ends_live, files_told, end_live, end_lost, lost_is, numbers_of, all_numbers, numbers_said}
 
 none_past : (a b c d e : Bool) → a ≡ false → b ≡ false → c ≡ false → d ≡ false → e ≡ false

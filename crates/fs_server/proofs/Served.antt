@@ -30,7 +30,9 @@ use Rattle.fs_files.proofs.Giving.{generations_given, none_out, sorted_given}
 use Rattle.fs_files.proofs.Performed.{performed_is, performed_lost, files_are, no_files, same_said, same_tree, same_handles}
 use Rattle.fs_server.specs.Values.{server_with}
 use Rattle.fs_server.specs.Steps.{CanPerform}
-use Rattle.fs_server.specs.Effects.{PerformsHeld, RefusesHeld, exhausted, told_too_often, is_past_end}
+use Rattle.fuse_spec.specs.Server.Refusals.{is_past_end}
+use Rattle.fs_server.specs.Effects.{PerformsHeld, RefusesHeld, exhausted}
+use Rattle.fs_server.proofs.Refused.{told_too_often}
 
 -- a server by its parts
 abbrev pub whole : Tree → NodeTable → HandleTable → Map HeldRequest → Map Kept → Map Copy → ℕ → Validity → Minor → Bool
@@ -309,7 +311,7 @@ module _ (files : FilesState) (held : Map HeldRequest) (kept : Map Kept) (copies
         (subst (MayChoose choice files.nodes) files_told may) in
         ap is_past_end (ends_live choice) ∙ past (end_live choice) (inr (inr (inl (omega (arith, all, generations))))))
     | inr other ↦ elim other [
-      | inl out ↦ told_too_often h there (ap (counts_out files.nodes) files_told ∙ out)
+      | inl out ↦ told_too_often _ _ h there (ap (counts_out files.nodes) files_told ∙ out)
       | inr numbers ↦ exhausted h there (λ choice may.
           let all = all_numbers (handles_said bare h) (opens_in_reply (said bare h)) in
           let start = numbers_said bare h in

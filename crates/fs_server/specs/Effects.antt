@@ -1,7 +1,6 @@
 -- What each call of the server does, and what it is refused for.
-use Rattle.std.specs.Prelude.{◌≡◌, ◌<◌, ◌^◌, ℕ, Bool, true, false, ◌||◌, nat_eq, nat_lt, List, Option, Some, None}
+use Rattle.std.specs.Prelude.{◌≡◌, ◌<◌, ◌^◌, ℕ, Bool, true, false, nat_eq, List, Option, Some, None}
 use Rattle.fuse_spec.specs.Values.Maps.{get}
-use Rattle.fuse_spec.specs.Values.Numbers.{counter_end}
 use Rattle.fuse_spec.specs.Kernel.Messages.{Forget, RequestBody, Request, WireReply}
 use Rattle.fuse_spec.specs.Files.Operations.{errno_of}
 use Rattle.fuse_spec.specs.Server.Nodes.{HandleTable, MayChoose, NodeTable, counts_out}
@@ -10,12 +9,14 @@ use Rattle.fuse_spec.specs.World.Worlds.{Sent}
 use Rattle.fuse_spec.specs.Server.Server.{Server, HeldRequest, Kept, Copy, RequestFault, unknown_opcode, unknown_node, too_many_forgets, repeated_unique, all_taken_back, fault_of, forgetting, is_file_held}
 use Rattle.fuse_spec.specs.Server.Copies.{given_back, files_named, handles_back, is_current, rows_back, sent_again, settled}
 use Rattle.fuse_spec.specs.Server.Taking.{taking}
+use Rattle.fuse_spec.specs.Kernel.Refusals.{refusal_in, accepted}
+use Rattle.fuse_spec.specs.Server.Refusals.{is_past_end, to_perform, to_send_again}
 use Rattle.fuse_spec.specs.declared.Entry.{Entry}
 use Rattle.fuse_spec.specs.declared.ReplyResult.{ReplyResult}
 use Rattle.fuse_spec.specs.declared.Taken.{Taken}
 use Rattle.fuse_spec.specs.declared.Taken.TheVariants.{Held, Forgot, Marked, Ignored, Again}
 use Rattle.fuse_spec.specs.declared.Refusal.{Refusal}
-use Rattle.fuse_spec.specs.declared.Refusal.TheVariants.{NoSuch, NoCopy, Exhausted}
+use Rattle.fuse_spec.specs.declared.Refusal.TheVariants.{NoSuch, Exhausted}
 use Rattle.fuse_spec.specs.declared.Validity.{Validity}
 use Rattle.fuse_spec.specs.declared.WriteResult.{WriteResult}
 use Rattle.fuse_spec.specs.declared.WriteResult.TheVariants.{Accepted, NoEntry, Invalid}
@@ -40,13 +41,6 @@ as_fault (Some repeated_unique) = Some RepeatedUnique
 abbrev pub request_fault : Server → ℕ → Option RequestBody → Option ServerFault
 request_fault s unique None = Some Wire
 request_fault s unique (Some body) = as_fault (fault_of s (record { unique = unique; body = body }))
-
--- Whether a counter of the server would have given a number past its end.
-abbrev pub is_past_end : Server → Bool
-is_past_end s =
-    nat_lt counter_end s.tree.next_birth || nat_lt counter_end s.tree.next_serial
-    || nat_lt counter_end s.nodes.next_generation || nat_lt counter_end s.handles.next_fh
-    || nat_lt counter_end s.next_copy
 
 -- what a request is refused for that has no fault: a counter at its end, or else want of memory
 abbrev pub past_or_memory : Bool → ServerFault
@@ -156,11 +150,10 @@ abbrev pub is_of_copy : Option Kept → ℕ → Bool
 is_of_copy None first = false
 is_of_copy (Some kept) first = nat_eq kept.first first
 
--- Why a held request can't be performed, want of memory aside.
+-- Why a held request can't be performed: as the definitions have it, or for a counter at its end. Want of memory aside.
 pub data RefusesHeld (s : Server) (unique : ℕ) : Refusal → Type 0 where
-  not_held : get s.held unique ≡ None → RefusesHeld s unique NoSuch
-  told_too_often : (held : HeldRequest) → get s.held unique ≡ Some held
-      → counts_out s.nodes (files_given s held) ≡ true → RefusesHeld s unique Exhausted
+  as_judged : (refusal : Refusal) → refusal_in (to_perform s unique (λ held. accepted)) ≡ Some refusal
+      → RefusesHeld s unique refusal
   exhausted : (held : HeldRequest) → get s.held unique ≡ Some held
       → ((choice : ℕ → ℕ) → MayChoose choice s.nodes (files_given s held)
       → is_past_end (served choice s unique held).server ≡ true) → RefusesHeld s unique Exhausted
@@ -181,13 +174,11 @@ pub record PerformsHeld (old : Server) (unique errno : ℕ) (copy : Option Sent)
   pub copy_is : copy ≡ first_copy old.aborted old.next_copy unique (served choice old unique held).wire
   pub errno_is : errno ≡ errno_of (served choice old unique held).wire
 
--- Why no copy of a kept reply can be sent, want of memory aside.
+-- Why no copy of a kept reply can be sent: as the definitions have it, or for a counter at its end. Want of memory
+-- aside.
 pub data RefusesAgain (s : Server) (unique : ℕ) : Refusal → Type 0 where
-  not_kept : get s.kept unique ≡ None → RefusesAgain s unique NoCopy
-  not_current : (kept : Kept) → get s.kept unique ≡ Some kept → is_current s kept.wire ≡ false
-      → RefusesAgain s unique NoCopy
-  copied_too_often : (kept : Kept) → get s.kept unique ≡ Some kept → is_current s kept.wire ≡ true
-      → counts_out s.nodes (files_named s kept.wire) ≡ true → RefusesAgain s unique Exhausted
+  judged_again : (refusal : Refusal) → refusal_in (to_send_again s unique (λ kept. accepted)) ≡ Some refusal
+      → RefusesAgain s unique refusal
   no_number : (kept : Kept) → get s.kept unique ≡ Some kept → is_current s kept.wire ≡ true
       → is_past_end (sent_again s unique kept) ≡ true → RefusesAgain s unique Exhausted
 

@@ -10,7 +10,7 @@ use Rattle.fuse_spec.specs.Server.Server.{Server, HeldRequest, is_known, is_forg
 use Rattle.fk_wire.specs.Requests as wire
 use Rattle.fk_wire.specs.Requests.{RequestContent, RequestMessage, Spells}
 use Rattle.fuse_frames.specs.RequestTies.{body_in, body_or}
-use Rattle.fs_server.specs.Effects.{is_past_end}
+use Rattle.fuse_spec.specs.Server.Refusals.{is_past_end}
 
 -- what is held until it is performed
 abbrev pub is_held : RequestContent → Bool

@@ -5,7 +5,7 @@ ghost use Rattle.fuse_spec.specs.Values.Numbers.{max_validity};
 ghost use Rattle.fuse_spec.specs.World.Worlds.{first_server};
 ghost use Rattle.fuse_spec.specs.Server.Copies.{connection_lost, remounted};
 ghost use Rattle.fs_nodes.specs.Rows.{listed};
-ghost use Rattle.fs_server.specs.Effects.{is_past_end};
+ghost use Rattle.fuse_spec.specs.Server.Refusals.{is_past_end};
 
 use crate::replies::{KeptReply, SentCopy};
 use fs_files::{Files, HeldRequest};

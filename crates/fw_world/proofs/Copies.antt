@@ -43,11 +43,10 @@ use Rattle.fuse_theorem.proofs.Replies.WriteNeeds.{write_met}
 use Rattle.fk_kernel.specs.Said.{Says, HasReplyHead, head_unique, Awaited, reply_to, awaited, awaited_by, awaited_by_call, awaited_by_interrupt, IsReplyWritten, IsAwaited, IsJudged, Means}
 use Rattle.fk_kernel.specs.Said.{said as means_said}
 use Rattle.fk_kernel.specs.Said as said
-use Rattle.std.specs.Option.{unwrap_or}
 use Rattle.std.specs.Prelude.{IfSome, IfNone}
 use Rattle.fuse_spec.specs.declared.Refusal.TheVariants.{NoMemory, Exhausted}
 use Rattle.fk_kernel.specs.Refused.{PassesEnd, WriteRefused, WritePasses, no_memory, exhausted}
-use Rattle.fk_kernel.specs.Refused as kernel
+use Rattle.fuse_spec.specs.Kernel.Refusals as kernel
 use Rattle.fk_kernel.proofs.PastEnds.{passes}
 use Rattle.fw_world.proofs.Happening.{writes}
 use Rattle.fw_world.proofs.Counters.{kernel_all_low, kernel_past, server_low}
@@ -344,7 +343,7 @@ module _ (w : World) (here : IsReached w) (place : ℕ) (sent : Sent) (found : s
   -- Where there is no room for its result: what the kernel would refuse it for, or want of memory.
   pub look_refused : is_past w ≡ false → (o : Option Refusal)
       → IfSome o (λ r. (r ≡ Exhausted) × WritePasses w.kernel bytes) → IfNone o (WritePasses w.kernel bytes → ⊥)
-      → RefusedWith w (event.write place) (unwrap_or o NoMemory)
+      → RefusedWith w (event.write place) (kernel.or_no_memory o)
   look_refused within None passes none = write_wanting within none NoMemory refl
   look_refused within (Some r) passes none = subst (RefusedWith w (event.write place)) (sym passes.0)
       (write_refused within Exhausted (exhausted passes.1.1) (λ is. absurd (cc is)))

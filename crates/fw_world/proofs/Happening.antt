@@ -1,5 +1,6 @@
 -- Where kernel and server accept an event, and nothing is past its end, it happens so in the machine.
 use Rattle.std.proofs.Common.{◌≡◌, ℕ, ◌+◌, ◌||◌, List, Bool, true, false, not, cond, Option, Some, None, Ok, Err, nat_eq, nat_lt, nat_le, max, length, slice_get, refl, ap, sym, ◌∙◌}
+use Rattle.std.specs.Prelude.{Result}
 use Rattle.fuse_spec.specs.declared.Minor.{Minor}
 use Rattle.fuse_spec.specs.declared.Binding.{Binding}
 use Rattle.fuse_spec.specs.declared.Counted.{Counted}
@@ -11,9 +12,9 @@ use Rattle.fuse_spec.specs.Values.Maps.{get, get_name}
 use Rattle.fuse_spec.specs.Values.Numbers.{max_validity, max_calls, clock_end}
 use Rattle.fuse_spec.specs.Files.Operations.{errno_of}
 use Rattle.fuse_spec.specs.Calls.Calls.{Call}
-use Rattle.fuse_spec.specs.Kernel.Messages.{Forget, Request}
+use Rattle.fuse_spec.specs.Kernel.Messages.{Forget, Request, RequestBody}
 use Rattle.fuse_spec.specs.Kernel.Kernel.{Kernel, is_live, is_pinned, is_bound, call_put, forgets_read}
-use Rattle.fuse_spec.specs.Kernel.QueueCalls.{pending_at}
+use Rattle.fuse_spec.specs.Kernel.QueueCalls.{pending_at, after_read_forgets}
 use Rattle.fuse_spec.specs.Kernel.Replies.{reply_written}
 use Rattle.fuse_spec.specs.Server.Server.{HeldRequest, Kept, Copy}
 use Rattle.fuse_spec.specs.Server.Copies.{is_current, files_named}
@@ -23,65 +24,63 @@ use Rattle.fuse_spec.specs.Server.Performs.{PerformResult, served, files_given}
 use Rattle.fuse_spec.specs.World.Worlds.{World, Sent, after_mount, after_call, after_read_pending, after_read_forgets as after_forgets, after_take, after_perform, after_again, after_write, after_settle, after_tick, after_drop, after_evict}
 use Rattle.fuse_spec.specs.World.Events.{Event, Outcome}
 use Rattle.fuse_spec.specs.World.Events as event
-use Rattle.fuse_spec.specs.World.Steps.{Stepped, going, is_past, is_busy, is_ready, unless, reading_pending, reading_forgets, taking_request, performed_as, performing_held, sending_again, writing_copy, settling, dropping, evicting, MayStep, Happens}
-use Rattle.fk_kernel.specs.Refused.{begin_refusal, mount_refusal, read_refusal, place_refusal, is_past_end, IsPendingRequest}
-use Rattle.fk_kernel.specs.Refused.{read_forgets_refusal, forgets_refusal, tick_refusal, name_refusal, drop_refusal, counted_refusal, evict_refusal}
+use Rattle.fuse_spec.specs.Kernel.Refusals.{found, pending_found, unused_found, unless, refusal_in, accepted, when_live, when_not_interrupted, is_ready, is_busy}
+use Rattle.fw_world.proofs.Judged.{passed, unless_ok, finds}
+use Rattle.fuse_spec.specs.Server.Refusals.{held_found, kept_found}
+use Rattle.fuse_spec.specs.World.Steps.{Stepped, going, is_past, reading_pending, reading_forgets, taking_request, performed_as, performing_held, sending_again, writing_copy, settling, dropping, evicting, MayStep, Happens}
+use Rattle.fk_kernel.specs.Refused.{within_counters, begin_refusal, mount_refusal, read_refusal, IsPendingRequest}
+use Rattle.fk_kernel.specs.Refused.{read_forgets_refusal, tick_refusal, drop_refusal, evict_refusal}
 
 -- any ids will do, where none is given
 abbrev any_id : ℕ → ℕ
 any_id file = file
 
-pub accepted : (o : Outcome) (after : World) → is_past after ≡ false → going o after ≡ Ok (o, after)
-accepted o after within = ap (λ (b : Bool). cond b (Err refusal.Exhausted) (Ok (o, after))) within
-
-none_refused : (b : Bool) (r : Refusal) → ◌≡◌ {A = Option Refusal} (cond b (Some r) None) None → b ≡ false
-none_refused true r e = absurd (cc e)
-none_refused false r e = refl
+pub goes : (o : Outcome) (after : World) → is_past after ≡ false → going o after ≡ Ok (o, after)
+goes o after within = ap (λ (b : Bool). cond b (Err refusal.Exhausted) (Ok (o, after))) within
 
 pub mounts : (w : World) (found_ms missing_ms : ℕ) (minor : Minor)
     → nat_lt max_validity (max found_ms missing_ms) ≡ false → mount_refusal w.kernel ≡ None
     → Happens w (event.mount found_ms missing_ms minor) event.mounted (after_mount w found_ms missing_ms minor)
 mounts w found_ms missing_ms minor day judged =
-    (any_id, tt, rw (day, none_refused (is_busy w.kernel) refusal.Busy judged) refl)
-
-begins : (not_ready full past : Bool) (s : Stepped) (x : Outcome × World)
-    → ◌≡◌ {A = Option Refusal} (cond not_ready (Some refusal.NotReady)
-    (cond full (Some refusal.Full) (cond past (Some refusal.Exhausted) None))) None → s ≡ Ok x
-    → unless not_ready refusal.NotReady (unless full refusal.Full s) ≡ Ok x
-begins true full past s x e h = absurd (cc e)
-begins false true past s x e h = absurd (cc e)
-begins false false past s x e h = h
+    let mounted = (event.mounted, after_mount w found_ms missing_ms minor) in
+    (any_id, tt, rw day (unless_ok (is_busy w.kernel) refusal.Busy accepted (Ok mounted) mounted judged refl))
 
 pub calls : (w : World) (call : Call) → begin_refusal w.kernel call ≡ None → is_past (after_call w call) ≡ false
     → Happens w (event.call call) (event.begun w.kernel.vfs.next_call) (after_call w call)
 calls w call judged within =
-    let o = event.begun w.kernel.vfs.next_call in (
+    let begins = (event.begun w.kernel.vfs.next_call, after_call w call) in
+    let full = nat_le max_calls (length w.kernel.vfs.calls) in
+    let gone = going begins.0 begins.1 in
+    let counted = within_counters (call_put w.kernel call) in
+    let room = (passed (not (is_ready w.kernel.phase)) refusal.NotReady (unless full refusal.Full counted) judged).1 in (
       any_id,
       tt,
-      begins (not (is_ready w.kernel.phase)) (nat_le max_calls (length w.kernel.vfs.calls))
-          (is_past_end (call_put w.kernel call)) (going o (after_call w call)) (o, after_call w call) judged
-          (accepted o (after_call w call) within),
+      unless_ok (not (is_ready w.kernel.phase)) refusal.NotReady (unless full refusal.Full counted)
+          (unless full refusal.Full gone) begins judged
+          (unless_ok full refusal.Full counted gone begins room (goes begins.0 begins.1 within)),
     )
 
-live_judged : (a b : Bool) (o : Option Refusal) → cond a (Some refusal.NotReady)
-    (cond b (Some refusal.InterruptFirst) o) ≡ None → (s : Stepped) (x : Outcome × World) → s ≡ Ok x
-    → unless a refusal.NotReady (unless b refusal.InterruptFirst s) ≡ Ok x
-live_judged true b o e s x h = absurd (cc e)
-live_judged false true o e s x h = absurd (cc e)
-live_judged false false o e s x h = h
+-- a read where no INTERRUPT has to go first
+pub read_ok : {A B : Type 0} (k : Kernel) (x : Result A Refusal) (y : Result B Refusal) (z : B)
+    → refusal_in (when_live k (when_not_interrupted k x)) ≡ None → y ≡ Ok z
+    → when_live k (when_not_interrupted k y) ≡ Ok z
+read_ok k x y z e is =
+    let first = (passed (not (is_live k.phase)) refusal.NotReady (when_not_interrupted k x) e).1 in
+    unless_ok (not (is_live k.phase)) refusal.NotReady (when_not_interrupted k x) (when_not_interrupted k y) z e
+    (unless_ok (not (nat_eq (length k.queues.interrupts) 0)) refusal.InterruptFirst x y z first is)
 
 pub reads : (w : World) (place : ℕ) (request : Request) → read_refusal w.kernel place ≡ None
     → IsPendingRequest w.kernel place request → is_past (after_read_pending w place request.unique request.body) ≡ false
     → Happens w (event.read_pending place) (event.is_read request.unique)
     (after_read_pending w place request.unique request.body)
 reads w place request judged is within =
+    let at = pending_at w.kernel.queues place in
     let after = after_read_pending w place request.unique request.body in (
       any_id,
       tt,
-      live_judged (not (is_live w.kernel.phase)) (not (nat_eq (length w.kernel.queues.interrupts) 0))
-          (place_refusal w.kernel (pending_at w.kernel.queues place)) judged
-          (reading_pending w place (pending_at w.kernel.queues place)) (event.is_read request.unique, after)
-          (rw (is.pending, is.body) (accepted (event.is_read request.unique) after within)),
+      read_ok w.kernel (pending_found w.kernel at (λ (unique : ℕ) (body : RequestBody). accepted))
+          (pending_found w.kernel at (reading_pending w place)) (event.is_read request.unique, after) judged
+          (rw (is.pending, is.body) (goes (event.is_read request.unique) after within)),
     )
 
 pub takes : (w : World) (place : ℕ) (request : Request) → slice_get w.requests place ≡ Some request
@@ -92,7 +91,7 @@ takes w place request there within =
     let took = taking w.server request.unique request.body in (
       any_id,
       tt,
-      ap (taking_request w place) there ∙ accepted (event.taken request.unique took.word)
+      ap (λ o. found o (taking_request w place)) there ∙ goes (event.taken request.unique took.word)
           (after_take w place request.unique took) within,
     )
 
@@ -105,11 +104,11 @@ performs choice w unique held there counts may did is within =
     let outcome = event.performed unique (errno_of did.wire) w.server.aborted in (
       choice,
       may,
-      ap (performing_held choice w unique) there ∙ ap
+      ap (λ o. held_found w.server o (performing_held choice w unique)) there ∙ ap
           (λ (b : Bool). unless b refusal.Exhausted (performed_as w unique
           (served choice w.server unique held))) counts ∙ ap
           (λ (d : PerformResult). going (event.performed unique (errno_of d.wire) w.server.aborted)
-          (after_perform w unique d)) is ∙ accepted outcome (after_perform w unique did) within,
+          (after_perform w unique d)) is ∙ goes outcome (after_perform w unique did) within,
     )
 
 pub sends_again : (w : World) (unique : ℕ) (kept : Kept) → get w.server.kept unique ≡ Some kept
@@ -121,10 +120,10 @@ sends_again w unique kept there current counts within =
     let after = after_again w unique kept in (
       any_id,
       tt,
-      ap (sending_again w unique) there ∙ ap (λ (b : Bool). unless (not b) refusal.NoCopy
+      ap (λ o. kept_found w.server o (sending_again w unique)) there ∙ ap (λ (b : Bool). unless (not b) refusal.NoCopy
           (unless (counts_out w.server.nodes (files_named w.server kept.wire)) refusal.Exhausted
           (going outcome after))) current
-          ∙ ap (λ (b : Bool). unless b refusal.Exhausted (going outcome after)) counts ∙ accepted outcome after within,
+          ∙ ap (λ (b : Bool). unless b refusal.Exhausted (going outcome after)) counts ∙ goes outcome after within,
     )
 
 pub writes : (w : World) (place : ℕ) (sent : Sent) (took : WriteResult × Kernel)
@@ -135,9 +134,9 @@ writes w place sent took there is within =
     let outcome = event.written sent.unique took.0 in (
       any_id,
       tt,
-      ap (writing_copy w place) there ∙ ap
+      ap (λ o. found o (writing_copy w place)) there ∙ ap
           (λ (t : WriteResult × Kernel). going (event.written sent.unique t.0)
-          (after_write w place sent t)) is ∙ accepted outcome (after_write w place sent took) within,
+          (after_write w place sent t)) is ∙ goes outcome (after_write w place sent took) within,
     )
 
 pub settles : (w : World) (place : ℕ) (result : ReplyResult) (copy : Copy) → slice_get w.results place ≡ Some result
@@ -147,7 +146,7 @@ pub settles : (w : World) (place : ℕ) (result : ReplyResult) (copy : Copy) →
 settles w place result copy there known = (
   any_id,
   tt,
-  ap (settling w place) there ∙ ap (λ (o : Option Copy). Ok
+  ap (λ o. found o (settling w place)) there ∙ ap (λ (o : Option Copy). Ok
       (event.settled result.unique result.result, after_settle w place result o)) known,
 )
 
@@ -159,43 +158,32 @@ reads_forgets w n forgets judged first within =
     let read = forgets_read w.kernel n in (
       any_id,
       tt,
-      live_judged (not (is_live w.kernel.phase)) (not (nat_eq (length w.kernel.queues.interrupts) 0))
-          (forgets_refusal w.kernel n read) judged (reading_forgets w n read) (event.is_read w.kernel.queues.next, after)
-          (ap (reading_forgets w n) first ∙ accepted (event.is_read w.kernel.queues.next) after within),
+      read_ok w.kernel (found read (λ (r : ℕ × List Forget). within_counters (record w.kernel { queues = after_read_forgets w.kernel.queues n })))
+          (found read (reading_forgets w n)) (event.is_read w.kernel.queues.next, after) judged
+          (ap (λ (o : Option (ℕ × List Forget)). found o (reading_forgets w n)) first
+          ∙ goes (event.is_read w.kernel.queues.next) after within),
     )
 
 pub ticks : (w : World) (ms : ℕ) → tick_refusal w.kernel ms ≡ None
     → Happens w (event.tick ms) (event.now (w.kernel.vfs.clock + ms)) (after_tick w ms)
-ticks w ms judged = (
-  any_id,
-  tt,
-  ap (λ (b : Bool). unless b refusal.BadTime
-      (Ok (event.now (w.kernel.vfs.clock + ms), after_tick w ms)))
-      (none_refused (nat_le clock_end (w.kernel.vfs.clock + ms)) refusal.BadTime judged),
-)
-
-drops_as : (not_live : Bool) (o : Option Binding) (after : World)
-    → ◌≡◌ {A = Option Refusal} (cond not_live (Some refusal.NotReady) (name_refusal o)) None
-    → unless not_live refusal.NotReady (dropping after o) ≡ Ok (event.dropped, after)
-drops_as true o after e = absurd (cc e)
-drops_as false None after e = absurd (cc e)
-drops_as false (Some bound) after e = refl
+ticks w ms judged =
+    let now = (event.now (w.kernel.vfs.clock + ms), after_tick w ms) in
+    (any_id, tt, unless_ok (nat_le clock_end (w.kernel.vfs.clock + ms)) refusal.BadTime accepted (Ok now) now judged refl)
 
 pub drops : (w : World) (directory : ℕ) (name : List ℕ) → drop_refusal w.kernel directory name ≡ None
     → Happens w (event.drop_name directory name) event.dropped (after_drop w directory name)
-drops w directory name judged = (
-  any_id,
-  tt,
-  drops_as (not (is_live w.kernel.phase))
-      (get_name w.kernel.vfs.names (directory, name)) (after_drop w directory name) judged,
-)
-
-evicts_as : (not_live busy : Bool) (x : Outcome × World)
-    → ◌≡◌ {A = Option Refusal} (cond not_live (Some refusal.NotReady) (cond busy (Some refusal.Busy) None)) None
-    → unless not_live refusal.NotReady (unless busy refusal.Busy (Ok x)) ≡ Ok x
-evicts_as true busy x e = absurd (cc e)
-evicts_as false true x e = absurd (cc e)
-evicts_as false false x e = refl
+drops w directory name judged =
+    let bound = get_name w.kernel.vfs.names (directory, name) in
+    let dropped = (event.dropped, after_drop w directory name) in
+    let not_live = not (is_live w.kernel.phase) in
+    let finds_it = finds bound (λ (b : Binding). accepted)
+    (passed not_live refusal.NotReady (found bound (λ (b : Binding). accepted)) judged).1 in (
+      any_id,
+      tt,
+      unless_ok not_live refusal.NotReady (found bound (λ (b : Binding). accepted))
+          (found bound (dropping (after_drop w directory name))) dropped judged
+          (ap (λ (o : Option Binding). found o (dropping (after_drop w directory name))) finds_it.there),
+    )
 
 pub evicts : (w : World) (node : ℕ) (counted : Counted) → evict_refusal w.kernel node ≡ None
     → get w.kernel.nodes node ≡ Some counted → Happens w (event.evict node) (event.evicted node counted.count)
@@ -203,12 +191,16 @@ pub evicts : (w : World) (node : ℕ) (counted : Counted) → evict_refusal w.ke
 evicts w node counted judged there =
     let not_live = not (is_live w.kernel.phase) in
     let busy = is_pinned w.kernel node || is_bound w.kernel node in
-    let judged_so : ◌≡◌ {A = Option Refusal} (cond not_live (Some refusal.NotReady)
-    (cond busy (Some refusal.Busy) None)) None = ap (λ (o : Option Counted). cond not_live (Some refusal.NotReady)
-    (counted_refusal w.kernel node o)) (sym there) ∙ judged in (
+    let evicted = (event.evicted node counted.count, after_evict w node counted) in
+    let here = ap (λ (o : Option Counted). unless not_live refusal.NotReady
+    (unused_found w.kernel node o (evicting w node))) there in
+    let judged_so : refusal_in (unless not_live refusal.NotReady (unless busy refusal.Busy accepted)) ≡ None =
+    ap (λ (o : Option Counted). refusal_in (unless not_live refusal.NotReady
+    (unused_found w.kernel node o (λ (c : Counted). accepted)))) (sym there) ∙ judged in
+    let unused = (passed not_live refusal.NotReady (unless busy refusal.Busy accepted) judged_so).1 in (
       any_id,
       tt,
-      ap (λ (o : Option Counted). unless not_live refusal.NotReady
-          (evicting w node o)) there ∙ evicts_as not_live busy
-          (event.evicted node counted.count, after_evict w node counted) judged_so,
+      here ∙ unless_ok not_live refusal.NotReady (unless busy refusal.Busy accepted)
+          (unless busy refusal.Busy (Ok evicted)) evicted judged_so
+          (unless_ok busy refusal.Busy accepted (Ok evicted) evicted unused refl),
     )

@@ -1,81 +1,65 @@
 -- Signals, reads of INTERRUPTs and aborts: what the kernel made of them is what the machine makes of them, and what it
 -- refuses the machine refuses.
-use Rattle.std.proofs.Common.{◌≡◌, ℕ, Bool, true, false, cond, not, List, [], ◌∷◌, Option, Some, None, Ok, Err, nat_lt, refl, ap, ◌∙◌}
+use Rattle.std.proofs.Common.{◌≡◌, ℕ, Bool, not, List, ◌∷◌, Option, Some, None, Ok, Err, refl, ap, ◌∙◌}
 use Rattle.fuse_spec.specs.declared.IntrEffect.{IntrEffect}
 use Rattle.fuse_spec.specs.declared.Opened.{Opened}
 use Rattle.fuse_spec.specs.declared.Refusal.{Refusal}
 use Rattle.fuse_spec.specs.declared.Refusal.TheVariants as refusal
 use Rattle.fuse_spec.specs.Values.Maps.{get}
-use Rattle.fuse_spec.specs.Values.Numbers.{counter_end}
 use Rattle.fuse_spec.specs.Kernel.Kernel.{Kernel, is_live, call_signalled}
 use Rattle.fuse_spec.specs.Kernel.Uniques.{interrupt_number}
 use Rattle.fuse_spec.specs.Calls.Vfs.{CallState}
 use Rattle.fuse_spec.specs.World.Worlds.{World, after_read_interrupt, after_abort}
 use Rattle.fuse_spec.specs.World.Events.{Outcome}
 use Rattle.fuse_spec.specs.World.Events as event
-use Rattle.fuse_spec.specs.World.Steps.{Stepped, going, is_past, unless, reading_interrupt, signalling, Happens, IsRefused}
-use Rattle.fk_kernel.specs.Refused.{is_past_end}
-use Rattle.fk_kernel.specs.Refused.{standing_refusal, signal_refusal, IsSignalled, oldest_refusal, read_interrupt_refusal, abort_refusal}
-use Rattle.fw_world.proofs.Counters.{past_by_kernel}
-use Rattle.fw_world.proofs.Happening.{accepted}
-use Rattle.fw_world.proofs.Refusing.{is_exhausted}
+use Rattle.std.specs.Prelude.{Result}
+use Rattle.fuse_spec.specs.Kernel.Refusals.{first_found, found, unless, refusal_in, accepted}
+use Rattle.fuse_spec.specs.World.Steps.{going, is_past, reading_interrupt, signalling, Happens, IsRefused}
+use Rattle.fk_kernel.specs.Refused.{within_counters, signal_refusal, IsSignalled, read_interrupt_refusal, abort_refusal}
+use Rattle.fw_world.proofs.Judged.{unless_ok, unless_refused, found_refused, first_refused, not_refused}
+use Rattle.fw_world.proofs.Happening.{goes}
+use Rattle.fw_world.proofs.Refusing.{past_counters}
 
 -- any ids will do, where none is given
 abbrev any_id : ℕ → ℕ
 any_id file = file
 
--- where a mount is live
-live : (not_live : Bool) (o : Option Refusal) (s : Stepped) → cond not_live (Some refusal.NotReady) o ≡ None
-    → unless not_live refusal.NotReady s ≡ s
-live true o s e = absurd (cc e)
-live false o s e = refl
-
-refused : (not_live : Bool) (o : Option Refusal) (s : Stepped) (r : Refusal)
-    → cond not_live (Some refusal.NotReady) o ≡ Some r → (o ≡ Some r → s ≡ Err r)
-    → unless not_live refusal.NotReady s ≡ Err r
-refused true o s r e rest = cc e
-refused false o s r e rest = rest e
-
 -- ---- a signal
+
+-- the counters after a signal to a call that stands so
+abbrev counted : World → ℕ → Bool → CallState Opened → Result (Unit {0}) Refusal
+counted w call fatal state = within_counters (call_signalled w.kernel call state fatal).1
 
 pub signals : (w : World) (call : ℕ) (fatal : Bool) (effect : IntrEffect) (kernel : Kernel)
     → signal_refusal w.kernel call fatal ≡ None → IsSignalled w.kernel call fatal effect kernel
     → is_past (record w { kernel = kernel }) ≡ false
     → Happens w (event.intr call fatal) (event.interrupted call effect) (record w { kernel = kernel })
 signals w call fatal effect kernel judged is within =
+    let at = get w.kernel.vfs.calls call in
     let outcome = event.interrupted call effect in (
       any_id,
       tt,
-      live (not (is_live w.kernel.phase)) (standing_refusal w.kernel call fatal (get w.kernel.vfs.calls call))
-          (signalling w call fatal (get w.kernel.vfs.calls call)) judged
-          ∙ ap (signalling w call fatal) is.unanswered
+      unless_ok (not (is_live w.kernel.phase)) refusal.NotReady (found at (counted w call fatal))
+          (found at (signalling w call fatal)) (outcome, record w { kernel = kernel }) judged
+          (ap (λ (o : Option (CallState Opened)). found o (signalling w call fatal)) is.unanswered
           ∙ ap (λ (m : IntrEffect × Kernel). going (event.interrupted call m.0)
           (record w { kernel = m.1 })) is.signalled
-          ∙ accepted outcome (record w { kernel = kernel }) within,
+          ∙ goes outcome (record w { kernel = kernel }) within),
     )
-
-standing : (w : World) (call : ℕ) (fatal : Bool) (o : Option (CallState Opened)) (r : Refusal)
-    → standing_refusal w.kernel call fatal o ≡ Some r → signalling w call fatal o ≡ Err r
-standing w call fatal None r e = cc e
-standing w call fatal (Some state) r e = by (is_past_end moved.1) refl e
-  where
-    moved : IntrEffect × Kernel
-    moved = call_signalled w.kernel call state fatal
-
-    after : World
-    after = record w { kernel = moved.1 }
-
-    by : (past : Bool) → is_past_end moved.1 ≡ past → ◌≡◌ {A = Option Refusal}
-        (cond past (Some refusal.Exhausted) None) (Some r) → signalling w call fatal (Some state) ≡ Err r
-    by true past is = is_exhausted (event.interrupted call moved.0) after (past_by_kernel after past) ∙ cc is
-    by false past is = absurd (cc is)
 
 pub signal_refused : (w : World) (call : ℕ) (fatal : Bool) (r : Refusal) → signal_refusal w.kernel call fatal ≡ Some r
     → IsRefused w (event.intr call fatal) r
 signal_refused w call fatal r judged choice may =
-    refused (not (is_live w.kernel.phase)) (standing_refusal w.kernel call fatal (get w.kernel.vfs.calls call))
-    (signalling w call fatal (get w.kernel.vfs.calls call)) r judged
-    (standing w call fatal (get w.kernel.vfs.calls call) r)
+    let at = get w.kernel.vfs.calls call in
+    unless_refused (not (is_live w.kernel.phase)) refusal.NotReady (found at (counted w call fatal))
+    (found at (signalling w call fatal)) r judged
+    (λ e. found_refused at (counted w call fatal) (signalling w call fatal) r e state_refused)
+  where
+    state_refused : (state : CallState Opened) → refusal_in (counted w call fatal state) ≡ Some r
+        → signalling w call fatal state ≡ Err r
+    state_refused state e =
+        let moved = call_signalled w.kernel call state fatal in
+        past_counters (event.interrupted call moved.0) moved.1 (record w { kernel = moved.1 }) refl r e
 
 -- ---- the oldest INTERRUPT
 
@@ -86,28 +70,30 @@ reads_interrupt w original rest judged first within =
     let outcome = event.is_read (interrupt_number original) in (
       any_id,
       tt,
-      live (not (is_live w.kernel.phase)) (oldest_refusal w.kernel.queues.interrupts)
-          (reading_interrupt w w.kernel.queues.interrupts) judged
-          ∙ ap (reading_interrupt w) first
-          ∙ accepted outcome (after_read_interrupt w original) within,
+      unless_ok (not (is_live w.kernel.phase)) refusal.NotReady
+          (first_found w.kernel.queues.interrupts (λ (n : ℕ). accepted))
+          (first_found w.kernel.queues.interrupts (reading_interrupt w)) (outcome, after_read_interrupt w original) judged
+          (ap (λ (xs : List ℕ). first_found xs (reading_interrupt w)) first
+          ∙ goes outcome (after_read_interrupt w original) within),
     )
-
-oldest : (w : World) (interrupts : List ℕ) (r : Refusal) → oldest_refusal interrupts ≡ Some r
-    → reading_interrupt w interrupts ≡ Err r
-oldest w [] r e = cc e
-oldest w (original ∷ rest) r e = absurd (cc e)
 
 pub read_interrupt_refused : (w : World) (r : Refusal) → read_interrupt_refusal w.kernel ≡ Some r
     → IsRefused w event.read_interrupt r
 read_interrupt_refused w r judged choice may =
-    refused (not (is_live w.kernel.phase)) (oldest_refusal w.kernel.queues.interrupts)
-    (reading_interrupt w w.kernel.queues.interrupts) r judged (oldest w w.kernel.queues.interrupts r)
+    let queued = w.kernel.queues.interrupts in
+    unless_refused (not (is_live w.kernel.phase)) refusal.NotReady (first_found queued (λ (n : ℕ). accepted))
+    (first_found queued (reading_interrupt w)) r judged
+    (λ e. first_refused queued (λ (n : ℕ). accepted) (reading_interrupt w) r e
+    (λ n. not_refused (reading_interrupt w n) r))
 
 -- ---- an abort
 
 pub aborts : (w : World) → abort_refusal w.kernel ≡ None → Happens w event.abort event.aborted (after_abort w)
-aborts w judged = (any_id, tt, live (not (is_live w.kernel.phase)) None (Ok (event.aborted, after_abort w)) judged)
+aborts w judged =
+    let aborted = (event.aborted, after_abort w) in
+    (any_id, tt, unless_ok (not (is_live w.kernel.phase)) refusal.NotReady accepted (Ok aborted) aborted judged refl)
 
 pub abort_refused : (w : World) (r : Refusal) → abort_refusal w.kernel ≡ Some r → IsRefused w event.abort r
-abort_refused w r judged choice may = refused (not (is_live w.kernel.phase)) None
-    (Ok (event.aborted, after_abort w)) r judged (λ e. absurd (cc e))
+abort_refused w r judged choice may =
+    let aborted = Ok (event.aborted, after_abort w) in
+    unless_refused (not (is_live w.kernel.phase)) refusal.NotReady accepted aborted r judged (not_refused aborted r)

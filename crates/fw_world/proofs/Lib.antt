@@ -1,4 +1,5 @@
 pub mod Counters
+pub mod Judged
 pub mod Happening
 pub mod LastFrames
 pub mod Refusing

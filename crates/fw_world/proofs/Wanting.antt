@@ -1,7 +1,7 @@
 -- Where memory was wanting, nothing else refuses the event.
 use Rattle.std.proofs.Common.{◌≡◌, ℕ, ◌||◌, Bool, true, false, true≢false, cond, not, List, [], ◌∷◌, Option, Some, None, inl, inr, nat_eq, nat_lt, nat_le, max, length, slice_get, take, refl, ap, sym, subst, ◌∙◌}
-use Rattle.std.specs.Prelude.{◌⊎◌, ◌&&◌, IfSome, IfNone}
-use Rattle.std.specs.Option.{unwrap_or, option_map_or}
+use Rattle.std.specs.Prelude.{◌⊎◌, ◌&&◌, IfSome, IfNone, Result}
+use Rattle.std.specs.Option.{option_map_or}
 use Rattle.fuse_spec.specs.declared.Minor.{Minor}
 use Rattle.fuse_spec.specs.declared.Purpose.{Purpose}
 use Rattle.fuse_spec.specs.declared.Refusal.{Refusal}
@@ -24,7 +24,9 @@ use Rattle.fuse_spec.specs.declared.QueuedRequest.{QueuedRequest}
 use Rattle.fuse_spec.specs.Kernel.Queues.{pending}
 use Rattle.fuse_spec.specs.Kernel.QueueCalls.{after_reading, pending_at, can_read_forgets, after_read_forgets}
 use Rattle.fuse_spec.specs.Server.Server.{Server}
-use Rattle.fuse_spec.specs.World.Steps.{is_past, is_counted_out, is_ready, takes_memory, IsRefused, MayChooseFor, RefusedWith, Happens}
+use Rattle.fuse_spec.specs.Kernel.Refusals.{unless, found, first_found, pending_found, refusal_in, accepted, when_live, when_not_interrupted, is_ready, is_past_end, is_counted_out}
+use Rattle.fw_world.proofs.Judged.{passed, finds}
+use Rattle.fuse_spec.specs.World.Steps.{is_past, takes_memory, IsRefused, MayChooseFor, RefusedWith, Happens}
 use Rattle.fuse_spec.specs.World.Worlds as worlds
 use Rattle.fuse_spec.specs.Server.Taking.{taking}
 use Rattle.std.specs.List.{remove as without}
@@ -32,13 +34,12 @@ use Rattle.fuse_frames.specs.RequestTies.{IsRequestFrame}
 use Rattle.fuse_frames.proofs.RequestLemmas.{one_request, frame_says}
 use Rattle.fuse_spec.specs.World.Worlds.{World, after_call, after_take, after_perform, after_again}
 use Rattle.fuse_theorem.proofs.Refining.Choosing.{some_choice, not_both}
-use Rattle.fk_kernel.specs.Refused.{begin_refusal, mount_refusal, read_refusal, place_refusal, body_refusal, is_past_end}
-use Rattle.fk_kernel.specs.Refused as kernel
-use Rattle.fk_kernel.specs.Refused.{read_interrupt_refusal, oldest_refusal}
-use Rattle.fk_kernel.specs.Refused.{read_forgets_refusal, forgets_refusal}
-use Rattle.fs_server.specs.Effects as server
+use Rattle.fk_kernel.specs.Refused.{within_counters, begin_refusal, mount_refusal, read_refusal}
+use Rattle.fuse_spec.specs.Kernel.Refusals as kernel
+use Rattle.fk_kernel.specs.Refused.{read_interrupt_refusal, read_forgets_refusal}
+use Rattle.fuse_spec.specs.Server.Refusals as server
 use Rattle.fs_server.specs.declared.server.Took.{Took}
-use Rattle.fs_server.specs.Effects.{CanSendAgain, CanTake, TakesFrame, AnswersFrame, copy_of, RefusesFrame, fault_or, past_or_memory}
+use Rattle.fs_server.specs.Effects.{as_fault, CanSendAgain, CanTake, TakesFrame, AnswersFrame, copy_of, RefusesFrame, fault_or, past_or_memory}
 use Rattle.fs_server.specs.declared.server.ServerFault.{ServerFault}
 use Rattle.fs_server.specs.declared.server.ServerFault.TheVariants.{Memory}
 use Rattle.fuse_spec.specs.Server.Server.{RequestFault, fault_of}
@@ -75,7 +76,7 @@ module _ (w : World) (e : Event) (Refuses : Refusal → Type 0) (Can : Type 0)
     (refused : (r : Refusal) → Refuses r → IsRefused w e r)
     (can_happen : Can → (given : Refusal) → given ≡ refusal.NoMemory → RefusedWith w e given) where
   pub looked : (judged : Option Refusal) (given : Refusal) → IfSome judged Refuses → IfNone judged Can
-      → given ≡ unwrap_or judged refusal.NoMemory → RefusedWith w e given
+      → given ≡ kernel.or_no_memory judged → RefusedWith w e given
   looked None given refuses can is = can_happen can given is
   looked (Some r) given refuses can is = inl (subst (IsRefused w e) (sym is) (refused r refuses))
 
@@ -87,7 +88,7 @@ module _ (w : World) (e : Event) (Refuses : Refusal → Type 0) (Can : Type 0)
 -- ---- counters
 
 -- A call that begins counts no node.
-begun_counts : (k : Kernel) (call : Call) → is_counted_out (call_begun k call) ≡ is_counted_out k
+begun_counts : (k : Kernel) (call : Call) → is_counted_out (call_begun k call).nodes ≡ is_counted_out k.nodes
 begun_counts k call = ends (cond (is_aborted k.phase) None (closed_by k.vfs.opens call)) ∙ asks begins.operation
   where
     begins : Advance Opened
@@ -97,15 +98,16 @@ begun_counts k call = ends (cond (is_aborted k.phase) None (closed_by k.vfs.open
     next = advanced k k.vfs.next_call begins
 
     asks : (o : Option (Operation ℕ Opened)) → is_counted_out
-        (asking_for (record k { vfs = begins.vfs }) k.vfs.next_call o) ≡ is_counted_out k
+        (asking_for (record k { vfs = begins.vfs }) k.vfs.next_call o).nodes ≡ is_counted_out k.nodes
     asks None = refl
     asks (Some operation) = refl
 
-    freed : (q : Kernel) (handle : ℕ) (o : Option Opened) → is_counted_out (released q handle o) ≡ is_counted_out q
+    freed : (q : Kernel) (handle : ℕ) (o : Option Opened)
+        → is_counted_out (released q handle o).nodes ≡ is_counted_out q.nodes
     freed q handle None = refl
     freed q handle (Some opened) = refl
 
-    ends : (o : Option (ℕ × Opened)) → is_counted_out (closing_of next o) ≡ is_counted_out next
+    ends : (o : Option (ℕ × Opened)) → is_counted_out (closing_of next o).nodes ≡ is_counted_out next.nodes
     ends None = refl
     ends (Some file) =
         let closing = put next.closing file.0 file.1 in
@@ -115,53 +117,54 @@ module _ (w : World) (within : is_past w ≡ false) where
   kernel_within : is_past_end w.kernel ≡ false
   kernel_within = kernel_low w within
 
-  none_out : is_counted_out w.kernel ≡ false
+  none_out : is_counted_out w.kernel.nodes ≡ false
   none_out = count_low w within
 
   pub server_within : server.is_past_end w.server ≡ false
   server_within = server_low w within
 
-  past_by : (k : Kernel) → is_past_end k ≡ false → is_counted_out k ≡ false → (v : World) → v.kernel ≡ k
+  past_by : (k : Kernel) → is_past_end k ≡ false → is_counted_out k.nodes ≡ false → (v : World) → v.kernel ≡ k
       → v.server ≡ w.server → is_past v ≡ false
   past_by k low none v kernel_is server_is = world_within k w.server low none server_within v kernel_is server_is
 
+  in_counters : (k : Kernel) → refusal_in (within_counters k) ≡ None → is_past_end k ≡ false
+  in_counters k none = (passed (is_past_end k) refusal.Exhausted accepted none).0
+
   -- ---- a call
 
-  third : (a b c : Bool) → ◌≡◌ {A = Option Refusal}
-      (cond a (Some refusal.NotReady) (cond b (Some refusal.Full) (cond c (Some refusal.Exhausted) None))) None
-      → c ≡ false
-  third true b c e = absurd (cc e)
-  third false true c e = absurd (cc e)
-  third false false true e = absurd (cc e)
-  third false false false e = refl
-
-  same_counts : (call : Call) → is_counted_out (call_put w.kernel call) ≡ false
+  same_counts : (call : Call) → is_counted_out (call_put w.kernel call).nodes ≡ false
   same_counts call = begun_counts w.kernel (spoken w.kernel.lists_files call) ∙ none_out
 
   pub call_wanting : (call : Call) → begin_refusal w.kernel call ≡ None → (given : Refusal) → given ≡ refusal.NoMemory
       → RefusedWith w (event.call call) given
   call_wanting call none given is =
-      let begun = third (not (is_ready w.kernel.phase)) (nat_le max_calls (length w.kernel.vfs.calls))
-      (is_past_end (call_put w.kernel call)) none in
+      let full = nat_le max_calls (length w.kernel.vfs.calls) in
+      let counted = within_counters (call_put w.kernel call) in
+      let room = passed (not (is_ready w.kernel.phase)) refusal.NotReady (unless full refusal.Full counted) none in
+      let begun = in_counters (call_put w.kernel call) (passed full refusal.Full counted room.1).1 in
       wanting w (event.call call) (event.begun w.kernel.vfs.next_call) (after_call w call) refl
       (calls w call none (past_by (call_put w.kernel call) begun (same_counts call)
       (after_call w call) refl refl)) given is
 
   -- ---- reads
 
-  last_cond : (a b : Bool) (o : Option Refusal) → cond a (Some refusal.NotReady)
-      (cond b (Some refusal.InterruptFirst) o) ≡ None → o ≡ None
-  last_cond true b o e = absurd (cc e)
-  last_cond false true o e = absurd (cc e)
-  last_cond false false o e = e
+  read_judged : {A : Type 0} (x : Result A Refusal)
+      → refusal_in (when_live w.kernel (when_not_interrupted w.kernel x)) ≡ None → refusal_in x ≡ None
+  read_judged x e =
+      let live = passed (not (is_live w.kernel.phase)) refusal.NotReady (when_not_interrupted w.kernel x) e in
+      (passed (not (nat_eq (length w.kernel.queues.interrupts) 0)) refusal.InterruptFirst x live.1).1
 
   pub read_wanting : (place : ℕ) → read_refusal w.kernel place ≡ None → (given : Refusal) → given ≡ refusal.NoMemory
       → RefusedWith w (event.read_pending place) given
   read_wanting place none given is =
-      by (pending_at w.kernel.queues place) refl
-      (last_cond (not (is_live w.kernel.phase)) (not (nat_eq (length w.kernel.queues.interrupts) 0))
-      (place_refusal w.kernel (pending_at w.kernel.queues place)) none)
+      let at = finds (pending_at w.kernel.queues place) (λ (q : ℕ × Purpose). found (body_of w.kernel q.1) (unrefused q.0))
+      (read_judged (pending_found w.kernel (pending_at w.kernel.queues place) unrefused) none) in
+      let says = finds (body_of w.kernel at.it.1) (unrefused at.it.0) at.unrefused in
+      at_body at.it.0 at.it.1 at.there says.it says.there
     where
+      unrefused : ℕ → RequestBody → Result (Unit {0}) Refusal
+      unrefused unique body = accepted
+
       next_read : (o : Option (ℕ × QueuedRequest Purpose))
           → (option_map_or (λ e. after_reading w.kernel.queues e.0 e.1.mark) o w.kernel.queues).next
           ≡ w.kernel.queues.next
@@ -175,10 +178,8 @@ module _ (w : World) (within : is_past w ≡ false) where
           by_mark mark.Interrupted = refl
 
       at_body : (unique : ℕ) (purpose : Purpose) → pending_at w.kernel.queues place ≡ Some (unique, purpose)
-          → (body : Option RequestBody) → body_of w.kernel purpose ≡ body → body_refusal body ≡ None
-          → RefusedWith w (event.read_pending place) given
-      at_body unique purpose at None there e = absurd (cc e)
-      at_body unique purpose at (Some body) there e =
+          → (body : RequestBody) → body_of w.kernel purpose ≡ Some body → RefusedWith w (event.read_pending place) given
+      at_body unique purpose at body there =
           let request : Request = record { unique = unique; body = body } in
           let after = worlds.after_read_pending w place unique body in
           let low : is_past_end after.kernel ≡ false = ap (λ (n : ℕ). nat_lt counter_end n
@@ -188,21 +189,14 @@ module _ (w : World) (within : is_past w ≡ false) where
           (reads w place request none (record { purpose = purpose; pending = at; body = there })
           (past_by after.kernel low none_out after refl refl)) given is
 
-      by : (o : Option (ℕ × Purpose)) → pending_at w.kernel.queues place ≡ o → place_refusal w.kernel o ≡ None
-          → RefusedWith w (event.read_pending place) given
-      by None at e = absurd (cc e)
-      by (Some request) at e = at_body request.0 request.1 at (body_of w.kernel request.1) refl e
-
   pub forgets_wanting : (n : ℕ) → read_forgets_refusal w.kernel n ≡ None → (given : Refusal) → given ≡ refusal.NoMemory
       → RefusedWith w (event.read_forgets n) given
   forgets_wanting n none given is =
-      by (forgets_read w.kernel n) refl (last_cond (not (is_live w.kernel.phase))
-      (not (nat_eq (length w.kernel.queues.interrupts) 0)) (forgets_refusal w.kernel n (forgets_read w.kernel n)) none)
+      let counted = within_counters (record w.kernel { queues = after_read_forgets w.kernel.queues n }) in
+      let at = finds (forgets_read w.kernel n) (λ (read : ℕ × List Forget). counted)
+      (read_judged (found (forgets_read w.kernel n) (λ (read : ℕ × List Forget). counted)) none) in
+      read_so at.it at.there at.unrefused
     where
-      low : (past : Bool) → ◌≡◌ {A = Option Refusal} (cond past (Some refusal.Exhausted) None) None → past ≡ false
-      low true e = absurd (cc e)
-      low false e = refl
-
       next_of : (single c : Bool) (read : ℕ × List Forget)
           → cond single None (cond c (Some (w.kernel.queues.next, take n w.kernel.queues.forgets)) None) ≡ Some read
           → read ≡ (w.kernel.queues.next, read.1)
@@ -212,31 +206,27 @@ module _ (w : World) (within : is_past w ≡ false) where
           sym (cc e) in ap (λ (u : ℕ). (u, read.1)) (ap (λ (x : ℕ × List Forget). x.0) is)
       next_of false false read e = absurd (cc e)
 
-      by : (o : Option (ℕ × List Forget)) → forgets_read w.kernel n ≡ o → forgets_refusal w.kernel n o ≡ None
+      read_so : (read : ℕ × List Forget) → forgets_read w.kernel n ≡ Some read
+          → refusal_in (within_counters (record w.kernel { queues = after_read_forgets w.kernel.queues n })) ≡ None
           → RefusedWith w (event.read_forgets n) given
-      by None at e = absurd (cc e)
-      by (Some read) at e =
+      read_so read at counted =
           let number : read ≡ (w.kernel.queues.next, read.1) =
           next_of (forgets_singly w.kernel.minor && nat_lt 1 n) (can_read_forgets w.kernel.queues n) read at in
           let after = worlds.after_read_forgets w n read.1 in
           wanting w (event.read_forgets n) (event.is_read w.kernel.queues.next) after refl
           (reads_forgets w n read.1 none (at ∙ ap Some number)
           (past_by (record w.kernel { queues = after_read_forgets w.kernel.queues n })
-          (low (is_past_end (record w.kernel {
-            queues =
-                after_read_forgets w.kernel.queues n;
-          })) e) none_out after refl refl)) given is
+          (in_counters (record w.kernel { queues = after_read_forgets w.kernel.queues n }) counted)
+          none_out after refl refl)) given is
 
   pub interrupt_wanting : read_interrupt_refusal w.kernel ≡ None → (given : Refusal) → given ≡ refusal.NoMemory
       → RefusedWith w event.read_interrupt given
-  interrupt_wanting none given is = by w.kernel.queues.interrupts refl
-      (rest (not (is_live w.kernel.phase)) (oldest_refusal w.kernel.queues.interrupts) none)
+  interrupt_wanting none given is =
+      let queued = first_found w.kernel.queues.interrupts (λ (original : ℕ). accepted) in
+      by w.kernel.queues.interrupts refl (passed (not (is_live w.kernel.phase)) refusal.NotReady queued none).1
     where
-      rest : (a : Bool) (o : Option Refusal) → cond a (Some refusal.NotReady) o ≡ None → o ≡ None
-      rest true o e = absurd (cc e)
-      rest false o e = e
-
-      by : (interrupts : List ℕ) → w.kernel.queues.interrupts ≡ interrupts → oldest_refusal interrupts ≡ None
+      by : (interrupts : List ℕ) → w.kernel.queues.interrupts ≡ interrupts
+          → refusal_in (first_found interrupts (λ (original : ℕ). accepted)) ≡ None
           → RefusedWith w event.read_interrupt given
       by [] at e = absurd (cc e)
       by (original ∷ others) at e = wanting w event.read_interrupt _ (worlds.after_read_interrupt w original) refl
@@ -347,7 +337,7 @@ take_refused w within here place request bytes fault there frame refuses can =
     let did = taking w.server request.unique request.body in
     let is : fault ≡ past_or_memory (server.is_past_end did.server) =
     refuses.of_request request (frame_says bytes request frame) ∙ ap
-    (λ (o : Option RequestFault). fault_or (server.as_fault o)
+    (λ (o : Option RequestFault). fault_or (as_fault o)
     (past_or_memory (server.is_past_end did.server))) none in
     subst (λ (f : ServerFault). RefusedWith w (event.take place) (refusal_for f)) (sym is)
     (by (server.is_past_end did.server) refl is)
@@ -361,7 +351,7 @@ take_refused w within here place request bytes fault there frame refuses can =
         ap server.is_past_end (taken_server w place request) ∙ past in
         inl
         (λ choice may.
-        ap (taking_request w place) there
+        ap (λ o. found o (taking_request w place)) there
         ∙ is_exhausted (event.taken request.unique did.word) after (past_by_server after over))
     by false past is = take_wanting w within place request bytes there frame (can is) refusal.NoMemory refl
 

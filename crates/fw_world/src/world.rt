@@ -12,7 +12,6 @@ ghost use Rattle.fuse_spec.specs.Claim.Runs.{Refines, plain_handed_out};
 ghost use Rattle.fuse_spec.specs.declared.Refusal.TheVariants.{NoMemory};
 ghost use Rattle.fuse_theorem.specs.Reached.{IsReached};
 ghost use Rattle.fk_syscalls.specs.Values.{call_of, answer_of};
-ghost use Rattle.fuse_frames.specs.RequestTies.{IsRequestFrame, asked_opcode};
 ghost use Rattle.fs_server.specs.Effects.{AnswersFrame};
 ghost use Rattle.fw_world.specs.Frames.{IsCopyFrame, IsFrameOf, IsLastFrame, IsShown};
 ghost use Rattle.fw_world.specs.Runs.{StepsAs};
@@ -25,12 +24,12 @@ use crate::tables::{Lists, Maps, Tables};
 use fk_kernel::{Answer, Call, KernelOf};
 use fk_lookup_count::CountTable;
 use fk_queues::QueueTable;
-use fk_wire::Opcode;
 use fs_nodes::NodeStore;
 use fs_server::{ServerFault, ServerOf};
 use fuse_frames::{ReplyCopy, RequestFrame};
 use fuse_spec::limits::MAX_VALIDITY;
 use fuse_spec::{Minor, Purpose, Refusal, ReplyResult, Taken};
+use fw_links::{append, clear_links, put_request, refusal_or_no_memory, take_out};
 use std::alloc::{Allocator, Global};
 use std::marker::Model;
 
@@ -324,11 +323,7 @@ impl<T: Tables> WorldOf<T> {
     {
         if self.requests.reserve(1).is_err() {
             within(&self.kernel, &self.server);
-            return Err(
-                self.kernel
-                    .read_interrupt_refusal()
-                    .unwrap_or(Refusal::NoMemory),
-            );
+            return Err(refusal_or_no_memory(self.kernel.read_interrupt_refusal()));
         }
         let frame = match self.kernel.read_interrupt() {
             Ok(frame) => frame,
@@ -356,7 +351,7 @@ impl<T: Tables> WorldOf<T> {
     {
         if self.requests.reserve(1).is_err() {
             within(&self.kernel, &self.server);
-            return Err(self.kernel.read_refusal(place).unwrap_or(Refusal::NoMemory));
+            return Err(refusal_or_no_memory(self.kernel.read_refusal(place)));
         }
         let frame = match self.kernel.read_pending(place) {
             Ok(frame) => frame,
@@ -384,11 +379,7 @@ impl<T: Tables> WorldOf<T> {
     {
         if self.requests.reserve(1).is_err() {
             within(&self.kernel, &self.server);
-            return Err(
-                self.kernel
-                    .read_forgets_refusal(count)
-                    .unwrap_or(Refusal::NoMemory),
-            );
+            return Err(refusal_or_no_memory(self.kernel.read_forgets_refusal(count)));
         }
         let frame = match self.kernel.read_forgets(count) {
             Ok(frame) => frame,
@@ -497,7 +488,7 @@ impl<T: Tables> WorldOf<T> {
                 return Err(refusal_of(fault));
             }
         };
-        let _request = self.requests.remove(place);
+        let _request = take_out(&mut self.requests, place);
         within(&self.kernel, &self.server);
         self.last_put = reply_put(&took.copy);
         append_if_any(&mut self.replies, took.copy);
@@ -516,11 +507,7 @@ impl<T: Tables> WorldOf<T> {
     {
         if self.replies.reserve(1).is_err() {
             within(&self.kernel, &self.server);
-            return Err(
-                self.server
-                    .perform_refusal(unique)
-                    .unwrap_or(Refusal::NoMemory),
-            );
+            return Err(refusal_or_no_memory(self.server.perform_refusal(unique)));
         }
         let done = match self.server.perform(unique) {
             Ok(done) => done,
@@ -547,11 +534,7 @@ impl<T: Tables> WorldOf<T> {
     {
         if self.replies.reserve(1).is_err() {
             within(&self.kernel, &self.server);
-            return Err(
-                self.server
-                    .again_refusal(unique)
-                    .unwrap_or(Refusal::NoMemory),
-            );
+            return Err(refusal_or_no_memory(self.server.again_refusal(unique)));
         }
         let copy = match self.server.again(unique) {
             Ok(copy) => copy,
@@ -579,11 +562,7 @@ impl<T: Tables> WorldOf<T> {
         let copy = &self.replies[place];
         if self.results.reserve(1).is_err() {
             within(&self.kernel, &self.server);
-            return Err(
-                self.kernel
-                    .write_refusal(copy.bytes())
-                    .unwrap_or(Refusal::NoMemory),
-            );
+            return Err(refusal_or_no_memory(self.kernel.write_refusal(copy.bytes())));
         }
         let number = copy.number();
         let unique = copy.unique();
@@ -595,7 +574,7 @@ impl<T: Tables> WorldOf<T> {
             }
         };
         within(&self.kernel, &self.server);
-        let _copy = self.replies.remove(place);
+        let _copy = take_out(&mut self.replies, place);
         append(
             &mut self.results,
             ReplyResult {
@@ -624,35 +603,12 @@ impl<T: Tables> WorldOf<T> {
         if let Err(refusal) = self.server.settle(settled) {
             return Err(refusal);
         }
-        let _settled = self.results.remove(place);
+        let _settled = take_out(&mut self.results, place);
         Ok(Outcome::Settled {
             unique: settled.unique,
             result: settled.result,
         })
     }
-}
-
-/// Empties the three links.
-fn clear_links<A: Allocator>(
-    requests: &mut Vec<RequestFrame<A>, A>,
-    replies: &mut Vec<ReplyCopy<A>, A>,
-    results: &mut Vec<ReplyResult, A>,
-)
-    ensures requests { requests.new.items ≡ [] }
-    ensures replies { replies.new.items ≡ [] }
-    ensures results { results.new.items ≡ [] }
-{
-    requests.clear();
-    replies.clear();
-    results.clear();
-}
-
-/// Appends a value where there is room for it.
-fn append<T: Drop, A: Allocator>(list: &mut Vec<T, A>, value: T)
-    requires { vec_len list.old < vec_capacity list.old }
-    ensures { list.new.items ≡ list.old.items ++ value ∷ [] }
-{
-    let _ = list.push(value);
 }
 
 /// Makes room for the answer that a request frame gets at once, as only an INTERRUPT may, and tells whether there is
@@ -670,24 +626,6 @@ fn reserve_answer<S: NodeStore>(
         return true;
     }
     replies.reserve(1).is_ok()
-}
-
-/// Puts the frame of a request that was read onto its link, which has room, and tells its unique, its opcode and its
-/// length.
-fn put_request<A: Allocator>(
-    requests: &mut Vec<RequestFrame<A>, A>,
-    frame: RequestFrame<A>,
-) -> (u64, Opcode, usize)
-    requires { vec_len requests.old < vec_capacity requests.old }
-    ensures items { requests.new.items ≡ requests.old.items ++ frame ∷ [] }
-    ensures unique { result.0 ≡ frame.unique }
-    ensures opcode { result.1 ≡ asked_opcode frame.body }
-    ensures len { (bytes : List ℕ) × IsRequestFrame bytes frame × (result.2 ≡ length bytes) }
-{
-    let (unique, opcode) = frame.head();
-    let len = frame.bytes().len();
-    append(requests, frame);
-    (unique, opcode, len)
 }
 
 /// Puts a copy of a reply onto its link, which has room, and tells its length.

@@ -1,6 +1,6 @@
 use Rattle.std.proofs.Common.{length, ◌≤◌, ◌<◌, ◌+◌, ◌≡◌, true, false, true≢false, sym, ◌∙◌, arith}
 use Rattle.fuse_spec.specs.Kernel.Kernel.{is_aborted}
-use Rattle.fuse_spec.specs.World.Steps.{is_ready}
+use Rattle.fuse_spec.specs.Kernel.Refusals.{is_ready}
 use Rattle.fk_kernel.proofs.Phases.{live_if}
 use Rattle.fk_kernel.proofs.Sound.{sound_begun_asking}
 use Rattle.fk_kernel.proofs.Nodes.{still_counted, sorted_put}

@@ -3,7 +3,7 @@ use Rattle.fuse_spec.specs.Calls.Answers.{failed}
 use Rattle.fk_syscalls.specs.Values.{call_of}
 use Rattle.fuse_spec.specs.Kernel.Kernel.{is_aborted}
 use Rattle.fuse_spec.specs.Calls.Vfs.{begun}
-use Rattle.fk_kernel.specs.Refused.{or_no_memory}
+use Rattle.fuse_spec.specs.Kernel.Refusals.{or_no_memory}
 use Rattle.fk_kernel.proofs.Beginnings.{plain_begun, aborted_begun, no_close, asks_refusal, answered_unrefused, refused_alike, if_ok}
 use Rattle.fk_kernel.proofs.kernel.KernelOf.begin_next.Goals as goal
 

@@ -6,7 +6,7 @@ use Rattle.fuse_spec.specs.Kernel.Messages.{WireReply, asks}
 use Rattle.fuse_frames.specs.RequestTies.{asked_opcode}
 use Rattle.fk_nodes.specs.Learning.{is_out}
 use Rattle.fk_nodes.proofs.Outs.{or_none}
-use Rattle.fk_kernel.specs.Refused.{is_past_end}
+use Rattle.fuse_spec.specs.Kernel.Refusals.{is_past_end}
 use Rattle.fk_kernel.proofs.CountsHeard.{said_few, wrong_nodes}
 use Rattle.fuse_spec.specs.Calls.Vfs.{using, asked}
 use Rattle.fuse_spec.specs.declared.Opened.{Opened}

@@ -1,6 +1,6 @@
 use Rattle.std.proofs.Common.{◌≡◌, ◌≢◌, ◌≤◌, ◌<◌, ◌^◌, length, Some, None, refl, sym, ap, arith}
 use Rattle.fuse_spec.specs.Values.Maps.{get}
-use Rattle.fk_kernel.specs.Refused.{or_no_memory}
+use Rattle.fuse_spec.specs.Kernel.Refusals.{or_no_memory}
 use Rattle.fk_kernel.proofs.Closes.{closes_in_use, used_unrefused}
 use Rattle.fk_kernel.proofs.Files.{some_not_none, closed_files, numbered_files}
 use Rattle.fk_kernel.proofs.Nodes.{still_counted}

@@ -12,7 +12,7 @@ use Rattle.fuse_spec.specs.Files.Operations.{Operation, lookup}
 use Rattle.fuse_spec.specs.Calls.Paths.{Name}
 use Rattle.fuse_spec.specs.Calls.Walks.{WalkPlan}
 use Rattle.fk_syscalls.specs.States.{IsWalking}
-use Rattle.fk_kernel.specs.Refused.{is_past_end}
+use Rattle.fuse_spec.specs.Kernel.Refusals.{is_past_end}
 use Rattle.fk_kernel.proofs.Replied.{lookup_found}
 use Rattle.fk_kernel.proofs.Walking.{asks_past}
 use Rattle.fk_kernel.proofs.Within.{walks_within}

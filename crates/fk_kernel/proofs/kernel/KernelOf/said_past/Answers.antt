@@ -4,7 +4,7 @@ use Rattle.fuse_spec.specs.Kernel.Replies.{reply_written}
 use Rattle.fk_said.specs.ReplySaid.{wire_of}
 use Rattle.fk_nodes.specs.Learning.{is_out}
 use Rattle.fk_nodes.proofs.Outs.{or_none, or_true}
-use Rattle.fk_kernel.specs.Refused.{is_past_end}
+use Rattle.fuse_spec.specs.Kernel.Refusals.{is_past_end}
 use Rattle.fk_kernel.proofs.CountsHeard.{goes_nodes}
 use Rattle.fk_kernel.proofs.kernel.KernelOf.said_past.Goals as goal
 

@@ -10,7 +10,7 @@ use Rattle.fk_kernel.proofs.PastEnds.{nothing_passes, odd_passes, init_passes, r
 use Rattle.fk_kernel.proofs.Taken.{odd_test, even_test, awaited_even}
 use Rattle.fk_nodes.specs.Learning.{is_out}
 use Rattle.fk_nodes.proofs.Outs.{or_none}
-use Rattle.fk_kernel.specs.Refused.{is_past_end}
+use Rattle.fuse_spec.specs.Kernel.Refusals.{is_past_end}
 use Rattle.fk_kernel.proofs.kernel.KernelOf.write_refusal.Goals as goal
 
 pub returns-in_default-clause-none : goal.returns-in_default-clause-none

@@ -2,7 +2,7 @@ use Rattle.std.proofs.Common.{rules, ◌≡◌, Some, None, sym, subst, ◌∙�
 use Rattle.fuse_spec.specs.Values.Maps.{get}
 use Rattle.fs_files.specs.Bounds.{AreHeldBelow}
 use Rattle.fs_files.specs.Replies.{sent_wire}
-use Rattle.fs_server.specs.Effects.{not_kept}
+use Rattle.fs_server.proofs.Refused.{not_kept}
 use Rattle.fs_server.proofs.Copied.{names_gone, counted_out, counts_in, without_number, can_send}
 use Rattle.fs_server.proofs.server.ServerOf.again_refusal.Goals as goal
 
@@ -10,7 +10,7 @@ pub returns-in_default-clause-refuses : goal.returns-in_default-clause-refuses
 returns-in_default-clause-refuses g c =
     let s = c.self.inside in
     let none : get s.kept.entries c.args.unique ≡ None = search rules in
-    rw (← c.self.view_is) (not_kept none)
+    rw (← c.self.view_is) (not_kept _ _ none)
 
 pub returns-then-not-is_current-clause-refuses : goal.returns-then-not-is_current-clause-refuses
 returns-then-not-is_current-clause-refuses g c =

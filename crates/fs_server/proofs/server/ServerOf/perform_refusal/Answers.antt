@@ -1,6 +1,6 @@
 use Rattle.std.proofs.Common.{rules, ◌≡◌, ◌<◌, ◌^◌, false, true≢false, Some, None, sym, ◌∙◌}
 use Rattle.fuse_spec.specs.Values.Maps.{get}
-use Rattle.fs_server.specs.Effects.{not_held}
+use Rattle.fs_server.proofs.Refused.{not_held}
 use Rattle.fs_server.proofs.Served.{can, lacking, no_copy}
 use Rattle.fs_server.proofs.server.ServerOf.perform_refusal.Goals.{else-not-self-via-then-not-self+else-self-ge-COUNTER_END, else-not-self-via-else-not-self}
 use Rattle.fs_server.proofs.server.ServerOf.perform_refusal.Goals as goal
@@ -9,7 +9,7 @@ pub returns-in_default-clause-refuses : goal.returns-in_default-clause-refuses
 returns-in_default-clause-refuses g c =
     let s = c.self.inside in
     let none : get s.held.entries c.args.unique ≡ None = search rules in
-    rw (← c.self.view_is) (not_held none)
+    rw (← c.self.view_is) (not_held _ _ none)
 
 pub returns-then-self-ge-COUNTER_END-clause-refuses : goal.returns-then-self-ge-COUNTER_END-clause-refuses
 returns-then-self-ge-COUNTER_END-clause-refuses g c =

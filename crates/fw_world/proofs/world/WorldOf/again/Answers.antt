@@ -11,7 +11,7 @@ use Rattle.fw_world.proofs.world.WorldOf.again.Goals as goal
 pub returns-then-is_err-clause-refusal : goal.returns-then-is_err-clause-refusal
 returns-then-is_err-clause-refusal g c =
     rw (← c.self.view_is)
-    (looked (world_of c.self.inside.kernel c.self.inside.server c.self.inside.requests.items c.self.inside.replies.items c.self.inside.results.items) (event.again c.args.unique) (RefusesAgain c.self.inside.server c.args.unique) (CanSendAgain c.self.inside.server c.args.unique) (again_refused (world_of c.self.inside.kernel c.self.inside.server c.self.inside.requests.items c.self.inside.replies.items c.self.inside.results.items) c.args.unique) (again_wanting (world_of c.self.inside.kernel c.self.inside.server c.self.inside.requests.items c.self.inside.replies.items c.self.inside.results.items) (c.within.ensures (world_of c.self.inside.kernel c.self.inside.server c.self.inside.requests.items c.self.inside.replies.items c.self.inside.results.items) refl refl) c.args.unique) c.again_refusal.result c.unwrap_or.result c.again_refusal.ensures.refuses c.again_refusal.ensures.none c.unwrap_or.ensures)
+    (looked (world_of c.self.inside.kernel c.self.inside.server c.self.inside.requests.items c.self.inside.replies.items c.self.inside.results.items) (event.again c.args.unique) (RefusesAgain c.self.inside.server c.args.unique) (CanSendAgain c.self.inside.server c.args.unique) (again_refused (world_of c.self.inside.kernel c.self.inside.server c.self.inside.requests.items c.self.inside.replies.items c.self.inside.results.items) c.args.unique) (again_wanting (world_of c.self.inside.kernel c.self.inside.server c.self.inside.requests.items c.self.inside.replies.items c.self.inside.results.items) (c.within.ensures (world_of c.self.inside.kernel c.self.inside.server c.self.inside.requests.items c.self.inside.replies.items c.self.inside.results.items) refl refl) c.args.unique) c.again_refusal.result c.refusal_or_no_memory.result c.again_refusal.ensures.refuses c.again_refusal.ensures.none c.refusal_or_no_memory.ensures)
 
 pub returns-in-Err-clause-refusal : goal.returns-in-Err-clause-refusal
 returns-in-Err-clause-refusal g c =

@@ -1,11 +1,11 @@
 use Rattle.std.proofs.Common.{refl, ap, sym, ◌∙◌}
-use Rattle.std.specs.Option.{unwrap_or}
+use Rattle.fuse_spec.specs.Kernel.Refusals.{or_no_memory}
 use Rattle.fuse_spec.specs.World.Events as event
 use Rattle.fuse_spec.specs.declared.Refusal.TheVariants.{NoMemory}
 use Rattle.fk_kernel.specs.Refused.{read_forgets_refusal}
 use Rattle.fw_world.proofs.Parts.{world_of}
 use Rattle.fw_world.proofs.Made.{forgets_read}
-use Rattle.fw_world.proofs.Refusing.{forgets_refused, or_default}
+use Rattle.fw_world.proofs.Refusing.{forgets_refused}
 use Rattle.fw_world.proofs.LastFrames.{shows_request}
 use Rattle.fw_world.proofs.Wanting.{judged, forgets_wanting}
 use Rattle.fw_world.proofs.world.WorldOf.read_forgets.Goals as goal
@@ -13,11 +13,10 @@ use Rattle.fw_world.proofs.world.WorldOf.read_forgets.Goals as goal
 pub returns-then-is_err-clause-refusal : goal.returns-then-is_err-clause-refusal
 returns-then-is_err-clause-refusal g c =
     let w = (world_of c.self.inside.kernel c.self.inside.server c.self.inside.requests.items c.self.inside.replies.items c.self.inside.results.items) in
-    let given = c.unwrap_or.ensures ∙ ap (λ o. unwrap_or o NoMemory) c.read_forgets_refusal.ensures ∙ or_default
-    (read_forgets_refusal w.kernel c.args.count) in
+    let given = c.refusal_or_no_memory.ensures ∙ ap or_no_memory c.read_forgets_refusal.ensures in
     rw (← c.self.view_is) (judged w (event.read_forgets c.args.count)
-    (read_forgets_refusal w.kernel c.args.count) c.unwrap_or.result (forgets_refused w c.args.count)
-    (λ none is. forgets_wanting w (c.within.ensures w refl refl) c.args.count none c.unwrap_or.result is) given)
+    (read_forgets_refusal w.kernel c.args.count) c.refusal_or_no_memory.result (forgets_refused w c.args.count)
+    (λ none is. forgets_wanting w (c.within.ensures w refl refl) c.args.count none c.refusal_or_no_memory.result is) given)
 
 pub returns-in-Err-clause-refusal : goal.returns-in-Err-clause-refusal
 returns-in-Err-clause-refusal g c =

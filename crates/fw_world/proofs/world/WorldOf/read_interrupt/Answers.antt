@@ -1,5 +1,5 @@
 use Rattle.std.proofs.Common.{refl, ap, sym, subst, ◌∙◌}
-use Rattle.std.specs.Option.{unwrap_or}
+use Rattle.fuse_spec.specs.Kernel.Refusals.{or_no_memory}
 use Rattle.fuse_spec.specs.World.Events as event
 use Rattle.fuse_spec.specs.World.Steps.{Happens, RefusedWith}
 use Rattle.fuse_spec.specs.World.Worlds.{World}
@@ -8,7 +8,6 @@ use Rattle.fk_kernel.specs.Refused.{read_interrupt_refusal}
 use Rattle.fw_world.proofs.Parts.{world_of}
 use Rattle.fw_world.proofs.Made.{interrupt_read}
 use Rattle.fw_world.proofs.Interrupts.{read_interrupt_refused}
-use Rattle.fw_world.proofs.Refusing.{or_default}
 use Rattle.fw_world.proofs.LastFrames.{shows_request}
 use Rattle.fw_world.proofs.Wanting.{judged, interrupt_wanting}
 use Rattle.fw_world.proofs.world.WorldOf.read_interrupt.Goals as goal
@@ -16,11 +15,10 @@ use Rattle.fw_world.proofs.world.WorldOf.read_interrupt.Goals as goal
 pub returns-then-is_err-clause-refusal : goal.returns-then-is_err-clause-refusal
 returns-then-is_err-clause-refusal g c =
     let w = (world_of c.self.inside.kernel c.self.inside.server c.self.inside.requests.items c.self.inside.replies.items c.self.inside.results.items) in
-    let given = c.unwrap_or.ensures ∙ ap (λ o. unwrap_or o NoMemory) c.read_interrupt_refusal.ensures ∙ or_default
-    (read_interrupt_refusal w.kernel) in
-    subst (λ (v : World). RefusedWith v event.read_interrupt c.unwrap_or.result) c.self.view_is
-    (judged w event.read_interrupt (read_interrupt_refusal w.kernel) c.unwrap_or.result (read_interrupt_refused w)
-    (λ none is. interrupt_wanting w (c.within.ensures w refl refl) none c.unwrap_or.result is) given)
+    let given = c.refusal_or_no_memory.ensures ∙ ap or_no_memory c.read_interrupt_refusal.ensures in
+    subst (λ (v : World). RefusedWith v event.read_interrupt c.refusal_or_no_memory.result) c.self.view_is
+    (judged w event.read_interrupt (read_interrupt_refusal w.kernel) c.refusal_or_no_memory.result (read_interrupt_refused w)
+    (λ none is. interrupt_wanting w (c.within.ensures w refl refl) none c.refusal_or_no_memory.result is) given)
 
 pub returns-in-Err-clause-refusal : goal.returns-in-Err-clause-refusal
 returns-in-Err-clause-refusal g c =
