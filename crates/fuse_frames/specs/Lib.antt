@@ -1,2 +1,3 @@
 pub mod RequestTies
 pub mod ReplyTies
+pub mod Replies
