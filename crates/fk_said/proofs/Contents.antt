@@ -18,8 +18,7 @@ use Rattle.fuse_spec.specs.Files.Trees.{record_length, pair_length}
 use Rattle.fuse_frames.specs.ReplyTies.{wire_body, dirent_in, pair_in}
 use Rattle.fuse_frames.specs.RequestTies.{asked_opcode}
 use Rattle.fk_said.specs.Said.{Says}
-use Rattle.fk_said.specs.ReplySaid.{is_within, IsSaidBody, wire_of, LastsADay, SaysTo}
-use Rattle.fk_said.specs.declared.reply_said.ReplySaid.{ReplySaid}
+use Rattle.fk_said.specs.ReplySaid.{is_within, IsSaidBody, LentReply, wire_of, LastsADay, SaysTo}
 
 -- a record with its padding
 pad_is : (n : ℕ) → 24 + n + padding n ≡ (31 + n) / 8 * 8
@@ -161,7 +160,7 @@ failed_goes (read o f z) errno = refl
 failed_goes (write o f b) errno = refl
 
 -- what was made of a body says it
-pub said_so : (operation : Operation ℕ Opened) (bytes : List ℕ) (wire : WireReply) (r : Option ReplySaid) (N : Type 0)
+pub said_so : (operation : Operation ℕ Opened) (bytes : List ℕ) (wire : WireReply) (r : Option LentReply) (N : Type 0)
     → MatchOption r N (λ said. (wire ≡ wire_of said) × LastsADay said)
     → Says (asked_opcode (asks operation)) bytes wire → goes_with operation wire ≡ true
     → IfSome r (SaysTo operation bytes)
@@ -173,8 +172,8 @@ said_so operation bytes wire (Some said) N made says goes =
       day = made.1;
     }
 
-pub none_said : (operation : Operation ℕ Opened) (bytes : List ℕ) (content : ReplyContent) (r : Option ReplySaid)
-    (P : ReplySaid → Type 0) → MatchOption r (IsSaidBody content → ⊥) P → IsSaidBody content
+pub none_said : (operation : Operation ℕ Opened) (bytes : List ℕ) (content : ReplyContent) (r : Option LentReply)
+    (P : LentReply → Type 0) → MatchOption r (IsSaidBody content → ⊥) P → IsSaidBody content
     → IfNone r ((wire : WireReply) → Says (asked_opcode (asks operation)) bytes wire → goes_with operation wire ≡ false)
 none_said operation bytes content None P made is = absurd (made is)
 none_said operation bytes content (Some said) P made is = tt

@@ -1,7 +1,11 @@
 -- What the body of a reply says to the operation that a call asked.
 use Rattle.std.specs.Prelude.{◌≡◌, ◌≤◌, ℕ, ◌-◌, Bool, true, List, length, map, nat_le}
+use Rattle.std.specs.Borrow.{Bor}
 use Rattle.fk_wire.specs.Records.{records_in, pluses_in}
 use Rattle.fk_wire.specs.Replies.{ReplyContent, write_reply, init_reply}
+use Rattle.fk_wire.specs.declared.records.Records.{Records}
+use Rattle.fk_wire.specs.declared.records_plus.RecordsPlus.{RecordsPlus}
+use Rattle.fuse_spec.specs.declared.Entry.{Entry}
 use Rattle.fuse_spec.specs.declared.Opened.{Opened}
 use Rattle.fuse_spec.specs.Files.Operations.{Operation, readdir, readdirplus, read, write}
 use Rattle.fuse_spec.specs.Files.Operations as reply
@@ -10,32 +14,33 @@ use Rattle.fuse_spec.specs.Values.Numbers.{max_validity}
 use Rattle.fuse_spec.specs.Kernel.Replies.{goes_with}
 use Rattle.fuse_frames.specs.ReplyTies.{dirent_in, pair_in}
 use Rattle.fuse_frames.specs.RequestTies.{asked_opcode}
+use Rattle.fuse_frames.specs.Replies.{reply_of}
+use Rattle.fuse_frames.specs.declared.reply.Reply.{Reply}
+use Rattle.fuse_frames.specs.declared.reply.Reply.TheVariants as said
 use Rattle.fk_said.specs.Said.{Says}
-use Rattle.fk_said.specs.declared.reply_said.ReplySaid.{ReplySaid}
-use Rattle.fk_said.specs.declared.reply_said.ReplySaid.TheVariants as said
 
-abbrev pub wire_of : ReplySaid → WireReply
-wire_of (said.Failed errno) = reply.failed errno
-wire_of (said.Missing valid) = reply.missing valid
-wire_of (said.Found entry valid) = reply.found entry valid
-wire_of (said.Created entry valid fh) = reply.created entry valid fh
-wire_of (said.Opened fh) = reply.opened fh
-wire_of (said.Attributes attributes) = reply.attributes attributes
-wire_of (said.Listed records) = reply.listed (map dirent_in (records_in records))
-wire_of (said.ListedPlus records) = reply.listed_plus (map pair_in (pluses_in records))
-wire_of (said.Content bytes) = reply.content bytes.now
-wire_of (said.Written size) = reply.written size
-wire_of said.Done = reply.done
+-- What a reply says, lent from its frame.
+abbrev pub LentReply : Type 0
+LentReply = Reply Entry Records RecordsPlus (Bor (List ℕ))
+
+abbrev pub names_lent : Records → List reply.Dirent
+names_lent records = map dirent_in (records_in records)
+
+abbrev pub pairs_lent : RecordsPlus → List (reply.DirentPlus Entry)
+pairs_lent records = map pair_in (pluses_in records)
+
+abbrev pub wire_of : LentReply → WireReply
+wire_of said = reply_of (λ (entry : Entry). entry) names_lent pairs_lent (λ (bytes : Bor (List ℕ)). bytes.now) said
 
 -- a name is valid for a day at most
-abbrev pub LastsADay : ReplySaid → Type 0
+abbrev pub LastsADay : LentReply → Type 0
 LastsADay (said.Missing valid) = valid ≤ max_validity
 LastsADay (said.Found entry valid) = valid ≤ max_validity
 LastsADay (said.Created entry valid fh) = valid ≤ max_validity
 LastsADay other = Unit {0}
 
 -- The bytes say this to the operation, and it goes with it.
-pub record SaysTo (operation : Operation ℕ Opened) (bytes : List ℕ) (said : ReplySaid) : Type 0 where
+pub record SaysTo (operation : Operation ℕ Opened) (bytes : List ℕ) (said : LentReply) : Type 0 where
   pub says : Says (asked_opcode (asks operation)) bytes (wire_of said)
   pub goes : goes_with operation (wire_of said) ≡ true
   pub day : LastsADay said

@@ -18,44 +18,12 @@ ghost use Rattle.fk_said.specs.ReplySaid.{IsSaidBody};
 use crate::said::failure;
 use fk_syscalls::ListedName;
 use fk_wire::{Records, RecordsPlus, ReplyBody, read_reply};
-use fuse_frames::{attributes_of, kind_of_type, milliseconds, opcode_asked};
+use fuse_frames::{Reply, attributes_of, kind_of_type, milliseconds, opcode_asked};
 use fuse_spec::{Attributes, Entry, Kind, Operation};
 use std::alloc::{AllocError, Allocator};
 
-/// What a reply says that goes with the operation of a call.
-#[derive(Drop)]
-pub enum ReplySaid<'a> {
-    Failed {
-        errno: u32,
-    },
-    /// The name is missing for so many milliseconds.
-    Missing {
-        valid_ms: u64,
-    },
-    /// The name leads to a file for so many milliseconds.
-    Found {
-        entry: Entry,
-        valid_ms: u64,
-    },
-    /// The same, and the file is open.
-    Created {
-        entry: Entry,
-        valid_ms: u64,
-        fh: u64,
-    },
-    Opened {
-        fh: u64,
-    },
-    Attributes(Attributes),
-    Listed(Records<'a>),
-    /// Names in a list with their files.
-    ListedPlus(RecordsPlus<'a>),
-    Content(&'a [u8]),
-    Written {
-        size: u32,
-    },
-    Done,
-}
+/// What a reply says that goes with the operation of a call, lent from its frame.
+pub type ReplySaid<'a> = Reply<Entry, Records<'a>, RecordsPlus<'a>, &'a [u8]>;
 
 /// Whether a body in a frame of so many bytes is no longer than was asked, nor tells of more written than was sent.
 fn is_within_asked(asked: &Operation<&[u8]>, len: usize, body: &ReplyBody<'_>) -> bool
@@ -109,10 +77,10 @@ fn said_by_entry(entry: &fk_wire::Entry) -> ReplySaid<'static>
 {
     let valid_ms = milliseconds(entry.entry_valid, entry.entry_valid_nsec);
     if entry.nodeid == 0 {
-        return ReplySaid::Missing { valid_ms };
+        return Reply::Missing { valid_ms };
     }
-    let entry = entry_named(entry);
-    ReplySaid::Found { entry, valid_ms }
+    let file = entry_named(entry);
+    Reply::Found { file, valid_ms }
 }
 
 /// What an entry with an open number says.
@@ -121,16 +89,12 @@ fn said_by_create(entry: &fk_wire::Entry, fh: u64) -> ReplySaid<'static>
     ensures day { LastsADay result }
 {
     let valid_ms = milliseconds(entry.entry_valid, entry.entry_valid_nsec);
-    let entry = if entry.nodeid == 0 {
+    let file = if entry.nodeid == 0 {
         no_file()
     } else {
         entry_named(entry)
     };
-    ReplySaid::Created {
-        entry,
-        valid_ms,
-        fh,
-    }
+    Reply::Created { file, valid_ms, fh }
 }
 
 /// What a body says. One of INIT says nothing to a call.
@@ -139,15 +103,15 @@ fn said_by(body: ReplyBody<'_>) -> Option<ReplySaid<'_>>
         (λ said. (wire_body (reply_content body.entry) ≡ wire_of said) × LastsADay said) }
 {
     match body {
-        ReplyBody::Empty => Some(ReplySaid::Done),
+        ReplyBody::Empty => Some(Reply::Done),
         ReplyBody::Entry { entry } => Some(said_by_entry(&entry)),
-        ReplyBody::Attr { attr } => Some(ReplySaid::Attributes(attributes_of(&attr))),
-        ReplyBody::Open { fh } => Some(ReplySaid::Opened { fh }),
-        ReplyBody::Bytes { bytes } => Some(ReplySaid::Content(bytes)),
-        ReplyBody::Write { size } => Some(ReplySaid::Written { size }),
+        ReplyBody::Attr { attr } => Some(Reply::Attributes(attributes_of(&attr))),
+        ReplyBody::Open { fh } => Some(Reply::Opened { fh }),
+        ReplyBody::Bytes { bytes } => Some(Reply::Content(bytes)),
+        ReplyBody::Write { size } => Some(Reply::Written { size }),
         ReplyBody::Create { entry, fh } => Some(said_by_create(&entry, fh)),
-        ReplyBody::Records { records } => Some(ReplySaid::Listed(records)),
-        ReplyBody::RecordsPlus { records } => Some(ReplySaid::ListedPlus(records)),
+        ReplyBody::Records { records } => Some(Reply::Listed(records)),
+        ReplyBody::RecordsPlus { records } => Some(Reply::ListedPlus(records)),
         ReplyBody::Init { .. } => None,
     }
 }
@@ -163,7 +127,7 @@ pub fn said_to<'a>(asked: &Operation<&[u8]>, bytes: &'a [u8]) -> Option<ReplySai
         return None;
     };
     if let Some(errno) = failure(reply.error) {
-        return Some(ReplySaid::Failed { errno });
+        return Some(Reply::Failed { errno });
     }
     if !is_within_asked(asked, bytes.len(), &reply.body) {
         return None;
