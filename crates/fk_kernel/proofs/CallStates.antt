@@ -73,6 +73,12 @@ lists_from (readdirplus d a z) state pairs s goes = record { directory = d; afte
 lists_from (lookup d w) state pairs s goes = absurd (true≢false (sym goes))
 lists_from operation state pairs s goes = absurd (true≢false (sym goes))
 
+-- No call is answered with an agreement.
+pub none_agreed : (major minor flags : ℕ) (operation : Operation ℕ Opened)
+    → goes_with operation (reply.agreed major minor flags) ≡ true → ⊥
+none_agreed major minor flags (lookup d w) goes = true≢false (sym goes)
+none_agreed major minor flags operation goes = true≢false (sym goes)
+
 -- A call that stands on no open file lets none go.
 pub stays : (k : Kernel) (state : CallState Opened) → used_by state ≡ None → after_use k state ≡ k
 stays k (walking d w ws p) none = refl

@@ -21,11 +21,10 @@ use Rattle.fuse_spec.specs.Calls.Walks.{WalkPlan}
 use Rattle.fk_syscalls.specs.States.{StandsAt}
 use Rattle.fk_kernel.specs.Entries.{Awaits, EndsWithin, mkdirs, links}
 use Rattle.fuse_spec.specs.Kernel.Refusals.{is_past_end}
-use Rattle.fk_said.specs.ReplySaid.{wire_of}
-use Rattle.fk_said.specs.declared.reply_said.ReplySaid.{ReplySaid}
-use Rattle.fk_said.specs.declared.reply_said.ReplySaid.TheVariants as said
+use Rattle.fuse_frames.specs.declared.reply.Reply.TheVariants as said
+use Rattle.fk_said.specs.ReplySaid.{LentReply, wire_of}
 use Rattle.fk_kernel.proofs.Phases.{none_past_end, within_ends}
-use Rattle.fk_kernel.proofs.CallStates.{LooksNone, makes_found}
+use Rattle.fk_kernel.proofs.CallStates.{LooksNone, makes_found, none_agreed}
 use Rattle.fk_kernel.proofs.Walking.{asks_within, walk_numbers}
 use Rattle.fk_kernel.proofs.Replied.{ended, answer_by, IsPlain, plain_is, done_is, wrong_is, found_useless, found_stale, made_found, lookup_missing, made_missing, create_useless, create_stale, create_made, open_done, list_done}
 
@@ -121,11 +120,6 @@ module _ (k : Kernel) (unique call : ℕ) (even : nat_eq (unique % 2) 1 ≡ fals
     pairs_within pairs (lookup d w) state at s goes = absurd (true≢false (sym goes))
     pairs_within pairs operation state at s goes = absurd (true≢false (sym goes))
 
-    agreed_never : {T : Type 0} (major minor flags : ℕ) (operation : Operation ℕ Opened)
-        → goes_with operation (reply.agreed major minor flags) ≡ true → T
-    agreed_never major minor flags (lookup d w) goes = absurd (true≢false (sym goes))
-    agreed_never major minor flags operation goes = absurd (true≢false (sym goes))
-
     pub stays_within : (wire : WireReply) → (aw : Awaits (get k.vfs.calls call) wire) → IsNoEntry wire
         → is_past_end (reply_written k unique wire).1 ≡ false
     stays_within (reply.failed errno) aw plain = plain_within (reply.failed errno) tt aw
@@ -137,7 +131,7 @@ module _ (k : Kernel) (unique call : ℕ) (even : nat_eq (unique % 2) 1 ≡ fals
     stays_within (reply.created g valid fh) aw plain =
         created_within g valid fh aw.operation aw.state aw.at aw.stands aw.goes (use_of k.nodes g) refl
     stays_within (reply.opened fh) aw plain = opened_within fh aw.operation aw.state aw.at aw.stands aw.goes
-    stays_within (reply.agreed major minor flags) aw plain = agreed_never major minor flags aw.operation aw.goes
+    stays_within (reply.agreed major minor flags) aw plain = absurd (none_agreed major minor flags aw.operation aw.goes)
     stays_within (reply.listed_plus pairs) aw plain = pairs_within pairs aw.operation aw.state aw.at aw.stands aw.goes
     stays_within reply.done aw plain = ap (λ (r : WriteResult × Kernel). is_past_end r.1)
         (done_is k unique call even waits aw) ∙ same
@@ -163,7 +157,7 @@ module _ (k : Kernel) (unique call : ℕ) (even : nat_eq (unique % 2) 1 ≡ fals
         (made_found k unique call even waits m.operation m.place m.makes (aw.at ∙ m.is) g valid is) ∙ same
 
 -- What was made of a reply that is no entry alone.
-pub no_entry_said : (s : ReplySaid) → ((g : Entry) (valid : ℕ) → s ≡ said.Found g valid → ⊥) → IsNoEntry (wire_of s)
+pub no_entry_said : (s : LentReply) → ((g : Entry) (valid : ℕ) → s ≡ said.Found g valid → ⊥) → IsNoEntry (wire_of s)
 no_entry_said (said.Failed errno) other = tt
 no_entry_said (said.Missing valid) other = tt
 no_entry_said (said.Found g valid) other = absurd (other g valid refl)
@@ -174,6 +168,7 @@ no_entry_said (said.Listed records) other = tt
 no_entry_said (said.ListedPlus records) other = tt
 no_entry_said (said.Content bytes) other = tt
 no_entry_said (said.Written size) other = tt
+no_entry_said (said.Agreed major minor flags) other = tt
 no_entry_said said.Done other = tt
 
 -- A call that walks on from an entry finds a number for what it asks, if it asks anything.

@@ -21,6 +21,7 @@ use fk_queues::QueueTable;
 use fk_said::{ReplySaid, said_to};
 use fk_syscalls::NewName;
 use fk_wire::read_reply_head;
+use fuse_frames::Reply;
 use fuse_spec::{Entry, Operation, Purpose, Refusal};
 
 impl<Q: QueueTable<Purpose> + Drop, C: CountTable<Heap = Q::Heap> + Drop> KernelOf<Q, C> {
@@ -106,9 +107,9 @@ impl<Q: QueueTable<Purpose> + Drop, C: CountTable<Heap = Q::Heap> + Drop> Kernel
     {
         self.counts_within();
         match said {
-            ReplySaid::Found { entry, .. } => self.entry_past(entry),
-            ReplySaid::Created { entry, .. } => self.entry_past(entry),
-            ReplySaid::ListedPlus(pairs) => self.nodes.listed_count_out(*pairs),
+            Reply::Found { file, .. } => self.entry_past(file),
+            Reply::Created { file, .. } => self.entry_past(file),
+            Reply::ListedPlus(pairs) => self.nodes.listed_count_out(*pairs),
             _ => false,
         }
     }
@@ -138,9 +139,7 @@ impl<Q: QueueTable<Purpose> + Drop, C: CountTable<Heap = Q::Heap> + Drop> Kernel
     {
         self.within();
         match said {
-            ReplySaid::Found { entry, valid_ms } => {
-                self.found_past(unique, call, entry, *valid_ms)
-            }
+            Reply::Found { file, valid_ms } => self.found_past(unique, call, file, *valid_ms),
             _ => false,
         }
     }

@@ -24,6 +24,7 @@ use fk_queues::QueueTable;
 use fk_said::{ReplySaid, names_listed, said_to};
 use fk_syscalls::Answer;
 use fk_wire::{Opcode, Records, read_reply};
+use fuse_frames::Reply;
 use fuse_spec::errno::EIO;
 use fuse_spec::{Purpose, Refusal, WriteResult};
 
@@ -84,35 +85,33 @@ impl<Q: QueueTable<Purpose> + Drop, C: CountTable<Heap = Q::Heap> + Drop> Kernel
             ≡ (WriteResult.Accepted, self.new)) }
     {
         match said {
-            ReplySaid::Failed { errno } => {
+            Reply::Failed { errno } => {
                 self.end_call(unique, call, Answer::Failed { errno });
                 Ok(())
             }
-            ReplySaid::Attributes(attributes) => {
+            Reply::Attributes(attributes) => {
                 self.end_call(unique, call, Answer::Attributes(attributes));
                 Ok(())
             }
-            ReplySaid::Written { size } => {
+            Reply::Written { size } => {
                 self.end_call(unique, call, Answer::Written { size });
                 Ok(())
             }
-            ReplySaid::Listed(records) => self.listed(unique, call, records),
-            ReplySaid::ListedPlus(pairs) => self.pairs_listed(unique, call, pairs),
-            ReplySaid::Content(bytes) => self.content_read(unique, call, bytes),
-            ReplySaid::Done => {
+            Reply::Listed(records) => self.listed(unique, call, records),
+            Reply::ListedPlus(pairs) => self.pairs_listed(unique, call, pairs),
+            Reply::Content(bytes) => self.content_read(unique, call, bytes),
+            Reply::Done => {
                 self.names_go(unique, call);
                 Ok(())
             }
-            ReplySaid::Missing { valid_ms } => self.name_missing(unique, call, valid_ms),
-            ReplySaid::Found { entry, valid_ms } => {
-                self.entry_found(unique, call, &entry, valid_ms)
+            Reply::Missing { valid_ms } => self.name_missing(unique, call, valid_ms),
+            Reply::Found { file, valid_ms } => self.entry_found(unique, call, &file, valid_ms),
+            Reply::Created { file, valid_ms, fh } => {
+                self.file_created(unique, call, &file, valid_ms, fh)
             }
-            ReplySaid::Created {
-                entry,
-                valid_ms,
-                fh,
-            } => self.file_created(unique, call, &entry, valid_ms, fh),
-            ReplySaid::Opened { fh } => self.file_is_open(unique, call, fh),
+            Reply::Opened { fh } => self.file_is_open(unique, call, fh),
+            // to INIT alone
+            Reply::Agreed { .. } => unreachable!(),
         }
     }
 
