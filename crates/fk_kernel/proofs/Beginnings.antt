@@ -3,7 +3,7 @@ use Rattle.std.proofs.Common.{◌≡◌, ℕ, ◌+◌, ◌<◌, ◌≤◌, ◌^�
 use Rattle.std.specs.Prelude.{◌||◌, nat_lt, nat_le, not, IfErr, OnOk}
 use Rattle.std.proofs.lemmas.Bool.Decides.{nat_tests}
 use Rattle.fuse_spec.specs.Kernel.Kernel.{Kernel, is_aborted, advanced, closing_of, closed_by, call_begun}
-use Rattle.fuse_spec.specs.Kernel.Refusals.{is_ready}
+use Rattle.fuse_spec.specs.Kernel.Refusals.{is_ready, unless, refusal_in, accepted, is_past_end, or_no_memory}
 use Rattle.fuse_spec.specs.Kernel.Uniques.{numbers_left_from}
 use Rattle.fuse_spec.specs.Calls.Vfs.{CallState, Advance, numbered, begun, asking, answered, no_more}
 use Rattle.fuse_spec.specs.Calls.Answers.{Answer}
@@ -15,7 +15,6 @@ use Rattle.fk_kernel.proofs.Phases.{none_past_end}
 use Rattle.fuse_spec.specs.declared.Opened.{Opened}
 use Rattle.fuse_spec.specs.declared.Refusal.{Refusal}
 use Rattle.fuse_spec.specs.declared.Refusal.TheVariants.{NoMemory, NotReady, Full, Exhausted}
-use Rattle.fuse_spec.specs.Kernel.Refusals.{unless, refusal_in, accepted, is_past_end, or_no_memory}
 use Rattle.fk_kernel.specs.Refused.{begin_refusal, begun_refusal}
 
 -- one number more is past the end where none is left

@@ -16,11 +16,10 @@ use Rattle.fuse_spec.specs.Values.Maps.{Map, get, put, remove, values}
 use Rattle.fuse_spec.specs.Kernel.QueueCalls.{after_enqueue}
 use Rattle.fuse_spec.specs.Calls.Vfs.{Vfs, answered, numbered}
 use Rattle.fuse_spec.proofs.Tables.{cmp_same, get_put_here}
-use Rattle.fuse_spec.specs.Kernel.Refusals.{is_ready}
+use Rattle.fuse_spec.specs.Kernel.Refusals.{is_ready, is_past_end, or_no_memory}
 use Rattle.fuse_spec.specs.Kernel.Uniques.{numbers_left_from}
 use Rattle.fuse_spec.specs.declared.Refusal.TheVariants.{NoMemory, Exhausted}
 use Rattle.std.proofs.lemmas.Bool.Decides.{nat_tests}
-use Rattle.fuse_spec.specs.Kernel.Refusals.{is_past_end, or_no_memory}
 use Rattle.fk_kernel.specs.Refused.{begun_refusal}
 use Rattle.fk_kernel.proofs.Beginnings.{by_tests, unrefused, past_end}
 use Rattle.fk_kernel.proofs.Phases.{none_past_end}

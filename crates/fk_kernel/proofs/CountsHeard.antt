@@ -27,7 +27,8 @@ use Rattle.std.specs.Borrow.{Bor}
 use Rattle.fuse_spec.specs.Files.AskedOperations.{operation_of}
 use Rattle.fuse_spec.specs.declared.asked.Operation.{Operation as Asked}
 use Rattle.fuse_spec.specs.declared.asked.Operation.TheVariants as asks
-use Rattle.fk_nodes.specs.Learning.{learnt_from, is_out, AreBelow, SomeOut}
+use Rattle.fuse_spec.specs.Kernel.Refusals.{is_counted_out}
+use Rattle.fk_nodes.specs.Learning.{learnt_from, AreBelow, SomeOut}
 use Rattle.fk_nodes.proofs.Judged.{learnt_is}
 use Rattle.fk_nodes.proofs.Outs.{out_below, some_out, none_out, one_below, sorted_from}
 use Rattle.fk_kernel.specs.Entries.{Awaits, IsFew, learnt_by_all, nodes_heard}
@@ -78,7 +79,7 @@ module _ (k : Kernel) (unique call : ℕ) (even : nat_eq (unique % 2) 1 ≡ fals
 -- an entry that can be used
 pub one_out : (nodes : Map Counted) (g : Entry) → T (is_sorted nat_cmp nodes)
     → T (is_sorted nat_cmp (learnt nodes (g ∷ []))) → AreBelow nodes → (b : Bool)
-    → nat_le counter_end (counted_more g (get nodes g.nodeid)).count ≡ b → is_out (learnt nodes (g ∷ [])) ≡ b
+    → nat_le counter_end (counted_more g (get nodes g.nodeid)).count ≡ b → is_counted_out (learnt nodes (g ∷ [])) ≡ b
 one_out nodes g sorted after below true out =
     let most : counter_end ≤ (counted_more g (get nodes g.nodeid)).count = at_least counter_end _ out in
     some_out (learnt nodes (g ∷ [])) g.nodeid (counted_more g (get nodes g.nodeid))
@@ -93,33 +94,33 @@ one_out nodes g sorted after below false within =
     at_most : (m n : ℕ) → nat_le m n ≡ false → n < m
     at_most m n is = grind (arith, nat_tests)
 
-fits_at : (nodes : Map Counted) (g : Entry) → is_out (learnt nodes (g ∷ [])) ≡ false
+fits_at : (nodes : Map Counted) (g : Entry) → is_counted_out (learnt nodes (g ∷ [])) ≡ false
     → (counted_more g (get nodes g.nodeid)).count < counter_end
 fits_at nodes g none = (out_below (learnt nodes (g ∷ [])) none).below g.nodeid (counted_more g (get nodes g.nodeid))
     (get_put_here nodes g.nodeid (counted_more g (get nodes g.nodeid)))
 
 -- Where no count comes to its end, one lookup more of the node of a usable entry fits.
 pub entry_fits : (nodes : Map Counted) (g : Entry) → use_of nodes g ≡ usable
-    → is_out (learnt_by_all nodes (g ∷ []) (first_use (use_of nodes g) usable)) ≡ false
+    → is_counted_out (learnt_by_all nodes (g ∷ []) (first_use (use_of nodes g) usable)) ≡ false
     → (counted_more g (get nodes g.nodeid)).count < counter_end
 entry_fits nodes g is none = fits_at nodes g (subst
-    (λ (u : Use). is_out (learnt_by_all nodes (g ∷ []) (first_use u usable)) ≡ false) is none)
+    (λ (u : Use). is_counted_out (learnt_by_all nodes (g ∷ []) (first_use u usable)) ≡ false) is none)
 
 -- The names of a list.
 pub pairs_below : (nodes : Map Counted) (pairs : List (DirentPlus Entry))
-    → is_out (nodes_heard nodes (reply.listed_plus pairs)) ≡ false → AreBelow (learnt_from nodes pairs)
+    → is_counted_out (nodes_heard nodes (reply.listed_plus pairs)) ≡ false → AreBelow (learnt_from nodes pairs)
 pairs_below nodes pairs none = out_below (learnt_from nodes pairs)
-    (subst (λ (m : Map Counted). is_out m ≡ false) (learnt_is nodes pairs) none)
+    (subst (λ (m : Map Counted). is_counted_out m ≡ false) (learnt_is nodes pairs) none)
 
 -- whether one of them brings a count to its end
 pub pairs_out : (nodes : Map Counted) (pairs : List (DirentPlus Entry)) → T (is_sorted nat_cmp nodes) → (b : Bool)
     → (b ≡ true → SomeOut (learnt_from nodes pairs)) → (b ≡ false → AreBelow (learnt_from nodes pairs))
-    → b ≡ is_out (nodes_heard nodes (reply.listed_plus pairs))
+    → b ≡ is_counted_out (nodes_heard nodes (reply.listed_plus pairs))
 pairs_out nodes pairs sorted true out within =
     let past = out refl in
-    sym (ap is_out (learnt_is nodes pairs) ∙ some_out (learnt_from nodes pairs) past.id past.counted past.at past.out)
+    sym (ap is_counted_out (learnt_is nodes pairs) ∙ some_out (learnt_from nodes pairs) past.id past.counted past.at past.out)
 pairs_out nodes pairs sorted false out within = sym
-    (ap is_out (learnt_is nodes pairs) ∙ none_out (learnt_from nodes pairs) (sorted_from pairs nodes sorted)
+    (ap is_counted_out (learnt_is nodes pairs) ∙ none_out (learnt_from nodes pairs) (sorted_from pairs nodes sorted)
     (within refl))
 
 -- ---- a list with files has few names

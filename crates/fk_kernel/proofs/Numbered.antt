@@ -7,13 +7,12 @@ use Rattle.fuse_spec.specs.Calls.Calls.{Call, spoken}
 use Rattle.fuse_spec.specs.Kernel.Kernel.{Kernel, is_aborted, asking_for, advanced, released, closing_of, closed_by, call_begun}
 use Rattle.fuse_spec.specs.Values.Maps.{get, put}
 use Rattle.fuse_spec.specs.Files.Operations.{Operation}
-use Rattle.fuse_spec.specs.Kernel.Refusals.{is_ready}
+use Rattle.fuse_spec.specs.Kernel.Refusals.{is_ready, unless, refusal_in, accepted, or_no_memory}
 use Rattle.fuse_spec.specs.Calls.Vfs.{Vfs, Advance, after_beginning, begun, numbered}
 use Rattle.fuse_spec.specs.declared.Opened.{Opened}
 use Rattle.fuse_spec.specs.declared.Refusal.TheVariants.{NotReady, Full, Exhausted}
 use Rattle.fk_syscalls.specs.Values.{call_of}
 use Rattle.fk_syscalls.specs.declared.call.Call.{Call as Made}
-use Rattle.fuse_spec.specs.Kernel.Refusals.{unless, refusal_in, accepted, or_no_memory}
 use Rattle.fk_kernel.specs.Refused.{begin_refusal}
 use Rattle.fk_kernel.proofs.Walking.{walk_numbers}
 

@@ -24,10 +24,9 @@ use Rattle.fuse_spec.specs.declared.InterruptReply.{InterruptReply}
 use Rattle.fuse_spec.specs.declared.InterruptReplyEffect.{InterruptReplyEffect}
 use Rattle.fuse_spec.specs.declared.InterruptReplyEffect.TheVariants.{QueuedAgain, TurnedOff, None as NoReplyEffect}
 use Rattle.fuse_spec.specs.declared.Mark.{Mark}
-use Rattle.fuse_spec.specs.Kernel.Refusals.{is_past}
+use Rattle.fuse_spec.specs.Kernel.Refusals.{is_past, is_counted_out}
 use Rattle.fk_kernel.specs.Refused.{PassesEnd, WritePasses}
 use Rattle.fk_kernel.specs.Said.{Says, IsNoReply, Means, said, unsaid, wrong_body_to, IsJudged, Awaited, nothing, reply_to, awaited, awaited_by_interrupt}
-use Rattle.fk_nodes.specs.Learning.{is_out}
 use Rattle.fk_nodes.proofs.Outs.{or_none, or_first}
 use Rattle.fk_kernel.proofs.Phases.{none_past_end, within_ends}
 use Rattle.fk_kernel.proofs.Replied.{init_is, by_agreement, release_is}
@@ -118,7 +117,7 @@ module _ (k : Kernel) (unique : ℕ) (bytes : List ℕ) where
           by : (wire : WireReply) (b : Bool) → is_past (by_agreement k unique even waits wire b) ≡ false
           by wire true = same
           by wire false = or_none _ false (none_past_end 2 k.vfs.next_call (lit≤ tt)
-              (within_ends k.queues.next k.vfs.next_call (or_first _ (is_out k.nodes) same)).1) refl
+              (within_ends k.queues.next k.vfs.next_call (or_first _ (is_counted_out k.nodes) same)).1) refl
 
           within : (wire : WireReply) → IsPast k unique wire ≡ false
           within wire = ap (λ (r : WriteResult × Kernel). is_past r.1) (init_is k unique even waits wire) ∙ by wire

@@ -22,7 +22,7 @@ use Rattle.fk_syscalls.specs.States.{StandsAt}
 use Rattle.fk_calls.specs.Names.{names_left}
 use Rattle.fk_kernel.specs.Entries.{Awaits, EndsPast, MakesName, mkdirs, links}
 use Rattle.fk_kernel.specs.Said.{IsJudged}
-use Rattle.fuse_spec.specs.Kernel.Refusals.{is_past, is_past_end}
+use Rattle.fuse_spec.specs.Kernel.Refusals.{is_past, is_past_end, is_counted_out}
 use Rattle.fk_kernel.proofs.Closes.{released_some}
 use Rattle.fk_kernel.proofs.Walking.{asks_past}
 use Rattle.fuse_spec.specs.declared.WriteResult.{WriteResult}
@@ -31,7 +31,7 @@ use Rattle.fuse_spec.specs.Kernel.Replies.{each_forgotten}
 use Rattle.fuse_spec.specs.Calls.CallReplies.{names_told}
 use Rattle.fuse_spec.specs.Files.Operations.{pair_with}
 use Rattle.fuse_spec.specs.declared.Counted.{Counted}
-use Rattle.fk_nodes.specs.Learning.{is_out, learnt_from, stale_by, judged_in}
+use Rattle.fk_nodes.specs.Learning.{learnt_from, stale_by, judged_in}
 use Rattle.fk_nodes.proofs.Judged.{learnt_is, settled, stale_settled, dirents_kept}
 use Rattle.fk_kernel.proofs.CallStates.{asked_is, stays, found_unused, done_unused}
 
@@ -479,4 +479,4 @@ module _ (k : Kernel) (unique call : ℕ) (even : nat_eq (unique % 2) 1 ≡ fals
           (wrong_is k unique call even waits (using p.handle p.operation) p.is wire goes) ∙ let_go (answer.failed 5)
 
   pub ends_over : (wire : WireReply) → is_past (reply_written k unique wire).1 ≡ true
-  ends_over wire = ap (λ (b : Bool). b || is_out (reply_written k unique wire).1.nodes) (ends_past_end wire)
+  ends_over wire = ap (λ (b : Bool). b || is_counted_out (reply_written k unique wire).1.nodes) (ends_past_end wire)

@@ -4,10 +4,9 @@ ghost use Rattle.std.specs.Prelude.{length, ◌≡◌, ◌<◌, ◌^◌, ◌+◌
 ghost use Rattle.fuse_spec.specs.Kernel.Uniques.{numbers_left_from};
 ghost use Rattle.fuse_spec.specs.declared.Opened.{Opened};
 ghost use Rattle.fuse_spec.specs.Kernel.Kernel.{is_aborted, call_begun, call_put};
-ghost use Rattle.fuse_spec.specs.Kernel.Refusals.{is_ready};
+ghost use Rattle.fuse_spec.specs.Kernel.Refusals.{is_ready, or_no_memory};
 ghost use Rattle.fuse_spec.specs.Calls.Vfs.{CallState as State, begun, asking, answered, numbered};
 ghost use Rattle.fk_syscalls.specs.Values.{comes_to, call_of, answer_of, ClosesNone};
-ghost use Rattle.fuse_spec.specs.Kernel.Refusals.{or_no_memory};
 ghost use Rattle.fk_kernel.specs.Refused.{begin_refusal, begun_refusal};
 ghost use Rattle.fuse_spec.specs.Kernel.QueueCalls.{after_enqueue};
 

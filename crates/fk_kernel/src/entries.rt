@@ -11,12 +11,11 @@ ghost use Rattle.fuse_spec.specs.Files.Operations.{opening};
 ghost use Rattle.fuse_spec.specs.Calls.Paths.{Name};
 ghost use Rattle.fuse_spec.specs.Kernel.Replies.{usable, use_of, counted_more, learnt, reply_written};
 ghost use Rattle.fuse_spec.specs.declared.Opened.{Opened as OpenedFile};
-ghost use Rattle.fuse_spec.specs.Kernel.Refusals.{is_past_end};
+ghost use Rattle.fuse_spec.specs.Kernel.Refusals.{is_past_end, is_counted_out};
 ghost use Rattle.fuse_spec.specs.Kernel.QueueCalls.{after_forget, waiting, without};
 ghost use Rattle.std.specs.Option.{ForSome};
 ghost use Rattle.fuse_spec.specs.Values.Maps.{Place, put_name};
 ghost use Rattle.fk_kernel.specs.Entries.{place_of, Awaits, LooksUp, Makes, Creates, Opens, nodes_heard};
-ghost use Rattle.fk_nodes.specs.Learning.{is_out};
 ghost use Rattle.fk_nodes.specs.Uses.{use_meant};
 
 use crate::kernel::KernelOf;
@@ -86,7 +85,7 @@ impl<Q: QueueTable<Purpose> + Drop, C: CountTable<Heap = Q::Heap> + Drop> Kernel
         requires awaits { Awaits (get self.old.vfs.calls call) (reply.found entry.now valid_ms) }
         requires day { valid_ms ≤ max_validity }
         requires within { is_past_end (reply_written self.old unique (reply.found entry.now valid_ms)).1 ≡ false }
-        requires counts { is_out (nodes_heard self.old.nodes (reply.found entry.now valid_ms)) ≡ false }
+        requires counts { is_counted_out (nodes_heard self.old.nodes (reply.found entry.now valid_ms)) ≡ false }
         ensures err { OnErr result (self.new ≡ self.old) }
         ensures refusal { IfErr result (λ refusal. refusal ≡ Refusal.NoMemory) }
         ensures ok { OnOk result (reply_written self.old unique (reply.found entry.now valid_ms)
@@ -121,7 +120,7 @@ impl<Q: QueueTable<Purpose> + Drop, C: CountTable<Heap = Q::Heap> + Drop> Kernel
         requires waits { waiting self.old.queues unique ≡ Some (Purpose.Call call) }
         requires creates { Creates (get self.old.vfs.calls call) }
         requires day { valid_ms ≤ max_validity }
-        requires counts { is_out (nodes_heard self.old.nodes (reply.created entry.now valid_ms fh)) ≡ false }
+        requires counts { is_counted_out (nodes_heard self.old.nodes (reply.created entry.now valid_ms fh)) ≡ false }
         ensures err { OnErr result (self.new ≡ self.old) }
         ensures refusal { IfErr result (λ refusal. refusal ≡ Refusal.NoMemory) }
         ensures ok { OnOk result (reply_written self.old unique (reply.created entry.now valid_ms fh)

@@ -8,7 +8,7 @@ ghost use Rattle.fuse_spec.specs.Kernel.QueueCalls.{waiting};
 ghost use Rattle.fuse_spec.specs.Kernel.Replies.{reply_written};
 ghost use Rattle.fuse_spec.specs.Calls.Vfs.{doing};
 ghost use Rattle.fk_kernel.specs.Entries.{Awaits, ListsPlus, IsFew, nodes_heard};
-ghost use Rattle.fk_nodes.specs.Learning.{is_out};
+ghost use Rattle.fuse_spec.specs.Kernel.Refusals.{is_counted_out};
 ghost use Rattle.fk_nodes.specs.Told.{pairs_in};
 
 use crate::kernel::KernelOf;
@@ -33,7 +33,7 @@ impl<Q: QueueTable<Purpose> + Drop, C: CountTable<Heap = Q::Heap> + Drop> Kernel
         requires waits { waiting self.old.queues unique ≡ Some (Purpose.Call call) }
         requires awaits { Awaits (get self.old.vfs.calls call) (reply.listed_plus (pairs_in pairs)) }
         requires few { IsFew (reply.listed_plus (pairs_in pairs)) }
-        requires counts { is_out (nodes_heard self.old.nodes (reply.listed_plus (pairs_in pairs))) ≡ false }
+        requires counts { is_counted_out (nodes_heard self.old.nodes (reply.listed_plus (pairs_in pairs))) ≡ false }
         ensures err { OnErr result (self.new ≡ self.old) }
         ensures refusal { IfErr result (λ refusal. refusal ≡ Refusal.NoMemory) }
         ensures ok { OnOk result (reply_written self.old unique (reply.listed_plus (pairs_in pairs.entry))

@@ -7,13 +7,12 @@ ghost use Rattle.fuse_spec.specs.declared.Opened.{Opened as OpenedFile};
 ghost use Rattle.fuse_spec.specs.Kernel.Kernel.{is_aborted, is_used, released_if_idle, after_use, call_begun, is_released_by};
 ghost use Rattle.fuse_spec.specs.Values.Maps.{get};
 ghost use Rattle.fuse_spec.specs.Kernel.QueueCalls.{waiting, without};
-ghost use Rattle.fuse_spec.specs.Kernel.Refusals.{is_ready};
+ghost use Rattle.fuse_spec.specs.Kernel.Refusals.{is_ready, or_no_memory};
 ghost use Rattle.fuse_spec.specs.Kernel.Uniques.{numbers_left_from};
 ghost use Rattle.fuse_spec.specs.Calls.Vfs.{CallState as State, answered};
 ghost use Rattle.fk_syscalls.specs.States.{used_by};
 ghost use Rattle.fk_syscalls.specs.Values.{answer_of};
 ghost use Rattle.fk_kernel.specs.Entries.{EndsWithin, EndsPast};
-ghost use Rattle.fuse_spec.specs.Kernel.Refusals.{or_no_memory};
 ghost use Rattle.fk_kernel.specs.Refused.{begun_refusal};
 
 use crate::kernel::KernelOf;

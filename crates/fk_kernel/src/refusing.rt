@@ -8,8 +8,7 @@ ghost use Rattle.fuse_spec.specs.Files.Operations as reply;
 ghost use Rattle.fuse_spec.specs.Kernel.QueueCalls.{waiting};
 ghost use Rattle.fuse_spec.specs.Kernel.Replies.{usable, first_use, use_of, reply_written};
 ghost use Rattle.fk_kernel.specs.Entries.{Awaits, EndsWithin, LooksUp, IsFew, learnt_by_all, nodes_heard};
-ghost use Rattle.fk_nodes.specs.Learning.{is_out};
-ghost use Rattle.fuse_spec.specs.Kernel.Refusals.{is_past, is_past_end};
+ghost use Rattle.fuse_spec.specs.Kernel.Refusals.{is_counted_out, is_past, is_past_end};
 ghost use Rattle.fk_kernel.specs.Refused.{PassesEnd, WritePasses};
 ghost use Rattle.fk_said.specs.ReplySaid.{wire_of, LastsADay};
 ghost use Rattle.fk_kernel.specs.Said.{awaited_by_call};
@@ -92,7 +91,7 @@ impl<Q: QueueTable<Purpose> + Drop, C: CountTable<Heap = Q::Heap> + Drop> Kernel
         ensures past { result ≡ true → is_past (reply_written self.now unique (wire_of said.now)).1 ≡ true }
         ensures stays { result ≡ false → is_past (reply_written self.now unique (wire_of said.now)).1 ≡ false }
         ensures within { result ≡ false → is_past_end (reply_written self.now unique (wire_of said.now)).1 ≡ false }
-        ensures counts { result ≡ false → is_out (nodes_heard self.now.nodes (wire_of said.now)) ≡ false }
+        ensures counts { result ≡ false → is_counted_out (nodes_heard self.now.nodes (wire_of said.now)) ≡ false }
     {
         if self.counts_past(said) {
             return true;
@@ -103,7 +102,7 @@ impl<Q: QueueTable<Purpose> + Drop, C: CountTable<Heap = Q::Heap> + Drop> Kernel
     /// Whether what is said to a call would bring a node's count to the end of counters.
     fn counts_past(&self, said: &ReplySaid<'_>) -> bool
         requires { IsFew (wire_of said.now) }
-        ensures { result ≡ is_out (nodes_heard self.now.nodes (wire_of said.now)) }
+        ensures { result ≡ is_counted_out (nodes_heard self.now.nodes (wire_of said.now)) }
     {
         self.counts_within();
         match said {
@@ -116,7 +115,7 @@ impl<Q: QueueTable<Purpose> + Drop, C: CountTable<Heap = Q::Heap> + Drop> Kernel
 
     /// Whether an entry would bring its node's count to the end of counters.
     fn entry_past(&self, entry: &Entry) -> bool
-        ensures { result ≡ is_out (learnt_by_all self.now.nodes (entry.now ∷ [])
+        ensures { result ≡ is_counted_out (learnt_by_all self.now.nodes (entry.now ∷ [])
             (first_use (use_of self.now.nodes entry.now) usable)) }
     {
         self.counts_within();

@@ -7,8 +7,7 @@ ghost use Rattle.fuse_spec.specs.Kernel.QueueCalls.{waiting};
 ghost use Rattle.fuse_spec.specs.Kernel.Replies.{reply_written};
 ghost use Rattle.fuse_spec.specs.declared.Opened.{Opened as OpenedFile};
 ghost use Rattle.fk_kernel.specs.Entries.{Awaits, EndsWithin, IsFew, nodes_heard};
-ghost use Rattle.fk_nodes.specs.Learning.{is_out};
-ghost use Rattle.fuse_spec.specs.Kernel.Refusals.{is_past_end};
+ghost use Rattle.fuse_spec.specs.Kernel.Refusals.{is_counted_out, is_past_end};
 ghost use Rattle.fk_kernel.specs.Refused.{IsWriteRefusal, PassesEnd};
 ghost use Rattle.fk_said.specs.ReplySaid.{wire_of, LastsADay};
 ghost use Rattle.fk_kernel.specs.Said.{Says, IsNoReply, awaited_by_call, wrong_body, IsReplyWritten};
@@ -78,7 +77,7 @@ impl<Q: QueueTable<Purpose> + Drop, C: CountTable<Heap = Q::Heap> + Drop> Kernel
         requires ends { EndsWithin self.old call }
         requires few { IsFew (wire_of said) }
         requires within { is_past_end (reply_written self.old unique (wire_of said)).1 ≡ false }
-        requires counts { is_out (nodes_heard self.old.nodes (wire_of said)) ≡ false }
+        requires counts { is_counted_out (nodes_heard self.old.nodes (wire_of said)) ≡ false }
         ensures err { OnErr result (self.new ≡ self.old) }
         ensures refusal { IfErr result (λ refusal. refusal ≡ Refusal.NoMemory) }
         ensures ok { OnOk result (reply_written self.old unique (wire_of said.entry)

@@ -16,7 +16,8 @@ use Rattle.fuse_spec.specs.Kernel.Replies.{Use, usable, useless, stale, use_of, 
 use Rattle.fuse_spec.proofs.Tables.{cmp_same, tie_no, get_put_here, get_put_there}
 use Rattle.fk_dentry.proofs.SortedEntries.{both_first, both_second, none_below}
 use Rattle.fk_nodes.proofs.Lengths.{length_put}
-use Rattle.fk_nodes.specs.Learning.{learnt_by_use, learnt_told, learnt_from, AreBelow, is_out}
+use Rattle.fuse_spec.specs.Kernel.Refusals.{is_counted_out}
+use Rattle.fk_nodes.specs.Learning.{learnt_by_use, learnt_told, learnt_from, AreBelow}
 
 is_le : (m n : ℕ) → m ≤ n → nat_le m n ≡ true
 is_le m n le = grind (arith, nat_tests)
@@ -40,42 +41,42 @@ or_second true b none = absurd (true≢false none)
 or_second false b none = none
 
 -- where one has, some has
-pub some_out : (m : Map Counted) (id : ℕ) (c : Counted) → get m id ≡ Some c → counter_end ≤ c.count → is_out m ≡ true
+pub some_out : (m : Map Counted) (id : ℕ) (c : Counted) → get m id ≡ Some c → counter_end ≤ c.count → is_counted_out m ≡ true
 some_out [] id c at out = absurd (cc)
 some_out (e ∷ m) id c at out = by (is_eq (nat_cmp id e.0)) at (λ there. some_out m id c there out)
   where
-    by : (b : Bool) → cond b (Some e.1) (get m id) ≡ Some c → (get m id ≡ Some c → is_out m ≡ true)
-        → (nat_le counter_end e.1.count || is_out m) ≡ true
+    by : (b : Bool) → cond b (Some e.1) (get m id) ≡ Some c → (get m id ≡ Some c → is_counted_out m ≡ true)
+        → (nat_le counter_end e.1.count || is_counted_out m) ≡ true
     by true here rest =
         let same : e.1 ≡ c = cc here in
-        ap (λ (b : Bool). b || is_out m) (is_le counter_end e.1.count
+        ap (λ (b : Bool). b || is_counted_out m) (is_le counter_end e.1.count
         (subst (λ (x : Counted). counter_end ≤ x.count) (sym same) out))
     by false there rest = ap (λ (b : Bool). nat_le counter_end e.1.count || b) (rest there) ∙ or_true
         (nat_le counter_end e.1.count)
 
 -- where none has, each is below
-below_at : (m : Map Counted) → is_out m ≡ false → (id : ℕ) (c : Counted) → get m id ≡ Some c → c.count < counter_end
+below_at : (m : Map Counted) → is_counted_out m ≡ false → (id : ℕ) (c : Counted) → get m id ≡ Some c → c.count < counter_end
 below_at [] none id c at = absurd (cc)
 below_at (e ∷ m) none id c at = by (is_eq (nat_cmp id e.0)) at
-    (λ there. below_at m (or_second (nat_le counter_end e.1.count) (is_out m) none) id c there)
+    (λ there. below_at m (or_second (nat_le counter_end e.1.count) (is_counted_out m) none) id c there)
   where
     by : (b : Bool) → cond b (Some e.1) (get m id) ≡ Some c → (get m id ≡ Some c → c.count < counter_end)
         → c.count < counter_end
     by true here rest =
         let same : e.1 ≡ c = cc here in
         subst (λ (x : Counted). x.count < counter_end) same
-        (is_less counter_end e.1.count (or_first (nat_le counter_end e.1.count) (is_out m) none))
+        (is_less counter_end e.1.count (or_first (nat_le counter_end e.1.count) (is_counted_out m) none))
     by false there rest = rest there
 
-pub out_below : (m : Map Counted) → is_out m ≡ false → AreBelow m
+pub out_below : (m : Map Counted) → is_counted_out m ≡ false → AreBelow m
 out_below m none = record { below = below_at m none }
 
 -- where each is below, none has
-pub none_out : (m : Map Counted) → T (is_sorted nat_cmp m) → AreBelow m → is_out m ≡ false
+pub none_out : (m : Map Counted) → T (is_sorted nat_cmp m) → AreBelow m → is_counted_out m ≡ false
 none_out [] sorted all = refl
 none_out (e ∷ m) sorted all =
     let here : get (e ∷ m) e.0 ≡ Some e.1 = ap (λ r. cond (is_eq r) (Some e.1) (get m e.0)) (cmp_same e.0) in
-    ap (λ (b : Bool). b || is_out m) (is_more counter_end e.1.count (all.below e.0 e.1 here))
+    ap (λ (b : Bool). b || is_counted_out m) (is_more counter_end e.1.count (all.below e.0 e.1 here))
     ∙ none_out m (both_second _ _ sorted) (record { below = λ id c at. all.below id c (there id c at) })
   where
     there : (id : ℕ) (c : Counted) → get m id ≡ Some c → get (e ∷ m) id ≡ Some c

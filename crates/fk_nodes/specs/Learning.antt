@@ -1,9 +1,8 @@
 -- How the names of a list with their files are judged and learnt.
-use Rattle.std.specs.Prelude.{◌≡◌, ◌<◌, ◌≤◌, ℕ, suc, Bool, false, ◌&&◌, cond, List, [], ◌∷◌, ◌++◌, Option, Some, None, nat_eq, nat_le, nat_lt, ◌+◌}
-use Rattle.std.specs.List.{list_any}
+use Rattle.std.specs.Prelude.{◌≡◌, ◌<◌, ◌≤◌, ℕ, suc, Bool, false, ◌&&◌, cond, List, [], ◌∷◌, ◌++◌, Option, Some, None, nat_eq, nat_lt, ◌+◌}
 use Rattle.fuse_spec.specs.declared.Counted.{Counted}
 use Rattle.fuse_spec.specs.declared.Entry.{Entry}
-use Rattle.fuse_spec.specs.Values.Maps.{Map, get, put, values}
+use Rattle.fuse_spec.specs.Values.Maps.{Map, get, put}
 use Rattle.fuse_spec.specs.Values.Numbers.{counter_end}
 use Rattle.fuse_spec.specs.Files.Operations.{DirentPlus, told_by}
 use Rattle.fuse_spec.specs.Kernel.Replies.{Use, usable, useless, stale, use_of, use_of_told, pair_judged, counted_more, stale_in}
@@ -54,10 +53,6 @@ pub record SomeOut (nodes : Map Counted) : Type 0 where
   pub counted : Counted
   pub at : get nodes id ≡ Some counted
   pub out : counter_end ≤ counted.count
-
--- Whether some node's count has come to the end of counters.
-abbrev pub is_out : Map Counted → Bool
-is_out nodes = list_any (λ (node : Counted). nat_le counter_end node.count) (values nodes)
 
 -- Where this name tells a counted node under its generation, all of these names that tell it so leave its count below
 -- the end.

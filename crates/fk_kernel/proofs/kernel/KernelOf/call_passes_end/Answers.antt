@@ -4,9 +4,8 @@ use Rattle.fuse_spec.specs.Files.Operations.{Operation}
 use Rattle.fuse_spec.specs.Kernel.Replies.{goes_with, reply_written}
 use Rattle.fuse_spec.specs.Kernel.Messages.{WireReply, asks}
 use Rattle.fuse_frames.specs.RequestTies.{asked_opcode}
-use Rattle.fk_nodes.specs.Learning.{is_out}
+use Rattle.fuse_spec.specs.Kernel.Refusals.{is_counted_out, is_past_end}
 use Rattle.fk_nodes.proofs.Outs.{or_none}
-use Rattle.fuse_spec.specs.Kernel.Refusals.{is_past_end}
 use Rattle.fk_kernel.proofs.CountsHeard.{said_few, wrong_nodes}
 use Rattle.fuse_spec.specs.Calls.Vfs.{using, asked}
 use Rattle.fuse_spec.specs.declared.Opened.{Opened}
@@ -88,9 +87,9 @@ returns-in-None-clause-within g c = λ within.
     ap awaited_by_call here ∙ ap (λ (o : Operation ℕ Opened). reply_to (asked_opcode (asks o))) (sym same) in
     let ends = c.ends_past.ensures.within c.if-ends_past.false in
     let stays = λ (wire : WireReply) (other : goes_with (asked state) wire ≡ false). or_none
-    (is_past_end (reply_written now c.args.unique wire).1) (is_out (reply_written now c.args.unique wire).1.nodes)
+    (is_past_end (reply_written now c.args.unique wire).1) (is_counted_out (reply_written now c.args.unique wire).1.nodes)
     (wrong_within now c.args.unique c.args.call c.requires.even c.requires.waits c.within.ensures ends state here wire other)
-    (ap is_out (wrong_nodes now c.args.unique c.args.call c.requires.even c.requires.waits state here wire other) ∙ c.counts_within.ensures.none_out) in
+    (ap is_counted_out (wrong_nodes now c.args.unique c.args.call c.requires.even c.requires.waits state here wire other) ∙ c.counts_within.ensures.none_out) in
     rw awaits
     (none_passes now c.args.unique c.args.bytes.now (asked_opcode (asks operation))
     (λ wire says. stays wire (subst (λ (o : Operation ℕ Opened). goes_with o wire ≡ false) same

@@ -1,5 +1,5 @@
 use Rattle.std.proofs.Common.{ap, sym, ◌∙◌}
-use Rattle.fk_nodes.specs.Learning.{is_out}
+use Rattle.fuse_spec.specs.Kernel.Refusals.{is_counted_out}
 use Rattle.fk_nodes.specs.Told.{pairs_in}
 use Rattle.fk_said.specs.ReplySaid.{LentReply, wire_of}
 use Rattle.fk_kernel.specs.Entries.{nodes_heard}
@@ -11,4 +11,4 @@ returns-in-ListedPlus g c =
     let nodes = c.args.self.now.nodes in
     pairs_out nodes (pairs_in c.in-ListedPlus.pairs) c.counts_within.ensures.sorted c.listed_count_out.result
     (rw (← c.self.view_is) c.listed_count_out.ensures.out) (rw (← c.self.view_is) c.listed_count_out.ensures.within)
-    ∙ ap (λ (said : LentReply). is_out (nodes_heard nodes (wire_of said))) (sym c.in-ListedPlus.is)
+    ∙ ap (λ (said : LentReply). is_counted_out (nodes_heard nodes (wire_of said))) (sym c.in-ListedPlus.is)

@@ -2,9 +2,8 @@ use Rattle.std.proofs.Common.{◌≡◌, Bool, false, true, ap, sym, ◌∙◌}
 use Rattle.std.specs.Prelude.{◌||◌}
 use Rattle.fuse_spec.specs.Kernel.Replies.{reply_written}
 use Rattle.fk_said.specs.ReplySaid.{wire_of}
-use Rattle.fk_nodes.specs.Learning.{is_out}
+use Rattle.fuse_spec.specs.Kernel.Refusals.{is_counted_out, is_past_end}
 use Rattle.fk_nodes.proofs.Outs.{or_none, or_true}
-use Rattle.fuse_spec.specs.Kernel.Refusals.{is_past_end}
 use Rattle.fk_kernel.proofs.CountsHeard.{goes_nodes}
 use Rattle.fk_kernel.proofs.kernel.KernelOf.said_past.Goals as goal
 
@@ -14,13 +13,13 @@ returns-then-counts_past-clause-past g c = λ past.
     let wire = wire_of c.args.said.now in
     let after = (reply_written now c.args.unique wire).1 in
     let nodes = goes_nodes now c.args.unique c.args.call c.requires.even c.requires.waits wire c.requires.awaits in
-    let out : is_out after.nodes ≡ true = ap is_out nodes ∙ sym c.counts_past.ensures ∙ c.if-counts_past.true in
+    let out : is_counted_out after.nodes ≡ true = ap is_counted_out nodes ∙ sym c.counts_past.ensures ∙ c.if-counts_past.true in
     ap (λ (b : Bool). is_past_end after || b) out ∙ or_true (is_past_end after)
 
 pub returns-clause-past : goal.returns-clause-past
 returns-clause-past g c = λ past.
     let after = (reply_written c.args.self.now c.args.unique (wire_of c.args.said.now)).1 in
-    ap (λ (b : Bool). b || is_out after.nodes) (c.walks_past.ensures.past past)
+    ap (λ (b : Bool). b || is_counted_out after.nodes) (c.walks_past.ensures.past past)
 
 pub returns-clause-stays : goal.returns-clause-stays
 returns-clause-stays g c = λ stays.
@@ -28,8 +27,8 @@ returns-clause-stays g c = λ stays.
     let wire = wire_of c.args.said.now in
     let after = (reply_written now c.args.unique wire).1 in
     let nodes = goes_nodes now c.args.unique c.args.call c.requires.even c.requires.waits wire c.requires.awaits in
-    let none : is_out after.nodes ≡ false = ap is_out nodes ∙ sym c.counts_past.ensures ∙ c.if-counts_past.false in
-    or_none (is_past_end after) (is_out after.nodes) (c.walks_past.ensures.within stays) none
+    let none : is_counted_out after.nodes ≡ false = ap is_counted_out nodes ∙ sym c.counts_past.ensures ∙ c.if-counts_past.false in
+    or_none (is_past_end after) (is_counted_out after.nodes) (c.walks_past.ensures.within stays) none
 
 pub returns-clause-counts : goal.returns-clause-counts
 returns-clause-counts g c = λ stays. sym c.counts_past.ensures ∙ c.if-counts_past.false

@@ -8,9 +8,8 @@ use Rattle.fk_kernel.specs.Said.{Awaited, head_unique}
 use Rattle.fk_kernel.proofs.Heads.{no_head, has_head}
 use Rattle.fk_kernel.proofs.PastEnds.{nothing_passes, odd_passes, init_passes, release_passes}
 use Rattle.fk_kernel.proofs.Taken.{odd_test, even_test, awaited_even}
-use Rattle.fk_nodes.specs.Learning.{is_out}
+use Rattle.fuse_spec.specs.Kernel.Refusals.{is_counted_out, is_past_end}
 use Rattle.fk_nodes.proofs.Outs.{or_none}
-use Rattle.fuse_spec.specs.Kernel.Refusals.{is_past_end}
 use Rattle.fk_kernel.proofs.kernel.KernelOf.write_refusal.Goals as goal
 
 pub returns-in_default-clause-none : goal.returns-in_default-clause-none
@@ -23,7 +22,7 @@ returns-then-unique-eq1-clause-none g c = λ p.
     let unique = head_unique c.args.bytes.now in
     odd_passes c.args.self.now unique c.args.bytes.now
     (or_none (is_past_end c.args.self.now)
-    (is_out c.args.self.now.nodes) c.within.ensures c.counts_within.ensures.none_out)
+    (is_counted_out c.args.self.now.nodes) c.within.ensures c.counts_within.ensures.none_out)
     (odd_test c.in-Ok.unique unique c.in-Ok.ensures.ok.3 c.if-unique-eq1.true) p.1
 
 pub returns-in_default-waiting-clause-none : goal.returns-in_default-waiting-clause-none
@@ -50,7 +49,7 @@ returns-in-Init-clause-none g c = λ p.
     let even = even_test c.in-Ok.unique unique same c.if-unique-eq1.false in
     let awaits = awaited_even now unique even (Some Init) waits in
     init_passes now unique c.args.bytes.now (or_none (is_past_end c.args.self.now)
-    (is_out c.args.self.now.nodes) c.within.ensures c.counts_within.ensures.none_out) even waits
+    (is_counted_out c.args.self.now.nodes) c.within.ensures c.counts_within.ensures.none_out) even waits
     (subst (λ (a : Awaited). PassesEnd now unique c.args.bytes.now a) awaits p.1)
 
 pub returns-in-Release-clause-none : goal.returns-in-Release-clause-none
@@ -65,7 +64,7 @@ returns-in-Release-clause-none g c = λ p.
     let even = even_test c.in-Ok.unique unique same c.if-unique-eq1.false in
     let awaits = awaited_even now unique even (Some (Release c.in-Release.field-0)) waits in
     release_passes now unique c.args.bytes.now (or_none (is_past_end c.args.self.now)
-    (is_out c.args.self.now.nodes) c.within.ensures c.counts_within.ensures.none_out) even c.in-Release.field-0 waits (subst (λ (a : Awaited). PassesEnd now unique c.args.bytes.now a) awaits p.1)
+    (is_counted_out c.args.self.now.nodes) c.within.ensures c.counts_within.ensures.none_out) even c.in-Release.field-0 waits (subst (λ (a : Awaited). PassesEnd now unique c.args.bytes.now a) awaits p.1)
 
 pub returns-then-call_passes_end-clause-refused : goal.returns-then-call_passes_end-clause-refused
 returns-then-call_passes_end-clause-refused g c =
