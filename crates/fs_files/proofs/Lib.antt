@@ -5,6 +5,7 @@ pub mod PairListing
 pub mod PairsTold
 pub mod EntriesPut
 pub mod NodeLemmas
+pub mod OperationNodes
 pub mod BornFiles
 pub mod Told
 pub mod Counted

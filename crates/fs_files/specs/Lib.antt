@@ -1,4 +1,5 @@
 pub mod Values
+pub mod Owning
 pub mod Bounds
 pub mod Listed
 pub mod Props

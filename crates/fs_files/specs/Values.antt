@@ -1,5 +1,6 @@
 -- What contracts see of held requests and of the files that are served.
-use Rattle.std.specs.Prelude.{ℕ, false, List, [], ◌∷◌}
+use Rattle.std.specs.Prelude.{ℕ, false, List, [], ◌∷◌, Option, Some, None, Vec}
+use Rattle.std.specs.Borrow.{Bor}
 use Rattle.std.specs.Int.RustNames.{bit_and}
 use Rattle.fuse_spec.specs.declared.Minor.{Minor}
 use Rattle.fuse_spec.specs.declared.Minor.TheVariants.{M31}
@@ -7,7 +8,10 @@ use Rattle.fuse_spec.specs.declared.Opened.{Opened}
 use Rattle.fuse_spec.specs.declared.Validity.{Validity}
 use Rattle.fuse_spec.specs.Values.Numbers.{max_transfer}
 use Rattle.fuse_spec.specs.Files.Operations as operation
-use Rattle.fuse_spec.specs.Files.Operations.{Operation}
+use Rattle.fuse_spec.specs.Files.Operations.{Operation, files_in}
+use Rattle.fuse_spec.specs.Files.AskedOperations as asked
+use Rattle.fuse_spec.specs.declared.asked.Operation.{Operation as Asked}
+use Rattle.fuse_spec.specs.Kernel.Kernel.{opened_nodes}
 use Rattle.fuse_spec.specs.Kernel.Messages.{RequestBody, init, asks, release}
 use Rattle.fuse_spec.specs.Server.Nodes.{NodeTable, HandleTable}
 use Rattle.fuse_spec.specs.Server.Performs.{file_operation_of}
@@ -17,10 +21,11 @@ use Rattle.fuse_spec.specs.Files.Trees.{Tree}
 use Rattle.fk_wire.specs.Requests.{known_flags}
 use Rattle.fs_files.specs.declared.held.Named.{Named}
 use Rattle.fs_files.specs.declared.held.Named.TheVariants.{Nothing, One, Two}
-use Rattle.fs_files.specs.declared.held.HeldOperation.{HeldOperation}
-use Rattle.fs_files.specs.declared.held.HeldOperation.TheVariants as held
 use Rattle.fs_files.specs.declared.held.HeldBody.{HeldBody}
 use Rattle.fs_files.specs.declared.held.HeldBody.TheVariants.{Init, Asks, Release}
+
+abbrev pub HeldOperation : Type 0 → Type 0
+HeldOperation A = Asked (Vec ℕ A)
 
 -- no node is given
 abbrev pub no_nodes : NodeTable
@@ -76,45 +81,34 @@ named_in Nothing = []
 named_in (One node) = (node.nodeid, node.generation) ∷ []
 named_in (Two node other) = (node.nodeid, node.generation) ∷ (other.nodeid, other.generation) ∷ []
 
+-- The nodes that an operation names: that of its request's header, and the one that the request's body names besides,
+-- which is the directory of a RENAME's new name or the file that a LINK gives one more name. (linux/fuse.h, struct
+-- fuse_in_header, struct fuse_rename_in, struct fuse_link_in)
+abbrev pub nodes_named : {S : Type 0} → Asked S → List ℕ
+nodes_named o = files_in opened_nodes (asked.operation_of (λ s. []) o)
+
+abbrev first_of : List ℕ → ℕ
+first_of [] = 0
+first_of (node ∷ nodes) = node
+
+abbrev second_of : List ℕ → Option ℕ
+second_of (node ∷ other ∷ nodes) = Some other
+second_of nodes = None
+
+abbrev pub header_node : {S : Type 0} → Asked S → ℕ
+header_node o = first_of (nodes_named o)
+
+abbrev pub body_node : {S : Type 0} → Asked S → Option ℕ
+body_node o = second_of (nodes_named o)
+
+-- the operation whose names and bytes are lent
+abbrev pub lent_operation : Asked (Bor (List ℕ)) → Operation ℕ Opened
+lent_operation o = asked.operation_of (λ s. s.now) o
+
 module _ {A : Type 0} where
   -- the operation that a held request asks
   abbrev pub operation_of : HeldOperation A → Operation ℕ Opened
-  operation_of (held.Lookup directory name) = operation.lookup directory name.items
-  operation_of (held.Getattr node) = operation.getattr node
-  operation_of (held.Mkdir directory name) = operation.mkdir directory name.items
-  operation_of (held.Create directory name) = operation.create directory name.items
-  operation_of (held.Unlink directory name) = operation.unlink directory name.items
-  operation_of (held.Rmdir directory name) = operation.rmdir directory name.items
-  operation_of (held.Rename directory old new_directory new) =
-      operation.rename directory old.items new_directory new.items
-  operation_of (held.Link node directory name) = operation.link node directory name.items
-  operation_of (held.Open node) = operation.opening node
-  operation_of (held.Readdir directory after size) = operation.readdir directory after size
-  operation_of (held.Readdirplus directory after size) = operation.readdirplus directory after size
-  operation_of (held.Read opened offset size) = operation.read opened offset size
-  operation_of (held.Write opened offset bytes) = operation.write opened offset bytes.items
-
-  -- the node that an operation is on: of a name its directory, of a LINK the file that gets one more name
-  abbrev pub node_in : HeldOperation A → ℕ
-  node_in (held.Lookup directory name) = directory
-  node_in (held.Getattr node) = node
-  node_in (held.Mkdir directory name) = directory
-  node_in (held.Create directory name) = directory
-  node_in (held.Unlink directory name) = directory
-  node_in (held.Rmdir directory name) = directory
-  node_in (held.Rename directory old new_directory new) = directory
-  node_in (held.Link node directory name) = node
-  node_in (held.Open node) = node
-  node_in (held.Readdir directory after size) = directory
-  node_in (held.Readdirplus directory after size) = directory
-  node_in (held.Read opened offset size) = opened.nodeid
-  node_in (held.Write opened offset bytes) = opened.nodeid
-
-  -- the directory of its new name, for a RENAME or a LINK; else the node that it is on
-  abbrev pub other_in : HeldOperation A → ℕ
-  other_in (held.Rename directory old new_directory new) = new_directory
-  other_in (held.Link node directory name) = directory
-  other_in o = node_in o
+  operation_of o = asked.operation_of (λ (v : Vec ℕ A). v.items) o
 
   -- what a held request asks
   abbrev pub asked_of : HeldBody A → RequestBody

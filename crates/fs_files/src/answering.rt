@@ -18,7 +18,7 @@ use crate::refusing::refusal_of;
 use crate::replies::{Outcome, PlainReply};
 use fs_nodes::NodeStore;
 use fuse_spec::errno::{EBADF, EINTR, EIO};
-use fuse_spec::{Minor, Opened, Validity};
+use fuse_spec::{Minor, Opened, Operation, Validity};
 use std::alloc::{AllocError, Allocator};
 
 impl<S: NodeStore> Files<S> {
@@ -103,7 +103,7 @@ impl<S: NodeStore> Files<S> {
         ensures { (v : ValidityValue) → result ≡ is_open_for (server_of self.now v) (operation_of operation.now) }
     {
         match operation {
-            HeldOperation::Read { opened, .. } | HeldOperation::Write { opened, .. } => {
+            Operation::Read { opened, .. } | Operation::Write { opened, .. } => {
                 self.is_open(*opened)
             }
             _ => true,

@@ -4,7 +4,7 @@ ghost use Rattle.std.specs.Prelude.{◌≡◌, true, false};
 ghost use Rattle.fs_files.specs.Values.{asked_of, named_in, names_for, room_for};
 
 use fk_wire::InitFlags;
-use fuse_spec::Opened;
+use fuse_spec::{Opened, Operation};
 use std::alloc::Allocator;
 use std::marker::Model;
 
@@ -29,103 +29,8 @@ pub enum Named {
     Two(NamedNode, NamedNode),
 }
 
-/// One operation on nodes, with the names and bytes that it needs.
-#[derive(Drop)]
-pub enum HeldOperation<A: Allocator> {
-    Lookup {
-        directory: u64,
-        name: Vec<u8, A>,
-    },
-    Getattr {
-        node: u64,
-    },
-    Mkdir {
-        directory: u64,
-        name: Vec<u8, A>,
-    },
-    Create {
-        directory: u64,
-        name: Vec<u8, A>,
-    },
-    Unlink {
-        directory: u64,
-        name: Vec<u8, A>,
-    },
-    Rmdir {
-        directory: u64,
-        name: Vec<u8, A>,
-    },
-    Rename {
-        directory: u64,
-        old: Vec<u8, A>,
-        new_directory: u64,
-        new: Vec<u8, A>,
-    },
-    Link {
-        node: u64,
-        directory: u64,
-        name: Vec<u8, A>,
-    },
-    Open {
-        node: u64,
-    },
-    Readdir {
-        directory: u64,
-        after: u64,
-        size: u32,
-    },
-    Readdirplus {
-        directory: u64,
-        after: u64,
-        size: u32,
-    },
-    Read {
-        opened: Opened,
-        offset: u64,
-        size: u32,
-    },
-    Write {
-        opened: Opened,
-        offset: u64,
-        bytes: Vec<u8, A>,
-    },
-}
-
-impl<A: Allocator> HeldOperation<A> {
-    ghost use Rattle.std.specs.Prelude.{◌≡◌};
-    ghost use Rattle.fs_files.specs.Values.{node_in, other_in};
-
-    /// The node that it is on: of a name its directory, of a LINK the file that gets one more name.
-    pub(crate) fn node(&self) -> u64
-        ensures { result ≡ node_in self.now }
-    {
-        match self {
-            HeldOperation::Lookup { directory, .. } | HeldOperation::Mkdir { directory, .. } =>
-                *directory,
-            HeldOperation::Create { directory, .. } | HeldOperation::Unlink { directory, .. } =>
-                *directory,
-            HeldOperation::Rmdir { directory, .. } | HeldOperation::Rename { directory, .. } =>
-                *directory,
-            HeldOperation::Readdir { directory, .. }
-            | HeldOperation::Readdirplus { directory, .. } => *directory,
-            HeldOperation::Getattr { node } | HeldOperation::Open { node } => *node,
-            HeldOperation::Link { node, .. } => *node,
-            HeldOperation::Read { opened, .. } | HeldOperation::Write { opened, .. } =>
-                opened.nodeid,
-        }
-    }
-
-    /// The directory of its new name, for a RENAME or a LINK; else the node that it is on.
-    pub(crate) fn other_node(&self) -> u64
-        ensures { result ≡ other_in self.now }
-    {
-        match self {
-            HeldOperation::Rename { new_directory, .. } => *new_directory,
-            HeldOperation::Link { directory, .. } => *directory,
-            _ => self.node(),
-        }
-    }
-}
+/// An operation with the names and bytes that it needs.
+pub type HeldOperation<A> = Operation<Vec<u8, A>>;
 
 /// What a held request asks.
 #[derive(Drop)]
@@ -201,10 +106,10 @@ impl<A: Allocator> HeldRequest<A> {
     {
         match &self.body {
             HeldBody::Asks {
-                operation: HeldOperation::Read { .. } | HeldOperation::Readdir { .. },
+                operation: Operation::Read { .. } | Operation::Readdir { .. },
             } => MOST_CONTENT,
             HeldBody::Asks {
-                operation: HeldOperation::Readdirplus { .. },
+                operation: Operation::Readdirplus { .. },
             } => MOST_CONTENT,
             _ => 0,
         }
@@ -216,7 +121,7 @@ impl<A: Allocator> HeldRequest<A> {
     {
         match &self.body {
             HeldBody::Asks {
-                operation: HeldOperation::Readdirplus { .. },
+                operation: Operation::Readdirplus { .. },
             } => MOST_NAMES,
             _ => 0,
         }

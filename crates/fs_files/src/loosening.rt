@@ -13,6 +13,7 @@ use crate::held::{HeldBody, HeldOperation, HeldRequest};
 use crate::nodes::Nodes;
 use fs_nodes::NodeStore;
 use fs_tree::Tree;
+use fuse_spec::Operation;
 use std::alloc::Allocator;
 
 impl<S: NodeStore> Files<S> {
@@ -49,12 +50,11 @@ fn unnamed_by<A: Allocator + Copy, S: NodeStore>(
 ) -> Option<u64>
     ensures { result ≡ unnamed_by tree.now (on_files nodes.now.table operation.now) }
 {
-    let file = nodes.file_of(operation.node());
-    let other = nodes.file_of(operation.other_node());
     match operation {
-        HeldOperation::Unlink { name, .. } => tree.file_at(file, name),
-        HeldOperation::Rmdir { name, .. } => tree.file_at(file, name),
-        HeldOperation::Rename { new, .. } => tree.file_at(other, new),
+        Operation::Unlink { directory, name } | Operation::Rmdir { directory, name } => {
+            tree.file_at(nodes.file_of(*directory), name)
+        }
+        Operation::Rename { newdir, new, .. } => tree.file_at(nodes.file_of(*newdir), new),
         _ => None,
     }
 }

@@ -13,11 +13,12 @@ ghost use Rattle.fs_files.specs.Values.{on_files};
 
 use crate::held::HeldOperation;
 use crate::nodes::Nodes;
+use crate::operation_nodes::header_node;
 use crate::records::record_bytes;
 use crate::replies::{Outcome, PlainReply};
 use fs_nodes::NodeStore;
 use fs_tree::Tree;
-use fuse_spec::Validity;
+use fuse_spec::{Operation, Validity};
 use std::alloc::{AllocError, Allocator};
 
 /// Does an operation that nothing refuses. Where memory is wanting the tree is as before.
@@ -40,24 +41,28 @@ pub(crate) fn operate<A: Allocator + Copy, S: NodeStore>(
     ensures err { OnErr result (tree.new ≡ tree.old) }
 {
     tree.keeps_shape();
-    let file = nodes.file_of(operation.node());
-    let other = nodes.file_of(operation.other_node());
+    let file = nodes.file_of(header_node(operation));
     match operation {
-        HeldOperation::Lookup { name, .. } => Ok(look_up(tree, file, name, validity)),
-        HeldOperation::Getattr { .. } => Ok(attributes(tree, file)),
-        HeldOperation::Mkdir { name, .. } => make_directory(tree, file, name),
-        HeldOperation::Create { name, .. } => make_file(tree, file, name),
-        HeldOperation::Unlink { name, .. } => Ok(remove_file(tree, file, name)),
-        HeldOperation::Rmdir { name, .. } => Ok(remove_directory(tree, file, name)),
-        HeldOperation::Rename { old, new, .. } => move_file(tree, file, old, other, new),
-        HeldOperation::Link { name, .. } => link_file(tree, file, other, name),
-        HeldOperation::Open { .. } => Ok(Outcome::Opened { file }),
-        HeldOperation::Readdir { after, size, .. } => list_names(tree, file, *after, *size, alloc),
-        HeldOperation::Readdirplus { after, size, .. } => {
+        Operation::Lookup { name, .. } => Ok(look_up(tree, file, name, validity)),
+        Operation::Getattr { .. } => Ok(attributes(tree, file)),
+        Operation::Mkdir { name, .. } => make_directory(tree, file, name),
+        Operation::Create { name, .. } => make_file(tree, file, name),
+        Operation::Unlink { name, .. } => Ok(remove_file(tree, file, name)),
+        Operation::Rmdir { name, .. } => Ok(remove_directory(tree, file, name)),
+        Operation::Rename {
+            old,
+            newdir,
+            new,
+            ..
+        } => move_file(tree, file, old, nodes.file_of(*newdir), new),
+        Operation::Link { node, name, .. } => link_file(tree, nodes.file_of(*node), file, name),
+        Operation::Open { .. } => Ok(Outcome::Opened { file }),
+        Operation::Readdir { after, size, .. } => list_names(tree, file, *after, *size, alloc),
+        Operation::Readdirplus { after, size, .. } => {
             list_files(tree, file, *after, *size, alloc)
         }
-        HeldOperation::Read { offset, size, .. } => read_bytes(tree, file, *offset, *size, alloc),
-        HeldOperation::Write { offset, bytes, .. } => write_bytes(tree, file, *offset, bytes),
+        Operation::Read { offset, size, .. } => read_bytes(tree, file, *offset, *size, alloc),
+        Operation::Write { offset, bytes, .. } => write_bytes(tree, file, *offset, bytes),
     }
 }
 

@@ -14,6 +14,7 @@ use crate::refusing::refusal_of;
 use arrayvec::ArrayVec;
 use fs_nodes::NodeStore;
 use fs_tree::{MOST_LISTED, Tree};
+use fuse_spec::Operation;
 use std::alloc::Allocator;
 
 /// How many births, serials and open numbers an operation draws, and the files that it tells by nodes, in order.
@@ -72,26 +73,26 @@ fn unrefused_plan<A: Allocator + Copy, S: NodeStore>(
         (reply_unrefused v tree.now (on_files nodes.now.table operation.now)) result }
 {
     match operation {
-        HeldOperation::Lookup { directory, name } => {
+        Operation::Lookup { directory, name } => {
             plan_of_lookup(tree, nodes.file_of(*directory), name)
         }
-        HeldOperation::Mkdir { .. } => plan_of_birth(tree.next_birth(), 0),
-        HeldOperation::Create { .. } => plan_of_birth(tree.next_birth(), 1),
-        HeldOperation::Rename {
+        Operation::Mkdir { .. } => plan_of_birth(tree.next_birth(), 0),
+        Operation::Create { .. } => plan_of_birth(tree.next_birth(), 1),
+        Operation::Rename {
             directory,
             old,
-            new_directory,
+            newdir,
             new,
         } => {
             let from = nodes.file_of(*directory);
-            plan_of_rename(tree, from, old, nodes.file_of(*new_directory), new)
+            plan_of_rename(tree, from, old, nodes.file_of(*newdir), new)
         }
-        HeldOperation::Link { node, .. } => plan_of_link(nodes.file_of(*node)),
-        HeldOperation::Open { .. } => Plan {
+        Operation::Link { node, .. } => plan_of_link(nodes.file_of(*node)),
+        Operation::Open { .. } => Plan {
             opens: 1,
             ..no_numbers()
         },
-        HeldOperation::Readdirplus {
+        Operation::Readdirplus {
             directory,
             after,
             size,
@@ -99,11 +100,11 @@ fn unrefused_plan<A: Allocator + Copy, S: NodeStore>(
             told: tree.files_listed(nodes.file_of(*directory), *after, *size),
             ..no_numbers()
         },
-        HeldOperation::Getattr { .. }
-        | HeldOperation::Unlink { .. }
-        | HeldOperation::Rmdir { .. }
-        | HeldOperation::Readdir { .. } => no_numbers(),
-        HeldOperation::Read { .. } | HeldOperation::Write { .. } => no_numbers(),
+        Operation::Getattr { .. }
+        | Operation::Unlink { .. }
+        | Operation::Rmdir { .. }
+        | Operation::Readdir { .. } => no_numbers(),
+        Operation::Read { .. } | Operation::Write { .. } => no_numbers(),
     }
 }
 

@@ -8,8 +8,10 @@ ghost use Rattle.fs_files.specs.Values.{on_files};
 
 use crate::held::HeldOperation;
 use crate::nodes::Nodes;
+use crate::operation_nodes::header_node;
 use fs_nodes::NodeStore;
 use fs_tree::{Tree, TreeError};
+use fuse_spec::Operation;
 use std::alloc::Allocator;
 
 /// The first refusal of an operation, if any.
@@ -20,22 +22,26 @@ pub(crate) fn refusal_of<A: Allocator + Copy, S: NodeStore>(
 ) -> Option<TreeError>
     ensures { Refuses (refusal tree.now (on_files nodes.now.table operation.now)) result }
 {
-    let file = nodes.file_of(operation.node());
-    let other = nodes.file_of(operation.other_node());
+    let file = nodes.file_of(header_node(operation));
     match operation {
-        HeldOperation::Lookup { .. } | HeldOperation::Readdir { .. } => {
-            refusal_of_directory(tree, file)
+        Operation::Lookup { .. } | Operation::Readdir { .. } => refusal_of_directory(tree, file),
+        Operation::Readdirplus { .. } => refusal_of_directory(tree, file),
+        Operation::Getattr { .. } | Operation::Read { .. } => None,
+        Operation::Mkdir { name, .. } => tree.refusal_of_make(file, name),
+        Operation::Create { name, .. } => tree.refusal_of_make(file, name),
+        Operation::Unlink { name, .. } => tree.refusal_of_unlink(file, name),
+        Operation::Rmdir { name, .. } => tree.refusal_of_rmdir(file, name),
+        Operation::Rename {
+            old,
+            newdir,
+            new,
+            ..
+        } => tree.refusal_of_rename(file, old, nodes.file_of(*newdir), new),
+        Operation::Link { node, name, .. } => {
+            tree.refusal_of_link(nodes.file_of(*node), file, name)
         }
-        HeldOperation::Readdirplus { .. } => refusal_of_directory(tree, file),
-        HeldOperation::Getattr { .. } | HeldOperation::Read { .. } => None,
-        HeldOperation::Mkdir { name, .. } => tree.refusal_of_make(file, name),
-        HeldOperation::Create { name, .. } => tree.refusal_of_make(file, name),
-        HeldOperation::Unlink { name, .. } => tree.refusal_of_unlink(file, name),
-        HeldOperation::Rmdir { name, .. } => tree.refusal_of_rmdir(file, name),
-        HeldOperation::Rename { old, new, .. } => tree.refusal_of_rename(file, old, other, new),
-        HeldOperation::Link { name, .. } => tree.refusal_of_link(file, other, name),
-        HeldOperation::Open { .. } => refusal_of_open(tree, file),
-        HeldOperation::Write { offset, bytes, .. } => tree.refusal_of_write(file, *offset, bytes),
+        Operation::Open { .. } => refusal_of_open(tree, file),
+        Operation::Write { offset, bytes, .. } => tree.refusal_of_write(file, *offset, bytes),
     }
 }
 

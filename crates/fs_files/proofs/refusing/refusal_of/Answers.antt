@@ -4,9 +4,8 @@ pub returns-in-Rename : goal.returns-in-Rename
 returns-in-Rename g c =
     rw c.in-Rename.is (rw (
       c.file_of-file.ensures,
-      c.node.ensures,
-      c.file_of-other.ensures,
-      c.other_node.ensures,
+      c.header_node.ensures,
+      c.file_of.ensures,
       c.deref-in-Rename.ensures.value,
       c.deref-in-Rename-2.ensures.value,
       c.in-Rename.is,
@@ -15,9 +14,8 @@ returns-in-Rename g c =
 pub returns-in-Link : goal.returns-in-Link
 returns-in-Link g c = rw c.in-Link.is (rw (
   c.file_of-file.ensures,
-  c.node.ensures,
-  c.file_of-other.ensures,
-  c.other_node.ensures,
+  c.header_node.ensures,
+  c.file_of-in-Link.ensures,
   c.in-Link.is,
   c.deref-in-Link.ensures.value,
 ) at c.refusal_of_link.ensures.refusal)
@@ -25,7 +23,7 @@ returns-in-Link g c = rw c.in-Link.is (rw (
 pub returns-in-Mkdir : goal.returns-in-Mkdir
 returns-in-Mkdir g c = rw c.in-Mkdir.is (rw (
   c.file_of-file.ensures,
-  c.node.ensures,
+  c.header_node.ensures,
   c.in-Mkdir.is,
   c.deref.ensures.value,
 ) at c.refusal_of_make.ensures.refusal)
@@ -33,7 +31,7 @@ returns-in-Mkdir g c = rw c.in-Mkdir.is (rw (
 pub returns-in-Create : goal.returns-in-Create
 returns-in-Create g c = rw c.in-Create.is (rw (
   c.file_of-file.ensures,
-  c.node.ensures,
+  c.header_node.ensures,
   c.in-Create.is,
   c.deref-in-Create.ensures.value,
 ) at c.refusal_of_make-in-Create.ensures.refusal)
