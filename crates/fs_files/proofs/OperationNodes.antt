@@ -9,7 +9,8 @@ use Rattle.fuse_spec.specs.declared.asked.Operation.TheVariants.{Lookup, Getattr
 use Rattle.fs_files.specs.Values.{body_node, header_node}
 
 -- It names that of the header and that of the body, whatever reads its names and bytes.
-pub nodes_are : {S : Type 0} (bytes_of : S → List ℕ) (o : Operation S) → files_in opened_nodes (operation_of bytes_of o) ≡ header_node o ∷ option_to_list (body_node o)
+pub nodes_are : {S : Type 0} (bytes_of : S → List ℕ) (o : Operation S) → files_in opened_nodes (operation_of bytes_of o)
+    ≡ header_node o ∷ option_to_list (body_node o)
 nodes_are bytes_of (Lookup directory name) = refl
 nodes_are bytes_of (Getattr node) = refl
 nodes_are bytes_of (Mkdir directory name) = refl

@@ -3,7 +3,7 @@ use Rattle.std.proofs.Common.{◌≡◌, ℕ, ◌+◌, ◌<◌, ◌≤◌, ◌^�
 use Rattle.std.specs.Prelude.{IfErr, IfOk, OnOk, MatchResult, is_some, nat_lt}
 use Rattle.std.proofs.lemmas.Bool.{le-ltb}
 use Rattle.fuse_spec.specs.Values.Maps.{get}
-use Rattle.fuse_spec.specs.Kernel.Messages.{Forget}
+use Rattle.fuse_spec.specs.Kernel.Messages.{Forget, RequestBody, init, asks, release, forget, batch_forget, interrupt}
 use Rattle.fuse_spec.specs.Server.Nodes.{NodeTable, taken_back}
 use Rattle.fuse_spec.specs.Values.Numbers.{counter_end, eagain}
 use Rattle.fuse_spec.specs.Files.Operations.{failed}
@@ -20,30 +20,9 @@ use Rattle.fs_server.specs.declared.server.Took.{Took}
 use Rattle.fuse_spec.specs.Server.Refusals.{is_past_end}
 use Rattle.fs_server.specs.Effects.{CanTake, TakesFrame, RefusesFrame, past_or_memory, request_fault}
 use Rattle.fs_server.specs.Interrupts.{Interrupts}
-use Rattle.fs_server.specs.Taking.{IsFaultless, IsTakeable, answers, body_of, is_held}
+use Rattle.fs_server.specs.Taking.{IsFaultless, IsTakeable, answers, body_of, is_answered_now, is_held}
 use Rattle.fs_server.proofs.Served.{past}
-use Rattle.fs_server.proofs.Frames.{fault_in, holds, interrupts, judged_so, refuses_for}
-
--- every request asks something
-pub asked_so : (nodeid : ℕ) (content : RequestContent) → body_in nodeid content ≡ Some (body_of nodeid content)
-asked_so nodeid (wire.init major minor flags) = refl
-asked_so nodeid (wire.lookup name) = refl
-asked_so nodeid wire.getattr = refl
-asked_so nodeid (wire.mkdir name) = refl
-asked_so nodeid (wire.create name) = refl
-asked_so nodeid (wire.unlink name) = refl
-asked_so nodeid (wire.rmdir name) = refl
-asked_so nodeid (wire.rename newdir old new) = refl
-asked_so nodeid (wire.link oldnodeid name) = refl
-asked_so nodeid wire.opening = refl
-asked_so nodeid (wire.readdir offset size) = refl
-asked_so nodeid (wire.read fh offset size) = refl
-asked_so nodeid (wire.write fh offset bytes) = refl
-asked_so nodeid (wire.release fh) = refl
-asked_so nodeid (wire.forget n) = refl
-asked_so nodeid (wire.batch_forget fs) = refl
-asked_so nodeid (wire.interrupt original) = refl
-asked_so nodeid (wire.readdirplus offset size) = refl
+use Rattle.fs_server.proofs.Frames.{asked_so, fault_in, holds, interrupts, judged_so, refuses_for}
 
 -- a request with nothing wrong has no fault
 no_fault : (s : Server) (unique nodeid : ℕ) (content : RequestContent) → IsFaultless s unique nodeid content
@@ -82,75 +61,61 @@ module _ (s : Server) (unique : ℕ) (inside : is_past_end s ≡ false) where
       (let low = number refl in omega (arith, low)))
 
   -- what is taken draws no number but that of a copy
-  past_taken : (nodeid : ℕ) (content : RequestContent) → (answers s content ≡ true → s.next_copy < 2 ^ 62)
-      → is_past_end (taking s unique (body_of nodeid content)).server ≡ false
-  past_taken nodeid (wire.init major minor flags) number = inside
-  past_taken nodeid (wire.lookup name) number = inside
-  past_taken nodeid wire.getattr number = inside
-  past_taken nodeid (wire.mkdir name) number = inside
-  past_taken nodeid (wire.create name) number = inside
-  past_taken nodeid (wire.unlink name) number = inside
-  past_taken nodeid (wire.rmdir name) number = inside
-  past_taken nodeid (wire.rename newdir old new) number = inside
-  past_taken nodeid (wire.link oldnodeid name) number = inside
-  past_taken nodeid wire.opening number = inside
-  past_taken nodeid (wire.readdir offset size) number = inside
-  past_taken nodeid (wire.read fh offset size) number = inside
-  past_taken nodeid (wire.write fh offset bytes) number = inside
-  past_taken nodeid (wire.release fh) number = inside
-  past_taken nodeid (wire.forget n) number = past_forgotten ((nodeid, n) ∷ [])
-  past_taken nodeid (wire.batch_forget fs) number = past_forgotten fs
-  past_taken nodeid (wire.interrupt original) number =
-      past_interrupting original (get s.held original) (get s.kept original) number
-  past_taken nodeid (wire.readdirplus offset size) number = inside
+  past_taken : (body : RequestBody) → (is_answered_now s body ≡ true → s.next_copy < 2 ^ 62)
+      → is_past_end (taking s unique body).server ≡ false
+  past_taken (init flags) number = inside
+  past_taken (asks operation) number = inside
+  past_taken (release o) number = inside
+  past_taken (forget f) number = past_forgotten (f ∷ [])
+  past_taken (batch_forget fs) number = past_forgotten fs
+  past_taken (interrupt original) number = past_interrupting original (get s.held original) (get s.kept original) number
 
 -- what is answered at once draws a copy number
-past_answered : (s : Server) (unique nodeid : ℕ) (content : RequestContent) → answers s content ≡ true
-    → 2 ^ 62 ≤ s.next_copy → is_past_end (taking s unique (body_of nodeid content)).server ≡ true
-past_answered s unique nodeid (wire.interrupt original) answered over =
-    by (get s.held original) (get s.kept original) answered
+past_answered : (s : Server) (unique : ℕ) (body : RequestBody) → is_answered_now s body ≡ true → 2 ^ 62 ≤ s.next_copy
+    → is_past_end (taking s unique body).server ≡ true
+past_answered s unique (interrupt original) answered over = by (get s.held original) (get s.kept original) answered
   where
     by : (o : Option HeldRequest) (k : Option Kept) → not (is_some o || is_some k) ≡ true
         → is_past_end (interrupting s unique original o k).server ≡ true
     by (Some h) k e = absurd (true≢false (sym e))
     by None (Some k) e = absurd (true≢false (sym e))
     by None None e = past (sending s unique (failed eagain) s.next_copy) (inr (inr (inr (inr (omega (arith, over))))))
-past_answered s unique nodeid content answered over = absurd (true≢false (sym answered))
+past_answered s unique body answered over = absurd (true≢false (sym answered))
 
 -- a request with nothing wrong that would be answered, where no copy number is left
 pub exhausts : (s : Server) (bytes : List ℕ) (m : RequestMessage) → Spells bytes m
     → ((n : RequestMessage) → Spells bytes n → m ≡ n) → IsFaultless s m.unique m.nodeid m.content
-    → answers s m.content ≡ true → 2 ^ 62 ≤ s.next_copy
+    → answers s m.nodeid m.content ≡ true → 2 ^ 62 ≤ s.next_copy
     → RefusesFrame s bytes fault.Exhausted
 exhausts s bytes m spells only right answered over =
     refuses_for s bytes m spells only (body_of m.nodeid m.content) fault.Exhausted (asked_so m.nodeid m.content)
     (no_fault s m.unique m.nodeid m.content right)
-    (sym (ap past_or_memory (past_answered s m.unique m.nodeid m.content answered over)))
+    (sym (ap past_or_memory (past_answered s m.unique (body_of m.nodeid m.content) answered over)))
 
 module _ (s : Server) (bytes : List ℕ) (m : RequestMessage) (right : IsTakeable s bytes m) where
-  pub asks : body_in m.nodeid m.content ≡ Some (body_of m.nodeid m.content)
-  asks = asked_so m.nodeid m.content
+  pub asked_body : body_in m.nodeid m.content ≡ Some (body_of m.nodeid m.content)
+  asked_body = asked_so m.nodeid m.content
 
   pub faultless : fault_in s m ≡ None
   faultless = no_fault s m.unique m.nodeid m.content right.faultless
 
   pub within : is_past_end (taking s m.unique (body_of m.nodeid m.content)).server ≡ false
-  within = past_taken s m.unique right.within m.nodeid m.content right.number
+  within = past_taken s m.unique right.within (body_of m.nodeid m.content) right.number
 
   abbrev pub can_take : CanTake s bytes
   can_take = record {
     request = record { unique = m.unique; body = body_of m.nodeid m.content };
-    says = record { message = m; spells = right.spells; unique = refl; says = asks };
-    faultless = ap (request_fault s m.unique) (sym asks) ∙ faultless;
+    says = record { message = m; spells = right.spells; unique = refl; says = asked_body };
+    faultless = ap (request_fault s m.unique) (sym asked_body) ∙ faultless;
     within = within;
   }
 
   -- only memory can be wanting
   refused : (fault : ServerFault) → fault ≡ Memory → RefusesFrame s bytes fault
   refused fault memory = refuses_for s bytes m right.spells right.only
-      (body_of m.nodeid m.content) fault asks faultless (memory ∙ sym (ap past_or_memory within))
+      (body_of m.nodeid m.content) fault asked_body faultless (memory ∙ sym (ap past_or_memory within))
 
-  pub held_so : {A : Type 0} → is_held m.content ≡ true → (new : Server) (r : Result (Took A) ServerFault)
+  pub held_so : {A : Type 0} → is_held m.nodeid m.content ≡ true → (new : Server) (r : Result (Took A) ServerFault)
       → IfErr r (λ f. f ≡ Memory) → IfOk r (λ t. t ≡ record { unique = m.unique; word = Held; copy = None })
       → OnOk r (new ≡ holding s m.unique (body_of m.nodeid m.content))
       → MatchResult r (λ t. TakesFrame s bytes t new) (RefusesFrame s bytes)

@@ -2,11 +2,13 @@
 use Rattle.std.proofs.Common.{◌≡◌, ℕ, Bool, true, false, true≢false, cond, ◌&&◌, ◌||◌, List, [], ◌∷◌, Option, Some, None, refl, sym, ap, ◌∙◌, arith}
 use Rattle.std.specs.Prelude.{is_some, nat_lt}
 use Rattle.fuse_spec.specs.Values.Maps.{get}
-use Rattle.fuse_spec.specs.Files.Operations as operation
+use Rattle.std.specs.List.{list_all}
+use Rattle.fuse_spec.specs.Files.Operations.{files_in}
+use Rattle.fuse_spec.specs.Kernel.Kernel.{opened_nodes}
 use Rattle.fuse_spec.specs.Kernel.Messages.{RequestBody, Request, init, asks, release, forget, batch_forget, interrupt}
 use Rattle.fuse_spec.specs.Server.Server as server
 use Rattle.fuse_spec.specs.Server.Server.{RequestFault, Server, unknown_opcode, unknown_node, too_many_forgets, repeated_unique, is_known, is_forgettable, count_in, forgotten, holding, forgetting}
-use Rattle.fuse_spec.specs.Server.Taking.{taking}
+use Rattle.fuse_spec.specs.Server.Taking.{TakeResult, taking}
 use Rattle.fuse_spec.specs.declared.Taken.TheVariants.{Held, Forgot}
 use Rattle.fk_wire.specs.Requests as wire
 use Rattle.fk_wire.specs.Requests.{RequestContent, RequestMessage, Spells}
@@ -17,7 +19,7 @@ use Rattle.fs_server.specs.declared.server.Took.{Took}
 use Rattle.fuse_spec.specs.Server.Refusals.{is_past_end}
 use Rattle.fs_server.specs.Effects.{TakesFrame, RefusesFrame, request_fault, as_fault, copy_of, fault_or, past_or_memory, refused_for}
 use Rattle.fs_server.specs.Interrupts.{Interrupts}
-use Rattle.fs_server.specs.Taking.{body_of, forgets_in, is_forgetting, is_held, is_spoken, knows, forgets_too_many}
+use Rattle.fs_server.specs.Taking.{body_of, forgets_in, forgets_too_many, gives_too_many, is_forgetting, is_held, is_spoken, knows, are_names_known, waits}
 use Rattle.fs_server.proofs.Forgets.{forgotten_here}
 use Rattle.std.proofs.lemmas.Option.{same_Some}
 
@@ -69,7 +71,28 @@ module _ (s : Server) (bytes : List ℕ) (m : RequestMessage) (spells : Spells b
           (ap (λ (o : Option ServerFault). fault_or o (past_or_memory
           (is_past_end (taking s request.unique request.body).server))) no_fault)
 
--- ---- the fault of a request, by its node and by what it asks
+-- ---- the fault of a request
+
+-- every request asks something
+pub asked_so : (nodeid : ℕ) (content : RequestContent) → body_in nodeid content ≡ Some (body_of nodeid content)
+asked_so nodeid (wire.init major minor flags) = refl
+asked_so nodeid (wire.lookup name) = refl
+asked_so nodeid wire.getattr = refl
+asked_so nodeid (wire.mkdir name) = refl
+asked_so nodeid (wire.create name) = refl
+asked_so nodeid (wire.unlink name) = refl
+asked_so nodeid (wire.rmdir name) = refl
+asked_so nodeid (wire.rename newdir old new) = refl
+asked_so nodeid (wire.link oldnodeid name) = refl
+asked_so nodeid wire.opening = refl
+asked_so nodeid (wire.readdir offset size) = refl
+asked_so nodeid (wire.read fh offset size) = refl
+asked_so nodeid (wire.write fh offset bytes) = refl
+asked_so nodeid (wire.release fh) = refl
+asked_so nodeid (wire.forget n) = refl
+asked_so nodeid (wire.batch_forget fs) = refl
+asked_so nodeid (wire.interrupt original) = refl
+asked_so nodeid (wire.readdirplus offset size) = refl
 
 abbrev first_fault : (known few repeated : Bool) → Option ServerFault
 first_fault known many repeated = cond known (cond many (Some TooManyForgets)
@@ -91,14 +114,9 @@ spoken_so : (spoken : Bool) (o : Option RequestFault) (other : Option ServerFaul
 spoken_so true o other e = e
 spoken_so false o other e = refl
 
-one_known : (k : Bool) → ((k && true) && true) ≡ k
-one_known true = refl
-one_known false = refl
-
-two_known : (j k : Bool) → ((j && (k && true)) && true) ≡ (j && k)
-two_known true true = refl
-two_known true false = refl
-two_known false k = refl
+and_true : (b : Bool) → (b && true) ≡ b
+and_true true = refl
+and_true false = refl
 
 one_forgettable : (k : Bool) → (true && (k && true)) ≡ k
 one_forgettable true = refl
@@ -127,64 +145,37 @@ module _ (s : Server) (unique : ℕ) where
       → as_fault (cond spoken (in_turn a b) (Some unknown_opcode)) ≡ where_spoken spoken other
   judged_at spoken a b other same = spoken_so spoken (in_turn a b) other (judged a b repeated ∙ same)
 
-  of_node : (spoken : Bool) (nodeid : ℕ) → as_fault
-      (cond spoken (in_turn ((is_known s.nodes nodeid && true) && true) false) (Some unknown_opcode))
-      ≡ where_spoken spoken (first_fault (is_known s.nodes nodeid) false repeated)
-  of_node spoken nodeid =
-      judged_at spoken ((is_known s.nodes nodeid && true) && true) false
-      (first_fault (is_known s.nodes nodeid) false repeated)
-      (ap (λ (k : Bool). first_fault k false repeated) (one_known (is_known s.nodes nodeid)))
+  -- of one that gives no lookups back
+  of_names : (spoken k : Bool) → as_fault (cond spoken (in_turn (k && true) false) (Some unknown_opcode))
+      ≡ where_spoken spoken (first_fault k false repeated)
+  of_names spoken k = judged_at spoken (k && true) false (first_fault k false repeated)
+      (ap (λ (b : Bool). first_fault b false repeated) (and_true k))
 
-  of_two : (spoken : Bool) (nodeid other : ℕ) → as_fault
-      (cond spoken (in_turn ((is_known s.nodes nodeid && (is_known s.nodes other && true)) && true) false)
-      (Some unknown_opcode))
-      ≡ where_spoken spoken (first_fault (is_known s.nodes nodeid && is_known s.nodes other) false repeated)
-  of_two spoken nodeid other =
-      judged_at spoken ((is_known s.nodes nodeid && (is_known s.nodes other && true)) && true) false
-      (first_fault (is_known s.nodes nodeid && is_known s.nodes other) false repeated)
-      (ap (λ (k : Bool). first_fault k false repeated) (two_known (is_known s.nodes nodeid) (is_known s.nodes other)))
+  of_body : (body : RequestBody) → request_fault s unique (Some body)
+      ≡ where_spoken (server.knows s.minor body)
+      (first_fault (are_names_known s.nodes body) (gives_too_many s.nodes body) repeated)
+  of_body (init flags) = of_names (server.knows s.minor (init flags)) true
+  of_body (asks o) = of_names (server.knows s.minor (asks o)) (list_all (is_known s.nodes) (files_in opened_nodes o))
+  of_body (release o) = of_names (server.knows s.minor (release o)) (is_known s.nodes o.nodeid && true)
+  of_body (interrupt original) = of_names (server.knows s.minor (interrupt original)) true
+  of_body (forget f) =
+      judged_at (server.knows s.minor (forget f)) (true && (is_forgettable s.nodes f && true))
+          (nat_lt (count_in (get s.nodes.rows f.0)) (forgotten f.0 (f ∷ [])) || false)
+          (first_fault (is_forgettable s.nodes f) (gives_too_many s.nodes (forget f)) repeated)
+      (ap (λ (k : Bool). first_fault k (nat_lt (count_in (get s.nodes.rows f.0)) (forgotten f.0 (f ∷ [])) || false)
+          repeated) (one_forgettable (is_forgettable s.nodes f))
+      ∙ ap (λ (m : Bool). first_fault (is_forgettable s.nodes f) m repeated)
+          (or_none (nat_lt (count_in (get s.nodes.rows f.0)) (forgotten f.0 (f ∷ []))))
+      ∙ ap (λ (m : ℕ). first_fault (is_forgettable s.nodes f) (nat_lt (count_in (get s.nodes.rows f.0)) m) repeated)
+          (forgotten_here f.0 f.1 [] ∙ omega arith))
+  of_body (batch_forget fs) =
+      judged_at (server.knows s.minor (batch_forget fs)) (are_names_known s.nodes (batch_forget fs))
+          (gives_too_many s.nodes (batch_forget fs)) (first_fault (are_names_known s.nodes (batch_forget fs))
+          (gives_too_many s.nodes (batch_forget fs)) repeated) refl
 
-  of_forget : (nodeid n : ℕ) → request_fault s unique (Some (forget (nodeid, n))) ≡ whole_fault nodeid (wire.forget n)
-  of_forget nodeid n =
-      judged_at (server.knows s.minor (forget (nodeid, n))) (true && (is_forgettable s.nodes (nodeid, n) && true))
-      (nat_lt (count_in (get s.nodes.rows nodeid)) (forgotten nodeid ((nodeid, n) ∷ [])) || false)
-      (fault_by nodeid (wire.forget n))
-      (ap (λ (k : Bool). first_fault k (nat_lt (count_in (get s.nodes.rows nodeid))
-      (forgotten nodeid ((nodeid, n) ∷ [])) || false) repeated)
-      (one_forgettable (is_forgettable s.nodes (nodeid, n)))
-      ∙ ap (λ (m : Bool). first_fault (is_forgettable s.nodes (nodeid, n)) m repeated)
-      (or_none (nat_lt (count_in (get s.nodes.rows nodeid)) (forgotten nodeid ((nodeid, n) ∷ []))))
-      ∙ ap (λ (m : ℕ). first_fault (is_forgettable s.nodes (nodeid, n))
-      (nat_lt (count_in (get s.nodes.rows nodeid)) m) repeated) (forgotten_here nodeid n [] ∙ omega arith))
-
-  pub fault_is : (nodeid : ℕ) (content : RequestContent)
-      → request_fault s unique (body_in nodeid content) ≡ whole_fault nodeid content
-  fault_is nodeid (wire.init major minor flags) = judged_at
-      (is_spoken s.minor nodeid (wire.init major minor flags)) true false
-      (fault_by nodeid (wire.init major minor flags)) refl
-  fault_is nodeid (wire.lookup name) = of_node (is_spoken s.minor nodeid (wire.lookup name)) nodeid
-  fault_is nodeid wire.getattr = of_node (is_spoken s.minor nodeid wire.getattr) nodeid
-  fault_is nodeid (wire.mkdir name) = of_node (is_spoken s.minor nodeid (wire.mkdir name)) nodeid
-  fault_is nodeid (wire.create name) = of_node (is_spoken s.minor nodeid (wire.create name)) nodeid
-  fault_is nodeid (wire.unlink name) = of_node (is_spoken s.minor nodeid (wire.unlink name)) nodeid
-  fault_is nodeid (wire.rmdir name) = of_node (is_spoken s.minor nodeid (wire.rmdir name)) nodeid
-  fault_is nodeid wire.opening = of_node (is_spoken s.minor nodeid wire.opening) nodeid
-  fault_is nodeid (wire.read fh offset size) = of_node (is_spoken s.minor nodeid (wire.read fh offset size)) nodeid
-  fault_is nodeid (wire.write fh offset bytes) = of_node (is_spoken s.minor nodeid (wire.write fh offset bytes)) nodeid
-  fault_is nodeid (wire.release fh) = of_node (is_spoken s.minor nodeid (wire.release fh)) nodeid
-  fault_is nodeid (wire.readdir offset size) = of_node (is_spoken s.minor nodeid (wire.readdir offset size)) nodeid
-  fault_is nodeid (wire.rename newdir old new) = of_two
-      (is_spoken s.minor nodeid (wire.rename newdir old new)) nodeid newdir
-  fault_is nodeid (wire.link oldnodeid name) = of_two
-      (is_spoken s.minor nodeid (wire.link oldnodeid name)) nodeid oldnodeid
-  fault_is nodeid (wire.interrupt original) = judged_at (is_spoken s.minor nodeid (wire.interrupt original)) true false
-      (fault_by nodeid (wire.interrupt original)) refl
-  fault_is nodeid (wire.forget n) = of_forget nodeid n
-  fault_is nodeid (wire.batch_forget fs) = judged_at (is_spoken s.minor nodeid (wire.batch_forget fs))
-      (knows s.nodes nodeid (wire.batch_forget fs)) (forgets_too_many s.nodes nodeid (wire.batch_forget fs))
-      (fault_by nodeid (wire.batch_forget fs)) refl
-  fault_is nodeid (wire.readdirplus offset size) =
-      of_node (is_spoken s.minor nodeid (wire.readdirplus offset size)) nodeid
+  pub fault_is : (nodeid : ℕ) (content : RequestContent) → request_fault s unique (body_in nodeid content)
+      ≡ whole_fault nodeid content
+  fault_is nodeid content = ap (request_fault s unique) (asked_so nodeid content) ∙ of_body (body_of nodeid content)
 
   module _ (nodeid : ℕ) (content : RequestContent) where
     pub unspoken : is_spoken s.minor nodeid content ≡ false
@@ -232,6 +223,15 @@ module _ (s : Server) (bytes : List ℕ) (unique nodeid : ℕ) where
     copy = copy;
   }
 
+  taken_so : (body : RequestBody) → waits body ≡ true
+      → taking s unique body ≡ record { word = Held; server = holding s unique body; reply = None }
+  taken_so (init flags) is = refl
+  taken_so (asks operation) is = refl
+  taken_so (release o) is = refl
+  taken_so (forget f) is = absurd (true≢false (sym is))
+  taken_so (batch_forget fs) is = absurd (true≢false (sym is))
+  taken_so (interrupt original) is = absurd (true≢false (sym is))
+
   -- an INTERRUPT
   pub interrupts : {A : Type 0} (original : ℕ) (took : Took A) (new : Server) → Interrupts s unique original took new
       → Spells bytes (message (wire.interrupt original)) → fault_in s (message (wire.interrupt original)) ≡ None
@@ -241,62 +241,16 @@ module _ (s : Server) (bytes : List ℕ) (unique nodeid : ℕ) where
 
   module _ {A : Type 0} (took : Took A) (new : Server) where
     -- what is held
-    pub holds : (content : RequestContent) → is_held content ≡ true
-        → took ≡ record { unique = unique; word = Held; copy = None } → new ≡ holding s unique (body_of nodeid content)
-        → Spells bytes (message content)
+    pub holds : (content : RequestContent) → is_held nodeid content ≡ true
+        → took ≡ record { unique = unique; word = Held; copy = None }
+        → new ≡ holding s unique (body_of nodeid content) → Spells bytes (message content)
         → fault_in s (message content) ≡ None → TakesFrame s bytes took new
-    holds (wire.init major minor flags) is e server =
-        so (wire.init major minor flags) (init flags) took new refl (sym (ap (λ (t : Took A). t.unique) e))
-        (sym (ap (λ (t : Took A). t.word) e)) server (ap (λ (t : Took A). t.copy) e)
-    holds (wire.lookup name) is e server = so (wire.lookup name) (asks (operation.lookup nodeid name)) took new refl
-        (sym (ap (λ (t : Took A). t.unique) e)) (sym (ap (λ (t : Took A). t.word) e)) server
-        (ap (λ (t : Took A). t.copy) e)
-    holds wire.getattr is e server = so wire.getattr (asks (operation.getattr nodeid)) took new refl
-        (sym (ap (λ (t : Took A). t.unique) e)) (sym (ap (λ (t : Took A). t.word) e)) server
-        (ap (λ (t : Took A). t.copy) e)
-    holds (wire.mkdir name) is e server = so (wire.mkdir name) (asks (operation.mkdir nodeid name)) took new refl
-        (sym (ap (λ (t : Took A). t.unique) e)) (sym (ap (λ (t : Took A). t.word) e)) server
-        (ap (λ (t : Took A). t.copy) e)
-    holds (wire.create name) is e server = so (wire.create name) (asks (operation.create nodeid name)) took new refl
-        (sym (ap (λ (t : Took A). t.unique) e)) (sym (ap (λ (t : Took A). t.word) e)) server
-        (ap (λ (t : Took A). t.copy) e)
-    holds (wire.unlink name) is e server = so (wire.unlink name) (asks (operation.unlink nodeid name)) took new refl
-        (sym (ap (λ (t : Took A). t.unique) e)) (sym (ap (λ (t : Took A). t.word) e)) server
-        (ap (λ (t : Took A). t.copy) e)
-    holds (wire.rmdir name) is e server = so (wire.rmdir name) (asks (operation.rmdir nodeid name)) took new refl
-        (sym (ap (λ (t : Took A). t.unique) e)) (sym (ap (λ (t : Took A). t.word) e)) server
-        (ap (λ (t : Took A). t.copy) e)
-    holds (wire.rename newdir old new_name) is e server =
-        so (wire.rename newdir old new_name) (asks (operation.rename nodeid old newdir new_name)) took new refl
-        (sym (ap (λ (t : Took A). t.unique) e)) (sym (ap (λ (t : Took A). t.word) e)) server
-        (ap (λ (t : Took A). t.copy) e)
-    holds (wire.link oldnodeid name) is e server = so (wire.link oldnodeid name)
-        (asks (operation.link oldnodeid nodeid name)) took new refl (sym (ap (λ (t : Took A). t.unique) e))
-        (sym (ap (λ (t : Took A). t.word) e)) server (ap (λ (t : Took A). t.copy) e)
-    holds wire.opening is e server = so wire.opening (asks (operation.opening nodeid)) took new refl
-        (sym (ap (λ (t : Took A). t.unique) e)) (sym (ap (λ (t : Took A). t.word) e)) server
-        (ap (λ (t : Took A). t.copy) e)
-    holds (wire.readdir offset size) is e server = so (wire.readdir offset size)
-        (asks (operation.readdir nodeid offset size)) took new refl (sym (ap (λ (t : Took A). t.unique) e))
-        (sym (ap (λ (t : Took A). t.word) e)) server (ap (λ (t : Took A). t.copy) e)
-    holds (wire.readdirplus offset size) is e server =
-        so (wire.readdirplus offset size) (asks (operation.readdirplus nodeid offset size)) took new refl
-        (sym (ap (λ (t : Took A). t.unique) e)) (sym (ap (λ (t : Took A). t.word) e)) server
-        (ap (λ (t : Took A). t.copy) e)
-    holds (wire.read fh offset size) is e server = so (wire.read fh offset size)
-        (asks (operation.read (record { nodeid = nodeid; fh = fh }) offset size)) took new refl
-        (sym (ap (λ (t : Took A). t.unique) e)) (sym (ap (λ (t : Took A). t.word) e)) server
-        (ap (λ (t : Took A). t.copy) e)
-    holds (wire.write fh offset written) is e server =
-        so (wire.write fh offset written) (asks (operation.write
-        (record { nodeid = nodeid; fh = fh }) offset written)) took new refl (sym (ap (λ (t : Took A). t.unique) e))
-        (sym (ap (λ (t : Took A). t.word) e)) server (ap (λ (t : Took A). t.copy) e)
-    holds (wire.release fh) is e server = so (wire.release fh)
-        (release (record { nodeid = nodeid; fh = fh })) took new refl (sym (ap (λ (t : Took A). t.unique) e))
-        (sym (ap (λ (t : Took A). t.word) e)) server (ap (λ (t : Took A). t.copy) e)
-    holds (wire.forget n) is e server = absurd (true≢false (sym is))
-    holds (wire.batch_forget fs) is e server = absurd (true≢false (sym is))
-    holds (wire.interrupt original) is e server = absurd (true≢false (sym is))
+    holds content is e server =
+        let held = taken_so (body_of nodeid content) is in
+        so content (body_of nodeid content) took new (asked_so nodeid content) (sym (ap (λ (t : Took A). t.unique) e))
+            (ap (λ (t : TakeResult). t.word) held ∙ sym (ap (λ (t : Took A). t.word) e))
+            (server ∙ sym (ap (λ (t : TakeResult). t.server) held))
+        (ap (λ (t : Took A). t.copy) e ∙ sym (ap (λ (t : TakeResult). copy_of s.next_copy unique t.reply) held))
 
     -- lookups that are given back
     pub forgets : (content : RequestContent) → is_forgetting content ≡ true

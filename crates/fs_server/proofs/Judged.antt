@@ -6,22 +6,21 @@ use Rattle.std.proofs.lemmas.Option.{none-some, same_Some}
 use Rattle.fuse_spec.specs.Values.Maps.{get}
 use Rattle.fuse_spec.specs.Values.Numbers.{eagain}
 use Rattle.fuse_spec.specs.Files.Operations.{failed}
-use Rattle.fuse_spec.specs.Kernel.Messages.{WireReply}
+use Rattle.fuse_spec.specs.Kernel.Messages.{RequestBody, WireReply, init, asks, release, forget, batch_forget, interrupt}
 use Rattle.fuse_spec.specs.Server.Server.{Server, HeldRequest, Kept}
 use Rattle.fuse_spec.specs.Server.Taking.{interrupting, taking}
-use Rattle.fk_wire.specs.Requests as wire
-use Rattle.fk_wire.specs.Requests.{RequestContent, RequestMessage}
+use Rattle.fk_wire.specs.Requests.{RequestMessage}
 use Rattle.fuse_frames.specs.RequestTies.{body_in}
 use Rattle.fs_server.specs.declared.server.ServerFault.{ServerFault}
 use Rattle.fs_server.specs.declared.server.ServerFault.TheVariants.{Memory}
 use Rattle.fuse_spec.specs.Server.Refusals.{is_past_end}
 use Rattle.fs_server.specs.Effects.{AnswersFrame, CanTake, RefusesFrame, fault_or, past_or_memory}
-use Rattle.fs_server.specs.Taking.{IsTakeable, answers, body_of}
-use Rattle.fs_server.proofs.Becoming.{asks, can_take}
+use Rattle.fs_server.specs.Taking.{IsTakeable, answers, body_of, is_answered_now}
+use Rattle.fs_server.proofs.Becoming.{asked_body, can_take}
 
 module _ (s : Server) (unique : ℕ) where
-  abbrev reply_to : ℕ → RequestContent → Option WireReply
-  reply_to nodeid content = (taking s unique (body_of nodeid content)).reply
+  abbrev reply_to : RequestBody → Option WireReply
+  reply_to body = (taking s unique body).reply
 
   -- what an INTERRUPT is answered
   abbrev reply_of : (original : ℕ) → Option HeldRequest → Option Kept → Option WireReply
@@ -39,40 +38,27 @@ module _ (s : Server) (unique : ℕ) where
   says_nothing original None (Some k) e = refl
   says_nothing original None None e = absurd (true≢false e)
 
-  answered : (nodeid : ℕ) (content : RequestContent) → answers s content ≡ true
-      → reply_to nodeid content ≡ Some (failed eagain)
-  answered nodeid (wire.interrupt original) e = asks_again original (get s.held original) (get s.kept original) e
-  answered nodeid content e = absurd (true≢false (sym e))
+  answered : (body : RequestBody) → is_answered_now s body ≡ true → reply_to body ≡ Some (failed eagain)
+  answered (interrupt original) e = asks_again original (get s.held original) (get s.kept original) e
+  answered body e = absurd (true≢false (sym e))
 
-  silent : (nodeid : ℕ) (content : RequestContent) → answers s content ≡ false → reply_to nodeid content ≡ None
-  silent nodeid (wire.interrupt original) e = says_nothing original (get s.held original) (get s.kept original) e
-  silent nodeid (wire.init major minor flags) e = refl
-  silent nodeid (wire.lookup name) e = refl
-  silent nodeid wire.getattr e = refl
-  silent nodeid (wire.mkdir name) e = refl
-  silent nodeid (wire.create name) e = refl
-  silent nodeid (wire.unlink name) e = refl
-  silent nodeid (wire.rmdir name) e = refl
-  silent nodeid (wire.rename newdir old new) e = refl
-  silent nodeid (wire.link oldnodeid name) e = refl
-  silent nodeid wire.opening e = refl
-  silent nodeid (wire.readdir offset size) e = refl
-  silent nodeid (wire.read fh offset size) e = refl
-  silent nodeid (wire.write fh offset bytes) e = refl
-  silent nodeid (wire.release fh) e = refl
-  silent nodeid (wire.forget n) e = refl
-  silent nodeid (wire.batch_forget fs) e = refl
-  silent nodeid (wire.readdirplus offset size) e = refl
+  silent : (body : RequestBody) → is_answered_now s body ≡ false → reply_to body ≡ None
+  silent (interrupt original) e = says_nothing original (get s.held original) (get s.kept original) e
+  silent (init flags) e = refl
+  silent (asks operation) e = refl
+  silent (release o) e = refl
+  silent (forget f) e = refl
+  silent (batch_forget fs) e = refl
 
 -- nothing refuses the frame but want of memory
 module _ (s : Server) (bytes : List ℕ) (m : RequestMessage) (right : IsTakeable s bytes m) where
-  pub answers_frame : (b : Bool) → b ≡ answers s m.content → IsTrue b ↔ AnswersFrame s bytes
+  pub answers_frame : (b : Bool) → b ≡ answers s m.nodeid m.content → IsTrue b ↔ AnswersFrame s bytes
   answers_frame true e = (
     (λ t. record {
-      can = can_take s bytes m right;
-      reply = failed eagain;
-      replies = answered s m.unique m.nodeid m.content (sym e);
-    }),
+        can = can_take s bytes m right;
+        reply = failed eagain;
+        replies = answered s m.unique (body_of m.nodeid m.content) (sym e);
+      }),
     (λ a. refl),
   )
   answers_frame false e = (
@@ -81,13 +67,13 @@ module _ (s : Server) (bytes : List ℕ) (m : RequestMessage) (right : IsTakeabl
         let says = a.can.says in
         let one = right.only says.message says.spells in
         let unique : m.unique ≡ a.can.request.unique = ap (λ (n : RequestMessage). n.unique) one ∙ says.unique in
-        let asked : Some (body_of m.nodeid m.content) ≡ Some a.can.request.body =
-        sym (asks s bytes m right) ∙ ap (λ (n : RequestMessage). body_in n.nodeid n.content) one ∙ says.says in
-        let body_is : body_of m.nodeid m.content ≡ a.can.request.body =
-        same_Some (body_of m.nodeid m.content) a.can.request.body asked in
+        let asked : Some (body_of m.nodeid m.content) ≡ Some a.can.request.body = sym (asked_body s bytes m right) ∙ ap
+            (λ (n : RequestMessage). body_in n.nodeid n.content) one ∙ says.says in
+        let body_is : body_of m.nodeid m.content ≡ a.can.request.body = same_Some
+            (body_of m.nodeid m.content) a.can.request.body asked in
         let same : (taking s m.unique (body_of m.nodeid m.content)).reply
-        ≡ (taking s a.can.request.unique a.can.request.body).reply = λ i. (taking s (unique i) (body_is i)).reply in
-        absurd (none-some a.reply (sym (silent s m.unique m.nodeid m.content (sym e)) ∙ same ∙ a.replies))),
+            ≡ (taking s a.can.request.unique a.can.request.body).reply = λ i. (taking s (unique i) (body_is i)).reply in
+        absurd (none-some a.reply (sym (silent s m.unique (body_of m.nodeid m.content) (sym e)) ∙ same ∙ a.replies))),
   )
 
 -- a frame that is refused isn't answered

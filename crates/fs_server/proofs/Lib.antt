@@ -1,5 +1,6 @@
 pub mod Forgets
 pub mod Frames
+pub mod NamedNodes
 pub mod Sound
 pub mod Refused
 pub mod Served

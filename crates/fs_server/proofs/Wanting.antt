@@ -2,18 +2,18 @@
 use Rattle.std.proofs.Common.{◌≡◌, ℕ, Bool, true, false, true≢false, List, Option, Some, None, Result, Ok, Err, refl, sym, ap, ◌∙◌}
 use Rattle.std.specs.Prelude.{IfErr, OnErr}
 use Rattle.std.proofs.lemmas.Option.{same_Some}
-use Rattle.fuse_spec.specs.Kernel.Messages.{RequestBody, interrupt}
+use Rattle.fuse_spec.specs.Kernel.Messages.{RequestBody, init, asks, release, forget, batch_forget, interrupt}
 use Rattle.fuse_spec.specs.Server.Server.{Server, RequestFault, unknown_opcode, unknown_node, too_many_forgets, repeated_unique, fault_of}
 use Rattle.fuse_spec.specs.Server.Taking.{taking}
 use Rattle.fuse_spec.specs.declared.Taken.TheVariants.{Held, Again}
 use Rattle.fk_wire.specs.Requests as wire
-use Rattle.fk_wire.specs.Requests.{RequestContent, RequestMessage}
+use Rattle.fk_wire.specs.Requests.{RequestMessage}
 use Rattle.fuse_frames.specs.RequestTies.{body_in}
 use Rattle.fs_server.specs.declared.server.ServerFault.{ServerFault}
 use Rattle.fs_server.specs.declared.server.ServerFault.TheVariants.{Memory}
 use Rattle.fs_server.specs.Effects.{CanTake, WantsMemory, as_fault, request_fault, takes_memory}
-use Rattle.fs_server.specs.Taking.{IsTakeable, body_of, is_held}
-use Rattle.fs_server.proofs.Becoming.{asks, can_take}
+use Rattle.fs_server.specs.Taking.{IsTakeable, body_of, is_held, waits}
+use Rattle.fs_server.proofs.Becoming.{asked_body, can_take}
 
 abbrev is_memory_fault : ServerFault → Bool
 is_memory_fault Memory = true
@@ -40,26 +40,13 @@ fault_apart s unique None fault is = other_fault fault (sym (ap is_memory_in is)
 fault_apart s unique (Some body) fault is = other_fault fault
     (sym (ap is_memory_in is) ∙ judged_apart (fault_of s (record { unique = unique; body = body })))
 
-held_word : (s : Server) (unique nodeid : ℕ) (content : RequestContent) → is_held content ≡ true
-    → (taking s unique (body_of nodeid content)).word ≡ Held
-held_word s unique nodeid (wire.init major minor flags) is = refl
-held_word s unique nodeid (wire.lookup name) is = refl
-held_word s unique nodeid wire.getattr is = refl
-held_word s unique nodeid (wire.mkdir name) is = refl
-held_word s unique nodeid (wire.create name) is = refl
-held_word s unique nodeid (wire.unlink name) is = refl
-held_word s unique nodeid (wire.rmdir name) is = refl
-held_word s unique nodeid (wire.rename newdir old new) is = refl
-held_word s unique nodeid (wire.link oldnodeid name) is = refl
-held_word s unique nodeid wire.opening is = refl
-held_word s unique nodeid (wire.readdir offset size) is = refl
-held_word s unique nodeid (wire.readdirplus offset size) is = refl
-held_word s unique nodeid (wire.read fh offset size) is = refl
-held_word s unique nodeid (wire.write fh offset bytes) is = refl
-held_word s unique nodeid (wire.release fh) is = refl
-held_word s unique nodeid (wire.forget n) is = absurd (true≢false (sym is))
-held_word s unique nodeid (wire.batch_forget fs) is = absurd (true≢false (sym is))
-held_word s unique nodeid (wire.interrupt original) is = absurd (true≢false (sym is))
+held_word : (s : Server) (unique : ℕ) (body : RequestBody) → waits body ≡ true → (taking s unique body).word ≡ Held
+held_word s unique (init flags) is = refl
+held_word s unique (asks operation) is = refl
+held_word s unique (release o) is = refl
+held_word s unique (forget f) is = absurd (true≢false (sym is))
+held_word s unique (batch_forget fs) is = absurd (true≢false (sym is))
+held_word s unique (interrupt original) is = absurd (true≢false (sym is))
 
 -- nothing refuses the frame but want of memory
 module _ (s : Server) (bytes : List ℕ) (m : RequestMessage) (right : IsTakeable s bytes m) where
@@ -73,16 +60,16 @@ module _ (s : Server) (bytes : List ℕ) (m : RequestMessage) (right : IsTakeabl
       let body_is : body ≡ request.body = same_Some body request.body asked in
       sym (λ i. takes_memory (taking s (unique i) (body_is i)).word) ∙ takes
 
-  held_wants : is_held m.content ≡ true → WantsMemory s bytes
-  held_wants is = wants_for (body_of m.nodeid m.content) (asks s bytes m right)
-      (ap takes_memory (held_word s m.unique m.nodeid m.content is))
+  held_wants : is_held m.nodeid m.content ≡ true → WantsMemory s bytes
+  held_wants is = wants_for (body_of m.nodeid m.content) (asked_body s bytes m right)
+      (ap takes_memory (held_word s m.unique (body_of m.nodeid m.content) is))
 
   interrupt_wants : (original : ℕ) → m.content ≡ wire.interrupt original
       → (taking s m.unique (interrupt original)).word ≡ Again → WantsMemory s bytes
   interrupt_wants original is word = wants_for (interrupt original) (ap (body_in m.nodeid) is) (ap takes_memory word)
 
   -- the same of what comes of it
-  pub hold_wants : {T : Type 0} → is_held m.content ≡ true → (r : Result T ServerFault)
+  pub hold_wants : {T : Type 0} → is_held m.nodeid m.content ≡ true → (r : Result T ServerFault)
       → IfErr r (λ fault. fault ≡ Memory → WantsMemory s bytes)
   hold_wants is (Ok took) = tt
   hold_wants is (Err fault) = λ memory. held_wants is

@@ -6,10 +6,9 @@ ghost use Rattle.fuse_spec.specs.Kernel.Messages.{interrupt as asked};
 ghost use Rattle.fuse_spec.specs.Server.Server.{HeldRequest as HeldState};
 ghost use Rattle.fuse_spec.specs.Server.Taking.{taking};
 ghost use Rattle.fuse_spec.specs.declared.Taken.TheVariants.{Again as AgainWord};
-ghost use Rattle.fk_wire.specs.Requests.{interrupt as content};
 ghost use Rattle.fs_server.specs.declared.server.ServerFault.TheVariants.{Memory as MemoryFault};
 ghost use Rattle.fs_server.specs.Interrupts.{AsksAgain, Interrupts};
-ghost use Rattle.fs_server.specs.Taking.{answers};
+ghost use Rattle.fs_server.specs.Taking.{is_answered_now};
 
 use crate::replies::SentCopy;
 use crate::server::{ServerFault, ServerOf, Took};
@@ -32,7 +31,7 @@ impl<S: NodeStore> ServerOf<S> {
         unique: u64,
         original: u64,
     ) -> Result<Took<S::Heap>, ServerFault>
-        requires { answers self.old (content original) ≡ true → self.old.next_copy < 2 ^ 62 }
+        requires { is_answered_now self.old (asked original) ≡ true → self.old.next_copy < 2 ^ 62 }
         ensures refused { OnErr result (self.new ≡ self.old) }
         ensures fault { IfErr result (λ fault. fault ≡ MemoryFault) }
         ensures answered { OnErr result ((taking self.old unique (asked original)).word ≡ AgainWord) }

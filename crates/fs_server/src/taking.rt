@@ -52,7 +52,7 @@ impl<S: NodeStore> ServerOf<S> {
     fn hold(&mut self, request: &Request<'_>) -> Result<Took<S::Heap>, ServerFault>
         requires faultless { IsFaultless self.old request.now.unique request.now.nodeid
             (request_content request.now.body) }
-        requires holds { is_held (request_content request.now.body) ≡ true }
+        requires holds { is_held request.now.nodeid (request_content request.now.body) ≡ true }
         ensures refused { OnErr result (self.new ≡ self.old) }
         ensures fault { IfErr result (λ fault. fault ≡ MemoryFault) }
         ensures took { IfOk result (λ took. took ≡ record {

@@ -15,18 +15,14 @@ returns-in-Some-clause-refused g c =
 pub returns-then-self-ge-COUNTER_END-clause-refused : goal.returns-then-self-ge-COUNTER_END-clause-refused
 returns-then-self-ge-COUNTER_END-clause-refused g c =
     let over = c.if-self-ge-COUNTER_END.true in
-    exhausts c.args.self.now c.args.bytes.now
-    (request_message c.in-Ok.request) c.in-Ok.ensures.ok c.in-Ok.ensures.only c.in_default-request_fault.ensures.faultless (sym c.answers.ensures ∙ c.if-answers.true) (rw (← c.self.view_is) over)
+    exhausts c.args.self.now c.args.bytes.now (request_message c.in-Ok.request) c.in-Ok.ensures.ok c.in-Ok.ensures.only c.in_default-request_fault.ensures.faultless (sym (c.answers.ensures c.in-Ok.request.nodeid) ∙ c.if-answers.true) (rw (← c.self.view_is) over)
 
 pub returns-clause-takeable : goal.returns-clause-takeable
 returns-clause-takeable g c =
-    let number : answers c.args.self.now (request_content c.in-Ok.request.body) ≡ true
-    → c.args.self.now.next_copy < 2 ^ 62 =
+    let number : answers c.args.self.now c.in-Ok.request.nodeid (request_content c.in-Ok.request.body) ≡ true → c.args.self.now.next_copy < 2 ^ 62 =
     elim c.else-answers.branch [
-      | else-answers-via-then-answers+else-self-ge-COUNTER_END w ↦ λ up. rw
-          (← c.self.view_is) w.if-self-ge-COUNTER_END.false
-      | else-answers-via-else-answers w ↦ λ up. absurd
-          (true≢false (sym up ∙ sym c.answers.ensures ∙ w.if-answers.false))
+      | else-answers-via-then-answers+else-self-ge-COUNTER_END w ↦ λ up. rw (← c.self.view_is) w.if-self-ge-COUNTER_END.false
+      | else-answers-via-else-answers w ↦ λ up. absurd (true≢false (sym up ∙ sym (c.answers.ensures c.in-Ok.request.nodeid) ∙ w.if-answers.false))
     ] in
     record {
       spells = c.in-Ok.ensures.ok;

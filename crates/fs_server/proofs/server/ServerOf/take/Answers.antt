@@ -35,7 +35,7 @@ pub returns-in_default : goal.returns-in_default
 returns-in_default g c =
     let m = request_message c.in_ok-request.request in
     let right = c.in_ok-request.ensures.takeable in
-    let is : is_held (request_content c.in_ok-request.request.body) ≡ true = search rules in
+    let is : is_held c.in_ok-request.request.nodeid (request_content c.in_ok-request.request.body) ≡ true = search rules in
     record {
       refused = c.hold.ensures.refused;
       effect = held_so c.args.self.now c.args.bytes.now m right is c.hold.new.self c.hold.result c.hold.ensures.fault c.hold.ensures.took c.hold.ensures.held;
