@@ -160,18 +160,18 @@ module _ (s : Server) (unique : ℕ) where
   of_body (interrupt original) = of_names (server.knows s.minor (interrupt original)) true
   of_body (forget f) =
       judged_at (server.knows s.minor (forget f)) (true && (is_forgettable s.nodes f && true))
-          (nat_lt (count_in (get s.nodes.rows f.0)) (forgotten f.0 (f ∷ [])) || false)
-          (first_fault (is_forgettable s.nodes f) (gives_too_many s.nodes (forget f)) repeated)
+      (nat_lt (count_in (get s.nodes.rows f.0)) (forgotten f.0 (f ∷ [])) || false)
+      (first_fault (is_forgettable s.nodes f) (gives_too_many s.nodes (forget f)) repeated)
       (ap (λ (k : Bool). first_fault k (nat_lt (count_in (get s.nodes.rows f.0)) (forgotten f.0 (f ∷ [])) || false)
-          repeated) (one_forgettable (is_forgettable s.nodes f))
+      repeated) (one_forgettable (is_forgettable s.nodes f))
       ∙ ap (λ (m : Bool). first_fault (is_forgettable s.nodes f) m repeated)
-          (or_none (nat_lt (count_in (get s.nodes.rows f.0)) (forgotten f.0 (f ∷ []))))
+      (or_none (nat_lt (count_in (get s.nodes.rows f.0)) (forgotten f.0 (f ∷ []))))
       ∙ ap (λ (m : ℕ). first_fault (is_forgettable s.nodes f) (nat_lt (count_in (get s.nodes.rows f.0)) m) repeated)
-          (forgotten_here f.0 f.1 [] ∙ omega arith))
+      (forgotten_here f.0 f.1 [] ∙ omega arith))
   of_body (batch_forget fs) =
       judged_at (server.knows s.minor (batch_forget fs)) (are_names_known s.nodes (batch_forget fs))
-          (gives_too_many s.nodes (batch_forget fs)) (first_fault (are_names_known s.nodes (batch_forget fs))
-          (gives_too_many s.nodes (batch_forget fs)) repeated) refl
+      (gives_too_many s.nodes (batch_forget fs)) (first_fault (are_names_known s.nodes (batch_forget fs))
+      (gives_too_many s.nodes (batch_forget fs)) repeated) refl
 
   pub fault_is : (nodeid : ℕ) (content : RequestContent) → request_fault s unique (body_in nodeid content)
       ≡ whole_fault nodeid content
@@ -248,8 +248,8 @@ module _ (s : Server) (bytes : List ℕ) (unique nodeid : ℕ) where
     holds content is e server =
         let held = taken_so (body_of nodeid content) is in
         so content (body_of nodeid content) took new (asked_so nodeid content) (sym (ap (λ (t : Took A). t.unique) e))
-            (ap (λ (t : TakeResult). t.word) held ∙ sym (ap (λ (t : Took A). t.word) e))
-            (server ∙ sym (ap (λ (t : TakeResult). t.server) held))
+        (ap (λ (t : TakeResult). t.word) held ∙ sym (ap (λ (t : Took A). t.word) e))
+        (server ∙ sym (ap (λ (t : TakeResult). t.server) held))
         (ap (λ (t : Took A). t.copy) e ∙ sym (ap (λ (t : TakeResult). copy_of s.next_copy unique t.reply) held))
 
     -- lookups that are given back

@@ -55,10 +55,10 @@ module _ (s : Server) (bytes : List ℕ) (m : RequestMessage) (right : IsTakeabl
   pub answers_frame : (b : Bool) → b ≡ answers s m.nodeid m.content → IsTrue b ↔ AnswersFrame s bytes
   answers_frame true e = (
     (λ t. record {
-        can = can_take s bytes m right;
-        reply = failed eagain;
-        replies = answered s m.unique (body_of m.nodeid m.content) (sym e);
-      }),
+      can = can_take s bytes m right;
+      reply = failed eagain;
+      replies = answered s m.unique (body_of m.nodeid m.content) (sym e);
+    }),
     (λ a. refl),
   )
   answers_frame false e = (
@@ -68,11 +68,11 @@ module _ (s : Server) (bytes : List ℕ) (m : RequestMessage) (right : IsTakeabl
         let one = right.only says.message says.spells in
         let unique : m.unique ≡ a.can.request.unique = ap (λ (n : RequestMessage). n.unique) one ∙ says.unique in
         let asked : Some (body_of m.nodeid m.content) ≡ Some a.can.request.body = sym (asked_body s bytes m right) ∙ ap
-            (λ (n : RequestMessage). body_in n.nodeid n.content) one ∙ says.says in
+        (λ (n : RequestMessage). body_in n.nodeid n.content) one ∙ says.says in
         let body_is : body_of m.nodeid m.content ≡ a.can.request.body = same_Some
-            (body_of m.nodeid m.content) a.can.request.body asked in
+        (body_of m.nodeid m.content) a.can.request.body asked in
         let same : (taking s m.unique (body_of m.nodeid m.content)).reply
-            ≡ (taking s a.can.request.unique a.can.request.body).reply = λ i. (taking s (unique i) (body_is i)).reply in
+        ≡ (taking s a.can.request.unique a.can.request.body).reply = λ i. (taking s (unique i) (body_is i)).reply in
         absurd (none-some a.reply (sym (silent s m.unique (body_of m.nodeid m.content) (sym e)) ∙ same ∙ a.replies))),
   )
 

@@ -36,4 +36,4 @@ module _ (t : NodeTable) (o : Operation (Bor (List ℕ))) (node : ℕ) (is : nod
       → (is_known t node && is_known t other) ≡ list_all (is_known t) (nodes_of_body (body_asking o))
   two_known other besides =
       ap (λ (b : Bool). is_known t node && b) (sym (and_true (is_known t other))) ∙ ap
-          (λ (ids : List ℕ). list_all (is_known t) ids) (named (λ s. s.now) o node (Some other) is besides)
+      (λ (ids : List ℕ). list_all (is_known t) ids) (named (λ s. s.now) o node (Some other) is besides)
