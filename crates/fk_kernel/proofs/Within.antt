@@ -26,7 +26,7 @@ use Rattle.fk_said.specs.ReplySaid.{LentReply, wire_of}
 use Rattle.fk_kernel.proofs.Phases.{none_past_end, within_ends}
 use Rattle.fk_kernel.proofs.CallStates.{LooksNone, makes_found, none_agreed}
 use Rattle.fk_kernel.proofs.Walking.{asks_within, walk_numbers}
-use Rattle.fk_kernel.proofs.Replied.{ended, answer_by, IsPlain, plain_is, done_is, wrong_is, found_useless, found_stale, made_found, lookup_missing, made_missing, create_useless, create_stale, create_made, open_done, list_done}
+use Rattle.fk_kernel.proofs.Replied.{ended, answer_by, IsPlain, plain_is, done_is, wrong_is, found_useless, found_stale, made_found, lookup_found, lookup_missing, made_missing, create_useless, create_stale, create_made, open_done, list_done}
 
 -- Whether what is said brings no entry of a LOOKUP, MKDIR or LINK.
 abbrev pub IsNoEntry : WireReply → Type 0
@@ -187,3 +187,32 @@ walks_within k unique call directory word words plan g valid low few left =
       queues = without k.queues unique;
       nodes = learnt k.nodes (g ∷ []);
     }) call next.operation low (rw same_call few) left
+
+-- An entry finds a number for what the call asks next, where one is left.
+module _ (k : Kernel) (unique call : ℕ) (even : nat_eq (unique % 2) 1 ≡ false)
+    (waits : waiting k.queues unique ≡ Some (Call call)) (same : is_past_end k ≡ false)
+    (left : 0 < numbers_left_from k.queues.next) (g : Entry) (valid : ℕ) where
+  usable_within : (operation : Operation ℕ Opened) (state : CallState Opened) → get k.vfs.calls call ≡ Some state
+      → StandsAt operation state → goes_with operation (reply.found g valid) ≡ true → use_of k.nodes g ≡ usable
+      → Keeps (reply_written k unique (reply.found g valid))
+  usable_within (lookup d w) state at s goes is =
+      let ends = within_ends k.queues.next k.vfs.next_call same in
+      ap (λ (r : WriteResult × Kernel). is_past_end r.1)
+      (lookup_found k unique call even waits d w s.words s.plan (at ∙ ap Some s.is) g valid is)
+      ∙ walks_within k unique call d w s.words s.plan g valid ends.0 ends.1 (λ some. left)
+  usable_within (mkdir d n) state at s goes is =
+      ap (λ (r : WriteResult × Kernel). is_past_end r.1)
+      (made_found k unique call even waits (mkdir d n) (d, n) (mkdirs d n) (at ∙ ap Some s) g valid is) ∙ same
+  usable_within (link x d n) state at s goes is =
+      ap (λ (r : WriteResult × Kernel). is_past_end r.1)
+      (made_found k unique call even waits (link x d n) (d, n) (links x d n) (at ∙ ap Some s) g valid is) ∙ same
+  usable_within operation state at s goes is = absurd (true≢false (sym goes))
+
+  pub found_within : (aw : Awaits (get k.vfs.calls call) (reply.found g valid))
+      → is_past_end (reply_written k unique (reply.found g valid)).1 ≡ false
+  found_within aw = by (use_of k.nodes g) refl
+    where
+      by : (u : Use) → use_of k.nodes g ≡ u → Keeps (reply_written k unique (reply.found g valid))
+      by usable is = usable_within aw.operation aw.state aw.at aw.stands aw.goes is
+      by useless is = useless_within k unique call even waits same g valid aw is
+      by (stale node) is = stale_within k unique call even waits same g valid aw node is

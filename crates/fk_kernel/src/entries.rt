@@ -71,6 +71,15 @@ fn bind_entry<A: Allocator + Copy, C: CountTable>(
     Ok(())
 }
 
+/// Whether a call that stands so looks up a word.
+pub(crate) fn looks_up<A: Allocator + Copy>(state: &CallState<A>) -> bool
+    ensures looks { result ≡ true → LooksUp (Some state.now) }
+    ensures other { result ≡ false → (directory : ℕ) (word : Name) (words : List Name) (plan : WalkPlan ℕ)
+        → Some state.now ≢ Some (walking directory word words plan) }
+{
+    matches!(state.asks(), Operation::Lookup { .. })
+}
+
 impl<Q: QueueTable<Purpose> + Drop, C: CountTable<Heap = Q::Heap> + Drop> KernelOf<Q, C> {
     /// What a reply with an entry says reaches the call: it has to name a file that can be used.
     pub(crate) fn entry_found(
@@ -145,7 +154,7 @@ impl<Q: QueueTable<Purpose> + Drop, C: CountTable<Heap = Q::Heap> + Drop> Kernel
         let Some(waiting) = self.calls.get(call) else {
             return false;
         };
-        matches!(waiting.asks(), Operation::Lookup { .. })
+        looks_up(waiting)
     }
 
     /// Whether an entry can be used.

@@ -1,24 +1,28 @@
 //! Whether a reply would have a request queued for which no number is left, or bring a node's count to the end of
 //! counters.
 
-ghost use Rattle.std.specs.Prelude.{◌≡◌, ◌≤◌, ◌%◌, [], ◌∷◌, Some, IfSome, IfNone, true, false, nat_eq};
+ghost use Rattle.std.specs.Prelude.{◌≡◌, ◌≤◌, ◌%◌, [], ◌∷◌, Some, IfSome, IfNone, OnOk, OnErr, IfOk, IfErr, true, false, nat_eq};
 ghost use Rattle.fuse_spec.specs.Values.Maps.{get};
 ghost use Rattle.fuse_spec.specs.Values.Numbers.{max_validity};
 ghost use Rattle.fuse_spec.specs.Files.Operations as reply;
 ghost use Rattle.fuse_spec.specs.Kernel.QueueCalls.{waiting};
+ghost use Rattle.fuse_spec.specs.Kernel.Uniques.{numbers_left_from};
+ghost use Rattle.fuse_spec.specs.Calls.Vfs.{asked};
 ghost use Rattle.fuse_spec.specs.Kernel.Replies.{usable, first_use, use_of, reply_written};
 ghost use Rattle.fk_kernel.specs.Entries.{Awaits, EndsWithin, LooksUp, IsFew, learnt_by_all, nodes_heard};
 ghost use Rattle.fuse_spec.specs.Kernel.Refusals.{is_counted_out, is_past, is_past_end};
+ghost use Rattle.fk_kernel.specs.CallReplies.{IsCallReply, SaysNone};
 ghost use Rattle.fk_kernel.specs.Refused.{PassesEnd, WritePasses};
 ghost use Rattle.fk_said.specs.ReplySaid.{wire_of, LastsADay};
 ghost use Rattle.fk_kernel.specs.Said.{awaited_by_call};
 
+use crate::entries::looks_up;
 use crate::kernel::KernelOf;
 use fk_lookup_count::CountTable;
 use fk_nodes::EntryUse;
 use fk_queues::QueueTable;
 use fk_said::{ReplySaid, said_to};
-use fk_syscalls::NewName;
+use fk_syscalls::{CallState, NewName};
 use fk_wire::read_reply_head;
 use fuse_frames::Reply;
 use fuse_spec::{Entry, Operation, Purpose, Refusal};
@@ -64,26 +68,67 @@ impl<Q: QueueTable<Purpose> + Drop, C: CountTable<Heap = Q::Heap> + Drop> Kernel
         ensures within { result ≡ false → PassesEnd self.now unique bytes.now
             (awaited_by_call (get self.now.vfs.calls call)) → ⊥ }
     {
-        self.within();
-        self.counts_within();
-        let Some(waiting) = self.calls.get(call) else {
+        let Some(state) = self.calls.get(call) else {
             return false;
         };
-        let said = said_to(&waiting.asks(), bytes);
+        self.said_to_call(unique, call, state, bytes).is_err()
+    }
+
+    /// What the bytes say to an unanswered call that stands so, if it goes with what the call asked.
+    ///
+    /// # Errors
+    ///
+    /// `Exhausted` where they would have a request queued for which no number is left, or bring a node's count to the
+    /// end of counters.
+    pub(crate) fn said_to_call<'a>(
+        &self,
+        unique: u64,
+        call: u64,
+        state: &CallState<Q::Heap>,
+        bytes: &'a [u8],
+    ) -> Result<Option<ReplySaid<'a>>, Refusal>
+        requires even { nat_eq (unique % 2) 1 ≡ false }
+        requires waits { waiting self.now.queues unique ≡ Some (Purpose.Call call) }
+        requires unanswered { get self.now.vfs.calls call ≡ Some state.now }
+        ensures refusal { IfErr result (λ refusal. refusal ≡ Refusal.Exhausted) }
+        ensures past { OnErr result (PassesEnd self.now unique bytes.now
+            (awaited_by_call (get self.now.vfs.calls call))) }
+        ensures stays { OnOk result (PassesEnd self.now unique bytes.now
+            (awaited_by_call (get self.now.vfs.calls call)) → ⊥) }
+        ensures ends { OnOk result (EndsWithin self.now call) }
+        ensures said { IfOk result (λ said. IfSome said
+            (IsCallReply self.now unique call (asked state.now) bytes.now)) }
+        ensures none { IfOk result (λ said. IfNone said (SaysNone (asked state.now) bytes.now)) }
+    {
+        self.within();
+        self.counts_within();
+        let said = said_to(&state.asks(), bytes);
         if self.ends_past(call) {
-            return true;
+            return Err(Refusal::Exhausted);
         }
         match said {
-            Some(said) => self.said_past(unique, call, &said),
-            None => false,
+            Some(said) => {
+                if self.said_past(unique, call, state, &said) {
+                    return Err(Refusal::Exhausted);
+                }
+                Ok(Some(said))
+            }
+            None => Ok(None),
         }
     }
 
-    /// Whether what is said to a call would bring a node's count to the end of counters, or have a request queued for
-    /// which no number is left.
-    pub(crate) fn said_past(&self, unique: u64, call: u64, said: &ReplySaid<'_>) -> bool
+    /// Whether what is said to a call that stands so would bring a node's count to the end of counters, or have a
+    /// request queued for which no number is left.
+    fn said_past(
+        &self,
+        unique: u64,
+        call: u64,
+        state: &CallState<Q::Heap>,
+        said: &ReplySaid<'_>,
+    ) -> bool
         requires even { nat_eq (unique % 2) 1 ≡ false }
         requires waits { waiting self.now.queues unique ≡ Some (Purpose.Call call) }
+        requires unanswered { get self.now.vfs.calls call ≡ Some state.now }
         requires awaits { Awaits (get self.now.vfs.calls call) (wire_of said.now) }
         requires few { IsFew (wire_of said.now) }
         requires day { LastsADay said.now }
@@ -96,7 +141,7 @@ impl<Q: QueueTable<Purpose> + Drop, C: CountTable<Heap = Q::Heap> + Drop> Kernel
         if self.counts_past(said) {
             return true;
         }
-        self.walks_past(unique, call, said)
+        self.walks_past(unique, call, state, said)
     }
 
     /// Whether what is said to a call would bring a node's count to the end of counters.
@@ -126,10 +171,17 @@ impl<Q: QueueTable<Purpose> + Drop, C: CountTable<Heap = Q::Heap> + Drop> Kernel
         }
     }
 
-    /// Whether a call to which this is said would walk on to a request for which no number is left.
-    fn walks_past(&self, unique: u64, call: u64, said: &ReplySaid<'_>) -> bool
+    /// Whether a call that stands so and is told this would walk on to a request for which no number is left.
+    fn walks_past(
+        &self,
+        unique: u64,
+        call: u64,
+        state: &CallState<Q::Heap>,
+        said: &ReplySaid<'_>,
+    ) -> bool
         requires even { nat_eq (unique % 2) 1 ≡ false }
         requires waits { waiting self.now.queues unique ≡ Some (Purpose.Call call) }
+        requires unanswered { get self.now.vfs.calls call ≡ Some state.now }
         requires awaits { Awaits (get self.now.vfs.calls call) (wire_of said.now) }
         requires day { LastsADay said.now }
         requires ends { EndsWithin self.now call }
@@ -138,15 +190,25 @@ impl<Q: QueueTable<Purpose> + Drop, C: CountTable<Heap = Q::Heap> + Drop> Kernel
     {
         self.within();
         match said {
-            Reply::Found { file, valid_ms } => self.found_past(unique, call, file, *valid_ms),
+            Reply::Found { file, valid_ms } => {
+                self.found_past(unique, call, state, file, *valid_ms)
+            }
             _ => false,
         }
     }
 
-    /// Whether a call that is given this entry would walk on to a request for which no number is left.
-    fn found_past(&self, unique: u64, call: u64, entry: &Entry, valid_ms: u64) -> bool
+    /// Whether a call that stands so, and is given this entry, would walk on to a request for which no number is left.
+    fn found_past(
+        &self,
+        unique: u64,
+        call: u64,
+        state: &CallState<Q::Heap>,
+        entry: &Entry,
+        valid_ms: u64,
+    ) -> bool
         requires even { nat_eq (unique % 2) 1 ≡ false }
         requires waits { waiting self.now.queues unique ≡ Some (Purpose.Call call) }
+        requires unanswered { get self.now.vfs.calls call ≡ Some state.now }
         requires awaits { Awaits (get self.now.vfs.calls call) (reply.found entry.now valid_ms) }
         requires day { valid_ms ≤ max_validity }
         ensures past { result ≡ true → is_past_end (reply_written self.now unique (reply.found entry.now valid_ms)).1
@@ -155,10 +217,13 @@ impl<Q: QueueTable<Purpose> + Drop, C: CountTable<Heap = Q::Heap> + Drop> Kernel
             (reply.found entry.now valid_ms)).1 ≡ false }
     {
         self.within();
+        if self.queues.numbers_left() != 0 {
+            return false;
+        }
         match self.use_of(entry) {
             EntryUse::Usable => {
-                if self.looks_up(call) {
-                    self.runs_out(unique, call, entry, valid_ms)
+                if looks_up(state) {
+                    self.runs_out(unique, call, state, entry, valid_ms)
                 } else {
                     false
                 }
@@ -168,11 +233,20 @@ impl<Q: QueueTable<Purpose> + Drop, C: CountTable<Heap = Q::Heap> + Drop> Kernel
         }
     }
 
-    /// Whether a call that walks on from the node of an entry would queue a request for which no number is left.
-    fn runs_out(&self, unique: u64, call: u64, entry: &Entry, valid_ms: u64) -> bool
+    /// Whether a call that looks up a word would ask anew from the node of an entry, while no number is left.
+    fn runs_out(
+        &self,
+        unique: u64,
+        call: u64,
+        state: &CallState<Q::Heap>,
+        entry: &Entry,
+        valid_ms: u64,
+    ) -> bool
         requires even { nat_eq (unique % 2) 1 ≡ false }
         requires waits { waiting self.now.queues unique ≡ Some (Purpose.Call call) }
-        requires looks_up { LooksUp (get self.now.vfs.calls call) }
+        requires unanswered { get self.now.vfs.calls call ≡ Some state.now }
+        requires none_left { numbers_left_from self.now.queues.next ≡ 0 }
+        requires looks_up { LooksUp (Some state.now) }
         requires usable { use_of self.now.nodes entry.now ≡ usable }
         requires day { valid_ms ≤ max_validity }
         ensures past { result ≡ true → is_past_end (reply_written self.now unique (reply.found entry.now valid_ms)).1
@@ -180,14 +254,8 @@ impl<Q: QueueTable<Purpose> + Drop, C: CountTable<Heap = Q::Heap> + Drop> Kernel
         ensures within { result ≡ false → is_past_end (reply_written self.now unique
             (reply.found entry.now valid_ms)).1 ≡ false }
     {
-        self.queues.keeps_sound();
-        if self.queues.numbers_left() != 0 {
-            return false;
-        }
-        let Some(waiting) = self.calls.get(call) else {
-            return false;
-        };
-        let Operation::Lookup { directory, name } = waiting.asks() else {
+        self.within();
+        let Operation::Lookup { directory, name } = state.asks() else {
             return false;
         };
         let new = NewName {
@@ -196,6 +264,6 @@ impl<Q: QueueTable<Purpose> + Drop, C: CountTable<Heap = Q::Heap> + Drop> Kernel
             node: entry.nodeid,
             until: self.clock.saturating_add(valid_ms),
         };
-        waiting.would_ask(&self.names, self.clock, &new)
+        state.would_ask(&self.names, self.clock, &new)
     }
 }

@@ -20,7 +20,7 @@ use crate::kernel::KernelOf;
 use fk_calls::{result_of, unbind};
 use fk_lookup_count::CountTable;
 use fk_queues::QueueTable;
-use fk_said::{ReplySaid, names_listed, said_to};
+use fk_said::{ReplySaid, names_listed};
 use fk_syscalls::Answer;
 use fk_wire::{Opcode, Records, read_reply};
 use fuse_frames::Reply;
@@ -50,18 +50,15 @@ impl<Q: QueueTable<Purpose> + Drop, C: CountTable<Heap = Q::Heap> + Drop> Kernel
             let _kept = self.queues.answer(unique);
             return Ok(WriteResult::Accepted);
         };
-        let said = said_to(&waiting.asks(), bytes);
-        if self.ends_past(call) {
-            return Err(Refusal::Exhausted);
-        }
+        let said = match self.said_to_call(unique, call, waiting, bytes) {
+            Ok(said) => said,
+            Err(refusal) => return Err(refusal),
+        };
         let told = result_of(said.is_some());
         let Some(said) = said else {
             self.end_call(unique, call, Answer::Failed { errno: EIO });
             return Ok(told);
         };
-        if self.said_past(unique, call, &said) {
-            return Err(Refusal::Exhausted);
-        }
         match self.replied(unique, call, said) {
             Ok(()) => Ok(told),
             Err(refusal) => Err(refusal),

@@ -1,12 +1,25 @@
-use Rattle.std.proofs.Common.{sym, ◌∙◌}
-use Rattle.fk_kernel.proofs.Within.{useless_within, stale_within, made_within}
+use Rattle.std.proofs.Common.{◌≡◌, ◌<◌, ℕ, sym, ◌∙◌, arith}
+use Rattle.fuse_spec.specs.Kernel.Uniques.{numbers_left_from}
+use Rattle.fk_kernel.proofs.Within.{useless_within, stale_within, made_within, found_within}
 use Rattle.fk_kernel.proofs.kernel.KernelOf.found_past.Goals as goal
+
+pub runs_out-requires-clause-none_left : goal.runs_out-requires-clause-none_left
+runs_out-requires-clause-none_left g c =
+    rw (← c.self.view_is) (sym c.numbers_left.ensures ∙ c.if-numbers_left-ne0.false)
+
+pub returns-then-numbers_left-ne0-clause-within : goal.returns-then-numbers_left-ne0-clause-within
+returns-then-numbers_left-ne0-clause-within g c = λ stays.
+    let now = c.args.self.now in
+    let here : 0 < numbers_left_from (g.Q.QueueTable.state c.self.inside.queues).next =
+    omega (arith, c.numbers_left.ensures, c.if-numbers_left-ne0.true) in
+    let left : 0 < numbers_left_from now.queues.next = rw (← c.self.view_is) here in
+    found_within now c.args.unique c.args.call c.requires.even c.requires.waits c.within.ensures left c.args.entry.now c.args.valid_ms c.requires.awaits
 
 pub returns-else-looks_up-clause-within : goal.returns-else-looks_up-clause-within
 returns-else-looks_up-clause-within g c = λ stays.
     let now = c.args.self.now in
     let aw = c.requires.awaits in
-    made_within now c.args.unique c.args.call c.requires.even c.requires.waits c.within.ensures c.args.entry.now c.args.valid_ms aw (sym c.in-Usable.ensures) (λ d w ws p e. c.looks_up.ensures.other c.if-looks_up.false d w ws p (aw.at ∙ e))
+    made_within now c.args.unique c.args.call c.requires.even c.requires.waits c.within.ensures c.args.entry.now c.args.valid_ms aw (sym c.in-Usable.ensures) (λ d w ws p e. c.looks_up.ensures.other c.if-looks_up.false d w ws p (sym c.requires.unanswered ∙ aw.at ∙ e))
 
 pub returns-in-Useless-clause-within : goal.returns-in-Useless-clause-within
 returns-in-Useless-clause-within g c = λ stays.

@@ -1,31 +1,29 @@
-use Rattle.std.proofs.Common.{rules, ◌≡◌, ℕ, false, Some, ap, sym, subst, ◌∙◌}
-use Rattle.fuse_spec.specs.Values.Maps.{get}
+use Rattle.std.proofs.Common.{◌≡◌, ℕ, false, Some, ap, sym, subst, ◌∙◌}
+use Rattle.fuse_spec.specs.Files.AskedOperations.{operation_of}
 use Rattle.fuse_spec.specs.Files.Operations.{Operation}
-use Rattle.fuse_spec.specs.Kernel.Replies.{goes_with, reply_written}
+use Rattle.fuse_spec.specs.Values.Maps.{get}
 use Rattle.fuse_spec.specs.Kernel.Messages.{WireReply, asks}
-use Rattle.fuse_frames.specs.RequestTies.{asked_opcode}
-use Rattle.fuse_spec.specs.Kernel.Refusals.{is_counted_out, is_past_end}
-use Rattle.fk_nodes.proofs.Outs.{or_none}
-use Rattle.fk_kernel.proofs.CountsHeard.{said_few, wrong_nodes}
+use Rattle.fuse_spec.specs.Kernel.Replies.{goes_with, reply_written}
 use Rattle.fuse_spec.specs.Calls.Vfs.{using, asked}
 use Rattle.fuse_spec.specs.declared.Opened.{Opened}
+use Rattle.fuse_frames.specs.RequestTies.{asked_opcode}
 use Rattle.fk_syscalls.specs.States.{StandsAt}
-use Rattle.fuse_spec.specs.Files.AskedOperations.{operation_of}
+use Rattle.fuse_spec.specs.Kernel.Refusals.{is_counted_out, is_past_end}
+use Rattle.fk_nodes.proofs.Outs.{or_none}
 use Rattle.fk_said.specs.ReplySaid.{wire_of}
-use Rattle.fk_kernel.specs.Said.{reply_to, awaited_by_call, wrong_body_to}
+use Rattle.fk_kernel.specs.Said.{Says, reply_to, awaited_by_call, wrong_body_to}
+use Rattle.fk_kernel.proofs.CountsHeard.{said_few, wrong_nodes}
 use Rattle.fk_kernel.proofs.PastEnds.{passes, said_passes, none_passes, wrong_to_call}
 use Rattle.fk_kernel.proofs.Replied.{ends_over, judged_op}
 use Rattle.fk_kernel.proofs.Within.{wrong_within}
-use Rattle.fk_kernel.proofs.kernel.KernelOf.call_passes_end.Goals as goal
+use Rattle.fk_kernel.proofs.kernel.KernelOf.said_to_call.Goals as goal
 
 pub returns-then-ends_past-clause-past : goal.returns-then-ends_past-clause-past
-returns-then-ends_past-clause-past g c = λ ended.
-    let k = c.self.inside in
+returns-then-ends_past-clause-past g c =
     let now = c.args.self.now in
-    let state = c.in-Some.waiting.now in
+    let state = c.args.state.now in
     let operation = operation_of (λ s. s.now) c.asks.result in
-    let at : get k.calls.entries c.args.call ≡ Some state = search rules in
-    let here : get now.vfs.calls c.args.call ≡ Some state = rw (← c.self.view_is) at in
+    let here = c.requires.unanswered in
     let awaits : awaited_by_call (get now.vfs.calls c.args.call) ≡ reply_to (asked_opcode (asks operation)) =
     ap awaited_by_call here ∙ ap (λ (o : Operation ℕ Opened). reply_to (asked_opcode (asks o)))
     (sym c.asks.ensures.operation) in
@@ -44,44 +42,53 @@ returns-then-ends_past-clause-past g c = λ ended.
 
 pub said_past-requires-clause-few : goal.said_past-requires-clause-few
 said_past-requires-clause-few g c = said_few c.asks.result c.asks.ensures.size
-    (wire_of c.in-Some-said.said) c.in-Some-said.ensures.said.goes
+    (wire_of c.in-Some.said) c.in-Some.ensures.said.goes
 
-pub returns-in-Some-said-clause-past : goal.returns-in-Some-said-clause-past
-returns-in-Some-said-clause-past g c = λ past.
-    let k = c.self.inside in
+pub returns-then-said_past-clause-past : goal.returns-then-said_past-clause-past
+returns-then-said_past-clause-past g c =
     let now = c.args.self.now in
-    let state = c.in-Some.waiting.now in
     let operation = operation_of (λ s. s.now) c.asks.result in
-    let at : get k.calls.entries c.args.call ≡ Some state = search rules in
-    let here : get now.vfs.calls c.args.call ≡ Some state = rw (← c.self.view_is) at in
     let awaits : awaited_by_call (get now.vfs.calls c.args.call) ≡ reply_to (asked_opcode (asks operation)) =
-    ap awaited_by_call here ∙ ap (λ (o : Operation ℕ Opened). reply_to (asked_opcode (asks o)))
+    ap awaited_by_call c.requires.unanswered ∙ ap (λ (o : Operation ℕ Opened). reply_to (asked_opcode (asks o)))
     (sym c.asks.ensures.operation) in
     rw awaits (passes now c.args.unique c.args.bytes.now (asked_opcode (asks operation)) (judged_op operation)
-    (wire_of c.in-Some-said.said) c.in-Some-said.ensures.said.says (c.said_past.ensures.past past))
+    (wire_of c.in-Some.said) c.in-Some.ensures.said.says (c.said_past.ensures.past c.if-said_past.true))
 
-pub returns-in-Some-said-clause-within : goal.returns-in-Some-said-clause-within
-returns-in-Some-said-clause-within g c = λ within.
-    let k = c.self.inside in
+pub returns-else-said_past-clause-stays : goal.returns-else-said_past-clause-stays
+returns-else-said_past-clause-stays g c =
     let now = c.args.self.now in
-    let state = c.in-Some.waiting.now in
     let operation = operation_of (λ s. s.now) c.asks.result in
-    let at : get k.calls.entries c.args.call ≡ Some state = search rules in
-    let here : get now.vfs.calls c.args.call ≡ Some state = rw (← c.self.view_is) at in
     let awaits : awaited_by_call (get now.vfs.calls c.args.call) ≡ reply_to (asked_opcode (asks operation)) =
-    ap awaited_by_call here ∙ ap (λ (o : Operation ℕ Opened). reply_to (asked_opcode (asks o)))
+    ap awaited_by_call c.requires.unanswered ∙ ap (λ (o : Operation ℕ Opened). reply_to (asked_opcode (asks o)))
     (sym c.asks.ensures.operation) in
     rw awaits (said_passes now c.args.unique c.args.bytes.now (asked_opcode (asks operation))
-    (wire_of c.in-Some-said.said) c.in-Some-said.ensures.said.says (c.said_past.ensures.stays within))
+    (wire_of c.in-Some.said) c.in-Some.ensures.said.says (c.said_past.ensures.stays c.if-said_past.false))
 
-pub returns-in-None-clause-within : goal.returns-in-None-clause-within
-returns-in-None-clause-within g c = λ within.
-    let k = c.self.inside in
+pub returns-else-said_past-clause-said : goal.returns-else-said_past-clause-said
+returns-else-said_past-clause-said g c =
+    let said = c.in-Some.ensures.said in
+    record {
+      says = subst (λ (o : Operation ℕ Opened). Says (asked_opcode (asks o)) c.args.bytes.now (wire_of c.in-Some.said))
+          c.asks.ensures.operation said.says;
+      awaits = record {
+        operation = operation_of (λ s. s.now) c.asks.result;
+        state = c.args.state.now;
+        at = c.requires.unanswered;
+        stands = c.asks.ensures.stands;
+        goes = said.goes;
+      };
+      day = said.day;
+      few = said_few c.asks.result c.asks.ensures.size (wire_of c.in-Some.said) said.goes;
+      within = c.said_past.ensures.within c.if-said_past.false;
+      counts = c.said_past.ensures.counts c.if-said_past.false;
+    }
+
+pub returns-in-None-clause-stays : goal.returns-in-None-clause-stays
+returns-in-None-clause-stays g c =
     let now = c.args.self.now in
-    let state = c.in-Some.waiting.now in
+    let state = c.args.state.now in
     let operation = operation_of (λ s. s.now) c.asks.result in
-    let at : get k.calls.entries c.args.call ≡ Some state = search rules in
-    let here : get now.vfs.calls c.args.call ≡ Some state = rw (← c.self.view_is) at in
+    let here = c.requires.unanswered in
     let same : operation ≡ asked state = c.asks.ensures.operation in
     let awaits : awaited_by_call (get now.vfs.calls c.args.call) ≡ reply_to (asked_opcode (asks operation)) =
     ap awaited_by_call here ∙ ap (λ (o : Operation ℕ Opened). reply_to (asked_opcode (asks o))) (sym same) in

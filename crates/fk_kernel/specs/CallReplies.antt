@@ -1,0 +1,28 @@
+-- What a reply says to an unanswered call.
+use Rattle.std.specs.Prelude.{◌≡◌, ℕ, List, false}
+use Rattle.fuse_spec.specs.Kernel.Kernel.{Kernel}
+use Rattle.fuse_spec.specs.Kernel.Messages.{WireReply, asks}
+use Rattle.fuse_spec.specs.Kernel.Replies.{goes_with, reply_written}
+use Rattle.fuse_spec.specs.Files.Operations.{Operation}
+use Rattle.fuse_spec.specs.Values.Maps.{get}
+use Rattle.fuse_spec.specs.declared.Opened.{Opened}
+use Rattle.fuse_frames.specs.RequestTies.{asked_opcode}
+use Rattle.fuse_spec.specs.Kernel.Refusals.{is_counted_out, is_past_end}
+use Rattle.fk_said.specs.ReplySaid.{LentReply, wire_of, LastsADay}
+use Rattle.fk_kernel.specs.Entries.{Awaits, IsFew, nodes_heard}
+use Rattle.fk_kernel.specs.Said.{Says}
+
+-- The bytes say this to the call, it goes with what the call asked, and no counter comes to its end by it.
+pub record IsCallReply (k : Kernel) (unique call : ℕ) (operation : Operation ℕ Opened) (bytes : List ℕ)
+    (said : LentReply) : Type 0 where
+  pub says : Says (asked_opcode (asks operation)) bytes (wire_of said)
+  pub awaits : Awaits (get k.vfs.calls call) (wire_of said)
+  pub day : LastsADay said
+  pub few : IsFew (wire_of said)
+  pub within : is_past_end (reply_written k unique (wire_of said)).1 ≡ false
+  pub counts : is_counted_out (nodes_heard k.nodes (wire_of said)) ≡ false
+
+-- The bytes say nothing that goes with what a call asked.
+abbrev pub SaysNone : Operation ℕ Opened → List ℕ → Type 0
+SaysNone operation bytes = (wire : WireReply) → Says (asked_opcode (asks operation)) bytes wire
+    → goes_with operation wire ≡ false
