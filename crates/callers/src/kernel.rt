@@ -7,7 +7,7 @@ ghost use Rattle.fuse_spec.specs.Kernel.Messages.{init as asks_init};
 ghost use Rattle.fuse_spec.specs.Values.Numbers.{init_flags};
 ghost use Rattle.fk_syscalls.specs.Values.{call_of};
 ghost use Rattle.fk_kernel.specs.Refused.{IsPendingRequest};
-ghost use Rattle.fk_kernel.specs.Said.{HasReplyHead, awaited, head_unique, nothing};
+ghost use Rattle.fk_kernel.specs.AwaitedReplies.{HasReplyHead, awaited, head_unique, nothing};
 
 use fk_kernel::{Answer, Call, Kernel};
 use fuse_frames::RequestFrame;

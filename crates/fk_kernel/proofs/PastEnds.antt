@@ -26,7 +26,7 @@ use Rattle.fuse_spec.specs.declared.InterruptReplyEffect.TheVariants.{QueuedAgai
 use Rattle.fuse_spec.specs.declared.Mark.{Mark}
 use Rattle.fuse_spec.specs.Kernel.Refusals.{is_past, is_counted_out}
 use Rattle.fk_kernel.specs.Refused.{PassesEnd, WritePasses}
-use Rattle.fk_kernel.specs.Said.{Says, IsNoReply, Means, said, unsaid, wrong_body_to, IsJudged, Awaited, nothing, reply_to, awaited, awaited_by_interrupt}
+use Rattle.fk_kernel.specs.AwaitedReplies.{Says, IsNoReply, Means, said, unsaid, wrong_body_to, IsJudged, Awaited, nothing, reply_to, awaited, awaited_by_interrupt}
 use Rattle.fk_nodes.proofs.Outs.{or_none, or_first}
 use Rattle.fk_kernel.proofs.Phases.{none_past_end, within_ends}
 use Rattle.fk_kernel.proofs.Replied.{init_is, by_agreement, release_is}

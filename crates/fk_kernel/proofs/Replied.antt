@@ -21,7 +21,7 @@ use Rattle.fuse_spec.specs.Calls.Walks.{WalkPlan}
 use Rattle.fk_syscalls.specs.States.{StandsAt}
 use Rattle.fk_calls.specs.Names.{names_left}
 use Rattle.fk_kernel.specs.Entries.{Awaits, EndsPast, MakesName, mkdirs, links}
-use Rattle.fk_kernel.specs.Said.{IsJudged}
+use Rattle.fk_kernel.specs.AwaitedReplies.{IsJudged}
 use Rattle.fuse_spec.specs.Kernel.Refusals.{is_past, is_past_end, is_counted_out}
 use Rattle.fk_kernel.proofs.Closes.{released_some}
 use Rattle.fk_kernel.proofs.Walking.{asks_past}

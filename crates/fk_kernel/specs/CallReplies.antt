@@ -10,7 +10,7 @@ use Rattle.fuse_frames.specs.RequestTies.{asked_opcode}
 use Rattle.fuse_spec.specs.Kernel.Refusals.{is_counted_out, is_past_end}
 use Rattle.fk_said.specs.ReplySaid.{LentReply, wire_of, LastsADay}
 use Rattle.fk_kernel.specs.Entries.{Awaits, IsFew, nodes_heard}
-use Rattle.fk_kernel.specs.Said.{Says}
+use Rattle.fk_kernel.specs.AwaitedReplies.{Says}
 
 -- The bytes say this to the call, it goes with what the call asked, and no counter comes to its end by it.
 pub record IsCallReply (k : Kernel) (unique call : ℕ) (operation : Operation ℕ Opened) (bytes : List ℕ)

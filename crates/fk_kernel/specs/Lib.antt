@@ -1,5 +1,5 @@
 pub mod Soundness
 pub mod Refused
-pub mod Said
+pub mod AwaitedReplies
 pub mod Entries
 pub mod CallReplies

@@ -7,7 +7,7 @@ use Rattle.fuse_spec.specs.Kernel.Refusals.{unless, refusal_in, accepted, or_no_
 use Rattle.fk_wire.specs.declared.opcode.Opcode.{Opcode}
 use Rattle.fuse_spec.specs.Kernel.Messages.{Request, WireReply, interrupt, Forget}
 use Rattle.fuse_spec.specs.Kernel.Replies.{reply_written}
-use Rattle.fk_kernel.specs.Said.{Awaited, reply_to, awaited, HasReplyHead, head_unique, IsJudged, Means}
+use Rattle.fk_kernel.specs.AwaitedReplies.{Awaited, reply_to, awaited, HasReplyHead, head_unique, IsJudged, Means}
 use Rattle.fuse_spec.specs.Kernel.QueueCalls.{pending_at, after_read_forgets}
 use Rattle.fuse_spec.specs.declared.Purpose.{Purpose}
 use Rattle.fuse_spec.specs.declared.Refusal.{Refusal}

@@ -1,6 +1,6 @@
 //! The kernel.
 
-ghost use Rattle.std.specs.Prelude.{◌≡◌, ◌<◌, ◌+◌, [], None, Ok, OnOk, OnErr, IfErr, T, false};
+ghost use Rattle.std.specs.Prelude.{◌≡◌, ◌<◌, ◌+◌, [], None, Ok, OnOk, OnErr, IfOk, IfErr, T, false, map};
 ghost use Rattle.fuse_spec.specs.Kernel.Kernel.{is_live, is_aborted, kernel_mounted};
 ghost use Rattle.fuse_spec.specs.Kernel.Refusals.{is_ready, is_busy, is_counted_out, is_past_end, or_no_memory};
 ghost use Rattle.fk_nodes.specs.Learning.{AreBelow};
@@ -17,7 +17,7 @@ use fk_queues::{ListQueues, QueueTable, Queues};
 use fk_syscalls::CallState;
 use fuse_spec::{Minor, Opened, Phase, Purpose, Refusal};
 use fuse_tables::Table;
-use std::alloc::Global;
+use std::alloc::{AllocError, Global};
 use std::marker::Model;
 
 /// The kernel's half of the protocol, over any queues and any table of counted nodes. It is told of system calls, hands
@@ -174,5 +174,16 @@ impl<Q: QueueTable<Purpose> + Drop, C: CountTable<Heap = Q::Heap> + Drop> Kernel
         self.minor = Minor::M15;
         self.lists_files = false;
         Ok(())
+    }
+
+    /// Id, generation and lookup count of each counted node, in rising id.
+    ///
+    /// # Errors
+    ///
+    /// Memory was wanting for the list.
+    pub fn nodes(&self, alloc: Q::Heap) -> Result<Vec<(u64, u64, u64), Q::Heap>, AllocError>
+        ensures { IfOk result (λ nodes. nodes.items ≡ map (λ e. (e.0, e.1.generation, e.1.count)) self.now.nodes) }
+    {
+        self.nodes.list(alloc)
     }
 }

@@ -5,12 +5,14 @@
 mod aborting;
 mod answers;
 mod beginning;
+mod clock;
+mod drop_name;
 mod entries;
-mod forgetting;
+mod evict;
 mod kernel;
 mod listing;
 mod open_files;
-mod passing;
+mod read_forgets;
 mod reading;
 mod refusing;
 mod replying;

@@ -14,7 +14,7 @@ ghost use Rattle.fuse_spec.specs.Kernel.Refusals.{is_counted_out, is_past, is_pa
 ghost use Rattle.fk_kernel.specs.CallReplies.{IsCallReply, SaysNone};
 ghost use Rattle.fk_kernel.specs.Refused.{PassesEnd, WritePasses};
 ghost use Rattle.fk_said.specs.ReplySaid.{wire_of, LastsADay};
-ghost use Rattle.fk_kernel.specs.Said.{awaited_by_call};
+ghost use Rattle.fk_kernel.specs.AwaitedReplies.{awaited_by_call};
 
 use crate::entries::looks_up;
 use crate::kernel::KernelOf;

@@ -10,7 +10,7 @@ ghost use Rattle.fk_kernel.specs.Entries.{Awaits, EndsWithin, IsFew, nodes_heard
 ghost use Rattle.fuse_spec.specs.Kernel.Refusals.{is_counted_out, is_past_end};
 ghost use Rattle.fk_kernel.specs.Refused.{IsWriteRefusal, PassesEnd};
 ghost use Rattle.fk_said.specs.ReplySaid.{wire_of, LastsADay};
-ghost use Rattle.fk_kernel.specs.Said.{Says, IsNoReply, awaited_by_call, wrong_body, IsReplyWritten};
+ghost use Rattle.fk_kernel.specs.AwaitedReplies.{Says, IsNoReply, awaited_by_call, wrong_body, IsReplyWritten};
 ghost use Rattle.fk_wire.specs.Records.{records_in};
 ghost use Rattle.fuse_frames.specs.ReplyTies.{dirent_in};
 ghost use Rattle.fuse_spec.specs.Kernel.Messages.{WireReply};

@@ -3,7 +3,7 @@
 ghost use Rattle.std.specs.Prelude.{◌≡◌, ◌%◌, Some, None, Ok, OnErr, IfOk, IfErr, true, false, is_some, nat_eq};
 ghost use Rattle.fuse_spec.specs.Kernel.Messages.{WireReply};
 ghost use Rattle.fuse_spec.specs.Kernel.Replies.{reply_written, interrupt_reply_of, interrupt_replied};
-ghost use Rattle.fk_kernel.specs.Said.{Says, IsNoReply, HasReplyHead, head_unique, awaited, nothing, wrong_body, wrong_body_to, IsReplyWritten};
+ghost use Rattle.fk_kernel.specs.AwaitedReplies.{Says, IsNoReply, HasReplyHead, head_unique, awaited, nothing, wrong_body, wrong_body_to, IsReplyWritten};
 ghost use Rattle.fk_kernel.specs.Refused.{WriteRefused, WritePasses};
 ghost use Rattle.fuse_spec.specs.Kernel.QueueCalls.{after_interrupt_reply, waiting};
 

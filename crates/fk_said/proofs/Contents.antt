@@ -17,7 +17,7 @@ use Rattle.fuse_spec.specs.Kernel.Replies.{goes_with}
 use Rattle.fuse_spec.specs.Files.Trees.{record_length, pair_length}
 use Rattle.fuse_frames.specs.ReplyTies.{wire_body, dirent_in, pair_in}
 use Rattle.fuse_frames.specs.RequestTies.{asked_opcode}
-use Rattle.fk_said.specs.Said.{Says}
+use Rattle.fk_said.specs.DecodedReplies.{Says}
 use Rattle.fk_said.specs.ReplySaid.{is_within, IsSaidBody, LentReply, wire_of, LastsADay, SaysTo}
 
 -- a record with its padding

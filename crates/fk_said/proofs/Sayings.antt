@@ -13,7 +13,7 @@ use Rattle.fuse_frames.specs.ReplyTies.{wire_said}
 use Rattle.fuse_spec.specs.Kernel.Replies.{is_init_reply}
 use Rattle.fk_said.specs.declared.said.InitSaid.{InitSaid}
 use Rattle.fk_said.specs.declared.said.InitSaid.TheVariants as init_said
-use Rattle.fk_said.specs.Said.{Says, IsNoReply, init_wire}
+use Rattle.fk_said.specs.DecodedReplies.{Says, IsNoReply, init_wire}
 
 -- an error in range is read as itself
 pub same_error : (z : ℤ) → IsErrorNumber z → cast_signed w32 (cast_unsigned w32 z) ≡ z

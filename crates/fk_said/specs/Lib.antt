@@ -1,2 +1,2 @@
-pub mod Said
+pub mod DecodedReplies
 pub mod ReplySaid

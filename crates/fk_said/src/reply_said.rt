@@ -11,7 +11,7 @@ ghost use Rattle.fuse_frames.specs.ReplyTies.{wire_body, dirent_in, attributes_i
 ghost use Rattle.fuse_frames.specs.RequestTies.{asked_opcode};
 ghost use Rattle.fuse_spec.specs.Files.AskedOperations.{operation_of};
 ghost use Rattle.fk_syscalls.specs.Values.{dirent_of};
-ghost use Rattle.fk_said.specs.Said.{Says};
+ghost use Rattle.fk_said.specs.DecodedReplies.{Says};
 ghost use Rattle.fk_said.specs.ReplySaid.{wire_of, LastsADay, SaysTo, is_within};
 ghost use Rattle.fk_said.specs.ReplySaid.{IsSaidBody};
 

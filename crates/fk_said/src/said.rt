@@ -7,7 +7,7 @@ ghost use Rattle.fuse_spec.specs.Kernel.Messages.{WireReply};
 ghost use Rattle.fuse_spec.specs.Files.Operations as reply;
 ghost use Rattle.fuse_frames.specs.ReplyTies.{wire_said};
 ghost use Rattle.fuse_spec.specs.Kernel.Replies.{is_agreement, minor_agreed, files_agreed};
-ghost use Rattle.fk_said.specs.Said.{Says, IsNoReply, SaysToInit, SaysToInterrupt, init_wire};
+ghost use Rattle.fk_said.specs.DecodedReplies.{Says, IsNoReply, SaysToInit, SaysToInterrupt, init_wire};
 
 use bitflags::Flags;
 use fk_wire::{InitFlags, Opcode, ReplyBody, read_reply};

@@ -40,9 +40,9 @@ use Rattle.fuse_theorem.proofs.Answers.Answered.{waiting_is}
 use Rattle.fuse_theorem.proofs.Calls.Finding.{All-found}
 use Rattle.fuse_theorem.proofs.Refining.Queuing.{All-at}
 use Rattle.fuse_theorem.proofs.Replies.WriteNeeds.{write_met}
-use Rattle.fk_kernel.specs.Said.{Says, HasReplyHead, head_unique, Awaited, reply_to, awaited, awaited_by, awaited_by_call, awaited_by_interrupt, IsReplyWritten, IsAwaited, IsJudged, Means}
-use Rattle.fk_kernel.specs.Said.{said as means_said}
-use Rattle.fk_kernel.specs.Said as said
+use Rattle.fk_kernel.specs.AwaitedReplies.{Says, HasReplyHead, head_unique, Awaited, reply_to, awaited, awaited_by, awaited_by_call, awaited_by_interrupt, IsReplyWritten, IsAwaited, IsJudged, Means}
+use Rattle.fk_kernel.specs.AwaitedReplies.{said as means_said}
+use Rattle.fk_kernel.specs.AwaitedReplies as said
 use Rattle.std.specs.Prelude.{IfSome, IfNone}
 use Rattle.fuse_spec.specs.declared.Refusal.TheVariants.{NoMemory, Exhausted}
 use Rattle.fk_kernel.specs.Refused.{PassesEnd, WriteRefused, WritePasses, no_memory, exhausted}

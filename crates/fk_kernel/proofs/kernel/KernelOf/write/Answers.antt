@@ -2,7 +2,7 @@ use Rattle.std.proofs.Common.{rules, ◌≡◌, ℕ, ◌-◌, Some, None, sym, a
 use Rattle.fuse_spec.specs.Kernel.QueueCalls.{waiting}
 use Rattle.fuse_spec.specs.declared.Purpose.TheVariants.{Init, Release, Call}
 use Rattle.fuse_spec.specs.Values.Maps.{get}
-use Rattle.fk_kernel.specs.Said.{awaited_by_call, head_unique}
+use Rattle.fk_kernel.specs.AwaitedReplies.{awaited_by_call, head_unique}
 use Rattle.fk_kernel.proofs.PastEnds.{memory_last}
 use Rattle.fk_kernel.proofs.Taken.{odd_test, even_test, taken_odd, taken_even, awaited_even, taken_none, taken_judged}
 use Rattle.fk_wire.specs.declared.opcode.Opcode.TheVariants as op

@@ -4,7 +4,7 @@ use Rattle.fuse_spec.specs.declared.Purpose.TheVariants.{Init, Release, Call}
 use Rattle.fk_wire.specs.declared.opcode.Opcode.TheVariants as op
 use Rattle.fk_wire.specs.Opcodes.{served}
 use Rattle.fk_kernel.specs.Refused.{PassesEnd}
-use Rattle.fk_kernel.specs.Said.{Awaited, head_unique}
+use Rattle.fk_kernel.specs.AwaitedReplies.{Awaited, head_unique}
 use Rattle.fk_kernel.proofs.Heads.{no_head, has_head}
 use Rattle.fk_kernel.proofs.PastEnds.{nothing_passes, odd_passes, init_passes, release_passes}
 use Rattle.fk_kernel.proofs.Taken.{odd_test, even_test, awaited_even}

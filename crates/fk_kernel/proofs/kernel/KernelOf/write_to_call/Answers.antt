@@ -5,7 +5,7 @@ use Rattle.fuse_spec.specs.Values.Maps.{get}
 use Rattle.fuse_spec.specs.Kernel.Replies.{reply_written}
 use Rattle.fuse_spec.specs.Calls.Vfs.{asked}
 use Rattle.fk_kernel.specs.Refused.{IsWriteRefusal, no_memory, exhausted}
-use Rattle.fk_kernel.specs.Said.{reply_to, awaited_by_call}
+use Rattle.fk_kernel.specs.AwaitedReplies.{reply_to, awaited_by_call}
 use Rattle.fuse_spec.specs.Kernel.Messages.{asks}
 use Rattle.fuse_frames.specs.RequestTies.{asked_opcode}
 use Rattle.fk_said.specs.ReplySaid.{wire_of}

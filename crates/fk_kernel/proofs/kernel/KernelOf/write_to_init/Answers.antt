@@ -3,7 +3,7 @@ use Rattle.std.specs.Prelude.{is_some}
 use Rattle.fk_wire.specs.declared.opcode.Opcode.TheVariants as op
 use Rattle.fuse_spec.specs.Kernel.QueueCalls.{waiting}
 use Rattle.fuse_spec.specs.Kernel.Replies.{reply_written, is_agreement}
-use Rattle.fk_said.specs.Said.{init_wire}
+use Rattle.fk_said.specs.DecodedReplies.{init_wire}
 use Rattle.fk_kernel.proofs.Nodes.{still_counted, answered_is}
 use Rattle.fk_kernel.proofs.Replied.{init_agreed, init_aborts, init_unsaid}
 use Rattle.fk_said.proofs.Sayings.{says_one, init_reply_said}

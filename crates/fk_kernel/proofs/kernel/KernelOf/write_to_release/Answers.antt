@@ -2,7 +2,7 @@ use Rattle.std.proofs.Common.{◌≡◌, true, refl, ap, ◌∙◌, arith}
 use Rattle.std.specs.Prelude.{is_some}
 use Rattle.fk_wire.specs.declared.opcode.Opcode.TheVariants as op
 use Rattle.fuse_spec.specs.Kernel.QueueCalls.{waiting}
-use Rattle.fk_kernel.specs.Said.{wrong_body}
+use Rattle.fk_kernel.specs.AwaitedReplies.{wrong_body}
 use Rattle.fk_kernel.proofs.Nodes.{still_counted, answered_is}
 use Rattle.fk_kernel.proofs.Replied.{release_is}
 use Rattle.fk_said.proofs.ReplyCases.{says_to_release}

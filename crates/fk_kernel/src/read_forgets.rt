@@ -1,67 +1,19 @@
-//! How nodes are given up, and forgets are read.
+//! How forgets are read.
 
-ghost use Rattle.std.specs.Prelude.{◌≡◌, Some, None, OnOk, OnErr, IfOk, IfErr, map};
-ghost use Rattle.fuse_spec.specs.Kernel.Kernel.{evicted, forgets_read};
-ghost use Rattle.fuse_spec.specs.Values.Maps.{get};
+ghost use Rattle.std.specs.Prelude.{◌≡◌, Some, None, OnOk, OnErr, IfOk, IfErr};
+ghost use Rattle.fuse_spec.specs.Kernel.Kernel.{forgets_read};
 ghost use Rattle.fuse_spec.specs.Kernel.QueueCalls.{after_read_forgets};
-ghost use Rattle.fuse_spec.specs.declared.Counted.{Counted};
 ghost use Rattle.fuse_spec.specs.Kernel.Refusals.{or_no_memory};
-ghost use Rattle.fk_kernel.specs.Refused.{evict_refusal, read_forgets_refusal, IsForgetFrame};
+ghost use Rattle.fk_kernel.specs.Refused.{read_forgets_refusal, IsForgetFrame};
 
 use crate::kernel::KernelOf;
-use crate::open_files::is_releasing;
-use fk_calls::{fits_one_frame, is_node_in_use};
+use fk_calls::fits_one_frame;
 use fk_lookup_count::CountTable;
 use fk_queues::{Forgets, QueueTable};
 use fuse_frames::RequestFrame;
 use fuse_spec::{Purpose, Refusal};
-use std::alloc::AllocError;
 
 impl<Q: QueueTable<Purpose> + Drop, C: CountTable<Heap = Q::Heap> + Drop> KernelOf<Q, C> {
-    /// Why a node cannot be given up: `NotReady` where the mount is not live, `NoSuch` where the node is not counted,
-    /// `Busy` where it is pinned or a name in force, valid or not, names it.
-    pub fn evict_refusal(&self, node: u64) -> Option<Refusal>
-        ensures { result ≡ evict_refusal self.now node }
-    {
-        if !self.is_live() {
-            return Some(Refusal::NotReady);
-        }
-        if self.nodes.generation_of(node).is_none() {
-            return Some(Refusal::NoSuch);
-        }
-        let is_releasing = is_releasing(&self.queues, node);
-        if is_node_in_use(&self.calls, &self.opens, is_releasing, &self.names, node) {
-            return Some(Refusal::Busy);
-        }
-        None
-    }
-
-    /// Gives a node up and queues the forget of its whole count, which is given (libfuse, low-level: forget). Takes no
-    /// memory.
-    ///
-    /// # Errors
-    ///
-    /// As `evict_refusal`. The kernel is as before.
-    pub fn evict(&mut self, node: u64) -> Result<u64, Refusal>
-        ensures err { OnErr result (self.new ≡ self.old) }
-        ensures refusal { IfErr result (λ refusal. evict_refusal self.old node ≡ Some refusal) }
-        ensures judged { OnOk result (evict_refusal self.old node ≡ None) }
-        ensures evicted { IfOk result (λ count. (counted : Counted) × (get self.old.nodes node ≡ Some counted)
-            × (counted.count ≡ count) × (self.new ≡ evicted self.old node counted)) }
-    {
-        if let Some(refusal) = self.evict_refusal(node) {
-            return Err(refusal);
-        }
-        match self.nodes.evict(node) {
-            Some(count) => {
-                self.queues.forget(node, count);
-                Ok(count)
-            }
-            // Ruled out: it is counted.
-            None => Err(Refusal::NoSuch),
-        }
-    }
-
     /// The first forgets that may be read as one frame, with its number.
     fn first_forgets(&self, count: u64) -> Option<(u64, Forgets)>
         ensures { result ≡ forgets_read self.now count }
@@ -124,16 +76,5 @@ impl<Q: QueueTable<Purpose> + Drop, C: CountTable<Heap = Q::Heap> + Drop> Kernel
         };
         let _read = self.queues.read_forgets(count as usize);
         Ok(frame)
-    }
-
-    /// Id, generation and lookup count of each counted node, in rising id.
-    ///
-    /// # Errors
-    ///
-    /// Memory was wanting for the list.
-    pub fn nodes(&self, alloc: Q::Heap) -> Result<Vec<(u64, u64, u64), Q::Heap>, AllocError>
-        ensures { IfOk result (λ nodes. nodes.items ≡ map (λ e. (e.0, e.1.generation, e.1.count)) self.now.nodes) }
-    {
-        self.nodes.list(alloc)
     }
 }
