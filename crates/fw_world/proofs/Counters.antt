@@ -1,6 +1,6 @@
 -- No counter of a world is past its end where none of its kernel's and of its server's is, and no node's count has come
 -- to it.
-use Rattle.std.proofs.Common.{◌≡◌, Bool, true, false, ◌||◌, refl, sym, ◌∙◌}
+use Rattle.std.proofs.Common.{◌≡◌, Bool, true, false, ◌||◌, refl, ◌∙◌}
 use Rattle.fuse_spec.specs.Kernel.Kernel.{Kernel}
 use Rattle.fuse_spec.specs.Kernel.Refusals.{is_past_end, is_counted_out}
 use Rattle.fuse_spec.specs.Kernel.Refusals as kernel

@@ -27,7 +27,7 @@ use Rattle.fuse_spec.specs.World.Events as event
 use Rattle.fuse_spec.specs.Kernel.Refusals.{found, pending_found, unused_found, unless, refusal_in, accepted, when_live, when_not_interrupted, is_ready, is_busy}
 use Rattle.fw_world.proofs.Judged.{passed, unless_ok, finds}
 use Rattle.fuse_spec.specs.Server.Refusals.{held_found, kept_found}
-use Rattle.fuse_spec.specs.World.Steps.{Stepped, going, is_past, reading_pending, reading_forgets, taking_request, performed_as, performing_held, sending_again, writing_copy, settling, dropping, evicting, MayStep, Happens}
+use Rattle.fuse_spec.specs.World.Steps.{going, is_past, reading_pending, reading_forgets, taking_request, performed_as, performing_held, sending_again, writing_copy, settling, dropping, evicting, MayStep, Happens}
 use Rattle.fk_kernel.specs.Refused.{within_counters, begin_refusal, mount_refusal, read_refusal, IsPendingRequest}
 use Rattle.fk_kernel.specs.Refused.{read_forgets_refusal, tick_refusal, drop_refusal, evict_refusal}
 
@@ -42,17 +42,18 @@ pub mounts : (w : World) (found_ms missing_ms : ℕ) (minor : Minor)
     → nat_lt max_validity (max found_ms missing_ms) ≡ false → mount_refusal w.kernel ≡ None
     → Happens w (event.mount found_ms missing_ms minor) event.mounted (after_mount w found_ms missing_ms minor)
 mounts w found_ms missing_ms minor day judged =
-    let mounted = (event.mounted, after_mount w found_ms missing_ms minor) in
+    let mounted : Outcome × World = (event.mounted, after_mount w found_ms missing_ms minor) in
     (any_id, tt, rw day (unless_ok (is_busy w.kernel) refusal.Busy accepted (Ok mounted) mounted judged refl))
 
 pub calls : (w : World) (call : Call) → begin_refusal w.kernel call ≡ None → is_past (after_call w call) ≡ false
     → Happens w (event.call call) (event.begun w.kernel.vfs.next_call) (after_call w call)
 calls w call judged within =
-    let begins = (event.begun w.kernel.vfs.next_call, after_call w call) in
+    let begins : Outcome × World = (event.begun w.kernel.vfs.next_call, after_call w call) in
     let full = nat_le max_calls (length w.kernel.vfs.calls) in
     let gone = going begins.0 begins.1 in
     let counted = within_counters (call_put w.kernel call) in
-    let room = (passed (not (is_ready w.kernel.phase)) refusal.NotReady (unless full refusal.Full counted) judged).1 in (
+    let room =
+    (passed (not (is_ready w.kernel.phase)) refusal.NotReady (unless full refusal.Full counted) judged).1 in (
       any_id,
       tt,
       unless_ok (not (is_ready w.kernel.phase)) refusal.NotReady (unless full refusal.Full counted)
@@ -158,7 +159,9 @@ reads_forgets w n forgets judged first within =
     let read = forgets_read w.kernel n in (
       any_id,
       tt,
-      read_ok w.kernel (found read (λ (r : ℕ × List Forget). within_counters (record w.kernel { queues = after_read_forgets w.kernel.queues n })))
+      read_ok w.kernel
+          (found read (λ (r : ℕ × List Forget).
+          within_counters (record w.kernel { queues = after_read_forgets w.kernel.queues n })))
           (found read (reading_forgets w n)) (event.is_read w.kernel.queues.next, after) judged
           (ap (λ (o : Option (ℕ × List Forget)). found o (reading_forgets w n)) first
           ∙ goes (event.is_read w.kernel.queues.next) after within),
@@ -167,14 +170,18 @@ reads_forgets w n forgets judged first within =
 pub ticks : (w : World) (ms : ℕ) → tick_refusal w.kernel ms ≡ None
     → Happens w (event.tick ms) (event.now (w.kernel.vfs.clock + ms)) (after_tick w ms)
 ticks w ms judged =
-    let now = (event.now (w.kernel.vfs.clock + ms), after_tick w ms) in
-    (any_id, tt, unless_ok (nat_le clock_end (w.kernel.vfs.clock + ms)) refusal.BadTime accepted (Ok now) now judged refl)
+    let now : Outcome × World = (event.now (w.kernel.vfs.clock + ms), after_tick w ms) in (
+      any_id,
+      tt,
+      unless_ok (nat_le clock_end (w.kernel.vfs.clock + ms))
+          refusal.BadTime accepted (Ok now) now judged refl,
+    )
 
 pub drops : (w : World) (directory : ℕ) (name : List ℕ) → drop_refusal w.kernel directory name ≡ None
     → Happens w (event.drop_name directory name) event.dropped (after_drop w directory name)
 drops w directory name judged =
     let bound = get_name w.kernel.vfs.names (directory, name) in
-    let dropped = (event.dropped, after_drop w directory name) in
+    let dropped : Outcome × World = (event.dropped, after_drop w directory name) in
     let not_live = not (is_live w.kernel.phase) in
     let finds_it = finds bound (λ (b : Binding). accepted)
     (passed not_live refusal.NotReady (found bound (λ (b : Binding). accepted)) judged).1 in (
@@ -191,7 +198,7 @@ pub evicts : (w : World) (node : ℕ) (counted : Counted) → evict_refusal w.ke
 evicts w node counted judged there =
     let not_live = not (is_live w.kernel.phase) in
     let busy = is_pinned w.kernel node || is_bound w.kernel node in
-    let evicted = (event.evicted node counted.count, after_evict w node counted) in
+    let evicted : Outcome × World = (event.evicted node counted.count, after_evict w node counted) in
     let here = ap (λ (o : Option Counted). unless not_live refusal.NotReady
     (unused_found w.kernel node o (evicting w node))) there in
     let judged_so : refusal_in (unless not_live refusal.NotReady (unless busy refusal.Busy accepted)) ≡ None =

@@ -1,6 +1,6 @@
 -- Signals, reads of INTERRUPTs and aborts: what the kernel made of them is what the machine makes of them, and what it
 -- refuses the machine refuses.
-use Rattle.std.proofs.Common.{◌≡◌, ℕ, Bool, not, List, ◌∷◌, Option, Some, None, Ok, Err, refl, ap, ◌∙◌}
+use Rattle.std.proofs.Common.{◌≡◌, ℕ, Bool, false, not, List, ◌∷◌, Option, Some, None, Ok, Err, refl, ap, ◌∙◌}
 use Rattle.fuse_spec.specs.declared.IntrEffect.{IntrEffect}
 use Rattle.fuse_spec.specs.declared.Opened.{Opened}
 use Rattle.fuse_spec.specs.declared.Refusal.{Refusal}
@@ -13,8 +13,8 @@ use Rattle.fuse_spec.specs.World.Worlds.{World, after_read_interrupt, after_abor
 use Rattle.fuse_spec.specs.World.Events.{Outcome}
 use Rattle.fuse_spec.specs.World.Events as event
 use Rattle.std.specs.Prelude.{Result}
-use Rattle.fuse_spec.specs.Kernel.Refusals.{first_found, found, unless, refusal_in, accepted}
-use Rattle.fuse_spec.specs.World.Steps.{going, is_past, reading_interrupt, signalling, Happens, IsRefused}
+use Rattle.fuse_spec.specs.Kernel.Refusals.{first_found, found, refusal_in, accepted}
+use Rattle.fuse_spec.specs.World.Steps.{Stepped, going, is_past, reading_interrupt, signalling, Happens, IsRefused}
 use Rattle.fk_kernel.specs.Refused.{within_counters, signal_refusal, IsSignalled, read_interrupt_refusal, abort_refusal}
 use Rattle.fw_world.proofs.Judged.{unless_ok, unless_refused, found_refused, first_refused, not_refused}
 use Rattle.fw_world.proofs.Happening.{goes}
@@ -72,7 +72,8 @@ reads_interrupt w original rest judged first within =
       tt,
       unless_ok (not (is_live w.kernel.phase)) refusal.NotReady
           (first_found w.kernel.queues.interrupts (λ (n : ℕ). accepted))
-          (first_found w.kernel.queues.interrupts (reading_interrupt w)) (outcome, after_read_interrupt w original) judged
+          (first_found w.kernel.queues.interrupts (reading_interrupt w))
+          (outcome, after_read_interrupt w original) judged
           (ap (λ (xs : List ℕ). first_found xs (reading_interrupt w)) first
           ∙ goes outcome (after_read_interrupt w original) within),
     )
@@ -90,10 +91,10 @@ read_interrupt_refused w r judged choice may =
 
 pub aborts : (w : World) → abort_refusal w.kernel ≡ None → Happens w event.abort event.aborted (after_abort w)
 aborts w judged =
-    let aborted = (event.aborted, after_abort w) in
+    let aborted : Outcome × World = (event.aborted, after_abort w) in
     (any_id, tt, unless_ok (not (is_live w.kernel.phase)) refusal.NotReady accepted (Ok aborted) aborted judged refl)
 
 pub abort_refused : (w : World) (r : Refusal) → abort_refusal w.kernel ≡ Some r → IsRefused w event.abort r
 abort_refused w r judged choice may =
-    let aborted = Ok (event.aborted, after_abort w) in
+    let aborted : Stepped = Ok (event.aborted, after_abort w) in
     unless_refused (not (is_live w.kernel.phase)) refusal.NotReady accepted aborted r judged (not_refused aborted r)

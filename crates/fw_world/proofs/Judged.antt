@@ -2,7 +2,6 @@
 use Rattle.std.proofs.Common.{◌≡◌, Bool, true, false, List, [], ◌∷◌, Option, Some, None, Ok, Err, refl}
 use Rattle.std.specs.Prelude.{Result}
 use Rattle.fuse_spec.specs.declared.Refusal.{Refusal}
-use Rattle.fuse_spec.specs.declared.Refusal.TheVariants.{NoSuch}
 use Rattle.fuse_spec.specs.Kernel.Refusals.{unless, found, first_found, refusal_in, accepted}
 
 -- ---- a condition that refuses

@@ -1,5 +1,5 @@
 -- An event that kernel or server refused is refused so in the machine, or memory was wanting.
-use Rattle.std.proofs.Common.{◌≡◌, ◌≢◌, ℕ, ◌+◌, ◌||◌, Bool, true, false, cond, not, List, Option, Some, None, Ok, Err, inl, nat_eq, nat_lt, nat_le, max, length, slice_get, refl, ap, sym, subst, ◌∙◌}
+use Rattle.std.proofs.Common.{◌≡◌, ◌≢◌, ℕ, ◌+◌, ◌||◌, Bool, true, false, cond, not, List, Option, Some, None, Ok, Err, inl, nat_eq, nat_lt, nat_le, max, length, slice_get, refl, ap, subst, ◌∙◌}
 use Rattle.fuse_spec.specs.declared.Minor.{Minor}
 use Rattle.fuse_spec.specs.declared.Binding.{Binding}
 use Rattle.fuse_spec.specs.declared.Counted.{Counted}
@@ -8,16 +8,17 @@ use Rattle.fuse_spec.specs.declared.Refusal.TheVariants as refusal
 use Rattle.fuse_spec.specs.declared.Purpose.{Purpose}
 use Rattle.fuse_spec.specs.declared.ReplyResult.{ReplyResult}
 use Rattle.fuse_spec.specs.Values.Maps.{get, get_name}
-use Rattle.fuse_spec.specs.Values.Numbers.{max_validity, max_calls, counter_end, clock_end}
+use Rattle.fuse_spec.specs.Values.Numbers.{max_validity, max_calls, clock_end}
 use Rattle.fuse_spec.specs.Files.Operations.{errno_of}
 use Rattle.fuse_spec.specs.Calls.Calls.{Call}
 use Rattle.fuse_spec.specs.Kernel.Messages.{Forget, RequestBody, WireReply}
 use Rattle.fuse_spec.specs.Kernel.Kernel.{Kernel, is_live, is_pinned, is_bound, body_of, call_put, forgets_read}
 use Rattle.fuse_spec.specs.Kernel.QueueCalls.{pending_at, after_read_forgets}
 use Rattle.fuse_spec.specs.Kernel.Replies.{reply_written}
-use Rattle.fuse_spec.specs.Server.Copies.{files_named}
+use Rattle.fuse_spec.specs.Server.Copies.{files_named, is_current}
 use Rattle.fuse_spec.specs.Server.Nodes.{counts_out}
 use Rattle.fuse_spec.specs.Server.Performs.{served, files_given}
+use Rattle.fuse_spec.specs.Server.Server.{HeldRequest, Kept}
 use Rattle.fuse_spec.specs.World.Worlds as worlds
 use Rattle.fuse_spec.specs.World.Worlds.{World, Sent, after_mount, after_call, after_take, after_perform, after_again, after_write, after_tick, after_drop}
 use Rattle.fuse_spec.specs.World.Events.{Event, Outcome}
@@ -25,7 +26,7 @@ use Rattle.fuse_spec.specs.World.Events as event
 use Rattle.fuse_spec.specs.Kernel.Refusals.{found, pending_found, unused_found, unless, refusal_in, accepted, when_live, when_not_interrupted, is_ready, is_busy, is_past_end}
 use Rattle.fw_world.proofs.Judged.{unless_refused, found_refused, not_refused}
 use Rattle.fuse_spec.specs.Server.Refusals.{held_found, kept_found}
-use Rattle.fuse_spec.specs.World.Steps.{Stepped, going, is_past, reading_pending, reading_forgets, taking_request, performed_as, performing_held, sending_again, writing_copy, settling, dropping, evicting, MayChooseFor, IsRefused, RefusedWith}
+use Rattle.fuse_spec.specs.World.Steps.{Stepped, going, is_past, reading_pending, reading_forgets, taking_request, performing_held, sending_again, writing_copy, settling, dropping, evicting, MayChooseFor, IsRefused, RefusedWith}
 use Rattle.std.specs.Prelude.{Result, IfErr}
 use Rattle.fuse_theorem.proofs.Refining.Queuing.{All-at}
 use Rattle.fk_kernel.specs.Refused.{within_counters, begin_refusal, mount_refusal, read_refusal}
@@ -34,7 +35,6 @@ use Rattle.fuse_spec.specs.Server.Refusals as server
 use Rattle.fuse_theorem.specs.Reached.{IsReached}
 use Rattle.fk_kernel.specs.Refused.{read_forgets_refusal, tick_refusal, drop_refusal, evict_refusal}
 use Rattle.fs_server.specs.Effects.{RefusesHeld, as_judged, exhausted, RefusesAgain, judged_again, no_number, HasNoCopy}
-use Rattle.fs_server.specs.Effects.{fault_or, past_or_memory}
 use Rattle.fw_world.proofs.Counters.{past_by_kernel, past_by_server, past_by_all}
 
 pub is_exhausted : (o : Outcome) (after : World) → is_past after ≡ true → going o after ≡ Err refusal.Exhausted
@@ -56,7 +56,7 @@ pub mount_refused : (w : World) (found_ms missing_ms : ℕ) (minor : Minor)
     → nat_lt max_validity (max found_ms missing_ms) ≡ false → (r : Refusal) → mount_refusal w.kernel ≡ Some r
     → IsRefused w (event.mount found_ms missing_ms minor) r
 mount_refused w found_ms missing_ms minor day r judged choice may =
-    let mounted = Ok (event.mounted, after_mount w found_ms missing_ms minor) in
+    let mounted : Stepped = Ok (event.mounted, after_mount w found_ms missing_ms minor) in
     rw day (unless_refused (is_busy w.kernel) refusal.Busy accepted mounted r judged (not_refused mounted r))
 
 -- ---- a call
@@ -85,7 +85,8 @@ pub read_refused : (w : World) (place : ℕ) (r : Refusal) → read_refusal w.ke
     → IsRefused w (event.read_pending place) r
 read_refused w place r judged choice may =
     let at = pending_at w.kernel.queues place in
-    read_so w.kernel (pending_found w.kernel at unrefused) (pending_found w.kernel at (reading_pending w place)) r judged
+    read_so w.kernel (pending_found w.kernel at unrefused)
+    (pending_found w.kernel at (reading_pending w place)) r judged
     (λ e. found_refused at (λ (q : ℕ × Purpose). found (body_of w.kernel q.1) (unrefused q.0))
     (λ (q : ℕ × Purpose). found (body_of w.kernel q.1) (reading_pending w place q.0)) r e
     (λ q f. found_refused (body_of w.kernel q.1) (unrefused q.0) (reading_pending w place q.0) r f
@@ -111,8 +112,9 @@ forgets_refused w n r judged choice may =
 pub tick_refused : (w : World) (ms : ℕ) (r : Refusal) → tick_refusal w.kernel ms ≡ Some r
     → IsRefused w (event.tick ms) r
 tick_refused w ms r judged choice may =
-    let now = Ok (event.now (w.kernel.vfs.clock + ms), after_tick w ms) in
-    unless_refused (nat_le clock_end (w.kernel.vfs.clock + ms)) refusal.BadTime accepted now r judged (not_refused now r)
+    let now : Stepped = Ok (event.now (w.kernel.vfs.clock + ms), after_tick w ms) in
+    unless_refused (nat_le clock_end (w.kernel.vfs.clock + ms)) refusal.BadTime accepted now r judged
+    (not_refused now r)
 
 pub drop_refused : (w : World) (directory : ℕ) (name : List ℕ) (r : Refusal)
     → drop_refusal w.kernel directory name ≡ Some r → IsRefused w (event.drop_name directory name) r
@@ -129,7 +131,8 @@ evict_refused w node r judged choice may =
     let counted = get w.kernel.nodes node in
     let busy = is_pinned w.kernel node || is_bound w.kernel node in
     unless_refused (not (is_live w.kernel.phase)) refusal.NotReady
-    (unused_found w.kernel node counted (λ (c : Counted). accepted)) (unused_found w.kernel node counted (evicting w node))
+    (unused_found w.kernel node counted (λ (c : Counted). accepted))
+    (unused_found w.kernel node counted (evicting w node))
     r judged
     (λ e. found_refused counted (λ (c : Counted). unless busy refusal.Busy accepted)
     (λ (c : Counted). unless busy refusal.Busy (evicting w node c)) r e
@@ -143,13 +146,14 @@ sent_server w number unique None = refl
 sent_server w number unique (Some wire) = refl
 
 -- Refused for a count or for a number, it is refused alike.
-either_way : (b : Bool) → unless b refusal.Exhausted (Err refusal.Exhausted) ≡ Err refusal.Exhausted
+either_way : (b : Bool)
+    → unless {A = Outcome × World} b refusal.Exhausted (Err refusal.Exhausted) ≡ Err refusal.Exhausted
 either_way true = refl
 either_way false = refl
 
 pub perform_refused : (w : World) (unique : ℕ) (r : Refusal) → RefusesHeld w.server unique r
     → IsRefused w (event.perform unique) r
-perform_refused w unique r (as_judged judged) choice may =
+perform_refused w unique r (as_judged _ judged) choice may =
     let held = get w.server.held unique in
     let out = λ (h : HeldRequest). counts_out w.server.nodes (files_given w.server h) in
     found_refused held (λ (h : HeldRequest). unless (out h) refusal.Exhausted accepted)
@@ -178,7 +182,7 @@ refused_with w e (Err refusal) h = inl h
 
 pub again_refused : (w : World) (unique : ℕ) (r : Refusal) → RefusesAgain w.server unique r
     → IsRefused w (event.again unique) r
-again_refused w unique r (judged_again judged) choice may = by (get w.server.kept unique) judged
+again_refused w unique r (judged_again _ judged) choice may = by (get w.server.kept unique) judged
   where
     by : (o : Option Kept) → refusal_in (kept_found w.server o (λ (k : Kept). accepted)) ≡ Some r
         → kept_found w.server o (sending_again w unique) ≡ Err r
@@ -187,7 +191,8 @@ again_refused w unique r (judged_again judged) choice may = by (get w.server.kep
         let stale = not (is_current w.server kept.wire) in
         let out = counts_out w.server.nodes (files_named w.server kept.wire) in
         let again = sending_again w unique kept in
-        unless_refused stale refusal.NoCopy (unless out refusal.Exhausted accepted) (unless out refusal.Exhausted again) r e
+        unless_refused stale refusal.NoCopy (unless out refusal.Exhausted accepted)
+        (unless out refusal.Exhausted again) r e
         (λ f. unless_refused out refusal.Exhausted accepted again r f (not_refused again r))
 again_refused w unique r (no_number kept there current past) choice may =
     let outcome = event.sent_again unique in

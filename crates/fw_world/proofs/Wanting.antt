@@ -1,5 +1,5 @@
 -- Where memory was wanting, nothing else refuses the event.
-use Rattle.std.proofs.Common.{◌≡◌, ℕ, ◌||◌, Bool, true, false, true≢false, cond, not, List, [], ◌∷◌, Option, Some, None, inl, inr, nat_eq, nat_lt, nat_le, max, length, slice_get, take, refl, ap, sym, subst, ◌∙◌}
+use Rattle.std.proofs.Common.{◌≡◌, ℕ, ◌||◌, Bool, true, false, cond, not, List, [], ◌∷◌, Option, Some, None, inl, inr, nat_eq, nat_lt, nat_le, max, length, slice_get, take, refl, ap, sym, subst, ◌∙◌}
 use Rattle.std.specs.Prelude.{◌⊎◌, ◌&&◌, IfSome, IfNone, Result}
 use Rattle.std.specs.Option.{option_map_or}
 use Rattle.fuse_spec.specs.declared.Minor.{Minor}
@@ -157,7 +157,8 @@ module _ (w : World) (within : is_past w ≡ false) where
   pub read_wanting : (place : ℕ) → read_refusal w.kernel place ≡ None → (given : Refusal) → given ≡ refusal.NoMemory
       → RefusedWith w (event.read_pending place) given
   read_wanting place none given is =
-      let at = finds (pending_at w.kernel.queues place) (λ (q : ℕ × Purpose). found (body_of w.kernel q.1) (unrefused q.0))
+      let at = finds (pending_at w.kernel.queues place)
+      (λ (q : ℕ × Purpose). found (body_of w.kernel q.1) (unrefused q.0))
       (read_judged (pending_found w.kernel (pending_at w.kernel.queues place) unrefused) none) in
       let says = finds (body_of w.kernel at.it.1) (unrefused at.it.0) at.unrefused in
       at_body at.it.0 at.it.1 at.there says.it says.there

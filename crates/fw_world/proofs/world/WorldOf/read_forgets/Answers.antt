@@ -1,7 +1,6 @@
 use Rattle.std.proofs.Common.{refl, ap, sym, ◌∙◌}
 use Rattle.fuse_spec.specs.Kernel.Refusals.{or_no_memory}
 use Rattle.fuse_spec.specs.World.Events as event
-use Rattle.fuse_spec.specs.declared.Refusal.TheVariants.{NoMemory}
 use Rattle.fk_kernel.specs.Refused.{read_forgets_refusal}
 use Rattle.fw_world.proofs.Parts.{world_of}
 use Rattle.fw_world.proofs.Made.{forgets_read}
