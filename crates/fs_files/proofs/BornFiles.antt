@@ -60,7 +60,7 @@ pub looks_up : {A : Type 0} (valid : Validity) (tree : Tree) → IsShaped tree �
 looks_up valid tree shaped births d name file at = record {
   says = sym (ap (looked_up valid) at);
   tree_is = refl;
-  tellable = (
+  repliable = (
     let low = is_born tree shaped d name file at in
         omega (arith, low, births),
     is_there tree shaped d name file at,
@@ -88,7 +88,7 @@ pub reads_bytes : {A : Type 0} (valid : Validity) (tree : Tree) (file offset siz
 reads_bytes valid tree file offset size bytes read_now same is = record {
   says = ap content same ∙ sym is;
   tree_is = refl;
-  tellable = few;
+  repliable = few;
   short = few;
 }
   where
@@ -112,7 +112,7 @@ module _ (valid : Validity) (tree : Tree) (d : ℕ) (name : List ℕ) (file : �
   makes_directory is = record {
     says = ap (λ (f : ℕ). found f valid.found_ms) born;
     tree_is = is;
-    tellable = (
+    repliable = (
       file_is_low,
       subst (λ (t : Tree). IsThere t file) (sym is)
           (subst (λ (f : ℕ). IsThere (with_birth tree d name a_directory) f) (sym born)
@@ -133,7 +133,7 @@ module _ (valid : Validity) (tree : Tree) (d : ℕ) (name : List ℕ) (file : �
       record {
         says = ap (λ (f : ℕ). created f valid.found_ms f) born;
         tree_is = is;
-        tellable = (file_is_low, there, regular);
+        repliable = (file_is_low, there, regular);
         short = omega arith;
       }
 
@@ -147,6 +147,6 @@ pub opens : {A : Type 0} (valid : Validity) (tree : Tree) (file : ℕ) → IsThe
 opens valid tree file there none = record {
   says = refl;
   tree_is = refl;
-  tellable = regular_file tree file there (unrefused (is_directory tree file) none);
+  repliable = regular_file tree file there (unrefused (is_directory tree file) none);
   short = omega arith;
 }

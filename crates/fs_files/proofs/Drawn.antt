@@ -44,7 +44,7 @@ module _ (s : Server) (h : HeldRequest) (unmarked : h.marked ≡ false)
 
 -- nothing is drawn
 abbrev pub nothing : Plan
-nothing = record { births = 0; serials = 0; opens = 0; told = record { items = [] } }
+nothing = record { births = 0; serials = 0; opens = 0; files = record { items = [] } }
 
 pub none_drawn : (tree : Tree) (reply : Reply ℕ ℕ) (plan : Plan) → files_in_reply reply ≡ []
     → opens_in_reply reply ≡ [] → plan ≡ nothing → Draws tree tree reply plan
@@ -52,7 +52,7 @@ none_drawn tree reply plan files opens is = subst (Draws tree tree reply) (sym i
     (record {
       births = omega arith;
       serials = omega arith;
-      told = files;
+      files = files;
       opens = ap (λ (os : List ℕ). length os) opens;
     })
 

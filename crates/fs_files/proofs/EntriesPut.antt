@@ -10,10 +10,10 @@ none_on : {A : Type 0} (xs ys : List A) → (xs ++ []) ++ ys ≡ xs ++ ys
 none_on {A} [] ys = refl
 none_on {A} (y ∷ xs) ys = ap (λ (zs : List A). y ∷ zs) (none_on xs ys)
 
-pub told_on : {A : Type 0} (xs : List A) (file : Option A) (ys : List A)
+pub files_on : {A : Type 0} (xs : List A) (file : Option A) (ys : List A)
     → (xs ++ first_told file []) ++ ys ≡ xs ++ first_told file ys
-told_on xs None ys = none_on xs ys
-told_on xs (Some x) ys = one_on xs x ys
+files_on xs None ys = none_on xs ys
+files_on xs (Some x) ys = one_on xs x ys
 
 pub one_longer : {A : Type 0} (xs : List A) (x : A) → length (xs ++ x ∷ []) ≡ length xs + 1
 one_longer {A} [] x = refl
@@ -23,6 +23,6 @@ none_longer : {A : Type 0} (xs : List A) → length (xs ++ []) ≡ length xs
 none_longer {A} [] = refl
 none_longer {A} (y ∷ xs) = let rest = none_longer xs in omega (arith, rest)
 
-pub told_longer : {A : Type 0} (xs : List A) (file : Option A) → length (xs ++ first_told file []) ≤ length xs + 1
-told_longer xs None = let same = none_longer xs in omega (arith, same)
-told_longer xs (Some x) = let same = one_longer xs x in omega (arith, same)
+pub files_longer : {A : Type 0} (xs : List A) (file : Option A) → length (xs ++ first_told file []) ≤ length xs + 1
+files_longer xs None = let same = none_longer xs in omega (arith, same)
+files_longer xs (Some x) = let same = one_longer xs x in omega (arith, same)

@@ -249,14 +249,14 @@ module _ (t : NodeTable) (files : List ℕ) where
       reached : (n : ℕ) → 2 ^ 62 ≤ n → nat_le counter_end n ≡ true
       reached n le = grind (arith, common_steps)
 
-  -- a file among these that is told
-  told_some : (file : ℕ) (some : List ℕ) → AreCountable t files some → 0 < count_by (nat_eq file) some
+  -- a file that is among these
+  some_among : (file : ℕ) (some : List ℕ) → AreCountable t files some → 0 < count_by (nat_eq file) some
       → IsCountable t files file
-  told_some file [] each more = absurd (none more)
+  some_among file [] each more = absurd (none more)
     where
       none : 0 < 0 → ⊥
       none e = omega (arith, e)
-  told_some file (x ∷ some) each more = by (nat_eq file x) refl more (told_some file some each.1)
+  some_among file (x ∷ some) each more = by (nat_eq file x) refl more (some_among file some each.1)
     where
       by : (b : Bool) → nat_eq file x ≡ b → 0 < count_by (nat_eq file) (x ∷ some)
           → (0 < count_by (nat_eq file) some → IsCountable t files file) → IsCountable t files file
@@ -273,7 +273,7 @@ module _ (t : NodeTable) (files : List ℕ) where
           (r.count + count_by (nat_eq r.file) files)) sorted e in
           absurd (over has.value.count (count_by (nat_eq has.value.file) files) has.passes
           (below has.key has.value has.there)
-          (λ more. told_some has.value.file files each more has.key has.value has.there refl))
+          (λ more. some_among has.value.file files each more has.key has.value has.there refl))
         where
           over : (count more : ℕ) → nat_le counter_end (count + more) ≡ true → count < 2 ^ 62
               → (0 < more → count + more < 2 ^ 62) → ⊥
@@ -374,9 +374,9 @@ none_left t files (x ∷ left) at end all past = absurd (more (length left) all 
     more n all past = omega (arith, all, past)
 
 -- the same at the end of entries
-pub none_told : (t : NodeTable) (files : List ℕ) (left : List Entry) (at end : ℕ) → at + length left ≡ end → end ≤ at
+pub none_counted : (t : NodeTable) (files : List ℕ) (left : List Entry) (at end : ℕ) → at + length left ≡ end → end ≤ at
     → AreCountable t files (files_of t left)
-none_told t files left at end all past = none_left t files (files_of t left) at end
+none_counted t files left at end all past = none_left t files (files_of t left) at end
     (ap (λ n. at + n) (length-map left (λ (g : Entry). file_of t g.nodeid)) ∙ all) past
 
 unheld_node : (t : NodeTable) (file : ℕ) → IsSound t → IsUnheld t file → 1 ≡ node_in t.rows file

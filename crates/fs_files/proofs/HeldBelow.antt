@@ -14,17 +14,17 @@ use Rattle.fuse_spec.proofs.QueueCounts.{count_by-cons}
 use Rattle.fs_nodes.proofs.Maps.{any_there}
 use Rattle.fs_files.specs.Bounds.{AreHeldBelow}
 use Rattle.fs_files.specs.Listed.{names_in, pair_listed}
-use Rattle.fs_files.specs.Replies.{IsTellable, outcome_reply}
+use Rattle.fs_files.specs.Replies.{IsRepliable, outcome_reply}
 use Rattle.fs_files.specs.declared.replies.Outcome.{Outcome}
 use Rattle.fs_files.specs.declared.replies.Outcome.TheVariants.{Found, Created, Opened, ListedPlus, Plain}
 use Rattle.fs_files.specs.declared.replies.PlainReply.TheVariants.{Missing, Attributes, Listed, Content, Written, Agreed, Done, Failed}
 use Rattle.fs_files.proofs.Bounds.{each_put}
 
--- A node has fewer lookups than the end of counters once these files are told.
+-- A node has fewer lookups than the end of counters once these files are given their nodes.
 abbrev pub Fits : List ℕ → HeldNode → Type 0
 Fits files row = row.count + count_by (nat_eq row.file) files < 2 ^ 62
 
--- Each node's lookups are below their end once these files are told.
+-- Each node's lookups are below their end once these files are given their nodes.
 abbrev pub IsWithin : NodeTable → List ℕ → Type 0
 IsWithin t files = (id : ℕ) (row : HeldNode) → get t.rows id ≡ Some row → Fits files row
 
@@ -38,7 +38,7 @@ within_first t files none id row there = by (nat_le counter_end (row.count + cou
 
 -- ---- one file more
 
--- a file that is not told yet is told as often later
+-- a file that is not the first to be given its node is given it as often later
 pub fits_later : (row : HeldNode) (file : ℕ) (files : List ℕ) → Fits (file ∷ files) row → Fits files row
 fits_later row file files fits = by (nat_eq row.file file) (rw (count_by-cons (nat_eq row.file) file files) at fits)
   where
@@ -46,7 +46,7 @@ fits_later row file files fits = by (nat_eq row.file file) (rw (count_by-cons (n
     by true fits = omega (arith, fits)
     by false fits = omega (arith, fits)
 
--- the file that is told is told once less later
+-- the file that is given its node is given it once less later
 pub fits_once : (row : HeldNode) (file : ℕ) (files : List ℕ) → row.file ≡ file → Fits (file ∷ files) row
     → Fits files (record row { count = row.count + 1 })
 fits_once row file files same fits = by (nat_eq row.file file) refl
@@ -73,37 +73,37 @@ within_next t file id files short may old = each_put (Fits files) t.rows id (giv
     by None e m = let few = count_by-le-length (nat_eq file) files in omega (arith, few, short)
     by (Some row) e same = fits_once row file files same (old id row e)
 
--- Each node's lookups are below their end, once the files are told.
-pub within_told : (choice : ℕ → ℕ) (t : NodeTable) (files : List ℕ) → length files < 2 ^ 62 → MayChoose choice t files
+-- Each node's lookups are below their end, once the files are given their nodes.
+pub within_given : (choice : ℕ → ℕ) (t : NodeTable) (files : List ℕ) → length files < 2 ^ 62 → MayChoose choice t files
     → IsWithin t files → AreHeldBelow (all_given choice t files)
-within_told choice t [] short may old = λ id row is. let low = old id row is in omega (arith, low)
-within_told choice t (file ∷ files) short may old =
-    within_told choice (given t file (choice file)) files (omega (arith, short)) may.1
+within_given choice t [] short may old = λ id row is. let low = old id row is in omega (arith, low)
+within_given choice t (file ∷ files) short may old =
+    within_given choice (given t file (choice file)) files (omega (arith, short)) may.1
     (within_next t file (choice file) files (omega (arith, short)) may.0 old)
 
--- ---- a reply tells few files
+-- ---- a reply names few files
 
-told_few : (ms : ℕ) (ds : List Dirent) → length (files_told (map (pair_listed ms) ds)) ≤ length ds
-told_few ms [] = omega arith
-told_few ms (d ∷ ds) = by (is_dots d.name) (told_few ms ds)
+few_files : (ms : ℕ) (ds : List Dirent) → length (files_told (map (pair_listed ms) ds)) ≤ length ds
+few_files ms [] = omega arith
+few_files ms (d ∷ ds) = by (is_dots d.name) (few_files ms ds)
   where
     by : (b : Bool) → length (files_told (map (pair_listed ms) ds)) ≤ length ds
         → length (first_told (cond b None (Some (d.ino - 1))) (files_told (map (pair_listed ms) ds))) ≤ length (d ∷ ds)
     by true rest = omega (arith, rest)
     by false rest = omega (arith, rest)
 
-pub few_told : {A : Type 0} (tree : Tree) (ms : ℕ) (o : Outcome A) → IsTellable tree o
+pub few_given : {A : Type 0} (tree : Tree) (ms : ℕ) (o : Outcome A) → IsRepliable tree o
     → length (files_in_reply (outcome_reply ms o)) ≤ 32
-few_told tree ms (Found file) told = omega arith
-few_told tree ms (Created file) told = omega arith
-few_told tree ms (Opened file) told = omega arith
-few_told tree ms (ListedPlus records) told = let most = told.1 in let few =
-    told_few ms (names_in records.items) in omega (arith, most, few)
-few_told tree ms (Plain (Missing missing_ms)) told = omega arith
-few_told tree ms (Plain (Attributes attributes)) told = omega arith
-few_told tree ms (Plain (Listed records)) told = omega arith
-few_told tree ms (Plain (Content bytes)) told = omega arith
-few_told tree ms (Plain (Written size)) told = omega arith
-few_told tree ms (Plain (Agreed minor flags)) told = omega arith
-few_told tree ms (Plain Done) told = omega arith
-few_told tree ms (Plain (Failed errno)) told = omega arith
+few_given tree ms (Found file) repliable = omega arith
+few_given tree ms (Created file) repliable = omega arith
+few_given tree ms (Opened file) repliable = omega arith
+few_given tree ms (ListedPlus records) repliable = let most = repliable.1 in let few =
+    few_files ms (names_in records.items) in omega (arith, most, few)
+few_given tree ms (Plain (Missing missing_ms)) repliable = omega arith
+few_given tree ms (Plain (Attributes attributes)) repliable = omega arith
+few_given tree ms (Plain (Listed records)) repliable = omega arith
+few_given tree ms (Plain (Content bytes)) repliable = omega arith
+few_given tree ms (Plain (Written size)) repliable = omega arith
+few_given tree ms (Plain (Agreed minor flags)) repliable = omega arith
+few_given tree ms (Plain Done) repliable = omega arith
+few_given tree ms (Plain (Failed errno)) repliable = omega arith

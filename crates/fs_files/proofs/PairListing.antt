@@ -29,7 +29,7 @@ pairs_same ps qs e = ap pairs_said e
 
 -- ---- which files are listed
 
--- a pair whose name tells a file of the tree that was born
+-- a pair whose inode number is of a file of the tree that was born
 abbrev IsListed : Tree → DirentPlus ℕ → Type 0
 IsListed tree p = IsListable tree p.dirent
 
@@ -68,7 +68,7 @@ listable_names tree valid (r ∷ rs) low =
     (All-head (IsListed tree) (pair_of valid r) (map (pair_of valid) rs) low)
     (listable_names tree valid rs (All-tail (IsListed tree) (pair_of valid r) (map (pair_of valid) rs) low))
 
--- the names of the pairs that fit some room tell files of the tree
+-- the names of the pairs that fit some room are of files of the tree
 pub listable_records : (tree : Tree) → IsShaped tree → tree.next_birth ≤ 2 ^ 62
     → (valid directory after room : ℕ) (rs : List Record)
     → fitting_pairs room (pairs_after valid tree directory after) ≡ map (pair_of valid) rs

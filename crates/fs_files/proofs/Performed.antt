@@ -1,4 +1,4 @@
--- Performing a held request is answering it on the tree, and then telling the files of the answer.
+-- Performing a held request is answering it on the tree, and then giving nodes and open numbers to its files.
 use Rattle.std.proofs.Common.{◌≡◌, ℕ, Bool, true, false, cond, not, ◌||◌, List, [], refl, ap, ◌∙◌}
 use Rattle.fuse_spec.specs.declared.Opened.{Opened}
 use Rattle.fuse_spec.specs.Values.Maps.{Map}
@@ -11,7 +11,7 @@ use Rattle.fuse_spec.specs.Server.Nodes.{HandleTable, file_of, is_open, handle_b
 use Rattle.fuse_spec.specs.Server.Server.{Server, HeldRequest, Kept, Copy}
 use Rattle.fuse_spec.specs.Files.Trees.{Tree}
 use Rattle.fuse_spec.specs.Server.Performs.{PerformResult, performed, performing, refusing, doing, file_operation_of, is_open_for, is_still_held, files_by, files_given, wire_of}
-use Rattle.fs_files.specs.Performing.{said, said_by, tree_said, tree_by, handles_said, handles_by, telling}
+use Rattle.fs_files.specs.Performing.{said, said_by, tree_said, tree_by, handles_said, handles_by, numbering}
 
 -- the server after a request is answered on the tree
 abbrev pub answered : Server → HeldRequest → Server
@@ -19,7 +19,7 @@ answered s h = record s { tree = tree_said s h; handles = handles_said s h }
 
 module _ (choice : ℕ → ℕ) (s : Server) (up : s.aborted ≡ false) where
   does : (operation : FileOperation) → doing choice s operation
-      ≡ telling choice (record s { tree = tree_after s.tree operation }) (reply_by s.validity s.tree operation)
+      ≡ numbering choice (record s { tree = tree_after s.tree operation }) (reply_by s.validity s.tree operation)
   does operation =
       let reply = reply_by s.validity s.tree operation in
       let nodes = all_given choice s.nodes (files_in_reply reply) in
@@ -35,7 +35,7 @@ module _ (choice : ℕ → ℕ) (s : Server) (up : s.aborted ≡ false) where
 
   asked_so : (operation : Operation ℕ Opened) (b : Bool)
       → cond b (doing choice s (file_operation_of s.nodes operation)) (refusing s ebadf)
-      ≡ telling choice (record s { tree = cond b (tree_after s.tree (file_operation_of s.nodes operation)) s.tree })
+      ≡ numbering choice (record s { tree = cond b (tree_after s.tree (file_operation_of s.nodes operation)) s.tree })
       (cond b (reply_by s.validity s.tree (file_operation_of s.nodes operation)) (failed ebadf))
   asked_so operation true = does (file_operation_of s.nodes operation)
   asked_so operation false = refl
@@ -44,13 +44,13 @@ module _ (choice : ℕ → ℕ) (s : Server) (up : s.aborted ≡ false) where
       → ◌≡◌ {A = PerformResult} (cond b (record {
         server = record s { handles = handle_back s.handles o.fh };
         wire = done;
-      }) (refusing s ebadf)) (telling choice
+      }) (refusing s ebadf)) (numbering choice
       (record s { handles = cond b (handle_back s.handles o.fh) s.handles }) (cond b done (failed ebadf)))
   released_so o true = refl
   released_so o false = refl
 
   of_body : (body : RequestBody) → performing choice s body
-      ≡ telling choice (record s { tree = tree_by s body; handles = handles_by s body }) (said_by s body)
+      ≡ numbering choice (record s { tree = tree_by s body; handles = handles_by s body }) (said_by s body)
   of_body (init flags) = refl
   of_body (asks operation) = asked_so operation (is_open_for s operation)
   of_body (release o) = released_so o (is_open s.handles o.fh (file_of s.nodes o.nodeid))
@@ -59,11 +59,11 @@ module _ (choice : ℕ → ℕ) (s : Server) (up : s.aborted ≡ false) where
   of_body (interrupt original) = refl
 
   -- while the mount is not aborted
-  pub performed_is : (h : HeldRequest) → performed choice s h ≡ telling choice (answered s h) (said s h)
+  pub performed_is : (h : HeldRequest) → performed choice s h ≡ numbering choice (answered s h) (said s h)
   performed_is h = by h.marked (is_still_held s.nodes h.generations)
     where
       by : (m b : Bool) → cond m (refusing s eintr) (cond b (performing choice s h.body) (refusing s eio))
-          ≡ telling choice (record s {
+          ≡ numbering choice (record s {
             tree = cond m s.tree (cond b (tree_by s h.body) s.tree);
             handles = cond m s.handles (cond b (handles_by s h.body) s.handles);
           })

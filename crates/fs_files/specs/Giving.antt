@@ -28,7 +28,7 @@ abbrev pub node_in : Map HeldNode → ℕ → ℕ
 node_in [] file = 1
 node_in (e ∷ rows) file = cond (nat_eq e.1.file file) e.0 (node_in rows file)
 
--- the file's node has lookups below the end of counters, once these files are told
+-- the file's node has lookups below the end of counters, once these files are given their nodes
 abbrev pub IsCountable : NodeTable → List ℕ → ℕ → Type 0
 IsCountable t files file = (id : ℕ) (row : HeldNode) → get t.rows id ≡ Some row → row.file ≡ file
     → row.count + count_by (nat_eq file) files < 2 ^ 62

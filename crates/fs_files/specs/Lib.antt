@@ -8,4 +8,4 @@ pub mod Listing
 pub mod Performing
 pub mod Plans
 pub mod Giving
-pub mod Telling
+pub mod Numbering

@@ -17,7 +17,7 @@ abbrev pub AreRecordBytes : List ℕ → Type 0
 AreRecordBytes bytes = AreRecords 0 bytes (dirents_in bytes)
     × (map dirent_of (map dirent_in (dirents_in bytes)) ≡ dirents_in bytes)
 
--- a name with the file that its inode number tells, valid for so many milliseconds
+-- a name with the file of its inode number, valid for so many milliseconds
 abbrev pub pair_listed : (valid : ℕ) → Dirent → DirentPlus ℕ
 pair_listed valid d = record { file = Some (d.ino - 1); valid = valid; dirent = d }
 

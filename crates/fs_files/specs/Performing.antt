@@ -13,7 +13,7 @@ use Rattle.fuse_spec.specs.Server.Server.{Server, HeldRequest}
 use Rattle.fuse_spec.specs.Server.Performs.{PerformResult, flags_known, minor_number, file_operation_of, is_open_for, is_still_held, wire_of}
 use Rattle.fs_tree.specs.Outcomes.{unnamed_by}
 use Rattle.fs_files.specs.declared.replies.Outcome.{Outcome}
-use Rattle.fs_files.specs.Replies.{IsTellable, outcome_len, outcome_reply}
+use Rattle.fs_files.specs.Replies.{IsRepliable, outcome_len, outcome_reply}
 use Rattle.fs_files.specs.Values.{room_of, room_for}
 
 -- What a request is answered whose nodes are still held, with files named by their births.
@@ -67,9 +67,9 @@ loosened s (forget f) = None
 loosened s (batch_forget fs) = None
 loosened s (interrupt original) = None
 
--- The files that this reply names get nodes and open numbers, and are told by them.
-abbrev pub telling : (ℕ → ℕ) → Server → Reply ℕ ℕ → PerformResult
-telling choice s reply =
+-- The files that this reply names are given nodes and open numbers, by which the reply that is sent names them.
+abbrev pub numbering : (ℕ → ℕ) → Server → Reply ℕ ℕ → PerformResult
+numbering choice s reply =
     record {
       server = record s {
         nodes = all_given choice s.nodes (files_in_reply reply);
@@ -83,12 +83,12 @@ pub record Operates {A : Type 0} (valid : Validity) (tree : Tree) (operation : F
     (new : Tree) : Type 0 where
   pub says : outcome_reply valid.found_ms outcome ≡ reply_unrefused valid tree operation
   pub tree_is : new ≡ tree_unrefused tree operation
-  pub tellable : IsTellable new outcome
+  pub repliable : IsRepliable new outcome
   pub short : outcome_len outcome ≤ room_of operation
 
 -- A request comes to this on the tree, if its nodes are still held.
 pub record ComesTo {A : Type 0} (s : Server) (body : RequestBody) (outcome : Outcome A) (new : Tree) : Type 0 where
   pub says : outcome_reply s.validity.found_ms outcome ≡ said_by s body
   pub tree_is : new ≡ tree_by s body
-  pub tellable : IsTellable new outcome
+  pub repliable : IsRepliable new outcome
   pub short : outcome_len outcome ≤ room_for body

@@ -10,11 +10,11 @@ use Rattle.fs_files.specs.declared.plan.Plan.{Plan}
 pub record Draws (tree new : Tree) (reply : Reply ℕ ℕ) (plan : Plan) : Type 0 where
   pub births : new.next_birth ≡ tree.next_birth + plan.births
   pub serials : new.next_serial ≡ tree.next_serial + plan.serials
-  pub told : files_in_reply reply ≡ plan.told.items
+  pub files : files_in_reply reply ≡ plan.files.items
   pub opens : length (opens_in_reply reply) ≡ plan.opens
 
 -- The counters have the numbers of a request whose reply and whose tree are these, and no node's lookups come to the
--- end of counters. Where it is lost, no file is told.
+-- end of counters. Where it is lost, no node and no open number is given.
 pub record HasNumbers (new : Tree) (nodes : NodeTable) (handles : HandleTable) (lost : Bool)
     (reply : Reply ℕ ℕ) : Type 0 where
   pub births : new.next_birth ≤ 2 ^ 62

@@ -20,7 +20,7 @@ use Rattle.fs_files.specs.declared.replies.Outcome.TheVariants as outcome
 use Rattle.fs_files.specs.declared.replies.SentReply.{SentReply}
 use Rattle.fs_files.specs.declared.replies.SentReply.TheVariants as sent
 
--- A name in a list tells a file of the tree that was born before the end of births.
+-- A name in a list is of a file of the tree that was born before the end of births.
 abbrev pub IsListable : Tree → Dirent → Type 0
 IsListable tree d = (1 ≤ d.ino) × (d.ino - 1 < 2 ^ 62) × IsThere tree (d.ino - 1)
 
@@ -29,10 +29,10 @@ module _ {A : Type 0} where
   pub record HasSpare (spare : ReplySpare A) (len names : ℕ) : Type 0 where
     pub no_bytes : spare.bytes.items ≡ []
     pub no_entries : spare.entries.items ≡ []
-    pub none_told : spare.told.items ≡ []
+    pub no_file_entries : spare.file_entries.items ≡ []
     pub bytes : len ≤ vec_capacity spare.bytes
     pub entries : names ≤ vec_capacity spare.entries
-    pub told : names ≤ vec_capacity spare.told
+    pub file_entries : names ≤ vec_capacity spare.file_entries
 
   -- what a reply says that names no file, whatever files are named by
   abbrev pub plain_reply : {F O : Type 0} → PlainReply A → Reply F O
@@ -125,11 +125,11 @@ module _ {A : Type 0} where
 
   -- An outcome whose file is in this tree, below the end of births, and regular if it is opened; or whose reply can be
   -- written.
-  abbrev pub IsTellable : Tree → Outcome A → Type 0
-  IsTellable tree (outcome.Found file) = (file < 2 ^ 62) × IsThere tree file
-  IsTellable tree (outcome.Created file) = (file < 2 ^ 62) × IsThere tree file × IsTrue (is_regular tree file)
-  IsTellable tree (outcome.Opened file) = IsTrue (is_regular tree file)
-  IsTellable tree (outcome.ListedPlus records) = AreRecordBytes records.items
+  abbrev pub IsRepliable : Tree → Outcome A → Type 0
+  IsRepliable tree (outcome.Found file) = (file < 2 ^ 62) × IsThere tree file
+  IsRepliable tree (outcome.Created file) = (file < 2 ^ 62) × IsThere tree file × IsTrue (is_regular tree file)
+  IsRepliable tree (outcome.Opened file) = IsTrue (is_regular tree file)
+  IsRepliable tree (outcome.ListedPlus records) = AreRecordBytes records.items
       × (128 * length (names_in records.items) + length records.items ≤ max_transfer)
       × All (IsListable tree) (names_in records.items)
-  IsTellable tree (outcome.Plain reply) = IsPlainSendable reply
+  IsRepliable tree (outcome.Plain reply) = IsPlainSendable reply

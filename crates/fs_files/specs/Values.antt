@@ -40,7 +40,7 @@ pub record NodesState : Type 0 where
   pub table : NodeTable
   pub room : ℕ
 
--- the held nodes and the open numbers, and how many more files can be told by each with no memory
+-- the held nodes and the open numbers, and how many more of each can be given with no memory
 pub record KnownState : Type 0 where
   pub nodes : NodeTable
   pub handles : HandleTable

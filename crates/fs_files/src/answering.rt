@@ -7,7 +7,7 @@ ghost use Rattle.fuse_spec.specs.Values.Numbers.{max_validity};
 ghost use Rattle.fuse_spec.specs.Server.Performs.{is_open_for, is_still_held};
 ghost use Rattle.fuse_spec.specs.declared.Validity.{Validity as ValidityValue};
 ghost use Rattle.fs_files.specs.Performing.{ComesTo, handles_by, handles_said, said, said_by, tree_said, tree_by};
-ghost use Rattle.fs_files.specs.Replies.{IsTellable, outcome_len, outcome_reply};
+ghost use Rattle.fs_files.specs.Replies.{IsRepliable, outcome_len, outcome_reply};
 ghost use Rattle.fs_files.specs.Values.{operation_of, room_for, server_at, server_of, named_in};
 
 use crate::files::Files;
@@ -36,7 +36,7 @@ impl<S: NodeStore> Files<S> {
         ensures err { OnErr result (self.new ≡ self.old) }
         ensures says { IfOk result (λ outcome. outcome_reply validity.found_ms outcome
             ≡ said (server_at minor self.old validity) held.now) }
-        ensures tellable { IfOk result (λ outcome. IsTellable self.new.tree outcome) }
+        ensures repliable { IfOk result (λ outcome. IsRepliable self.new.tree outcome) }
         ensures short { IfOk result (λ outcome. outcome_len outcome ≤ room_for held.now.body) }
         ensures tree { OnOk result (self.new.tree ≡ tree_said (server_at minor self.old validity) held.now) }
         ensures handles { OnOk result (self.new.handles ≡ handles_said (server_at minor self.old validity) held.now) }
@@ -124,7 +124,7 @@ impl<S: NodeStore> Files<S> {
     fn release(&mut self, opened: Opened) -> Outcome<S::Heap>
         ensures says { (v : ValidityValue) → outcome_reply v.found_ms result
             ≡ said_by (server_of self.old v) (release opened) }
-        ensures tellable { IsTellable self.new.tree result }
+        ensures repliable { IsRepliable self.new.tree result }
         ensures short { outcome_len result ≤ 0 }
         ensures handles { (v : ValidityValue) → self.new.handles ≡ handles_by (server_of self.old v) (release opened) }
         ensures tree { self.new.tree ≡ self.old.tree }

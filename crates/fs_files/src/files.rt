@@ -21,7 +21,7 @@ use std::alloc::AllocError;
 use std::marker::Model;
 
 /// The files that are served: the tree, and the nodes and open numbers by which the kernel knows its files. Contracts
-/// see beside these how many more files can be told with no memory.
+/// see beside these how many more nodes and open numbers can be given with no memory.
 #[derive(Drop)]
 pub struct Files<S: NodeStore> {
     pub(crate) alloc: S::Heap,
@@ -65,7 +65,7 @@ impl<S: NodeStore> Files<S> {
         })
     }
 
-    /// Makes room for telling the files of one more reply.
+    /// Makes room for the nodes and the open number that one more reply gives.
     pub fn reserve(&mut self) -> Result<(), AllocError>
         ensures tree { self.new.tree ≡ self.old.tree }
         ensures nodes { self.new.nodes ≡ self.old.nodes }

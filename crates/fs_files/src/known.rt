@@ -46,7 +46,7 @@ impl<S: NodeStore> KnownFiles<S> {
         }
     }
 
-    /// Makes room for as many more nodes as a reply tells at most, and for one more open number.
+    /// Makes room for as many more nodes as one reply gives at most, and for one more open number.
     pub(crate) fn reserve(&mut self) -> Result<(), AllocError>
         ensures nodes { self.new.nodes ≡ self.old.nodes }
         ensures handles { self.new.handles ≡ self.old.handles }

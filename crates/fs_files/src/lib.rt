@@ -9,6 +9,7 @@ mod known;
 mod listed_names;
 mod loosening;
 mod nodes;
+mod numbering;
 mod numbers;
 mod operating;
 mod operation_nodes;
@@ -18,7 +19,6 @@ mod records;
 mod refusing;
 mod replies;
 mod spare;
-mod telling;
 
 pub use files::Files;
 pub use held::{HeldBody, HeldOperation, HeldRequest, Named, NamedNode};

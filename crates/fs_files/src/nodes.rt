@@ -51,7 +51,7 @@ impl<S: NodeStore> Nodes<S> {
         }
     }
 
-    /// Makes room for as many more nodes as a reply tells at most.
+    /// Makes room for as many more nodes as one reply gives at most.
     pub fn reserve(&mut self) -> Result<(), AllocError>
         ensures table { self.new.table ≡ self.old.table }
         ensures room { OnOk result (32 ≤ self.new.room) }
@@ -176,8 +176,8 @@ impl<S: NodeStore> Nodes<S> {
         !self.has(file) && !others.contains(&file)
     }
 
-    /// Whether some node's lookups come to the end of counters once each of these files is told once more. Only the
-    /// nodes of these files are looked at.
+    /// Whether some node's lookups come to the end of counters once each of these files is given its node once more.
+    /// Only the nodes of these files are looked at.
     pub fn counts_out(&self, files: &[u64]) -> bool
         requires { AreHeldBelow self.now.table }
         ensures { result ≡ counts_out self.now.table files.now }
@@ -198,18 +198,18 @@ impl<S: NodeStore> Nodes<S> {
 
     /// Whether some node's lookups come to the end of counters once each of these entries counts its node once more.
     /// Only the nodes of these entries are looked at.
-    pub fn counts_out_again(&self, told: &[Entry]) -> bool
+    pub fn counts_out_again(&self, entries: &[Entry]) -> bool
         requires { AreHeldBelow self.now.table }
-        ensures { result ≡ counts_out self.now.table (files_of self.now.table told.now) }
+        ensures { result ≡ counts_out self.now.table (files_of self.now.table entries.now) }
     {
         self.store.keeps_sound();
-        let mut left = told;
-        for _ in 0..told.len() {
+        let mut left = entries;
+        for _ in 0..entries.len() {
             let Some((entry, rest)) = left.split_first() else {
                 return false;
             };
             let file = self.file_of(entry.nodeid);
-            if self.is_counted_out(file, self.times_told(file, told)) {
+            if self.is_counted_out(file, self.times_among(file, entries)) {
                 return true;
             }
             left = rest;
@@ -217,7 +217,7 @@ impl<S: NodeStore> Nodes<S> {
         false
     }
 
-    /// Whether the lookups of a file's node come to the end of counters once it is told so many times more.
+    /// Whether the lookups of a file's node come to the end of counters once it is given so many times more.
     fn is_counted_out(&self, file: u64, more: usize) -> bool
         requires { AreHeldBelow self.now.table }
         ensures out { result ≡ true → (files : List ℕ) → more ≡ count_by (nat_eq file) files
@@ -233,10 +233,11 @@ impl<S: NodeStore> Nodes<S> {
     }
 
     /// How many of these entries are of nodes of a file.
-    fn times_told(&self, file: u64, told: &[Entry]) -> usize
-        ensures { result ≡ count_by (nat_eq file) (files_of self.now.table told.now) }
+    fn times_among(&self, file: u64, entries: &[Entry]) -> usize
+        ensures { result ≡ count_by (nat_eq file) (files_of self.now.table entries.now) }
     {
-        told.iter()
+        entries
+            .iter()
             .filter(|entry| self.file_of(entry.nodeid) == file)
             .count()
     }

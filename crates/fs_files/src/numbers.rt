@@ -32,7 +32,7 @@ impl<S: NodeStore> Files<S> {
         let plan = self.plan_for(held);
         plan.births <= self.tree.births_left()
             && plan.serials <= self.tree.serials_left()
-            && (is_lost || (self.can_tell(&plan.told) && self.can_open(plan.opens)))
+            && (is_lost || (self.can_give_nodes(&plan.files) && self.can_open(plan.opens)))
     }
 
     /// What performing a held request draws.
@@ -62,17 +62,17 @@ impl<S: NodeStore> Files<S> {
         plan_of(&self.tree, &self.known.nodes, operation)
     }
 
-    /// Whether these files can be told by nodes, one after another: the generations are enough, and no node's count
+    /// Whether these files can be given nodes, one after another: the generations are enough, and no node's count
     /// comes to its end.
-    fn can_tell(&self, told: &[u64]) -> bool
+    fn can_give_nodes(&self, files: &[u64]) -> bool
         requires { AreHeldBelow self.now.nodes }
-        ensures can { result ≡ true → (generations_after self.now.nodes told.now ≤ 2 ^ 62)
-            × (counts_out self.now.nodes told.now ≡ false) }
-        ensures cannot { result ≡ false → (2 ^ 62 < generations_after self.now.nodes told.now)
-            ⊎ (counts_out self.now.nodes told.now ≡ true) }
+        ensures can { result ≡ true → (generations_after self.now.nodes files.now ≤ 2 ^ 62)
+            × (counts_out self.now.nodes files.now ≡ false) }
+        ensures cannot { result ≡ false → (2 ^ 62 < generations_after self.now.nodes files.now)
+            ⊎ (counts_out self.now.nodes files.now ≡ true) }
     {
         let nodes = &self.known.nodes;
-        nodes.new_among(told) as u64 <= nodes.generations_left() && !nodes.counts_out(told)
+        nodes.new_among(files) as u64 <= nodes.generations_left() && !nodes.counts_out(files)
     }
 
     /// Whether so many open numbers are left.

@@ -17,24 +17,25 @@ use fs_tree::{MOST_LISTED, Tree};
 use fuse_spec::Operation;
 use std::alloc::Allocator;
 
-/// How many births, serials and open numbers an operation draws, and the files that it tells by nodes, in order.
+/// How many births, serials and open numbers an operation draws, and the files to which its reply gives nodes, in
+/// order.
 #[derive(Drop)]
 pub(crate) struct Plan {
     pub(crate) births: u64,
     pub(crate) serials: u64,
     pub(crate) opens: u64,
-    pub(crate) told: ArrayVec<u64, MOST_LISTED>,
+    pub(crate) files: ArrayVec<u64, MOST_LISTED>,
 }
 
 /// No number.
 pub(crate) fn no_numbers() -> Plan
-    ensures { result ≡ record { births = 0; serials = 0; opens = 0; told = record { items = [] } } }
+    ensures { result ≡ record { births = 0; serials = 0; opens = 0; files = record { items = [] } } }
 {
     Plan {
         births: 0,
         serials: 0,
         opens: 0,
-        told: ArrayVec::new(),
+        files: ArrayVec::new(),
     }
 }
 
@@ -97,7 +98,7 @@ fn unrefused_plan<A: Allocator + Copy, S: NodeStore>(
             after,
             size,
         } => Plan {
-            told: tree.files_listed(nodes.file_of(*directory), *after, *size),
+            files: tree.files_listed(nodes.file_of(*directory), *after, *size),
             ..no_numbers()
         },
         Operation::Getattr { .. }
@@ -115,12 +116,12 @@ fn plan_of_lookup<A: Allocator + Copy>(tree: &Tree<A>, directory: u64, name: &[u
       births = 0;
       serials = 0;
       opens = 0;
-      told = record { items = option_to_list (file_at tree.now directory name.now) };
+      files = record { items = option_to_list (file_at tree.now directory name.now) };
     } }
 {
     match tree.lookup(directory, name) {
         Ok(Some(file)) => Plan {
-            told: one_file(file),
+            files: one_file(file),
             ..no_numbers()
         },
         _ => no_numbers(),
@@ -129,23 +130,23 @@ fn plan_of_lookup<A: Allocator + Copy>(tree: &Tree<A>, directory: u64, name: &[u
 
 /// What a MKDIR or a CREATE draws.
 fn plan_of_birth(birth: u64, opens: u64) -> Plan
-    ensures { result ≡ record { births = 1; serials = 1; opens = opens; told = record { items = birth ∷ [] } } }
+    ensures { result ≡ record { births = 1; serials = 1; opens = opens; files = record { items = birth ∷ [] } } }
 {
     Plan {
         births: 1,
         serials: 1,
         opens,
-        told: one_file(birth),
+        files: one_file(birth),
     }
 }
 
 /// What a LINK draws.
 fn plan_of_link(file: u64) -> Plan
-    ensures { result ≡ record { births = 0; serials = 1; opens = 0; told = record { items = file ∷ [] } } }
+    ensures { result ≡ record { births = 0; serials = 1; opens = 0; files = record { items = file ∷ [] } } }
 {
     Plan {
         serials: 1,
-        told: one_file(file),
+        files: one_file(file),
         ..no_numbers()
     }
 }

@@ -29,14 +29,13 @@ pub enum PlainReply<A: Allocator> {
     Failed { errno: u32 },
 }
 
-/// What performing a request comes to: a reply, or a file that is to be told by its node, by an open number, or by
-/// both.
+/// What performing a request comes to: a reply, or a file that is to be given a node, an open number, or both.
 #[derive(Drop)]
 pub enum Outcome<A: Allocator> {
     Found { file: u64 },
     Created { file: u64 },
     Opened { file: u64 },
-    /// Records, as their frame has them: each tells the file of its inode number.
+    /// Records, as their frame has them: each is of the file of its inode number.
     ListedPlus { records: Vec<u8, A> },
     Plain { reply: PlainReply<A> },
 }
@@ -178,13 +177,13 @@ impl<A: Allocator> SentReply<A> {
         }
     }
 
-    /// The entries of the files that it tells, in order.
-    pub fn told(&self) -> &[Entry]
+    /// The entries of the files that it names, in order.
+    pub fn file_entries(&self) -> &[Entry]
         ensures { result.now ≡ files_in_reply (sent_wire self.now) }
     {
         match self {
             SentReply::Found { entry, .. } | SentReply::Created { entry, .. } => from_ref(entry),
-            SentReply::ListedPlus { listing } => listing.told(),
+            SentReply::ListedPlus { listing } => listing.file_entries(),
             _ => &[],
         }
     }

@@ -15,7 +15,7 @@ use std::alloc::{AllocError, Allocator};
 pub struct ReplySpare<A: Allocator> {
     pub(crate) bytes: Vec<u8, A>,
     pub(crate) entries: Vec<Entry, A>,
-    pub(crate) told: Vec<Entry, A>,
+    pub(crate) file_entries: Vec<Entry, A>,
 }
 
 impl<A: Allocator + Copy> ReplySpare<A> {
@@ -29,7 +29,7 @@ impl<A: Allocator + Copy> ReplySpare<A> {
         Ok(ReplySpare {
             bytes: Vec::with_capacity(alloc, len)?,
             entries: Vec::with_capacity(alloc, names)?,
-            told: Vec::with_capacity(alloc, names)?,
+            file_entries: Vec::with_capacity(alloc, names)?,
         })
     }
 }
@@ -39,12 +39,12 @@ impl<A: Allocator> ListedNames<A> {
     ghost use Rattle.fs_files.specs.Listed.{listed_pairs};
     ghost use Rattle.fs_files.specs.Replies.{HasSpare};
 
-    /// The entries of the names that tell a file.
-    pub fn told(&self) -> &[Entry]
+    /// The entries of the names that name a file: all but `.` and `..`.
+    pub fn file_entries(&self) -> &[Entry]
         ensures { result.now ≡ files_told
             (listed_pairs self.now.found_ms self.now.entries.items self.now.records.items) }
     {
-        &self.told
+        &self.file_entries
     }
 
     /// How many names it lists.
@@ -70,15 +70,15 @@ impl<A: Allocator> ListedNames<A> {
         let ReplySpare {
             mut bytes,
             mut entries,
-            mut told,
+            mut file_entries,
         } = spare;
         bytes.extend_from_slice(&self.records).unwrap();
         entries.extend_from_slice(&self.entries).unwrap();
-        told.extend_from_slice(&self.told).unwrap();
+        file_entries.extend_from_slice(&self.file_entries).unwrap();
         ListedNames {
             records: bytes,
             entries,
-            told,
+            file_entries,
             found_ms: self.found_ms,
         }
     }

@@ -25,8 +25,8 @@ use Rattle.fs_server.specs.Effects.{RefusesAgain, no_number, CanSendAgain, Sends
 use Rattle.fs_server.proofs.Served.{past, whole}
 
 -- whether counts come to their end, as it is asked of the nodes and of the entries
-pub counts_in : {nodes table : NodeTable} {told gs : List Entry} {out : Bool} → table ≡ nodes → told ≡ gs
-    → out ≡ counts_out table (files_of table told) → out ≡ counts_out nodes (files_of nodes gs)
+pub counts_in : {nodes table : NodeTable} {entries gs : List Entry} {out : Bool} → table ≡ nodes → entries ≡ gs
+    → out ≡ counts_out table (files_of table entries) → out ≡ counts_out nodes (files_of nodes gs)
 counts_in same these is = is ∙ (λ i. counts_out (same i) (files_of (same i) (these i)))
 
 module _ (files : FilesState) (held : Map HeldRequest) (kept : Map Kept) (copies : Map Copy) (next : ℕ) (v : Validity)

@@ -16,24 +16,24 @@ no_entry = record { nodeid = 0; generation = 0; attributes = record { kind = Dir
 
 -- the entry at a place
 abbrev pub entry_at : List Entry → ℕ → Entry
-entry_at told at = get_or told at no_entry
+entry_at entries at = get_or entries at no_entry
 
-module _ (t n : NodeTable) (told : List Entry) (at : ℕ) (some : at < length told) where
+module _ (t n : NodeTable) (entries : List Entry) (at : ℕ) (some : at < length entries) where
   -- one entry more is counted back
-  pub back_on : (all : NodeTable) → n ≡ row_back t (entry_at told at) → rows_back t (drop at told) ≡ all
-      → rows_back n (drop (at + 1) told) ≡ all
-  back_on all is before = ap (λ (x : NodeTable). rows_back x (drop (at + 1) told)) is ∙ sym
-      (at_drop_more (rows_back t) told at no_entry some) ∙ before
+  pub back_on : (all : NodeTable) → n ≡ row_back t (entry_at entries at) → rows_back t (drop at entries) ≡ all
+      → rows_back n (drop (at + 1) entries) ≡ all
+  back_on all is before = ap (λ (x : NodeTable). rows_back x (drop (at + 1) entries)) is ∙ sym
+      (at_drop_more (rows_back t) entries at no_entry some) ∙ before
 
   -- one entry more counts its node
-  pub counted_on : (all : NodeTable) → n ≡ row_more t (entry_at told at).nodeid → rows_counted t (drop at told) ≡ all
-      → rows_counted n (drop (at + 1) told) ≡ all
-  counted_on all is before = ap (λ (x : NodeTable). rows_counted x (drop (at + 1) told)) is ∙ sym
-      (at_drop_more (rows_counted t) told at no_entry some) ∙ before
+  pub counted_on : (all : NodeTable) → n ≡ row_more t (entry_at entries at).nodeid
+      → rows_counted t (drop at entries) ≡ all → rows_counted n (drop (at + 1) entries) ≡ all
+  counted_on all is before = ap (λ (x : NodeTable). rows_counted x (drop (at + 1) entries)) is ∙ sym
+      (at_drop_more (rows_counted t) entries at no_entry some) ∙ before
 
-  pub within_on : IsSound t → n ≡ row_more t (entry_at told at).nodeid → IsWithin t (files_of t (drop at told))
-      → IsWithin n (files_of n (drop (at + 1) told))
+  pub within_on : IsSound t → n ≡ row_more t (entry_at entries at).nodeid → IsWithin t (files_of t (drop at entries))
+      → IsWithin n (files_of n (drop (at + 1) entries))
   within_on sound is before =
-      subst (λ (x : NodeTable). IsWithin x (files_of x (drop (at + 1) told))) (sym is)
-      (within_more t sound (entry_at told at) (drop (at + 1) told)
-      (subst (λ (gs : List Entry). IsWithin t (files_of t gs)) (drop_more told at no_entry some) before))
+      subst (λ (x : NodeTable). IsWithin x (files_of x (drop (at + 1) entries))) (sym is)
+      (within_more t sound (entry_at entries at) (drop (at + 1) entries)
+      (subst (λ (gs : List Entry). IsWithin t (files_of t gs)) (drop_more entries at no_entry some) before))

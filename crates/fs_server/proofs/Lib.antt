@@ -1,6 +1,5 @@
 pub mod Forgets
 pub mod Frames
-pub mod NamedNodes
 pub mod Sound
 pub mod Refused
 pub mod Served

@@ -14,7 +14,7 @@ use Rattle.fuse_spec.specs.Files.Trees.{Tree, file_at}
 use Rattle.fuse_spec.specs.declared.Opened.{Opened}
 use Rattle.fs_files.specs.Listed.{names_in, pair_listed}
 use Rattle.fs_files.specs.Performing.{said, said_by}
-use Rattle.fs_files.specs.Replies.{HasSpare, IsTellable, outcome_errno, outcome_names, outcome_reply}
+use Rattle.fs_files.specs.Replies.{HasSpare, IsRepliable, outcome_errno, outcome_names, outcome_reply}
 use Rattle.fs_files.specs.Values.{names_for, names_of}
 use Rattle.fs_files.specs.declared.replies.Outcome.{Outcome}
 use Rattle.fs_files.specs.declared.replies.Outcome.TheVariants as outcome
@@ -55,12 +55,12 @@ names_are ms (outcome.Plain (Agreed minor flags)) = refl
 names_are ms (outcome.Plain Done) = refl
 names_are ms (outcome.Plain (Failed errno)) = refl
 
-most_names : {A : Type 0} (tree : Tree) (o : Outcome A) → IsTellable tree o → outcome_names o ≤ 32
-most_names tree (outcome.Found file) tellable = omega arith
-most_names tree (outcome.Created file) tellable = omega arith
-most_names tree (outcome.Opened file) tellable = omega arith
-most_names tree (outcome.ListedPlus records) tellable = let most = tellable.1 in omega (arith, most)
-most_names tree (outcome.Plain reply) tellable = omega arith
+most_names : {A : Type 0} (tree : Tree) (o : Outcome A) → IsRepliable tree o → outcome_names o ≤ 32
+most_names tree (outcome.Found file) repliable = omega arith
+most_names tree (outcome.Created file) repliable = omega arith
+most_names tree (outcome.Opened file) repliable = omega arith
+most_names tree (outcome.ListedPlus records) repliable = let most = repliable.1 in omega (arith, most)
+most_names tree (outcome.Plain reply) repliable = omega arith
 
 module _ (s : Server) where
   refused : (b : Bool) (r : Option ℕ) (reply : Reply ℕ ℕ) → names_told reply ≡ 0
@@ -118,9 +118,9 @@ module _ (s : Server) where
 
   -- An outcome lists no more names than its request has room for.
   pub names_fit : {A : Type 0} (h : HeldRequest) (tree : Tree) (ms : ℕ) (o : Outcome A) → outcome_reply ms o ≡ said s h
-      → IsTellable tree o → outcome_names o ≤ names_for h.body
-  names_fit h tree ms o says tellable = elim (held_names h) [
-    | inl room ↦ (let most = most_names tree o tellable in omega (arith, most, room))
+      → IsRepliable tree o → outcome_names o ≤ names_for h.body
+  names_fit h tree ms o says repliable = elim (held_names h) [
+    | inl room ↦ (let most = most_names tree o repliable in omega (arith, most, room))
     | inr none ↦ (let are : outcome_names o ≡ 0 = names_are ms o ∙ ap names_told says ∙ none in omega (arith, are))
   ]
 
@@ -130,12 +130,12 @@ pub less_spare : {A : Type 0} (spare : ReplySpare A) (len names l n : ℕ) → H
 less_spare spare len names l n has fewer less =
     let bytes = has.bytes in
     let entries = has.entries in
-    let told = has.told in
+    let file_entries = has.file_entries in
     record {
       no_bytes = has.no_bytes;
       no_entries = has.no_entries;
-      none_told = has.none_told;
+      no_file_entries = has.no_file_entries;
       bytes = omega (arith, bytes, fewer);
       entries = omega (arith, entries, less);
-      told = omega (arith, told, less);
+      file_entries = omega (arith, file_entries, less);
     }

@@ -20,10 +20,10 @@ use Rattle.fuse_spec.specs.World.Worlds.{Sent}
 use Rattle.fs_tree.specs.Outcomes.{without_unheld}
 use Rattle.fs_files.specs.Bounds.{AreHeldBelow}
 use Rattle.fs_files.specs.Giving.{generations_after}
-use Rattle.fs_files.specs.Performing.{said, tree_said, handles_said, handles_by, telling}
+use Rattle.fs_files.specs.Performing.{said, tree_said, handles_said, handles_by, numbering}
 use Rattle.fs_files.specs.Plans.{LacksNumber, HasNumbers}
 use Rattle.fs_files.specs.Replies.{sent_wire}
-use Rattle.fs_files.specs.Telling.{Tells}
+use Rattle.fs_files.specs.Numbering.{GivesNumbers}
 use Rattle.fs_files.specs.Values.{FilesState, server_at, server_of}
 use Rattle.fs_files.specs.declared.replies.SentReply.{SentReply}
 use Rattle.fs_files.proofs.Giving.{generations_given, none_out, sorted_given}
@@ -69,19 +69,22 @@ module _ (files : FilesState) (held : Map HeldRequest) (kept : Map Kept) (copies
 
   -- ---- while the mount is not aborted
 
-  abbrev told : (ℕ → ℕ) → Tree → HandleTable → Reply ℕ ℕ → PerformResult
-  told choice t hs reply = telling choice (whole t files.nodes hs (remove held unique) kept copies next v m false) reply
+  abbrev numbered : (ℕ → ℕ) → Tree → HandleTable → Reply ℕ ℕ → PerformResult
+  numbered choice t hs reply =
+      numbering choice (whole t files.nodes hs (remove held unique) kept copies next v m false) reply
 
-  did : (choice : ℕ → ℕ) → performed choice (rest false) h ≡ told choice (tree_said b h) (handles_said b h) (said b h)
+  did : (choice : ℕ → ℕ) → performed choice (rest false) h
+      ≡ numbered choice (tree_said b h) (handles_said b h) (said b h)
   did choice =
       performed_is choice (rest false) refl h
-      ∙ (λ i. told choice (same_tree b (remove held unique) kept copies next false h i)
+      ∙ (λ i. numbered choice (same_tree b (remove held unique) kept copies next false h i)
       (same_handles b (remove held unique) kept copies next false h i)
       (same_said b (remove held unique) kept copies next false h i))
 
   did_so : (choice : ℕ → ℕ) (t : Tree) (hs : HandleTable) (reply : Reply ℕ ℕ) → t ≡ tree_said b h
-      → hs ≡ handles_said b h → reply ≡ said b h → performed choice (rest false) h ≡ told choice t hs reply
-  did_so choice t hs reply tree handles says = did choice ∙ (λ i. told choice (sym tree i) (sym handles i) (sym says i))
+      → hs ≡ handles_said b h → reply ≡ said b h → performed choice (rest false) h ≡ numbered choice t hs reply
+  did_so choice t hs reply tree handles says =
+      did choice ∙ (λ i. numbered choice (sym tree i) (sym handles i) (sym says i))
 
   abbrev sent_as : WireReply → Copy
   sent_as wire = record { unique = unique; wire = wire; first = next }
@@ -99,20 +102,20 @@ module _ (files : FilesState) (held : Map HeldRequest) (kept : Map Kept) (copies
         (copy : Sent) (errno : ℕ)
         → counts_out files.nodes (files_given (old false) h) ≡ false
         → one.tree ≡ tree_said b h → one.handles ≡ handles_said b h → one.nodes ≡ files.nodes → reply ≡ said b h
-        → Tells one reply sent two
+        → GivesNumbers one reply sent two
         → three.tree ≡ without_unheld (is_file_held (server_of two v)) two.tree → three.nodes ≡ two.nodes
         → three.handles ≡ two.handles
         → copy ≡ record { number = next; unique = unique; wire = sent_wire sent } → errno ≡ errno_of (sent_wire sent)
         → PerformsHeld (old false) unique errno (Some copy) (after three (sent_wire sent))
-    performs_live one two three reply sent copy errno none tree handles nodes says tells left nodes_left handles_left copy_is errno_is = record {
+    performs_live one two three reply sent copy errno none tree handles nodes says gives left nodes_left handles_left copy_is errno_is = record {
       held = h;
       there = there;
       counts = none;
-      choice = tells.choice;
-      may = subst (MayChoose tells.choice files.nodes)
+      choice = gives.choice;
+      may = subst (MayChoose gives.choice files.nodes)
           (ap files_in_reply says ∙ ap files_in_reply (sym (same_said b held kept copies next false h)) ∙ sym
-          (files_are (old false) h refl)) (subst (λ (n : NodeTable). MayChoose tells.choice n
-          (files_in_reply reply)) nodes tells.may);
+          (files_are (old false) h refl)) (subst (λ (n : NodeTable). MayChoose gives.choice n
+          (files_in_reply reply)) nodes gives.may);
       server_is = (λ i. after (record three { tree = left i; nodes = nodes_left i; handles = handles_left i })
           (sent_wire sent)) ∙ sym (ap (λ (r : PerformResult). replying
           (without_unheld_files r.server) unique r.wire) same);
@@ -122,36 +125,36 @@ module _ (files : FilesState) (held : Map HeldRequest) (kept : Map Kept) (copies
     }
       where
         choice : ℕ → ℕ
-        choice = tells.choice
+        choice = gives.choice
 
         now : Tree → NodeTable → HandleTable → WireReply → PerformResult
         now t n hs wire = record { server = whole t n hs (remove held unique) kept copies next v m false; wire = wire }
 
         given_now : all_given choice files.nodes (files_in_reply reply) ≡ two.nodes
-        given_now = ap (λ (n : NodeTable). all_given choice n (files_in_reply reply)) (sym nodes) ∙ sym tells.nodes_is
+        given_now = ap (λ (n : NodeTable). all_given choice n (files_in_reply reply)) (sym nodes) ∙ sym gives.nodes_is
 
         same : performed choice (rest false) h ≡ now two.tree two.nodes two.handles (sent_wire sent)
         same =
             did_so choice one.tree one.handles reply tree handles says
-            ∙ (λ i. now one.tree (given_now i) (sym tells.handles_is i)
+            ∙ (λ i. now one.tree (given_now i) (sym gives.handles_is i)
             (wire_of choice (given_now i) one.tree one.handles.next_fh reply))
-            ∙ (λ i. now (sym tells.tree_is i) two.nodes two.handles (sym tells.wire_is i))
+            ∙ (λ i. now (sym gives.tree_is i) two.nodes two.handles (sym gives.wire_is i))
 
     -- the same from files that only have more room
     pub performs_from : {A : Type 0} (start one two three : FilesState) (reply : Reply ℕ ℕ) (sent : SentReply A)
         (copy : Sent) (errno : ℕ) → start.tree ≡ files.tree → start.nodes ≡ files.nodes → start.handles ≡ files.handles
         → counts_out files.nodes (files_given (old false) h) ≡ false → one.tree ≡ tree_said (server_at m start v) h
         → one.handles ≡ handles_said (server_at m start v) h → one.nodes ≡ start.nodes
-        → reply ≡ said (server_at m start v) h → Tells one reply sent two
+        → reply ≡ said (server_at m start v) h → GivesNumbers one reply sent two
         → three.tree ≡ without_unheld (is_file_held (server_of two v)) two.tree → three.nodes ≡ two.nodes
         → three.handles ≡ two.handles
         → copy ≡ record { number = next; unique = unique; wire = sent_wire sent } → errno ≡ errno_of (sent_wire sent)
         → PerformsHeld (old false) unique errno (Some copy) (after three (sent_wire sent))
-    performs_from start one two three reply sent copy errno tree_start nodes_start handles_start none tree handles nodes says tells left nodes_left handles_left copy_is errno_is =
+    performs_from start one two three reply sent copy errno tree_start nodes_start handles_start none tree handles nodes says gives left nodes_left handles_left copy_is errno_is =
         let same : server_at m start v ≡ b = same_bare start files v m tree_start nodes_start handles_start in
         performs_live one two three reply sent copy errno none (tree ∙ ap (λ x. tree_said x h) same)
         (handles ∙ ap (λ x. handles_said x h) same) (nodes ∙ nodes_start)
-        (says ∙ ap (λ x. said x h) same) tells left nodes_left handles_left copy_is errno_is
+        (says ∙ ap (λ x. said x h) same) gives left nodes_left handles_left copy_is errno_is
 
   -- ---- after an abort
 
@@ -280,9 +283,10 @@ module _ (files : FilesState) (held : Map HeldRequest) (kept : Map Kept) (copies
   -- the server once the request is performed
   abbrev pub end_live : (ℕ → ℕ) → Server
   end_live choice =
-      replying (without_unheld_files (told files held kept copies next v m unique h choice (tree_said bare h)
+      replying (without_unheld_files (numbered files held kept copies next v m unique h choice (tree_said bare h)
       (handles_said bare h) (said bare h)).server) unique
-      (told files held kept copies next v m unique h choice (tree_said bare h) (handles_said bare h) (said bare h)).wire
+      (numbered files held kept copies next v m unique h choice (tree_said bare h)
+      (handles_said bare h) (said bare h)).wire
 
   abbrev pub end_lost : (ℕ → ℕ) → Server
   end_lost choice =
@@ -300,12 +304,12 @@ module _ (files : FilesState) (held : Map HeldRequest) (kept : Map Kept) (copies
   files_told = files_are (server_with files held kept copies next v m false) h refl ∙ ap files_in_reply
       (same_said bare held kept copies next false h)
 
-  lacking_told : T (is_sorted nat_cmp files.nodes.rows)
+  lacking_given : T (is_sorted nat_cmp files.nodes.rows)
       → (2 ^ 62 < generations_after files.nodes (files_in_reply (said bare h)))
       ⊎ ((counts_out files.nodes (files_in_reply (said bare h)) ≡ true)
       ⊎ (2 ^ 62 < files.handles.next_fh + length (opens_in_reply (said bare h))))
       → RefusesHeld (server_with files held kept copies next v m false) unique Exhausted
-  lacking_told rising lacks = elim lacks [
+  lacking_given rising lacks = elim lacks [
     | inl generations ↦ exhausted h there (λ choice may.
         let all = all_generations choice files.nodes (files_in_reply (said bare h)) rising
         (subst (MayChoose choice files.nodes) files_told may) in
@@ -329,7 +333,7 @@ module _ (files : FilesState) (held : Map HeldRequest) (kept : Map Kept) (copies
     | inr other ↦ elim other [
       | inl serials ↦ exhausted h there (λ choice may. ap is_past_end (ends_live choice) ∙ past (end_live choice)
           (inr (inl serials)))
-      | inr told ↦ lacking_told rising told.1
+      | inr numbered ↦ lacking_given rising numbered.1
     ]
   ]
 
@@ -409,7 +413,7 @@ module _ (files : FilesState) (held : Map HeldRequest) (kept : Map Kept) (copies
       (files_given (server_with files held kept copies next v m a) x) ≡ false)
       (same_Some c.held h (sym c.there ∙ there)) c.counts
 
-  -- the files that are told can be
+  -- the files that are given nodes can be
   module _ (start one : FilesState) (reply : Reply ℕ ℕ) (tree_start : start.tree ≡ files.tree)
       (nodes_start : start.nodes ≡ files.nodes) (handles_start : start.handles ≡ files.handles)
       (nodes : one.nodes ≡ start.nodes)

@@ -15,9 +15,9 @@ use Rattle.fuse_spec.specs.declared.WriteResult.TheVariants.{Accepted, NoEntry, 
 use Rattle.std.proofs.lemmas.Option.{none-some}
 use Rattle.fs_files.specs.Bounds.{AreHeldBelow, AreNamed, AreUsed}
 use Rattle.fs_files.specs.Performing.{handles_said}
-use Rattle.fs_files.specs.Telling.{Tells}
+use Rattle.fs_files.specs.Numbering.{GivesNumbers}
 use Rattle.fs_files.specs.Values.{FilesState, server_of}
-use Rattle.fs_files.proofs.HeldBelow.{within_first, within_told}
+use Rattle.fs_files.proofs.HeldBelow.{within_first, within_given}
 use Rattle.fs_files.proofs.StaysNamed.{named_all_again, named_all_counted}
 use Rattle.fs_files.specs.declared.replies.SentReply.{SentReply}
 use Rattle.fs_server.specs.Effects.{Forgets, GivesBack, SettlesFiles}
@@ -158,18 +158,18 @@ module _ {V W X : Type 0} (files : FilesState) (held : Map V) (kept : Map W) (co
 
   pub performed : {A : Type 0} (h : HeldRequest) (unique : ℕ) (one two three : FilesState) (reply : Reply ℕ ℕ)
       (sent : SentReply A) (w : W) (x : X) → one.handles ≡ handles_said (server_of files v) h → one.nodes ≡ files.nodes
-      → Tells one reply sent two → length (files_in_reply reply) ≤ 32
+      → GivesNumbers one reply sent two → length (files_in_reply reply) ≤ 32
       → counts_out files.nodes (files_in_reply reply) ≡ false → three.nodes ≡ two.nodes → three.handles ≡ two.handles
       → next < 2 ^ 62 → AreNamed three.tree three.nodes three.handles
       → IsSound three (remove held unique) (put kept unique w) (put copies next x) (next + 1) v
-  performed h unique one two three reply sent w x handles nodes tells few none left_nodes left_handles low named =
+  performed h unique one two three reply sent w x handles nodes gives few none left_nodes left_handles low named =
       record {
         requests = apart_performed held kept copies next old.requests unique w x;
-        below = subst AreHeldBelow (sym (left_nodes ∙ tells.nodes_is))
-            (within_told tells.choice one.nodes (files_in_reply reply) (omega (arith, few)) tells.may
+        below = subst AreHeldBelow (sym (left_nodes ∙ gives.nodes_is))
+            (within_given gives.choice one.nodes (files_in_reply reply) (omega (arith, few)) gives.may
             (within_first one.nodes (files_in_reply reply) (ap
             (λ (t : NodeTable). counts_out t (files_in_reply reply)) nodes ∙ none)));
-        used = subst (AreUsed (next + 1)) (sym (left_handles ∙ tells.handles_is ∙ ap
+        used = subst (AreUsed (next + 1)) (sym (left_handles ∙ gives.handles_is ∙ ap
             (λ (t : HandleTable). all_opened t (opens_in_reply reply)) handles))
             (used_told next (handles_said (server_of files v) h) reply (used_said next (server_of files v) h old.used));
         named = named;

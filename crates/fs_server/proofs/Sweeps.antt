@@ -15,7 +15,7 @@ use Rattle.fs_tree.specs.Outcomes.{without_unheld}
 use Rattle.fs_files.specs.Bounds.{AreNamed, AreNamedBut, IsUnopened}
 use Rattle.fs_files.specs.Performing.{handles_said, tree_said}
 use Rattle.fs_files.specs.Replies.{opened_in, sent_wire}
-use Rattle.fs_files.specs.Telling.{Tells}
+use Rattle.fs_files.specs.Numbering.{GivesNumbers}
 use Rattle.fs_files.specs.Values.{FilesState, server_at, server_of}
 use Rattle.fs_files.specs.declared.replies.PlainReply.TheVariants.{Missing, Attributes, Listed, Content, Written, Agreed, Done, Failed}
 use Rattle.fs_files.specs.declared.replies.SentReply.{SentReply}
@@ -66,19 +66,19 @@ module _ (old mid : FilesState) (named : AreNamed old.tree old.nodes old.handles
       but_same loose (option_map (λ (h : OpenNumber). h.file) (get old.handles.handles fh)) mid old.tree old.nodes
       (handle_back old.handles fh) is tree nodes handles (named_number_back old.tree old.nodes old.handles named fh)
 
--- what a request leaves is told
-pub but_told : {A : Type 0} (loose : Option ℕ) (start one two : FilesState) (v : Validity) (m : Minor)
+-- what a request leaves is given nodes and open numbers
+pub but_numbered : {A : Type 0} (loose : Option ℕ) (start one two : FilesState) (v : Validity) (m : Minor)
     (h : HeldRequest) (reply : Reply ℕ ℕ) (sent : SentReply A)
     → AreNamedBut loose (tree_said (server_at m start v) h) start.nodes (handles_said (server_at m start v) h)
     → one.tree ≡ tree_said (server_at m start v) h → one.handles ≡ handles_said (server_at m start v) h
-    → one.nodes ≡ start.nodes → Tells one reply sent two → AreNamedBut loose two.tree two.nodes two.handles
-but_told loose start one two v m h reply sent named tree handles nodes tells =
+    → one.nodes ≡ start.nodes → GivesNumbers one reply sent two → AreNamedBut loose two.tree two.nodes two.handles
+but_numbered loose start one two v m h reply sent named tree handles nodes gives =
     let one_named = but_same loose loose one (tree_said (server_at m start v) h) start.nodes
     (handles_said (server_at m start v) h) refl tree nodes handles named in
-    but_same loose loose two one.tree (all_given tells.choice one.nodes (files_in_reply reply))
-    (all_opened one.handles (opens_in_reply reply)) refl tells.tree_is tells.nodes_is tells.handles_is
-    (named_all_opened loose one.tree (all_given tells.choice one.nodes (files_in_reply reply)) one.handles
-    (named_all_given tells.choice loose one.tree one.nodes one.handles one_named (files_in_reply reply))
+    but_same loose loose two one.tree (all_given gives.choice one.nodes (files_in_reply reply))
+    (all_opened one.handles (opens_in_reply reply)) refl gives.tree_is gives.nodes_is gives.handles_is
+    (named_all_opened loose one.tree (all_given gives.choice one.nodes (files_in_reply reply)) one.handles
+    (named_all_given gives.choice loose one.tree one.nodes one.handles one_named (files_in_reply reply))
     (opens_in_reply reply))
 
 pub but_said : (loose : Option ℕ) (start one : FilesState) (v : Validity) (m : Minor) (h : HeldRequest)
@@ -207,13 +207,13 @@ numbers_listed (Plain (Agreed minor flags)) = refl
 numbers_listed (Plain Done) = refl
 numbers_listed (Plain (Failed errno)) = refl
 
-pub as_given_back : {A : Type 0} (old one two : FilesState) (reply : SentReply A) (told : List Entry) (fh : Option ℕ)
-    → told ≡ files_in_reply (sent_wire reply) → fh ≡ opened_in reply → CountsBack old told [] one
+pub as_given_back : {A : Type 0} (old one two : FilesState) (reply : SentReply A) (entries : List Entry) (fh : Option ℕ)
+    → entries ≡ files_in_reply (sent_wire reply) → fh ≡ opened_in reply → CountsBack old entries [] one
     → CountsBack one [] (option_to_list fh) two
     → GivesBack old (sent_wire reply) two
-as_given_back old one two reply told fh told_is fh_is first second =
-    let both = counts_both old one two told (option_to_list fh) first second in
+as_given_back old one two reply entries fh entries_are fh_is first second =
+    let both = counts_both old one two entries (option_to_list fh) first second in
     let fhs = ap option_to_list fh_is ∙ numbers_listed reply in
     gives_back old (record two { tree = old.tree }) two (sent_wire reply) refl
-    (both.nodes_are ∙ ap (rows_back old.nodes) told_is) (both.handles_are ∙ ap (handles_back old.handles) fhs)
+    (both.nodes_are ∙ ap (rows_back old.nodes) entries_are) (both.handles_are ∙ ap (handles_back old.handles) fhs)
     (record { tree = both.tree; nodes = refl; handles = refl })

@@ -37,7 +37,7 @@ impl<S: NodeStore> ServerOf<S> {
         if !is_current(&self.files, reply) {
             return Some(Refusal::NoCopy);
         }
-        if self.files.nodes().counts_out_again(reply.told()) {
+        if self.files.nodes().counts_out_again(reply.file_entries()) {
             return Some(Refusal::Exhausted);
         }
         if self.next_copy >= COUNTER_END {
@@ -102,14 +102,14 @@ fn is_current<S: NodeStore>(files: &Files<S>, reply: &SentReply<S::Heap>) -> boo
         Some(fh) => files.has_number(fh),
         None => true,
     };
-    are_held(files, reply.told()) && has_number
+    are_held(files, reply.file_entries()) && has_number
 }
 
 /// Whether the node of each entry is held under the entry's generation.
-fn are_held<S: NodeStore>(files: &Files<S>, told: &[Entry]) -> bool
-    ensures { result ≡ list_all (λ (g : ReplyEntry). is_held files.now.nodes g.nodeid g.generation) told.now }
+fn are_held<S: NodeStore>(files: &Files<S>, entries: &[Entry]) -> bool
+    ensures { result ≡ list_all (λ (g : ReplyEntry). is_held files.now.nodes g.nodeid g.generation) entries.now }
 {
-    told.iter().all(|entry| {
+    entries.iter().all(|entry| {
         files.nodes().is_held(NamedNode {
             nodeid: entry.nodeid,
             generation: entry.generation,
@@ -127,21 +127,21 @@ fn count_again<S: NodeStore>(files: &mut Files<S>, reply: &SentReply<S::Heap>)
     ensures handles { files.new.handles ≡ handles_counted files.old.handles (opens_in_reply (sent_wire reply.now)) }
     ensures below { AreHeldBelow files.new.nodes }
 {
-    count_nodes_again(files, reply.told());
+    count_nodes_again(files, reply.file_entries());
     if let Some(fh) = reply.opened() {
         files.count_number_again(fh);
     }
 }
 
 /// Counts the node of each entry once more.
-fn count_nodes_again<S: NodeStore>(files: &mut Files<S>, told: &[Entry])
-    requires { counts_out files.old.nodes (files_of files.old.nodes told.now) ≡ false }
+fn count_nodes_again<S: NodeStore>(files: &mut Files<S>, entries: &[Entry])
+    requires { counts_out files.old.nodes (files_of files.old.nodes entries.now) ≡ false }
     ensures tree { files.new.tree ≡ files.old.tree }
-    ensures nodes { files.new.nodes ≡ rows_counted files.old.nodes told.now }
+    ensures nodes { files.new.nodes ≡ rows_counted files.old.nodes entries.now }
     ensures handles { files.new.handles ≡ files.old.handles }
     ensures below { AreHeldBelow files.new.nodes }
 {
-    for entry in told {
+    for entry in entries {
         files.keeps_sound();
         files.count_again(entry.nodeid);
     }

@@ -16,7 +16,7 @@ use std::alloc::AllocError;
 
 impl<S: NodeStore> ServerOf<S> {
     /// Why a held request cannot be performed, want of memory aside: `NoSuch` where none is held under the unique,
-    /// `Exhausted` where a counter from which it draws is at its end, or the lookups of a node that its reply tells
+    /// `Exhausted` where a counter from which it draws is at its end, or the lookups of a node that its reply gives
     /// would come to it.
     pub fn perform_refusal(&self, unique: u64) -> Option<Refusal>
         ensures refuses { IfSome result (RefusesHeld self.now unique) }
@@ -103,7 +103,9 @@ impl<S: NodeStore> ServerOf<S> {
         let loose = self.files.loosened_by(held);
         let outcome = self.files.answer(held, self.validity, self.minor)?;
         let number = self.next_copy;
-        let reply = self.files.tell(outcome, self.validity.found_ms, spare);
+        let reply = self
+            .files
+            .give_numbers(outcome, self.validity.found_ms, spare);
         self.files.discard_unheld(loose);
         let errno = reply.errno();
         let copy = ReplyCopy::new(number, reply.framed(room, unique));

@@ -76,16 +76,16 @@ fn give_back<S: NodeStore>(files: &mut Files<S>, reply: &SentReply<S::Heap>)
     ensures gives { GivesBack files.old (sent_wire reply.now) files.new }
     ensures named { AreNamed files.new.tree files.new.nodes files.new.handles }
 {
-    entries_back(files, reply.told());
+    entries_back(files, reply.file_entries());
     number_back(files, reply.opened());
 }
 
 /// Counts back the nodes of entries, one after another. Nameless files that nothing holds any longer go.
-fn entries_back<S: NodeStore>(files: &mut Files<S>, told: &[Entry])
+fn entries_back<S: NodeStore>(files: &mut Files<S>, entries: &[Entry])
     requires { AreNamed files.old.tree files.old.nodes files.old.handles }
-    ensures { CountsBack files.old told.now [] files.new }
+    ensures { CountsBack files.old entries.now [] files.new }
 {
-    for entry in told {
+    for entry in entries {
         entry_back(files, entry);
     }
 }

@@ -73,7 +73,7 @@ impl<S: NodeStore> ServerOf<S> {
         Ok(took(request.unique, Taken::Held))
     }
 
-    /// Gives the lookups back that a FORGET or a BATCH_FORGET tells. Nameless files that nothing holds then go.
+    /// Gives the lookups back that a FORGET or a BATCH_FORGET names. Nameless files that nothing holds then go.
     fn forget(&mut self, request: &Request<'_>)
         requires { forgets_too_many self.old.nodes request.now.nodeid (request_content request.now.body) ≡ false }
         ensures { self.new ≡ forgetting self.old (forgets_in request.now.nodeid (request_content request.now.body)) }

@@ -37,7 +37,7 @@ returns g c v =
     record {
       says = ap listed_plus (pairs_are v.found_ms rs bytes fits is ∙ sym same);
       tree_is = refl;
-      tellable = (
+      repliable = (
         names_are_records rs bytes c.in_ok-records.ensures.named fits is,
         few,
         subst (λ (ds : List Dirent). All (IsListable c.args.tree.now) ds)

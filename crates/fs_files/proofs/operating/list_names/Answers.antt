@@ -25,6 +25,6 @@ returns g c v =
     record {
       says = ap listed (listed_are c.deref.result.now bytes c.in_ok-records.ensures.fits c.in_ok-records.ensures.items) ∙ rw c.deref.ensures.value (sym (c.in-Ok.ensures.ok.1 v));
       tree_is = refl;
-      tellable = (names_are_records c.deref.result.now bytes c.in_ok-records.ensures.named c.in_ok-records.ensures.fits c.in_ok-records.ensures.items, few);
+      repliable = (names_are_records c.deref.result.now bytes c.in_ok-records.ensures.named c.in_ok-records.ensures.fits c.in_ok-records.ensures.items, few);
       short = few;
     }

@@ -6,7 +6,7 @@ use Rattle.fs_server.proofs.again.count_nodes_again.Given as goal
 
 abbrev pub invariant-loop-entry : goal.invariant-loop-entry
 invariant-loop-entry g l =
-    (rows_counted l.files.nodes (drop l.entry-index l.told) ≡ rows_counted l.fn.files.nodes l.told)
-    × IsWithin l.files.nodes (files_of l.files.nodes (drop l.entry-index l.told))
+    (rows_counted l.files.nodes (drop l.entry-index l.entries) ≡ rows_counted l.fn.files.nodes l.entries)
+    × IsWithin l.files.nodes (files_of l.files.nodes (drop l.entry-index l.entries))
     × (l.files.tree ≡ l.fn.files.tree)
     × (l.files.handles ≡ l.fn.files.handles)

@@ -10,9 +10,9 @@ pub loop-entry-preserved : goal.loop-entry-preserved
 loop-entry-preserved g c =
     let files = c.loop-entry.files in
     let new = c.entry_back.new.files in
-    let told = c.args.told.now in
+    let entries = c.args.entries.now in
     let at = c.loop-entry.entry-index in
     let one = c.entry_back.ensures in (
-      back_on files.nodes new.nodes told at c.loop-entry-test.true _ one.nodes_are c.loop-entry.invariant.0,
-      counts_on c.args.files.now files new (entry_at told at) c.loop-entry.invariant.1 one,
+      back_on files.nodes new.nodes entries at c.loop-entry-test.true _ one.nodes_are c.loop-entry.invariant.0,
+      counts_on c.args.files.now files new (entry_at entries at) c.loop-entry.invariant.1 one,
     )

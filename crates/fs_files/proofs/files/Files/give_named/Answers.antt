@@ -1,20 +1,20 @@
 use Rattle.std.proofs.Common.{rules, ◌≡◌, false, cond}
 use Rattle.std.specs.Prelude.{Some, None}
 use Rattle.fuse_spec.specs.Calls.Paths.{is_dots}
-use Rattle.fs_files.proofs.GivenEach.{one_generations, told_given, told_left}
+use Rattle.fs_files.proofs.GivenEach.{one_generations, named_given, named_left}
 use Rattle.fs_files.proofs.files.Files.give_named.Goals as goal
 
 pub give-requires-clause-generation : goal.give-requires-clause-generation
 give-requires-clause-generation g c =
-    let tells : is_dots c.args.name.now ≡ false = search rules in
-    told_left c.args.self.now.nodes c.args.file
-    (is_dots c.args.name.now) tells c.keeps_sound.ensures c.requires.generations
+    let no_dots : is_dots c.args.name.now ≡ false = search rules in
+    named_left c.args.self.now.nodes c.args.file
+    (is_dots c.args.name.now) no_dots c.keeps_sound.ensures c.requires.generations
 
 pub returns-then-not-is_dots-clause-generations : goal.returns-then-not-is_dots-clause-generations
 returns-then-not-is_dots-clause-generations g c files =
-    let tells : is_dots c.args.name.now ≡ false = search rules in
+    let no_dots : is_dots c.args.name.now ≡ false = search rules in
     let gives = c.give.ensures.gives in
     one_generations c.args.self.now.nodes c.give.new.self.nodes
     (cond (is_dots c.args.name.now) None (Some c.args.file)) files c.keeps_sound.ensures
-    (told_given c.args.self.now.nodes c.give.new.self.nodes c.args.file gives.id (is_dots c.args.name.now) tells
+    (named_given c.args.self.now.nodes c.give.new.self.nodes c.args.file gives.id (is_dots c.args.name.now) no_dots
     (gives.id, gives.may, gives.nodes_is))

@@ -6,7 +6,7 @@ use Rattle.fk_wire.specs.Records.{dirent_content}
 use Rattle.fuse_frames.specs.ReplyTies.{dirent_in}
 use Rattle.fs_files.specs.Bounds.{IsThere}
 use Rattle.fs_files.specs.Listed.{listed_in, pair_listed}
-use Rattle.fs_files.proofs.ToldNames.{StillTold, told_counted, told_first, told_generations, told_listable, told_next, told_room}
+use Rattle.fs_files.proofs.NumberedNames.{StillToGive, next_counted, first_to_give, next_generations, next_listable, given_next, next_room}
 use Rattle.fs_files.proofs.files.Files.give_records.Goals as goal
 
 pub records-init : goal.records-init
@@ -15,7 +15,7 @@ records-init g c =
     rw c.into_iter-record-iterator.ensures.into_iter_gives (
       tt,
       tt,
-      told_first s.tree s.nodes s.node_room
+      first_to_give s.tree s.nodes s.node_room
           (listed_in c.args.records) c.requires.listable c.requires.few c.requires.room c.requires.generations c.requires.counted,
       refl,
       refl,
@@ -28,10 +28,10 @@ overflow_sub-record g c =
     let all = files_told (map (pair_listed 0) (listed_in c.args.records)) in
     let d : Dirent = dirent_in (dirent_content c.in-Some.record) in
     let ds : List Dirent = listed_in c.next.new.self in
-    let still : StillTold old.tree old.nodes all now.nodes now.node_room (d ∷ ds) =
-    subst (λ (xs : List DirentContent). StillTold old.tree old.nodes all now.nodes now.node_room
+    let still : StillToGive old.tree old.nodes all now.nodes now.node_room (d ∷ ds) =
+    subst (λ (xs : List DirentContent). StillToGive old.tree old.nodes all now.nodes now.node_room
     (map dirent_in xs)) c.in-Some.ensures.steps c.records.invariant.2 in
-    (told_listable old.tree old.nodes all now.nodes now.node_room d ds still).0
+    (next_listable old.tree old.nodes all now.nodes now.node_room d ds still).0
 
 pub give_named-requires-clause-file : goal.give_named-requires-clause-file
 give_named-requires-clause-file g c =
@@ -40,10 +40,10 @@ give_named-requires-clause-file g c =
     let all = files_told (map (pair_listed 0) (listed_in c.args.records)) in
     let d : Dirent = dirent_in (dirent_content c.in-Some.record) in
     let ds : List Dirent = listed_in c.next.new.self in
-    let still : StillTold old.tree old.nodes all now.nodes now.node_room (d ∷ ds) =
-    subst (λ (xs : List DirentContent). StillTold old.tree old.nodes all now.nodes now.node_room
+    let still : StillToGive old.tree old.nodes all now.nodes now.node_room (d ∷ ds) =
+    subst (λ (xs : List DirentContent). StillToGive old.tree old.nodes all now.nodes now.node_room
     (map dirent_in xs)) c.in-Some.ensures.steps c.records.invariant.2 in
-    (told_listable old.tree old.nodes all now.nodes now.node_room d ds still).1
+    (next_listable old.tree old.nodes all now.nodes now.node_room d ds still).1
 
 pub give_named-requires-clause-there : goal.give_named-requires-clause-there
 give_named-requires-clause-there g c =
@@ -52,11 +52,11 @@ give_named-requires-clause-there g c =
     let all = files_told (map (pair_listed 0) (listed_in c.args.records)) in
     let d : Dirent = dirent_in (dirent_content c.in-Some.record) in
     let ds : List Dirent = listed_in c.next.new.self in
-    let still : StillTold old.tree old.nodes all now.nodes now.node_room (d ∷ ds) =
-    subst (λ (xs : List DirentContent). StillTold old.tree old.nodes all now.nodes now.node_room
+    let still : StillToGive old.tree old.nodes all now.nodes now.node_room (d ∷ ds) =
+    subst (λ (xs : List DirentContent). StillToGive old.tree old.nodes all now.nodes now.node_room
     (map dirent_in xs)) c.in-Some.ensures.steps c.records.invariant.2 in
     subst (λ (t : Tree). IsThere t (d.ino - 1)) (sym c.records.invariant.3)
-    (told_listable old.tree old.nodes all now.nodes now.node_room d ds still).2
+    (next_listable old.tree old.nodes all now.nodes now.node_room d ds still).2
 
 pub give_named-requires-clause-room : goal.give_named-requires-clause-room
 give_named-requires-clause-room g c =
@@ -65,10 +65,10 @@ give_named-requires-clause-room g c =
     let all = files_told (map (pair_listed 0) (listed_in c.args.records)) in
     let d : Dirent = dirent_in (dirent_content c.in-Some.record) in
     let ds : List Dirent = listed_in c.next.new.self in
-    let still : StillTold old.tree old.nodes all now.nodes now.node_room (d ∷ ds) =
-    subst (λ (xs : List DirentContent). StillTold old.tree old.nodes all now.nodes now.node_room
+    let still : StillToGive old.tree old.nodes all now.nodes now.node_room (d ∷ ds) =
+    subst (λ (xs : List DirentContent). StillToGive old.tree old.nodes all now.nodes now.node_room
     (map dirent_in xs)) c.in-Some.ensures.steps c.records.invariant.2 in
-    told_room old.tree old.nodes all now.nodes now.node_room d ds still
+    next_room old.tree old.nodes all now.nodes now.node_room d ds still
 
 pub give_named-requires-clause-generations : goal.give_named-requires-clause-generations
 give_named-requires-clause-generations g c =
@@ -77,10 +77,10 @@ give_named-requires-clause-generations g c =
     let all = files_told (map (pair_listed 0) (listed_in c.args.records)) in
     let d : Dirent = dirent_in (dirent_content c.in-Some.record) in
     let ds : List Dirent = listed_in c.next.new.self in
-    let still : StillTold old.tree old.nodes all now.nodes now.node_room (d ∷ ds) =
-    subst (λ (xs : List DirentContent). StillTold old.tree old.nodes all now.nodes now.node_room
+    let still : StillToGive old.tree old.nodes all now.nodes now.node_room (d ∷ ds) =
+    subst (λ (xs : List DirentContent). StillToGive old.tree old.nodes all now.nodes now.node_room
     (map dirent_in xs)) c.in-Some.ensures.steps c.records.invariant.2 in
-    told_generations old.tree old.nodes all now.nodes now.node_room d ds still
+    next_generations old.tree old.nodes all now.nodes now.node_room d ds still
 
 pub give_named-requires-clause-counted : goal.give_named-requires-clause-counted
 give_named-requires-clause-counted g c =
@@ -89,10 +89,10 @@ give_named-requires-clause-counted g c =
     let all = files_told (map (pair_listed 0) (listed_in c.args.records)) in
     let d : Dirent = dirent_in (dirent_content c.in-Some.record) in
     let ds : List Dirent = listed_in c.next.new.self in
-    let still : StillTold old.tree old.nodes all now.nodes now.node_room (d ∷ ds) =
-    subst (λ (xs : List DirentContent). StillTold old.tree old.nodes all now.nodes now.node_room
+    let still : StillToGive old.tree old.nodes all now.nodes now.node_room (d ∷ ds) =
+    subst (λ (xs : List DirentContent). StillToGive old.tree old.nodes all now.nodes now.node_room
     (map dirent_in xs)) c.in-Some.ensures.steps c.records.invariant.2 in
-    told_counted old.tree old.nodes all now.nodes now.node_room d ds still
+    next_counted old.tree old.nodes all now.nodes now.node_room d ds still
 
 pub records-preserved : goal.records-preserved
 records-preserved g c =
@@ -101,14 +101,14 @@ records-preserved g c =
     let all = files_told (map (pair_listed 0) (listed_in c.args.records)) in
     let d : Dirent = dirent_in (dirent_content c.in-Some.record) in
     let ds : List Dirent = listed_in c.next.new.self in
-    let still : StillTold old.tree old.nodes all now.nodes now.node_room (d ∷ ds) =
-    subst (λ (xs : List DirentContent). StillTold old.tree old.nodes all now.nodes now.node_room
+    let still : StillToGive old.tree old.nodes all now.nodes now.node_room (d ∷ ds) =
+    subst (λ (xs : List DirentContent). StillToGive old.tree old.nodes all now.nodes now.node_room
     (map dirent_in xs)) c.in-Some.ensures.steps c.records.invariant.2 in
     let next = c.give_named.new.self in
     let does = c.give_named.ensures in (
       tt,
       tt,
-      told_next old.tree old.nodes all now.nodes now.node_room d ds still next.nodes next.node_room does.given does.generations does.room,
+      given_next old.tree old.nodes all now.nodes now.node_room d ds still next.nodes next.node_room does.given does.generations does.room,
       does.tree ∙ c.records.invariant.3,
       does.handles ∙ c.records.invariant.4,
     )
@@ -118,8 +118,8 @@ returns-clause-given g c =
     let old = c.args.self.now in
     let now = c.records.self in
     let all = files_told (map (pair_listed 0) (listed_in c.args.records)) in
-    let still : StillTold old.tree old.nodes all now.nodes now.node_room [] =
-    subst (λ (xs : List DirentContent). StillTold old.tree old.nodes all now.nodes now.node_room
+    let still : StillToGive old.tree old.nodes all now.nodes now.node_room [] =
+    subst (λ (xs : List DirentContent). StillToGive old.tree old.nodes all now.nodes now.node_room
     (map dirent_in xs)) c.in-None.ensures.steps.0 c.records.invariant.2 in
     still.goes now.nodes refl
 

@@ -1,5 +1,5 @@
 use Rattle.std.proofs.Common.{arith}
-use Rattle.fs_files.proofs.ToldList.{one_a_record, one_each, told_so}
+use Rattle.fs_files.proofs.NumberedList.{one_a_record, one_each, file_entries_so}
 use Rattle.fs_files.proofs.files.Files.list.Goals as goal
 
 pub invariant_of-result : goal.invariant_of-result
@@ -13,6 +13,6 @@ invariant_of-result g c =
       are_records = c.requires.listable.0;
       together = one_a_record s.tree s.nodes bytes c.deref-2.result.now c.deref-2.ensures.value put.entries.items c.put_entries.ensures.entries;
       most = omega (arith, each, most);
-      are_told = told_so s.tree s.nodes bytes c.deref-2.result.now c.deref-2.ensures.value put.entries.items c.put_entries.ensures.entries c.give_listed.ensures.sound c.args.found_ms put.told.items c.put_entries.ensures.told;
+      are_of_files = file_entries_so s.tree s.nodes bytes c.deref-2.result.now c.deref-2.ensures.value put.entries.items c.put_entries.ensures.entries c.give_listed.ensures.sound c.args.found_ms put.file_entries.items c.put_entries.ensures.file_entries;
       day = c.requires.day;
     }

@@ -7,10 +7,10 @@ use Rattle.fuse_spec.specs.declared.Entry.{Entry}
 use Rattle.fuse_frames.specs.ReplyTies.{dirent_in}
 use Rattle.fs_files.specs.Listed.{names_in}
 use Rattle.fs_files.specs.Replies.{IsListable}
-use Rattle.fs_files.specs.Telling.{entries_named, entry_named}
+use Rattle.fs_files.specs.Numbering.{entries_named, entry_named}
 use Rattle.fuse_spec.specs.Files.Operations.{first_told}
 use Rattle.fuse_spec.specs.Calls.Paths.{is_dots}
-use Rattle.fs_files.proofs.EntriesPut.{one_longer, one_on, told_longer, told_on}
+use Rattle.fs_files.proofs.EntriesPut.{one_longer, one_on, files_longer, files_on}
 use Rattle.fs_files.proofs.Listing.{over_are}
 use Rattle.fs_files.proofs.files.Files.put_entries.Goals as goal
 
@@ -24,17 +24,17 @@ records-init g c =
     let many : length (map dirent_in (records_in c.unwrap-record-items.result))
     ≡ length (names_in c.args.records.now) = ap (λ (ds : List Dirent). length ds) names in
     let none : length c.args.entries.now.items ≡ 0 = ap (λ (es : List Entry). length es) c.requires.none in
-    let none_told : length c.args.told.now.items ≡ 0 = ap (λ (es : List Entry). length es) c.requires.none_told in
+    let no_file_entries : length c.args.file_entries.now.items ≡ 0 = ap (λ (es : List Entry). length es) c.requires.no_file_entries in
     let room = c.requires.room in
-    let room_told = c.requires.room_told in
+    let file_room = c.requires.file_room in
     rw c.into_iter-record-iterator.ensures.into_iter_gives (
       tt,
       tt,
       subst (λ (ds : List Dirent). All (IsListable tree) ds) (sym names) c.requires.listable,
       rw c.requires.none (ap (λ (ds : List Dirent). map (entry_named tree nodes) ds) names),
-      rw c.requires.none_told (ap (λ (ds : List Dirent). files_told (entries_named tree nodes ds)) names),
+      rw c.requires.no_file_entries (ap (λ (ds : List Dirent). files_told (entries_named tree nodes ds)) names),
       omega (arith, many, none, room),
-      omega (arith, many, none_told, room_told),
+      omega (arith, many, no_file_entries, file_room),
     )
 
 pub overflow_sub-record : goal.overflow_sub-record
@@ -62,38 +62,38 @@ records-preserved g c =
     let many : length (map dirent_in (records_in c.records.record-iterator)) ≡ length (d ∷ ds) =
     ap (λ (xs : List Dirent). length xs) first in
     let es : List Entry = c.records.entries.items in
-    let ts : List Entry = c.records.told.items in
+    let ts : List Entry = c.records.file_entries.items in
     let e : Entry = c.entry_of-entry.result in
     let is : e ≡ entry_named tree nodes d = c.entry_of-entry.ensures in
     let o : Option Entry = cond (is_dots d.name) None (Some e) in
     let rest : List Entry = files_told (entries_named tree nodes ds) in
     let whole : List Entry = map (entry_named tree nodes) (names_in c.args.records.now) in
-    let all_told : List Entry = files_told (entries_named tree nodes (names_in c.args.records.now)) in
+    let all_files : List Entry = files_told (entries_named tree nodes (names_in c.args.records.now)) in
     let items : es ++ map (entry_named tree nodes) (d ∷ ds) ≡ whole =
     subst (λ (xs : List Dirent). es ++ map (entry_named tree nodes) xs ≡ whole) first c.records.invariant.3 in
-    let told : ts ++ files_told (entries_named tree nodes (d ∷ ds)) ≡ all_told =
+    let file_entries : ts ++ files_told (entries_named tree nodes (d ∷ ds)) ≡ all_files =
     subst (λ (xs : List Dirent). ts ++ files_told (entries_named tree nodes xs)
-    ≡ all_told) first c.records.invariant.4 in
+    ≡ all_files) first c.records.invariant.4 in
     let put : c.push_reserved.new.self.items ≡ es ++ e ∷ [] = c.push_reserved.ensures.items in
-    let put_told : c.put_told.new.told.items ≡ ts ++ first_told o [] = c.put_told.ensures.items in
+    let file_put : c.put_file_entry.new.file_entries.items ≡ ts ++ first_told o [] = c.put_file_entry.ensures.items in
     let put_len : length c.push_reserved.new.self.items ≡ length (es ++ e ∷ []) =
     ap (λ (xs : List Entry). length xs) put in
-    let told_len : length c.put_told.new.told.items ≡ length (ts ++ first_told o []) =
-    ap (λ (xs : List Entry). length xs) put_told in
+    let files_len : length c.put_file_entry.new.file_entries.items ≡ length (ts ++ first_told o []) =
+    ap (λ (xs : List Entry). length xs) file_put in
     let longer = one_longer es e in
-    let longer_told = told_longer ts o in
+    let longer_files = files_longer ts o in
     let room = c.records.invariant.5 in
-    let room_told = c.records.invariant.6 in
+    let file_room = c.records.invariant.6 in
     let capacity = c.push_reserved.ensures.capacity in
-    let capacity_told = c.put_told.ensures.capacity in (
+    let files_capacity = c.put_file_entry.ensures.capacity in (
       tt,
       tt,
       All-tail (IsListable tree) d ds (subst (λ (xs : List Dirent). All
           (IsListable tree) xs) first c.records.invariant.2),
       ap (λ (xs : List Entry). xs ++ map (entry_named tree nodes) ds) put ∙ one_on es e
           (map (entry_named tree nodes) ds) ∙ ap (λ (x : Entry). es ++ x ∷ map (entry_named tree nodes) ds) is ∙ items,
-      ap (λ (xs : List Entry). xs ++ rest) put_told ∙ told_on ts o rest ∙ ap
-          (λ (x : Entry). ts ++ first_told (cond (is_dots d.name) None (Some x)) rest) is ∙ told,
+      ap (λ (xs : List Entry). xs ++ rest) file_put ∙ files_on ts o rest ∙ ap
+          (λ (x : Entry). ts ++ first_told (cond (is_dots d.name) None (Some x)) rest) is ∙ file_entries,
       omega (arith, many, put_len, longer, room, capacity),
-      omega (arith, many, told_len, longer_told, room_told, capacity_told),
+      omega (arith, many, files_len, longer_files, file_room, files_capacity),
     )

@@ -4,7 +4,7 @@ use Rattle.fk_wire.specs.Records.{records_in}
 use Rattle.fuse_frames.specs.ReplyTies.{dirent_in}
 use Rattle.fs_files.specs.Listed.{names_in}
 use Rattle.fs_files.specs.Replies.{IsListable}
-use Rattle.fs_files.specs.Telling.{entries_named, entry_named}
+use Rattle.fs_files.specs.Numbering.{entries_named, entry_named}
 use Rattle.fs_files.proofs.files.Files.put_entries.Given as goal
 
 abbrev pub invariant-records : goal.invariant-records
@@ -15,8 +15,9 @@ invariant-records g l =
     × (l.entries.items ++ map (entry_named l.fn.self.tree l.fn.self.nodes)
     (map dirent_in (records_in l.record-iterator)) ≡ map (entry_named l.fn.self.tree l.fn.self.nodes)
     (names_in l.fn.records))
-    × (l.told.items ++ files_told (entries_named l.fn.self.tree l.fn.self.nodes
+    × (l.file_entries.items ++ files_told (entries_named l.fn.self.tree l.fn.self.nodes
     (map dirent_in (records_in l.record-iterator))) ≡ files_told
     (entries_named l.fn.self.tree l.fn.self.nodes (names_in l.fn.records)))
     × (length l.entries.items + length (map dirent_in (records_in l.record-iterator)) ≤ vec_capacity l.entries)
-    × (length l.told.items + length (map dirent_in (records_in l.record-iterator)) ≤ vec_capacity l.told)
+    × (length l.file_entries.items + length (map dirent_in (records_in l.record-iterator)) ≤ vec_capacity
+    l.file_entries)

@@ -30,7 +30,7 @@ returns-then-counts_out_again-clause-refuses g c =
     let there : get s.kept.entries c.args.unique ≡ Some k = search rules in
     rw (← c.self.view_is)
     (counted_out s.files s.held.entries s.kept.entries s.copies.entries s.next_copy s.validity s.minor s.is_aborted c.args.unique k there (sent_wire c.reply-reply.result.now) c.reply-reply.ensures.wire (sym c.if-not-is_current.false ∙ c.is_current.ensures)
-    (sym c.if-counts_out_again.true ∙ counts_in c.nodes.ensures c.told.ensures c.counts_out_again.ensures))
+    (sym c.if-counts_out_again.true ∙ counts_in c.nodes.ensures c.file_entries.ensures c.counts_out_again.ensures))
 
 pub returns-then-self-ge-COUNTER_END-clause-refuses : goal.returns-then-self-ge-COUNTER_END-clause-refuses
 returns-then-self-ge-COUNTER_END-clause-refuses g c =
@@ -48,4 +48,4 @@ returns-clause-none g c =
     let there : get s.kept.entries c.args.unique ≡ Some k = search rules in
     rw (← c.self.view_is)
     (can_send s.files s.held.entries s.kept.entries s.copies.entries s.next_copy s.validity s.minor s.is_aborted c.args.unique k there (sent_wire c.reply-reply.result.now) c.reply-reply.ensures.wire (sym c.if-not-is_current.false ∙ c.is_current.ensures)
-    (sym c.if-counts_out_again.false ∙ counts_in c.nodes.ensures c.told.ensures c.counts_out_again.ensures) c.if-self-ge-COUNTER_END.false)
+    (sym c.if-counts_out_again.false ∙ counts_in c.nodes.ensures c.file_entries.ensures c.counts_out_again.ensures) c.if-self-ge-COUNTER_END.false)

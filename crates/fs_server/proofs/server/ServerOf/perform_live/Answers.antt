@@ -5,11 +5,11 @@ use Rattle.fs_files.specs.Bounds.{AreHeldBelow}
 use Rattle.fs_files.specs.Replies.{outcome_names, outcome_reply, sent_len, sent_names}
 use Rattle.fs_files.specs.Performing.{handles_said, tree_said}
 use Rattle.fs_files.specs.Values.{names_for, server_at}
-use Rattle.fs_files.proofs.HeldBelow.{few_told}
+use Rattle.fs_files.proofs.HeldBelow.{few_given}
 use Rattle.fs_server.proofs.Outcomes.{less_spare, names_fit}
 use Rattle.fs_server.proofs.Served.{counts_of, live_counts, live_generations, live_numbers, numbers_of, performs_from, same_bare}
 use Rattle.fs_server.proofs.Stays.{performed, same_files}
-use Rattle.fs_server.proofs.Sweeps.{but_told, named_as}
+use Rattle.fs_server.proofs.Sweeps.{but_numbered, named_as}
 use Rattle.fs_server.proofs.server.ServerOf.perform_live.Goals as goal
 
 pub answer-requires-clause-births : goal.answer-requires-clause-births
@@ -34,18 +34,18 @@ answer-requires-clause-serials g c =
     let same = same_bare c.reserve-3.new.self s.files s.validity s.minor c.reserve-3.ensures.tree c.reserve-3.ensures.nodes c.reserve-3.ensures.handles in
     subst (λ (b : Server). (tree_said b h).next_serial ≤ 2 ^ 62) (sym same) has.serials
 
-pub tell-reply-requires-clause-spare : goal.tell-reply-requires-clause-spare
-tell-reply-requires-clause-spare g c =
+pub give_numbers-reply-requires-clause-spare : goal.give_numbers-reply-requires-clause-spare
+give_numbers-reply-requires-clause-spare g c =
     let s = c.self.inside in
     let h = c.in-Some.held.now in
     let o = c.in_ok-outcome.outcome in
     let fit : outcome_names o ≤ names_for h.body =
-    names_fit (server_at s.minor c.reserve-3.new.self s.validity) h c.answer.new.self.tree s.validity.found_ms c.in_ok-outcome.outcome c.in_ok-outcome.ensures.says c.in_ok-outcome.ensures.tellable in
+    names_fit (server_at s.minor c.reserve-3.new.self s.validity) h c.answer.new.self.tree s.validity.found_ms c.in_ok-outcome.outcome c.in_ok-outcome.ensures.says c.in_ok-outcome.ensures.repliable in
     less_spare c.in_ok-spare.spare 0 c.reply_names-names.result 0 (outcome_names o) c.in_ok-spare.ensures (omega arith)
     (omega (arith, fit, c.reply_names-names.ensures))
 
-pub tell-reply-requires-clause-generations : goal.tell-reply-requires-clause-generations
-tell-reply-requires-clause-generations g c =
+pub give_numbers-reply-requires-clause-generations : goal.give_numbers-reply-requires-clause-generations
+give_numbers-reply-requires-clause-generations g c =
     let s = c.self.inside in
     let h = c.in-Some.held.now in
     let there : get s.held.entries c.args.unique ≡ Some h = search rules in
@@ -54,8 +54,8 @@ tell-reply-requires-clause-generations g c =
     let has = numbers_of s.files s.held.entries s.kept.entries s.copies.entries s.next_copy s.validity s.minor c.args.unique h there false can in
     live_generations s.files s.held.entries s.kept.entries s.copies.entries s.next_copy s.validity s.minor c.args.unique h there c.reserve-3.new.self c.answer.new.self (outcome_reply s.validity.found_ms c.in_ok-outcome.outcome) c.reserve-3.ensures.tree c.reserve-3.ensures.nodes c.reserve-3.ensures.handles c.answer.ensures.nodes c.in_ok-outcome.ensures.says has
 
-pub tell-reply-requires-clause-numbers : goal.tell-reply-requires-clause-numbers
-tell-reply-requires-clause-numbers g c =
+pub give_numbers-reply-requires-clause-numbers : goal.give_numbers-reply-requires-clause-numbers
+give_numbers-reply-requires-clause-numbers g c =
     let s = c.self.inside in
     let h = c.in-Some.held.now in
     let there : get s.held.entries c.args.unique ≡ Some h = search rules in
@@ -64,8 +64,8 @@ tell-reply-requires-clause-numbers g c =
     let has = numbers_of s.files s.held.entries s.kept.entries s.copies.entries s.next_copy s.validity s.minor c.args.unique h there false can in
     live_numbers s.files s.held.entries s.kept.entries s.copies.entries s.next_copy s.validity s.minor c.args.unique h there c.reserve-3.new.self c.answer.new.self (outcome_reply s.validity.found_ms c.in_ok-outcome.outcome) c.reserve-3.ensures.tree c.reserve-3.ensures.nodes c.reserve-3.ensures.handles c.answer.ensures.nodes c.in_ok-outcome.ensures.says has c.in_ok-outcome.ensures.handles
 
-pub tell-reply-requires-clause-counted : goal.tell-reply-requires-clause-counted
-tell-reply-requires-clause-counted g c = subst AreHeldBelow
+pub give_numbers-reply-requires-clause-counted : goal.give_numbers-reply-requires-clause-counted
+give_numbers-reply-requires-clause-counted g c = subst AreHeldBelow
     (sym (c.answer.ensures.nodes ∙ c.reserve-3.ensures.nodes)) c.self.invariant.below
 
 pub copied-requires : goal.copied-requires
@@ -73,13 +73,13 @@ copied-requires g c =
     let s = c.self.inside in
     let h = c.in-Some.held.now in
     let o = c.in_ok-outcome.outcome in
-    let sent = c.tell-reply.result in
+    let sent = c.give_numbers-reply.result in
     let fit : outcome_names o ≤ names_for h.body =
-    names_fit (server_at s.minor c.reserve-3.new.self s.validity) h c.answer.new.self.tree s.validity.found_ms c.in_ok-outcome.outcome c.in_ok-outcome.ensures.says c.in_ok-outcome.ensures.tellable in
-    let names : sent_names sent ≡ outcome_names o = c.tell-reply.ensures.names in
+    names_fit (server_at s.minor c.reserve-3.new.self s.validity) h c.answer.new.self.tree s.validity.found_ms c.in_ok-outcome.outcome c.in_ok-outcome.ensures.says c.in_ok-outcome.ensures.repliable in
+    let names : sent_names sent ≡ outcome_names o = c.give_numbers-reply.ensures.names in
     less_spare c.in_ok-spare_copy.spare_copy c.reply_len-len.result c.reply_names-names.result (sent_len sent)
     (sent_names sent) c.in_ok-spare_copy.ensures
-    (omega (arith, c.tell-reply.ensures.len, c.in_ok-outcome.ensures.short, c.reply_len-len.ensures))
+    (omega (arith, c.give_numbers-reply.ensures.len, c.in_ok-outcome.ensures.short, c.reply_len-len.ensures))
     (omega (arith, names, fit, c.reply_names-names.ensures))
 
 pub invariant_of-self-2 : goal.invariant_of-self-2
@@ -93,7 +93,7 @@ invariant_of-self-2 g c =
     let same = same_bare c.reserve-3.new.self s.files s.validity s.minor c.reserve-3.ensures.tree c.reserve-3.ensures.nodes c.reserve-3.ensures.handles in
     let reply = outcome_reply s.validity.found_ms c.in_ok-outcome.outcome in
     let none = live_counts s.files s.held.entries s.kept.entries s.copies.entries s.next_copy s.validity s.minor c.args.unique h there c.reserve-3.new.self c.answer.new.self (outcome_reply s.validity.found_ms c.in_ok-outcome.outcome) c.reserve-3.ensures.tree c.reserve-3.ensures.nodes c.reserve-3.ensures.handles c.answer.ensures.nodes c.in_ok-outcome.ensures.says has in
-    let few = few_told c.answer.new.self.tree s.validity.found_ms c.in_ok-outcome.outcome c.in_ok-outcome.ensures.tellable in
+    let few = few_given c.answer.new.self.tree s.validity.found_ms c.in_ok-outcome.outcome c.in_ok-outcome.ensures.repliable in
     rw (
       c.remove-held.ensures.entries,
       c.put.ensures.entries,
@@ -101,9 +101,9 @@ invariant_of-self-2 g c =
       c.in_ok-reserve.ensures.entries,
       c.in_ok-reserve-2.ensures.entries,
     )
-    (performed s.files s.held.entries s.kept.entries s.copies.entries s.next_copy s.validity c.self.invariant h c.args.unique c.answer.new.self c.tell-reply.new.self c.discard_unheld.new.self reply
-    c.tell-reply.result _ _ (c.in_ok-outcome.ensures.handles ∙ ap (λ b. handles_said b h) same)
-    (c.answer.ensures.nodes ∙ c.reserve-3.ensures.nodes) c.tell-reply.ensures.tells few none c.discard_unheld.ensures.nodes c.discard_unheld.ensures.handles (can.copy refl) c.discard_unheld.ensures.named)
+    (performed s.files s.held.entries s.kept.entries s.copies.entries s.next_copy s.validity c.self.invariant h c.args.unique c.answer.new.self c.give_numbers-reply.new.self c.discard_unheld.new.self reply
+    c.give_numbers-reply.result _ _ (c.in_ok-outcome.ensures.handles ∙ ap (λ b. handles_said b h) same)
+    (c.answer.ensures.nodes ∙ c.reserve-3.ensures.nodes) c.give_numbers-reply.ensures.gives few none c.discard_unheld.ensures.nodes c.discard_unheld.ensures.handles (can.copy refl) c.discard_unheld.ensures.named)
 
 pub returns-clause-performed : goal.returns-clause-performed
 returns-clause-performed g c =
@@ -125,9 +125,9 @@ returns-clause-performed g c =
       c.copied.ensures.wire,
       up,
     )
-    (performs_from s.files s.held.entries s.kept.entries s.copies.entries s.next_copy s.validity s.minor c.args.unique h there c.reserve-3.new.self c.answer.new.self c.tell-reply.new.self c.discard_unheld.new.self
-    (outcome_reply s.validity.found_ms c.in_ok-outcome.outcome) c.tell-reply.result c.new-copy.result c.errno-errno.result c.reserve-3.ensures.tree c.reserve-3.ensures.nodes c.reserve-3.ensures.handles none c.in_ok-outcome.ensures.tree
-    c.in_ok-outcome.ensures.handles c.answer.ensures.nodes c.in_ok-outcome.ensures.says c.tell-reply.ensures.tells
+    (performs_from s.files s.held.entries s.kept.entries s.copies.entries s.next_copy s.validity s.minor c.args.unique h there c.reserve-3.new.self c.answer.new.self c.give_numbers-reply.new.self c.discard_unheld.new.self
+    (outcome_reply s.validity.found_ms c.in_ok-outcome.outcome) c.give_numbers-reply.result c.new-copy.result c.errno-errno.result c.reserve-3.ensures.tree c.reserve-3.ensures.nodes c.reserve-3.ensures.handles none c.in_ok-outcome.ensures.tree
+    c.in_ok-outcome.ensures.handles c.answer.ensures.nodes c.in_ok-outcome.ensures.says c.give_numbers-reply.ensures.gives
     (c.discard_unheld.ensures.tree s.validity) c.discard_unheld.ensures.nodes c.discard_unheld.ensures.handles
     (rw c.framed.ensures at c.new-copy.ensures)
     c.errno-errno.ensures)
@@ -137,8 +137,8 @@ discard_unheld-requires g c =
     let s = c.self.inside in
     let start = c.reserve-3.new.self in
     let named = named_as start s.files c.reserve-3.ensures.tree c.reserve-3.ensures.nodes c.reserve-3.ensures.handles c.self.invariant.named in
-    but_told c.loosened_by-loose.result start c.answer.new.self c.tell-reply.new.self s.validity s.minor c.in-Some.held.now (outcome_reply s.validity.found_ms c.in_ok-outcome.outcome) c.tell-reply.result (c.loosened_by-loose.ensures.others s.validity s.minor named)
-    c.in_ok-outcome.ensures.tree c.in_ok-outcome.ensures.handles c.answer.ensures.nodes c.tell-reply.ensures.tells
+    but_numbered c.loosened_by-loose.result start c.answer.new.self c.give_numbers-reply.new.self s.validity s.minor c.in-Some.held.now (outcome_reply s.validity.found_ms c.in_ok-outcome.outcome) c.give_numbers-reply.result (c.loosened_by-loose.ensures.others s.validity s.minor named)
+    c.in_ok-outcome.ensures.tree c.in_ok-outcome.ensures.handles c.answer.ensures.nodes c.give_numbers-reply.ensures.gives
 
 pub invariant_of-self-in_err-spare : goal.invariant_of-self-in_err-spare
 invariant_of-self-in_err-spare g c =

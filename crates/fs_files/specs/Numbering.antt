@@ -1,4 +1,4 @@
--- How files are told by nodes and open numbers.
+-- How nodes and open numbers are given to the files that a reply names.
 use Rattle.std.specs.Prelude.{◌≡◌, ℕ, ◌-◌, List, Some, map}
 use Rattle.fuse_spec.specs.Files.Operations.{Dirent, DirentPlus, Reply, files_in_reply, opens_in_reply}
 use Rattle.fuse_spec.specs.Server.Nodes.{NodeTable, MayName, MayChoose, all_given, all_opened, given}
@@ -10,7 +10,7 @@ use Rattle.fs_files.specs.Values.{FilesState}
 use Rattle.fs_files.specs.Replies.{sent_wire}
 use Rattle.fs_files.specs.declared.replies.SentReply.{SentReply}
 
--- A file is told in this entry, with these nodes after it.
+-- A file is given its node, which stands in this entry, with these nodes after it.
 pub record GivesEntry (tree : Tree) (nodes : NodeTable) (file : ℕ) (new : NodeTable) (entry : Entry) : Type 0 where
   pub id : ℕ
   pub may : MayName nodes file id
@@ -25,8 +25,8 @@ entry_named tree nodes d = entry_for (node_in nodes.rows) nodes tree (d.ino - 1)
 abbrev pub entries_named : Tree → NodeTable → List Dirent → List (DirentPlus Entry)
 entries_named tree nodes ds = map (λ d. record { file = Some (entry_named tree nodes d); valid = 0; dirent = d }) ds
 
--- The files of this reply are told: nodes and open numbers are given, and this is sent.
-pub record Tells {A : Type 0} (old : FilesState) (reply : Reply ℕ ℕ) (sent : SentReply A)
+-- The files of this reply are given nodes and open numbers, and this is sent.
+pub record GivesNumbers {A : Type 0} (old : FilesState) (reply : Reply ℕ ℕ) (sent : SentReply A)
     (new : FilesState) : Type 0 where
   pub choice : ℕ → ℕ
   pub may : MayChoose choice old.nodes (files_in_reply reply)

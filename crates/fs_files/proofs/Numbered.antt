@@ -1,20 +1,20 @@
--- Files are told by nodes and open numbers.
+-- Nodes and open numbers are given to the files that a reply names.
 use Rattle.std.proofs.Common.{◌≡◌, ℕ, refl, sym, ap, ◌∙◌}
 use Rattle.fuse_spec.specs.Server.Nodes.{NodeTable, HandleTable, handle_opened}
 use Rattle.fuse_spec.specs.Files.Operations as operation
 use Rattle.fuse_spec.specs.Server.Performs.{entry_for}
 use Rattle.fuse_spec.specs.declared.Entry.{Entry}
-use Rattle.fs_files.specs.Telling.{GivesEntry, Tells}
+use Rattle.fs_files.specs.Numbering.{GivesEntry, GivesNumbers}
 use Rattle.fs_files.specs.Values.{FilesState}
 use Rattle.fs_files.specs.Replies.{plain_reply}
 use Rattle.fs_files.specs.declared.replies.PlainReply.{PlainReply}
 use Rattle.fs_files.specs.declared.replies.PlainReply.TheVariants.{Missing, Attributes, Listed, Content, Written, Agreed, Done, Failed}
 use Rattle.fs_files.specs.declared.replies.SentReply.TheVariants.{Found, Created, Opened, Plain}
 
-pub tells_found : {A : Type 0} (one two : FilesState) (file ms : ℕ) (entry : Entry)
+pub gives_found : {A : Type 0} (one two : FilesState) (file ms : ℕ) (entry : Entry)
     → GivesEntry one.tree one.nodes file two.nodes entry → two.tree ≡ one.tree → two.handles ≡ one.handles
-    → Tells {A = A} one (operation.found file ms) (Found entry ms) two
-tells_found one two file ms entry g tree handles = record {
+    → GivesNumbers {A = A} one (operation.found file ms) (Found entry ms) two
+gives_found one two file ms entry g tree handles = record {
   choice = λ n. g.id;
   may = (g.may, tt);
   tree_is = tree;
@@ -23,12 +23,12 @@ tells_found one two file ms entry g tree handles = record {
   wire_is = ap (λ (e : Entry). operation.found e ms) g.entry_is;
 }
 
-pub tells_created : {A : Type 0} (one mid two : FilesState) (file ms : ℕ) (entry : Entry) (fh : ℕ)
+pub gives_created : {A : Type 0} (one mid two : FilesState) (file ms : ℕ) (entry : Entry) (fh : ℕ)
     → GivesEntry one.tree one.nodes file mid.nodes entry → mid.tree ≡ one.tree → mid.handles ≡ one.handles
     → fh ≡ mid.handles.next_fh → two.tree ≡ mid.tree → two.nodes ≡ mid.nodes
-    → two.handles ≡ handle_opened mid.handles file → Tells {A = A} one (operation.created file ms file)
+    → two.handles ≡ handle_opened mid.handles file → GivesNumbers {A = A} one (operation.created file ms file)
     (Created entry ms fh) two
-tells_created one mid two file ms entry fh g tree handles fh_is tree_two nodes_two handles_two = record {
+gives_created one mid two file ms entry fh g tree handles fh_is tree_two nodes_two handles_two = record {
   choice = λ n. g.id;
   may = (g.may, tt);
   tree_is = tree_two ∙ tree;
@@ -38,10 +38,10 @@ tells_created one mid two file ms entry fh g tree handles fh_is tree_two nodes_t
       (sym nodes_two)) i) ms ((fh_is ∙ ap (λ (t : HandleTable). t.next_fh) handles) i);
 }
 
-pub tells_opened : {A : Type 0} (one two : FilesState) (file fh : ℕ) → fh ≡ one.handles.next_fh → two.tree ≡ one.tree
+pub gives_opened : {A : Type 0} (one two : FilesState) (file fh : ℕ) → fh ≡ one.handles.next_fh → two.tree ≡ one.tree
     → two.nodes ≡ one.nodes → two.handles ≡ handle_opened one.handles file
-    → Tells {A = A} one (operation.opened file) (Opened fh) two
-tells_opened one two file fh fh_is tree nodes handles = record {
+    → GivesNumbers {A = A} one (operation.opened file) (Opened fh) two
+gives_opened one two file fh fh_is tree nodes handles = record {
   choice = λ n. n;
   may = tt;
   tree_is = tree;
@@ -50,9 +50,9 @@ tells_opened one two file fh fh_is tree nodes handles = record {
   wire_is = ap (λ (n : ℕ). operation.opened n) fh_is;
 }
 
-pub tells_plain : {A : Type 0} (one : FilesState) (reply : PlainReply A)
-    → Tells {A = A} one (plain_reply reply) (Plain reply) one
-tells_plain one (Missing missing_ms) = record {
+pub gives_plain : {A : Type 0} (one : FilesState) (reply : PlainReply A)
+    → GivesNumbers {A = A} one (plain_reply reply) (Plain reply) one
+gives_plain one (Missing missing_ms) = record {
   choice = λ n. n;
   may = tt;
   tree_is = refl;
@@ -60,7 +60,7 @@ tells_plain one (Missing missing_ms) = record {
   handles_is = refl;
   wire_is = refl;
 }
-tells_plain one (Attributes attributes) = record {
+gives_plain one (Attributes attributes) = record {
   choice = λ n. n;
   may = tt;
   tree_is = refl;
@@ -68,7 +68,7 @@ tells_plain one (Attributes attributes) = record {
   handles_is = refl;
   wire_is = refl;
 }
-tells_plain one (Listed records) = record {
+gives_plain one (Listed records) = record {
   choice = λ n. n;
   may = tt;
   tree_is = refl;
@@ -76,7 +76,7 @@ tells_plain one (Listed records) = record {
   handles_is = refl;
   wire_is = refl;
 }
-tells_plain one (Content bytes) = record {
+gives_plain one (Content bytes) = record {
   choice = λ n. n;
   may = tt;
   tree_is = refl;
@@ -84,7 +84,7 @@ tells_plain one (Content bytes) = record {
   handles_is = refl;
   wire_is = refl;
 }
-tells_plain one (Written size) = record {
+gives_plain one (Written size) = record {
   choice = λ n. n;
   may = tt;
   tree_is = refl;
@@ -92,7 +92,7 @@ tells_plain one (Written size) = record {
   handles_is = refl;
   wire_is = refl;
 }
-tells_plain one (Agreed minor flags) = record {
+gives_plain one (Agreed minor flags) = record {
   choice = λ n. n;
   may = tt;
   tree_is = refl;
@@ -100,7 +100,7 @@ tells_plain one (Agreed minor flags) = record {
   handles_is = refl;
   wire_is = refl;
 }
-tells_plain one Done = record {
+gives_plain one Done = record {
   choice = λ n. n;
   may = tt;
   tree_is = refl;
@@ -108,7 +108,7 @@ tells_plain one Done = record {
   handles_is = refl;
   wire_is = refl;
 }
-tells_plain one (Failed errno) = record {
+gives_plain one (Failed errno) = record {
   choice = λ n. n;
   may = tt;
   tree_is = refl;

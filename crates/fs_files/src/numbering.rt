@@ -1,4 +1,4 @@
-//! Files are told by nodes and open numbers.
+//! Nodes and open numbers are given to the files that a reply names.
 
 ghost use Rattle.std.specs.Prelude.{◌≡◌, ◌≢◌, ◌<◌, ◌≤◌, ◌+◌, ◌*◌, ◌^◌, ◌++◌, [], ℕ, All, IsTrue, List, None, Some, cond, length, map, vec_capacity};
 ghost use Rattle.fuse_spec.specs.Server.Nodes.{IsUnheld, handle_opened};
@@ -11,8 +11,8 @@ ghost use Rattle.fs_tree.specs.Outcomes.{is_regular};
 ghost use Rattle.fs_files.specs.Bounds.{AreCounted, AreHeldBelow, IsThere};
 ghost use Rattle.fs_files.specs.Giving.{GivenEach, generations_after, node_in};
 ghost use Rattle.fs_files.specs.Listed.{AreRecordBytes, listed_in, listed_pairs, names_in, pair_listed};
-ghost use Rattle.fs_files.specs.Replies.{HasSpare, IsListable, IsSendable, IsTellable, outcome_len, outcome_names, outcome_reply, sent_len, sent_names};
-ghost use Rattle.fs_files.specs.Telling.{GivesEntry, Tells, entries_named, entry_named};
+ghost use Rattle.fs_files.specs.Replies.{HasSpare, IsListable, IsSendable, IsRepliable, outcome_len, outcome_names, outcome_reply, sent_len, sent_names};
+ghost use Rattle.fs_files.specs.Numbering.{GivesEntry, GivesNumbers, entries_named, entry_named};
 
 use crate::files::Files;
 use crate::listed_names::ListedNames;
@@ -25,9 +25,9 @@ use fuse_spec::Entry;
 use std::alloc::Allocator;
 
 impl<S: NodeStore> Files<S> {
-    /// Tells the files of an outcome by their nodes, by a new open number, or by both: each is counted once. No memory
-    /// is taken.
-    pub fn tell(
+    /// Gives the files of an outcome their nodes, a new open number, or both, and names them so in what is sent. Each
+    /// node is counted once. No memory is taken.
+    pub fn give_numbers(
         &mut self,
         outcome: Outcome<S::Heap>,
         found_ms: u64,
@@ -36,14 +36,14 @@ impl<S: NodeStore> Files<S> {
         requires node_room { 32 ≤ self.old.node_room }
         requires open_room { 0 < self.old.open_room }
         requires spare { HasSpare spare 0 (outcome_names outcome) }
-        requires tellable { IsTellable self.old.tree outcome }
+        requires repliable { IsRepliable self.old.tree outcome }
         requires generations { generations_after self.old.nodes
             (files_in_reply (outcome_reply found_ms outcome)) ≤ 2 ^ 62 }
         requires numbers { self.old.handles.next_fh + length
             (opens_in_reply (outcome_reply found_ms outcome)) ≤ 2 ^ 62 }
         requires counted { AreHeldBelow self.old.nodes }
         requires day { found_ms ≤ max_validity }
-        ensures tells { Tells self.old (outcome_reply found_ms outcome) result self.new }
+        ensures gives { GivesNumbers self.old (outcome_reply found_ms outcome) result self.new }
         ensures sendable { IsSendable result }
         ensures len { sent_len result ≡ outcome_len outcome }
         ensures names { sent_names result ≡ outcome_names outcome }
@@ -72,7 +72,7 @@ impl<S: NodeStore> Files<S> {
         }
     }
 
-    /// Counts a lookup of each file that the names tell, and gives the names with the entries of their files.
+    /// Counts a lookup of each file that is listed, and gives the names with the entries of their files.
     fn list(
         &mut self,
         records: Vec<u8, S::Heap>,
@@ -100,17 +100,17 @@ impl<S: NodeStore> Files<S> {
     {
         self.give_listed(&records);
         let mut entries = spare.entries;
-        let mut told = spare.told;
-        self.put_entries(&records, &mut entries, &mut told);
+        let mut file_entries = spare.file_entries;
+        self.put_entries(&records, &mut entries, &mut file_entries);
         ListedNames {
             records,
             entries,
-            told,
+            file_entries,
             found_ms,
         }
     }
 
-    /// Counts a lookup of each file that the names of these records tell.
+    /// Counts a lookup of each file that these records list.
     fn give_listed(&mut self, records: &[u8])
         requires records { AreRecordBytes records.now }
         requires listable { All (IsListable self.old.tree) (names_in records.now) }
@@ -129,7 +129,7 @@ impl<S: NodeStore> Files<S> {
         self.keeps_sound();
     }
 
-    /// Counts a lookup of each file that the names of these records tell.
+    /// Counts a lookup of each file that these records list.
     fn give_records(&mut self, records: Records<'_>)
         requires listable { All (IsListable self.old.tree) (listed_in records) }
         requires few { length (listed_in records) ≤ 32 }
@@ -169,26 +169,27 @@ impl<S: NodeStore> Files<S> {
         }
     }
 
-    /// Puts the entry of each name last, and among those that tell a file too, unless the name is `.` or `..`.
+    /// Puts the entry of each name last, and among those of files too, unless the name is `.` or `..`.
     fn put_entries(
         &self,
         records: &[u8],
         entries: &mut Vec<Entry, S::Heap>,
-        told: &mut Vec<Entry, S::Heap>,
+        file_entries: &mut Vec<Entry, S::Heap>,
     )
         requires records { AreRecordBytes records.now }
         requires listable { All (IsListable self.now.tree) (names_in records.now) }
         requires none { entries.old.items ≡ [] }
-        requires none_told { told.old.items ≡ [] }
+        requires no_file_entries { file_entries.old.items ≡ [] }
         requires room { length (names_in records.now) ≤ vec_capacity entries.old }
-        requires room_told { length (names_in records.now) ≤ vec_capacity told.old }
+        requires file_room { length (names_in records.now) ≤ vec_capacity file_entries.old }
         ensures entries { entries.new.items ≡ map (entry_named self.now.tree self.now.nodes) (names_in records.now) }
-        ensures told { told.new.items ≡ files_told (entries_named self.now.tree self.now.nodes (names_in records.now)) }
+        ensures file_entries { file_entries.new.items ≡ files_told
+            (entries_named self.now.tree self.now.nodes (names_in records.now)) }
     {
         'records: for record in Records::over(records).unwrap() {
             let entry = self.entry_of(record.ino - 1);
             entries.push_reserved(entry);
-            put_told(told, record.name, entry);
+            put_file_entry(file_entries, record.name, entry);
         }
     }
 
@@ -206,7 +207,7 @@ impl<S: NodeStore> Files<S> {
         }
     }
 
-    /// Counts a lookup of a file, and gives the entry that tells its node.
+    /// Counts a lookup of a file, and gives the entry with its node.
     fn give(&mut self, file: u64) -> Entry
         requires file { file < 2 ^ 62 }
         requires there { IsThere self.old.tree file }
@@ -244,12 +245,13 @@ impl<S: NodeStore> Files<S> {
 }
 
 /// Puts the entry of a name last, unless the name is `.` or `..`.
-fn put_told<A: Allocator>(told: &mut Vec<Entry, A>, name: &[u8], entry: Entry)
-    requires { length told.old.items < vec_capacity told.old }
-    ensures items { told.new.items ≡ told.old.items ++ first_told (cond (is_dots name.now) None (Some entry)) [] }
-    ensures capacity { vec_capacity told.new ≡ vec_capacity told.old }
+fn put_file_entry<A: Allocator>(file_entries: &mut Vec<Entry, A>, name: &[u8], entry: Entry)
+    requires { length file_entries.old.items < vec_capacity file_entries.old }
+    ensures items { file_entries.new.items ≡ file_entries.old.items ++ first_told
+        (cond (is_dots name.now) None (Some entry)) [] }
+    ensures capacity { vec_capacity file_entries.new ≡ vec_capacity file_entries.old }
 {
     if !is_dots(name) {
-        told.push_reserved(entry);
+        file_entries.push_reserved(entry);
     }
 }

@@ -13,12 +13,12 @@ use Rattle.fs_files.specs.Replies.{IsListable}
 use Rattle.fs_files.proofs.Giving.{first_new}
 use Rattle.fs_files.proofs.GivenEach.{one_counted, one_given}
 
--- the file that a name tells
-abbrev pub told_of : Dirent → Option ℕ
-told_of d = cond (is_dots d.name) None (Some (d.ino - 1))
+-- the file that a name names
+abbrev pub file_of_name : Dirent → Option ℕ
+file_of_name d = cond (is_dots d.name) None (Some (d.ino - 1))
 
--- These names are still to be told, of those whose files are to get nodes.
-pub record StillTold (tree : Tree) (old : NodeTable) (all : List ℕ) (t : NodeTable) (room : ℕ)
+-- The files of these names are still to be given nodes, of all that are to get them.
+pub record StillToGive (tree : Tree) (old : NodeTable) (all : List ℕ) (t : NodeTable) (room : ℕ)
     (ds : List Dirent) : Type 0 where
   pub goes : (last : NodeTable) → GivenEach t (files_told (map (pair_listed 0) ds)) last → GivenEach old all last
   pub listable : All (IsListable tree) ds
@@ -27,11 +27,11 @@ pub record StillTold (tree : Tree) (old : NodeTable) (all : List ℕ) (t : NodeT
   pub generations : generations_after t (files_told (map (pair_listed 0) ds)) ≤ 2 ^ 62
   pub counted : AreCounted (2 ^ 63 - length ds) t
 
-pub told_first : (tree : Tree) (t : NodeTable) (room : ℕ) (ds : List Dirent) → All (IsListable tree) ds
+pub first_to_give : (tree : Tree) (t : NodeTable) (room : ℕ) (ds : List Dirent) → All (IsListable tree) ds
     → length ds ≤ 32 → length ds ≤ room
     → generations_after t (files_told (map (pair_listed 0) ds)) ≤ 2 ^ 62 → AreHeldBelow t
-    → StillTold tree t (files_told (map (pair_listed 0) ds)) t room ds
-told_first tree t room ds listable few roomy generations below = record {
+    → StillToGive tree t (files_told (map (pair_listed 0) ds)) t room ds
+first_to_give tree t room ds listable few roomy generations below = record {
   goes = λ last rest. rest;
   listable = listable;
   few = few;
@@ -41,37 +41,38 @@ told_first tree t room ds listable few roomy generations below = record {
 }
 
 module _ (tree : Tree) (old : NodeTable) (all : List ℕ) (t : NodeTable) (room : ℕ) (d : Dirent) (ds : List Dirent)
-    (still : StillTold tree old all t room (d ∷ ds)) where
-  pub told_next : (new : NodeTable) (more : ℕ) → GivenEach t (first_told (told_of d) []) new
-      → ((files : List ℕ) → generations_after new files ≡ generations_after t (first_told (told_of d) files))
+    (still : StillToGive tree old all t room (d ∷ ds)) where
+  pub given_next : (new : NodeTable) (more : ℕ) → GivenEach t (first_told (file_of_name d) []) new
+      → ((files : List ℕ) → generations_after new files ≡ generations_after t (first_told (file_of_name d) files))
       → room ≤ more + 1
-      → StillTold tree old all new more ds
-  told_next new more one next left =
+      → StillToGive tree old all new more ds
+  given_next new more one next left =
       let files = files_told (map (pair_listed 0) ds) in
       let few = still.few in
       let roomy = still.roomy in
       record {
-        goes = λ last rest. still.goes last (one_given t new (told_of d) files last one rest);
+        goes = λ last rest. still.goes last (one_given t new (file_of_name d) files last one rest);
         listable = All-tail (IsListable tree) d ds still.listable;
         few = omega (arith, few);
         roomy = omega (arith, roomy, left);
         generations = subst (λ (n : ℕ). n ≤ 2 ^ 62) (sym (next files)) still.generations;
-        counted = λ id row is. let low = one_counted t new (told_of d)
+        counted = λ id row is. let low = one_counted t new (file_of_name d)
             (2 ^ 63 - length (d ∷ ds)) one still.counted id row is in omega (arith, low, few);
       }
 
-  pub told_listable : IsListable tree d
-  told_listable = All-head (IsListable tree) d ds still.listable
+  pub next_listable : IsListable tree d
+  next_listable = All-head (IsListable tree) d ds still.listable
 
-  pub told_counted : AreCounted (2 ^ 63) t
-  told_counted id row is = let low = still.counted id row is in omega (arith, low)
+  pub next_counted : AreCounted (2 ^ 63) t
+  next_counted id row is = let low = still.counted id row is in omega (arith, low)
 
-  pub told_room : 0 < room
-  told_room = let roomy = still.roomy in omega (arith, roomy)
+  pub next_room : 0 < room
+  next_room = let roomy = still.roomy in omega (arith, roomy)
 
 -- the first of some files takes no more generations than all
-fewer_first : (t : NodeTable) (told : Option ℕ) (files : List ℕ) → generations_after t (first_told told files) ≤ 2 ^ 62
-    → generations_after t (first_told told []) ≤ 2 ^ 62
+fewer_first : (t : NodeTable) (file_named : Option ℕ) (files : List ℕ)
+    → generations_after t (first_told file_named files) ≤ 2 ^ 62
+    → generations_after t (first_told file_named []) ≤ 2 ^ 62
 fewer_first t None files enough = omega (arith, enough)
 fewer_first t (Some file) files enough = by (has_node t file) refl
   where
@@ -79,8 +80,8 @@ fewer_first t (Some file) files enough = by (has_node t file) refl
     by true e = rw e (omega (arith, enough))
     by false e = let some = first_new (has_node t) file files e in rw e (omega (arith, enough, some))
 
-pub told_generations : (tree : Tree) (old : NodeTable) (all : List ℕ) (t : NodeTable) (room : ℕ) (d : Dirent)
-    (ds : List Dirent) → StillTold tree old all t room (d ∷ ds)
-    → generations_after t (first_told (told_of d) []) ≤ 2 ^ 62
-told_generations tree old all t room d ds still =
-    fewer_first t (told_of d) (files_told (map (pair_listed 0) ds)) still.generations
+pub next_generations : (tree : Tree) (old : NodeTable) (all : List ℕ) (t : NodeTable) (room : ℕ) (d : Dirent)
+    (ds : List Dirent) → StillToGive tree old all t room (d ∷ ds)
+    → generations_after t (first_told (file_of_name d) []) ≤ 2 ^ 62
+next_generations tree old all t room d ds still =
+    fewer_first t (file_of_name d) (files_told (map (pair_listed 0) ds)) still.generations

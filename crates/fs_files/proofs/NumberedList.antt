@@ -1,4 +1,4 @@
--- The names of a list are told, each with the entry of its file's node.
+-- The files of the names of a list are given nodes, and each name goes with its file's entry.
 use Rattle.std.proofs.Common.{◌≡◌, ℕ, ◌-◌, Bool, cond, List, [], ◌∷◌, Some, None, length, map, refl, sym, ap, subst, ◌∙◌, arith}
 use Rattle.fuse_spec.specs.Server.Nodes.{NodeTable}
 use Rattle.fuse_spec.specs.Files.Operations as operation
@@ -11,7 +11,7 @@ use Rattle.fs_nodes.specs.Sound.{IsSound}
 use Rattle.fuse_frames.specs.ReplyTies.{dirent_in, entry_told, pairs_told}
 use Rattle.fs_files.specs.Giving.{GivenEach, node_in}
 use Rattle.fs_files.specs.Listed.{dirents_in, listed_pairs, names_in, pair_listed}
-use Rattle.fs_files.specs.Telling.{Tells, entries_named, entry_named}
+use Rattle.fs_files.specs.Numbering.{GivesNumbers, entries_named, entry_named}
 use Rattle.fs_files.specs.Values.{FilesState}
 use Rattle.fs_files.specs.declared.listed_names.ListedNames.{ListedNames}
 use Rattle.fs_files.specs.declared.replies.SentReply.TheVariants.{ListedPlus}
@@ -27,11 +27,12 @@ module _ (tree : Tree) (nodes : NodeTable) (sound : IsSound nodes) where
   pairs_are ms [] = refl
   pairs_are ms (d ∷ ds) = λ i. record { file = some_entry d i; valid = ms; dirent = d } ∷ pairs_are ms ds i
 
-  -- the entries that tell a file
-  pub told_are : (ms : ℕ) (ds : List Dirent) → files_told (pairs_told ms (map (entry_named tree nodes) ds) ds)
+  -- the entries of names that name a file
+  pub file_entries_are : (ms : ℕ) (ds : List Dirent) → files_told (pairs_told ms (map (entry_named tree nodes) ds) ds)
       ≡ files_told (entries_named tree nodes ds)
-  told_are ms [] = refl
-  told_are ms (d ∷ ds) = λ i. first_told (cond (is_dots d.name) None (some_entry d i)) (told_are ms ds i)
+  file_entries_are ms [] = refl
+  file_entries_are ms (d ∷ ds) = λ i. first_told (cond (is_dots d.name) None (some_entry d i))
+      (file_entries_are ms ds i)
 
 -- the files are the same however long they are valid
 pub same_files : (ms : ℕ) (ds : List Dirent) → files_told (map (pair_listed ms) ds)
@@ -40,12 +41,12 @@ same_files ms [] = refl
 same_files ms (d ∷ ds) = ap (λ (files : List ℕ). first_told (cond (is_dots d.name) None (Some (d.ino - 1))) files)
     (same_files ms ds)
 
-pub tells_listed : {A : Type 0} (one two : FilesState) (ms : ℕ) (bytes : List ℕ) (listing : ListedNames A)
+pub gives_listed : {A : Type 0} (one two : FilesState) (ms : ℕ) (bytes : List ℕ) (listing : ListedNames A)
     → GivenEach one.nodes (files_told (map (pair_listed 0) (names_in bytes))) two.nodes → IsSound two.nodes
     → listing.entries.items ≡ map (entry_named two.tree two.nodes) (names_in bytes) → listing.records.items ≡ bytes
     → listing.found_ms ≡ ms → two.tree ≡ one.tree → two.handles ≡ one.handles
-    → Tells {A = A} one (operation.listed_plus (map (pair_listed ms) (names_in bytes))) (ListedPlus listing) two
-tells_listed one two ms bytes listing given sound entries records valid tree handles =
+    → GivesNumbers {A = A} one (operation.listed_plus (map (pair_listed ms) (names_in bytes))) (ListedPlus listing) two
+gives_listed one two ms bytes listing given sound entries records valid tree handles =
     let names = names_in bytes in
     let files = files_told (map (pair_listed ms) names) in
     let each : GivenEach one.nodes files two.nodes =
@@ -78,7 +79,9 @@ module _ (tree : Tree) (nodes : NodeTable) (bytes view : List ℕ) (same : view 
   pub one_a_record : length entries ≡ length (dirents_in bytes)
   one_a_record = one_each ∙ mapped_length dirent_in (dirents_in bytes)
 
-  pub told_so : IsSound nodes → (ms : ℕ) (told : List Entry)
-      → told ≡ files_told (entries_named tree nodes (names_in view)) → told ≡ files_told (listed_pairs ms entries bytes)
-  told_so sound ms told is_told = is_told ∙ sym (told_are tree nodes sound ms (names_in view)) ∙
+  pub file_entries_so : IsSound nodes → (ms : ℕ) (file_entries : List Entry)
+      → file_entries ≡ files_told (entries_named tree nodes (names_in view))
+      → file_entries ≡ files_told (listed_pairs ms entries bytes)
+  file_entries_so sound ms file_entries are_files =
+      are_files ∙ sym (file_entries_are tree nodes sound ms (names_in view)) ∙
       (λ i. files_told (pairs_told ms (sym is_entries i) (names_in (same i))))
