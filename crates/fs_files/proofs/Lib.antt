@@ -18,3 +18,4 @@ pub mod Recounted
 pub mod StaysKnown
 pub mod Sweeping
 pub mod StaysNamed
+pub mod NamesListed

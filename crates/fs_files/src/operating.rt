@@ -4,10 +4,11 @@ ghost use Rattle.std.specs.Prelude.{◌≡◌, ◌≤◌, ◌<◌, ◌^◌, true
 ghost use Rattle.fuse_spec.specs.declared.Validity.{Validity as ValidityValue};
 ghost use Rattle.fuse_spec.specs.Files.FileOperations.{refusal, tree_unrefused};
 ghost use Rattle.fuse_spec.specs.Values.Numbers.{max_transfer, max_validity};
-ghost use Rattle.fuse_spec.specs.Files.Operations.{create, getattr, link, listed, lookup, mkdir, opening, read, readdir, readdirplus, rename, rmdir, unlink, write};
+ghost use Rattle.fuse_spec.specs.Files.Operations.{create, getattr, link, listed, lookup, mkdir, opening, read, rename, rmdir, unlink, write};
 ghost use Rattle.fuse_spec.specs.Files.TreeShape.{WritesRegular};
 ghost use Rattle.fs_tree.specs.Outcomes.{IsReply};
 ghost use Rattle.fs_files.specs.Bounds.{AreLow, AreThere, IsThere};
+ghost use Rattle.fs_files.specs.Listing.{Lists, listing};
 ghost use Rattle.fs_files.specs.Performing.{Operates};
 ghost use Rattle.fs_files.specs.Values.{on_files};
 
@@ -17,7 +18,7 @@ use crate::operation_nodes::header_node;
 use crate::records::record_bytes;
 use crate::replies::{Outcome, PlainReply};
 use fs_nodes::NodeStore;
-use fs_tree::Tree;
+use fs_tree::{Record, Tree, TreeError};
 use fuse_spec::{Operation, Validity};
 use std::alloc::{AllocError, Allocator};
 
@@ -57,9 +58,9 @@ pub(crate) fn operate<A: Allocator + Copy, S: NodeStore>(
         } => move_file(tree, file, old, nodes.file_of(*newdir), new),
         Operation::Link { node, name, .. } => link_file(tree, nodes.file_of(*node), file, name),
         Operation::Open { .. } => Ok(Outcome::Opened { file }),
-        Operation::Readdir { after, size, .. } => list_names(tree, file, *after, *size, alloc),
+        Operation::Readdir { after, size, .. } => list(tree, file, *after, *size, false, alloc),
         Operation::Readdirplus { after, size, .. } => {
-            list_files(tree, file, *after, *size, alloc)
+            list(tree, file, *after, *size, true, alloc)
         }
         Operation::Read { offset, size, .. } => read_bytes(tree, file, *offset, *size, alloc),
         Operation::Write { offset, bytes, .. } => write_bytes(tree, file, *offset, bytes),
@@ -208,46 +209,46 @@ fn link_file<A: Allocator + Copy>(
     }
 }
 
-/// A READDIR.
-fn list_names<A: Allocator + Copy>(
+/// A READDIR or, where each name is listed with its file, a READDIRPLUS.
+fn list<A: Allocator + Copy>(
     tree: &Tree<A>,
     directory: u64,
     after: u64,
     size: u32,
+    with_files: bool,
     alloc: A,
 ) -> Result<Outcome<A>, AllocError>
     ensures { IfOk result (λ outcome. (v : ValidityValue)
-        → Operates v tree.now (readdir directory after size) outcome tree.now) }
+        → Operates v tree.now (listing with_files directory after size) outcome tree.now) }
 {
     tree.keeps_shape();
     let _births = tree.births_left();
-    let Ok(records) = tree.readdir(directory, after, size) else {
+    let Ok(records) = names_listed(tree, directory, after, size, with_files) else {
         return Err(AllocError);
     };
     let records = record_bytes(alloc, &records)?;
+    if with_files {
+        return Ok(Outcome::ListedPlus { records });
+    }
     Ok(Outcome::Plain {
         reply: PlainReply::Listed { records },
     })
 }
 
-/// A READDIRPLUS.
-fn list_files<A: Allocator + Copy>(
+/// The names that a READDIR or a READDIRPLUS lists.
+fn names_listed<A: Allocator + Copy>(
     tree: &Tree<A>,
     directory: u64,
     after: u64,
     size: u32,
-    alloc: A,
-) -> Result<Outcome<A>, AllocError>
-    ensures { IfOk result (λ outcome. (v : ValidityValue)
-        → Operates v tree.now (readdirplus directory after size) outcome tree.now) }
+    with_files: bool,
+) -> Result<Vec<Record<'_>, A>, TreeError>
+    ensures { IfOk result (λ records. Lists with_files tree.now directory after size records.items) }
 {
-    tree.keeps_shape();
-    let _births = tree.births_left();
-    let Ok(records) = tree.readdirplus(directory, after, size) else {
-        return Err(AllocError);
-    };
-    let records = record_bytes(alloc, &records)?;
-    Ok(Outcome::ListedPlus { records })
+    if with_files {
+        return tree.readdirplus(directory, after, size);
+    }
+    tree.readdir(directory, after, size)
 }
 
 /// A READ.
