@@ -1,5 +1,5 @@
 -- Which operations come with names or bytes.
-use Rattle.std.specs.Prelude.{Bool, true, false, not}
+use Rattle.std.specs.Prelude.{Bool, true, false}
 use Rattle.fuse_spec.specs.declared.asked.Operation.{Operation}
 use Rattle.fuse_spec.specs.declared.asked.Operation.TheVariants.{Getattr, Rename, Link, Open, Readdir, Readdirplus, Read, Write}
 

@@ -3,10 +3,9 @@
 ghost use Rattle.std.specs.Prelude.{◌≡◌, ◌≤◌, ◌<◌, ◌^◌, true, None, IfOk, OnErr, OnOk, map};
 ghost use Rattle.fuse_spec.specs.declared.Validity.{Validity as ValidityValue};
 ghost use Rattle.fuse_spec.specs.Files.FileOperations.{refusal, tree_unrefused};
-ghost use Rattle.fuse_spec.specs.Values.Numbers.{max_transfer, max_validity};
-ghost use Rattle.fuse_spec.specs.Files.Operations.{create, getattr, link, listed, lookup, mkdir, opening, read, rename, rmdir, unlink, write};
+ghost use Rattle.fuse_spec.specs.Values.Numbers.{max_validity};
+ghost use Rattle.fuse_spec.specs.Files.Operations.{create, getattr, link, lookup, mkdir, read, rename, rmdir, unlink, write};
 ghost use Rattle.fuse_spec.specs.Files.TreeShape.{WritesRegular};
-ghost use Rattle.fs_tree.specs.Outcomes.{IsReply};
 ghost use Rattle.fs_files.specs.Bounds.{AreLow, AreThere, IsThere};
 ghost use Rattle.fs_files.specs.Listing.{Lists, listing};
 ghost use Rattle.fs_files.specs.Performing.{Operates};

@@ -1,5 +1,5 @@
 use Rattle.std.proofs.Common.{refl, sym, ap, ◌∙◌}
-use Rattle.fuse_spec.specs.Kernel.Messages.{init, asks, release}
+use Rattle.fuse_spec.specs.Kernel.Messages.{asks}
 use Rattle.fs_files.specs.Values.{server_at, asked_of, operation_of}
 use Rattle.fs_files.proofs.Drawn.{body_draws, none_drawn}
 use Rattle.fs_files.proofs.files.Files.plan_for.Goals as goal
