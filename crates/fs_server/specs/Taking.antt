@@ -1,5 +1,5 @@
 -- What is taken of a request, by its node and by what it asks.
-use Rattle.std.specs.Prelude.{◌≡◌, ◌<◌, ◌^◌, ℕ, Bool, true, false, ◌||◌, not, List, [], ◌∷◌, Option, Some, None, map, nat_lt, is_some}
+use Rattle.std.specs.Prelude.{◌≡◌, ◌<◌, ◌^◌, ℕ, Bool, true, false, ◌||◌, not, List, [], ◌∷◌, None, map, nat_lt, is_some}
 use Rattle.std.specs.List.{list_all, list_any}
 use Rattle.fuse_spec.specs.Values.Maps.{get}
 use Rattle.fuse_spec.specs.Kernel.Messages.{Forget, RequestBody, forget, batch_forget, interrupt}
