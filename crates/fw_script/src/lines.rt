@@ -1,11 +1,16 @@
 //! The lines of a script.
 
-ghost use Rattle.std.specs.Prelude.{◌≡◌, ◌↔◌, IsTrue, MatchOption, option_copied};
+ghost use Rattle.std.specs.Prelude.{◌≡◌, ◌≢◌, ◌↔◌, ℕ, All, Err, IfErr, IfOk, IfSome, IsTrue, MatchResult, option_copied};
 ghost use Rattle.std.specs.Iterator.{YieldsFirstRef, item_count};
+ghost use Rattle.fw_script.specs.Lines.{IsWritten};
+ghost use Rattle.fw_script.specs.Stops.{status_of};
+ghost use Rattle.fw_script.specs.declared.stop.Stop.TheVariants.{BadLine};
 ghost use Rattle.fw_script.specs.Scripts.{FirstFaultIs, IsGoodLine, IsGoodScript, IsPassedOver, LineFaultIs, lines_left, lines_of};
 
-use crate::line::{LineFault, read_line};
+use crate::line::{Line, LineFault, read_line};
 use crate::split::split_once;
+use crate::stop::Stop;
+use std::alloc::Allocator;
 
 /// What is left of a script, line by line.
 #[derive(Drop)]
@@ -37,37 +42,46 @@ impl<'a> Iterator for Lines<'a> {
 }
 
 /// Whether a line says nothing: an empty one, or one that begins with `#`.
-pub(crate) fn is_passed_over(line: &[u8]) -> bool
+fn is_passed_over(line: &[u8]) -> bool
     ensures { IsTrue result ↔ IsPassedOver line.now }
 {
     matches!(line, [] | [b'#', ..])
 }
 
-/// What is wrong with a line, if anything is.
-fn fault_of(line: &[u8]) -> Option<LineFault>
-    ensures { MatchOption result (IsGoodLine line.now) (LineFaultIs line.now) }
+/// What a line says, if it says anything.
+fn read_any(line: &[u8]) -> Result<Option<Line<'_>>, LineFault>
+    ensures judged { MatchResult result (λ said. IsGoodLine line.now) (LineFaultIs line.now) }
+    ensures written { IfOk result (λ said. IfSome said IsWritten) }
 {
     if is_passed_over(line) {
-        return None;
+        return Ok(None);
     }
-    match read_line(line) {
-        Ok(_) => None,
-        Err(fault) => Some(fault),
-    }
+    let said = read_line(line)?;
+    Ok(Some(said))
 }
 
-/// The number of the first line with a fault, from 1 on, and the fault.
-pub(crate) fn first_fault(script: &[u8]) -> Option<(usize, LineFault)>
-    ensures { MatchOption result
-        (IsGoodScript script.now)
-        (λ first. FirstFaultIs script.now first.0 first.1) }
+/// What the lines of a script say, in their order. Else the first line with a fault, or want of memory.
+pub(crate) fn read_lines<A: Allocator>(
+    alloc: A,
+    script: &[u8],
+) -> Result<Vec<Line<'_>, A>, Stop<'static>>
+    ensures good { IfOk result (λ lines. IsGoodScript script.now × All IsWritten lines.items) }
+    ensures refused { IfErr result (λ stop. status_of stop ≢ 5) }
+    ensures bad { (number : ℕ) (fault : LineFault) → result ≡ Err (BadLine number fault) → FirstFaultIs script.now number fault }
 {
+    let mut lines = Vec::new(alloc);
     let mut number = 0;
     for line in Lines::of(script) {
         number += 1;
-        if let Some(fault) = fault_of(line) {
-            return Some((number, fault));
+        match read_any(line) {
+            Ok(None) => {}
+            Ok(Some(said)) => {
+                if lines.push(said).is_err() {
+                    return Err(Stop::NoMemory);
+                }
+            }
+            Err(fault) => return Err(Stop::BadLine { number, fault }),
         }
     }
-    None
+    Ok(lines)
 }

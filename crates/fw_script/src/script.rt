@@ -1,18 +1,19 @@
 //! The run of a script.
 
-ghost use Rattle.std.specs.Prelude.{◌≡◌, ◌≢◌, ◌⊎◌, ◌∷◌, [], Contains, IfErr, IfOk, IfSome, OnOk, flat_map};
+ghost use Rattle.std.specs.Prelude.{◌≡◌, ◌≢◌, ◌⊎◌, ◌∷◌, [], All, Contains, IfErr, IfOk, IfSome, OnOk, flat_map};
 ghost use Rattle.std.specs.Io.KnownBytes.{Appends};
 ghost use Rattle.fw_script.specs.HexTexts.{IsHexOrNone};
-ghost use Rattle.fw_script.specs.Lines.{spelled};
+ghost use Rattle.fw_script.specs.Lines.{IsWritten, spelled};
 ghost use Rattle.fw_script.specs.Records.{node_words, nodes_text};
 ghost use Rattle.fw_script.specs.Scripts.{IsGoodScript};
 ghost use Rattle.fw_script.specs.Stops.{status_of};
 
 use crate::hex_text::read_hex_or_none;
-use crate::line::{Line, read_line};
-use crate::lines::{Lines, first_fault, is_passed_over};
+use crate::line::Line;
+use crate::lines::read_lines;
 use crate::machine::Machine;
 use crate::records::write_records;
+use crate::short_text::ShortText;
 use crate::stop::Stop;
 use fw_link::Link;
 use fw_world::{Call, Event, Lists, Maps, Record, Session, Tables, WorldOf};
@@ -90,7 +91,14 @@ fn write_node<W: Write>(out: &mut W, node: (u64, u64, u64)) -> io::Result<()>
     ensures { OnOk result (Appends (W.contents out.old) (W.contents out.new) (node_words node)) }
 {
     let (id, generation, count) = node;
-    write!(out, " {id}:{generation}:{count}")
+    let mut text = ShortText::new();
+    text.put_number(count);
+    text.put_byte(b':');
+    text.put_number(generation);
+    text.put_byte(b':');
+    text.put_number(id);
+    text.put_byte(b' ');
+    out.write_all(text.bytes())
 }
 
 /// Writes nodes one after another.
@@ -107,7 +115,7 @@ fn write_list<W: Write>(out: &mut W, nodes: &[(u64, u64, u64)]) -> io::Result<()
 fn write_nodes<W: Write>(out: &mut W, side: &str, nodes: &[(u64, u64, u64)]) -> io::Result<()>
     ensures { OnOk result (Appends (W.contents out.old) (W.contents out.new) (nodes_text side.now nodes.now)) }
 {
-    write!(out, "{side}")?;
+    out.write_all(side.as_bytes())?;
     write_list(out, nodes)?;
     out.write_all(b"\n")
 }
@@ -128,47 +136,43 @@ fn show<A: Allocator + Copy, M: Machine<A>, W: Write>(
     write_nodes(out, "server", server.as_slice()).map_err(|_| Stop::OutputRefused)
 }
 
-/// Does what a good line says, and writes what it came to.
+/// Does what a line says, and writes what it came to.
 fn run_line<A: Allocator + Copy, M: Machine<A>, W: Write>(
     machine: &mut M,
-    line: &[u8],
+    line: &Line<'_>,
     room: &mut Room<A>,
     hex: bool,
     out: &mut W,
 ) -> Result<(), Stop<'static>>
+    requires { IsWritten line.now }
     ensures { IfErr result (λ stop. status_of stop ≢ 1) }
 {
-    match read_line(line) {
-        Ok(Line::Event(event)) => run_event(machine, event, &mut room.records, hex, out),
-        Ok(
-            Line::CallWrite {
-                handle,
-                offset,
-                hex: bytes,
-            },
-        ) => {
+    match *line {
+        Line::Event(event) => run_event(machine, event, &mut room.records, hex, out),
+        Line::CallWrite {
+            handle,
+            offset,
+            hex: bytes,
+        } => {
             let event = event_of_write(&mut room.bytes, handle, offset, bytes)?;
             run_event(machine, event, &mut room.records, hex, out)
         }
-        Ok(Line::Show) => show(machine, out),
-        Err(_) => Ok(()),
+        Line::Show => show(machine, out),
     }
 }
 
-/// Runs the events of a script whose lines are good, one after another.
+/// Does what the lines of a script say, one after another.
 fn run_lines<A: Allocator + Copy, M: Machine<A>, W: Write>(
     machine: &mut M,
-    script: &[u8],
+    lines: &[Line<'_>],
     room: &mut Room<A>,
     hex: bool,
     out: &mut W,
 ) -> Result<(), Stop<'static>>
+    requires { All IsWritten lines.now }
     ensures { IfErr result (λ stop. status_of stop ≢ 1) }
 {
-    for line in Lines::of(script) {
-        if is_passed_over(line) {
-            continue;
-        }
+    for line in lines {
         if let Err(stop) = run_line(machine, line, room, hex, out) {
             return Err(stop);
         }
@@ -192,17 +196,18 @@ fn make_room<A: Allocator + Copy>(alloc: A) -> Result<Room<A>, Stop<'static>>
 /// Runs them on a new world.
 fn run_events<T: Tables, W: Write>(
     alloc: T::Heap,
-    script: &[u8],
+    lines: &[Line<'_>],
     hex: bool,
     out: &mut W,
 ) -> Result<(), Stop<'static>>
+    requires { All IsWritten lines.now }
     ensures { IfErr result (λ stop. status_of stop ≢ 1) }
 {
     let mut room = make_room(alloc)?;
     let Ok(mut world) = WorldOf::<T>::new(alloc) else {
         return Err(Stop::NoMemory);
     };
-    let ended = run_lines(&mut world, script, &mut room, hex, out);
+    let ended = run_lines(&mut world, lines, &mut room, hex, out);
     // By a call, since at the end of a scope the whole drop is proved as part of this function.
     drop(world);
     ended
@@ -212,17 +217,18 @@ fn run_events<T: Tables, W: Write>(
 fn run_session<A: Allocator + Copy, L: Link + Drop, W: Write>(
     alloc: A,
     link: L,
-    script: &[u8],
+    lines: &[Line<'_>],
     hex: bool,
     out: &mut W,
 ) -> Result<bool, Stop<'static>>
+    requires { All IsWritten lines.now }
     ensures { IfErr result (λ stop. status_of stop ≢ 1) }
 {
     let mut room = make_room(alloc)?;
     let Ok(mut session) = Session::new(alloc, link) else {
         return Err(Stop::NoMemory);
     };
-    let ended = run_lines(&mut session, script, &mut room, hex, out);
+    let ended = run_lines(&mut session, lines, &mut room, hex, out);
     let is_lost = session.is_lost();
     drop(session);
     // A lost link is judged before an output that refuses.
@@ -256,10 +262,27 @@ fn read_script<'a, A: Allocator, R: Read>(
     }
 }
 
+/// Runs a text whose lines are good over a link, so that only memory can be wanting to read them. Says whether the link
+/// was lost.
+fn run_text<A: Allocator + Copy, L: Link + Drop, W: Write>(
+    alloc: A,
+    link: L,
+    text: &[u8],
+    hex: bool,
+    out: &mut W,
+) -> Result<bool, Stop<'static>>
+    ensures { IfErr result (λ stop. status_of stop ≢ 1) }
+{
+    let Ok(lines) = read_lines(alloc, text) else {
+        return Err(Stop::NoMemory);
+    };
+    run_session(alloc, link, lines.as_slice(), hex, out)
+}
+
 /// A script whose lines are good.
 #[derive(Drop)]
 pub struct Script<A: Allocator = Global> {
-    lines: Vec<u8, A>,
+    text: Vec<u8, A>,
 }
 
 impl<A: Allocator + Copy> Script<A> {
@@ -268,11 +291,10 @@ impl<A: Allocator + Copy> Script<A> {
         ensures judged { OnOk result (IfSome (R.remaining input.old) IsGoodScript) }
         ensures refused { IfErr result (λ stop. status_of stop ≢ 5) }
     {
-        let lines = read_script(alloc, name, input)?;
-        if let Some((number, fault)) = first_fault(lines.as_slice()) {
-            return Err(Stop::BadLine { number, fault });
-        }
-        Ok(Script { lines })
+        let text = read_script(alloc, name, input)?;
+        let lines = read_lines(alloc, text.as_slice())?;
+        drop(lines);
+        Ok(Script { text })
     }
 
     /// Reads a script, and judges its lines before any is run. Else gives the exit status: 1 after `cannot read` with
@@ -305,7 +327,7 @@ impl<A: Allocator + Copy> Script<A> {
     ) -> u8
         ensures { Contains (0 ∷ 3 ∷ 4 ∷ 5 ∷ []) result }
     {
-        match run_session(alloc, link, self.lines.as_slice(), hex, out) {
+        match run_text(alloc, link, self.text.as_slice(), hex, out) {
             Ok(false) => 0,
             Ok(true) => LINK_LOST,
             Err(stop) => stop.report(faults),
@@ -326,8 +348,9 @@ fn run_input<'a, T: Tables, R: Read, W: Write>(
         IfSome (R.remaining input.old) IsGoodScript) }
     ensures silent { IfErr result (λ stop. status_of stop ≡ 1 → out.new ≡ out.old) }
 {
-    let script = Script::read_from(alloc, name, input)?;
-    run_events::<T, W>(alloc, script.lines.as_slice(), hex, out)
+    let script = read_script(alloc, name, input)?;
+    let lines = read_lines(alloc, script.as_slice())?;
+    run_events::<T, W>(alloc, lines.as_slice(), hex, out)
 }
 
 /// Reads a script, judges its lines, and runs it over a link. Says whether the link was lost.
@@ -344,8 +367,9 @@ fn run_input_over<'a, A: Allocator + Copy, L: Link + Drop, R: Read, W: Write>(
         IfSome (R.remaining input.old) IsGoodScript) }
     ensures silent { IfErr result (λ stop. status_of stop ≡ 1 → out.new ≡ out.old) }
 {
-    let script = Script::read_from(alloc, name, input)?;
-    run_session(alloc, link, script.lines.as_slice(), hex, out)
+    let script = read_script(alloc, name, input)?;
+    let lines = read_lines(alloc, script.as_slice())?;
+    run_session(alloc, link, lines.as_slice(), hex, out)
 }
 
 /// Runs a script on a new world, and prints the lines of its records, under `hex` also the frames

@@ -1,5 +1,5 @@
 use Rattle.std.proofs.Common.{arith, inl, inr, refl}
-use Rattle.fw_script.proofs.Decimals.{digits_are_decimal, decimal_starts_well, read_as, read_is_decimal}
+use Rattle.fw_script.proofs.Decimals.{decimal_starts_well, read_as, read_is_decimal}
 use Rattle.fw_script.proofs.number.read_number.Goals as goal
 
 pub returns-then-has_needless_start-clause-each : goal.returns-then-has_needless_start-clause-each
